@@ -1,0 +1,79 @@
+-- A path and a name make a path.
+use Rattle.std.proofs.Common.{◌≡◌, ℕ, ◌+◌, ◌<◌, ◌≤◌, Bool, true, false, not, ◌&&◌, ◌||◌, List, [], ◌∷◌, ◌++◌, length, refl, ap, ◌∙◌, arith, Option, Some, None, cond}
+use Rattle.std.specs.List.{slice_split, onto_first, list_any}
+use Rattle.std.specs.Option.{is_none}
+use Rattle.std.specs.Bool.{IsTrue}
+use Rattle.std.proofs.lemmas.List.Splits.{length-slice_split}
+use Rattle.std.proofs.lemmas.Bool.Decides.{nat_tests}
+use Rattle.path_text.specs.declared.errors.PathError.{PathError}
+use Rattle.path_text.specs.Path.{is_slash, name_fault, first_fault, refusal, is_name, joined}
+
+some_part : (xs : List ℕ) → 0 < length (slice_split is_slash xs)
+some_part xs = omega (arith, length-slice_split is_slash xs)
+
+onto_append : (x : ℕ) (ps qs : List (List ℕ)) → 0 < length ps → onto_first x (ps ++ qs) ≡ onto_first x ps ++ qs
+onto_append x [] qs h = absurd (omega arith)
+onto_append x (p ∷ ps) qs h = refl
+
+-- the parts before a slash and those behind it
+split_more : (xs ys : List ℕ) → slice_split is_slash (xs ++ 47 ∷ ys) ≡ slice_split is_slash xs ++ slice_split is_slash ys
+split_more [] ys = refl
+split_more (x ∷ xs) ys =
+    let rest = split_more xs ys in
+    elim (is_slash x) as (λ b. cond b ([] ∷ slice_split is_slash (xs ++ 47 ∷ ys)) (onto_first x (slice_split is_slash (xs ++ 47 ∷ ys))) ≡ cond b ([] ∷ slice_split is_slash xs) (onto_first x (slice_split is_slash xs)) ++ slice_split is_slash ys) [
+      | true ↦ ap (λ r. [] ∷ r) rest
+      | false ↦ ap (onto_first x) rest ∙ onto_append x _ _ (some_part xs)
+    ]
+
+split_name : (n : List ℕ) → list_any is_slash n ≡ false → slice_split is_slash n ≡ n ∷ []
+split_name [] h = refl
+split_name (x ∷ n) h =
+    elim (is_slash x) as (λ b. (b || list_any is_slash n) ≡ false → cond b ([] ∷ slice_split is_slash n) (onto_first x (slice_split is_slash n)) ≡ (x ∷ n) ∷ []) [
+      | true ↦ λ e. cc
+      | false ↦ λ e. ap (onto_first x) (split_name n e)
+    ] h
+
+first_fault-append : (as' bs : List (List ℕ)) → first_fault as' ≡ None → first_fault (as' ++ bs) ≡ first_fault bs
+first_fault-append [] bs h = refl
+first_fault-append (n ∷ as') bs h =
+    elim (name_fault n) as (λ f. cond (is_none f) (first_fault as') f ≡ None → cond (is_none f) (first_fault (as' ++ bs)) f ≡ first_fault bs) [
+      | None ↦ λ e. first_fault-append as' bs e
+      | Some x ↦ λ e. cc
+    ] h
+
+one_name : (n : List ℕ) → name_fault n ≡ None → first_fault (n ∷ []) ≡ None
+one_name n e = rw e
+
+behind : (bytes : List ℕ) → length bytes + 1 ≤ 4095 → first_fault (slice_split is_slash bytes) ≡ None → refusal (47 ∷ bytes) ≡ None
+behind bytes l h = grind (arith, nat_tests)
+
+is_name_parts : (a : Bool) (f : Option PathError) → (not a && is_none f) ≡ true → (a ≡ false) × (f ≡ None)
+is_name_parts true f e = cc
+is_name_parts false None e = (refl, refl)
+is_name_parts false (Some x) e = cc
+
+first_slash : (b : ℕ) (bytes : List ℕ) → refusal (b ∷ bytes) ≡ None → b ≡ 47
+first_slash b bytes h = grind (arith, nat_tests)
+
+names_fine : (b : ℕ) (bytes : List ℕ) → refusal (b ∷ bytes) ≡ None → 0 < length bytes → first_fault (slice_split is_slash bytes) ≡ None
+names_fine b bytes h l = grind (arith, nat_tests)
+
+below_root : (b c : ℕ) (bytes n : List ℕ) → joined (b ∷ c ∷ bytes) n ≡ b ∷ (c ∷ bytes ++ 47 ∷ n)
+below_root b c bytes n = grind (arith, nat_tests)
+
+pub refusal_joined : (p n : List ℕ) → refusal p ≡ None → is_name n ≡ true → length (joined p n) ≤ 4095 → refusal (joined p n) ≡ None
+refusal_joined [] n h g l = cc
+refusal_joined (b ∷ []) n h g l =
+    let parts = is_name_parts (list_any is_slash n) (name_fault n) g in
+    rw (first_slash b [] h) (behind n (omega arith) (ap first_fault (split_name n parts.0) ∙ one_name n parts.1))
+refusal_joined (b ∷ c ∷ bytes) n h g l =
+    let parts = is_name_parts (list_any is_slash n) (name_fault n) g in
+    let fine : first_fault (slice_split is_slash (c ∷ bytes)) ≡ None = names_fine b (c ∷ bytes) h (omega arith) in
+    let short : length (c ∷ bytes ++ 47 ∷ n) + 1 ≤ 4095 = omega (arith, ap length (below_root b c bytes n)) in
+    ap refusal (below_root b c bytes n) ∙ ap (λ x. refusal (x ∷ (c ∷ bytes ++ 47 ∷ n))) (first_slash b (c ∷ bytes) h)
+    ∙ behind (c ∷ bytes ++ 47 ∷ n) short
+    (ap first_fault (split_more (c ∷ bytes) n) ∙ first_fault-append (slice_split is_slash (c ∷ bytes)) (slice_split is_slash n) fine ∙ ap first_fault (split_name n parts.0) ∙ one_name n parts.1)
+
+-- what `join` makes is a path
+pub made : (p n t : List ℕ) → t ≡ joined p n → refusal p ≡ None → IsTrue (is_name n) → length t ≤ 4095 → refusal t ≡ None
+made p n t e h g l = ap refusal e ∙ refusal_joined p n h g (omega (arith, ap length e))

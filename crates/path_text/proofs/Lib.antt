@@ -1,0 +1,5 @@
+pub mod Compared
+pub mod Split
+pub mod Joined
+pub mod Plain
+pub mod Preordered

@@ -1,0 +1,7 @@
+use Rattle.std.proofs.Common.{◌≡◌, drop}
+use Rattle.path_text.specs.Order.{path_cmp}
+use Rattle.path_text.proofs.ordering.compare.Given as goal
+
+-- the bytes so far are the same
+abbrev pub invariant-loop-i : goal.invariant-loop-i
+invariant-loop-i l = path_cmp l.a l.b ≡ path_cmp (drop l.i l.a) (drop l.i l.b)

@@ -1,0 +1,5 @@
+pub mod Path
+pub mod Order
+pub mod Total
+pub mod Preorder
+pub mod Escape

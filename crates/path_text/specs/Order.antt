@@ -1,0 +1,45 @@
+-- Path order: the bytes, with `/` before every other byte. Our own.
+use Rattle.std.specs.Prelude.{◌≡◌, ℕ, ◌+◌, Bool, false, ◌&&◌, ◌||◌, List, [], ◌∷◌, ◌++◌, length, map, if◌then◌else◌, ◌==◌, nat_eq, nat_lt, IsTrue}
+use Rattle.std.specs.List.{starts_with, list_any}
+use Rattle.std.specs.declared.cmp.Ordering.{Ordering}
+use Rattle.std.specs.declared.cmp.Ordering.TheVariants.{Less}
+use Rattle.std.specs.Cmp.Lexicographic.{slice_cmp, pointwise}
+use Rattle.std.specs.Ordering.{on, nat_cmp}
+use Rattle.path_text.specs.Path.{is_name, joined}
+
+-- the place of a byte in the order: `/` first, and then the bytes as they are
+abbrev pub byte_rank : ℕ → ℕ
+byte_rank b = if b == 47 then 0 else b + 1
+
+-- path order: the first byte that differs decides, and else the shorter path comes first
+abbrev pub path_cmp : List ℕ → List ℕ → Ordering
+path_cmp = slice_cmp (on byte_rank nat_cmp)
+
+-- what the paths under a path begin with
+abbrev pub front : List ℕ → List ℕ
+front path = if length path == 1 then path else path ++ 47 ∷ []
+
+-- x is under y: one name or more follow those of y
+abbrev pub is_under : List ℕ → List ℕ → Bool
+is_under x y = starts_with nat_eq x (front y) && nat_lt (length (front y)) (length x)
+
+-- x is y, or is under it
+abbrev pub is_within : List ℕ → List ℕ → Bool
+is_within x y = pointwise nat_eq x y || is_under x y
+
+-- path order is preorder, with siblings in the order of their bytes
+pub record IsPreorder : Type 0 where
+  -- a path comes before all that is under it
+  pub top_down : (x y : List ℕ) → IsTrue (is_under x y) → path_cmp y x ≡ Less
+  -- of two children of a path the one with the lower name comes first, with all that is under it
+  pub siblings : (p m n x : List ℕ) → IsTrue (is_name m) → IsTrue (is_name n) → slice_cmp nat_cmp m n ≡ Less → IsTrue (is_within x (joined p m)) → path_cmp x (joined p n) ≡ Less
+
+abbrev pub slash_as_zero : ℕ → ℕ
+slash_as_zero b = if b == 47 then 0 else b
+
+abbrev pub has_zero : List ℕ → Bool
+has_zero text = list_any (λ b. b == 0) text
+
+-- path order is the order of the bytes with `/` read as 0, which no path holds
+abbrev pub ReadsSlashAsZero : Type 0
+ReadsSlashAsZero = (x y : List ℕ) → has_zero x ≡ false → has_zero y ≡ false → path_cmp x y ≡ slice_cmp nat_cmp (map slash_as_zero x) (map slash_as_zero y)

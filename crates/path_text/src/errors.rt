@@ -1,0 +1,76 @@
+//! Why a call on paths is refused.
+use std::alloc::{AllocError, AllocFailed};
+use thiserror::Error;
+
+/// No memory was found.
+#[derive(Clone, Copy, Debug, Drop, PartialEq, Eq, Error)]
+#[error("out of memory")]
+pub struct OutOfMemory;
+
+impl From<AllocError> for OutOfMemory {
+    fn from(_: AllocError) -> Self {
+        OutOfMemory
+    }
+}
+
+impl<T: Drop> From<AllocFailed<T>> for OutOfMemory {
+    fn from(_: AllocFailed<T>) -> Self {
+        OutOfMemory
+    }
+}
+
+/// Why a text is no path, or why none could be made of it.
+#[derive(Clone, Copy, Debug, Drop, PartialEq, Eq, Error)]
+pub enum PathError {
+    /// The first byte is not `/`.
+    #[error("a path begins with `/`")]
+    NotAbsolute,
+    /// Two `/` in a row, or a `/` at the end.
+    #[error("a name of the path is empty")]
+    EmptyName,
+    /// A name is `.` or `..`.
+    #[error("a name of the path is `.` or `..`")]
+    DotName,
+    /// A name holds the byte 0.
+    #[error("a name of the path holds the byte 0")]
+    Nul,
+    /// More than 4,095 bytes.
+    #[error("the path has more than 4095 bytes")]
+    TooLong,
+    /// No memory was found.
+    #[error("out of memory")]
+    OutOfMemory,
+}
+
+impl From<AllocError> for PathError {
+    ghost use Rattle.std.specs.Prelude.{◌≡◌};
+    ghost use Rattle.path_text.specs.declared.errors.PathError.TheVariants.{OutOfMemory};
+
+    ghost from_gives = { λ _ e. e ≡ OutOfMemory };
+
+    fn from(_: AllocError) -> Self {
+        PathError::OutOfMemory
+    }
+}
+
+/// Why a longer path could not be made.
+#[derive(Clone, Copy, Debug, Drop, PartialEq, Eq, Error)]
+pub enum JoinError {
+    /// It would have more than 4,095 bytes.
+    #[error("the path would have more than 4095 bytes")]
+    TooLong,
+    /// No memory was found.
+    #[error("out of memory")]
+    OutOfMemory,
+}
+
+impl From<AllocError> for JoinError {
+    ghost use Rattle.std.specs.Prelude.{◌≡◌};
+    ghost use Rattle.path_text.specs.declared.errors.JoinError.TheVariants.{OutOfMemory};
+
+    ghost from_gives = { λ _ e. e ≡ OutOfMemory };
+
+    fn from(_: AllocError) -> Self {
+        JoinError::OutOfMemory
+    }
+}

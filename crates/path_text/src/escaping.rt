@@ -1,0 +1,81 @@
+//! A path as printable text.
+ghost use Rattle.std.specs.Prelude.{◌≡◌, ◌+◌, ◌++◌, ◌∷◌, [], ◌<◌, ◌≤◌, false, true, length, take, drop, slice_index, IfOk, IfSome, IfNone, OnOk, OnErr, List, ℕ};
+ghost use Rattle.std.specs.List.{list_all, position};
+ghost use Rattle.path_text.specs.Escape.{hex_digit, is_escaped, escaped, escape};
+
+use crate::errors::OutOfMemory;
+use crate::paths::Path;
+use std::alloc::{AllocError, Global};
+
+/// The path in printable text: each byte below a space, 0x7F and the backslash is `\x` and two upper-case hexadecimal
+/// digits, and every other byte is itself.
+pub fn escape(alloc: Global, path: &Path) -> Result<Vec<u8>, OutOfMemory>
+    ensures { IfOk result (λ text. text.items ≡ escape path.now) }
+{
+    let mut text = Vec::new(alloc);
+    put_escaped(&mut text, path)?;
+    Ok(text)
+}
+
+/// Appends what [`escape`] gives, with no memory of its own. A refusal leaves the text as it was.
+pub fn put_escaped(text: &mut Vec<u8>, path: &Path) -> Result<(), OutOfMemory>
+    ensures ok { OnOk result (text.new.items ≡ text.old.items ++ escape path.now) }
+    ensures err { OnErr result (text.new.items ≡ text.old.items) }
+{
+    let len = text.len();
+    let put = append_escaped(text, path.text().as_bytes());
+    if put.is_err() {
+        text.truncate(len);
+    }
+    put
+}
+
+// Appends each byte as it is written. A refusal may leave the first of them behind the old text.
+fn append_escaped(text: &mut Vec<u8>, bytes: &[u8]) -> Result<(), OutOfMemory>
+    ensures ok { OnOk result (text.new.items ≡ text.old.items ++ escape bytes.now) }
+    ensures kept { take (length text.old.items) text.new.items ≡ text.old.items }
+{
+    let mut rest = bytes;
+    while let Some(at) = first_escaped(rest) {
+        text.extend_from_slice(&rest[..at])?;
+        text.extend_from_slice(&escape_of(rest[at]))?;
+        rest = &rest[at + 1..];
+    }
+    text.extend_from_slice(rest)?;
+    Ok(())
+}
+
+// The first byte that does not stand for itself.
+fn first_escaped(bytes: &[u8]) -> Option<usize>
+    ensures found { IfSome result (λ k. (k < length bytes.now) × (is_escaped (slice_index bytes.now k) ≡ true)
+        × (escape bytes.now ≡ take k bytes.now ++ (escaped (slice_index bytes.now k) ++ escape (drop (k + 1) bytes.now)))) }
+    ensures none { IfNone result (escape bytes.now ≡ bytes.now) }
+{
+    escaped_at(bytes)
+}
+
+fn escaped_at(bytes: &[u8]) -> Option<usize>
+    ensures { result ≡ position is_escaped bytes.now }
+{
+    bytes.iter().position(|b| is_escaped(*b))
+}
+
+fn is_escaped(b: u8) -> bool
+    ensures { result ≡ is_escaped b }
+{
+    b < b' ' || b == 0x7F || b == b'\\'
+}
+
+fn escape_of(b: u8) -> [u8; 4]
+    requires { is_escaped b ≡ true }
+    ensures { result ≡ escaped b }
+{
+    [b'\\', b'x', hex_digit(b / 16), hex_digit(b % 16)]
+}
+
+fn hex_digit(n: u8) -> u8
+    requires { n < 16 }
+    ensures { result ≡ hex_digit n }
+{
+    if n < 10 { b'0' + n } else { b'A' - 10 + n }
+}

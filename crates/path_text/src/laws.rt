@@ -1,0 +1,13 @@
+//! Laws of path order, each the contract of a function that does nothing.
+ghost use Rattle.path_text.specs.Order.{IsPreorder, ReadsSlashAsZero};
+
+/// Path order is preorder with siblings in byte order: a path comes before all that is under it, and of two children of a
+/// path the one with the lower name comes first, with all that is under it.
+pub fn path_order_is_preorder()
+    ensures { IsPreorder }
+{}
+
+/// On paths, which hold no byte 0, path order is the order of the bytes with `/` read as 0.
+pub fn path_order_reads_slash_as_zero()
+    ensures { ReadsSlashAsZero }
+{}
