@@ -1,0 +1,17 @@
+use Rattle.std.proofs.Common.{◌≡◌, ◌≤◌, ◌++◌, ◌-◌, length, take, IfSome, Some}
+use Rattle.std.specs.Option.{is_some}
+use Rattle.outside.specs.Count.{RoseBy}
+use Rattle.outside.proofs.sinks.put_all.Given as goal
+
+abbrev pub invariant-loop-at : goal.invariant-loop-at
+invariant-loop-at g l =
+    let sink = g.S.Sink in
+    record {
+      inside : l.at ≤ length l.bytes;
+      sent : IfSome (sink.text l.fn.sink) (λ old. sink.text l.sink ≡ Some (old ++ take l.at l.bytes));
+      tells : is_some (sink.text l.sink) ≡ is_some (sink.text l.fn.sink);
+      count : RoseBy 0 (sink.count l.fn.sink) (sink.count l.sink);
+    }
+
+abbrev pub decreases-loop-at : goal.decreases-loop-at
+decreases-loop-at g l = length l.bytes - l.at

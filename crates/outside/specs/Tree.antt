@@ -1,0 +1,104 @@
+-- A tree of files: a finite map from paths to nodes. Our own, after the tree of a file system.
+use Rattle.std.specs.Prelude.{◌≡◌, ℕ, ◌≤◌, Bool, true, false, not, ◌&&◌, ◌||◌, List, [], ◌∷◌, length, drop, if◌then◌else◌, ◌==◌, Option, Some, None, IsTrue, nat_eq, is_none}
+use Rattle.std.specs.List.{starts_with, list_any, before_last, filter_map, All}
+use Rattle.std.specs.FinMap.{FinMap, get, keys}
+use Rattle.std.specs.List.Sorted.{IsStrictlySortedBy}
+use Rattle.std.specs.Cmp.Lexicographic.{slice_cmp, pointwise}
+use Rattle.std.specs.Ordering.{nat_cmp}
+use Rattle.std.specs.Option.{option_map}
+use mathlib.Core.Bool.{Bool-set}
+use Rattle.path_text.specs.Order.{path_cmp, front}
+use Rattle.path_text.specs.Path.{is_slash, refusal, joined, is_name}
+use Rattle.outside.specs.declared.trees.Kind.{Kind}
+use Rattle.outside.specs.declared.trees.Kind.TheVariants as kind
+use Rattle.outside.specs.declared.trees.Stat.{Stat}
+
+-- what stands at a path: a directory with the number of children whose path is too long, a file with its bytes, a link or another
+pub data Body : Type 0 where
+  dir : ℕ → Body
+  file : List ℕ → Body
+  link : Body
+  other : Body
+
+pub record Node : Type 0 where
+  pub body : Body
+  pub mtime : Option ℕ
+
+-- the nodes by their paths
+abbrev pub Files : Type 0
+Files = FinMap path_cmp Node
+
+abbrev pub is_dir_body : Body → Bool
+is_dir_body (dir far) = true
+is_dir_body (file bytes) = false
+is_dir_body link = false
+is_dir_body other = false
+
+abbrev pub is_dir : Option Node → Bool
+is_dir None = false
+is_dir (Some n) = is_dir_body n.body
+
+-- the path before the last name
+abbrev pub parent_of : List ℕ → List ℕ
+parent_of path = let before = before_last is_slash path in if length before == 0 then 47 ∷ [] else before
+
+-- the name of q, where q is a child of the path
+abbrev pub name_below : List ℕ → List ℕ → Option (List ℕ)
+name_below path q =
+    let name = drop (length (front path)) q in
+    if starts_with nat_eq q (front path) && (not (length name == 0) && not (list_any is_slash name)) then Some name else None
+
+-- the names of the children of a directory, in byte order
+abbrev pub names_in : Files → List ℕ → List (List ℕ)
+names_in files path = filter_map (name_below path) (keys files)
+
+abbrev pub kind_of : Body → Kind
+kind_of (dir far) = kind.Dir
+kind_of (file bytes) = kind.File
+kind_of link = kind.Link
+kind_of other = kind.Other
+
+abbrev pub size_of : Body → ℕ
+size_of (dir far) = 0
+size_of (file bytes) = length bytes
+size_of link = 0
+size_of other = 0
+
+abbrev pub far_of : Body → ℕ
+far_of (dir far) = far
+far_of (file bytes) = 0
+far_of link = 0
+far_of other = 0
+
+-- what `stat` tells of a node
+abbrev pub stat_of : Node → Stat
+stat_of n = record { kind = kind_of n.body; size = size_of n.body; mtime = n.mtime }
+
+-- a listing of the directory at the path
+pub record Lists (files : Files) (path : List ℕ) (listing : List (List ℕ) × ℕ × ℕ) : Type 0 where
+  pub is_dir : is_dir (get files path) ≡ true
+  pub names : listing.0 ≡ names_in files path
+  pub far : Some listing.2 ≡ option_map (λ n. far_of n.body) (get files path)
+
+-- distinct valid names in ascending order, each giving a path that is not too long
+pub record AreNames (path : List ℕ) (names : List (List ℕ)) : Type 0 where
+  pub valid : All (λ name. IsTrue (is_name name)) names
+  pub short : All (λ name. length (joined path name) ≤ 4095) names
+  pub ascend : IsStrictlySortedBy (slice_cmp nat_cmp) names
+
+abbrev pub is_root : List ℕ → Bool
+is_root path = pointwise nat_eq path (47 ∷ [])
+
+-- `/` is a directory; where a node is at another path, the path is one, and its parent is a directory
+abbrev pub is_placed : Files → List ℕ → Bool
+is_placed files path =
+    if is_root path then is_dir (get files path)
+    else is_none (get files path) || (is_none (refusal path) && is_dir (get files (parent_of path)))
+
+-- what is true of every tree
+unfoldable pub IsTree : Files → Type 0
+IsTree files = (path : List ℕ) → IsTrue (is_placed files path)
+
+pub IsTree-prop : (files : Files) → IsProp (IsTree files)
+unfolding IsTree
+IsTree-prop files = hlevel (Bool-set)

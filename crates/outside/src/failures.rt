@@ -1,0 +1,7 @@
+//! The answer of a call that the outside did not serve.
+use thiserror::Error;
+
+/// The outside failed. The object that says so has counted it.
+#[derive(Clone, Copy, Debug, Drop, PartialEq, Eq, Error)]
+#[error("the outside failed")]
+pub struct Failed;
