@@ -1,5 +1,5 @@
 -- A path and a name make a path.
-use Rattle.std.proofs.Common.{◌≡◌, ℕ, ◌+◌, ◌<◌, ◌≤◌, Bool, true, false, not, ◌&&◌, ◌||◌, List, [], ◌∷◌, ◌++◌, length, refl, ap, ◌∙◌, arith, Option, Some, None, cond}
+use Rattle.std.proofs.Common.{◌≡◌, ℕ, ◌+◌, ◌<◌, ◌≤◌, Bool, true, false, not, ◌&&◌, ◌||◌, List, [], ◌∷◌, ◌++◌, length, refl, ap, ◌∙◌, arith, Option, Some, None, cond, eqb, length-append}
 use Rattle.std.specs.List.{slice_split, onto_first, list_any}
 use Rattle.std.specs.Option.{is_none}
 use Rattle.std.specs.Bool.{IsTrue}
@@ -75,5 +75,13 @@ refusal_joined (b ∷ c ∷ bytes) n h g l =
     (ap first_fault (split_more (c ∷ bytes) n) ∙ first_fault-append (slice_split is_slash (c ∷ bytes)) (slice_split is_slash n) fine ∙ ap first_fault (split_name n parts.0) ∙ one_name n parts.1)
 
 -- what `join` makes is a path
-pub made : (p n t : List ℕ) → t ≡ joined p n → refusal p ≡ None → IsTrue (is_name n) → length t ≤ 4095 → refusal t ≡ None
-made p n t e h g l = ap refusal e ∙ refusal_joined p n h g (omega (arith, ap length e))
+pub made : (p n t : List ℕ) → t ≡ joined p n → refusal p ≡ None → IsTrue (is_name n) → length (joined p n) ≤ 4095 → refusal t ≡ None
+made p n t e h g l = ap refusal e ∙ refusal_joined p n h g l
+
+-- how long it is
+pub joined_length : (p n : List ℕ) → length (joined p n) ≡ cond (eqb (length p) 1) (length p + length n) (length p + (length n + 1))
+joined_length p n =
+    elim (eqb (length p) 1) as (λ b. length (cond b (p ++ n) (p ++ 47 ∷ n)) ≡ cond b (length p + length n) (length p + (length n + 1))) [
+      | true ↦ length-append p n
+      | false ↦ length-append p (47 ∷ n) ∙ ap (λ k. length p + k) (omega arith)
+    ]

@@ -3,3 +3,4 @@ pub mod Split
 pub mod Joined
 pub mod Plain
 pub mod Preordered
+pub mod Words

@@ -85,7 +85,7 @@ names_before (a ∷ m) (b ∷ n) s t e =
     let r = neither (is_slash b) (list_any is_slash n) t in
     higher_name a b (before_all (m ++ 47 ∷ []) n) (slice_cmp nat_cmp m n) l.0 r.0 e (names_before m n l.1 r.1)
 
-self_equal : (a : ℕ) (rest : Ordering) → ordering_then (nat_cmp (byte_rank a) (byte_rank a)) rest ≡ rest
+pub self_equal : (a : ℕ) (rest : Ordering) → ordering_then (nat_cmp (byte_rank a) (byte_rank a)) rest ≡ rest
 self_equal a rest = grind (arith, nat_tests)
 
 pub prefix_less : (p r : List ℕ) → 0 < length r → path_cmp p (p ++ r) ≡ Less

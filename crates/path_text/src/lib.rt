@@ -31,3 +31,6 @@ pub use errors::{JoinError, OutOfMemory, PathError};
 pub use escaping::{escape, put_escaped};
 pub use laws::{path_order_is_preorder, path_order_reads_slash_as_zero};
 pub use paths::{MAX_PATH, Path, valid_name};
+
+#[cfg(test)]
+mod tests;

@@ -1,5 +1,5 @@
 //! Paths.
-ghost use Rattle.std.specs.Prelude.{◌≡◌, ◌<◌, ◌≤◌, ◌⊎◌, length, IsTrue, IfOk, IfErr, OnOk, IsErrOf, Some, None};
+ghost use Rattle.std.specs.Prelude.{◌≡◌, ◌+◌, ◌<◌, ◌≤◌, ◌⊎◌, length, IsTrue, IfOk, IfErr, OnOk, IsErrOf, Some, None};
 ghost use Rattle.std.specs.String.{string_bytes};
 ghost use Rattle.path_text.specs.Path.{refusal, is_name, joined};
 ghost use Rattle.path_text.specs.Order.{path_cmp};
@@ -21,7 +21,7 @@ pub struct Path {
 }
 
 impl Model for Path {
-    ghost use Rattle.std.specs.Prelude.{◌≡◌, List, ℕ, None};
+    ghost use Rattle.std.specs.Prelude.{◌≡◌, ◌+◌, List, ℕ, None};
     ghost use Rattle.std.specs.String.{string_bytes};
 
     ghost Value = { List ℕ };
@@ -73,18 +73,32 @@ impl Path {
         ensures short { OnOk result (length (joined self.now name.now) ≤ 4095) }
         ensures too_long { IsErrOf result JoinError.TooLong → 4095 < length (joined self.now name.now) }
     {
-        let text = joined_text(&self.text, name)?;
-        if text.len() > MAX_PATH {
+        let len = joined_len(self.text.as_str(), name);
+        if len > MAX_PATH {
             return Err(JoinError::TooLong);
         }
+        let text = joined_text(&self.text, name, len)?;
         Ok(Path { text })
     }
 }
 
-fn joined_text(path: &String, name: &str) -> Result<String, AllocError>
+#[tactic(auto, using(crate::proofs::Joined::joined_length))]
+fn joined_len(path: &str, name: &str) -> usize
+    requires { length path.now ≤ 4095 }
+    ensures { result ≡ length (joined path.now name.now) }
+{
+    if path.len() == 1 {
+        path.len() + name.len()
+    } else {
+        path.len() + name.len() + 1
+    }
+}
+
+fn joined_text(path: &String, name: &str, len: usize) -> Result<String, AllocError>
     ensures { IfOk result (λ text. string_bytes text ≡ joined (string_bytes path.now) name.now) }
 {
-    let mut text = path.clone()?;
+    let mut text = String::with_capacity(*path.allocator(), len)?;
+    text.push_str(path)?;
     if path.len() != 1 {
         text.push('/')?;
     }

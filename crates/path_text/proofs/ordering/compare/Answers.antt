@@ -1,6 +1,6 @@
-use Rattle.std.proofs.Common.{◌∙◌, sym, arith}
-use Rattle.path_text.proofs.Compared.{path_cmp_past}
+use Rattle.std.proofs.Common.{◌∙◌}
+use Rattle.path_text.proofs.Words.{past_words}
 use Rattle.path_text.proofs.ordering.compare.Goals as goal
 
 pub returns : goal.returns
-returns c = c.cmp-2.ensures ∙ sym (path_cmp_past _ _ c.loop-i.i (omega arith)) ∙ sym c.loop-i.invariant
+returns c = c.compare_bytes.ensures ∙ past_words c.args.a.now c.args.b.now c.shared_words-same.result c.shared_words-same.ensures.same

@@ -1,6 +1,6 @@
 use Rattle.std.proofs.Common.{◌≡◌, drop}
 use Rattle.path_text.specs.Order.{path_cmp}
-use Rattle.path_text.proofs.ordering.compare.Given as goal
+use Rattle.path_text.proofs.ordering.compare_bytes.Given as goal
 
 -- the bytes so far are the same
 abbrev pub invariant-loop-i : goal.invariant-loop-i
