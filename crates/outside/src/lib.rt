@@ -28,3 +28,6 @@ pub use grounds::Ground;
 pub use listings::Listing;
 pub use sinks::{MemSink, Sink, put_all};
 pub use trees::{Kind, ListError, Stat, Tree};
+
+#[cfg(test)]
+mod tests;

@@ -1,0 +1,83 @@
+//! A sink in memory, a sink that takes little at a time, and a listing.
+use crate::{Failed, Listing, MemSink, Sink, put_all};
+use std::test::Fail;
+
+#[test]
+fn a_sink_in_memory_takes_what_it_has_room_for(rt: HostRuntime) -> Result<(), Fail> {
+    let mut sink = MemSink::limited(rt.alloc(), 5)?;
+    assert!(rt; put_all(&mut sink, b"abc").is_ok());
+    assert!(rt; sink.put(b"") == Ok(0));
+    assert!(rt; put_all(&mut sink, b"defg") == Err(Failed));
+    assert_eq!(rt; sink.text(), b"abcde".as_slice());
+    assert_eq!(rt; sink.faults(), 1);
+    assert!(rt; put_all(&mut sink, b"") == Ok(()));
+    assert_eq!(rt; sink.faults(), 1);
+    Ok(())
+}
+
+/// Takes two bytes at a time, and fails at one of its calls.
+#[derive(Drop)]
+struct Sip {
+    calls: u64,
+    fails_at: u64,
+    taken: usize,
+    count: u64,
+}
+
+impl Sink for Sip {
+    ghost use Rattle.std.specs.Prelude.{None};
+
+    ghost text = { λ s. None };
+
+    ghost count = { λ s. s.count };
+
+    fn faults(&self) -> u64 {
+        self.count
+    }
+
+    fn put(&mut self, bytes: &[u8]) -> Result<usize, Failed> {
+        self.calls = self.calls.saturating_add(1);
+        if self.calls == self.fails_at {
+            self.count = self.count.saturating_add(1);
+            return Err(Failed);
+        }
+        let n = bytes.len().min(2);
+        self.taken = self.taken.saturating_add(n);
+        Ok(n)
+    }
+}
+
+#[test]
+fn all_is_put_in_pieces_up_to_a_fault(rt: HostRuntime) {
+    for (fails_at, told, taken, faults) in [
+        (0, Ok(()), 7, 0),
+        (1, Err(Failed), 0, 1),
+        (3, Err(Failed), 4, 1),
+        (5, Ok(()), 7, 0),
+    ] {
+        let mut sink = Sip {
+            calls: 0,
+            fails_at,
+            taken: 0,
+            count: 0,
+        };
+        assert!(rt; put_all(&mut sink, b"sevenbs") == told, "at {fails_at}");
+        assert_eq!(rt; sink.taken, taken);
+        assert_eq!(rt; sink.faults(), faults);
+    }
+}
+
+#[test]
+fn a_listing_gives_its_names_back(rt: HostRuntime) -> Result<(), Fail> {
+    let mut listing = Listing::make(rt.alloc());
+    assert_eq!(rt; listing.len(), 0);
+    for name in ["a", "b-x"] {
+        listing.add(String::from_str(rt.alloc(), name)?)?;
+    }
+    listing.set_rest(2, 3);
+    assert_eq!(rt; listing.len(), 2);
+    assert_eq!(rt; listing.name(1), "b-x");
+    assert_eq!(rt; listing.unnamed(), 2);
+    assert_eq!(rt; listing.far(), 3);
+    Ok(())
+}
