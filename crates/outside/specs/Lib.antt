@@ -2,3 +2,5 @@ pub mod Tree
 pub mod Codes
 pub mod Count
 pub mod Sinks
+pub mod Children
+pub mod Names

@@ -102,3 +102,7 @@ IsTree files = (path : List ℕ) → IsTrue (is_placed files path)
 pub IsTree-prop : (files : Files) → IsProp (IsTree files)
 unfolding IsTree
 IsTree-prop files = hlevel (Bool-set)
+
+-- in every tree the names of the children of a path are valid and ascend, and each gives a path that is not too long
+abbrev pub ChildrenAreNames : Type 0
+ChildrenAreNames = (files : Files) (path : List ℕ) → IsTree files → AreNames path (names_in files path)

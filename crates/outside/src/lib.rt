@@ -13,18 +13,21 @@
 //! answer that blames the outside comes only where that count rose, or stands at its end.
 //!
 //! Proved: [`put_all`] ends and appends exactly its bytes, or a front of them where the sink failed; [`MemSink`] and
-//! [`Listing`] meet their clauses. The traits' clauses are what each implementation is proved to meet. Definitions stand in
-//! `specs/`: `Tree` (files, nodes, listings), `Count` (counts of faults), `Sinks`.
+//! [`Listing`] meet their clauses. The traits' clauses are what each implementation is proved to meet. A law says what the
+//! names in every tree are like ([`children_have_names`]). Definitions stand in `specs/`: `Tree` (files, nodes, listings),
+//! `Count` (counts of faults), `Sinks`.
 #![tactic(auto)]
 
 mod failures;
 mod grounds;
+mod laws;
 mod listings;
 mod sinks;
 mod trees;
 
 pub use failures::Failed;
 pub use grounds::Ground;
+pub use laws::children_have_names;
 pub use listings::Listing;
 pub use sinks::{MemSink, Sink, put_all};
 pub use trees::{Kind, ListError, Stat, Tree};
