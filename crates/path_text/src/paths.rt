@@ -114,6 +114,18 @@ pub fn valid_name(name: &str) -> bool
     !bytes.contains(&b'/') && name_fault(bytes).is_none()
 }
 
+impl Clone for Path {
+    ghost use Rattle.std.specs.Prelude.{◌≡◌};
+
+    ghost is_clone = { λ p q. q ≡ p };
+
+    fn clone(&self) -> Result<Path, AllocError> {
+        Ok(Path {
+            text: self.text.clone()?,
+        })
+    }
+}
+
 impl PartialEq for Path {
     ghost use Rattle.std.specs.Cmp.Lexicographic.{pointwise, nat_list_eq_equiv};
     ghost use Rattle.std.specs.Cmp.{partial_equiv_from_equiv};
