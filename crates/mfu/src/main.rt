@@ -1,0 +1,37 @@
+//! The program: `mfu TOOL WORD..` runs a tool over the files of the system.
+//!
+//! It hands [`mfu_top::run`] the words behind its own name, the files, standard output, standard error and the time, and ends
+//! with the status that this answers. A word that is no text ends it with status 2, and want of memory for the words with
+//! status 3.
+//!
+//! - `disk` has the files of the system as an [`outside::Ground`] and its readers, over the `names` that a directory gives.
+//! - `streams` has a stream of the system as an [`outside::Sink`].
+//! - `given` has the words and the time.
+//!
+//! These are the edge of what is proved. They are proved safe and within the traits that they implement: each error of the
+//! system is counted, what is no text is counted, and the names of a listing are valid, short enough and in ascending order,
+//! whatever the system wrote. No contract says what the disk or a stream holds, so they tell no tree and no text.
+#![tactic(auto)]
+
+mod disk;
+mod given;
+mod names;
+mod streams;
+
+use crate::disk::RealGround;
+use crate::streams::RealSink;
+use mfu_top::run;
+use std::process::ExitCode;
+
+fn main(rt: HostRuntime) -> ExitCode {
+    let words = match given::words(&rt) {
+        Ok(words) => words,
+        Err(status) => return ExitCode::from(status as u8),
+    };
+    let mut files = RealGround::make(rt);
+    let mut out = RealSink::make(rt.stdout());
+    let mut notes = RealSink::make(rt.stderr());
+    let now = given::seconds(&rt);
+    let status = run(&rt, rt.alloc(), &words, &mut files, &mut out, &mut notes, now);
+    ExitCode::from(status as u8)
+}

@@ -1,0 +1,103 @@
+//! Names as the system gives them, and the listing that they make.
+ghost use Rattle.std.specs.Prelude.{◌≡◌, ◌≤◌, ◌<◌, ◌++◌, ◌∷◌, [], length, IfOk, IsTrue, nat_lt};
+ghost use Rattle.std.specs.List.Sorted.{IsStrictlySortedBy};
+ghost use Rattle.std.specs.Cmp.Lexicographic.{slice_cmp};
+ghost use Rattle.std.specs.Ordering.{nat_cmp};
+ghost use Rattle.outside.specs.Tree.{AreNames};
+ghost use Rattle.path_text.specs.Path.{joined, is_name};
+
+use outside::Listing;
+use path_text::{MAX_PATH, OutOfMemory, Path, valid_name};
+use std::alloc::Global;
+use std::str;
+
+/// Names as the system gives them: in any order, and maybe one of them twice.
+#[derive(Drop)]
+pub struct FoundNames {
+    names: Vec<String>,
+    // How many more are no text.
+    unnamed: u64,
+}
+
+impl FoundNames {
+    /// No names. It takes no memory.
+    pub fn make(alloc: Global) -> FoundNames {
+        FoundNames {
+            names: Vec::new(alloc),
+            unnamed: 0,
+        }
+    }
+
+    /// Adds the names of a piece that the system wrote, each ended by the byte 0.
+    pub fn add_piece(&mut self, piece: &[u8]) -> Result<(), OutOfMemory> {
+        for name in piece.split(|b| *b == 0) {
+            if !is_self_or_parent(name) {
+                self.add(name)?;
+            }
+        }
+        Ok(())
+    }
+
+    fn add(&mut self, name: &[u8]) -> Result<(), OutOfMemory> {
+        match str::from_utf8(name) {
+            Ok(text) => {
+                let name = String::from_str(*self.names.allocator(), text)?;
+                self.names.push(name)?;
+            }
+            Err(_) => self.unnamed = self.unnamed.saturating_add(1),
+        }
+        Ok(())
+    }
+
+    /// The listing of a directory at the path with these names.
+    pub fn listing(mut self, path: &Path) -> Result<Listing, OutOfMemory>
+        ensures { IfOk result (λ listing. AreNames path.now listing.0) }
+    {
+        self.names.sort()?;
+        self.names.dedup();
+        let mut listing = Listing::make(*self.names.allocator());
+        for name in self.names {
+            put_name(&mut listing, path, name)?;
+        }
+        let unnamed = listing.unnamed().saturating_add(self.unnamed);
+        listing.set_rest(unnamed, listing.far());
+        Ok(listing)
+    }
+}
+
+// What a directory names beside its children: nothing, itself and its parent.
+fn is_self_or_parent(name: &[u8]) -> bool {
+    name.is_empty() || name == b".".as_slice() || name == b"..".as_slice()
+}
+
+// Puts a name behind those of the listing, or counts why it can't stand there.
+fn put_name(listing: &mut Listing, path: &Path, name: String) -> Result<(), OutOfMemory>
+    requires { AreNames path.now listing.old.0 }
+    ensures { AreNames path.now listing.new.0 }
+{
+    let (unnamed, far) = (listing.unnamed(), listing.far());
+    if !valid_name(name.as_str()) {
+        listing.set_rest(unnamed.saturating_add(1), far);
+    } else if is_far(path, name.as_str()) {
+        listing.set_rest(unnamed, far.saturating_add(1));
+    } else if ascends(listing, name.as_str()) {
+        listing.add(name)?;
+    }
+    Ok(())
+}
+
+// Whether the path of a child has more bytes than a path may have.
+fn is_far(path: &Path, name: &str) -> bool
+    ensures { result ≡ nat_lt 4095 (length (joined path.now name.now)) }
+{
+    let both = path.text().len() + name.len();
+    let slash = if path.text().len() == 1 { 0 } else { 1 };
+    both + slash > MAX_PATH
+}
+
+// Whether a name may follow those of the listing.
+fn ascends(listing: &Listing, name: &str) -> bool
+    ensures { IsTrue result → IsStrictlySortedBy (slice_cmp nat_cmp) listing.now.0 → IsStrictlySortedBy (slice_cmp nat_cmp) (listing.now.0 ++ name.now ∷ []) }
+{
+    listing.len() == 0 || listing.name(listing.len() - 1) < name
+}
