@@ -1,5 +1,6 @@
 //! The files of the system.
 ghost use Rattle.std.specs.Prelude.{◌≡◌, ◌≢◌, IfOk, IfSome, None};
+ghost use Rattle.outside.specs.Count.{RoseBy};
 ghost use Rattle.outside.specs.Tree.{AreNames};
 
 use crate::names::FoundNames;
@@ -9,22 +10,31 @@ use std::alloc::Global;
 use std::fs;
 use std::fs::{Files, Metadata};
 use std::io::{ErrorKind, Read};
+use std::marker::Model;
 use std::os::unix::fs::MetadataExt;
 
 /// How many bytes of names are asked of the system at a time.
 const PIECE: usize = 32768;
 
-/// The files of the system. It tells no tree.
+/// The files of a system, seen as its count of faults. It tells no tree.
 #[derive(Drop)]
 pub struct RealGround<R> {
     system: R,
     count: u64,
 }
 
+impl<R> Model for RealGround<R> {
+    ghost use Rattle.std.specs.Prelude.{ℕ};
+
+    ghost Value = { ℕ };
+
+    ghost view = { λ ground. ground.count };
+}
+
 impl<R> RealGround<R> {
     /// The files of a system, with no fault yet.
     pub fn make(system: R) -> RealGround<R>
-        ensures { result.count ≡ 0 }
+        ensures { result ≡ 0 }
     {
         RealGround { system, count: 0 }
     }
@@ -35,7 +45,7 @@ impl<R: Files + Copy> Ground for RealGround<R> {
 
     ghost tree = { λ _. None };
 
-    ghost count = { λ ground. ground.count };
+    ghost count = { λ ground. ground };
 
     type Reader = RealReader<R>;
 
@@ -57,7 +67,7 @@ impl<R: Files + Copy> Ground for RealGround<R> {
     }
 }
 
-/// Looks at the files of the system. It tells no tree.
+/// Looks at the files of a system, seen as its count of faults. It tells no tree.
 #[derive(Drop)]
 pub struct RealReader<R> {
     system: R,
@@ -66,12 +76,30 @@ pub struct RealReader<R> {
     count: u64,
 }
 
+impl<R> Model for RealReader<R> {
+    ghost use Rattle.std.specs.Prelude.{ℕ};
+
+    ghost Value = { ℕ };
+
+    ghost view = { λ reader. reader.count };
+}
+
+impl<R> RealReader<R> {
+    // Counts a fault.
+    fn fault(&mut self) -> Failed
+        ensures { RoseBy 1 self.old self.new }
+    {
+        self.count = self.count.saturating_add(1);
+        Failed
+    }
+}
+
 impl<R: Files> Tree for RealReader<R> {
     ghost use Rattle.std.specs.Prelude.{None};
 
     ghost tree = { λ _. None };
 
-    ghost count = { λ reader. reader.count };
+    ghost count = { λ reader. reader };
 
     fn faults(&self) -> u64 {
         self.count
@@ -82,10 +110,7 @@ impl<R: Files> Tree for RealReader<R> {
         match fs::symlink_metadata(&self.system, path.text()) {
             Ok(data) => Ok(Some(stat_of(&data))),
             Err(e) if is_absent(e.kind()) => Ok(None),
-            Err(_) => {
-                self.count = self.count.saturating_add(1);
-                Err(Failed)
-            }
+            Err(_) => Err(self.fault()),
         }
     }
 
@@ -97,7 +122,7 @@ impl<R: Files> Tree for RealReader<R> {
                 Ok(listing)
             }
             Err(ListError::Failed) => {
-                self.count = self.count.saturating_add(1);
+                self.fault();
                 Err(ListError::Failed)
             }
             Err(e) => Err(e),
@@ -158,4 +183,86 @@ fn listing_of<R: Files>(
         }
     }
     Err(ListError::Failed)
+}
+
+#[cfg(test)]
+mod tests {
+    use super::*;
+    use crate::fakes::FakeSystem;
+    use path_text::PathError;
+    use std::test::Fail;
+
+    #[test]
+    fn names_come_in_order_and_once(rt: HostRuntime) -> Result<(), Fail> {
+        let pieces: &[&[u8]] = &[b"b\0.\0a\0..\0\xFF\0", b"a.\0b\0x/y\0"];
+        let mut ground = RealGround::make(FakeSystem { pieces, torn: false });
+        let mut reader = ground.reader(rt.alloc())?;
+        let listing = reader.list(rt.alloc(), &Path::parse(rt.alloc(), "/t")?)?;
+        assert_eq!(rt; (listing.len(), listing.unnamed(), listing.far()), (3, 2, 0));
+        for (k, want) in ["a", "a.", "b"].iter().enumerate() {
+            assert_eq!(rt; listing.name(k), *want);
+        }
+        ground.take_reader(reader);
+        assert_eq!(rt; ground.faults(), 2);
+        Ok(())
+    }
+
+    #[test]
+    fn a_child_with_a_long_path_is_far(rt: HostRuntime) -> Result<(), Fail> {
+        let pieces: &[&[u8]] = &[b"a\0a.\0b\0a.\0"];
+        let mut reader = RealGround::make(FakeSystem { pieces, torn: false }).reader(rt.alloc())?;
+        let mut text = String::from_str(rt.alloc(), "/")?;
+        for _ in 1..4093 {
+            text.push('y')?;
+        }
+        let listing = reader.list(rt.alloc(), &Path::parse(rt.alloc(), text.as_str())?)?;
+        assert_eq!(rt; (listing.len(), listing.unnamed(), listing.far()), (2, 0, 1));
+        Ok(())
+    }
+
+    #[test]
+    fn a_fault_in_mid_list_is_counted(rt: HostRuntime) -> Result<(), Fail> {
+        let pieces: &[&[u8]] = &[b"a\0"];
+        let mut ground = RealGround::make(FakeSystem { pieces, torn: true });
+        let mut reader = ground.reader(rt.alloc())?;
+        let cases = [
+            ("/t", ListError::Failed, 1),
+            ("/file", ListError::NotDir, 1),
+            ("/closed", ListError::Failed, 2),
+        ];
+        for (path, want, faults) in cases {
+            let path = Path::parse(rt.alloc(), path)?;
+            assert_eq!(rt; reader.list(rt.alloc(), &path).err(), Some(want), "at {path:?}");
+            assert_eq!(rt; reader.faults(), faults, "at {path:?}");
+        }
+        Ok(())
+    }
+
+    #[test]
+    fn absent_is_no_fault(rt: HostRuntime) -> Result<(), Fail> {
+        let mut reader = RealGround::make(FakeSystem { pieces: &[], torn: false }).reader(rt.alloc())?;
+        for (path, want, faults) in [("/absent", Ok(None), 0), ("/file/x", Ok(None), 0), ("/closed", Err(Failed), 1)] {
+            assert_eq!(rt; reader.stat(&Path::parse(rt.alloc(), path)?), want, "at {path}");
+            assert_eq!(rt; reader.faults(), faults, "at {path}");
+        }
+        Ok(())
+    }
+
+    #[test]
+    fn looks_at_the_real_disk(rt: HostRuntime) -> Result<(), Fail> {
+        let mut reader = RealGround::make(rt).reader(rt.alloc())?;
+        let kinds = [
+            ("/", Some(Kind::Dir)),
+            ("/dev/null", Some(Kind::Other)),
+            ("/dev/null/x", None),
+            ("/absent or not", None),
+        ];
+        for (path, want) in kinds {
+            let stat = reader.stat(&Path::parse(rt.alloc(), path)?)?;
+            assert_eq!(rt; stat.map(|s| s.kind), want, "at {path}");
+        }
+        let listing = reader.list(rt.alloc(), &Path::parse(rt.alloc(), "/")?)?;
+        assert!(rt; listing.len() > 0);
+        Ok(())
+    }
 }

@@ -14,6 +14,8 @@
 #![tactic(auto)]
 
 mod disk;
+#[cfg(test)]
+mod fakes;
 mod given;
 mod names;
 mod streams;

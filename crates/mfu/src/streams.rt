@@ -3,18 +3,27 @@ ghost use Rattle.std.specs.Prelude.{◌≡◌};
 
 use outside::{Failed, Sink};
 use std::io::Write;
+use std::marker::Model;
 
-/// A stream of the system. It tells no text.
+/// A stream of the system, seen as its count of faults. It tells no text.
 #[derive(Drop)]
 pub struct RealSink<W> {
     stream: W,
     count: u64,
 }
 
+impl<W> Model for RealSink<W> {
+    ghost use Rattle.std.specs.Prelude.{ℕ};
+
+    ghost Value = { ℕ };
+
+    ghost view = { λ sink. sink.count };
+}
+
 impl<W> RealSink<W> {
     /// A sink over a stream, with no fault yet.
     pub fn make(stream: W) -> RealSink<W>
-        ensures { result.count ≡ 0 }
+        ensures { result ≡ 0 }
     {
         RealSink { stream, count: 0 }
     }
@@ -25,7 +34,7 @@ impl<W: Write> Sink for RealSink<W> {
 
     ghost text = { λ _. None };
 
-    ghost count = { λ sink. sink.count };
+    ghost count = { λ sink. sink };
 
     fn faults(&self) -> u64 {
         self.count
@@ -42,6 +51,50 @@ impl<W: Write> Sink for RealSink<W> {
                 self.count = self.count.saturating_add(1);
                 Err(Failed)
             }
+        }
+    }
+}
+
+#[cfg(test)]
+mod tests {
+    use super::*;
+    use std::io;
+    use std::io::ErrorKind;
+
+    /// Takes two bytes at a time, then nothing, and then fails.
+    #[derive(Drop)]
+    struct Narrow {
+        writes: u8,
+    }
+
+    impl Write for Narrow {
+        fn write(&mut self, buf: &[u8]) -> io::Result<usize> {
+            self.writes = self.writes.saturating_add(1);
+            match self.writes {
+                1 => Ok(buf.len().min(2)),
+                2 => Ok(0),
+                _ => Err(io::Error::from(ErrorKind::BrokenPipe)),
+            }
+        }
+
+        fn flush(&mut self) -> io::Result<()> {
+            Ok(())
+        }
+    }
+
+    #[test]
+    fn a_write_of_nothing_is_a_fault(rt: HostRuntime) {
+        let mut sink = RealSink::make(Narrow { writes: 0 });
+        let cases = [
+            (b"".as_slice(), Ok(0), 0),
+            (b"abc".as_slice(), Ok(2), 0),
+            (b"c".as_slice(), Err(Failed), 1),
+            (b"".as_slice(), Ok(0), 1),
+            (b"c".as_slice(), Err(Failed), 2),
+        ];
+        for (bytes, want, faults) in cases {
+            assert_eq!(rt; sink.put(bytes), want);
+            assert_eq!(rt; sink.faults(), faults);
         }
     }
 }
