@@ -195,10 +195,16 @@ mod tests {
     #[test]
     fn names_come_in_order_and_once(rt: HostRuntime) -> Result<(), Fail> {
         let pieces: &[&[u8]] = &[b"b\0.\0a\0..\0\xFF\0", b"a.\0b\0x/y\0"];
-        let mut ground = RealGround::make(FakeSystem { pieces, torn: false });
+        let mut ground = RealGround::make(FakeSystem {
+            pieces,
+            torn: false,
+        });
         let mut reader = ground.reader(rt.alloc())?;
         let listing = reader.list(rt.alloc(), &Path::parse(rt.alloc(), "/t")?)?;
-        assert_eq!(rt; (listing.len(), listing.unnamed(), listing.far()), (3, 2, 0));
+        assert_eq!(rt;
+            (listing.len(), listing.unnamed(), listing.far()),
+            (3, 2, 0)
+        );
         for (k, want) in ["a", "a.", "b"].iter().enumerate() {
             assert_eq!(rt; listing.name(k), *want);
         }
@@ -210,13 +216,20 @@ mod tests {
     #[test]
     fn a_child_with_a_long_path_is_far(rt: HostRuntime) -> Result<(), Fail> {
         let pieces: &[&[u8]] = &[b"a\0a.\0b\0a.\0"];
-        let mut reader = RealGround::make(FakeSystem { pieces, torn: false }).reader(rt.alloc())?;
+        let mut reader = RealGround::make(FakeSystem {
+            pieces,
+            torn: false,
+        })
+        .reader(rt.alloc())?;
         let mut text = String::from_str(rt.alloc(), "/")?;
         for _ in 1..4093 {
             text.push('y')?;
         }
         let listing = reader.list(rt.alloc(), &Path::parse(rt.alloc(), text.as_str())?)?;
-        assert_eq!(rt; (listing.len(), listing.unnamed(), listing.far()), (2, 0, 1));
+        assert_eq!(rt;
+            (listing.len(), listing.unnamed(), listing.far()),
+            (2, 0, 1)
+        );
         Ok(())
     }
 
@@ -232,7 +245,11 @@ mod tests {
         ];
         for (path, want, faults) in cases {
             let path = Path::parse(rt.alloc(), path)?;
-            assert_eq!(rt; reader.list(rt.alloc(), &path).err(), Some(want), "at {path:?}");
+            assert_eq!(rt;
+                reader.list(rt.alloc(), &path).err(),
+                Some(want),
+                "at {path:?}"
+            );
             assert_eq!(rt; reader.faults(), faults, "at {path:?}");
         }
         Ok(())
@@ -240,9 +257,21 @@ mod tests {
 
     #[test]
     fn absent_is_no_fault(rt: HostRuntime) -> Result<(), Fail> {
-        let mut reader = RealGround::make(FakeSystem { pieces: &[], torn: false }).reader(rt.alloc())?;
-        for (path, want, faults) in [("/absent", Ok(None), 0), ("/file/x", Ok(None), 0), ("/closed", Err(Failed), 1)] {
-            assert_eq!(rt; reader.stat(&Path::parse(rt.alloc(), path)?), want, "at {path}");
+        let mut reader = RealGround::make(FakeSystem {
+            pieces: &[],
+            torn: false,
+        })
+        .reader(rt.alloc())?;
+        for (path, want, faults) in [
+            ("/absent", Ok(None), 0),
+            ("/file/x", Ok(None), 0),
+            ("/closed", Err(Failed), 1),
+        ] {
+            assert_eq!(rt;
+                reader.stat(&Path::parse(rt.alloc(), path)?),
+                want,
+                "at {path}"
+            );
             assert_eq!(rt; reader.faults(), faults, "at {path}");
         }
         Ok(())

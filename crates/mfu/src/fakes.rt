@@ -18,14 +18,18 @@ pub struct FakeFolder {
     reads: usize,
 }
 
-fn fault<T>() -> io::Result<T> {
-    Err(io::Error::from(ErrorKind::PermissionDenied))
+fn fault() -> io::Error {
+    io::Error::from(ErrorKind::PermissionDenied)
 }
 
 impl Read for FakeFolder {
     fn read(&mut self, buf: &mut [u8]) -> io::Result<usize> {
         let Some(piece) = self.system.pieces.get(self.reads) else {
-            return if self.system.torn { fault() } else { Ok(0) };
+            return if self.system.torn {
+                Err(fault())
+            } else {
+                Ok(0)
+            };
         };
         self.reads = self.reads.saturating_add(1);
         let n = piece.len().min(buf.len());
@@ -42,7 +46,7 @@ impl Files for FakeSystem {
     fn open_dir(&self, path: &str) -> io::Result<FakeFolder> {
         match path {
             "/file" => Err(io::Error::from(ErrorKind::NotADirectory)),
-            "/closed" => fault(),
+            "/closed" => Err(fault()),
             _ => Ok(FakeFolder {
                 system: *self,
                 reads: 0,
@@ -54,39 +58,39 @@ impl Files for FakeSystem {
         match path {
             "/absent" => Err(io::Error::from(ErrorKind::NotFound)),
             "/file/x" => Err(io::Error::from(ErrorKind::NotADirectory)),
-            _ => fault(),
+            _ => Err(fault()),
         }
     }
 
     fn open_file(&self, _how: &OpenOptions, _path: &str) -> io::Result<File> {
-        fault()
+        Err(fault())
     }
 
     fn metadata(&self, _path: &str) -> io::Result<Metadata> {
-        fault()
+        Err(fault())
     }
 
     fn copy(&self, _from: &str, _to: &str) -> io::Result<u64> {
-        fault()
+        Err(fault())
     }
 
     fn rename(&self, _from: &str, _to: &str) -> io::Result<()> {
-        fault()
+        Err(fault())
     }
 
     fn remove_file(&self, _path: &str) -> io::Result<()> {
-        fault()
+        Err(fault())
     }
 
     fn create_dir(&self, _path: &str) -> io::Result<()> {
-        fault()
+        Err(fault())
     }
 
     fn remove_dir(&self, _path: &str) -> io::Result<()> {
-        fault()
+        Err(fault())
     }
 
     fn remove_dir_all<B: Allocator>(&self, _alloc: B, _path: &str) -> io::Result<()> {
-        fault()
+        Err(fault())
     }
 }

@@ -19,7 +19,9 @@ pub fn words<R: Env + AllocGlobal>(rt: &R) -> Result<Vec<String>, Status> {
 /// The seconds since 1970, and 0 where the clock can't be read or stands before.
 pub fn seconds(clock: &impl Clock) -> u64 {
     match SystemTime::now(clock) {
-        Ok(now) => now.duration_since(UNIX_EPOCH).map_or(0, |time| time.as_secs()),
+        Ok(now) => now
+            .duration_since(UNIX_EPOCH)
+            .map_or(0, |time| time.as_secs()),
         Err(_) => 0,
     }
 }

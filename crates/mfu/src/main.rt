@@ -34,6 +34,14 @@ fn main(rt: HostRuntime) -> ExitCode {
     let mut out = RealSink::make(rt.stdout());
     let mut notes = RealSink::make(rt.stderr());
     let now = given::seconds(&rt);
-    let status = run(&rt, rt.alloc(), &words, &mut files, &mut out, &mut notes, now);
+    let status = run(
+        &rt,
+        rt.alloc(),
+        &words,
+        &mut files,
+        &mut out,
+        &mut notes,
+        now,
+    );
     ExitCode::from(status as u8)
 }
