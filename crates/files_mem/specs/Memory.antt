@@ -1,0 +1,56 @@
+-- Files in memory: the tree, what is planned to fail in it, and how often it has failed. Our own.
+use Rattle.std.specs.Prelude.{ℕ, Bool, List, [], ◌∷◌, ◌++◌, Option, Some, None, if◌then◌else◌, is_some, refl}
+use Rattle.std.specs.Coded.{Coded, code_by, coded×, coded_ℕ}
+use Rattle.std.specs.FinMap.{get, insert, empty}
+use Rattle.outside.specs.Tree.{Files, Node, Body, dir, file, link, other, is_dir, parent_of}
+use Rattle.outside.specs.Codes.{files_code}
+use Rattle.outside.specs.Count.{capped}
+use Rattle.files_mem.specs.declared.plans.Call.{Call}
+use Rattle.files_mem.specs.declared.errors.PutError.{PutError}
+use Rattle.files_mem.specs.declared.errors.PutError.TheVariants.{Exists, NoParent}
+use Rattle.files_mem.specs.Planned.{planned_code}
+
+-- the nodes by their paths, the calls that are planned to fail, and the count of faults
+pub record Memory : Type 0 where
+  pub files : Files
+  pub planned : List (Call × List ℕ)
+  pub count : ℕ
+
+abbrev pub memory_code : Coded Memory
+memory_code =
+    code_by (Files × (List (Call × List ℕ) × ℕ)) (coded× files_code (coded× planned_code coded_ℕ))
+    (λ m. (m.files, (m.planned, m.count))) (λ p. record { files = p.0; planned = p.1.0; count = p.1.1 }) (λ _. refl)
+
+-- nothing but `/`, a directory without a time
+abbrev pub empty_files : Files
+empty_files = insert empty (47 ∷ []) (record { body = dir 0; mtime = None })
+
+-- as it is once it has answered: a call that was planned to fail is counted
+abbrev pub answered : Bool → Memory → Memory
+answered planned m = if planned then record m { count = capped m.count 1 } else m
+
+-- with a node at the path
+abbrev pub with_node : Memory → List ℕ → Node → Memory
+with_node m path node = record m { files = insert m.files path node }
+
+-- with one more call that is planned to fail
+abbrev pub with_planned : Memory → Call → List ℕ → Memory
+with_planned m call path = record m { planned = m.planned ++ (call, path) ∷ [] }
+
+-- why no node can be put at the path
+abbrev pub put_refusal : Files → List ℕ → Option PutError
+put_refusal files path =
+    if is_some (get files path) then Some Exists
+    else if is_dir (get files (parent_of path)) then None
+    else Some NoParent
+
+-- of a directory the number of children whose path is too long
+abbrev pub body_far : Body → Option ℕ
+body_far (dir far) = Some far
+body_far (file bytes) = None
+body_far link = None
+body_far other = None
+
+abbrev pub dir_far : Option Node → Option ℕ
+dir_far None = None
+dir_far (Some n) = body_far n.body

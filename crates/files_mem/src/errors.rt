@@ -1,0 +1,40 @@
+//! Why a node is not put.
+use path_text::OutOfMemory;
+use std::alloc::{AllocError, AllocFailed};
+use thiserror::Error;
+
+/// Why a node is not put at a path.
+#[derive(Clone, Copy, Debug, Drop, PartialEq, Eq, Error)]
+pub enum PutError {
+    /// A node is there.
+    #[error("a node is there already")]
+    Exists,
+    /// The path over it is no directory.
+    #[error("the path over it is no directory")]
+    NoParent,
+    /// No memory was found.
+    #[error("out of memory")]
+    OutOfMemory,
+}
+
+impl From<OutOfMemory> for PutError {
+    ghost use Rattle.std.specs.Prelude.{◌≡◌};
+    ghost use Rattle.files_mem.specs.declared.errors.PutError.TheVariants as put;
+
+    ghost from_gives = { λ _ e. e ≡ put.OutOfMemory };
+
+    fn from(_: OutOfMemory) -> Self {
+        PutError::OutOfMemory
+    }
+}
+
+impl From<AllocError> for PutError {
+    ghost use Rattle.std.specs.Prelude.{◌≡◌};
+    ghost use Rattle.files_mem.specs.declared.errors.PutError.TheVariants as put;
+
+    ghost from_gives = { λ _ e. e ≡ put.OutOfMemory };
+
+    fn from(_: AllocError) -> Self {
+        PutError::OutOfMemory
+    }
+}

@@ -1,0 +1,41 @@
+//! Trees of files in memory: for tests of what works on files, and for trees that are made up.
+//!
+//! [`MemGround`] begins with `/` alone. [`MemGround::put_dir`], [`MemGround::put_file`], [`MemGround::put_link`] and
+//! [`MemGround::put_other`] put one node each, in a directory that is there. It is an [`outside::Ground`], and its readers,
+//! each a [`MemReader`], are [`outside::Tree`]s that tell the files as they were when the reader was made: the nodes are
+//! shared, and copied once they are changed while a reader is out.
+//!
+//! [`MemGround::plan`] plans a [`Call`] to fail at a path. Such a call fails every time, before anything else is looked at,
+//! and is counted; no other call fails. So what a program answers to faults can be tried, and is the same whatever the
+//! schedule.
+//!
+//! ```text
+//! let mut files = MemGround::empty(alloc)?;
+//! files.put_dir(&Path::parse(alloc, "/t")?, 0, None)?;
+//! files.put_file(&Path::parse(alloc, "/t/a")?, b"hello", Some(86400))?;
+//! files.plan(Call::List, &Path::parse(alloc, "/t")?)?;
+//! let mut reader = files.reader(alloc)?;
+//! reader.list(alloc, &t)                    // `Failed`, and the count of the reader is 1
+//! ```
+//!
+//! Both types are seen as a `Memory`: the nodes by their paths, the calls that are planned to fail, and the count of faults.
+//! Proved: each call answers exactly what that tells, changes exactly what its clauses name, and leaves a tree; only want of
+//! memory may stand in place of an answer. Listing a directory costs its children and not what is under them, which is
+//! measured and not proved. Definitions stand in `specs/`: `Memory`, `Planned` (what is planned to fail) and `Stored` (the
+//! tree that a map in memory is).
+#![tactic(auto)]
+
+mod child_names;
+mod errors;
+mod grounds;
+mod nodes;
+mod plans;
+mod readers;
+mod stores;
+#[cfg(test)]
+mod tests;
+
+pub use errors::PutError;
+pub use grounds::MemGround;
+pub use plans::Call;
+pub use readers::MemReader;

@@ -1,0 +1,156 @@
+//! Nodes by their paths.
+ghost use Rattle.std.specs.Prelude.{◌≡◌, OnOk, OnErr, IfOk};
+ghost use Rattle.std.specs.Option.{option_copied, option_map};
+ghost use Rattle.std.specs.FinMap as map;
+ghost use Rattle.outside.specs.Tree.{names_in, is_dir, far_of, stat_of, parent_of};
+ghost use Rattle.files_mem.specs.Stored.{node_of};
+ghost use Rattle.files_mem.specs.Memory.{put_refusal, dir_far};
+
+use crate::child_names;
+use crate::errors::PutError;
+use crate::nodes::{Body, Node};
+use outside::{Listing, Stat};
+use path_text::{OutOfMemory, Path, PathError};
+use std::alloc::{AllocError, AllocFailed, Global};
+use std::collections::BTreeMap;
+use std::marker::Model;
+
+/// Nodes by their paths, in path order.
+#[derive(Drop)]
+pub struct Store {
+    map: BTreeMap<Path, Node>,
+}
+
+impl Model for Store {
+    ghost use Rattle.outside.specs.Tree.{Files};
+    ghost use Rattle.outside.specs.Codes.{files_code};
+
+    ghost Value = { Files };
+
+    ghost coded = { files_code };
+
+    ghost use Rattle.files_mem.specs.Stored.{files_of, AllValid};
+
+    ghost view = { λ s. files_of s.map.entries };
+
+    ghost invariant = { λ s. AllValid s.map.entries };
+}
+
+impl Clone for Store {
+    ghost use Rattle.std.specs.Prelude.{◌≡◌};
+
+    ghost is_clone = { λ s t. t ≡ s };
+
+    fn clone(&self) -> Result<Store, AllocError> {
+        Ok(Store {
+            map: self.map.clone()?,
+        })
+    }
+}
+
+impl Store {
+    /// No nodes.
+    pub fn empty(alloc: Global) -> Store
+        ensures { result ≡ map.empty }
+    {
+        Store {
+            map: BTreeMap::new(alloc),
+        }
+    }
+
+    fn node_at(&self, path: &Path) -> Option<&Node>
+        ensures { option_map node_of (option_copied result) ≡ map.get self.now path.now }
+    {
+        self.map.get(path)
+    }
+
+    /// What is told of the node at the path.
+    pub fn stat(&self, path: &Path) -> Option<Stat>
+        ensures { result ≡ option_map stat_of (map.get self.now path.now) }
+    {
+        match self.node_at(path) {
+            None => None,
+            Some(node) => Some(node.stat()),
+        }
+    }
+
+    fn is_dir(&self, path: &Path) -> bool
+        ensures { result ≡ is_dir (map.get self.now path.now) }
+    {
+        match self.node_at(path) {
+            None => false,
+            Some(node) => node.is_dir(),
+        }
+    }
+
+    /// Of a directory the number of children whose path would be too long; `None` of all else.
+    pub fn far(&self, path: &Path) -> Option<u64>
+        ensures { result ≡ dir_far (map.get self.now path.now) }
+    {
+        match self.node_at(path) {
+            None => None,
+            Some(node) => match &node.body {
+                Body::Dir(far) => Some(*far),
+                _ => None,
+            },
+        }
+    }
+
+    /// Puts a node at the path, in place of what is there. A refusal changes nothing.
+    pub fn put(&mut self, path: Path, node: Node) -> Result<(), AllocError>
+        ensures ok { OnOk result (self.new ≡ map.insert self.old path (node_of node)) }
+        ensures err { OnErr result (self.new ≡ self.old) }
+    {
+        let _ = path.text(); // tells that it is a path
+        self.map.insert(path, node)?;
+        Ok(())
+    }
+
+    /// Whether a directory stands over the path.
+    fn has_parent(&self, alloc: Global, path: &Path) -> Result<bool, OutOfMemory>
+        ensures { IfOk result (λ has. has ≡ is_dir (map.get self.now (parent_of path.now))) }
+    {
+        match Path::parse(alloc, parent_text(path)) {
+            Ok(parent) => Ok(self.is_dir(&parent)),
+            Err(fault) => {
+                if fault == PathError::OutOfMemory {
+                    return Err(OutOfMemory);
+                }
+                let _ = &self.map; // tells that the keys are paths
+                Ok(false)
+            }
+        }
+    }
+
+    /// Why no node can be put at the path.
+    pub fn put_refusal(&self, alloc: Global, path: &Path) -> Result<Option<PutError>, OutOfMemory>
+        ensures { IfOk result (λ refusal. refusal ≡ put_refusal self.now path.now) }
+    {
+        if self.node_at(path).is_some() {
+            return Ok(Some(PutError::Exists));
+        }
+        if self.has_parent(alloc, path)? {
+            return Ok(None);
+        }
+        Ok(Some(PutError::NoParent))
+    }
+
+    /// The names of the children of the path.
+    pub fn list(&self, alloc: Global, path: &Path) -> Result<Listing, OutOfMemory>
+        ensures { IfOk result (λ listing. (listing.0 ≡ names_in self.now path.now) × (listing.1 ≡ 0) × (listing.2 ≡ 0)) }
+    {
+        child_names::list(&self.map, alloc, path)
+    }
+}
+
+// The text of the path over this one.
+fn parent_text(path: &Path) -> &str
+    ensures { result.now ≡ parent_of path.now }
+{
+    let text = path.text();
+    match text.rfind('/') {
+        None => "/",
+        Some(0) => "/",
+        Some(at) => &text[..at],
+    }
+}
