@@ -1,6 +1,6 @@
 -- A tree of files: a finite map from paths to nodes. Our own, after the tree of a file system.
 use Rattle.std.specs.Prelude.{◌≡◌, ℕ, ◌≤◌, Bool, true, false, not, ◌&&◌, ◌||◌, List, [], ◌∷◌, length, drop, if◌then◌else◌, ◌==◌, Option, Some, None, IsTrue, nat_eq, is_none}
-use Rattle.std.specs.List.{starts_with, list_any, before_last, filter_map, All}
+use Rattle.std.specs.List.{starts_with, list_any, filter_map, All}
 use Rattle.std.specs.FinMap.{FinMap, get, keys}
 use Rattle.std.specs.List.Sorted.{IsStrictlySortedBy}
 use Rattle.std.specs.Cmp.Lexicographic.{slice_cmp, pointwise}
@@ -8,7 +8,7 @@ use Rattle.std.specs.Ordering.{nat_cmp}
 use Rattle.std.specs.Option.{option_map}
 use mathlib.Core.Bool.{Bool-set}
 use Rattle.path_text.specs.Order.{path_cmp, front}
-use Rattle.path_text.specs.Path.{is_slash, refusal, joined, is_name}
+use Rattle.path_text.specs.Path.{is_slash, refusal, joined, is_name, parent_of}
 use Rattle.outside.specs.declared.trees.Kind.{Kind}
 use Rattle.outside.specs.declared.trees.Kind.TheVariants as kind
 use Rattle.outside.specs.declared.trees.Stat.{Stat}
@@ -37,10 +37,6 @@ is_dir_body other = false
 abbrev pub is_dir : Option Node → Bool
 is_dir None = false
 is_dir (Some n) = is_dir_body n.body
-
--- the path before the last name
-abbrev pub parent_of : List ℕ → List ℕ
-parent_of path = let before = before_last is_slash path in if length before == 0 then 47 ∷ [] else before
 
 -- the name of q, where q is a child of the path
 abbrev pub name_below : List ℕ → List ℕ → Option (List ℕ)

@@ -4,3 +4,6 @@ pub mod Joined
 pub mod Plain
 pub mod Preordered
 pub mod Words
+pub mod Parts
+pub mod Readable
+pub mod Refused

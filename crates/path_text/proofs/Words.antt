@@ -15,7 +15,7 @@ past_same : (a b : List ℕ) (k : ℕ) → take k a ≡ take k b → path_cmp (d
 past_same a b k e =
     sym (behind (take k a) (drop k a) (drop k b)) ∙ ap (λ x. path_cmp x (take k a ++ drop k b)) (take-append-drop k a) ∙ ap (λ t. path_cmp a (t ++ drop k b)) e ∙ ap (path_cmp a) (take-append-drop k b)
 
-rest_of : (a : List ℕ) (k : ℕ) → take (length a - k) (drop k a) ≡ drop k a
+pub rest_of : (a : List ℕ) (k : ℕ) → take (length a - k) (drop k a) ≡ drop k a
 rest_of a k = take_all (length a - k) (drop k a) (omega (arith, length-drop k a))
 
 -- what stands behind the same bytes decides

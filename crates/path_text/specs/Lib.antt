@@ -3,3 +3,4 @@ pub mod Order
 pub mod Total
 pub mod Preorder
 pub mod Escape
+pub mod Graft

@@ -1,6 +1,6 @@
 -- What a path is, and why a text is refused.
 use Rattle.std.specs.Prelude.{ℕ, ◌+◌, Bool, not, ◌&&◌, List, [], ◌∷◌, ◌++◌, length, drop, if◌then◌else◌, ◌==◌, nat_lt, nat_le, Option, Some, None, is_none}
-use Rattle.std.specs.List.{slice_split, list_any, list_all}
+use Rattle.std.specs.List.{slice_split, list_any, list_all, before_last, after_last}
 use Rattle.path_text.specs.declared.errors.PathError.{PathError}
 use Rattle.path_text.specs.declared.errors.PathError.TheVariants.{NotAbsolute, EmptyName, DotName, Nul, TooLong}
 
@@ -40,3 +40,15 @@ refusal (b ∷ bytes) =
 -- the path of a child
 abbrev pub joined : List ℕ → List ℕ → List ℕ
 joined path name = if length path == 1 then path ++ name else path ++ 47 ∷ name
+
+-- the path that a path other than `/` stands in: all before its last name
+abbrev pub parent_of : List ℕ → List ℕ
+parent_of path = let before = before_last is_slash path in if length before == 0 then 47 ∷ [] else before
+
+-- the last name, which is empty for `/`
+abbrev pub base_of : List ℕ → List ℕ
+base_of path = after_last is_slash path
+
+-- how many names a path has
+abbrev pub level_of : List ℕ → ℕ
+level_of path = if length path == 1 then 0 else length (names_of path)

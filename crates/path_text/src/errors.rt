@@ -74,3 +74,28 @@ impl From<AllocError> for JoinError {
         JoinError::OutOfMemory
     }
 }
+
+/// Why a text is not a path as [`escape`](crate::escape) writes it, or why none could be made of it.
+#[derive(Clone, Copy, Debug, Drop, PartialEq, Eq, Error)]
+pub enum EscapeError {
+    /// The byte at this place is raw and would have to be escaped, or is a backslash that begins no escape.
+    #[error("the byte at {0} is no text of a path")]
+    BadEscape(usize),
+    /// The bytes that it stands for are no path. It is never `PathError::OutOfMemory`.
+    #[error("{0}")]
+    Path(PathError),
+    /// No memory was found.
+    #[error("out of memory")]
+    OutOfMemory,
+}
+
+impl From<AllocError> for EscapeError {
+    ghost use Rattle.std.specs.Prelude.{◌≡◌};
+    ghost use Rattle.path_text.specs.declared.errors.EscapeError.TheVariants.{OutOfMemory};
+
+    ghost from_gives = { λ _ e. e ≡ OutOfMemory };
+
+    fn from(_: AllocError) -> Self {
+        EscapeError::OutOfMemory
+    }
+}

@@ -60,13 +60,13 @@ fn escaped_at(bytes: &[u8]) -> Option<usize>
     bytes.iter().position(|b| is_escaped(*b))
 }
 
-fn is_escaped(b: u8) -> bool
+pub fn is_escaped(b: u8) -> bool
     ensures { result ≡ is_escaped b }
 {
     b < b' ' || b == 0x7F || b == b'\\'
 }
 
-fn escape_of(b: u8) -> [u8; 4]
+pub fn escape_of(b: u8) -> [u8; 4]
     requires { is_escaped b ≡ true }
     ensures { result ≡ escaped b }
 {

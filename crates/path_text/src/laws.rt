@@ -1,4 +1,6 @@
-//! Laws of path order, each the contract of a function that does nothing.
+//! Laws of paths, each the contract of a function that does nothing.
+ghost use Rattle.path_text.specs.Escape.{ReadingUndoesWriting};
+ghost use Rattle.path_text.specs.Graft.{GraftUndoesBelow};
 ghost use Rattle.path_text.specs.Order.{IsPreorder, ReadsSlashAsZero};
 
 /// Path order is preorder with siblings in byte order: a path comes before all that is under it, and of two children of a
@@ -10,4 +12,14 @@ pub fn path_order_is_preorder()
 /// On paths, which hold no byte 0, path order is the order of the bytes with `/` read as 0.
 pub fn path_order_reads_slash_as_zero()
     ensures { ReadsSlashAsZero }
+{}
+
+/// A path taken below a top and grafted on that top is itself again.
+pub fn graft_undoes_below()
+    ensures { GraftUndoesBelow }
+{}
+
+/// What is written for a path is read as that path, and nothing else is.
+pub fn reading_undoes_writing()
+    ensures { ReadingUndoesWriting }
 {}

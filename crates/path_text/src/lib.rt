@@ -1,36 +1,48 @@
 //! Absolute paths as text: what a path is, how paths are put in order, and how one is printed.
 //!
 //! A [`Path`] is `/`, or one or more names, each after a `/`, with at most 4,095 bytes. A contract sees it as the list of
-//! its bytes. [`Path::parse`] tells why a text is none, and [`Path::join`] makes the path of a child.
+//! its bytes. [`Path::parse`] tells why a text is none, and [`Path::join`] makes the path of a child. [`Path::parent`],
+//! [`Path::base`] and [`Path::level`] tell of its names. [`Path::below`] moves a path from a top to `/`, and
+//! [`Path::graft`] moves it on to another top ([`graft_undoes_below`]).
 //!
 //! Paths are in *path order*: `/` comes before every other byte, and the other bytes are as they are. It is preorder with
 //! siblings in byte order, so a list of the paths of a tree that is in path order reads as a walk of that tree from the top
 //! down ([`path_order_is_preorder`]).
 //!
-//! [`escape`] writes a path so that it fills one line of printable text, whatever bytes its names hold.
+//! [`escape`] writes a path so that it fills one line of printable text, whatever bytes its names hold, and [`unescape`]
+//! reads that text, and no other, as the path ([`reading_undoes_writing`]).
 //!
 //! ```text
 //! let top = Path::parse(alloc, "/t")?;
 //! let child = top.join("a\n")?;             // the path `/t/a` and a line feed
 //! assert!(top < child);
 //! let line = escape(alloc, &child)?;        // the bytes of `/t/a\x0A`
+//! assert!(unescape(alloc, "/t/a\\x0A")? == child);
+//! let there = Path::graft(&Path::parse(alloc, "/d")?, &child.below(&top)?)?;     // `/d/a` and a line feed
 //! ```
 //!
 //! Proved: each call meets its clauses for every text, ends, and reads nothing out of bounds. Only memory can fail beside
-//! what the clauses name. Definitions stand in `specs/`: `Path` (what a path is), `Order` (path order and its laws), `Escape`.
+//! what the clauses name. Definitions stand in `specs/`: `Path` (what a path is), `Order` (path order and its
+//! laws), `Graft` (moving a path), `Escape` (writing and reading it).
 #![tactic(auto)]
 
 mod errors;
 mod escaping;
 mod faults;
 mod laws;
+mod names;
 mod ordering;
 mod paths;
+mod reading;
 
-pub use errors::{JoinError, OutOfMemory, PathError};
+pub use errors::{EscapeError, JoinError, OutOfMemory, PathError};
 pub use escaping::{escape, put_escaped};
-pub use laws::{path_order_is_preorder, path_order_reads_slash_as_zero};
+pub use laws::{
+    graft_undoes_below, path_order_is_preorder, path_order_reads_slash_as_zero,
+    reading_undoes_writing,
+};
 pub use paths::{MAX_PATH, Path, valid_name};
+pub use reading::unescape;
 
 #[cfg(test)]
 mod tests;

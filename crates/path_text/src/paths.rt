@@ -1,11 +1,14 @@
 //! Paths.
-ghost use Rattle.std.specs.Prelude.{◌≡◌, ◌+◌, ◌<◌, ◌≤◌, ◌⊎◌, length, IsTrue, IfOk, IfErr, OnOk, IsErrOf, Some, None};
+ghost use Rattle.std.specs.Prelude.{◌≡◌, ◌≢◌, ◌==◌, ◌+◌, ◌<◌, ◌≤◌, ◌⊎◌, if◌then◌else◌, ◌∷◌, length, drop, IsTrue, IfOk, IfErr, OnOk, IsErrOf, Some, None};
+ghost use Rattle.std.specs.List.{slice_split};
 ghost use Rattle.std.specs.String.{string_bytes};
-ghost use Rattle.path_text.specs.Path.{refusal, is_name, joined};
-ghost use Rattle.path_text.specs.Order.{path_cmp};
+ghost use Rattle.path_text.specs.Path.{is_slash, first_fault, refusal, is_name, joined, parent_of, base_of, level_of};
+ghost use Rattle.path_text.specs.Order.{path_cmp, is_under, is_within};
+ghost use Rattle.path_text.specs.Graft.{below_of, grafted};
 
 use crate::errors::{JoinError, OutOfMemory, PathError};
 use crate::faults::{name_fault, refusal};
+use crate::names::{around_last_slash, behind_front, names_below, slashes};
 use crate::ordering::compare;
 use std::alloc::{AllocError, Global};
 use std::cmp::Ordering;
@@ -66,20 +69,147 @@ impl Path {
     }
 
     /// The path of a child. The length is looked at before memory is taken.
-    #[tactic(auto, using(crate::proofs::Joined::made))]
+    #[tactic(auto, using(crate::proofs::Joined::name_alone))]
     pub fn join(&self, name: &str) -> Result<Path, JoinError>
         requires { IsTrue (is_name name.now) }
         ensures ok { IfOk result (λ path. path ≡ joined self.now name.now) }
         ensures short { OnOk result (length (joined self.now name.now) ≤ 4095) }
         ensures too_long { IsErrOf result JoinError.TooLong → 4095 < length (joined self.now name.now) }
     {
-        let len = joined_len(self.text.as_str(), name);
+        self.extended(name)
+    }
+
+    // The path with more names, one or several with slashes between them.
+    #[tactic(auto, using(crate::proofs::Joined::made))]
+    fn extended(&self, names: &str) -> Result<Path, JoinError>
+        requires { first_fault (slice_split is_slash names.now) ≡ None }
+        ensures ok { IfOk result (λ path. path ≡ joined self.now names.now) }
+        ensures short { OnOk result (length (joined self.now names.now) ≤ 4095) }
+        ensures too_long { IsErrOf result JoinError.TooLong → 4095 < length (joined self.now names.now) }
+    {
+        let len = joined_len(self.text.as_str(), names);
         if len > MAX_PATH {
             return Err(JoinError::TooLong);
         }
-        let text = joined_text(&self.text, name, len)?;
+        let text = joined_text(&self.text, names, len)?;
         Ok(Path { text })
     }
+
+    /// The path that it stands in; `None` for `/`.
+    pub fn parent(&self) -> Result<Option<Path>, OutOfMemory>
+        ensures { IfOk result (λ parent. parent ≡ (if length self.now == 1 then None else Some (parent_of self.now))) }
+    {
+        if self.text.len() == 1 {
+            return Ok(None);
+        }
+        let before = before_base(self.text.as_str());
+        let text = String::from_str(*self.text.allocator(), before)?;
+        Ok(Some(Path { text }))
+    }
+
+    /// Its last name, which is empty for `/`.
+    #[tactic(auto, using(crate::proofs::Parts::base_named, crate::proofs::Parts::never_bare))]
+    pub fn base(&self) -> &str
+        ensures base { result.now ≡ base_of self.now }
+        ensures name { length self.now ≢ 1 → IsTrue (is_name (base_of self.now)) }
+    {
+        match around_last_slash(self.text.as_str()) {
+            Some((_, base)) => base,
+            None => self.text.as_str(),
+        }
+    }
+
+    /// How many names it has.
+    #[tactic(auto, using(crate::proofs::Parts::slashes_are_names))]
+    pub fn level(&self) -> u32
+        ensures { result ≡ level_of self.now }
+    {
+        if self.text.len() == 1 {
+            0
+        } else {
+            slashes(self.text.as_bytes()) as u32
+        }
+    }
+
+    /// Whether it has the names of `top` and more behind them.
+    pub fn is_under(&self, top: &Path) -> bool
+        ensures { result ≡ is_under self.now top.now }
+    {
+        match behind_front(self.text.as_str(), top.text.as_str()) {
+            Some(names) => !names.is_empty(),
+            None => false,
+        }
+    }
+
+    /// The path that it would be if `top`, which it is or is under, were `/`.
+    #[tactic(auto, using(crate::proofs::Parts::below_made))]
+    pub fn below(&self, top: &Path) -> Result<Path, OutOfMemory>
+        requires { IsTrue (is_within self.now top.now) }
+        ensures { IfOk result (λ path. path ≡ below_of self.now top.now) }
+    {
+        let names = names_below(self.text.as_str(), top.text.as_str());
+        let text = slash_and(*self.text.allocator(), names)?;
+        Ok(Path { text })
+    }
+
+    /// The path `rest` moved from `/` to `top`, which undoes [`Path::below`]. The length is looked at before memory is
+    /// taken.
+    pub fn graft(top: &Path, rest: &Path) -> Result<Path, JoinError>
+        ensures ok { IfOk result (λ path. path ≡ grafted top.now rest.now) }
+        ensures short { OnOk result (length (grafted top.now rest.now) ≤ 4095) }
+        ensures too_long { IsErrOf result JoinError.TooLong → 4095 < length (grafted top.now rest.now) }
+    {
+        if rest.text.len() == 1 {
+            let text = top.text.clone()?;
+            return Ok(Path { text });
+        }
+        top.extended(names(rest.text.as_str()))
+    }
+
+    // The path that a text is, which is kept and not copied.
+    #[tactic(auto, using(crate::proofs::Refused::never_memory))]
+    pub(crate) fn of_text(text: String) -> Result<Path, PathError>
+        ensures ok { IfOk result (λ path. (path ≡ string_bytes text) × (refusal (string_bytes text) ≡ None)) }
+        ensures refused { IfErr result (λ e. refusal (string_bytes text) ≡ Some e) }
+        ensures fault { IfErr result (λ e. e ≢ PathError.OutOfMemory) }
+    {
+        match refusal(text.as_bytes()) {
+            Some(fault) => Err(fault),
+            None => Ok(Path { text }),
+        }
+    }
+}
+
+// The names of a path other than `/`.
+#[tactic(auto, using(crate::proofs::Joined::names_alone))]
+fn names(path: &str) -> &str
+    requires path { refusal path.now ≡ None }
+    requires named { length path.now ≢ 1 }
+    ensures names { result.now ≡ drop 1 path.now }
+    ensures fine { first_fault (slice_split is_slash result.now) ≡ None }
+{
+    &path[1..]
+}
+
+#[tactic(auto, using(crate::proofs::Parts::before_made))]
+fn before_base(path: &str) -> &str
+    requires { refusal path.now ≡ None }
+    ensures parent { result.now ≡ parent_of path.now }
+    ensures path { refusal result.now ≡ None }
+{
+    match around_last_slash(path) {
+        Some((before, _)) if !before.is_empty() => before,
+        _ => "/",
+    }
+}
+
+fn slash_and(alloc: Global, names: &str) -> Result<String, AllocError>
+    ensures { IfOk result (λ text. string_bytes text ≡ 47 ∷ names.now) }
+{
+    let mut text = String::with_capacity(alloc, names.len() + 1)?;
+    text.push('/')?;
+    text.push_str(names)?;
+    Ok(text)
 }
 
 #[tactic(auto, using(crate::proofs::Joined::joined_length))]

@@ -1,5 +1,5 @@
 //! Texts and paths with what is known of them.
-use crate::{JoinError, Path, PathError, escape, valid_name};
+use crate::{EscapeError, JoinError, Path, PathError, escape, unescape, valid_name};
 use std::alloc::Global;
 use std::cmp::Ordering;
 use std::process::Abort;
@@ -112,4 +112,117 @@ fn paths_in_printable_text(rt: HostRuntime) -> Result<(), Fail> {
         assert_eq!(rt; told.as_slice(), printed.as_bytes());
     }
     Ok(())
+}
+
+#[test]
+fn the_names_of_paths(rt: HostRuntime) -> Result<(), Fail> {
+    for (text, parent, base, level) in [
+        ("/", "", "", 0),
+        ("/t", "/", "t", 1),
+        ("/t/b-x", "/t", "b-x", 2),
+        ("/t/b/c\n", "/t/b", "c\n", 3),
+        ("/\u{e9}/\u{20ac}", "/\u{e9}", "\u{20ac}", 2),
+    ] {
+        let path = parsed(&rt, text);
+        assert_eq!(rt; path.base(), base);
+        assert!(rt; path.level() == level, "{text:?}");
+        match path.parent()? {
+            Some(told) => assert_eq!(rt; told.text(), parent),
+            None => assert_eq!(rt; text, "/"),
+        }
+    }
+    Ok(())
+}
+
+#[test]
+fn paths_under_others(rt: HostRuntime) {
+    for (path, top, told) in [
+        ("/t/b", "/t", true),
+        ("/t/b/c", "/t", true),
+        ("/t", "/", true),
+        ("/t", "/t", false),
+        ("/", "/", false),
+        ("/t", "/t/b", false),
+        ("/tb", "/t", false),
+        ("/t/b-x", "/t/b", false),
+    ] {
+        assert!(rt;
+            parsed(&rt, path).is_under(&parsed(&rt, top)) == told,
+            "{path:?} and {top:?}"
+        );
+    }
+}
+
+#[test]
+fn paths_below_a_top_and_back(rt: HostRuntime) -> Result<(), Fail> {
+    for (path, top, rest) in [
+        ("/t/b/c", "/t", "/b/c"),
+        ("/d/t/b/c", "/d/t", "/b/c"),
+        ("/t/b", "/", "/t/b"),
+        ("/t/b", "/t/b", "/"),
+        ("/", "/", "/"),
+    ] {
+        let (path, top) = (parsed(&rt, path), parsed(&rt, top));
+        if path.is_under(&top) || path == top {
+            let below = path.below(&top)?;
+            assert_eq!(rt; below.text(), rest);
+            assert_eq!(rt; Path::graft(&top, &below)?.text(), path.text());
+        } else {
+            assert!(rt; false, "{rest:?}");
+        }
+    }
+    Ok(())
+}
+
+#[test]
+fn a_grafted_path_has_at_most_4095_bytes(rt: HostRuntime) -> Result<(), Fail> {
+    let mut text = String::from_str(rt.alloc(), "/")?;
+    for _ in 0..4092 {
+        text.push('a')?;
+    }
+    let top = Path::parse(rt.alloc(), &text)?;
+    assert!(rt; Path::graft(&top, &parsed(&rt, "/b"))?.text().len() == 4095);
+    assert!(rt; Path::graft(&top, &parsed(&rt, "/bc")).err() == Some(JoinError::TooLong));
+    assert!(rt; Path::graft(&top, &parsed(&rt, "/"))? == top);
+    Ok(())
+}
+
+#[test]
+fn paths_read_from_printable_text(rt: HostRuntime) -> Result<(), Fail> {
+    for (text, path) in [
+        ("/t/a", "/t/a"),
+        ("/a\\x5Cb", "/a\\b"),
+        ("/v/x\\x0Ay", "/v/x\ny"),
+        ("/\\x01\\x1F\\x7F~", "/\x01\x1f\x7f~"),
+        ("/\u{e9}\\x09\u{20ac}", "/\u{e9}\t\u{20ac}"),
+        ("/\\x5Cx41", "/\\x41"),
+    ] {
+        assert_eq!(rt; unescape(rt.alloc(), text)?.text(), path);
+    }
+    Ok(())
+}
+
+#[test]
+fn texts_that_are_read_as_no_path(rt: HostRuntime) {
+    for (text, fault) in [
+        ("/a\\x41", EscapeError::BadEscape(2)),
+        ("/a\\x0a", EscapeError::BadEscape(2)),
+        ("/ab\\x0", EscapeError::BadEscape(3)),
+        ("/ab\\", EscapeError::BadEscape(3)),
+        ("/a\\y0A", EscapeError::BadEscape(2)),
+        ("/a\\X0A", EscapeError::BadEscape(2)),
+        ("/a\\x:0", EscapeError::BadEscape(2)),
+        ("/\\x0A\\x5c", EscapeError::BadEscape(5)),
+        ("/\\\\", EscapeError::BadEscape(1)),
+        ("/a\nb", EscapeError::BadEscape(2)),
+        ("/\u{e9}\x7f", EscapeError::BadEscape(3)),
+        ("\n", EscapeError::BadEscape(0)),
+        ("", EscapeError::Path(PathError::NotAbsolute)),
+        ("/a/", EscapeError::Path(PathError::EmptyName)),
+        ("/a\\x00", EscapeError::Path(PathError::Nul)),
+        ("/..", EscapeError::Path(PathError::DotName)),
+    ] {
+        let told = unescape(rt.alloc(), text).err();
+        assert!(rt; told == Some(fault), "{text:?}");
+    }
 }

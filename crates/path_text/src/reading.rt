@@ -1,0 +1,100 @@
+//! A path read from printable text.
+ghost use Rattle.std.specs.Prelude.{◌≡◌, ◌≢◌, ◌+◌, ◌*◌, ◌&&◌, not, ◌<◌, ◌≤◌, ◌⊎◌, ◌∷◌, ◌++◌, length, take, drop, slice_index, IfOk, IfErr, Ok, Err, IsTrue, List, ℕ};
+ghost use Rattle.std.specs.String.{string_bytes};
+ghost use Rattle.path_text.specs.Escape.{hex_value, told_byte, is_escaped, begins_escape, good_len, unescaped, reading};
+
+use crate::errors::{EscapeError, PathError};
+use crate::escaping::{escape_of, is_escaped};
+use crate::paths::Path;
+use std::alloc::{AllocError, Global};
+
+/// The path whose printable text this is, as [`escape`](crate::escape) writes it.
+pub fn unescape(alloc: Global, text: &str) -> Result<Path, EscapeError>
+    ensures ok { IfOk result (λ path. reading text.now ≡ Ok path) }
+    ensures refused { IfErr result (λ e. (reading text.now ≡ Err e) ⊎ (e ≡ EscapeError.OutOfMemory)) }
+    ensures fault { IfErr result (λ e. e ≢ EscapeError.Path PathError.OutOfMemory) }
+{
+    let good = good_len(text.as_bytes());
+    if good < text.len() {
+        return Err(EscapeError::BadEscape(good));
+    }
+    let bytes = unescaped(alloc, text)?;
+    match Path::of_text(bytes) {
+        Ok(path) => Ok(path),
+        Err(fault) => Err(EscapeError::Path(fault)),
+    }
+}
+
+// How many bytes stand before the first bad one.
+fn good_len(text: &[u8]) -> usize
+    ensures good { result ≡ good_len text.now }
+    ensures within { result ≤ length text.now }
+{
+    for at in 0..text.len() {
+        if is_bad(&text[at..]) {
+            return at;
+        }
+    }
+    text.len()
+}
+
+// Whether the first byte is raw and would have to be escaped, or is a backslash that begins no escape.
+fn is_bad(text: &[u8]) -> bool
+    requires { 0 < length text.now }
+    ensures { result ≡ (is_escaped (slice_index text.now 0) && not (begins_escape text.now)) }
+{
+    is_escaped(text[0]) && !begins_escape(text)
+}
+
+fn begins_escape(text: &[u8]) -> bool
+    ensures { result ≡ begins_escape text.now }
+{
+    if text.len() < 4 {
+        return false;
+    }
+    let told = told_byte(text[2], text[3]);
+    told < 128 && is_escaped(told as u8) && text.starts_with(&escape_of(told as u8))
+}
+
+// The byte that two digits tell; more than a byte where they are none.
+fn told_byte(high: u8, low: u8) -> u16
+    ensures { result ≡ 16 * hex_value high + hex_value low }
+{
+    16 * hex_value(high) as u16 + hex_value(low) as u16
+}
+
+fn hex_value(digit: u8) -> u8
+    ensures { result ≡ hex_value digit }
+{
+    if digit < 58 {
+        digit.saturating_sub(b'0')
+    } else {
+        digit - (b'A' - 10)
+    }
+}
+
+// The bytes that a text without a bad byte stands for.
+fn unescaped(alloc: Global, text: &str) -> Result<String, AllocError>
+    requires { good_len text.now ≡ length text.now }
+    ensures { IfOk result (λ bytes. string_bytes bytes ≡ unescaped text.now) }
+{
+    let mut bytes = String::with_capacity(alloc, text.len())?;
+    let mut rest = text;
+    while let Some((plain, behind)) = rest.split_once('\\') {
+        bytes.push_str(plain)?;
+        bytes.push(char::from(told(behind)))?;
+        rest = &behind[3..];
+    }
+    bytes.push_str(rest)?;
+    Ok(bytes)
+}
+
+// The byte that stands behind a backslash, as `x` and two digits.
+fn told(behind: &str) -> u8
+    requires { IsTrue (begins_escape (92 ∷ behind.now)) }
+    ensures told { result ≡ told_byte (92 ∷ behind.now) }
+    ensures ascii { result < 128 }
+{
+    let digits = behind.as_bytes();
+    told_byte(digits[1], digits[2]) as u8
+}
