@@ -1,0 +1,183 @@
+//! Runs over files in memory, to the byte.
+use super::*;
+use files_mem::{Call, MemGround};
+use outside::{Ground, MemSink};
+use path_text::Path;
+use std::alloc::Global;
+use std::process::Abort;
+use std::sync::Wait;
+use std::test::Fail;
+use std::thread::Threads;
+
+const TIME: Option<u64> = Some(86400);
+
+const NOW: u64 = 259_200;
+
+const AMPLE: u64 = 1_000_000;
+
+const TREE_T: &str = "d            0 /t
+f            5 /t/a
+d            0 /t/b
+f            0 /t/b/c
+f            1 /t/b-x
+items 5 dirs 2 files 3 links 0 others 0 bytes 6 failed 0
+";
+
+// Three trees: `/t` with two levels, `/v` with a name of two lines, and `/w` with a child whose path would be too long.
+fn trees(alloc: Global) -> Result<MemGround, Fail> {
+    let mut files = MemGround::empty(alloc)?;
+    files.put_dir(&Path::parse(alloc, "/t")?, 0, TIME)?;
+    files.put_file(&Path::parse(alloc, "/t/a")?, b"hello", TIME)?;
+    files.put_dir(&Path::parse(alloc, "/t/b")?, 0, TIME)?;
+    files.put_file(&Path::parse(alloc, "/t/b/c")?, b"", TIME)?;
+    files.put_file(&Path::parse(alloc, "/t/b-x")?, b"x", TIME)?;
+    files.put_dir(&Path::parse(alloc, "/v")?, 0, TIME)?;
+    files.put_file(&Path::parse(alloc, "/v/x\ny")?, b"xy", TIME)?;
+    files.put_link(&Path::parse(alloc, "/v/l")?, TIME)?;
+    files.put_other(&Path::parse(alloc, "/v/o")?, TIME)?;
+    files.put_dir(&Path::parse(alloc, "/w")?, 1, TIME)?;
+    Ok(files)
+}
+
+// What a run with these words answers, and what two sinks that take so many bytes then hold.
+fn run_with<T: Abort + Threads + Wait + Sync>(
+    rt: &T,
+    alloc: Global,
+    files: &mut MemGround,
+    words: &[&str],
+    takes: (u64, u64),
+) -> Result<(Status, MemSink, MemSink), Fail> {
+    let mut given = Vec::new(alloc);
+    for word in words {
+        given.push(String::from_str(alloc, word)?)?;
+    }
+    let mut out = MemSink::limited(alloc, takes.0)?;
+    let mut notes = MemSink::limited(alloc, takes.1)?;
+    let status = run(rt, alloc, &given, files, &mut out, &mut notes, NOW);
+    Ok((status, out, notes))
+}
+
+#[test]
+fn prints_the_tree_and_names_what_failed(rt: HostRuntime) -> Result<(), Fail> {
+    let alloc = rt.alloc();
+    let mut files = trees(alloc)?;
+    for (words, status, out, notes) in [
+        (["dwalk", "/t"].as_slice(), Status::Done, TREE_T, ""),
+        (
+            ["dwalk", "/none"].as_slice(),
+            Status::Named,
+            "items 0 dirs 0 files 0 links 0 others 0 bytes 0 failed 1\n",
+            "gone /none\n",
+        ),
+        (
+            ["dwalk", "/v"].as_slice(),
+            Status::Done,
+            "d            0 /v\nl            0 /v/l\no            0 /v/o\nf            2 /v/x\\x0Ay\nitems 4 dirs 1 files 1 links 1 others 1 bytes 2 failed 0\n",
+            "",
+        ),
+        (
+            ["dwalk", "/w"].as_slice(),
+            Status::Named,
+            "d            0 /w\nitems 1 dirs 1 files 0 links 0 others 0 bytes 0 failed 1\n",
+            "too long /w 1\n",
+        ),
+        (["dwalk"].as_slice(), Status::Words, "", "refused words\n"),
+        (
+            ["dwalk", "t"].as_slice(),
+            Status::Words,
+            "",
+            "refused words\n",
+        ),
+        (
+            ["dwalk", "--ranks", "4", "/t"].as_slice(),
+            Status::Words,
+            "",
+            "refused words\n",
+        ),
+    ] {
+        let told = run_with(&rt, alloc, &mut files, words, (AMPLE, AMPLE))?;
+        assert_eq!(rt; told.0, status);
+        assert_eq!(rt; told.1.text(), out.as_bytes());
+        assert_eq!(rt; told.2.text(), notes.as_bytes());
+    }
+    let mut files = MemGround::empty(alloc)?;
+    let told = run_with(&rt, alloc, &mut files, &["dwalk", "/"], (AMPLE, AMPLE))?;
+    let out = "d            0 /\nitems 1 dirs 1 files 0 links 0 others 0 bytes 0 failed 0\n";
+    assert_eq!(rt; told.0, Status::Done);
+    assert_eq!(rt; told.1.text(), out.as_bytes());
+    Ok(())
+}
+
+#[test]
+fn goes_on_past_a_call_that_fails(rt: HostRuntime) -> Result<(), Fail> {
+    let alloc = rt.alloc();
+    let at = Path::parse(alloc, "/t/b")?;
+    let listed =
+        "d            0 /t\nf            5 /t/a\nd            0 /t/b\nf            1 /t/b-x\nitems 4 dirs 2 files 2 links 0 others 0 bytes 6 failed 1\n";
+    let unseen =
+        "d            0 /t\nf            5 /t/a\nf            1 /t/b-x\nitems 3 dirs 1 files 2 links 0 others 0 bytes 6 failed 1\n";
+    let unnamed =
+        "d            0 /t\nf            5 /t/a\nd            0 /t/b\nf            0 /t/b/c\nf            1 /t/b-x\nitems 5 dirs 2 files 3 links 0 others 0 bytes 6 failed 1\n";
+    for (call, out, notes) in [
+        (Call::List, listed, "failed list /t/b\n"),
+        (Call::Stat, unseen, "failed stat /t/b\n"),
+        (Call::Name, unnamed, "unnamed /t/b 1\n"),
+    ] {
+        let mut files = trees(alloc)?;
+        files.plan(call, &at)?;
+        let told = run_with(&rt, alloc, &mut files, &["dwalk", "/t"], (AMPLE, AMPLE))?;
+        assert_eq!(rt; told.0, Status::Named);
+        assert_eq!(rt; told.1.text(), out.as_bytes());
+        assert_eq!(rt; told.2.text(), notes.as_bytes());
+        assert_eq!(rt; files.faults(), 1);
+    }
+    Ok(())
+}
+
+#[test]
+fn ends_where_a_sink_is_full(rt: HostRuntime) -> Result<(), Fail> {
+    let alloc = rt.alloc();
+    let mut files = trees(alloc)?;
+    for (words, takes, status, out, notes) in [
+        (
+            ["dwalk", "/t"].as_slice(),
+            (10, AMPLE),
+            Status::Sink,
+            "d         ",
+            "",
+        ),
+        (
+            ["dwalk", "/none"].as_slice(),
+            (AMPLE, 3),
+            Status::Sink,
+            "items 0 dirs 0 files 0 links 0 others 0 bytes 0 failed 1\n",
+            "gon",
+        ),
+        (["dwalk"].as_slice(), (AMPLE, 3), Status::Words, "", "ref"),
+    ] {
+        let told = run_with(&rt, alloc, &mut files, words, takes)?;
+        assert_eq!(rt; told.0, status);
+        assert_eq!(rt; told.1.text(), out.as_bytes());
+        assert_eq!(rt; told.2.text(), notes.as_bytes());
+    }
+    Ok(())
+}
+
+#[test]
+fn walks_ten_thousand_nodes(rt: HostRuntime) -> Result<(), Fail> {
+    let alloc = rt.alloc();
+    let mut files = MemGround::empty(alloc)?;
+    for d in 0..100 {
+        let dir = format!(in alloc; "/d{d}")?;
+        files.put_dir(&Path::parse(alloc, &dir)?, 0, TIME)?;
+        for k in 0..99 {
+            let file = format!(in alloc; "/d{d}/f{k}")?;
+            files.put_file(&Path::parse(alloc, &file)?, b"ab", TIME)?;
+        }
+    }
+    let told = run_with(&rt, alloc, &mut files, &["dwalk", "/"], (AMPLE, AMPLE))?;
+    let summary = b"items 10001 dirs 101 files 9900 links 0 others 0 bytes 19800 failed 0\n";
+    assert_eq!(rt; told.0, Status::Done);
+    assert!(rt; told.1.text().ends_with(summary));
+    Ok(())
+}
