@@ -1,4 +1,6 @@
 //! What the program is given: its words and the time.
+ghost use Rattle.std.specs.Prelude.{◌≡◌, ◌⊎◌, IfErr};
+
 use mfu_top::Status;
 use std::env;
 use std::io::ErrorKind;
@@ -6,7 +8,9 @@ use std::rt::{Clock, Env};
 use std::time::{SystemTime, UNIX_EPOCH};
 
 /// The words behind the program's own name, or how the program ends where one is no text or no memory is found.
-pub fn words<R: Env + AllocGlobal>(rt: &R) -> Result<Vec<String>, Status> {
+pub fn words<R: Env + AllocGlobal>(rt: &R) -> Result<Vec<String>, Status>
+    ensures { IfErr result (λ status. (status ≡ Status.Words) ⊎ (status ≡ Status.Memory)) }
+{
     let mut words = match env::args(rt) {
         Ok(words) => words,
         Err(e) if e.kind() == ErrorKind::OutOfMemory => return Err(Status::Memory),

@@ -1,5 +1,7 @@
 //! Names as the system gives them, and the listing that they make.
-ghost use Rattle.std.specs.Prelude.{◌≡◌, ◌≤◌, ◌<◌, ◌++◌, ◌∷◌, [], length, IfOk, IsTrue, nat_lt};
+ghost use Rattle.std.specs.Prelude.{◌≡◌, ◌≤◌, ◌<◌, ◌++◌, ◌∷◌, [], length, IfOk, OnOk, IsTrue, nat_lt};
+ghost use Rattle.std.specs.Str.{IsUtf8};
+ghost use Rattle.outside.specs.Count.{capped};
 ghost use Rattle.std.specs.List.Sorted.{IsStrictlySortedBy};
 ghost use Rattle.std.specs.Cmp.Lexicographic.{slice_cmp};
 ghost use Rattle.std.specs.Ordering.{nat_cmp};
@@ -9,19 +11,30 @@ ghost use Rattle.path_text.specs.Path.{joined, is_name};
 use outside::Listing;
 use path_text::{MAX_PATH, OutOfMemory, Path, valid_name};
 use std::alloc::Global;
+use std::marker::Model;
 use std::str;
 
-/// Names as the system gives them: in any order, and maybe one of them twice.
+/// Names as the system gives them, in any order and maybe one of them twice: seen as (names, how many more are no text).
 #[derive(Drop)]
 pub struct FoundNames {
     names: Vec<String>,
-    // How many more are no text.
     unnamed: u64,
+}
+
+impl Model for FoundNames {
+    ghost use Rattle.std.specs.Prelude.{List, ℕ, map};
+    ghost use Rattle.std.specs.String.{string_bytes};
+
+    ghost Value = { List (List ℕ) × ℕ };
+
+    ghost view = { λ found. (map string_bytes found.names.items, found.unnamed) };
 }
 
 impl FoundNames {
     /// No names. It takes no memory.
-    pub fn make(alloc: Global) -> FoundNames {
+    pub fn make(alloc: Global) -> FoundNames
+        ensures { result ≡ ([], 0) }
+    {
         FoundNames {
             names: Vec::new(alloc),
             unnamed: 0,
@@ -38,7 +51,11 @@ impl FoundNames {
         Ok(())
     }
 
-    fn add(&mut self, name: &[u8]) -> Result<(), OutOfMemory> {
+    // Adds a name, or counts it where it is no text.
+    fn add(&mut self, name: &[u8]) -> Result<(), OutOfMemory>
+        ensures text { IsUtf8 name.now → OnOk result (self.new ≡ (self.old.0 ++ name.now ∷ [], self.old.1)) }
+        ensures other { ¬ (IsUtf8 name.now) → OnOk result (self.new ≡ (self.old.0, capped self.old.1 1)) }
+    {
         match str::from_utf8(name) {
             Ok(text) => {
                 let name = String::from_str(*self.names.allocator(), text)?;
@@ -51,7 +68,8 @@ impl FoundNames {
 
     /// The listing of a directory at the path with these names.
     pub fn listing(mut self, path: &Path) -> Result<Listing, OutOfMemory>
-        ensures { IfOk result (λ listing. AreNames path.now listing.0) }
+        ensures names { IfOk result (λ listing. AreNames path.now listing.0) }
+        ensures unnamed { IfOk result (λ listing. self.1 ≤ listing.1) }
     {
         self.names.sort()?;
         self.names.dedup();
