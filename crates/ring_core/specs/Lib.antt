@@ -1,0 +1,6 @@
+pub mod World
+pub mod Step
+pub mod Invariant
+pub mod Picture
+pub mod Run
+pub mod Text
