@@ -1,5 +1,5 @@
 -- What `dwalk` prints: a line for each entry that has a stat, a summary, and a note for each failure. Our own, after mpiFileUtils' dwalk and the signs of `find`.
-use Rattle.std.specs.Prelude.{ℕ, ◌-◌, Bool, List, [], ◌∷◌, ◌++◌, length, map, replicate, Option, Some, None, is_some, codes, nat_eq, ◌==◌, if◌then◌else◌}
+use Rattle.std.specs.Prelude.{ℕ, ◌-◌, Bool, false, List, [], ◌∷◌, ◌++◌, length, map, replicate, Option, Some, None, is_some, codes, ◌==◌, if◌then◌else◌}
 use Rattle.std.specs.List.{flat_map, sum_by, count_by}
 use Rattle.std.specs.Fmt.{decimal}
 use Rattle.path_text.specs.Escape.{escape}
@@ -41,7 +41,7 @@ lines_of entries = flat_map line_of entries
 
 -- what is listed: an entry of this kind; a file's bytes
 abbrev pub is_of : Kind → Option Stat → Bool
-is_of k None = nat_eq 0 1
+is_of k None = false
 is_of k (Some stat) = letter stat.kind == letter k
 
 abbrev pub size_by : Option Stat → ℕ
