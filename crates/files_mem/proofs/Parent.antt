@@ -12,8 +12,7 @@ use Rattle.std.specs.Cmp.Lexicographic.{bytes_decides}
 use Rattle.path_text.specs.Order.{path_cmp}
 use Rattle.path_text.specs.Total.{path_cmp_ties}
 use Rattle.path_text.specs.declared.errors.PathError.{PathError}
-use Rattle.path_text.specs.Path.{is_slash, refusal}
-use Rattle.outside.specs.Tree.{parent_of}
+use Rattle.path_text.specs.Path.{is_slash, refusal, parent_of}
 use Rattle.files_mem.specs.declared.nodes.Node as stored
 use Rattle.files_mem.specs.Stored.{node_of, files_of, AllValid}
 use Rattle.files_mem.proofs.Found.{get_is}

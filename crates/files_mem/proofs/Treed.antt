@@ -7,9 +7,9 @@ use Rattle.std.specs.Cmp.Lexicographic.{bytes_decides}
 use Rattle.std.specs.FinMap.{get, insert, empty, get-insert, get-empty}
 use Rattle.std.proofs.lemmas.Bool.{false≢true}
 use Rattle.path_text.specs.Order.{path_cmp}
-use Rattle.path_text.specs.Path.{refusal}
+use Rattle.path_text.specs.Path.{refusal, parent_of}
 use Rattle.path_text.specs.Total.{path_cmp_total, path_cmp_ties}
-use Rattle.outside.specs.Tree.{Files, Node, dir, is_dir, parent_of, is_root, IsTree}
+use Rattle.outside.specs.Tree.{Files, Node, dir, is_dir, is_root, IsTree}
 use Rattle.files_mem.specs.declared.errors.PutError.TheVariants.{Exists, NoParent}
 use Rattle.files_mem.specs.Memory.{put_refusal, empty_files}
 

@@ -2,7 +2,8 @@
 use Rattle.std.specs.Prelude.{ℕ, Bool, List, [], ◌∷◌, ◌++◌, Option, Some, None, if◌then◌else◌, is_some, refl}
 use Rattle.std.specs.Coded.{Coded, code_by, coded×, coded_ℕ}
 use Rattle.std.specs.FinMap.{get, insert, empty}
-use Rattle.outside.specs.Tree.{Files, Node, Body, dir, file, link, other, is_dir, parent_of}
+use Rattle.outside.specs.Tree.{Files, Node, Body, dir, file, link, other, is_dir}
+use Rattle.path_text.specs.Path.{parent_of}
 use Rattle.outside.specs.Codes.{files_code}
 use Rattle.outside.specs.Count.{capped}
 use Rattle.files_mem.specs.declared.plans.Call.{Call}

@@ -2,7 +2,8 @@
 ghost use Rattle.std.specs.Prelude.{◌≡◌, OnOk, OnErr, IfOk};
 ghost use Rattle.std.specs.Option.{option_copied, option_map};
 ghost use Rattle.std.specs.FinMap as map;
-ghost use Rattle.outside.specs.Tree.{names_in, is_dir, far_of, stat_of, parent_of};
+ghost use Rattle.outside.specs.Tree.{names_in, is_dir, far_of, stat_of};
+ghost use Rattle.path_text.specs.Path.{parent_of};
 ghost use Rattle.files_mem.specs.Stored.{node_of};
 ghost use Rattle.files_mem.specs.Memory.{put_refusal, dir_far};
 
