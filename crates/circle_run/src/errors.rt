@@ -1,0 +1,30 @@
+//! Why a run gives nothing.
+use path_text::OutOfMemory;
+use std::alloc::{AllocError, AllocFailed};
+use thiserror::Error;
+
+/// Why a run gives nothing.
+#[derive(Clone, Copy, Debug, Drop, PartialEq, Eq, Error)]
+pub enum CircleError {
+    /// No memory was found, by the run or by a job.
+    #[error("out of memory")]
+    OutOfMemory,
+}
+
+impl From<OutOfMemory> for CircleError {
+    fn from(_: OutOfMemory) -> Self {
+        CircleError::OutOfMemory
+    }
+}
+
+impl From<AllocError> for CircleError {
+    fn from(_: AllocError) -> Self {
+        CircleError::OutOfMemory
+    }
+}
+
+impl<T: Drop> From<AllocFailed<T>> for CircleError {
+    fn from(_: AllocFailed<T>) -> Self {
+        CircleError::OutOfMemory
+    }
+}

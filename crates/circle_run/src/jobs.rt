@@ -1,0 +1,27 @@
+//! What a rank does with each string.
+ghost use Rattle.std.specs.Prelude.{◌≡◌, ◌++◌, ◌∷◌, [], OnOk, OnErr};
+
+use path_text::{OutOfMemory, Path};
+use rank_queue::Batch;
+
+/// What a rank does with each string.
+pub trait Job {
+    ghost use Rattle.circle_run.specs.Balance.{Log};
+
+    // The strings that it handled, in order, each with the strings pushed for it.
+    ghost log: { Self → Log };
+
+    // What no handling changes, also where it is refused.
+    ghost Plain: { Type 0 };
+
+    ghost plain: { Self → Plain };
+
+    /// Handles a string while `waiting` others wait at this rank, and pushes the strings that follow from it to `fresh`. Of
+    /// a string that it refuses it keeps nothing.
+    fn handle(&mut self, item: &Path, waiting: u64, fresh: &mut Batch) -> Result<(), OutOfMemory>
+        requires { fresh.old ≡ [] }
+        ensures handled { OnOk result (log self.new ≡ log self.old ++ (item.now, fresh.new) ∷ []) }
+        ensures refused { OnErr result (log self.new ≡ log self.old) }
+        ensures emptied { OnErr result (fresh.new ≡ []) }
+        ensures plain { plain self.new ≡ plain self.old };
+}

@@ -1,0 +1,24 @@
+//! What a run leaves.
+use path_text::Path;
+
+/// How many strings a rank handled, gave to others and took from others. A count stops at the greatest value of its type.
+#[derive(Clone, Copy, Debug, Drop, PartialEq, Eq)]
+pub struct Share {
+    /// The strings that it handled.
+    pub handled: u64,
+    /// The strings that it gave.
+    pub given: u128,
+    /// The strings that it took.
+    pub taken: u128,
+}
+
+/// What a run leaves, in each list by rank.
+#[derive(Drop)]
+pub struct Finished<J> {
+    /// The jobs, with their logs.
+    pub jobs: Vec<J>,
+    /// The strings that wait, oldest first.
+    pub left: Vec<Vec<Path>>,
+    /// What each rank did.
+    pub shares: Vec<Share>,
+}

@@ -1,0 +1,48 @@
+//! What a walk tells of a path.
+ghost use Rattle.std.specs.Prelude.{◌≡◌, IfOk};
+
+use outside::Stat;
+use path_text::{OutOfMemory, Path};
+
+/// How the files answered of a path.
+#[derive(Clone, Copy, Debug, Drop, PartialEq, Eq)]
+pub enum Mark {
+    /// As they are.
+    Fine,
+    /// Its stat failed.
+    StatFailed,
+    /// It is a directory, and its names failed.
+    ListFailed,
+    /// Nothing is there.
+    Gone,
+    /// It was told to be a directory, and then to be none.
+    Changed,
+}
+
+/// What a walk tells of a path.
+#[derive(Debug, Drop)]
+pub struct Entry {
+    /// The path.
+    pub path: Path,
+    /// What stands there, where it was told.
+    pub stat: Option<Stat>,
+    /// How the files answered.
+    pub mark: Mark,
+    /// How many names in it are no text.
+    pub unnamed: u64,
+    /// How many of its children have a path that would be too long.
+    pub far: u64,
+}
+
+// The same entry again.
+pub(crate) fn copy_of(entry: &Entry) -> Result<Entry, OutOfMemory>
+    ensures { IfOk result (λ copy. copy ≡ entry.now) }
+{
+    Ok(Entry {
+        path: entry.path.copy()?,
+        stat: entry.stat,
+        mark: entry.mark,
+        unnamed: entry.unnamed,
+        far: entry.far,
+    })
+}

@@ -1,0 +1,179 @@
+//! Lists of entries.
+ghost use Rattle.std.specs.Prelude.{◌≡◌, ◌+◌, ◌-◌, ◌<◌, ◌≤◌, ◌++◌, ◌∷◌, [], ◌==◌, nat_lt, if◌then◌else◌, Some, length, take, slice_get, OnOk, OnErr, IfOk};
+ghost use Rattle.std.specs.List.{flat_map};
+ghost use Rattle.std.specs.List.Sorted.{IsPermutation, IsSortedByKey, IsStableByKey};
+ghost use Rattle.path_text.specs.Order.{path_cmp};
+ghost use Rattle.flat_list.specs.Entries.{summary_of};
+
+use crate::entries::{Entry, copy_of};
+use crate::summaries::{Summary, summary_of};
+use path_text::OutOfMemory;
+use std::alloc::Global;
+use std::marker::Model;
+
+/// Entries, seen as their list.
+#[derive(Debug, Drop)]
+pub struct FlatList {
+    entries: Vec<Entry>,
+}
+
+impl Model for FlatList {
+    ghost use Rattle.std.specs.Prelude.{List};
+    ghost use Rattle.flat_list.specs.declared.entries.Entry.{Entry};
+
+    ghost Value = { List Entry };
+
+    ghost view = { λ l. l.entries.items };
+}
+
+impl FlatList {
+    /// No entries. It takes no memory.
+    pub fn make(alloc: Global) -> FlatList
+        ensures { result ≡ [] }
+    {
+        FlatList {
+            entries: Vec::new(alloc),
+        }
+    }
+
+    /// How many entries there are.
+    pub fn len(&self) -> usize
+        ensures { result ≡ length self.now }
+    {
+        self.entries.len()
+    }
+
+    /// Whether there are none.
+    pub fn is_empty(&self) -> bool
+        ensures { result ≡ (length self.now == 0) }
+    {
+        self.entries.is_empty()
+    }
+
+    /// Adds a copy of an entry behind the others. A refusal leaves the list.
+    pub fn add(&mut self, entry: &Entry) -> Result<(), OutOfMemory>
+        ensures ok { OnOk result (self.new ≡ self.old ++ entry.now ∷ []) }
+        ensures err { OnErr result (self.new ≡ self.old) }
+    {
+        let copy = copy_of(entry)?;
+        self.entries.push(copy)?;
+        Ok(())
+    }
+
+    /// All entries of the logs, in path order. They are moved, and memory is taken for them once.
+    pub fn from_jobs(alloc: Global, logs: Vec<Vec<Entry>>) -> Result<FlatList, OutOfMemory>
+        ensures all { IfOk result (λ list. IsPermutation (flat_map (λ log. log.items) logs.items) list) }
+        ensures sorted { IfOk result (λ list. IsSortedByKey (λ e. e.path) path_cmp list) }
+    {
+        let mut list = FlatList {
+            entries: joined(alloc, logs)?,
+        };
+        list.sort_path()?;
+        Ok(list)
+    }
+
+    /// A copy of the entry at a place. To go over all entries take a [`FlatList::cursor`], which copies nothing.
+    pub fn entry(&self, k: usize) -> Result<Entry, OutOfMemory>
+        requires { k < length self.now }
+        ensures { IfOk result (λ entry. slice_get self.now k ≡ Some entry) }
+    {
+        copy_of(&self.entries[k])
+    }
+
+    /// Puts the entries in path order. Entries of one path stay in their order. A list that is in path order already takes
+    /// one pass and no memory. A refusal leaves the list.
+    pub fn sort_path(&mut self) -> Result<(), OutOfMemory>
+        ensures all { IsPermutation self.old self.new }
+        ensures sorted { OnOk result (IsSortedByKey (λ e. e.path) path_cmp self.new) }
+        ensures stable { IsStableByKey (λ e. e.path) path_cmp self.old self.new }
+        ensures err { OnErr result (self.new ≡ self.old) }
+    {
+        self.entries.sort_by(|a, b| a.path.cmp(&b.path))?;
+        Ok(())
+    }
+
+    /// The counts of the list. It takes no memory.
+    pub fn summary(&self) -> Summary
+        ensures { result ≡ summary_of self.now }
+    {
+        summary_of(&self.entries)
+    }
+
+    /// A cursor before the first entry.
+    pub fn cursor(&self) -> Cursor<'_>
+        ensures { result ≡ (self.now, 0) }
+    {
+        Cursor {
+            entries: self.entries.as_slice(),
+            passed: 0,
+        }
+    }
+}
+
+// The entries of the logs, one log behind the other. The first log grows once, and no other memory is taken.
+fn joined(alloc: Global, logs: Vec<Vec<Entry>>) -> Result<Vec<Entry>, OutOfMemory>
+    ensures { IfOk result (λ all. all.items ≡ flat_map (λ log. log.items) logs.items) }
+{
+    let mut logs = logs;
+    if logs.is_empty() {
+        return Ok(Vec::new(alloc));
+    }
+    let mut all = logs.remove(0);
+    all.reserve(len_of(&logs))?;
+    for log in logs {
+        let mut log = log;
+        all.append(&mut log)?;
+    }
+    Ok(all)
+}
+
+// How many entries the logs have.
+fn len_of(logs: &[Vec<Entry>]) -> usize {
+    let mut len = 0usize;
+    for log in logs {
+        len = len.saturating_add(log.len());
+    }
+    len
+}
+
+/// Goes over the entries of a list in their order: seen as (the list, how many entries were passed).
+#[derive(Debug, Drop)]
+pub struct Cursor<'a> {
+    entries: &'a [Entry],
+    passed: usize,
+}
+
+impl<'a> Model for Cursor<'a> {
+    ghost use Rattle.std.specs.Prelude.{◌≤◌, List, ℕ, length};
+    ghost use Rattle.flat_list.specs.declared.entries.Entry.{Entry};
+
+    ghost Value = { List Entry × ℕ };
+
+    ghost view = { λ c. (c.entries.now, c.passed) };
+
+    ghost invariant = { λ c. c.passed ≤ length c.entries.now };
+}
+
+impl<'a> Cursor<'a> {
+    /// Passes the next entry. It answers whether there was one.
+    pub fn advance(&mut self) -> bool
+        ensures answer { result ≡ nat_lt self.old.1 (length self.old.0) }
+        ensures passed { self.new ≡ (self.old.0, if result then self.old.1 + 1 else self.old.1) }
+        ensures inside { self.new.1 ≤ length self.new.0 }
+    {
+        let more = self.passed < self.entries.len();
+        if more {
+            self.passed += 1;
+        }
+        more
+    }
+
+    /// The entry that was passed last.
+    pub fn entry(&self) -> &Entry
+        requires { 0 < self.now.1 }
+        ensures at { slice_get self.now.0 (self.now.1 - 1) ≡ Some result.now }
+        ensures last { take self.now.1 self.now.0 ≡ take (self.now.1 - 1) self.now.0 ++ result.now ∷ [] }
+    {
+        &self.entries[self.passed - 1]
+    }
+}

@@ -1,0 +1,104 @@
+//! The counts of a list.
+ghost use Rattle.std.specs.Prelude.{◌≡◌, ◌+◌, ◌<◌, ◌≤◌, ◌^◌, is_some, if◌then◌else◌};
+ghost use Rattle.std.specs.List.{sum_by, count_by};
+ghost use Rattle.outside.specs.declared.trees.Kind.TheVariants as kind;
+ghost use Rattle.flat_list.specs.Entries.{is_of, bytes_by, note_count, summary_of};
+
+use crate::entries::{Entry, Mark};
+use outside::{Kind, Stat};
+
+/// What a list holds: the entries with a stat, by kind, and the failures that its entries name.
+#[derive(Clone, Copy, Debug, Drop, PartialEq, Eq)]
+pub struct Summary {
+    /// The entries with a stat.
+    pub items: u64,
+    /// The directories.
+    pub dirs: u64,
+    /// The regular files.
+    pub files: u64,
+    /// The symbolic links.
+    pub links: u64,
+    /// All else.
+    pub others: u64,
+    /// The bytes of the files.
+    pub bytes: u128,
+    /// The notes that the entries give.
+    pub failed: u64,
+}
+
+// The counts of the entries.
+pub(crate) fn summary_of(entries: &[Entry]) -> Summary
+    ensures { result ≡ summary_of entries.now }
+{
+    let mut sum = Summary {
+        items: 0,
+        dirs: 0,
+        files: 0,
+        links: 0,
+        others: 0,
+        bytes: 0,
+        failed: 0,
+    };
+    for entry in entries {
+        sum.count(entry);
+    }
+    sum
+}
+
+impl Summary {
+    // Counts one entry more.
+    fn count(&mut self, entry: &Entry)
+        requires items { self.old.items < 2 ^ 63 }
+        requires dirs { self.old.dirs < 2 ^ 63 }
+        requires files { self.old.files < 2 ^ 63 }
+        requires links { self.old.links < 2 ^ 63 }
+        requires others { self.old.others < 2 ^ 63 }
+        requires bytes { self.old.bytes < 2 ^ 127 }
+        requires failed { self.old.failed < 2 ^ 63 }
+        ensures items { self.new.items ≡ self.old.items + (if is_some entry.now.stat then 1 else 0) }
+        ensures dirs { self.new.dirs ≡ self.old.dirs + (if is_of kind.Dir entry.now.stat then 1 else 0) }
+        ensures files { self.new.files ≡ self.old.files + (if is_of kind.File entry.now.stat then 1 else 0) }
+        ensures links { self.new.links ≡ self.old.links + (if is_of kind.Link entry.now.stat then 1 else 0) }
+        ensures others { self.new.others ≡ self.old.others + (if is_of kind.Other entry.now.stat then 1 else 0) }
+        ensures bytes { self.new.bytes ≡ self.old.bytes + bytes_by entry.now.stat }
+        ensures failed { self.new.failed ≡ self.old.failed + note_count entry.now }
+        ensures small { self.new.bytes < self.old.bytes + 2 ^ 64 }
+        ensures few { self.new.failed ≤ self.old.failed + 3 }
+    {
+        self.failed += note_count(entry);
+        self.bytes += u128::from(bytes(entry.stat));
+        if let Some(stat) = entry.stat {
+            self.items += 1;
+            match stat.kind {
+                Kind::Dir => self.dirs += 1,
+                Kind::File => self.files += 1,
+                Kind::Link => self.links += 1,
+                Kind::Other => self.others += 1,
+            }
+        }
+    }
+}
+
+fn note_count(entry: &Entry) -> u64
+    ensures notes { result ≡ note_count entry.now }
+    ensures few { result ≤ 3 }
+{
+    let marked = match entry.mark {
+        Mark::Fine => 0,
+        _ => 1,
+    };
+    marked + u64::from(entry.unnamed > 0) + u64::from(entry.far > 0)
+}
+
+// The bytes of a file, and 0 for all else.
+fn bytes(stat: Option<Stat>) -> u64
+    ensures { result ≡ bytes_by stat }
+{
+    let Some(stat) = stat else {
+        return 0;
+    };
+    match stat.kind {
+        Kind::File => stat.size,
+        _ => 0,
+    }
+}

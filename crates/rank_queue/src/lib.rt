@@ -1,0 +1,35 @@
+//! The strings that wait at one rank, the amounts that it hands over and the words that it draws.
+//!
+//! A rank works on strings, here paths. It keeps those that wait in a [`RankQueue`], takes the newest to work on, and puts
+//! what it finds behind the newest. A rank that has none asks another, and gets some of the oldest in a [`Batch`]. Contracts
+//! see a queue and a batch each as the list of their paths, the oldest first.
+//!
+//! How many a rank gives is [`equal_share`] or [`random_share`], and whom an idle rank asks is [`victim`]. The last two draw
+//! a word of the rank's own [`generator`], so that a run with the same seed and the same order of events draws the same.
+//!
+//! ```text
+//! let mut queue = RankQueue::make(alloc);
+//! let mut batch = Batch::make(alloc);
+//! batch.push(first)?;
+//! batch.push(second)?;
+//! queue.push_all(&mut batch)?;              // the batch is empty, and may be filled again
+//! let oldest = queue.give(1)?;              // holds `first`
+//! let newest = queue.take();                // is `second`
+//! ```
+//!
+//! Proved: a queue and a batch are exactly the lists that the clauses say, and no path is lost or doubled, also where memory
+//! is refused; amounts, victims and the generator after each draw are exactly those of `specs/Shares.antt`. To add a batch
+//! costs the length of the batch and to give costs what is given, whatever waits beside it; that is by construction, and not
+//! proved.
+#![tactic(auto)]
+
+mod batches;
+mod drawing;
+mod queues;
+
+pub use batches::Batch;
+pub use drawing::{equal_share, generator, random_share, victim};
+pub use queues::RankQueue;
+
+#[cfg(test)]
+mod tests;

@@ -1,0 +1,36 @@
+-- How many notes entries have.
+use Rattle.std.proofs.Common.{◌≡◌, ℕ, ◌+◌, false, List, ◌++◌, length, cond, refl, ap, ◌∙◌, arith, length-append}
+use Rattle.std.proofs.lemmas.List.{length-map}
+use Rattle.std.specs.List.{sum_by}
+use Rattle.std.proofs.lemmas.List.Concat.{length-flat_map}
+use Rattle.std.specs.Prelude.{◌==◌}
+use Rattle.flat_list.specs.declared.entries.Entry.{Entry}
+use Rattle.flat_list.specs.declared.entries.Mark.{Mark}
+use Rattle.flat_list.specs.declared.entries.Mark.TheVariants as mark
+use Rattle.flat_list.specs.Entries.{note_count, mark_notes}
+use Rattle.tool_text.specs.declared.noting.Why.{Why}
+use Rattle.tool_text.specs.declared.noting.Why.TheVariants as why
+use Rattle.tool_text.specs.Notes.{mark_whys, number_whys, whys_of, entry_notes, notes_of}
+
+by_mark : (m : Mark) → length (mark_whys m) ≡ mark_notes m
+by_mark mark.Fine = refl
+by_mark mark.StatFailed = refl
+by_mark mark.ListFailed = refl
+by_mark mark.Gone = refl
+by_mark mark.Changed = refl
+
+by_number : (name : ℕ → Why) (k : ℕ) → length (number_whys name k) ≡ cond (k == 0) 0 1
+by_number name k = grind arith
+
+of_entry : (e : Entry) → length (entry_notes e) ≡ note_count e
+of_entry e =
+    let unnamed = number_whys why.Unnamed e.unnamed in
+    let far = number_whys why.TooLong e.far in
+    length-map (whys_of e) (λ w. record { path = e.path; why = w; dest = false })
+    ∙ length-append (mark_whys e.mark ++ unnamed) far
+    ∙ ap (λ n. n + length far) (length-append (mark_whys e.mark) unnamed)
+    ∙ (λ i. by_mark e.mark i + by_number why.Unnamed e.unnamed i + by_number why.TooLong e.far i)
+
+-- as many as the summary says
+pub length-notes_of : (entries : List Entry) → length (notes_of entries) ≡ sum_by note_count entries
+length-notes_of entries = length-flat_map entry_notes entries ∙ (λ i. sum_by (λ e. of_entry e i) entries)

@@ -1,0 +1,100 @@
+//! The lines of a list, and of its summary.
+ghost use Rattle.std.specs.Prelude.{◌≡◌, ◌+◌, ◌++◌, ◌∷◌, [], OnOk, codes};
+ghost use Rattle.std.specs.Fmt.{decimal};
+ghost use Rattle.tool_text.specs.Lines.{letter, stat_line, line_of, lines_of, summary_line};
+
+use crate::drafts::Draft;
+use crate::numbers::{put_decimal, put_right, put_wide};
+use flat_list::{Entry, FlatList, Summary};
+use outside::{Kind, Stat};
+use path_text::{OutOfMemory, Path};
+
+// What a line has beside its path, with up to 12 digits.
+const LINE_LEN: usize = 16;
+
+/// Adds a line for each entry that has a stat. Memory is taken once, unless bytes of a path have to be escaped or a size has
+/// more than 12 digits.
+pub(crate) fn add_list(draft: &mut Draft, list: &FlatList) -> Result<(), OutOfMemory>
+    ensures ok { OnOk result (draft.new.1 ≡ draft.old.1 ++ lines_of list.now) }
+    ensures stands { draft.new.0 ≡ draft.old.0 }
+{
+    draft.reserve(expected_len(list))?;
+    let mut cursor = list.cursor();
+    while cursor.advance() {
+        add_entry(draft, cursor.entry())?;
+    }
+    Ok(())
+}
+
+// So many bytes the lines have where no byte of a path is escaped, or somewhat fewer.
+fn expected_len(list: &FlatList) -> usize {
+    let mut len = 0usize;
+    let mut cursor = list.cursor();
+    while cursor.advance() {
+        len = len.saturating_add(line_len(cursor.entry()));
+    }
+    len
+}
+
+fn line_len(entry: &Entry) -> usize {
+    match entry.stat {
+        Some(_) => entry.path.text().len().saturating_add(LINE_LEN),
+        None => 0,
+    }
+}
+
+fn add_entry(draft: &mut Draft, entry: &Entry) -> Result<(), OutOfMemory>
+    ensures ok { OnOk result (draft.new.1 ≡ draft.old.1 ++ line_of entry.now) }
+    ensures stands { draft.new.0 ≡ draft.old.0 }
+{
+    match entry.stat {
+        Some(stat) => add_line(draft, stat, &entry.path),
+        None => Ok(()),
+    }
+}
+
+fn add_line(draft: &mut Draft, stat: Stat, path: &Path) -> Result<(), OutOfMemory>
+    ensures ok { OnOk result (draft.new.1 ≡ draft.old.1 ++ stat_line stat path.now) }
+    ensures stands { draft.new.0 ≡ draft.old.0 }
+{
+    draft.extend(&[letter(stat.kind), b' '])?;
+    put_right(draft, 12, stat.size)?;
+    draft.push(b' ')?;
+    draft.put_path(path)?;
+    draft.push(b'\n')
+}
+
+fn letter(kind: Kind) -> u8
+    ensures { result ≡ letter kind }
+{
+    match kind {
+        Kind::File => b'f',
+        Kind::Dir => b'd',
+        Kind::Link => b'l',
+        Kind::Other => b'o',
+    }
+}
+
+/// Adds the line of a summary.
+pub(crate) fn add_summary(draft: &mut Draft, sum: &Summary) -> Result<(), OutOfMemory>
+    ensures ok { OnOk result (draft.new.1 ≡ draft.old.1 ++ summary_line sum.now) }
+    ensures stands { draft.new.0 ≡ draft.old.0 }
+{
+    put_count(draft, "items ", sum.items)?;
+    put_count(draft, " dirs ", sum.dirs)?;
+    put_count(draft, " files ", sum.files)?;
+    put_count(draft, " links ", sum.links)?;
+    put_count(draft, " others ", sum.others)?;
+    draft.extend(b" bytes ")?;
+    put_wide(draft, sum.bytes)?;
+    put_count(draft, " failed ", sum.failed)?;
+    draft.push(b'\n')
+}
+
+fn put_count(draft: &mut Draft, label: &str, n: u64) -> Result<(), OutOfMemory>
+    ensures ok { OnOk result (draft.new.1 ≡ draft.old.1 ++ (label.now ++ decimal n)) }
+    ensures stands { draft.new.0 ≡ draft.old.0 }
+{
+    draft.extend(label.as_bytes())?;
+    put_decimal(draft, n)
+}

@@ -1,0 +1,150 @@
+//! Failure notes: why a path is named, and the line that says so.
+ghost use Rattle.std.specs.Prelude.{◌≡◌, ◌++◌, ◌∷◌, [], false, length, OnOk, IfOk, codes, if◌then◌else◌};
+ghost use Rattle.std.specs.Option.{option_to_list};
+ghost use Rattle.std.specs.Fmt.{decimal};
+ghost use Rattle.path_text.specs.Escape.{escape};
+ghost use Rattle.flat_list.specs.Entries.{summary_of};
+ghost use Rattle.tool_text.specs.Notes.{mark_whys, entry_notes, notes_of, why_text, note_line, note_lines};
+
+use crate::drafts::Draft;
+use crate::numbers::put_decimal;
+use flat_list::{Entry, FlatList, Mark};
+use path_text::{OutOfMemory, Path};
+use std::alloc::Global;
+
+/// Why a path is named.
+#[derive(Clone, Copy, Debug, Drop, PartialEq, Eq)]
+pub enum Why {
+    /// Nothing is there.
+    Gone,
+    /// Its stat failed.
+    FailedStat,
+    /// Its names failed.
+    FailedList,
+    /// It was told to be a directory, and then to be none.
+    Changed,
+    /// So many names in it are no text.
+    Unnamed(u64),
+    /// So many of its children have a path that would be too long.
+    TooLong(u64),
+}
+
+/// A path that is named, and why.
+#[derive(Debug, Drop)]
+pub struct Note {
+    /// The path.
+    pub path: Path,
+    /// Why it is named.
+    pub why: Why,
+    /// Whether it belongs to a destination, in a run that looks at two sides. Its line then begins with `dest `.
+    pub dest: bool,
+}
+
+/// The failure notes of the entries, in their order. None of them is about a destination.
+pub fn notes_of(alloc: Global, list: &FlatList) -> Result<Vec<Note>, OutOfMemory>
+    ensures notes { IfOk result (λ notes. notes.items ≡ notes_of list.now) }
+    ensures count { IfOk result (λ notes. length notes.items ≡ (summary_of list.now).failed) }
+{
+    let mut notes = Vec::new(alloc);
+    let mut cursor = list.cursor();
+    while cursor.advance() {
+        push_notes(&mut notes, cursor.entry())?;
+    }
+    Ok(notes)
+}
+
+fn push_notes(notes: &mut Vec<Note>, entry: &Entry) -> Result<(), OutOfMemory>
+    ensures { OnOk result (notes.new.items ≡ notes.old.items ++ entry_notes entry.now) }
+{
+    if let Some(why) = why_by_mark(entry.mark) {
+        push_note(notes, &entry.path, why)?;
+    }
+    if entry.unnamed > 0 {
+        push_note(notes, &entry.path, Why::Unnamed(entry.unnamed))?;
+    }
+    if entry.far > 0 {
+        push_note(notes, &entry.path, Why::TooLong(entry.far))?;
+    }
+    Ok(())
+}
+
+fn why_by_mark(mark: Mark) -> Option<Why>
+    ensures { option_to_list result ≡ mark_whys mark }
+{
+    match mark {
+        Mark::Fine => None,
+        Mark::StatFailed => Some(Why::FailedStat),
+        Mark::ListFailed => Some(Why::FailedList),
+        Mark::Gone => Some(Why::Gone),
+        Mark::Changed => Some(Why::Changed),
+    }
+}
+
+fn push_note(notes: &mut Vec<Note>, path: &Path, why: Why) -> Result<(), OutOfMemory>
+    ensures { OnOk result (notes.new.items ≡ notes.old.items ++ record { path = path.now; why = why; dest = false } ∷ []) }
+{
+    let note = Note {
+        path: path.copy()?,
+        why,
+        dest: false,
+    };
+    notes.push(note)?;
+    Ok(())
+}
+
+/// Adds a line for each note.
+pub(crate) fn add_notes(draft: &mut Draft, notes: &[Note]) -> Result<(), OutOfMemory>
+    ensures ok { OnOk result (draft.new.1 ≡ draft.old.1 ++ note_lines notes.now) }
+    ensures stands { draft.new.0 ≡ draft.old.0 }
+{
+    for note in notes {
+        add_note(draft, note)?;
+    }
+    Ok(())
+}
+
+fn add_note(draft: &mut Draft, note: &Note) -> Result<(), OutOfMemory>
+    ensures ok { OnOk result (draft.new.1 ≡ draft.old.1 ++ note_line note.now) }
+    ensures stands { draft.new.0 ≡ draft.old.0 }
+{
+    draft.extend(side(note.dest).as_bytes())?;
+    add_why(draft, note.why, &note.path)?;
+    draft.push(b'\n')
+}
+
+fn side(dest: bool) -> &'static str
+    ensures { result.now ≡ (if dest then codes "dest " else []) }
+{
+    if dest { "dest " } else { "" }
+}
+
+fn add_why(draft: &mut Draft, why: Why, path: &Path) -> Result<(), OutOfMemory>
+    ensures ok { OnOk result (draft.new.1 ≡ draft.old.1 ++ why_text why path.now) }
+    ensures stands { draft.new.0 ≡ draft.old.0 }
+{
+    match why {
+        Why::Gone => add_named(draft, "gone ", path),
+        Why::FailedStat => add_named(draft, "failed stat ", path),
+        Why::FailedList => add_named(draft, "failed list ", path),
+        Why::Changed => add_named(draft, "changed ", path),
+        Why::Unnamed(k) => add_counted(draft, "unnamed ", path, k),
+        Why::TooLong(k) => add_counted(draft, "too long ", path, k),
+    }
+}
+
+fn add_named(draft: &mut Draft, reason: &str, path: &Path) -> Result<(), OutOfMemory>
+    ensures ok { OnOk result (draft.new.1 ≡ draft.old.1 ++ (reason.now ++ escape path.now)) }
+    ensures stands { draft.new.0 ≡ draft.old.0 }
+{
+    draft.extend(reason.as_bytes())?;
+    draft.put_path(path)
+}
+
+fn add_counted(draft: &mut Draft, reason: &str, path: &Path, k: u64) -> Result<(), OutOfMemory>
+    ensures ok { OnOk result (draft.new.1 ≡ draft.old.1 ++ (reason.now ++ escape path.now ++ 32 ∷ decimal k)) }
+    ensures stands { draft.new.0 ≡ draft.old.0 }
+{
+    add_named(draft, reason, path)?;
+    draft.push(b' ')?;
+    put_decimal(draft, k)
+}

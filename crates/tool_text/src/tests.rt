@@ -1,0 +1,150 @@
+//! Texts, to the byte.
+use crate::{Note, Text, Why, notes_of, put_line, put_list, put_notes, put_summary};
+use flat_list::{Entry, FlatList, Mark};
+use outside::{Kind, Stat};
+use path_text::Path;
+use std::alloc::Global;
+use std::test::Fail;
+
+// An entry as it is.
+fn fine(alloc: Global, path: &str, kind: Kind, size: u64) -> Result<Entry, Fail> {
+    let stat = Stat {
+        kind,
+        size,
+        mtime: None,
+    };
+    Ok(Entry {
+        path: Path::parse(alloc, path)?,
+        stat: Some(stat),
+        mark: Mark::Fine,
+        unnamed: 0,
+        far: 0,
+    })
+}
+
+// An entry with a mark and no stat.
+fn bare(alloc: Global, path: &str, mark: Mark) -> Result<Entry, Fail> {
+    Ok(Entry {
+        path: Path::parse(alloc, path)?,
+        stat: None,
+        mark,
+        unnamed: 0,
+        far: 0,
+    })
+}
+
+// `/t` with two levels. Where the names in `/t/b` failed, nothing is told of what is under it.
+fn tree(alloc: Global, unlisted: bool) -> Result<FlatList, Fail> {
+    let mut list = FlatList::make(alloc);
+    list.add(&fine(alloc, "/t", Kind::Dir, 0)?)?;
+    list.add(&fine(alloc, "/t/a", Kind::File, 5)?)?;
+    let mut below = fine(alloc, "/t/b", Kind::Dir, 0)?;
+    if unlisted {
+        below.mark = Mark::ListFailed;
+    }
+    list.add(&below)?;
+    if !unlisted {
+        list.add(&fine(alloc, "/t/b/c", Kind::File, 0)?)?;
+    }
+    list.add(&fine(alloc, "/t/b-x", Kind::File, 1)?)?;
+    Ok(list)
+}
+
+#[test]
+fn lists_a_tree(rt: HostRuntime) -> Result<(), Fail> {
+    let alloc = rt.alloc();
+    for (unlisted, out, notes) in [
+        (
+            false,
+            "d            0 /t\nf            5 /t/a\nd            0 /t/b\nf            0 /t/b/c\nf            1 /t/b-x\nitems 5 dirs 2 files 3 links 0 others 0 bytes 6 failed 0\n",
+            "",
+        ),
+        (
+            true,
+            "d            0 /t\nf            5 /t/a\nd            0 /t/b\nf            1 /t/b-x\nitems 4 dirs 2 files 2 links 0 others 0 bytes 6 failed 1\n",
+            "failed list /t/b\n",
+        ),
+    ] {
+        let list = tree(alloc, unlisted)?;
+        let mut text = Text::make(alloc);
+        put_list(&mut text, &list)?;
+        put_summary(&mut text, &list.summary())?;
+        assert_eq!(rt; text.bytes(), out.as_bytes());
+        let mut text = Text::make(alloc);
+        put_notes(&mut text, &notes_of(alloc, &list)?)?;
+        assert_eq!(rt; text.bytes(), notes.as_bytes());
+        assert_eq!(rt; text.len(), notes.len());
+    }
+    Ok(())
+}
+
+#[test]
+fn lines_of_every_kind(rt: HostRuntime) -> Result<(), Fail> {
+    let alloc = rt.alloc();
+    for (path, kind, size, line) in [
+        ("/v/x\ny", Kind::File, 2, "f            2 /v/x\\x0Ay\n"),
+        ("/v/l", Kind::Link, 0, "l            0 /v/l\n"),
+        ("/v/o", Kind::Other, 0, "o            0 /v/o\n"),
+        (
+            "/notes 2024.txt",
+            Kind::File,
+            1200,
+            "f         1200 /notes 2024.txt\n",
+        ),
+        (
+            "/big",
+            Kind::File,
+            u64::MAX,
+            "f 18446744073709551615 /big\n",
+        ),
+    ] {
+        let mut list = FlatList::make(alloc);
+        list.add(&fine(alloc, path, kind, size)?)?;
+        let mut text = Text::make(alloc);
+        put_list(&mut text, &list)?;
+        assert_eq!(rt; text.bytes(), line.as_bytes());
+    }
+    Ok(())
+}
+
+#[test]
+fn names_what_failed(rt: HostRuntime) -> Result<(), Fail> {
+    let alloc = rt.alloc();
+    let mut list = FlatList::make(alloc);
+    list.add(&bare(alloc, "/a", Mark::StatFailed)?)?;
+    let mut changed = fine(alloc, "/b", Kind::Dir, 0)?;
+    changed.mark = Mark::Changed;
+    list.add(&changed)?;
+    list.add(&bare(alloc, "/none", Mark::Gone)?)?;
+    let mut partly = fine(alloc, "/w", Kind::Dir, 0)?;
+    partly.unnamed = 3;
+    partly.far = 1;
+    list.add(&partly)?;
+    let mut notes = notes_of(alloc, &list)?;
+    notes.push(Note {
+        path: Path::parse(alloc, "/z")?,
+        why: Why::Gone,
+        dest: true,
+    })?;
+    let mut text = Text::make(alloc);
+    put_line(&mut text, "no")?;
+    put_notes(&mut text, &notes)?;
+    let lines =
+        b"no\nfailed stat /a\nchanged /b\ngone /none\nunnamed /w 3\ntoo long /w 1\ndest gone /z\n";
+    assert_eq!(rt; text.bytes(), lines.as_slice());
+    assert!(rt; !text.is_empty());
+    Ok(())
+}
+
+#[test]
+fn sums_up_more_bytes_than_one_file_has(rt: HostRuntime) -> Result<(), Fail> {
+    let alloc = rt.alloc();
+    let mut list = FlatList::make(alloc);
+    list.add(&fine(alloc, "/a", Kind::File, u64::MAX)?)?;
+    list.add(&fine(alloc, "/b", Kind::File, 5)?)?;
+    let mut text = Text::make(alloc);
+    put_summary(&mut text, &list.summary())?;
+    let line = b"items 2 dirs 0 files 2 links 0 others 0 bytes 18446744073709551620 failed 0\n";
+    assert_eq!(rt; text.bytes(), line.as_slice());
+    Ok(())
+}

@@ -1,0 +1,105 @@
+//! Text, and the calls that add to it.
+ghost use Rattle.std.specs.Prelude.{◌≡◌, ◌==◌, ◌++◌, ◌∷◌, [], length, OnOk, OnErr};
+ghost use Rattle.tool_text.specs.Lines.{lines_of, summary_line};
+ghost use Rattle.tool_text.specs.Notes.{note_lines};
+
+use crate::drafts::Draft;
+use crate::listing::{add_list, add_summary};
+use crate::noting::{Note, add_notes};
+use flat_list::{FlatList, Summary};
+use path_text::OutOfMemory;
+use std::alloc::Global;
+use std::marker::Model;
+
+/// Text to be printed, seen as its bytes.
+#[derive(Debug, Drop)]
+pub struct Text {
+    draft: Draft,
+}
+
+impl Model for Text {
+    ghost use Rattle.std.specs.Prelude.{◌≡◌, List, ℕ, []};
+
+    ghost Value = { List ℕ };
+
+    ghost view = { λ t. t.draft.0 };
+
+    ghost invariant = { λ t. t.draft.1 ≡ [] };
+}
+
+impl Text {
+    /// No text. It takes no memory.
+    pub fn make(alloc: Global) -> Text
+        ensures { result ≡ [] }
+    {
+        Text {
+            draft: Draft::make(alloc),
+        }
+    }
+
+    /// Its bytes.
+    pub fn bytes(&self) -> &[u8]
+        ensures { result.now ≡ self.now }
+    {
+        self.draft.bytes()
+    }
+
+    /// How many bytes it has.
+    pub fn len(&self) -> usize
+        ensures { result ≡ length self.now }
+    {
+        self.bytes().len()
+    }
+
+    /// Whether it has none.
+    pub fn is_empty(&self) -> bool
+        ensures { result ≡ (length self.now == 0) }
+    {
+        self.bytes().is_empty()
+    }
+}
+
+/// Appends a line for each entry that has a stat. Memory is taken once, unless bytes of a path have to be escaped or a size
+/// has more than 12 digits. A refusal leaves the text.
+pub fn put_list(text: &mut Text, list: &FlatList) -> Result<(), OutOfMemory>
+    ensures ok { OnOk result (text.new ≡ text.old ++ lines_of list.now) }
+    ensures err { OnErr result (text.new ≡ text.old) }
+{
+    let put = add_list(&mut text.draft, list);
+    text.draft.end(put)
+}
+
+/// Appends the line of a summary. A refusal leaves the text.
+pub fn put_summary(text: &mut Text, sum: &Summary) -> Result<(), OutOfMemory>
+    ensures ok { OnOk result (text.new ≡ text.old ++ summary_line sum.now) }
+    ensures err { OnErr result (text.new ≡ text.old) }
+{
+    let put = add_summary(&mut text.draft, sum);
+    text.draft.end(put)
+}
+
+/// Appends a line for each note. A refusal leaves the text.
+pub fn put_notes(text: &mut Text, notes: &[Note]) -> Result<(), OutOfMemory>
+    ensures ok { OnOk result (text.new ≡ text.old ++ note_lines notes.now) }
+    ensures err { OnErr result (text.new ≡ text.old) }
+{
+    let put = add_notes(&mut text.draft, notes);
+    text.draft.end(put)
+}
+
+/// Appends a line and its line feed. A refusal leaves the text.
+pub fn put_line(text: &mut Text, line: &str) -> Result<(), OutOfMemory>
+    ensures ok { OnOk result (text.new ≡ text.old ++ line.now ++ 10 ∷ []) }
+    ensures err { OnErr result (text.new ≡ text.old) }
+{
+    let put = add_line(&mut text.draft, line);
+    text.draft.end(put)
+}
+
+fn add_line(draft: &mut Draft, line: &str) -> Result<(), OutOfMemory>
+    ensures ok { OnOk result (draft.new.1 ≡ draft.old.1 ++ line.now ++ 10 ∷ []) }
+    ensures stands { draft.new.0 ≡ draft.old.0 }
+{
+    draft.extend(line.as_bytes())?;
+    draft.push(b'\n')
+}

@@ -1,0 +1,64 @@
+//! What a command line asks for.
+use circle_run::Split;
+use path_text::Path;
+
+/// How a walk is to go, whatever the tool.
+#[derive(Clone, Copy, Debug, Drop, PartialEq, Eq)]
+pub struct Common {
+    /// How many ranks work.
+    pub ranks: u32,
+    /// How many threads the ranks are spread over.
+    pub hosts: u32,
+    /// What a rank gives to those that ask.
+    pub split: Split,
+    /// What the lots of the ranks are drawn from.
+    pub seed: u64,
+    /// How many ranks report their counts to one.
+    pub width: u32,
+    /// Whether the events of the walk are told.
+    pub trace: bool,
+    /// Whether it is told what each rank did.
+    pub shares: bool,
+    /// Whether the counts of the walk are told as it goes.
+    pub progress: bool,
+}
+
+impl Common {
+    ghost use Rattle.std.specs.Prelude.{◌≡◌};
+    ghost use Rattle.tool_words.specs.Words.{standard};
+
+    /// What stands where no option says otherwise.
+    pub const fn standard() -> Common
+        ensures { result ≡ standard }
+    {
+        Common {
+            ranks: 4,
+            hosts: 1,
+            split: Split::Equal,
+            seed: 0,
+            width: 64,
+            trace: false,
+            shares: false,
+            progress: false,
+        }
+    }
+}
+
+/// Where a walk starts.
+#[derive(Debug, Drop)]
+pub enum Start {
+    /// At these paths, which may be nested or stand twice.
+    Roots(Vec<Path>),
+}
+
+/// What a command line asks for.
+#[derive(Debug, Drop)]
+pub enum Command {
+    /// A list of what stands below the start.
+    Walk {
+        /// How the walk is to go.
+        common: Common,
+        /// Where it starts.
+        start: Start,
+    },
+}

@@ -1,0 +1,48 @@
+//! Why words are refused.
+use std::alloc::{AllocError, AllocFailed};
+use thiserror::Error;
+
+/// Why words are refused, with the number of the word, the tool being word 0; or that no memory was found.
+#[derive(Clone, Copy, Debug, Drop, PartialEq, Eq, Error)]
+pub enum WordsError {
+    /// There is no word.
+    #[error("refused word {0} no tool")]
+    NoTool(usize),
+    /// The first word names no tool.
+    #[error("refused word {0} unknown tool")]
+    UnknownTool(usize),
+    /// The tool has no such option.
+    #[error("refused word {0} unknown option")]
+    UnknownOption(usize),
+    /// The word is no path.
+    #[error("refused word {0} bad value")]
+    BadValue(usize),
+    /// A path is wanting behind the last word.
+    #[error("refused word {0} no path")]
+    NoPath(usize),
+    /// No memory was found.
+    #[error("out of memory")]
+    OutOfMemory,
+}
+
+impl From<AllocError> for WordsError {
+    ghost use Rattle.std.specs.Prelude.{◌≡◌};
+    ghost use Rattle.tool_words.specs.declared.errors.WordsError.TheVariants.{OutOfMemory};
+
+    ghost from_gives = { λ _ e. e ≡ OutOfMemory };
+
+    fn from(_: AllocError) -> Self {
+        WordsError::OutOfMemory
+    }
+}
+
+impl<T: Drop> From<AllocFailed<T>> for WordsError {
+    ghost use Rattle.std.specs.Prelude.{◌≡◌};
+    ghost use Rattle.tool_words.specs.declared.errors.WordsError.TheVariants.{OutOfMemory};
+
+    ghost from_gives = { λ _ e. e ≡ OutOfMemory };
+
+    fn from(_: AllocFailed<T>) -> Self {
+        WordsError::OutOfMemory
+    }
+}

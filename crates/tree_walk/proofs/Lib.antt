@@ -1,0 +1,14 @@
+pub mod Lists
+pub mod Lined
+pub mod Names
+pub mod Recursive
+pub mod Covers
+pub mod Once
+pub mod Same
+pub mod Lawful
+pub mod Often
+pub mod AnyOrder
+pub mod Ranks
+pub mod Held
+pub mod Pushed
+pub mod Rooted

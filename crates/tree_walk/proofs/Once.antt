@@ -1,0 +1,117 @@
+-- Each path is handled once.
+use Rattle.std.proofs.Common.{◌≡◌, ℕ, ◌+◌, ◌<◌, ◌≤◌, true, false, List, [], ◌∷◌, ◌++◌, map, length, refl, ap, ◌∙◌, sym, subst, arith, cond, eqb, get_or}
+use Rattle.std.specs.List.{AllByRecursion, sum_by}
+use Rattle.std.proofs.lemmas.List.Sums.{sum_by-cons, sum_by_more, sum_by_more_le}
+use Rattle.std.proofs.lemmas.Map.Keys.{sorted_from_all_adjacent}
+use Rattle.std.proofs.Math.ListN.{get_or-map}
+use Rattle.std.proofs.lemmas.List.{length-map}
+use Rattle.std.specs.List.Sorted.{IsStrictlySortedBy, IsPermutation, IsSortedByKey}
+use Rattle.std.proofs.lemmas.List.Sorted.{sum_by-IsPermutation, IsPermutation-map}
+use Rattle.std.proofs.lemmas.List.Elements.{recursion_from_All}
+use Rattle.std.specs.Cmp.Lexicographic.{pointwise, slice_cmp, bytes_decides}
+use Rattle.std.specs.Ordering.{nat_cmp, is_lt, ordering_reverse}
+use Rattle.std.proofs.lemmas.Bool.{false≢true}
+use Rattle.std.specs.declared.cmp.Ordering.{Ordering}
+use Rattle.std.specs.declared.cmp.Ordering.TheVariants.{Less, Equal, Greater}
+use Rattle.std.specs.Bool.{IsTrue}
+use Rattle.path_text.specs.Order.{path_cmp}
+use Rattle.path_text.specs.Total.{path_cmp_total, path_cmp_same}
+use Rattle.path_text.specs.Path.{is_name}
+use Rattle.path_text.specs.Preorder.{some_bytes}
+use Rattle.flat_list.specs.declared.entries.Entry.{Entry}
+use Rattle.circle_run.specs.Balance.{Log, handled, pushed, Balanced}
+use Rattle.tree_walk.specs.Held.{Held, IsPush, log_of, entries_of}
+use Rattle.tree_walk.specs.Roots.{is_in_some, Apart}
+use Rattle.tree_walk.proofs.Covers.{covers, one, covers_falls, from_apart, some_covers}
+use Rattle.tree_walk.proofs.Lists.{weaker}
+use Rattle.tree_walk.proofs.Names.{lined_names}
+
+lengths : (names : List (List ℕ)) → AllByRecursion (λ name. IsTrue (is_name name)) names → AllByRecursion (λ n. 0 < length n) names
+lengths [] h = tt
+lengths (n ∷ names) h = (some_bytes n h.0, lengths names h.1)
+
+falls : (x : List ℕ) (d : Held) → IsPush d → one x d.0.path + sum_by (covers x) d.1 ≤ covers x d.0.path
+falls x d p =
+    let valid = recursion_from_All (λ name. IsTrue (is_name name)) p.names p.are.valid in
+    omega (arith, ap (sum_by (covers x)) p.is, covers_falls x d.0.path p.names (lengths p.names valid) (lined_names d.0.path p.names valid p.are.ascend))
+
+-- how often x was handled, and what was pushed that covers it, is no more than what was handled that covers it
+all_fall : (x : List ℕ) (ds : List Held) → AllByRecursion IsPush ds →
+    sum_by (λ d. one x d.0.path) ds + pushed (covers x) (log_of ds) ≤ handled (covers x) (log_of ds)
+all_fall x [] h = omega arith
+all_fall x (d ∷ ds) h =
+    omega (
+      arith,
+      falls x d h.0,
+      all_fall x ds h.1,
+      sum_by-cons (λ (d : Held). one x d.0.path) d ds,
+      sum_by-cons (λ (y : List ℕ × List (List ℕ)). covers x y.0) (d.0.path, d.1) (log_of ds),
+      sum_by-cons (λ (y : List ℕ × List (List ℕ)). sum_by (covers x) y.1) (d.0.path, d.1) (log_of ds),
+    )
+
+-- what was handled is covered by the starts, as often, and then no path that is left covers it
+covered : (x : List ℕ) (ds : List Held) (left starts : List (List ℕ)) → AllByRecursion IsPush ds → Balanced (log_of ds) left starts →
+    sum_by (λ d. one x d.0.path) ds + sum_by (covers x) left ≤ sum_by (covers x) starts
+covered x ds left starts h b = omega (arith, all_fall x ds h, b.weighs (covers x))
+
+-- ---- a sorted list with each path once ascends strictly
+
+pub one-same : (x y : List ℕ) → x ≡ y → one x y ≡ 1
+one-same x y e = ap (λ b. cond b 1 0) ((bytes_decides x y).1 e)
+
+not_less : (x y : List ℕ) → is_lt (path_cmp y x) ≡ false → one x y ≡ 0 → path_cmp x y ≡ Less
+not_less x y h o = elim (path_cmp x y) as (λ c. path_cmp x y ≡ c → path_cmp x y ≡ Less) [
+  | Less ↦ λ e. e
+  | Equal ↦ λ e. let bad : one x y ≡ 1 = one-same x y (path_cmp_same x y e) in absurd (omega (arith, bad, o))
+  | Greater ↦ λ e. absurd (false≢true (sym h ∙ ap is_lt (path_cmp_total.antisymm y x ∙ ap ordering_reverse e)))
+] refl
+
+two_places : (x : List ℕ) (es : List Entry) (k : ℕ) (d : Entry) → k + 1 < length es → one x (get_or es k d).path + one x (get_or es (k + 1) d).path ≤ sum_by (λ e. one x e.path) es
+two_places x es k d h =
+    omega (arith, sum_by_more_le (λ (e : Entry). one x e.path) es (k + 1) d h, sum_by_more (λ (e : Entry). one x e.path) es k d (omega arith))
+
+pub rises : (es : List Entry) → IsSortedByKey (λ e. e.path) path_cmp es → ((x : List ℕ) → sum_by (λ e. one x e.path) es ≤ 1) → IsStrictlySortedBy path_cmp (map (λ e. e.path) es)
+unfolding IsStrictlySortedBy
+rises [] s o = tt
+rises (e ∷ es) s o = sorted_from_all_adjacent path_cmp_total (map (λ (e : Entry). e.path) (e ∷ es)) e.path (λ k h.
+    let n : k + 1 < length (e ∷ es) = omega (arith, h, length-map (e ∷ es) (λ (e : Entry). e.path)) in
+    let x = (get_or (e ∷ es) k e).path in
+    let y = (get_or (e ∷ es) (k + 1) e).path in
+    let self : one x x ≡ 1 = one-same x x refl in
+    let other : one x y ≡ 0 = omega (arith, two_places x (e ∷ es) k e n, o x, self) in
+    let less : path_cmp x y ≡ Less = not_less x y (s k e (omega arith) n) other in
+    (λ i. path_cmp (get_or-map (λ (e : Entry). e.path) (e ∷ es) k e i) (get_or-map (λ (e : Entry). e.path) (e ∷ es) (k + 1) e i)) ∙ less)
+
+pub sum_by-map : {X Y : Type 0} (f : Y → ℕ) (g : X → Y) (xs : List X) → sum_by f (map g xs) ≡ sum_by (λ x. f (g x)) xs
+sum_by-map f g [] = refl
+sum_by-map f g (x ∷ xs) = sum_by-cons f (g x) (map g xs) ∙ (λ i. f (g x) + sum_by-map f g xs i) ∙ sym (sum_by-cons (λ y. f (g y)) x xs)
+
+-- what was handled, put in order, ascends strictly
+pub list_rises : (ds : List Held) (list : List Entry) (left starts : List (List ℕ)) → IsPermutation (entries_of ds) list → IsSortedByKey (λ e. e.path) path_cmp list →
+    AllByRecursion IsPush ds → Apart starts → Balanced (log_of ds) left starts → IsStrictlySortedBy path_cmp (map (λ e. e.path) list)
+list_rises ds list left starts p s h l b = rises list s (λ x.
+    omega (arith, covered x ds left starts h b, from_apart starts l x, sum_by-IsPermutation (λ (e : Entry). one x e.path) (entries_of ds) list p, sum_by-map (λ (e : Entry). one x e.path) (λ (d : Held). d.0) ds))
+
+-- ---- each path is a start or under one
+
+each_here : (es : List Entry) → AllByRecursion (λ e. 1 ≤ sum_by (λ f. one e.path f.path) es) es
+each_here [] = tt
+each_here (e ∷ es) =
+    let self : one e.path e.path ≡ 1 = one-same e.path e.path refl in (
+      omega (arith, sum_by-cons (λ (f : Entry). one e.path f.path) e es, self),
+      weaker (λ (d : Entry). 1 ≤ sum_by (λ f. one d.path f.path) es) (λ (d : Entry). 1 ≤ sum_by (λ f. one d.path f.path) (e ∷ es))
+          (λ d h. omega (arith, h, sum_by-cons (λ (f : Entry). one d.path f.path) e es)) es (each_here es),
+    )
+
+pub list_within : (ds : List Held) (list : List Entry) (left starts : List (List ℕ)) → IsPermutation (entries_of ds) list → AllByRecursion IsPush ds → Balanced (log_of ds) left starts →
+    AllByRecursion (λ e. is_in_some starts e.path ≡ true) list
+list_within ds list left starts p h b =
+    weaker (λ (e : Entry). 1 ≤ sum_by (λ f. one e.path f.path) list) (λ (e : Entry). is_in_some starts e.path ≡ true)
+    (λ e n. some_covers e.path starts (omega (
+      arith,
+      n,
+      covered e.path ds left starts h b,
+      sum_by-IsPermutation (λ (f : Entry). one e.path f.path) (entries_of ds) list p,
+      sum_by-map (λ (f : Entry). one e.path f.path) (λ (d : Held). d.0) ds,
+    )))
+    list (each_here list)

@@ -1,0 +1,7 @@
+use Rattle.std.proofs.Common.{ap, ◌∙◌, sym}
+use Rattle.tree_walk.specs.Held.{entries_of}
+use Rattle.tree_walk.proofs.Held.{entries_held}
+use Rattle.tree_walk.proofs.jobs.WalkJob.open.Goals as goal
+
+pub returns-clause-entries : goal.returns-clause-entries
+returns-clause-entries g c = sym (ap (λ v. entries_of v.1) (sym c.self.view_is) ∙ entries_held c.self.inside.entries.items c.self.inside.names.items)

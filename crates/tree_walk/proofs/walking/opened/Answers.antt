@@ -1,0 +1,24 @@
+use Rattle.std.proofs.Common.{◌∙◌, ap, arith}
+use Rattle.outside.specs.Count.{capped}
+use Rattle.tree_walk.specs.Held.{Holds}
+use Rattle.tree_walk.proofs.Lists.{all_append}
+use Rattle.tree_walk.proofs.Ranks.{more_logs, more_faults, never_falls}
+use Rattle.tree_walk.proofs.walking.opened.Goals as goal
+
+pub loop-job-preserved : goal.loop-job-preserved
+loop-job-preserved g c =
+    let before = c.loop-job.invariant in
+    let opened = c.open-reader.ensures in
+    let reader = g.G.Reader.Tree.count in
+    let count = g.G.Ground.count in
+    record {
+      logs = more_logs (λ log. log.items) c.loop-job.logs.items c.push.new.self.items _ c.loop-job.yielded c.in-Some.job c.in_ok-push.ensures.items opened.entries before.logs;
+      holds = all_append (λ job. Holds (g.G.Reader.Tree.tree job.0) (reader job.0) job.1) c.loop-job.yielded _ before.holds (opened.holds, tt);
+      counted = more_faults c.loop-job.yielded c.in-Some.job (count c.args.ground.now) (count c.loop-job.ground) (count c.take_reader.new.self) (reader c.in-Some.job.0) before.counted before.below
+          (c.take_reader.ensures.count ∙ ap (λ r. capped (count c.loop-job.ground) (reader r)) opened.reader) opened.holds.faults;
+      below = omega (arith, c.take_reader.ensures.count);
+      same = c.take_reader.ensures.same ∙ before.same;
+    }
+
+pub returns-in_err-push-clause-count : goal.returns-in_err-push-clause-count
+returns-in_err-push-clause-count g c = never_falls _ _ _ _ _ c.loop-job.invariant.counted c.loop-job.invariant.below c.take_reader.ensures.count

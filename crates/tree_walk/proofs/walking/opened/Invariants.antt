@@ -1,0 +1,15 @@
+use Rattle.std.proofs.Common.{◌≡◌, ◌<◌, ◌^◌}
+use Rattle.std.specs.List.{flat_map, sum_by, AllByRecursion}
+use Rattle.outside.specs.Count.{RoseBy}
+use Rattle.tree_walk.specs.Walk.{weight_of}
+use Rattle.tree_walk.specs.Held.{Holds, entries_of}
+use Rattle.tree_walk.proofs.walking.opened.Given as goal
+
+abbrev pub invariant-loop-job : goal.invariant-loop-job
+invariant-loop-job g l = record {
+  logs : flat_map (λ log. log.items) l.logs.items ≡ entries_of (flat_map (λ job. job.1) l.yielded);
+  holds : AllByRecursion (λ job. Holds (g.G.Reader.Tree.tree job.0) (g.G.Reader.Tree.count job.0) job.1) l.yielded;
+  counted : RoseBy (sum_by weight_of (entries_of (flat_map (λ job. job.1) l.yielded))) (g.G.Ground.count l.fn.ground) (g.G.Ground.count l.ground);
+  below : g.G.Ground.count l.ground < 2 ^ 64;
+  same : g.G.Ground.tree l.ground ≡ g.G.Ground.tree l.fn.ground;
+}

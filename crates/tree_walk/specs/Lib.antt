@@ -1,0 +1,4 @@
+pub mod Walk
+pub mod Roots
+pub mod Held
+pub mod Found

@@ -1,0 +1,86 @@
+//! The job of a walk.
+ghost use Rattle.std.specs.Prelude.{◌≡◌, [], ◌++◌, ◌∷◌, map, OnOk, OnErr, IfOk};
+
+use crate::keeping::handle_path;
+use circle_run::Job;
+use flat_list::Entry;
+use outside::{Listing, Tree};
+use path_text::{OutOfMemory, Path};
+use rank_queue::Batch;
+use std::alloc::Global;
+use std::marker::Model;
+
+/// The job of one rank in a walk, seen as its reader and the entries that it made, each with the paths that it pushed for
+/// it. Only [`crate::walk`] makes and opens one.
+///
+/// Of what it pushed it keeps the names, as the directory told them; the paths themselves have moved on.
+#[derive(Drop)]
+pub struct WalkJob<R: Tree> {
+    reader: R,
+    entries: Vec<Entry>,
+    names: Vec<Listing>,
+}
+
+impl<R: Tree> Model for WalkJob<R> {
+    ghost use Rattle.std.specs.Prelude.{List, ◌≡◌, length};
+    ghost use Rattle.std.specs.List.{count_by};
+    ghost use Rattle.tree_walk.specs.Held.{Held, held_of, is_listed, Holds};
+
+    ghost Value = { R × List Held };
+
+    ghost view = { λ w. (w.reader, held_of w.entries.items w.names.items) };
+
+    ghost invariant = { λ w. Holds (R.tree w.reader) (R.count w.reader) (held_of w.entries.items w.names.items) × (count_by is_listed w.entries.items ≡ length w.names.items) };
+}
+
+impl<R: Tree> WalkJob<R> {
+    ghost use Rattle.tree_walk.specs.Held.{entries_of, Holds};
+
+    // A job that holds nothing yet.
+    pub(crate) fn make(alloc: Global, reader: R) -> WalkJob<R>
+        ensures { result ≡ (reader, []) }
+    {
+        WalkJob {
+            reader,
+            entries: Vec::new(alloc),
+            names: Vec::new(alloc),
+        }
+    }
+
+    // Its reader and its entries.
+    pub(crate) fn open(self) -> (R, Vec<Entry>)
+        ensures reader { result.0 ≡ self.0 }
+        ensures entries { result.1.items ≡ entries_of self.1 }
+        ensures holds { Holds (R.tree self.0) (R.count self.0) self.1 }
+    {
+        let WalkJob {
+            reader,
+            entries,
+            ..
+        } = self;
+        (reader, entries)
+    }
+}
+
+impl<R: Tree> Job for WalkJob<R> {
+    ghost use Rattle.std.specs.Prelude.{Option};
+    ghost use Rattle.outside.specs.Tree.{Files};
+    ghost use Rattle.tree_walk.specs.Held.{log_of};
+
+    ghost log = { λ w. log_of w.1 };
+
+    ghost Plain = { Option Files };
+
+    ghost plain = { λ w. R.tree w.0 };
+
+    /// Handles a path by `stat` and, where it is a directory, `list`, and pushes its children.
+    fn handle(&mut self, item: &Path, _waiting: u64, fresh: &mut Batch) -> Result<(), OutOfMemory> {
+        handle_path(
+            &mut self.reader,
+            &mut self.entries,
+            &mut self.names,
+            item,
+            fresh,
+        )
+    }
+}

@@ -1,0 +1,27 @@
+//! Laws of the recursive walk, each the contract of a function that does nothing.
+ghost use Rattle.tree_walk.specs.Walk.{WalkIsRecursive, WalkAscends, WalkHasEachPathOnce, WalkFindsAll, WalkWithoutFaultsIsFine};
+
+/// The walk of a path is its entry, and then the walk of each child, names in byte order.
+pub fn walk_is_recursive()
+    ensures { WalkIsRecursive }
+{}
+
+/// The paths of a walk ascend strictly in path order.
+pub fn walk_ascends()
+    ensures { WalkAscends }
+{}
+
+/// Each path stands in a walk at most once.
+pub fn walk_has_each_path_once()
+    ensures { WalkHasEachPathOnce }
+{}
+
+/// Where no answer fails and the root is there, every path of the walk is found.
+pub fn walk_finds_all()
+    ensures { WalkFindsAll }
+{}
+
+/// Entries of several roots that tell no failed answer are those of the walk in which nothing fails, and each is fine.
+pub fn walk_without_faults_is_fine()
+    ensures { WalkWithoutFaultsIsFine }
+{}

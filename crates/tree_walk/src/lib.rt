@@ -1,0 +1,52 @@
+//! The walk of trees of files by ranks: every path at and under the starts, in path order.
+//!
+//! - [`walk`] looks at the starts and at all that is under them, and gives a [`WalkReport`]: the entries as a list in path
+//!   order, and what each rank did.
+//! - [`roots_of`] makes starts of any paths: it drops what is equal to or under another, so that nothing is walked twice.
+//! - A [`WalkJob`] is what one rank does with a path: it asks the files what stands there, and the names in a directory,
+//!   keeps the entry and pushes the children. The ranks of [`circle_run`] hand paths to each other in any order.
+//!
+//! ```text
+//! let starts = roots_of(words)?;
+//! let report = walk(&rt, alloc, &mut files, starts, &options)?;
+//! let mut cursor = report.list.cursor();
+//! // ..
+//! ```
+//!
+//! What fails is no error: the entry of the path says so by its mark, and the files have counted it. A list of more than
+//! [`MAX_ENTRIES`] entries is refused, as is want of memory.
+//!
+//! Proved, over any files and whatever the order in which paths are handled: where the files tell their tree, the list is
+//! the recursive walk of the starts, with the failed answers that its marks name; over all files each path stands in the
+//! list once, in path order, is a start or under one, and each failed answer was counted. This follows from the balance of
+//! the run alone: each path was handled as often as it was a start or was pushed. That a walk ends is not proved: the
+//! runtime that works it off may wait.
+//!
+//! The recursive walk has laws of its own, each the contract of a function that does nothing: [`walk_is_recursive`],
+//! [`walk_ascends`], [`walk_has_each_path_once`], [`walk_finds_all`], [`walk_without_faults_is_fine`].
+//!
+//! Definitions stand in `specs/`: `Walk` (the recursive walk and failed answers), `Roots`, `Found` (what a walk gives), `Held`
+//! (what a job keeps).
+#![tactic(auto)]
+
+mod errors;
+mod jobs;
+mod keeping;
+mod laws;
+mod looking;
+mod reports;
+mod rooting;
+mod walking;
+
+pub use errors::WalkError;
+pub use jobs::WalkJob;
+pub use laws::{
+    walk_ascends, walk_finds_all, walk_has_each_path_once, walk_is_recursive,
+    walk_without_faults_is_fine,
+};
+pub use reports::{WalkReport, Walked};
+pub use rooting::roots_of;
+pub use walking::{MAX_ENTRIES, walk};
+
+#[cfg(test)]
+mod tests;

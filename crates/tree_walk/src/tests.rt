@@ -1,0 +1,165 @@
+//! Roots of paths, and walks of small trees.
+use crate::{WalkReport, Walked, roots_of, walk};
+use circle_run::{Options, Split};
+use files_mem::{Call, MemGround};
+use flat_list::Mark;
+use outside::{Ground, Kind};
+use path_text::Path;
+use std::alloc::Global;
+use std::process::Abort;
+use std::sync::Wait;
+use std::test::Fail;
+use std::thread::Threads;
+
+const OPTIONS: Options = Options {
+    ranks: 1,
+    hosts: 1,
+    split: Split::Equal,
+    seed: 0,
+    width: 2,
+    trace: false,
+    stop_after: None,
+};
+
+fn paths(alloc: Global, texts: &[&str]) -> Result<Vec<Path>, Fail> {
+    let mut paths = Vec::new(alloc);
+    for text in texts {
+        paths.push(Path::parse(alloc, text)?)?;
+    }
+    Ok(paths)
+}
+
+#[test]
+fn roots_are_what_is_under_no_other(rt: HostRuntime) -> Result<(), Fail> {
+    let alloc = rt.alloc();
+    for (given, roots) in [
+        ([].as_slice(), [].as_slice()),
+        (&["/t/b", "/t"], &["/t"]),
+        (&["/t", "/t-x", "/t/a"], &["/t", "/t-x"]),
+        (&["/b", "/a", "/b", "/a/c/d"], &["/a", "/b"]),
+        (&["/x", "/", "/y"], &["/"]),
+        (&["/t/b/c", "/t/b-x", "/t/b"], &["/t/b", "/t/b-x"]),
+    ] {
+        let found = roots_of(paths(alloc, given)?)?;
+        assert_eq!(rt; found.len(), roots.len());
+        for (path, root) in found.iter().zip(roots) {
+            assert_eq!(rt; path.text(), *root);
+        }
+    }
+    Ok(())
+}
+
+// `/t` with the file `a`, the directory `b`, the file `b-x`, and the empty file `c` in `b`.
+fn tree_t(alloc: Global) -> Result<MemGround, Fail> {
+    let mut files = MemGround::empty(alloc)?;
+    files.put_dir(&Path::parse(alloc, "/t")?, 0, None)?;
+    files.put_file(&Path::parse(alloc, "/t/a")?, b"hello", Some(86400))?;
+    files.put_dir(&Path::parse(alloc, "/t/b")?, 3, None)?;
+    files.put_file(&Path::parse(alloc, "/t/b/c")?, b"", None)?;
+    files.put_file(&Path::parse(alloc, "/t/b-x")?, b"x", None)?;
+    Ok(files)
+}
+
+// The walk of the roots of some paths.
+fn walked<R: Threads + Wait + Sync>(
+    rt: &R,
+    alloc: Global,
+    files: &mut MemGround,
+    texts: &[&str],
+) -> Result<WalkReport, Fail> {
+    let starts = roots_of(paths(alloc, texts)?)?;
+    Ok(walk(rt, alloc, files, starts, &OPTIONS)?)
+}
+
+// Whether the list has just these paths, each with its mark.
+fn has(rt: &impl Abort, report: &WalkReport, entries: &[(&str, Mark)]) {
+    assert!(rt; report.walked == Walked::Whole);
+    assert_eq!(rt; report.list.len(), entries.len());
+    let mut cursor = report.list.cursor();
+    for (path, mark) in entries {
+        assert!(rt; cursor.advance());
+        assert_eq!(rt; cursor.entry().path.text(), *path);
+        assert!(rt; cursor.entry().mark == *mark, "{path}");
+    }
+}
+
+#[test]
+fn a_walk_finds_a_tree_in_path_order(rt: HostRuntime) -> Result<(), Fail> {
+    let alloc = rt.alloc();
+    let mut files = tree_t(alloc)?;
+    let report = walked(&rt, alloc, &mut files, &["/t"])?;
+    let found = [
+        ("/t", Mark::Fine),
+        ("/t/a", Mark::Fine),
+        ("/t/b", Mark::Fine),
+        ("/t/b/c", Mark::Fine),
+        ("/t/b-x", Mark::Fine),
+    ];
+    has(&rt, &report, &found);
+    assert_eq!(rt; report.list.len(), 5);
+    let entry = report.list.entry(1)?;
+    let Some(stat) = entry.stat else {
+        assert!(rt; false);
+        return Ok(());
+    };
+    assert!(rt; stat.kind == Kind::File);
+    assert_eq!(rt; stat.size, 5);
+    assert_eq!(rt; stat.mtime, Some(86400));
+    assert_eq!(rt; report.list.entry(2)?.far, 3);
+    assert_eq!(rt; report.shares.len(), 1);
+    assert_eq!(rt; report.shares[0].handled, 5);
+    assert_eq!(rt; files.faults(), 0);
+    Ok(())
+}
+
+#[test]
+fn several_trees_make_one_list(rt: HostRuntime) -> Result<(), Fail> {
+    let alloc = rt.alloc();
+    let mut files = tree_t(alloc)?;
+    let report = walked(
+        &rt,
+        alloc,
+        &mut files,
+        &["/t/b-x", "/nothing", "/t/b", "/t/b/c"],
+    )?;
+    let found = [
+        ("/nothing", Mark::Gone),
+        ("/t/b", Mark::Fine),
+        ("/t/b/c", Mark::Fine),
+        ("/t/b-x", Mark::Fine),
+    ];
+    has(&rt, &report, &found);
+    Ok(())
+}
+
+#[test]
+fn a_walk_of_no_starts_is_empty(rt: HostRuntime) -> Result<(), Fail> {
+    let alloc = rt.alloc();
+    let mut files = tree_t(alloc)?;
+    let report = walked(&rt, alloc, &mut files, &[])?;
+    has(&rt, &report, &[]);
+    assert_eq!(rt; report.shares.len(), 1);
+    assert_eq!(rt; report.shares[0].handled, 0);
+    Ok(())
+}
+
+#[test]
+fn what_fails_is_marked_and_counted(rt: HostRuntime) -> Result<(), Fail> {
+    let alloc = rt.alloc();
+    let mut files = tree_t(alloc)?;
+    files.plan(Call::List, &Path::parse(alloc, "/t/b")?)?;
+    files.plan(Call::Stat, &Path::parse(alloc, "/t/a")?)?;
+    files.plan(Call::Name, &Path::parse(alloc, "/t")?)?;
+    let report = walked(&rt, alloc, &mut files, &["/t"])?;
+    let found = [
+        ("/t", Mark::Fine),
+        ("/t/a", Mark::StatFailed),
+        ("/t/b", Mark::ListFailed),
+        ("/t/b-x", Mark::Fine),
+    ];
+    has(&rt, &report, &found);
+    assert_eq!(rt; report.list.len(), 4);
+    assert_eq!(rt; report.list.entry(0)?.unnamed, 1);
+    assert_eq!(rt; files.faults(), 3);
+    Ok(())
+}
