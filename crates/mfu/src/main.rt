@@ -7,6 +7,7 @@
 //! - `disk` has the files of the system as an [`outside::Ground`] and its readers, over the `names` that a directory gives.
 //! - `streams` has a stream of the system as an [`outside::Sink`].
 //! - `given` has the words and the time.
+//! - `help` has what the program says of itself, which is printed where nothing else is asked for.
 //!
 //! These are the edge of what is proved. They are proved safe and within the traits that they implement: each error of the
 //! system is counted, what is no text is counted, and the names of a listing are valid, short enough and in ascending order,
@@ -17,6 +18,7 @@ mod disk;
 #[cfg(test)]
 mod fakes;
 mod given;
+mod help;
 mod names;
 mod streams;
 
@@ -30,6 +32,9 @@ fn main(rt: HostRuntime) -> ExitCode {
         Ok(words) => words,
         Err(status) => return ExitCode::from(status as u8),
     };
+    if let Some(text) = help::asked(&words) {
+        return ExitCode::from(help::print(rt.stdout(), text) as u8);
+    }
     let mut files = RealGround::make(rt);
     let mut out = RealSink::make(rt.stdout());
     let mut notes = RealSink::make(rt.stderr());

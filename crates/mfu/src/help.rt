@@ -1,0 +1,95 @@
+//! What the program says of itself.
+use crate::streams::RealSink;
+use mfu_top::Status;
+use outside::put_all;
+use std::io::Write;
+
+const VERSION: &str = "mfu 0.1.0\n";
+
+const TOOLS: &str = "usage: mfu TOOL WORD..
+
+Tools for trees of files.
+
+  dwalk PATH..     lists what stands at each path and below it, in path order
+
+  mfu TOOL --help  says more of a tool
+  mfu --version    prints the version
+
+Paths are absolute. Standard error names each path that failed, one a line.
+
+Exit status:
+  0  done
+  1  done, and some paths are named
+  2  the words are refused
+  3  out of memory
+  4  an output failed
+  5  more than 4194304 entries
+";
+
+const DWALK: &str = "usage: mfu dwalk PATH..
+
+Lists what stands at each path and below it, in path order: the kind (f, d, l, o), the size of a
+file and the path, and then a summary. Links are not followed. A path that is under another one is
+listed once. The word -- ends the options, of which there are none yet.
+
+Notes on standard error:
+  gone P                        nothing stands at P
+  failed stat P, failed list P  the system did not tell of P, or of the names in P
+  changed P                     P was a directory, and then was none
+  unnamed P K                   K names in P are no UTF-8
+  too long P K                  K children of P have a path of more than 4095 bytes
+
+A control byte or a backslash of a path is printed as \\x and two digits.
+";
+
+/// The text that the words ask for, where they are `--help`, a tool and `--help`, or `--version` and no more.
+pub fn asked(words: &[String]) -> Option<&'static str> {
+    match words {
+        [word] => match word.as_str() {
+            "--help" => Some(TOOLS),
+            "--version" => Some(VERSION),
+            _ => None,
+        },
+        [tool, word] if tool.as_str() == "dwalk" && word.as_str() == "--help" => Some(DWALK),
+        _ => None,
+    }
+}
+
+/// Prints the text, and answers how the program ends.
+pub fn print<W: Write + Drop>(out: W, text: &str) -> Status {
+    match put_all(&mut RealSink::make(out), text.as_bytes()) {
+        Ok(()) => Status::Done,
+        Err(_) => Status::Sink,
+    }
+}
+
+#[cfg(test)]
+mod tests {
+    use super::*;
+    use std::test::Fail;
+
+    #[test]
+    fn help_is_the_whole_command_line(rt: HostRuntime) -> Result<(), Fail> {
+        let cases: [(&[&str], Option<&str>); 7] = [
+            (&["--help"], Some("usage: mfu TOOL")),
+            (&["--version"], Some("mfu 0.1.0")),
+            (&["dwalk", "--help"], Some("usage: mfu dwalk")),
+            (&[], None),
+            (&["dwalk"], None),
+            (&["--help", "dwalk"], None),
+            (&["dwalk", "/t", "--help"], None),
+        ];
+        for (line, want) in cases {
+            let mut words = Vec::new(rt.alloc());
+            for word in line {
+                words.push(String::from_str(rt.alloc(), word)?)?;
+            }
+            let told = asked(&words);
+            assert_eq!(rt; told.is_some(), want.is_some(), "{line:?}");
+            if let (Some(told), Some(want)) = (told, want) {
+                assert!(rt; told.starts_with(want), "{line:?}");
+            }
+        }
+        Ok(())
+    }
+}
