@@ -1,12 +1,3 @@
-pub mod Lists
-pub mod Names
-pub mod Pushed
-pub mod Work
-pub mod Walked
-pub mod Ordered
-pub mod Lawful
-pub mod Complete
-pub mod Digits
-pub mod Counted
-pub mod Refused
+pub mod Unique
+pub mod Asked
 pub mod Succeeds

@@ -1,4 +1,1 @@
-pub mod Walk
-pub mod Steps
-pub mod Text
 pub mod Run

@@ -13,4 +13,6 @@ pub enum Status {
     Memory = 3,
     /// A sink failed.
     Sink = 4,
+    /// The list has more entries than a list may have.
+    TooMany = 5,
 }

@@ -81,18 +81,43 @@ fn prints_the_tree_and_names_what_failed(rt: HostRuntime) -> Result<(), Fail> {
             "d            0 /w\nitems 1 dirs 1 files 0 links 0 others 0 bytes 0 failed 1\n",
             "too long /w 1\n",
         ),
-        (["dwalk"].as_slice(), Status::Words, "", "refused words\n"),
         (
-            ["dwalk", "t"].as_slice(),
+            ["dwalk", "/t/b", "/t", "/t"].as_slice(),
+            Status::Done,
+            TREE_T,
+            "",
+        ),
+        (["dwalk", "/t/"].as_slice(), Status::Done, TREE_T, ""),
+        (
+            ["dwalk", "/w", "/t/b"].as_slice(),
+            Status::Named,
+            "d            0 /t/b\nf            0 /t/b/c\nd            0 /w\nitems 3 dirs 2 files 1 links 0 others 0 bytes 0 failed 1\n",
+            "too long /w 1\n",
+        ),
+        ([].as_slice(), Status::Words, "", "refused word 0 no tool\n"),
+        (
+            ["dwalkx", "/t"].as_slice(),
             Status::Words,
             "",
-            "refused words\n",
+            "refused word 0 unknown tool\n",
         ),
         (
-            ["dwalk", "--ranks", "4", "/t"].as_slice(),
+            ["dwalk"].as_slice(),
             Status::Words,
             "",
-            "refused words\n",
+            "refused word 1 no path\n",
+        ),
+        (
+            ["dwalk", "/t/../a"].as_slice(),
+            Status::Words,
+            "",
+            "refused word 1 bad value\n",
+        ),
+        (
+            ["dwalk", "/t", "--ranks", "4"].as_slice(),
+            Status::Words,
+            "",
+            "refused word 2 unknown option\n",
         ),
     ] {
         let told = run_with(&rt, alloc, &mut files, words, (AMPLE, AMPLE))?;

@@ -1,0 +1,67 @@
+//! What a walk leaves to be printed.
+ghost use Rattle.std.specs.Prelude.{◌≡◌, ◌⊎◌, ◌<◌, length, IfOk};
+ghost use Rattle.outside.specs.Count.{RoseBy};
+ghost use Rattle.tool_text.specs.Notes.{notes_of};
+ghost use Rattle.mfu_top.specs.Run.{out_text, notes_text, Grew, GrewBySome};
+
+use crate::statuses::Status;
+use flat_list::FlatList;
+use outside::{Sink, put_all};
+use path_text::OutOfMemory;
+use std::alloc::Global;
+use tool_text::{Text, notes_of, put_list, put_notes, put_summary};
+
+/// The list of a walk that is over, and both texts of it.
+#[derive(Drop)]
+pub(crate) struct Report {
+    list: FlatList,
+    failed: u64,
+    out: Text,
+    notes: Text,
+}
+
+impl Report {
+    /// The report of a list.
+    pub(crate) fn of(alloc: Global, list: FlatList) -> Result<Report, OutOfMemory>
+        ensures list { IfOk result (λ report. report.list ≡ list) }
+        ensures out { IfOk result (λ report. report.out ≡ out_text list) }
+        ensures notes { IfOk result (λ report. report.notes ≡ notes_text list) }
+        ensures failed { IfOk result (λ report. report.failed ≡ length (notes_of list)) }
+    {
+        let summary = list.summary();
+        let named = notes_of(alloc, &list)?;
+        let mut out = Text::make(alloc);
+        put_list(&mut out, &list)?;
+        put_summary(&mut out, &summary)?;
+        let mut notes = Text::make(alloc);
+        put_notes(&mut notes, &named)?;
+        Ok(Report {
+            list,
+            failed: summary.failed,
+            out,
+            notes,
+        })
+    }
+
+    /// Writes both texts. Nothing goes to `notes` after a fault of `out`.
+    pub(crate) fn put<O: Sink, E: Sink>(&self, out: &mut O, notes: &mut E) -> Status
+        ensures done { result ≡ Status.Done → (self.now.failed ≡ 0) × Grew self.now.out (O.text out.old) (O.text out.new) × Grew self.now.notes (E.text notes.old) (E.text notes.new) }
+        ensures named { result ≡ Status.Named → (0 < self.now.failed) × Grew self.now.out (O.text out.old) (O.text out.new) × Grew self.now.notes (E.text notes.old) (E.text notes.new) }
+        ensures sink { result ≡ Status.Sink → (RoseBy 1 (O.count out.old) (O.count out.new) × GrewBySome self.now.out (O.text out.old) (O.text out.new) × (notes.new ≡ notes.old))
+            ⊎ (RoseBy 1 (E.count notes.old) (E.count notes.new) × Grew self.now.out (O.text out.old) (O.text out.new) × GrewBySome self.now.notes (E.text notes.old) (E.text notes.new)) }
+        ensures which { (result ≡ Status.Done) ⊎ ((result ≡ Status.Named) ⊎ (result ≡ Status.Sink)) }
+        ensures counts { RoseBy 0 (O.count out.old) (O.count out.new) × RoseBy 0 (E.count notes.old) (E.count notes.new) }
+    {
+        if put_all(out, self.out.bytes()).is_err() {
+            return Status::Sink;
+        }
+        if put_all(notes, self.notes.bytes()).is_err() {
+            return Status::Sink;
+        }
+        if self.failed == 0 {
+            Status::Done
+        } else {
+            Status::Named
+        }
+    }
+}
