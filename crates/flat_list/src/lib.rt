@@ -23,6 +23,7 @@
 //! entry, the number of its notes, the summary.
 #![tactic(auto)]
 
+mod arranging;
 mod entries;
 mod lists;
 mod summaries;

@@ -5,6 +5,7 @@ ghost use Rattle.std.specs.List.Sorted.{IsPermutation, IsSortedByKey, IsStableBy
 ghost use Rattle.path_text.specs.Order.{path_cmp};
 ghost use Rattle.flat_list.specs.Entries.{summary_of};
 
+use crate::arranging::arrange;
 use crate::entries::{Entry, copy_of};
 use crate::summaries::{Summary, summary_of};
 use path_text::OutOfMemory;
@@ -65,9 +66,9 @@ impl FlatList {
         ensures all { IfOk result (λ list. IsPermutation (flat_map (λ log. log.items) logs.items) list) }
         ensures sorted { IfOk result (λ list. IsSortedByKey (λ e. e.path) path_cmp list) }
     {
-        let mut list = FlatList {
-            entries: joined(alloc, logs)?,
-        };
+        let mut entries = joined(alloc, logs)?;
+        arrange(&mut entries)?;
+        let mut list = FlatList { entries };
         list.sort_path()?;
         Ok(list)
     }
