@@ -55,9 +55,9 @@ fn next_place(places: &[usize], at: usize) -> Option<usize>
     Some(to)
 }
 
-// An entry below which the list goes on: its place, and how many names its path has.
+// An entry that stands above those that come: its place, and how many names its path has.
 #[derive(Clone, Copy, Drop)]
-struct Open {
+struct Above {
     at: usize,
     level: u32,
 }
@@ -66,32 +66,32 @@ struct Open {
 fn places_of(entries: &Vec<Entry>) -> Result<Vec<usize>, AllocError> {
     let alloc = *entries.allocator();
     let mut places = Vec::with_capacity(alloc, entries.len())?;
-    let mut open = Vec::new(alloc);
+    let mut above = Vec::new(alloc);
     for (at, entry) in entries.iter().enumerate() {
         let level = entry.path.level();
-        close(&mut places, &mut open, level, entries.len() - at);
+        close(&mut places, &mut above, level, entries.len() - at);
         places.push(at)?;
-        open.push(Open { at, level })?;
+        above.push(Above { at, level })?;
     }
-    close(&mut places, &mut open, 0, 0);
+    close(&mut places, &mut above, 0, 0);
     Ok(places)
 }
 
-// What is below the open entries at this level or deeper ends here, with so many entries still to come.
-fn close(places: &mut [usize], open: &mut Vec<Open>, level: u32, to_come: usize) {
-    while let Some(last) = last_at(open, level) {
-        let _ = open.pop();
+// The entries above that stand at this level or deeper stand above no more, with so many entries still to come.
+fn close(places: &mut [usize], above: &mut Vec<Above>, level: u32, to_come: usize) {
+    while let Some(last) = last_at(above, level) {
+        let _ = above.pop();
         if let Some(place) = places.get_mut(last.at) {
-            *place = to_come.saturating_add(open.len());
+            *place = to_come.saturating_add(above.len());
         }
     }
 }
 
-// The last open entry, if it is at this level or deeper.
-fn last_at(open: &[Open], level: u32) -> Option<Open>
-    ensures { IsSome result → 0 < length open.now }
+// The last entry above, if it is at this level or deeper.
+fn last_at(above: &[Above], level: u32) -> Option<Above>
+    ensures { IsSome result → 0 < length above.now }
 {
-    let last = *open.last()?;
+    let last = *above.last()?;
     if last.level < level {
         return None;
     }
