@@ -1,0 +1,6 @@
+use Rattle.std.proofs.Common.{◌≡◌, ◌+◌, take, sum_by}
+use Rattle.sum_tree.specs.declared.ranks.RankSum.{RankSum}
+use Rattle.sum_tree.proofs.plain.PlainSums.total.Given as goal
+
+abbrev pub invariant-loop-child : goal.invariant-loop-child
+invariant-loop-child l = l.total ≡ l.initial.total + sum_by (λ (x : RankSum). x.word) (take l.child-index l.child-items)

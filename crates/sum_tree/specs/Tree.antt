@@ -1,0 +1,16 @@
+-- A tree of ranks and what its counts come to: the reduction of libcircle (LaFon, Misra, Bringhurst, SC 2012), in which each rank adds what its children tell to what it has counted itself.
+use Rattle.std.specs.Prelude.{ℕ, zero, suc, ◌+◌, ◌-◌, ◌*◌, List, min}
+use Rattle.std.specs.List.{range_with_len, sum_by}
+
+-- the children of rank r among n ranks: the ranks r * width + 1 to r * width + width that are below n
+abbrev pub children : ℕ → ℕ → ℕ → List ℕ
+children n width r = range_with_len (r * width + 1) (min width (n - (r * width + 1)))
+
+-- the sum of rank r over the tree at most so many levels deep: its own count and the sums of its children
+abbrev pub sum_down : ℕ → ℕ → (ℕ → ℕ) → ℕ → ℕ → ℕ
+sum_down n width count zero r = 0
+sum_down n width count (suc levels) r = count r + sum_by (sum_down n width count levels) (children n width r)
+
+-- the sum of rank r: what it and all below it have counted. A child has a greater number, so no tree is deeper than its ranks are many
+unfoldable pub sum_of : ℕ → ℕ → (ℕ → ℕ) → ℕ → ℕ
+sum_of n width count r = sum_down n width count n r

@@ -1,0 +1,57 @@
+//! What ranks have counted, added up along a tree.
+//!
+//! Each of some ranks counts for itself, and the sum of all counts is wanted, while they count and at the end. As in
+//! libcircle's reduction the ranks form a tree: the children of rank `i` are the ranks `i * width + 1` to `i * width + width`,
+//! as far as there are so many. Each rank has a *word*, which it alone writes and which its parent reads. A rank that
+//! refreshes writes into its word what it has counted and what the words of its children hold, so that numbers climb to
+//! rank 0, late but never too high. A rank that has counted its last finishes: once the words of its children are final, its
+//! own word becomes the final sum of itself and all below it.
+//!
+//! - [`Sums`] is the trait. A rank acts through its seat: [`raise`](Sums::raise) counts, [`refresh`](Sums::refresh) and
+//!   [`finish`](Sums::finish) write the word, [`shown`](Sums::shown) reads it, and [`gather`](Sums::gather) takes all seats
+//!   back and answers the sum.
+//! - [`PlainSums`] implements it for one thread, by a list of the ranks' counts and words.
+//!
+//! ```text
+//! let (mut sums, mut seats) = PlainSums::make(alloc, 2, 2)?;   // rank 1 is the child of rank 0
+//! sums.raise(&mut seats[0], 3);
+//! sums.raise(&mut seats[1], 4);
+//! sums.finish(&mut seats[0])      // None: rank 1 has not finished
+//! sums.finish(&mut seats[1])      // Some(4)
+//! sums.finish(&mut seats[0])      // Some(7)
+//! sums.gather(seats)              // 7
+//! ```
+//!
+//! # What the trait promises
+//!
+//! A seat shows its rank's number, count, word and, once it has finished, the final sum (`specs/Shown.antt`); every call is an
+//! equation on that. Of all implementations it holds that a rank's word never falls, neither by a refresh nor by the final
+//! sum; that it is at least what the rank had counted; that a rank without children shows just its count; and that
+//! `gather` answers the sum of the counts which the seats show, which is the final sum of rank 0.
+//!
+//! Sums may tell more, where they can: the counts and words of all ranks (`specs/Told.antt`). Then each call is exact on
+//! these, and between any two calls a word holds at most the sum of its rank, a final one just that
+//! ([`what_is_told_is_sound`]). A seat may tell the steps that it made on the words (`specs/Steps.antt`). Plain sums tell
+//! the first; sums that threads share can tell only the second.
+//!
+//! # What is proved
+//!
+//! Plain sums keep all of it. The sum of a rank is defined by recursion down the tree ([`sum_is_own_and_below`]), and that of rank
+//! 0 is the sum of all counts ([`sum_of_rank_0_is_sum_of_all`]). A count stops at 2^56 - 1, and there are at most 64 ranks, so no
+//! sum overflows. No call takes memory but [`PlainSums::make`].
+//!
+//! Not promised: that a rank ever finishes. That depends on those who call.
+#![tactic(auto)]
+
+mod laws;
+mod plain;
+mod ranks;
+mod sums;
+
+pub use laws::{sum_is_own_and_below, sum_of_rank_0_is_sum_of_all, what_is_told_is_sound};
+pub use plain::{PlainSumSeat, PlainSums};
+pub use ranks::{RankSum, Reading};
+pub use sums::Sums;
+
+#[cfg(test)]
+mod tests;
