@@ -1,0 +1,100 @@
+-- What each call of a board leaves of its seat, and what it tells. Our own.
+use Rattle.std.specs.Prelude.{◌≡◌, ◌≢◌, ℕ, ◌<◌, ◌⊎◌, nat_lt, true, false, if◌then◌else◌, List, length, [], slice_set, slice_index_or, Option, Some, None}
+use Rattle.ring_core.specs.World.{is_over}
+use Rattle.ring_core.specs.Step.{is_at}
+use Rattle.ring_core.specs.declared.states.Colour.TheVariants.{White, Black}
+use Rattle.ring_core.specs.declared.states.Token.TheVariants.{At}
+use Rattle.post_board.specs.Shown.{Strings, Batches, Shown, is_served, victim_of, with_given, with_taken}
+use Rattle.post_board.specs.Told.{asked, Told, place, is_full}
+use Rattle.post_board.specs.Deeds.{take, take_none, see_over, Tells, Stays}
+use Rattle.post_board.specs.declared.answers.Answer.{Answer}
+use Rattle.post_board.specs.declared.answers.Answer.TheVariants.{Pending, Nothing, Work}
+use Rattle.post_board.specs.declared.answers.Ring.{Ring}
+use Rattle.post_board.specs.declared.answers.Ring.TheVariants.{Elsewhere, Here, Over}
+
+abbrev pub asking : Shown → ℕ → Shown
+asking s victim = record s { busy = false; asked = Some victim }
+
+abbrev pub answered : Shown → Answer → Shown
+answered s Pending = s
+answered s Nothing = record s { asked = None; tried = true }
+answered s (Work batch) = record s { asked = None; busy = true; tried = false; batches = with_taken s.batches (victim_of s) batch }
+
+abbrev pub AnswerTold : Shown → Answer → Option Told → Option Told → Type 0
+AnswerTold s Pending before after = Stays (λ t. (place t s.number).mail ≡ asked (victim_of s)) before after
+AnswerTold s Nothing before after = Tells s.number (take_none (victim_of s)) before after
+AnswerTold s (Work batch) before after = Tells s.number (take (victim_of s) batch) before after
+
+abbrev pub serving : Shown → Option ℕ → Shown
+serving s None = s
+serving s (Some r) = record s { serves = slice_set s.serves r true }
+
+-- of the first k ranks none asks this one, save those that it serves already
+abbrev pub NoneAsks : Shown → ℕ → Told → Type 0
+NoneAsks s k t = (r : ℕ) → r < k → r ≢ s.number → (place t r).mail ≡ asked s.number → is_served s r ≡ true
+
+abbrev pub Found : Shown → Option ℕ → Type 0
+Found s None = Unit {0}
+Found s (Some r) = (r < s.n) × (r < length s.serves) × (r ≢ s.number) × (is_served s r ≡ false)
+
+abbrev pub LookedFor : Shown → Option ℕ → Told → Type 0
+LookedFor s None t = NoneAsks s s.n t
+LookedFor s (Some r) t = ((place t r).mail ≡ asked s.number) × NoneAsks s r t
+
+abbrev pub served : Shown → ℕ → Shown
+served s to = record s { serves = slice_set s.serves to false }
+
+abbrev pub given : Shown → ℕ → Strings → Shown
+given s to batch = record (served s to) { colour = (if nat_lt s.number to then Black else s.colour); batches = with_given s.batches to batch }
+
+abbrev pub hearing : Shown → Ring → Shown
+hearing s Elsewhere = record s { here = None }
+hearing s (Here colour) = record s { here = Some colour }
+hearing s Over = record s { here = None; ended = true }
+
+abbrev pub RingTold : Shown → Ring → Option Told → Option Told → Type 0
+RingTold s Elsewhere before after = Stays (λ t. (is_at t.token s.number ≡ false) × (is_over t.token ≡ false)) before after
+RingTold s (Here colour) before after = Stays (λ t. t.token ≡ At s.number colour) before after
+RingTold s Over before after = Tells s.number see_over before after
+
+abbrev pub passed : Shown → Shown
+passed s = record s { colour = White; here = None }
+
+abbrev pub restarted : Shown → Shown
+restarted s = record s { colour = White; here = None; busy = false }
+
+abbrev pub concluded : Shown → Shown
+concluded s = record s { here = None; ended = true }
+
+-- no mailbox holds a batch
+abbrev pub NoneOnTheWay : Told → Type 0
+NoneOnTheWay t = (r : ℕ) → is_full (place t r).mail ≡ false
+
+-- what j took from i is what i gave to j
+abbrev pub Even : Option Batches → ℕ → Option Batches → ℕ → Type 0
+Even (Some x) i (Some y) j = slice_index_or y.taken i [] ≡ slice_index_or x.given j []
+Even _ i _ j = Unit {0}
+
+module _ {S : Type 0} (shows : S → Shown) (seats : S → Type 0) where
+  -- the seats of all ranks, in ascending number, each ended or stopped
+  abbrev pub AllDone : List S → Type 0
+  AllDone all = (k : ℕ) (d : S) → k < length all → let s = shows (slice_index_or all k d) in
+      seats (slice_index_or all k d) × (s.number ≡ k) × (s.n ≡ length all) × ((s.ended ≡ true) ⊎ (s.stopped ≡ true))
+
+  -- for each two ranks, what one took from the other is what that one gave
+  abbrev pub AllEven : List S → Type 0
+  AllEven all = (i j : ℕ) (d : S) → i < length all → j < length all
+      → Even (shows (slice_index_or all i d)).batches i (shows (slice_index_or all j d)).batches j
+
+-- what is told of the seat's rank is what the seat shows
+pub record Agrees (t : Told) (s : Shown) : Type 0 where
+  pub ranks : length t.places ≡ s.n
+  pub within : s.number < length t.places
+  pub busy : (place t s.number).busy ≡ s.busy
+  pub colour : (place t s.number).colour ≡ s.colour
+  pub tried : (place t s.number).tried ≡ s.tried
+  pub ended : (place t s.number).ended ≡ s.ended
+
+abbrev pub AgreesIfTold : Option Told → Shown → Type 0
+AgreesIfTold None s = Unit {0}
+AgreesIfTold (Some t) s = Agrees t s

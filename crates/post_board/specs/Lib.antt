@@ -1,0 +1,9 @@
+pub mod Shown
+pub mod Told
+pub mod Deeds
+pub mod Calls
+pub mod Words
+pub mod Readings
+pub mod Fresh
+pub mod Plain
+pub mod Agreed

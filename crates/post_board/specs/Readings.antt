@@ -1,0 +1,81 @@
+-- The steps that each call makes on the words of a board, where a seat tells them. Our own.
+use Rattle.std.specs.Prelude.{All, ◌≡◌, ◌≢◌, ℕ, zero, suc, ◌+◌, ◌==◌, ◌⊎◌, false, if◌then◌else◌, List, map, [], ◌∷◌, ◌++◌, Option, Some, None}
+use Rattle.ring_core.specs.World.{is_over}
+use Rattle.ring_core.specs.Step.{is_at}
+use Rattle.ring_core.specs.declared.states.Token.{Token}
+use Rattle.ring_core.specs.declared.states.Token.TheVariants.{At, Over as TokenOver}
+use Rattle.post_board.specs.Shown.{Shown, victim_of}
+use Rattle.post_board.specs.Words.{Sign, sign, resting, asking, serving, full, fetching, emptied, token_read}
+use Rattle.post_board.specs.declared.answers.Answer.{Answer}
+use Rattle.post_board.specs.declared.answers.Answer.TheVariants.{Pending, Nothing, Work}
+use Rattle.post_board.specs.declared.answers.Ring.{Ring}
+use Rattle.post_board.specs.declared.answers.Ring.TheVariants.{Elsewhere, Here, Over}
+use Rattle.post_board.specs.declared.answers.Reading.{Reading}
+
+abbrev pub Steps : Type 1
+Steps = List Reading → Type 0
+
+-- a seat that tells its steps tells these more; one that tells none goes on so
+abbrev pub Adds : Option (List Reading) → Steps → Option (List Reading) → Type 0
+Adds None P after = after ≡ None
+Adds (Some old) P after = (more : List Reading) × P more × (after ≡ Some (old ++ more))
+
+-- a step at this word, which found this and left that
+abbrev pub Step : ℕ → (ℕ → Type 0) → (ℕ → Type 0) → Reading → Type 0
+Step word found left x = (x.word ≡ word) × found x.found × left x.left
+
+-- a word that was read and left as it was
+abbrev pub Read : ℕ → (ℕ → Type 0) → Reading → Type 0
+Read word found x = (x.word ≡ word) × found x.found × (x.left ≡ x.found)
+
+abbrev pub Is : Sign → ℕ → Type 0
+Is s word = sign word ≡ s
+
+abbrev pub One : (Reading → Type 0) → Steps
+One P steps = (x : Reading) × P x × (steps ≡ x ∷ [])
+
+abbrev pub Two : (Reading → Type 0) → (Reading → Type 0) → Steps
+Two P Q steps = (x y : Reading) × P x × Q y × (steps ≡ x ∷ y ∷ [])
+
+abbrev pub Three : (Reading → Type 0) → (Reading → Type 0) → (Reading → Type 0) → Steps
+Three P Q R steps = (x y z : Reading) × P x × Q y × R z × (steps ≡ x ∷ y ∷ z ∷ [])
+
+abbrev pub AskSteps : Shown → ℕ → Steps
+AskSteps s victim = One (Step (s.number + 1) (Is resting) (Is (asking victim)))
+
+-- still asked or taken up; refused and put to rest; filled, fetched and put to rest
+abbrev pub AnswerSteps : Shown → Answer → Steps
+AnswerSteps s Pending = One (Read (s.number + 1) (λ w. Is (asking (victim_of s)) w ⊎ Is (serving (victim_of s)) w))
+AnswerSteps s Nothing = Two (Read (s.number + 1) (Is (emptied (victim_of s)))) (Step (s.number + 1) (Is (emptied (victim_of s))) (Is resting))
+AnswerSteps s (Work batch) =
+    Three (Read (s.number + 1) (Is (full (victim_of s)))) (Step (s.number + 1) (Is (full (victim_of s))) (Is (fetching (victim_of s))))
+    (Step (s.number + 1) (Is (fetching (victim_of s))) (Is resting))
+
+-- the mailboxes of the first k ranks but this one, in order
+abbrev pub others_below : ℕ → ℕ → List ℕ
+others_below me zero = []
+others_below me (suc r) = if r == me then others_below me r else others_below me r ++ (r + 1) ∷ []
+
+-- each of these was read, and asked not this rank
+abbrev pub NoneAsked : ℕ → ℕ → Steps
+NoneAsked me k steps = (map (λ x. x.word) steps ≡ others_below me k) × All (λ x. (x.left ≡ x.found) × (sign x.found ≢ asking me)) steps
+
+abbrev pub RequestSteps : Shown → Option ℕ → Steps
+RequestSteps s None steps = NoneAsked s.number s.n steps
+RequestSteps s (Some r) steps =
+    (before : List Reading) × (x : Reading) × NoneAsked s.number r before × Step (r + 1) (Is (asking s.number)) (Is (serving s.number)) x × (steps ≡ before ++ x ∷ [])
+
+abbrev pub GiveSteps : Shown → ℕ → Steps
+GiveSteps s to = One (Step (to + 1) (Is (serving s.number)) (Is (full s.number)))
+
+abbrev pub RefuseSteps : Shown → ℕ → Steps
+RefuseSteps s to = One (Step (to + 1) (Is (serving s.number)) (Is (emptied s.number)))
+
+abbrev pub RingSteps : Shown → Ring → Steps
+RingSteps s Elsewhere = One (Read 0 (λ w. (is_at (token_read w) s.number ≡ false) × (is_over (token_read w) ≡ false)))
+RingSteps s (Here colour) = One (Read 0 (λ w. token_read w ≡ At s.number colour))
+RingSteps s Over = One (Read 0 (λ w. token_read w ≡ TokenOver))
+
+-- the token was found so and left so
+abbrev pub TokenSteps : Token → Token → Steps
+TokenSteps found left = One (Step 0 (λ w. token_read w ≡ found) (λ w. token_read w ≡ left))

@@ -1,0 +1,40 @@
+-- What the words of a board read. Word 0 is the ring, and word r + 1 the mailbox of rank r. Our own.
+use Rattle.std.specs.Prelude.{ℕ, ◌+◌, ◌-◌, ◌*◌, ◌/◌, ◌%◌, ◌==◌, if◌then◌else◌}
+use Rattle.ring_core.specs.declared.states.Colour.TheVariants.{White, Black}
+use Rattle.ring_core.specs.declared.states.Token.{Token}
+use Rattle.ring_core.specs.declared.states.Token.TheVariants.{At, Over}
+
+-- a mailbox as a word: whom it asked, who took the request up, who filled it, from whom it is being emptied, who refused
+pub data Sign : Type 0 where
+  resting : Sign
+  asking : ℕ → Sign
+  serving : ℕ → Sign
+  full : ℕ → Sign
+  fetching : ℕ → Sign
+  emptied : ℕ → Sign
+
+abbrev pub word_of : Sign → ℕ
+word_of resting = 0
+word_of (asking r) = 8 * r + 1
+word_of (serving r) = 8 * r + 2
+word_of (full r) = 8 * r + 3
+word_of (fetching r) = 8 * r + 4
+word_of (emptied r) = 8 * r + 5
+
+abbrev pub sign_by : ℕ → ℕ → Sign
+sign_by kind r =
+    if kind == 1 then asking r else if kind == 2 then serving r else if kind == 3 then full r
+    else if kind == 4 then fetching r else if kind == 5 then emptied r else resting
+
+-- what a mailbox word reads
+unfoldable pub sign : ℕ → Sign
+sign word = sign_by (word % 8) (word / 8)
+
+abbrev pub word_of_token : Token → ℕ
+word_of_token Over = 0
+word_of_token (At place White) = 2 * place + 1
+word_of_token (At place Black) = 2 * place + 2
+
+-- what the ring word reads
+unfoldable pub token_read : ℕ → Token
+token_read word = if word == 0 then Over else At ((word - 1) / 2) (if (word - 1) % 2 == 0 then White else Black)

@@ -1,0 +1,158 @@
+//! The trait of boards.
+ghost use Rattle.std.specs.Prelude.{◌-◌, ◌≡◌, ◌≢◌, ◌<◌, ◌⊎◌, Option, None, List, length, true, false, slice_index_or};
+ghost use Rattle.ring_core.specs.declared.states.Colour.TheVariants.{White, Black};
+ghost use Rattle.ring_core.specs.declared.states.Token.TheVariants.{At, Over};
+ghost use Rattle.post_board.specs.Shown.{Shown, is_served, Live, Free, is_open, is_here, token_of, mixed};
+ghost use Rattle.post_board.specs.Told.{Told};
+ghost use Rattle.post_board.specs.Deeds.{ask as asking_of, give as giving_of, refuse as refusing_of, pass as passing_of, restart as restarting_of, conclude as concluding_of, Tells, Stays};
+ghost use Rattle.post_board.specs.Calls.{asking, answered, AnswerTold, serving, Found, LookedFor, given, served, hearing, RingTold, passed, restarted, concluded, NoneOnTheWay, AllDone, AllEven, AgreesIfTold};
+ghost use Rattle.post_board.specs.Readings.{Adds, AskSteps, AnswerSteps, RequestSteps, GiveSteps, RefuseSteps, RingSteps, TokenSteps};
+ghost use Rattle.post_board.specs.declared.answers.Reading.{Reading};
+ghost use Rattle.post_board.specs.declared.answers.Ring.TheVariants.{Over as HeardOver, Elsewhere as HeardElsewhere};
+
+use crate::answers::{Answer, Gathered, Ring};
+use rank_queue::Batch;
+
+/// A board on which ranks ask each other for strings, give and refuse, and move the token, each through a seat of its own.
+/// No call takes memory, and none waits.
+pub trait Post {
+    /// What a rank keeps of the board.
+    type Seat;
+
+    // What a seat shows of its rank.
+    ghost shows: { Self.Seat → Shown };
+
+    // The steps that a seat made on the words of the board, where it tells them.
+    ghost reads: { Self.Seat → Option (List Reading) };
+
+    // The picture of the board with the batches on the way, where it tells them.
+    ghost tells: { Self → Option Told };
+
+    // The seat is one of this board's, and what it shows is so.
+    ghost seats: { Self → Self.Seat → Type 0 };
+
+    /// Asks another rank for strings, once this one has none.
+    fn ask(&mut self, seat: &mut Self::Seat, victim: u32)
+        requires seat { seats self.old seat.old }
+        requires live { Live (shows seat.old) }
+        requires free { Free (shows seat.old) }
+        requires victim { (victim < (shows seat.old).n) × (victim ≢ (shows seat.old).number) }
+        ensures shown { shows seat.new ≡ asking (shows seat.old) victim }
+        ensures told { Tells (shows seat.old).number (asking_of victim) (tells self.old) (tells self.new) }
+        ensures reads { Adds (reads seat.old) (AskSteps (shows seat.old) victim) (reads seat.new) }
+        ensures mine { seats self.new seat.new }
+        ensures others { (other : Self.Seat) → (shows other).number ≢ (shows seat.old).number → seats self.old other → seats self.new other };
+
+    /// Looks for the answer to the open request.
+    fn answer(&mut self, seat: &mut Self::Seat) -> Answer
+        requires seat { seats self.old seat.old }
+        requires live { Live (shows seat.old) }
+        requires asked { is_open (shows seat.old) ≡ true }
+        ensures shown { shows seat.new ≡ answered (shows seat.old) result }
+        ensures told { AnswerTold (shows seat.old) result (tells self.old) (tells self.new) }
+        ensures reads { Adds (reads seat.old) (AnswerSteps (shows seat.old) result) (reads seat.new) }
+        ensures mine { seats self.new seat.new }
+        ensures others { (other : Self.Seat) → (shows other).number ≢ (shows seat.old).number → seats self.old other → seats self.new other };
+
+    /// Takes up the first request to this rank, in the order of ranks, that it has not taken up yet.
+    fn next_request(&mut self, seat: &mut Self::Seat) -> Option<u32>
+        requires seat { seats self.old seat.old }
+        requires live { Live (shows seat.old) }
+        ensures found { Found (shows seat.old) result }
+        ensures shown { shows seat.new ≡ serving (shows seat.old) result }
+        ensures told { Stays (LookedFor (shows seat.old) result) (tells self.old) (tells self.new) }
+        ensures reads { Adds (reads seat.old) (RequestSteps (shows seat.old) result) (reads seat.new) }
+        ensures mine { seats self.new seat.new }
+        ensures others { (other : Self.Seat) → (shows other).number ≢ (shows seat.old).number → seats self.old other → seats self.new other };
+
+    /// Gives strings to a rank whose request was taken up.
+    fn give(&mut self, seat: &mut Self::Seat, to: u32, batch: Batch)
+        requires seat { seats self.old seat.old }
+        requires live { Live (shows seat.old) }
+        requires served { is_served (shows seat.old) to ≡ true }
+        requires busy { (shows seat.old).busy ≡ true }
+        requires some { 0 < length batch }
+        ensures shown { shows seat.new ≡ given (shows seat.old) to batch }
+        ensures told { Tells (shows seat.old).number (giving_of to batch) (tells self.old) (tells self.new) }
+        ensures reads { Adds (reads seat.old) (GiveSteps (shows seat.old) to) (reads seat.new) }
+        ensures mine { seats self.new seat.new }
+        ensures others { (other : Self.Seat) → (shows other).number ≢ (shows seat.old).number → seats self.old other → seats self.new other };
+
+    /// Tells a rank whose request was taken up that there is nothing for it.
+    fn refuse(&mut self, seat: &mut Self::Seat, to: u32)
+        requires seat { seats self.old seat.old }
+        requires live { Live (shows seat.old) }
+        requires served { is_served (shows seat.old) to ≡ true }
+        ensures shown { shows seat.new ≡ served (shows seat.old) to }
+        ensures told { Tells (shows seat.old).number (refusing_of to) (tells self.old) (tells self.new) }
+        ensures reads { Adds (reads seat.old) (RefuseSteps (shows seat.old) to) (reads seat.new) }
+        ensures mine { seats self.new seat.new }
+        ensures others { (other : Self.Seat) → (shows other).number ≢ (shows seat.old).number → seats self.old other → seats self.new other };
+
+    /// Looks where the token is. A rank that sees the end has no strings.
+    fn ring(&mut self, seat: &mut Self::Seat) -> Ring
+        requires seat { seats self.old seat.old }
+        requires live { Live (shows seat.old) }
+        ensures shown { shows seat.new ≡ hearing (shows seat.old) result }
+        ensures over { result ≡ HeardOver → (shows seat.old).busy ≡ false }
+        ensures elsewhere { result ≡ HeardElsewhere → 1 < (shows seat.old).n }
+        ensures told { RingTold (shows seat.old) result (tells self.old) (tells self.new) }
+        ensures reads { Adds (reads seat.old) (RingSteps (shows seat.old) result) (reads seat.new) }
+        ensures mine { seats self.new seat.new }
+        ensures others { (other : Self.Seat) → (shows other).number ≢ (shows seat.old).number → seats self.old other → seats self.new other };
+
+    /// Passes the token to the rank below, black where this rank is or the token was.
+    fn pass(&mut self, seat: &mut Self::Seat)
+        requires seat { seats self.old seat.old }
+        requires live { Live (shows seat.old) }
+        requires free { Free (shows seat.old) }
+        requires here { is_here (shows seat.old) ≡ true }
+        requires tried { (shows seat.old).tried ≡ true }
+        requires above { 0 < (shows seat.old).number }
+        ensures shown { shows seat.new ≡ passed (shows seat.old) }
+        ensures told { Tells (shows seat.old).number (passing_of (mixed (shows seat.old))) (tells self.old) (tells self.new) }
+        ensures reads { Adds (reads seat.old) (TokenSteps (At (shows seat.old).number (token_of (shows seat.old))) (At ((shows seat.old).number - 1) (mixed (shows seat.old)))) (reads seat.new) }
+        ensures mine { seats self.new seat.new }
+        ensures others { (other : Self.Seat) → (shows other).number ≢ (shows seat.old).number → seats self.old other → seats self.new other };
+
+    /// Sends the token round once more, white.
+    fn restart(&mut self, seat: &mut Self::Seat)
+        requires seat { seats self.old seat.old }
+        requires live { Live (shows seat.old) }
+        requires free { Free (shows seat.old) }
+        requires here { is_here (shows seat.old) ≡ true }
+        requires tried { ((shows seat.old).n ≡ 1) ⊎ ((shows seat.old).tried ≡ true) }
+        requires first { (shows seat.old).number ≡ 0 }
+        requires black { mixed (shows seat.old) ≡ Black }
+        ensures shown { shows seat.new ≡ restarted (shows seat.old) }
+        ensures told { Tells (shows seat.old).number restarting_of (tells self.old) (tells self.new) }
+        ensures reads { Adds (reads seat.old) (TokenSteps (At (shows seat.old).number (token_of (shows seat.old))) (At ((shows seat.old).n - 1) White)) (reads seat.new) }
+        ensures mine { seats self.new seat.new }
+        ensures others { (other : Self.Seat) → (shows other).number ≢ (shows seat.old).number → seats self.old other → seats self.new other };
+
+    /// Ends the run: the token came back white to a white rank.
+    fn conclude(&mut self, seat: &mut Self::Seat)
+        requires seat { seats self.old seat.old }
+        requires live { Live (shows seat.old) }
+        requires free { Free (shows seat.old) }
+        requires here { is_here (shows seat.old) ≡ true }
+        requires tried { ((shows seat.old).n ≡ 1) ⊎ ((shows seat.old).tried ≡ true) }
+        requires first { (shows seat.old).number ≡ 0 }
+        requires white { mixed (shows seat.old) ≡ White }
+        ensures shown { shows seat.new ≡ concluded (shows seat.old) }
+        ensures told { Tells (shows seat.old).number concluding_of (tells self.old) (tells self.new) }
+        ensures reads { Adds (reads seat.old) (TokenSteps (At (shows seat.old).number White) Over) (reads seat.new) }
+        ensures mine { seats self.new seat.new }
+        ensures others { (other : Self.Seat) → (shows other).number ≢ (shows seat.old).number → seats self.old other → seats self.new other };
+
+    /// Takes the seats of all ranks, in ascending number, when each has ended or stopped.
+    fn gather(&mut self, all: Vec<Self::Seat>) -> Gathered
+        requires some { 0 < length all.items }
+        requires all { AllDone shows (seats self.old) all.items }
+        ensures over { (d : Self.Seat) → result.over ≡ (shows (slice_index_or all.items 0 d)).ended }
+        ensures told { Stays NoneOnTheWay (tells self.old) (tells self.new) }
+        ensures batches { AllEven shows (seats self.old) all.items };
+
+    // What the board tells of a seat's rank is what the seat shows.
+    ghost agrees: { (b : Self) (s : Self.Seat) → seats b s → AgreesIfTold (tells b) (shows s) };
+}
