@@ -13,28 +13,84 @@
 //! A contract sees a job as its *log*: the strings that it handled, in order, each with the strings pushed for it. Beside it
 //! a job has *plain data*, which no handling changes, so that a caller knows its jobs again.
 //!
-//! Proved, whatever the job does: the run is *balanced*. Each string was handled or is left as often as it was a start or was
-//! pushed ([`balance_is_as_often`]), so no string is lost and none is handled twice. Nothing is left unless the run was to
-//! stop. The jobs come back in their order with their plain data, and what a share counts is what its job's log holds. Only
-//! memory can fail. That a run ends is not proved: a job may push for ever.
+//! A [`Rank`] is the work of one rank with those of others: it takes turns at a board, where ranks ask each other for strings
+//! and pass a token that finds the end, and at sums, where they add up what they handled. It knows both by the contracts of
+//! `Post` and `Sums` alone. In a [`Rank::turn`]:
 //!
-//! For now one rank runs, on the calling thread, without a stop. The clauses of [`begin`] name no rank, and stay as they are
-//! when more of them run.
+//! ```text
+//! is all over? ──> serve all that ask ──> the first of these that applies: handle the newest string;
+//!                  (the oldest strings)   look for the answer to a request; move the token; ask by lot
+//! ```
 //!
-//! `specs/Balance.antt` has the definitions.
+//! Then the rank counts what it handled. After the end a turn asks for the final sum.
+//!
+//! Proved of a turn, whatever the job, the board and the sums do, unless the rank found no memory: it is moves of a turn, that
+//! is, a service and then at most one move, or that it saw the end. The moves lead from its queue, log, drawn words and what
+//! the board tells to those after the turn, with the amounts of the split, the victims of the lot and nobody left that asks;
+//! its events, where they are kept, and its share are those of the moves. It waits only for an answer or for a final sum. What
+//! it counts at the sums is what its log holds. The numbers of progress are each at least 1,000 above the one before, none of
+//! those that it was shown is passed over, and the last is the final sum. A rank that found no memory has no string and goes on
+//! to the end. By construction and not proved: a rank with ranks below it at the sums shows their counts in each turn before
+//! its end.
+//!
+//! A [`Host`] has ranks and gives each that is not done a turn, in rounds and in ascending order, until all are done. Proved:
+//! the ranks come back in their order, each has seen the end and knows the final sum, and plain data are as before. Over a
+//! board that tells its places, where the host has all ranks and none was refused memory, their turns are played one behind the
+//! other, and each share counts what its rank's moves say.
+//!
+//! Proved of [`begin`], whatever the job does: the run is *balanced*. Each string was handled or is left as often as it was a
+//! start or was pushed ([`balance_is_as_often`]), so no string is lost and none is handled twice. Nothing is left unless the
+//! run was to stop. The jobs come back in their order with their plain data, and what a share counts is what its job's log
+//! holds; what all ranks gave all ranks took. With a trace the events are those of a whole run: `IsTraced` in
+//! `specs/Traced.antt` says what that is, and the shares are what the events say. The numbers of progress are each at least
+//! 1,000 above the one before it, and at last comes the number of strings handled in all. Only memory can fail. That a run
+//! ends is not proved: a job may push for ever.
+//!
+//! What is proved of a run rests on laws over its moves. What a rank does is a *move*: it handles a string, answers those that
+//! ask it, or asks, takes or moves the token. Moves lead from *stage* to stage, which is what each rank has and what
+//! the board tells. Whoever makes the moves, in whatever order, from the deal of the starts on:
+//!
+//! - their events are a legal run of the world of `ring_core`, to the world of the stage ([`moves_are_legal_run`]);
+//! - the run is balanced at each stage, over the logs, the queues and the mailboxes ([`moves_are_balanced`]);
+//! - where a rank has seen the end, nothing waits anywhere ([`nothing_waits_at_end`]);
+//! - what was given was taken or lies in a mailbox ([`given_is_taken_or_mailed`]);
+//! - a log is what its rank handled, in order, and the events tell the same ([`logs_are_handled`]);
+//! - a rank handles a string only while no other asks it ([`moves_answer_first`]);
+//! - where the ranks have their turns in rounds, the run is fair ([`rounds_are_fair`]).
+//!
+//! By now all ranks run on the calling thread, over `PlainBoard` and `PlainSums`, and without a stop. The clauses of [`begin`]
+//! name no board and no sums, and all that it calls knows these two by the contracts of `Post` and `Sums`.
+//!
+//! `specs/Balance.antt` has the definitions of a balance, `specs/Moves.antt` those of a rank's moves, `specs/Ready.antt` what
+//! holds of a rank between two turns and what a turn comes to; `specs/Stages.antt` has the runs of all ranks,
+//! `specs/Worlds.antt`, `Waiting.antt`, `Shares.antt` and `Fair.antt` what the laws say of them, `specs/Hosts.antt` what rounds
+//! come to, and `specs/Traced.antt` what a trace and the numbers of progress are.
 #![tactic(auto)]
 
+mod books;
 mod errors;
+mod hosts;
 mod jobs;
 mod laws;
+mod lots;
 mod outcomes;
+mod parts;
+mod ranks;
 mod running;
+mod serving;
 mod settings;
+mod steps;
+mod turns;
 
 pub use errors::CircleError;
+pub use hosts::Host;
 pub use jobs::Job;
-pub use laws::balance_is_as_often;
+pub use laws::{
+    balance_is_as_often, given_is_taken_or_mailed, logs_are_handled, moves_answer_first,
+    moves_are_balanced, moves_are_legal_run, nothing_waits_at_end, rounds_are_fair,
+};
 pub use outcomes::{Finished, Share};
+pub use ranks::{Rank, Turn};
 pub use running::begin;
 pub use settings::{Options, Split};
 

@@ -1,5 +1,6 @@
 //! What a run leaves.
 use path_text::Path;
+use ring_core::Event;
 
 /// How many strings a rank handled, gave to others and took from others. A count stops at the greatest value of its type.
 #[derive(Clone, Copy, Debug, Drop, PartialEq, Eq)]
@@ -21,4 +22,8 @@ pub struct Finished<J> {
     pub left: Vec<Vec<Path>>,
     /// What each rank did.
     pub shares: Vec<Share>,
+    /// The events of the run, in order, where they were to be kept. Not by rank.
+    pub events: Vec<Event>,
+    /// The numbers of progress: how many strings had been handled at some moments, and at last how many in all. Not by rank.
+    pub sums: Vec<u64>,
 }

@@ -1,18 +1,26 @@
 //! A run from its starts to its end.
-ghost use Rattle.std.specs.Prelude.{◌≡◌, ◌-◌, ◌^◌, ◌≤◌, ◌⊎◌, [], map, min, length, sum_by, All, Any, OnOk, IfOk, IfSome, None, false};
-ghost use Rattle.std.specs.List.{flat_map};
+ghost use Rattle.std.specs.Prelude.{◌≡◌, ℕ, ◌-◌, ◌^◌, ◌<◌, ◌≤◌, ◌⊎◌, [], map, min, length, sum_by, All, Any, OnOk, IfOk, IfSome, Some, None, true, false, slice_index_or};
+ghost use Rattle.std.specs.List.{flat_map, range_with_len};
+ghost use Rattle.post_board.specs.Fresh.{fresh_told, AllFresh};
+ghost use Rattle.sum_tree.specs.Plain.{fresh};
 ghost use Rattle.circle_run.specs.Balance.{Balanced};
 ghost use Rattle.circle_run.specs.Left.{all_left};
+ghost use Rattle.circle_run.specs.Traced.{IsTraced, share_in, IsProgress};
+ghost use Rattle.circle_run.specs.Outcomes.{IsOutcome};
 
 use crate::errors::CircleError;
+use crate::hosts::Host;
 use crate::jobs::Job;
-use crate::outcomes::{Finished, Share};
+use crate::laws::{nothing_waits_at_end, rounds_are_fair};
+use crate::outcomes::Finished;
+use crate::parts::{Parts, deal, new_ranks};
 use crate::settings::Options;
 use path_text::{OutOfMemory, Path};
-use rank_queue::{Batch, RankQueue};
+use post_board::{PlainBoard, Post, deeds_keep_sound};
 use std::alloc::Global;
 use std::sync::Wait;
 use std::thread::Threads;
+use sum_tree::{PlainSums, Sums};
 
 /// Deals the starts to the ranks, whose jobs handle them and all strings that are pushed, and gives the jobs back.
 pub fn begin<R: Threads + Wait + Sync, J: Job + Send + Drop>(
@@ -22,10 +30,9 @@ pub fn begin<R: Threads + Wait + Sync, J: Job + Send + Drop>(
     starts: Vec<Path>,
     jobs: Vec<J>,
 ) -> Result<Finished<J>, CircleError>
-    requires ranks { options.now.ranks ≡ 1 }
+    requires ranks { (1 ≤ options.now.ranks) × (options.now.ranks ≤ 64) }
     requires hosts { options.now.hosts ≡ 1 }
     requires width { (2 ≤ options.now.width) × (options.now.width ≤ 64) }
-    requires trace { options.now.trace ≡ false }
     requires stop_after { options.now.stop_after ≡ None }
     requires jobs { length jobs.items ≡ options.now.ranks }
     requires unused { All (λ job. J.log job ≡ []) jobs.items }
@@ -44,56 +51,65 @@ pub fn begin<R: Threads + Wait + Sync, J: Job + Send + Drop>(
     ensures lists { IfOk result (λ f. length f.left.items ≡ length jobs.items) }
     ensures shares { IfOk result (λ f. map (λ s. s.handled) f.shares.items ≡ map (λ job. min (length (J.log job)) (2 ^ 64 - 1)) f.jobs.items) }
     ensures moved { IfOk result (λ f. min (sum_by (λ s. s.given) f.shares.items) (2 ^ 128 - 1) ≡ min (sum_by (λ s. s.taken) f.shares.items) (2 ^ 128 - 1)) }
+
+    // With a trace: the events are those of a whole run, and the shares are what they say. Without one none is kept.
+    ensures traced { IfOk result (λ f. options.now.trace ≡ true → IsTraced options.now starts.items (map J.log f.jobs.items) f.events.items) }
+    ensures untraced { IfOk result (λ f. options.now.trace ≡ false → f.events.items ≡ []) }
+    ensures counts { IfOk result (λ f. options.now.trace ≡ true → f.shares.items ≡ map (share_in f.events.items) (range_with_len 0 options.now.ranks)) }
+    ensures progress { IfOk result (λ f. IsProgress (map (λ job. length (J.log job)) f.jobs.items) f.sums.items) }
 {
-    let mut jobs = jobs;
-    let mut left = Vec::with_capacity(alloc, 1)?;
-    let mut shares = Vec::with_capacity(alloc, 1)?;
-    let mut queue = deal(alloc, starts)?;
-    let handled = work_off(rt, alloc, &mut jobs[0], &mut queue)?;
-    left.push(queue.into_list())?;
-    shares.push(Share {
-        handled,
-        given: 0,
-        taken: 0,
-    })?;
-    Ok(Finished { jobs, left, shares })
+    let (mut post, seats) = PlainBoard::make(alloc, options.ranks)?;
+    let (mut sums, sums_seats) = PlainSums::make(alloc, options.ranks, options.width)?;
+    Ok(run_whole(
+        rt, alloc, options, starts, jobs, &mut post, seats, &mut sums, sums_seats,
+    )?)
 }
 
-// All starts in one queue, the last of them newest.
-fn deal(alloc: Global, starts: Vec<Path>) -> Result<RankQueue, OutOfMemory>
-    ensures { IfOk result (λ queue. queue ≡ starts.items) }
-{
-    let mut dealt = Batch::make(alloc);
-    for path in starts {
-        dealt.push(path)?;
-    }
-    let mut queue = RankQueue::make(alloc);
-    queue.push_all(&mut dealt)?;
-    Ok(queue)
-}
-
-// Handles the newest string until none is left, and counts them.
-fn work_off<R: Wait, J: Job>(
+// A whole run over this board and these sums, which are unused.
+fn run_whole<R: Wait, J: Job + Drop, S: Drop, T: Drop, P: Post<Seat = S>, Q: Sums<Seat = T>>(
     rt: &R,
     alloc: Global,
-    job: &mut J,
-    queue: &mut RankQueue,
-) -> Result<u64, OutOfMemory>
-    requires unused { J.log job.old ≡ [] }
-    ensures balance { OnOk result (Balanced (J.log job.new) queue.new queue.old) }
-    ensures whole { OnOk result (queue.new ≡ []) }
-    ensures plain { J.plain job.new ≡ J.plain job.old }
-    ensures count { IfOk result (λ n. n ≡ min (length (J.log job.new)) (2 ^ 64 - 1)) }
+    options: &Options,
+    starts: Vec<Path>,
+    jobs: Vec<J>,
+    post: &mut P,
+    seats: Vec<S>,
+    sums: &mut Q,
+    sums_seats: Vec<T>,
+) -> Result<Finished<J>, OutOfMemory>
+    requires ranks { (1 ≤ options.now.ranks) × (options.now.ranks ≤ 64) }
+    requires width { options.now.width ≤ 64 }
+    requires jobs { length jobs.items ≡ options.now.ranks }
+    requires unused { All (λ job. J.log job ≡ []) jobs.items }
+    requires told { P.tells post.old ≡ Some (fresh_told options.now.ranks) }
+    requires seats { AllFresh P.shows (P.seats post.old) options.now.ranks None seats.items }
+    requires sums_shown { map Q.shows sums_seats.items ≡ map (fresh options.now.ranks options.now.width) (range_with_len 0 options.now.ranks) }
+    requires sums_seats { (k : ℕ) (d : T) → k < options.now.ranks → Q.seats sums.old (slice_index_or sums_seats.items k d) }
+    ensures { IfOk result (λ f. IsOutcome J.log J.plain options.now starts.items jobs.items f) }
 {
-    let mut fresh = Batch::make(alloc);
-    let mut handled: u64 = 0;
-    for _ in rt.forever() {
-        let Some(path) = queue.take() else {
-            return Ok(handled);
-        };
-        job.handle(&path, queue.len() as u64, &mut fresh)?;
-        queue.push_all(&mut fresh)?;
-        handled = handled.saturating_add(1);
-    }
-    unreachable!()
+    nothing_waits_at_end();
+    rounds_are_fair();
+    deeds_keep_sound();
+    let queues = deal(alloc, options.ranks, starts)?;
+    let ranks = new_ranks(alloc, options, jobs, seats, sums_seats, queues)?;
+    let mut events = Vec::new(alloc);
+    let ranks = Host::make(ranks).run_traced(rt, post, sums, &mut events)?;
+    let parts = Parts::of(alloc, ranks)?;
+    let Parts {
+        jobs,
+        seats,
+        sums_seats,
+        left,
+        shares,
+        numbers,
+    } = parts;
+    post.gather(seats);
+    sums.gather(sums_seats);
+    Ok(Finished {
+        jobs,
+        left,
+        shares,
+        events,
+        sums: numbers,
+    })
 }

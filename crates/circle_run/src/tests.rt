@@ -1,22 +1,50 @@
 //! Runs over a table of children.
-ghost use Rattle.std.specs.Prelude.{◌≡◌, [], IfOk};
+ghost use Rattle.std.specs.Prelude.{◌≡◌, ◌≤◌, [], length, All, IfOk};
 
 use crate::{CircleError, Finished, Job, Options, Split, begin};
 use path_text::{OutOfMemory, Path};
 use rank_queue::Batch;
+use ring_core::{Verdict, check_run, put_event};
 use std::alloc::Global;
 use std::process::Abort;
 use std::sync::Wait;
 use std::test::Fail;
 use std::thread::Threads;
 
-const CHILDREN: [(&str, &str); 5] = [
+const CHILDREN: [(&str, &str); 7] = [
     ("/b", "/b/x"),
     ("/b", "/b/y"),
     ("/b/y", "/b/y/z"),
     ("/a", "/a/x"),
     ("/bad", "/bad/x"),
+    ("/u", "/u/a"),
+    ("/u", "/u/b"),
 ];
+
+// Two ranks, of which rank 0 begins with `/u`.
+const TRACE: &str = "\
+handle 0 2 /u
+ask 1 0
+give 0 1 1
+handle 0 0 /u/b
+take 1 0 1
+ask 0 1
+refuse 1 0
+handle 1 0 /u/a
+none 0 1
+ask 1 0
+refuse 0 1
+restart 0
+none 1 0
+ask 0 1
+refuse 1 0
+pass 1 white
+none 0 1
+ask 1 0
+refuse 0 1
+conclude 0
+over 1
+";
 
 // A string that was handled.
 #[derive(Drop)]
@@ -89,27 +117,40 @@ fn put_children(alloc: Global, item: &Path, fresh: &mut Batch) -> Result<Vec<Pat
     Ok(pushed)
 }
 
+fn families(alloc: Global, count: u32) -> Result<Vec<Family>, OutOfMemory>
+    ensures count { IfOk result (λ jobs. length jobs.items ≡ count) }
+    ensures unused { IfOk result (λ jobs. All (λ f. f.steps.items ≡ []) jobs.items) }
+{
+    let mut jobs = Vec::new(alloc);
+    while jobs.len() < count as usize {
+        let steps = Vec::new(alloc);
+        jobs.push(Family { alloc, steps })?;
+    }
+    Ok(jobs)
+}
+
 fn ran<R: Threads + Wait + Sync + Abort + AllocGlobal>(
     rt: &R,
+    ranks: u32,
+    split: Split,
+    seed: u64,
     texts: &[&str],
-) -> Result<Finished<Family>, CircleError> {
+) -> Result<Finished<Family>, CircleError>
+    requires { (1 ≤ ranks) × (ranks ≤ 64) }
+{
     let alloc = rt.alloc();
     let mut starts = Vec::new(alloc);
     for text in texts {
         starts.push(Path::parse(alloc, text).expect(rt, "a path"))?;
     }
-    let mut jobs = Vec::new(alloc);
-    jobs.push(Family {
-        alloc,
-        steps: Vec::new(alloc),
-    })?;
+    let jobs = families(alloc, ranks)?;
     let options = Options {
-        ranks: 1,
+        ranks,
         hosts: 1,
-        split: Split::Equal,
-        seed: 0,
+        split,
+        seed,
         width: 2,
-        trace: false,
+        trace: true,
         stop_after: None,
     };
     begin(rt, alloc, &options, starts, jobs)
@@ -117,7 +158,7 @@ fn ran<R: Threads + Wait + Sync + Abort + AllocGlobal>(
 
 #[test]
 fn the_newest_string_is_handled_first(rt: HostRuntime) -> Result<(), Fail> {
-    let finished = ran(&rt, &["/a", "/b"])?;
+    let finished = ran(&rt, 1, Split::Equal, 0, &["/a", "/b"])?;
     let handled = [
         ("/b", 1),
         ("/b/y", 2),
@@ -133,23 +174,77 @@ fn the_newest_string_is_handled_first(rt: HostRuntime) -> Result<(), Fail> {
         assert_eq!(rt; step.item.text(), text);
         assert_eq!(rt; step.waiting, waiting, "{text}");
     }
-    assert_eq!(rt; finished.shares.len(), 1);
-    let share = finished.shares[0];
-    assert_eq!(rt; (share.handled, share.given, share.taken), (6, 0, 0));
+    assert_eq!(rt; finished.sums.as_slice(), [6].as_slice());
+    Ok(())
+}
+
+#[test]
+fn two_ranks_share_one_start(rt: HostRuntime) -> Result<(), Fail> {
+    let finished = ran(&rt, 2, Split::Equal, 0, &["/u"])?;
+    let mut text = Vec::new(rt.alloc());
+    for event in &finished.events {
+        put_event(&mut text, event)?;
+    }
+    assert_eq!(rt; text.as_slice(), TRACE.as_bytes());
+    let shares = finished.shares.as_slice();
+    assert_eq!(rt; shares.len(), 2);
+    assert_eq!(rt;
+        (shares[0].handled, shares[0].given, shares[0].taken),
+        (2, 1, 0)
+    );
+    assert_eq!(rt;
+        (shares[1].handled, shares[1].given, shares[1].taken),
+        (1, 0, 1)
+    );
+    assert_eq!(rt; finished.sums.as_slice(), [3].as_slice());
+    Ok(())
+}
+
+// The nine strings of three starts, whatever the ranks, the split and the seed.
+#[test]
+fn each_trace_is_a_run_to_the_end(rt: HostRuntime) -> Result<(), Fail> {
+    for ranks in 1..6 {
+        for split in [Split::Equal, Split::Random] {
+            for seed in [1, 7] {
+                replay(&rt, ranks, split, seed)?;
+            }
+        }
+    }
+    replay(&rt, 64, Split::Random, 3)
+}
+
+fn replay<R: Threads + Wait + Sync + Abort + AllocGlobal>(
+    rt: &R,
+    ranks: u32,
+    split: Split,
+    seed: u64,
+) -> Result<(), Fail>
+    requires { (1 ≤ ranks) × (ranks ≤ 64) }
+{
+    let finished = ran(rt, ranks, split, seed, &["/a", "/b", "/u"])?;
+    let whole = Verdict {
+        over: true,
+        queued: 0,
+        on_way: 0,
+        handled: 9,
+    };
+    assert_eq!(rt; check_run(rt.alloc(), &finished.events, ranks, 3)?, whole);
     Ok(())
 }
 
 #[test]
 fn without_a_start_nothing_is_handled(rt: HostRuntime) -> Result<(), Fail> {
-    let finished = ran(&rt, &[])?;
-    assert_eq!(rt; finished.jobs.len(), 1);
+    let finished = ran(&rt, 3, Split::Equal, 0, &[])?;
+    assert_eq!(rt; finished.jobs.len(), 3);
     assert!(rt; finished.jobs[0].steps.is_empty());
-    assert_eq!(rt; finished.left.len(), 1);
-    assert!(rt; finished.left[0].is_empty());
+    assert_eq!(rt; finished.left.len(), 3);
+    assert_eq!(rt; finished.sums.as_slice(), [0].as_slice());
     Ok(())
 }
 
 #[test]
 fn a_job_that_finds_no_memory_ends_the_run(rt: HostRuntime) {
-    assert!(rt; ran(&rt, &["/bad", "/a"]).err() == Some(CircleError::OutOfMemory));
+    assert!(rt;
+        ran(&rt, 2, Split::Equal, 0, &["/bad", "/a"]).err() == Some(CircleError::OutOfMemory)
+    );
 }

@@ -1,0 +1,228 @@
+-- What a whole run leaves.
+use Rattle.std.proofs.Common.{◌≡◌, ◌≢◌, ℕ, zero, suc, ◌+◌, ◌-◌, ◌^◌, ◌<◌, ◌≤◌, ◌⊎◌, inl, inr, rules, min, refl, sym, subst, ap, ◌∙◌, arith, Bool, true, false, cond, List, [], ◌∷◌, ◌++◌, map, length, get_or, Option, Some, None, Vec}
+use Rattle.std.specs.Prelude.{sum, All, IsSome}
+use Rattle.std.proofs.lemmas.List.{length-map, get_or-map, get_or_default}
+use Rattle.std.proofs.lemmas.Simd.{map-map}
+use Rattle.std.proofs.lemmas.List.Elements.{All-get_or}
+use Rattle.std.proofs.lemmas.List.Folds.{flat_map-map}
+use Rattle.std.proofs.lemmas.List.Sums.{sum-map}
+use Rattle.std.specs.List.{flat_map, range_with_len, sum_by}
+use Rattle.ring_core.specs.declared.events.Event.{Event}
+use Rattle.ring_core.specs.declared.states.Token.TheVariants.{Over}
+use Rattle.ring_core.specs.World.{started}
+use Rattle.post_board.specs.Shown.{Strings, Shown}
+use Rattle.post_board.specs.Told.{Told, place}
+use Rattle.post_board.specs.Deeds.{DeedsKeepSound}
+use Rattle.post_board.specs.Fresh.{fresh_told}
+use Rattle.post_board.specs.Calls.{AgreesIfTold, AllDone}
+use Rattle.sum_tree.specs.Shown.{SumShown, AllFinished}
+use Rattle.circle_run.specs.Balance.{Log, Balanced}
+use Rattle.circle_run.specs.Left.{all_left}
+use Rattle.circle_run.specs.Moves.{Move}
+use Rattle.circle_run.specs.Stages.{RankSide, Stage, no_side, Plays, events_of_all, begun}
+use Rattle.circle_run.specs.Waiting.{NothingWaits, NothingWaitsAtEnd, all_logged, all_mailed}
+use Rattle.circle_run.specs.Shares.{handled_in, moves_of, handled_by, given_by, taken_by}
+use Rattle.circle_run.specs.Fair.{PlaysTurns, moves_of_turns, RoundsAreFair, IsFair, AnswersFirst}
+use Rattle.circle_run.specs.Books.{counted}
+use Rattle.circle_run.specs.Progress.{Rises, Thousands, newest, KeptOf, KeptAll}
+use Rattle.circle_run.specs.Hosts.{events_by, NoneWrote, AreAll, Same, AllEnded, rank_of, stage_of, Ran, KeptInOrder}
+use Rattle.circle_run.specs.Traced.{IsTraced, share_in, IsProgress}
+use Rattle.circle_run.specs.Outcomes.{AreNew, ArePartsOf, IsOutcome}
+use Rattle.circle_run.specs.declared.outcomes.Share.{Share}
+use Rattle.circle_run.specs.declared.outcomes.Finished.{Finished}
+use Rattle.circle_run.specs.declared.settings.Options.{Options}
+use Rattle.circle_run.specs.declared.ranks.Rank.{Rank}
+use Rattle.circle_run.proofs.Runs.{moves_are_legal_run}
+use Rattle.circle_run.proofs.Totals.{nothing_mailed, all_is_handled, given_is_taken_or_mailed}
+use Rattle.circle_run.proofs.Logs.{logs_are_handled}
+use Rattle.circle_run.proofs.Fairness.{turns_are_played}
+use Rattle.circle_run.proofs.Prompt.{moves_answer_first}
+use Rattle.circle_run.proofs.Rounds.{same_all}
+use Rattle.circle_run.proofs.Sounding.{plays_sound, begun_sound}
+use Rattle.circle_run.proofs.Counting.{capped, share_told, share_counts}
+use Rattle.circle_run.proofs.Maps.{map_is, map_same, map_each, flat_none, flat_first, sum_by-map, some_of, sum_same, capped_sum}
+use Rattle.circle_run.proofs.Beginning.{Begins}
+
+-- what is known of a run at its end, as a run of moves
+record Ended (o : Options) (starts : Strings) (moves : List (ℕ × Move)) (last : Stage) : Type 0 where
+  plays : Plays o moves (begun o starts) last
+  ended : (r : ℕ) → r < o.ranks → (place last.told r).ended ≡ true
+  nothing : NothingWaits last
+  over : last.told.token ≡ Over
+  fair : IsFair (started o.ranks (length starts)) (events_of_all moves)
+
+abbrev given : Share → ℕ
+given s = s.given
+
+abbrev taken : Share → ℕ
+taken s = s.taken
+
+some_from : (a : Option ℕ) → a ≢ None → IsSome a
+some_from None ne = absurd (ne refl)
+some_from (Some x) ne = search rules
+
+module _ {J S T P Q D : Type 0} (log : J → Log) (plain : J → D) (shows : S → Shown) (tells : P → Option Told) (seats : P → S → Type 0) (sums_shows : T → SumShown) (sums_seats : Q → T → Type 0) where
+  abbrev logged : Rank J S T → Log
+  logged r = log r.job
+
+  -- a run of turns at its end
+  at_end : (o : Options) (starts : Strings) (ranks : List (Rank J S T)) (p : P) (q : Q) (turns : List (List Move)) (told : Told) → NothingWaitsAtEnd → RoundsAreFair → DeedsKeepSound
+      → ((b : P) (s : S) → seats b s → AgreesIfTold (tells b) (shows s)) → 1 ≤ o.ranks → AreAll o ranks → AllEnded log shows seats sums_shows sums_seats ranks p q → tells p ≡ Some told
+      → PlaysTurns o 0 turns (begun o starts) (stage_of log tells ranks told) → Ended o starts (moves_of_turns o.ranks 0 turns) (stage_of log tells ranks told)
+  at_end o starts ranks p q turns told nothing fair sound agrees some all done after played =
+      let last : Stage = stage_of log tells ranks told in
+      let moves : List (ℕ × Move) = moves_of_turns o.ranks 0 turns in
+      let plays : Plays o moves (begun o starts) last = turns_are_played o turns (begun o starts) last played in
+      let d : Rank J S T = some_of ranks (omega (arith, all.count, some)) in
+      let ended : (r : ℕ) → r < o.ranks → (place told r).ended ≡ true =
+      λ r below. (let inside : r < length ranks = omega (arith, all.count, below) in
+      let x = done r d inside in
+      let knows = x.ready.knows in
+      let a = subst (λ (u : Option Told). AgreesIfTold u (shows (get_or ranks r d).seat)) after (agrees p (get_or ranks r d).seat x.ready.mine) in
+      ap (λ (k : ℕ). (place told k).ended) (sym (knows.number ∙ (all.each r d inside).0)) ∙ a.ended ∙ knows.ended ∙ (x.over refl).0) in
+      record {
+        plays = plays;
+        ended = ended;
+        nothing = nothing o starts moves last 0 plays (ended 0 (omega (arith, some)));
+        over = (plays_sound sound o moves (begun o starts) last plays (begun_sound o.ranks some)).sane.over 0 (ended 0 (omega (arith, some)));
+        fair = fair o starts turns last (omega (arith, some)) played;
+      }
+
+  -- the shares, rank by rank
+  record Shared (o : Options) (moves : List (ℕ × Move)) (ranks : List (Rank J S T)) : Type 0 where
+    each : (k : ℕ) (d : Rank J S T) → k < length ranks → (get_or ranks k d).book.share ≡ capped (handled_by k moves) (given_by k moves) (taken_by k moves)
+    told : (k : ℕ) (d : Rank J S T) → k < length ranks → (get_or ranks k d).book.share ≡ share_in (events_of_all moves) k
+    handled : (k : ℕ) (d : Rank J S T) → k < length ranks → handled_by k moves ≡ length (logged (get_or ranks k d))
+
+  shared : (o : Options) (starts : Strings) (moves : List (ℕ × Move)) (ranks0 ranks : List (Rank J S T)) (told : Told) → length ranks ≡ length ranks0
+      → ((k : ℕ) (d : Rank J S T) → k < length ranks0 → (get_or ranks0 k d).book.share ≡ capped 0 0 0)
+      → ((k : ℕ) (d : Rank J S T) → k < length ranks0 → (get_or ranks k d).book.share ≡ counted (events_by k moves) (get_or ranks0 k d).book.share)
+      → Plays o moves (begun o starts) (stage_of log tells ranks told) → Shared o moves ranks
+  shared o starts moves ranks0 ranks told count none shares plays =
+      let last : Stage = stage_of log tells ranks told in
+      record {
+        each = λ k d h. (let w : k < length ranks0 = omega (arith, count, h) in
+            shares k d w ∙ share_counts o k moves (begun o starts) last (get_or ranks0 k d).book.share plays (none k d w));
+        told = λ k d h. (let w : k < length ranks0 = omega (arith, count, h) in shares k d w ∙ share_told k moves (get_or ranks0 k d).book.share (none k d w));
+        handled = λ k d h. ap length (sym (logs_are_handled o starts moves last plays k) ∙ ap (λ (x : RankSide). x.log) (get_or-map (rank_of log tells) ranks k d no_side h));
+      }
+
+  -- what the numbers of rank 0 are, whose final sum is this
+  progressed : (o : Options) (ranks : List (Rank J S T)) (p : P) (q : Q) (total : ℕ) (numbers : List ℕ) → AreAll o ranks → 1 ≤ o.ranks → AllEnded log shows seats sums_shows sums_seats ranks p q → NoneWrote ranks
+      → ((d : Rank J S T) → (sums_shows (get_or ranks 0 d).sums_seat).answer ≡ Some total) → total ≡ sum_by (λ (r : Rank J S T). (sums_shows r.sums_seat).count) ranks
+      → numbers ≡ flat_map (λ (r : Rank J S T). r.book.sums.items) ranks → IsProgress (map (λ (r : Rank J S T). length (logged r)) ranks) numbers
+  progressed o [] p q total numbers all some done wrote answer sum_is are = absurd (omega (arith, all.count, some))
+  progressed o (x ∷ ranks) p q total numbers all some done wrote answer sum_is are =
+      let first = done 0 x (omega arith) in
+      let sums = first.ready.sums in
+      let own = sums.progress (wrote 0 x (omega arith)).0 in
+      let kept : KeptAll x.book.sums.items total (sums_shows x.sums_seat) = subst (λ (a : Option ℕ). KeptOf a x.book.sums.items (sums_shows x.sums_seat)) (answer x) (own.first (all.each 0 x (omega arith)).0) in
+      let rest : (k : ℕ) (d : Rank J S T) → k < length ranks → (get_or ranks k d).book.sums.items ≡ [] =
+      λ k d h. (let y = done (suc k) d (omega arith) in let me = (all.each (suc k) d (omega arith)).0 in
+      (y.ready.sums.progress (wrote (suc k) d (omega arith)).0).rest (λ e. (let f : 0 ≡ suc k = sym e ∙ me in absurd (omega arith)))) in
+      let numbers_are : numbers ≡ x.book.sums.items = are ∙ flat_first (λ (r : Rank J S T). r.book.sums.items) x ranks rest in
+      let n : (sums_shows x.sums_seat).n ≡ o.ranks = sums.ranks ∙ ap (λ (q : Options). q.ranks) (all.each 0 x (omega arith)).1 in
+      let f : Rank J S T → ℕ = λ r. length (logged r) in
+      record {
+        front = kept.front;
+        final = total;
+        are = numbers_are ∙ kept.are;
+        rises = kept.rises;
+        within = kept.within;
+        total = λ few. sum_is ∙ sum_same (λ (r : Rank J S T). (sums_shows r.sums_seat).count) f (x ∷ ranks)
+            (λ k d h. (let y = done k d h in let c = y.ready.sums.counted (wrote k d h).0 in
+            let below : f (get_or (x ∷ ranks) k d) < 2 ^ 56 =
+            subst (λ (m : ℕ). m < 2 ^ 56) (get_or-map f (x ∷ ranks) k d 0 h) (All-get_or (λ (m : ℕ). m < 2 ^ 56) (map f (x ∷ ranks)) k 0 (let l = length-map (x ∷ ranks) f in omega (arith, l, h)) few) in
+            omega (arith, c, below))) ∙ sym (sum-map f (x ∷ ranks));
+        alone = λ one. (let a = kept.alone (n ∙ sym all.count ∙ sym (length-map (x ∷ ranks) f) ∙ one) in (a.1, a.2));
+      }
+
+  pub outcome : (o : Options) (starts : Strings) (jobs : List J) (ranks0 ranks : List (Rank J S T)) (p0 p : P) (q0 q : Q) (total : ℕ) (f : Finished J) → NothingWaitsAtEnd → RoundsAreFair → DeedsKeepSound
+      → ((b : P) (s : S) → seats b s → AgreesIfTold (tells b) (shows s)) → 1 ≤ o.ranks → Begins log shows tells seats sums_shows sums_seats o starts ranks0 p0 q0
+      → ((k : ℕ) (d : Rank J S T) → k < length ranks0 → (get_or ranks0 k d).book.share ≡ capped 0 0 0) → map (λ (r : Rank J S T). r.job) ranks0 ≡ jobs
+      → AllEnded log shows seats sums_shows sums_seats ranks p q → Same plain ranks0 ranks → NoneWrote ranks → Ran log tells (KeptInOrder o f.events.items) o (fresh_told o.ranks) ranks0 ranks p
+      → f.jobs.items ≡ map (λ (r : Rank J S T). r.job) ranks → map (λ (l : Vec (List ℕ) _). l.items) f.left.items ≡ map (λ (r : Rank J S T). r.queue) ranks → f.shares.items ≡ map (λ (r : Rank J S T). r.book.share) ranks
+      → f.sums.items ≡ flat_map (λ (r : Rank J S T). r.book.sums.items) ranks
+      → ((d : Rank J S T) → (sums_shows (get_or ranks 0 d).sums_seat).answer ≡ Some total) → total ≡ sum_by (λ (r : Rank J S T). (sums_shows r.sums_seat).count) ranks
+      → IsOutcome log plain o starts jobs f
+  outcome o starts jobs ranks0 ranks p0 p q0 q total f waits fair sound agrees some first none jobs_are done same wrote ran jobs' left' shares' sums' answer sum_is =
+      let all : AreAll o ranks = same_all plain o ranks0 ranks same first.all in
+      let job : Rank J S T → J = λ r. r.job in
+      let share : Rank J S T → Share = λ r. r.book.share in
+      let moves : List (ℕ × Move) = moves_of_turns o.ranks 0 ran.turns in
+      let last : Stage = stage_of log tells ranks ran.told in
+      let played : PlaysTurns o 0 ran.turns (begun o starts) last = subst (λ (s : Stage). PlaysTurns o 0 ran.turns s last) first.begun_is ran.plays in
+      let e : Ended o starts moves last = at_end o starts ranks p q ran.turns ran.told waits fair sound agrees some all done ran.after played in
+      let s : Shared o moves ranks = shared o starts moves ranks0 ranks ran.told same.count none ran.shares e.plays in
+      let logs : map log f.jobs.items ≡ map (λ (x : RankSide). x.log) last.ranks = ap (map log) jobs' ∙ map-map log job ranks ∙ sym (map-map (λ (x : RankSide). x.log) (rank_of log tells) ranks) in
+      let all_logs : all_logged last ≡ flat_map log f.jobs.items =
+      flat_map-map (λ (x : RankSide). x.log) (rank_of log tells) ranks ∙ sym (flat_map-map log job ranks) ∙ ap (flat_map log) (sym jobs') in
+      let left : all_left f.left.items ≡ [] =
+      sym (flat_map-map (λ (xs : Strings). xs) (λ (l : Vec (List ℕ) _). l.items) f.left.items) ∙ ap (flat_map (λ (xs : Strings). xs)) left'
+      ∙ flat_map-map (λ (xs : Strings). xs) (λ (r : Rank J S T). r.queue) ranks ∙ flat_none (λ (r : Rank J S T). r.queue) ranks (λ k d h. (done k d h).ready.knows.over ((done k d h).over refl).0) in
+      let caps : f.shares.items ≡ map (λ k. capped (handled_by k moves) (given_by k moves) (taken_by k moves)) (range_with_len 0 o.ranks) =
+      shares' ∙ map_is share (λ k. capped (handled_by k moves) (given_by k moves) (taken_by k moves)) ranks o.ranks all.count s.each in
+      let mailed : length (all_mailed last) ≡ 0 = ap length (nothing_mailed last e.nothing) in
+      let kept : (b : Bool) → o.trace ≡ b → f.events.items ≡ cond b (events_of_all moves) [] = λ b is. ran.kept ∙ ap (λ (x : Bool). cond x (events_of_all moves) []) is in
+      record {
+        balance = subst (λ (l : Log). Balanced l (all_left f.left.items) starts) all_logs (subst (λ (l : Strings). Balanced (all_logged last) l starts) (sym left) (all_is_handled o starts moves last (omega (arith, some)) e.plays e.nothing));
+        whole = left;
+        jobs_count = ap length jobs' ∙ length-map ranks job ∙ same.count ∙ sym (length-map ranks0 job) ∙ ap length jobs_are;
+        facts = ap (map plain) jobs' ∙ map-map plain job ranks ∙ map_same (λ (r : Rank J S T). plain r.job) (λ (r : Rank J S T). plain r.job) ranks ranks0 same.count
+            (λ k d d' h. ap (λ (r : Rank J S T). plain r.job) (get_or_default ranks k d d' h) ∙ same.facts k d' (let c = same.count in omega arith)) ∙ sym (map-map plain job ranks0) ∙ ap (map plain) jobs_are;
+        lists = sym (length-map f.left.items (λ (l : Vec (List ℕ) _). l.items)) ∙ ap length left' ∙ length-map ranks (λ (r : Rank J S T). r.queue) ∙ same.count ∙ sym (length-map ranks0 job) ∙ ap length jobs_are;
+        handled = ap (map (λ (x : Share). x.handled)) shares' ∙ map-map (λ (x : Share). x.handled) share ranks
+            ∙ map_same (λ (r : Rank J S T). r.book.share.handled) (λ (r : Rank J S T). min (length (log r.job)) (2 ^ 64 - 1)) ranks ranks refl
+            (λ k d d' h. ap (λ (x : Share). x.handled) (s.each k d h) ∙ ap (λ (n : ℕ). min n (2 ^ 64 - 1)) (s.handled k d h) ∙ ap (λ (r : Rank J S T). min (length (log r.job)) (2 ^ 64 - 1)) (get_or_default ranks k d d' h))
+            ∙ sym (map-map (λ (j : J). min (length (log j)) (2 ^ 64 - 1)) job ranks) ∙ ap (map (λ (j : J). min (length (log j)) (2 ^ 64 - 1))) (sym jobs');
+        moved = (let g = capped_sum (λ (k : ℕ). given_by k moves) (2 ^ 128 - 1) (range_with_len 0 o.ranks) in
+            let t = capped_sum (λ (k : ℕ). taken_by k moves) (2 ^ 128 - 1) (range_with_len 0 o.ranks) in
+            let cap : ℕ → Share = λ k. capped (handled_by k moves) (given_by k moves) (taken_by k moves) in
+            let gives = sum_by-map given cap (range_with_len 0 o.ranks) in
+            let takes = sum_by-map taken cap (range_with_len 0 o.ranks) in
+            let even = (given_is_taken_or_mailed o starts moves last e.plays).counts in
+            ap (λ (xs : List Share). min (sum_by given xs) (2 ^ 128 - 1)) caps ∙ ap (λ (n : ℕ). min n (2 ^ 128 - 1)) gives ∙ g
+            ∙ ap (λ (n : ℕ). min n (2 ^ 128 - 1)) (let z : sum_by (λ (k : ℕ). given_by k moves) (range_with_len 0 o.ranks) ≡ sum_by (λ (k : ℕ). taken_by k moves) (range_with_len 0 o.ranks) = omega arith in z)
+            ∙ sym (ap (λ (xs : List Share). min (sum_by taken xs) (2 ^ 128 - 1)) caps ∙ ap (λ (n : ℕ). min n (2 ^ 128 - 1)) takes ∙ t));
+        traced = λ on. (let are : f.events.items ≡ events_of_all moves = kept true on in
+            record {
+              moves = moves;
+              last = last;
+              plays = e.plays;
+              are = are;
+              legal = moves_are_legal_run o starts moves last e.plays;
+              over = e.over;
+              ended = e.ended;
+              logs_are = logs;
+              answers = subst (AnswersFirst (started o.ranks (length starts))) (sym are) (moves_answer_first o starts moves last e.plays);
+              fair = subst (IsFair (started o.ranks (length starts))) (sym are) e.fair;
+            });
+        untraced = λ off. kept false off;
+        counts = λ on. shares' ∙ map_is share (share_in f.events.items) ranks o.ranks all.count
+            (λ k d h. s.told k d h ∙ ap (λ (es : List Event). share_in es k) (sym (kept true on)));
+        progress = subst (λ (ns : List ℕ). IsProgress ns f.sums.items) (sym (ap (map (λ (j : J). length (log j))) jobs' ∙ map-map (λ (j : J). length (log j)) job ranks))
+            (progressed o ranks p q total f.sums.items all some done wrote answer sum_is sums');
+      }
+
+  -- the seats may be gathered
+  pub seats_done : (o : Options) (ranks : List (Rank J S T)) (p : P) (q : Q) (all_seats : List S) → AreAll o ranks → AllEnded log shows seats sums_shows sums_seats ranks p q → all_seats ≡ map (λ (r : Rank J S T). r.seat) ranks
+      → AllDone shows (seats p) all_seats
+  seats_done o ranks p q all_seats all done are =
+      let long : o.ranks ≡ length all_seats = sym (ap length are ∙ length-map ranks (λ (r : Rank J S T). r.seat) ∙ all.count) in
+      map_each (λ (k : ℕ) (x : S). seats p x × ((shows x).number ≡ k) × ((shows x).n ≡ length all_seats) × (((shows x).ended ≡ true) ⊎ ((shows x).stopped ≡ true))) (λ (r : Rank J S T). r.seat) ranks all_seats are
+      (λ k d h.
+      let x = done k d h in
+      let knows = x.ready.knows in
+      let me = all.each k d h in
+      (x.ready.mine, knows.number ∙ me.0, knows.ranks ∙ ap (λ (q : Options). q.ranks) me.1 ∙ long, inl (knows.ended ∙ (x.over refl).0)))
+
+  pub sums_done : (o : Options) (ranks : List (Rank J S T)) (p : P) (q : Q) (all_sums : List T) → AreAll o ranks → AllEnded log shows seats sums_shows sums_seats ranks p q → all_sums ≡ map (λ (r : Rank J S T). r.sums_seat) ranks
+      → AllFinished sums_shows (sums_seats q) all_sums
+  sums_done o ranks p q all_sums all done are =
+      let long : o.ranks ≡ length all_sums = sym (ap length are ∙ length-map ranks (λ (r : Rank J S T). r.sums_seat) ∙ all.count) in
+      map_each (λ (k : ℕ) (x : T). sums_seats q x × ((sums_shows x).number ≡ k) × ((sums_shows x).n ≡ length all_sums) × IsSome (sums_shows x).answer) (λ (r : Rank J S T). r.sums_seat) ranks all_sums are
+      (λ k d h.
+      let x = done k d h in
+      let sums = x.ready.sums in
+      let me = all.each k d h in
+      (sums.mine, sums.number ∙ me.0, sums.ranks ∙ ap (λ (q : Options). q.ranks) me.1 ∙ long, some_from (sums_shows (get_or ranks k d).sums_seat).answer (x.over refl).1))

@@ -1,0 +1,51 @@
+-- What is told in a run is sound, so all is over once a rank has seen the end.
+use Rattle.std.proofs.Common.{◌≡◌, ℕ, ◌<◌, ◌≤◌, inl, inr, ⊎_elim, refl, sym, subst, ap, ◌∙◌, arith, true, false, List, [], ◌∷◌, map, length, set, get_or, replicate, Option, Some, None}
+use Rattle.std.proofs.lemmas.Bool.{cases_lt}
+use Rattle.std.proofs.lemmas.List.{get_or-replicate, length-replicate, get_or_past}
+use Rattle.ring_core.specs.declared.states.Colour.{Colour}
+use Rattle.ring_core.specs.declared.states.Colour.TheVariants.{Black}
+use Rattle.ring_core.specs.declared.states.Token.TheVariants.{At, Over}
+use Rattle.post_board.specs.Shown.{Strings}
+use Rattle.post_board.specs.Told.{Place, Told, no_place, place, Sound}
+use Rattle.post_board.specs.Deeds.{Deed, told_after, DeedsKeepSound}
+use Rattle.circle_run.specs.Moves.{Move, handled, served, did, Side, answer_of, TellsAll, Does}
+use Rattle.circle_run.specs.Stages.{RankSide, Stage, rank_side, side, Plays, new_place, new_told}
+use Rattle.circle_run.specs.declared.settings.Options.{Options}
+use Rattle.circle_run.proofs.Deeds.{some_is}
+
+module _ (keeps : DeedsKeepSound) where
+  all_sound : (deeds : List Deed) (me : ℕ) (t u : Told) → TellsAll me deeds (Some t) (Some u) → Sound t → Sound u
+  all_sound [] me t u same sound = subst Sound (sym (some_is u t same)) sound
+  all_sound (d ∷ deeds) me t u (mid, (legal, same), rest) sound =
+      all_sound deeds me (told_after me d t) u (subst (λ (m : Option Told). TellsAll me deeds m (Some u)) same rest) (keeps me d t legal sound)
+
+  move_sound : (o : Options) (me : ℕ) (m : Move) (x y : RankSide) (t u : Told) → Does o me m (side x t) (side y u) → Sound t → Sound u
+  move_sound o me (handled path kids) x y t u does sound = subst Sound (sym (some_is u t (ap (λ (z : Side). z.told) does.after))) sound
+  move_sound o me (served answers) x y t u does sound = all_sound (map answer_of answers) me t u does.told sound
+  move_sound o me (did d) x y t u does sound = subst Sound (sym (some_is u (told_after me d t) does.told.1)) (keeps me d t does.told.0 sound)
+
+  pub plays_sound : (o : Options) (moves : List (ℕ × Move)) (from to : Stage) → Plays o moves from to → Sound from.told → Sound to.told
+  plays_sound o [] from to same sound = subst (λ (s : Stage). Sound s.told) (sym same) sound
+  plays_sound o (m ∷ moves) from to (x, t, does, plays) sound =
+      plays_sound o moves (record { ranks = set from.ranks m.0 x; told = t }) to plays (move_sound o m.0 m.1 (rank_side from m.0) x from.told t does sound)
+
+place_begun : (X : Place → Type 0) (n r : ℕ) → X new_place → X no_place → X (place (new_told n) r)
+place_begun X n r new none = ⊎_elim
+    (λ below. subst X (sym (get_or-replicate n r new_place no_place below)) new)
+    (λ past. subst X (sym (get_or_past (replicate n new_place) r no_place (let l = length-replicate n new_place in omega arith))) none)
+    (cases_lt r n)
+
+token_place : (p : ℕ) (c : Colour) → At 0 Black ≡ At p c → 0 ≡ p
+token_place p c e = cc
+
+pub begun_sound : (n : ℕ) → 1 ≤ n → Sound (new_told n)
+begun_sound n some = record {
+  token = inr (inr refl);
+  sane = record {
+    alone = λ one same. cc;
+    tried = λ r. place_begun (λ x. x.tried ≡ true → x.busy ≡ false) n r (λ e. cc) (λ e. cc);
+    waits = λ r. place_begun (λ x. (x.mail ≡ no_place.mail → ⊥) → x.busy ≡ false) n r (λ ne. absurd (ne refl)) (λ ne. refl);
+    over = λ r. place_begun (λ x. x.ended ≡ true → At 0 Black ≡ Over) n r (λ e. cc) (λ e. cc);
+    within = λ p c same. (let z = token_place p c same in let l = length-replicate n new_place in omega arith);
+  };
+}

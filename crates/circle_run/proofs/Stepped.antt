@@ -1,0 +1,292 @@
+-- What steps of a rank come to, one after the other.
+use Rattle.std.proofs.Common.{◌≡◌, ◌≢◌, ℕ, ◌<◌, refl, sym, subst, inl, inr, ap, ◌∙◌, arith, Bool, true, false, List, [], ◌∷◌, ◌++◌, length, append_assoc, append-nil, Option, Some, None}
+use Rattle.std.specs.Prelude.{if◌then◌else◌}
+use Rattle.std.specs.List.{flat_map}
+use Rattle.std.proofs.lemmas.Grind.{flat_map-append}
+use Rattle.ring_core.specs.World.{darker}
+use Rattle.ring_core.specs.declared.states.Colour.{Colour}
+use Rattle.ring_core.specs.declared.states.Colour.TheVariants.{Black}
+use Rattle.ring_core.specs.declared.events.Event.{Event}
+use Rattle.post_board.specs.Shown.{Shown, is_served, mixed, token_of, victim_of}
+use Rattle.post_board.specs.Told.{Told, place, asked}
+use Rattle.circle_run.specs.Turns.{Waits, Heard, Served, Acts, Worked, with_service}
+use Rattle.circle_run.specs.declared.steps.Did.{Did}
+use Rattle.circle_run.specs.declared.steps.Did.TheVariants.{Handled, Acted, Waited}
+use Rattle.post_board.specs.declared.answers.Ring.{Ring}
+use Rattle.post_board.specs.declared.answers.Ring.TheVariants.{Over as HeardOver, Elsewhere as HeardElsewhere, Here as HeardHere}
+use Rattle.post_board.specs.Deeds.{Deed, event_of, Tells, Stays}
+use Rattle.post_board.specs.Calls.{AgreesIfTold}
+use Rattle.circle_run.specs.Balance.{Log}
+use Rattle.circle_run.specs.Moves.{Move, handled, served, did, Side, DoesDeed, events_of, IsLive, NobodyAsks}
+use Rattle.circle_run.specs.Books.{counted, counted_one, Writes}
+use Rattle.circle_run.specs.Ranks.{DoesAll, Knows, ServesNone, side, Went, Came, HandledNewest}
+use Rattle.circle_run.specs.declared.settings.Options.{Options}
+use Rattle.circle_run.specs.declared.outcomes.Share.{Share}
+use Rattle.circle_run.specs.declared.ranks.Rank.{Rank}
+
+pub does_then : (o : Options) (me : ℕ) (xs ys : List Move) (a b c : Side) → DoesAll o me xs a b → DoesAll o me ys b c → DoesAll o me (xs ++ ys) a c
+does_then o me [] ys a b c first second = subst (λ (s : Side). DoesAll o me ys s c) first second
+does_then o me (x ∷ xs) ys a b c first second = (first.0, first.1, does_then o me xs ys first.0 b c first.2 second)
+
+pub counted_then : (xs ys : List Event) (s : Share) → counted (xs ++ ys) s ≡ counted ys (counted xs s)
+counted_then [] ys s = refl
+counted_then (x ∷ xs) ys s = counted_then xs ys (counted_one x s)
+
+pub kept_then : (trace : Bool) (xs ys : List Event) → (if trace then (xs ++ ys) else []) ≡ (if trace then xs else []) ++ (if trace then ys else [])
+kept_then true xs ys = refl
+kept_then false xs ys = refl
+
+kept_none : (trace : Bool) (xs : List Event) → xs ≡ xs ++ (if trace then [] else [])
+kept_none true xs = sym (append-nil xs)
+kept_none false xs = sym (append-nil xs)
+
+pub mixed_is : (s : Shown) (c h : Colour) → s.colour ≡ c → s.here ≡ Some h → mixed s ≡ darker c h
+mixed_is s c h e f = ap (λ (x : Colour). darker x (token_of s)) e ∙ ap (λ (o : Option Colour). darker c (elim o [ None ↦ Black | Some z ↦ z ])) f
+
+pub victim_is : (s : Shown) (v : ℕ) → s.asked ≡ Some v → victim_of s ≡ v
+victim_is s v e = ap (λ (o : Option ℕ). elim o [ None ↦ 0 | Some z ↦ z ]) e
+
+pub tells_as : (a b : ℕ) (c d : Deed) (t t' : Option Told) → a ≡ b → c ≡ d → Tells a c t t' → Tells b d t t'
+tells_as a b c d t t' e f told = subst (λ (x : Deed). Tells b x t t') f (subst (λ (x : ℕ). Tells x c t t') e told)
+
+pub stays_same : (F : Told → Type 0) (a b : Option Told) → Stays F a b → b ≡ a
+stays_same F None b e = e
+stays_same F (Some t) b e = e.1
+
+pub live_told : (told : Option Told) (s : Shown) (me : ℕ) → AgreesIfTold told s → s.number ≡ me → s.ended ≡ false → IsLive me told
+live_told None s me agrees number live = tt
+live_told (Some t) s me agrees number live = subst (λ (k : ℕ). IsLive k (Some t)) number (agrees.within, agrees.ended ∙ live)
+
+-- where the rank that was asked has not answered, the own mailbox says so
+pub waiting_told : (a b v : ℕ) (t t' : Option Told) → a ≡ b → Stays (λ x. (place x a).mail ≡ asked v) t t' → Waits b t'
+waiting_told a b v None t' e stays = subst (Waits b) (sym stays) tt
+waiting_told a b v (Some t) t' e stays = subst (Waits b) (sym stays.1) (v, subst (λ (k : ℕ). (place t k).mail ≡ asked v) e stays.0)
+
+module _ {J S T P Q : Type 0} (log : J → Log) (plain : J → Q) (shows : S → Shown) (tells : P → Option Told) (seats : P → S → Type 0) where
+  went_then : (A B C : List Move → Type 0) (r : Rank J S T) (p : P) (r1 : Rank J S T) (p1 : P) (r2 : Rank J S T) (p2 : P) → ((a b : List Move) → A a → B b → C (a ++ b)) → r1.me ≡ r.me → r1.options ≡ r.options
+      → Went log plain shows tells seats A r p r1 p1 → Went log plain shows tells seats B r1 p1 r2 p2 → Went log plain shows tells seats C r p r2 p2
+  went_then A B C r p r1 p1 r2 p2 both me options a b =
+      let es : List Event = flat_map (events_of r.me) a.moves in
+      let fs : List Event = flat_map (events_of r.me) b.moves in
+      let all : flat_map (events_of r.me) (a.moves ++ b.moves) ≡ es ++ fs = flat_map-append (events_of r.me) a.moves b.moves in
+      let more : flat_map (events_of r1.me) b.moves ≡ fs = ap (λ (k : ℕ). flat_map (events_of k) b.moves) me in
+      let trace : r1.options.trace ≡ r.options.trace = ap (λ (o : Options). o.trace) options in
+      record {
+        had = a.had;
+        moves = a.moves ++ b.moves;
+        are = both a.moves b.moves a.are b.are;
+        does = does_then r.options r.me a.moves b.moves (side log plain shows tells seats r p) (side log plain shows tells seats r1 p1) (side log plain shows tells seats r2 p2) a.does
+            (subst (λ (o : Options). DoesAll o r.me b.moves (side log plain shows tells seats r1 p1) (side log plain shows tells seats r2 p2)) options
+            (subst (λ (k : ℕ). DoesAll r1.options k b.moves (side log plain shows tells seats r1 p1) (side log plain shows tells seats r2 p2)) me b.does));
+        kept = b.kept
+            ∙ ap (λ (xs : List Event). xs ++ (if r1.options.trace then flat_map (events_of r1.me) b.moves else [])) a.kept
+            ∙ append_assoc r.book.events.items (if r.options.trace then es else []) (if r1.options.trace then flat_map (events_of r1.me) b.moves else [])
+            ∙ ap (λ (t : Bool). r.book.events.items ++ ((if r.options.trace then es else []) ++ (if t then flat_map (events_of r1.me) b.moves else []))) trace
+            ∙ ap (λ (xs : List Event). r.book.events.items ++ ((if r.options.trace then es else []) ++ (if r.options.trace then xs else []))) more
+            ∙ ap (λ (xs : List Event). r.book.events.items ++ xs) (sym (kept_then r.options.trace es fs))
+            ∙ ap (λ (xs : List Event). r.book.events.items ++ (if r.options.trace then xs else [])) (sym all);
+        share = b.share
+            ∙ ap (λ (xs : List Event). counted xs r1.book.share) more
+            ∙ ap (λ (s : Share). counted fs s) a.share
+            ∙ sym (counted_then es fs r.book.share)
+            ∙ ap (λ (xs : List Event). counted xs r.book.share) (sym all);
+      }
+
+  pub came_then : (A B C : List Move → Type 0) (r : Rank J S T) (p : P) (r1 : Rank J S T) (p1 : P) (r2 : Rank J S T) (p2 : P) → ((a b : List Move) → A a → B b → C (a ++ b))
+      → Came log plain shows tells seats A r p r1 p1 → Came log plain shows tells seats B r1 p1 r2 p2 → Came log plain shows tells seats C r p r2 p2
+  came_then A B C r p r1 p1 r2 p2 both a b = record {
+    knows = b.knows;
+    mine = b.mine;
+    none = b.none;
+    others = λ other ne s. b.others other (λ e. ne (e ∙ a.me)) (a.others other ne s);
+    me = b.me ∙ a.me;
+    options = b.options ∙ a.options;
+    sums_seat = b.sums_seat ∙ a.sums_seat;
+    sums = b.sums ∙ a.sums;
+    facts = b.facts ∙ a.facts;
+    lost = λ l. b.lost (a.lost l);
+    went = λ found. (let w = b.went found in went_then A B C r p r1 p1 r2 p2 both a.me a.options (a.went w.had) w);
+  }
+
+  -- nothing was done
+  pub went_still : (A : List Move → Type 0) (r : Rank J S T) (p : P) (r1 : Rank J S T) (p1 : P) → A [] → r1.book ≡ r.book → r1.book.lost ≡ false → side log plain shows tells seats r1 p1 ≡ side log plain shows tells seats r p
+      → Went log plain shows tells seats A r p r1 p1
+  went_still A r p r1 p1 a book found same = record {
+    had = sym (ap (λ (b : _). b.lost) book) ∙ found;
+    moves = [];
+    are = a;
+    does = same;
+    kept = ap (λ (b : _). b.events.items) book ∙ kept_none r.options.trace r.book.events.items;
+    share = ap (λ (b : _). b.share) book;
+  }
+
+  pub side_as : (r : Rank J S T) (p : P) (r1 : Rank J S T) (p1 : P) → r1.queue ≡ r.queue → log r1.job ≡ log r.job → r1.draws ≡ r.draws → (shows r1.seat).batches ≡ (shows r.seat).batches → tells p1 ≡ tells p
+      → side log plain shows tells seats r1 p1 ≡ side log plain shows tells seats r p
+  side_as r p r1 p1 queue logs draws batches told = cc
+
+  -- one deed was done and noted
+  pub went_did : (A : List Move → Type 0) (r : Rank J S T) (p : P) (r1 : Rank J S T) (p1 : P) (d : Deed) → A (did d ∷ []) → Writes r.options.trace (event_of r.me d ∷ []) r.book r1.book
+      → DoesDeed r.options r.me d (side log plain shows tells seats r p) (side log plain shows tells seats r1 p1) → r1.book.lost ≡ false → Went log plain shows tells seats A r p r1 p1
+  went_did A r p r1 p1 d a writes does found = record {
+    had = writes.had found;
+    moves = did d ∷ [];
+    are = a;
+    does = (side log plain shows tells seats r1 p1, does, refl);
+    kept = writes.kept found;
+    share = writes.share found;
+  }
+
+  -- the newest string was handled
+  pub went_handled : (A : List Move → Type 0) (r : Rank J S T) (p : P) (r1 : Rank J S T) → ((path : List ℕ) (kids : List (List ℕ)) → A (handled path kids ∷ [])) → IsLive r.me (tells p) → NobodyAsks r.me (tells p)
+      → HandledNewest log plain r r1 → r1.book.lost ≡ false → Went log plain shows tells seats A r p r1 p
+  went_handled A r p r1 a live unasked newest found =
+      let n = newest.done found in
+      record {
+        had = n.writes.had found;
+        moves = Move.handled n.path n.kids ∷ [];
+        are = a n.path n.kids;
+        does = (
+          side log plain shows tells seats r1 p,
+          record {
+            rest = n.rest;
+            live = live;
+            newest = n.newest;
+            unasked = unasked;
+            few = n.few;
+            after =
+                (let same = newest.same in let seat : r1.seat ≡ r.seat = ap (λ (x : Rank J S T). x.seat) same in let draws : r1.draws ≡ r.draws = ap (λ (x : Rank J S T). x.draws) same in
+                let pushed = n.pushed in let logged = n.logged in cc);
+          },
+          refl,
+        );
+        kept = n.writes.kept found;
+        share = n.writes.share found;
+      }
+
+  knows_handled : (r r1 : Rank J S T) → Knows shows r → r.ended ≡ false → 0 < length r.queue → HandledNewest log plain r r1 → Knows shows r1
+  knows_handled r r1 k live some newest =
+      let seat : r1.seat ≡ r.seat = ap (λ (x : Rank J S T). x.seat) newest.same in
+      let options : r1.options ≡ r.options = ap (λ (x : Rank J S T). x.options) newest.same in
+      let ranks : r1.options.ranks ≡ r.options.ranks = ap (λ (o : Options). o.ranks) options in
+      let me : r1.me ≡ r.me = ap (λ (x : Rank J S T). x.me) newest.same in
+      let shown : shows r1.seat ≡ shows r.seat = ap shows seat in
+      record {
+        number = ap (λ (s : Shown). s.number) shown ∙ k.number ∙ sym me;
+        ranks = ap (λ (s : Shown). s.n) shown ∙ k.ranks ∙ sym ranks;
+        colour = ap (λ (s : Shown). s.colour) shown ∙ k.colour ∙ sym (ap (λ (x : Rank J S T). x.colour) newest.same);
+        tried = ap (λ (s : Shown). s.tried) shown ∙ k.tried ∙ sym (ap (λ (x : Rank J S T). x.tried) newest.same);
+        asked = ap (λ (s : Shown). s.asked) shown ∙ k.asked ∙ sym (ap (λ (x : Rank J S T). x.asked) newest.same);
+        ended = ap (λ (s : Shown). s.ended) shown ∙ k.ended ∙ sym (ap (λ (x : Rank J S T). x.ended) newest.same);
+        stopped = ap (λ (s : Shown). s.stopped) shown ∙ k.stopped;
+        inside = (let i = k.inside in omega (arith, i, me, ranks));
+        few = (let f = k.few in omega (arith, f, ranks));
+        wide = ap (λ (s : Shown). length s.serves) shown ∙ k.wide ∙ sym ranks;
+        idle = λ e. absurd (let q = k.idle (sym (ap (λ (s : Shown). s.busy) shown) ∙ e) in let n : length r.queue ≡ 0 = ap length q in omega (arith, some));
+        over = λ e. (let f : true ≡ false = sym e ∙ ap (λ (x : Rank J S T). x.ended) newest.same ∙ live in cc);
+        empty = newest.empty;
+      }
+
+  pub came_handled : (A : List Move → Type 0) (r : Rank J S T) (p : P) (r1 : Rank J S T) → ((path : List ℕ) (kids : List (List ℕ)) → A (handled path kids ∷ [])) → Knows shows r → seats p r.seat → ServesNone shows r
+      → r.ended ≡ false → 0 < length r.queue → AgreesIfTold (tells p) (shows r.seat) → NobodyAsks r.me (tells p) → HandledNewest log plain r r1 → Came log plain shows tells seats A r p r1 p
+  came_handled A r p r1 a k mine none live some agrees unasked newest =
+      let seat : r1.seat ≡ r.seat = ap (λ (x : Rank J S T). x.seat) newest.same in
+      record {
+        knows = knows_handled r r1 k live some newest;
+        mine = subst (seats p) (sym seat) mine;
+        none = λ i. ap (λ (s : S). is_served (shows s) i) seat ∙ none i;
+        others = λ other ne s. s;
+        me = ap (λ (x : Rank J S T). x.me) newest.same;
+        options = ap (λ (x : Rank J S T). x.options) newest.same;
+        sums_seat = ap (λ (x : Rank J S T). x.sums_seat) newest.same;
+        sums = newest.sums;
+        facts = newest.facts;
+        lost = newest.lost;
+        went = went_handled A r p r1 a (live_told (tells p) (shows r.seat) r.me agrees k.number (k.ended ∙ live)) unasked newest;
+      }
+
+  -- a rank that found no memory has dropped its strings
+  pub came_settled : (A : List Move → Type 0) (r : Rank J S T) (p : P) (r1 : Rank J S T) (p1 : P) (queue : List (List ℕ)) → (r1.book.lost ≡ true → queue ≡ []) → (r1.book.lost ≡ false → queue ≡ r1.queue)
+      → Came log plain shows tells seats A r p r1 p1 → Came log plain shows tells seats A r p (record r1 { queue = queue }) p1
+  came_settled A r p r1 p1 queue lost kept a =
+      let k = a.knows in
+      let none : r1.queue ≡ [] → queue ≡ [] = λ q. elim r1.book.lost as (λ (b : Bool). r1.book.lost ≡ b → queue ≡ []) [ true ↦ λ e. lost e | false ↦ λ e. kept e ∙ q ] refl in
+      record {
+        knows = record {
+          number = k.number;
+          ranks = k.ranks;
+          colour = k.colour;
+          tried = k.tried;
+          asked = k.asked;
+          ended = k.ended;
+          stopped = k.stopped;
+          inside = k.inside;
+          few = k.few;
+          wide = k.wide;
+          idle = λ e. none (k.idle e);
+          over = λ e. none (k.over e);
+          empty = k.empty;
+        };
+        mine = a.mine;
+        none = a.none;
+        others = a.others;
+        me = a.me;
+        options = a.options;
+        sums_seat = a.sums_seat;
+        sums = a.sums;
+        facts = a.facts;
+        lost = a.lost;
+        went = λ found. (let w = a.went found in record {
+          had = w.had;
+          moves = w.moves;
+          are = w.are;
+          does = subst (λ (q : List (List ℕ)). DoesAll r.options r.me w.moves (side log plain shows tells seats r p) (side log plain shows tells seats (record r1 { queue = q }) p1)) (sym (kept found)) w.does;
+          kept = w.kept;
+          share = w.share;
+        });
+      }
+
+heard_nothing : (ring : Ring) (moves : List Move) → ring ≢ HeardOver → Heard ring moves → moves ≡ []
+heard_nothing HeardOver moves more h = absurd (more refl)
+heard_nothing HeardElsewhere moves more h = h
+heard_nothing (HeardHere colour) moves more h = h
+
+heard_served : (some : Bool) (a b : List Move) → a ≡ [] → Served some b → Served some (a ++ b)
+heard_served some a b e s = subst (λ (m : List Move). Served some (m ++ b)) (sym e) s
+
+-- a service, and then what was done
+pub service_then : (some : Bool) (done : Did) (a b : List Move) → Served some a → Acts done b → Worked (with_service some done) (a ++ b)
+service_then some Handled a b s d = (s.0, d.0, d.1, ap (λ (m : List Move). m ++ b) s.1 ∙ ap (λ (m : List Move). served s.0 ∷ m) d.2)
+service_then some Acted a b s d = inr (inl (s.0, d.0, ap (λ (m : List Move). m ++ b) s.1 ∙ ap (λ (m : List Move). served s.0 ∷ m) d.1))
+service_then true Waited a b s d = inr (inr (s.0, s.3 refl, ap (λ (m : List Move). m ++ b) s.1 ∙ ap (λ (m : List Move). served s.0 ∷ m) d))
+service_then false Waited a b s d = ap (λ (m : List Move). m ++ b) s.1 ∙ ap (λ (m : List Move). served s.0 ∷ m) d ∙ ap (λ (x : List (ℕ × List (List ℕ))). served x ∷ []) (s.2 refl)
+
+module _ {J S T P Q : Type 0} (log : J → Log) (plain : J → Q) (shows : S → Shown) (tells : P → Option Told) (seats : P → S → Type 0) where
+  -- the ring, the service and what was done after it
+  pub came_worked : (ring : Ring) (some : Bool) (done : Did) (r : Rank J S T) (p : P) (r1 : Rank J S T) (p1 : P) (r2 : Rank J S T) (p2 : P) (queue : List (List ℕ)) (r3 : Rank J S T) (p3 : P) → (ring ≢ HeardOver)
+      → Came log plain shows tells seats (Heard ring) r p r1 p1 → Came log plain shows tells seats (Served some) r1 p1 r2 p2 → (r2.book.lost ≡ true → queue ≡ []) → (r2.book.lost ≡ false → queue ≡ r2.queue)
+      → Came log plain shows tells seats (Acts done) (record r2 { queue = queue }) p2 r3 p3 → Came log plain shows tells seats (Worked (with_service some done)) r p r3 p3
+  came_worked ring some done r p r1 p1 r2 p2 queue r3 p3 more a b lost kept d =
+      came_then log plain shows tells seats (Served some) (Acts done) (Worked (with_service some done)) r p (record r2 { queue = queue }) p2 r3 p3 (service_then some done)
+      (came_settled log plain shows tells seats (Served some) r p r2 p2 queue lost kept
+      (came_then log plain shows tells seats (Heard ring) (Served some) (Served some) r p r1 p1 r2 p2 (λ x y h s. heard_served some x y (heard_nothing ring x more h) s) a b))
+      d
+
+pub waited_alone : (some : Bool) (done : Did) → with_service some done ≡ Waited → done ≡ Waited
+waited_alone some Handled e = e
+waited_alone some Acted e = e
+waited_alone true Waited e = refl
+waited_alone false Waited e = refl
+
+pub handled_still : (some : Bool) (done : Did) → done ≡ Handled → with_service some done ≡ Handled
+handled_still some done e = ap (with_service some) e
+
+abbrev is_handled : Did → Bool
+is_handled Handled = true
+is_handled Acted = false
+is_handled Waited = false
+
+pub handled_before : (some : Bool) (done : Did) → with_service some done ≡ Handled → done ≡ Handled
+handled_before some Handled e = refl
+handled_before some Acted e = e
+handled_before true Waited e = (let f : false ≡ true = ap is_handled e in cc)
+handled_before false Waited e = e

@@ -1,0 +1,134 @@
+-- What a rank counts and keeps of progress, turn by turn.
+use Rattle.std.proofs.Common.{◌≡◌, ◌≢◌, ℕ, ◌+◌, ◌<◌, ◌≤◌, refl, sym, subst, inl, inr, ap, ◌∙◌, arith, Bool, true, false, List, [], ◌∷◌, ◌++◌, Option, None}
+use mathlib.Core.Logic.{dite}
+use native.Mathlib.Decide.{dec_le}
+use Rattle.post_board.specs.Shown.{Shown}
+use Rattle.post_board.specs.Told.{Told}
+use Rattle.sum_tree.specs.Shown.{SumShown, IsLeaf}
+use Rattle.circle_run.specs.Balance.{Log}
+use Rattle.circle_run.specs.Moves.{Move}
+use Rattle.circle_run.specs.Progress.{Rises, Thousands, newest, Keeps, KeptOf, Progress, Counts}
+use Rattle.circle_run.specs.Ranks.{DoesAll, side, Came}
+use Rattle.circle_run.specs.Ready.{SumsReady, Turned}
+use Rattle.circle_run.specs.Turns.{Worked, IsTurn, turn_of, tallied}
+use Rattle.circle_run.specs.declared.steps.Did.{Did}
+use Rattle.circle_run.specs.declared.steps.Did.TheVariants.{Handled, Acted, Waited}
+use Rattle.circle_run.specs.declared.books.Book.{Book}
+use Rattle.circle_run.specs.declared.settings.Options.{Options}
+use Rattle.circle_run.specs.declared.ranks.Turn.{Turn}
+use Rattle.circle_run.specs.declared.ranks.Rank.{Rank}
+use Rattle.circle_run.proofs.Numbers.{newest_push, rises_push, thousands_push}
+use Rattle.circle_run.proofs.Asked.{not_true, true_not_false}
+
+-- a word that rose is kept where it is far enough above the last number
+pub keeps_more : (numbers numbers' : List ℕ) (s s' : SumShown) → s'.n ≡ s.n → Keeps numbers s.word s → s.word ≤ s'.word → (s.n ≡ 1 → s'.word ≡ s'.count) → s'.count ≤ s.count + 1
+    → (newest 0 numbers + 1000 ≤ s'.word → numbers' ≡ numbers ++ s'.word ∷ []) → (s'.word < newest 0 numbers + 1000 → numbers' ≡ numbers) → Keeps numbers' s'.word s'
+keeps_more numbers numbers' s s' n old rises leaf slow more few =
+    dite (dec_le (newest 0 numbers + 1000) s'.word)
+    (λ high.
+    let are : numbers' ≡ numbers ++ s'.word ∷ [] = more high in
+    let last : newest 0 numbers' ≡ s'.word = ap (newest 0) are ∙ newest_push 0 numbers s'.word in
+    record {
+      rises = subst (Rises 0) (sym are) (rises_push 0 numbers s'.word old.rises high);
+      within = omega (arith, last);
+      next = omega (arith, last);
+      alone = λ one.
+          let was = old.alone (sym n ∙ one) in
+          let count : s.word ≡ s.count = was.0 in
+          let is : s'.word ≡ s'.count = leaf (sym n ∙ one) in
+          let before = old.next in
+          (is, subst (Thousands 0) (sym are) (thousands_push 0 numbers s'.word was.1 (omega arith)));
+    })
+    (λ low.
+    let are : numbers' ≡ numbers = few (omega arith) in
+    let last : newest 0 numbers' ≡ newest 0 numbers = ap (newest 0) are in
+    let within = old.within in
+    record {
+      rises = subst (Rises 0) (sym are) old.rises;
+      within = omega (arith, last);
+      next = omega (arith, last);
+      alone = λ one. (leaf (sym n ∙ one), subst (Thousands 0) (sym are) (old.alone (sym n ∙ one)).1);
+    })
+
+kept_of : (numbers : List ℕ) (s : SumShown) → s.answer ≡ None → Keeps numbers s.word s → KeptOf s.answer numbers s
+kept_of numbers s e keeps = subst (λ (o : Option ℕ). KeptOf o numbers s) (sym e) keeps
+
+keeps_of : (numbers : List ℕ) (s : SumShown) → s.answer ≡ None → KeptOf s.answer numbers s → Keeps numbers s.word s
+keeps_of numbers s e kept = subst (λ (o : Option ℕ). KeptOf o numbers s) e kept
+
+-- the same for the rank with this number
+progress_more : (me : ℕ) (numbers numbers' : List ℕ) (s s' : SumShown) → s.answer ≡ None → s'.answer ≡ None → s'.n ≡ s.n → Progress me numbers s → s.word ≤ s'.word → (s.n ≡ 1 → s'.word ≡ s'.count) → s'.count ≤ s.count + 1
+    → (me ≡ 0 → newest 0 numbers + 1000 ≤ s'.word → numbers' ≡ numbers ++ s'.word ∷ []) → (me ≡ 0 → s'.word < newest 0 numbers + 1000 → numbers' ≡ numbers) → (me ≢ 0 → numbers' ≡ numbers) → Progress me numbers' s'
+progress_more me numbers numbers' s s' unended unended' n old rises leaf slow more few rest = record {
+  first = λ z. kept_of numbers' s' unended' (keeps_more numbers numbers' s s' n (keeps_of numbers s unended (old.first z)) rises leaf slow (more z) (few z));
+  rest = λ ne. rest ne ∙ old.rest ne;
+}
+
+module _ {J S T Q : Type 0} (shows : T → SumShown) (seats : Q → T → Type 0) where
+  -- a rank counted so many strings more, one or none, and showed its count
+  pub tallied_more : (strings strings' : ℕ) (r r' : Rank J S T) (q q' : Q) → (shows r.sums_seat).answer ≡ None
+      → r' ≡ record r { sums_seat = r'.sums_seat; book = r'.book } → (r.book.lost ≡ true → r'.book.lost ≡ true) → seats q' r'.sums_seat
+      → (shows r'.sums_seat).number ≡ (shows r.sums_seat).number → (shows r'.sums_seat).n ≡ (shows r.sums_seat).n → (shows r'.sums_seat).width ≡ (shows r.sums_seat).width → (shows r'.sums_seat).answer ≡ None
+      → (shows r'.sums_seat).count ≤ (shows r.sums_seat).count + 1 → (Counts strings (shows r.sums_seat) → Counts strings' (shows r'.sums_seat))
+      → (shows r.sums_seat).word ≤ (shows r'.sums_seat).word → (IsLeaf (shows r.sums_seat) → (shows r'.sums_seat).word ≡ (shows r'.sums_seat).count)
+      → (r.me ≡ 0 → r'.book.lost ≡ false → newest 0 r.book.sums.items + 1000 ≤ (shows r'.sums_seat).word → r'.book.sums.items ≡ r.book.sums.items ++ (shows r'.sums_seat).word ∷ [])
+      → (r.me ≡ 0 → r'.book.lost ≡ false → (shows r'.sums_seat).word < newest 0 r.book.sums.items + 1000 → r'.book.sums.items ≡ r.book.sums.items)
+      → (r.me ≢ 0 → r'.book ≡ r.book)
+      → SumsReady shows seats strings r q → SumsReady shows seats strings' r' q'
+  tallied_more strings strings' r r' q q' unended same lost mine number n width unended' slow counts rises leaf keeps passes rest old =
+      let me : r'.me ≡ r.me = ap (λ (x : Rank J S T). x.me) same in
+      let options : r'.options ≡ r.options = ap (λ (x : Rank J S T). x.options) same in
+      let had : r'.book.lost ≡ false → r.book.lost ≡ false = λ found. not_true r.book.lost (λ l. true_not_false r'.book.lost (lost l) found) in
+      record {
+        mine = mine;
+        number = number ∙ old.number ∙ sym me;
+        ranks = n ∙ old.ranks ∙ ap (λ (o : Options). o.ranks) (sym options);
+        width = width ∙ old.width ∙ ap (λ (o : Options). o.width) (sym options);
+        narrow = subst (λ (o : Options). o.width ≤ 64) (sym options) old.narrow;
+        counted = λ found. counts (old.counted (had found));
+        progress = λ found. subst (λ (k : ℕ). Progress k r'.book.sums.items (shows r'.sums_seat)) (sym me)
+            (progress_more r.me r.book.sums.items r'.book.sums.items (shows r.sums_seat) (shows r'.sums_seat) unended unended' n (old.progress (had found)) rises
+            (λ one. leaf (omega (arith, one))) slow
+            (λ z. keeps z found) (λ z. passes z found) (λ ne. ap (λ (b : Book). b.sums.items) (rest ne)));
+      }
+
+by_did : (done : Did) (moves : List Move) → Worked done moves → IsTurn false (turn_of done) moves
+by_did Handled moves w = inl w
+by_did Acted moves w = inr w
+by_did Waited moves w = w
+
+pub none_tallied : (done : Did) (strings : ℕ) → done ≢ Handled → tallied done strings ≡ strings
+none_tallied Handled strings ne = absurd (ne refl)
+none_tallied Acted strings ne = refl
+none_tallied Waited strings ne = refl
+
+as_turn : (ended : Bool) (done : Did) (moves : List Move) → ended ≡ false → Worked done moves → IsTurn ended (turn_of done) moves
+as_turn ended done moves live w = subst (λ (b : Bool). IsTurn b (turn_of done) moves) (sym live) (by_did done moves w)
+
+module _ {J S T P D : Type 0} (log : J → Log) (plain : J → D) (shows : S → Shown) (tells : P → Option Told) (seats : P → S → Type 0) where
+  -- a turn before the end
+  pub turned : (done : Did) (turn : Turn) (r : Rank J S T) (p : P) (r1 : Rank J S T) (p1 : P) (r2 : Rank J S T) (queue : List (List ℕ)) → turn ≡ turn_of done → r.ended ≡ false → Came log plain shows tells seats (Worked done) r p r1 p1
+      → r2 ≡ record r1 { sums_seat = r2.sums_seat; book = r2.book } → r2.book ≡ record r1.book { sums = r2.book.sums; lost = r2.book.lost } → (r1.book.lost ≡ true → r2.book.lost ≡ true) → (r2.book.lost ≡ false → queue ≡ r2.queue)
+      → Turned log plain shows tells seats turn r p (record r2 { queue = queue }) p1
+  turned done turn r p r1 p1 r2 queue is live came same book lost kept =
+      record {
+        me = ap (λ (x : Rank J S T). x.me) same ∙ came.me;
+        options = ap (λ (x : Rank J S T). x.options) same ∙ came.options;
+        facts = ap (λ (x : Rank J S T). plain x.job) same ∙ came.facts;
+        lost = λ l. lost (came.lost l);
+        went = λ found.
+            let w = came.went (not_true r1.book.lost (λ l. true_not_false r2.book.lost (lost l) found)) in
+            let q : queue ≡ r1.queue = kept found ∙ ap (λ (x : Rank J S T). x.queue) same in
+            let j : r2.job ≡ r1.job = ap (λ (x : Rank J S T). x.job) same in
+            let d : r2.draws ≡ r1.draws = ap (λ (x : Rank J S T). x.draws) same in
+            let s : r2.seat ≡ r1.seat = ap (λ (x : Rank J S T). x.seat) same in
+            let sides : side log plain shows tells seats (record r2 { queue = queue }) p1 ≡ side log plain shows tells seats r1 p1 = cc in
+            record {
+              had = w.had;
+              moves = w.moves;
+              are = subst (λ (t : Turn). IsTurn r.ended t w.moves) (sym is) (as_turn r.ended done w.moves live w.are);
+              does = subst (DoesAll r.options r.me w.moves (side log plain shows tells seats r p)) (sym sides) w.does;
+              kept = ap (λ (b : Book). b.events.items) book ∙ w.kept;
+              share = ap (λ (b : Book). b.share) book ∙ w.share;
+            };
+      }

@@ -1,0 +1,27 @@
+use Rattle.std.proofs.Common.{◌≡◌, ℕ, length, Some}
+use Rattle.post_board.specs.Told.{Told}
+use Rattle.circle_run.specs.Hosts.{AllPlaced, Same, NoneLost, AreAll, KeptByEach}
+use Rattle.circle_run.specs.declared.settings.Options.{Options}
+use Rattle.circle_run.proofs.Playing.{Going}
+use Rattle.circle_run.proofs.hosts.Host.run.Given as goal
+
+abbrev pub invariant-loop-k : goal.invariant-loop-k
+invariant-loop-k g l = record {
+  placed : AllPlaced g.J.Job.log g.P.Post.shows g.P.Post.seats g.Q.Sums.shows g.Q.Sums.seats l.done l.ranks.items l.post l.sums;
+  wide : length l.done ≡ 64;
+  same : Same g.J.Job.plain l.fn.self.ranks.items l.ranks.items;
+  end : l.k-end ≡ length l.fn.self.ranks.items;
+  ran : NoneLost l.ranks.items → (o : Options) (t : Told) → AreAll o l.fn.self.ranks.items → g.P.Post.tells l.fn.post ≡ Some t
+      → Going g.J.Job.log g.J.Job.plain g.P.Post.shows g.P.Post.tells g.P.Post.seats (KeptByEach o l.fn.self.ranks.items l.ranks.items) o t l.fn.self.ranks.items l.ranks.items l.post l.k;
+}
+
+abbrev pub invariant-loop : goal.invariant-loop
+invariant-loop g l = record {
+  next : (goal.iterator-loop g).can_next l.iterator';
+  finite : (goal.iterator-loop g).is_finite l.iterator';
+  placed : AllPlaced g.J.Job.log g.P.Post.shows g.P.Post.seats g.Q.Sums.shows g.Q.Sums.seats l.done l.ranks.items l.post l.sums;
+  wide : length l.done ≡ 64;
+  same : Same g.J.Job.plain l.fn.self.ranks.items l.ranks.items;
+  ran : NoneLost l.ranks.items → (o : Options) (t : Told) → AreAll o l.fn.self.ranks.items → g.P.Post.tells l.fn.post ≡ Some t
+      → Going g.J.Job.log g.J.Job.plain g.P.Post.shows g.P.Post.tells g.P.Post.seats (KeptByEach o l.fn.self.ranks.items l.ranks.items) o t l.fn.self.ranks.items l.ranks.items l.post 0;
+}

@@ -1,0 +1,10 @@
+use Rattle.std.proofs.Common.{◌≡◌, ◌%◌, map, length}
+use Rattle.std.specs.List.{range_with_len}
+use Rattle.circle_run.specs.Stages.{dealt_to}
+use Rattle.circle_run.proofs.parts.deal.Given as goal
+
+abbrev pub invariant-loop-path : goal.invariant-loop-path
+invariant-loop-path l = record {
+  dealt : l.batches.items ≡ map (dealt_to l.ranks l.yielded) (range_with_len 0 l.ranks);
+  turn : l.next ≡ length l.yielded % l.ranks;
+}

@@ -1,0 +1,30 @@
+use Rattle.std.proofs.Common.{◌≡◌, ap, sym, ◌∙◌, refl, subst, arith, rules, [], ◌∷◌, length}
+use Rattle.post_board.specs.Shown.{Shown, is_served}
+use Rattle.post_board.specs.Deeds.{see_over}
+use Rattle.post_board.specs.declared.answers.Ring.{Ring}
+use Rattle.circle_run.specs.Moves.{did}
+use Rattle.circle_run.specs.Turns.{Heard}
+use Rattle.circle_run.proofs.Stepped.{tells_as, went_did}
+use Rattle.circle_run.proofs.ranks.Rank.hear.Goals as goal
+
+pub returns-in-Over-clause-came : goal.returns-in-Over-clause-came
+returns-in-Over-clause-came g c = record {
+  knows = search rules;
+  mine = c.ring-ring.ensures.mine;
+  none = λ k. ap (λ (s : Shown). is_served s k) c.in-Over.ensures.shown ∙ c.requires.none k;
+  others = λ other ne s. c.ring-ring.ensures.others other (λ e. ne (e ∙ c.requires.knows.number)) s;
+  me = refl;
+  options = refl;
+  sums_seat = refl;
+  sums = c.note.ensures.sums;
+  facts = refl;
+  lost = c.note.ensures.lost;
+  went = went_did g.J.Job.log g.J.Job.plain g.P.Post.shows g.P.Post.tells g.P.Post.seats (Heard c.ring-ring.result) _ _ _ _ see_over (subst (λ (x : Ring). Heard x (did see_over ∷ [])) (sym c.in-Over.is) refl) c.note.ensures (record {
+    queue = ((c.requires.knows.idle (c.in-Over.ensures.over refl)), (c.requires.knows.idle (c.in-Over.ensures.over refl)));
+    few = (let n : length c.args.self.now.queue ≡ 0 = ap length (c.requires.knows.idle (c.in-Over.ensures.over refl)) in omega arith);
+    drawn = refl;
+    log = refl;
+    batches = ap (λ (s : Shown). s.batches) c.in-Over.ensures.shown;
+    told = tells_as (g.P.Post.shows c.args.self.now.seat).number c.args.self.now.me see_over see_over (g.P.Post.tells c.args.post.now) (g.P.Post.tells c.ring-ring.new.self) c.requires.knows.number refl c.in-Over.ensures.told;
+  });
+}

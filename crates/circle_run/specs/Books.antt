@@ -1,0 +1,25 @@
+-- What a rank writes down: the events, where they are kept, and its counts. Our own.
+use Rattle.std.specs.Prelude.{◌≡◌, ◌+◌, ◌-◌, ◌^◌, min, Bool, true, false, if◌then◌else◌, List, [], ◌∷◌, ◌++◌}
+use Rattle.ring_core.specs.declared.events.Event.{Event}
+use Rattle.ring_core.specs.declared.events.Event.TheVariants.{Handle, Give, Take}
+use Rattle.circle_run.specs.declared.outcomes.Share.{Share}
+use Rattle.circle_run.specs.declared.books.Book.{Book}
+
+-- the counts with an event more. A count stops at the greatest value of its type
+abbrev pub counted_one : Event → Share → Share
+counted_one (Handle rank path kids) s = record s { handled = min (s.handled + 1) (2 ^ 64 - 1) }
+counted_one (Give rank to count) s = record s { given = min (s.given + count) (2 ^ 128 - 1) }
+counted_one (Take rank from count) s = record s { taken = min (s.taken + count) (2 ^ 128 - 1) }
+counted_one _ s = s
+
+abbrev pub counted : List Event → Share → Share
+counted [] s = s
+counted (event ∷ events) s = counted events (counted_one event s)
+
+-- unless memory was not found, these events were counted, and kept where that is wanted
+pub record Writes (trace : Bool) (events : List Event) (b b' : Book) : Type 0 where
+  pub sums : b'.sums ≡ b.sums
+  pub lost : b.lost ≡ true → b'.lost ≡ true
+  pub had : b'.lost ≡ false → b.lost ≡ false
+  pub kept : b'.lost ≡ false → b'.events.items ≡ b.events.items ++ (if trace then events else [])
+  pub share : b'.lost ≡ false → b'.share ≡ counted events b.share

@@ -1,0 +1,140 @@
+-- What one rank does, one move after the other, and what each move does to its side: its queue, its log, the words that it draws, the batches that its seat keeps, and what its board tells.
+-- Handling, asking and giving are those of LaFon, Misra and Bringhurst, On Distributed File Tree Walk of Parallel File Systems (SC 2012), the token is EWD840's; amounts, the order in a queue and the victims are our own.
+use Rattle.std.specs.Prelude.{◌≡◌, ℕ, zero, suc, ◌-◌, ◌<◌, ◌^◌, ◌==◌, ◌&&◌, Bool, false, not, if◌then◌else◌, min, List, length, [], ◌∷◌, ◌++◌, map, filter, replicate, Option, Some, None}
+use Rattle.std.specs.List.{flat_map, range_with_len}
+use Rattle.rand_pcg.specs.Lcg.{Lcg}
+use Rattle.rank_queue.specs.Shares.{word, after_word, equal_share, random_share, victim}
+use Rattle.ring_core.specs.declared.events.Event.{Event}
+use Rattle.ring_core.specs.declared.events.Event.TheVariants.{Handle}
+use Rattle.post_board.specs.Shown.{Strings, Batches, with_given, with_taken}
+use Rattle.post_board.specs.Told.{Mail, asked, Told, place}
+use Rattle.post_board.specs.Deeds.{Deed, ask, give, refuse, take, take_none, pass, restart, conclude, see_over, event_of, Acts, Tells}
+use Rattle.circle_run.specs.Balance.{Log}
+use Rattle.circle_run.specs.declared.settings.Split.{Split}
+use Rattle.circle_run.specs.declared.settings.Split.TheVariants.{Equal, Random}
+use Rattle.circle_run.specs.declared.settings.Options.{Options}
+
+pub data Move : Type 0 where
+  -- handles its newest string, for which these were pushed
+  handled : List ℕ → Strings → Move
+  -- answers all ranks that ask it, each by the strings that it gets; none is a refusal
+  served : List (ℕ × Strings) → Move
+  -- asks, takes what came, or moves the token
+  did : Deed → Move
+
+pub record Side : Type 0 where
+  -- oldest first
+  pub queue : Strings
+  pub log : Log
+  -- the generator of its words
+  pub draws : Lcg
+  pub batches : Option Batches
+  pub told : Option Told
+
+abbrev pub answer_of : ℕ × Strings → Deed
+answer_of x = if length x.1 == 0 then refuse x.0 else give x.0 x.1
+
+-- the events that a move of the rank me is
+abbrev pub events_of : ℕ → Move → List Event
+events_of me (handled path kids) = Handle me path (length kids) ∷ []
+events_of me (served answers) = map (λ x. event_of me (answer_of x)) answers
+events_of me (did deed) = event_of me deed ∷ []
+
+-- by lot: each gets some of what the ones before it left, by a word each
+abbrev pub lots : ℕ → ℕ → Lcg → List ℕ × Lcg
+lots left zero from = ([], from)
+lots left (suc r) from =
+    let share : ℕ = random_share left (word from) in
+    let rest : List ℕ × Lcg = lots (left - share) r (after_word from) in
+    (share ∷ rest.0, rest.1)
+
+-- what r ranks get of a queue of q strings, and the generator afterwards; one string stays. Lots see at most 2^32 strings
+abbrev pub amounts : Split → ℕ → ℕ → Lcg → List ℕ × Lcg
+amounts Equal q r from = (replicate r (equal_share q r), from)
+amounts Random q r from = if q == 0 then (replicate r 0, from) else lots (min q (2 ^ 32) - 1) r from
+
+abbrev pub asks : ℕ → Mail → Bool
+asks me (asked r) = r == me
+asks me _ = false
+
+-- the ranks that ask the rank me, in ascending order
+abbrev pub askers : ℕ → Told → List ℕ
+askers me t = filter (λ r. not (r == me) && asks me (place t r).mail) (range_with_len 0 (length t.places))
+
+-- where it is told, the rank me has not ended
+abbrev pub IsLive : ℕ → Option Told → Type 0
+IsLive me None = Unit {0}
+IsLive me (Some t) = Acts me t
+
+-- where it is told, nobody asks the rank me
+abbrev pub NobodyAsks : ℕ → Option Told → Type 0
+NobodyAsks me None = Unit {0}
+NobodyAsks me (Some t) = askers me t ≡ []
+
+-- where it is told, these are all that ask the rank me
+abbrev pub AreAskers : ℕ → Option Told → List ℕ → Type 0
+AreAskers me None ranks = Unit {0}
+AreAskers me (Some t) ranks = ranks ≡ askers me t
+
+-- one deed after the other
+abbrev pub TellsAll : ℕ → List Deed → Option Told → Option Told → Type 0
+TellsAll me [] before after = after ≡ before
+TellsAll me (deed ∷ deeds) before after = (mid : Option Told) × Tells me deed before mid × TellsAll me deeds mid after
+
+abbrev pub batches_after : Deed → Option Batches → Option Batches
+batches_after (give to batch) b = with_given b to batch
+batches_after (take from batch) b = with_taken b from batch
+batches_after _ b = b
+
+abbrev pub batches_after_all : List Deed → Option Batches → Option Batches
+batches_after_all [] b = b
+batches_after_all (deed ∷ deeds) b = batches_after_all deeds (batches_after deed b)
+
+-- what a deed does to the queue. It asks and moves the token without a string; giving and refusing are no moves by themselves
+abbrev pub Queues : Deed → Strings → Strings → Type 0
+Queues (ask victim) q q' = (q ≡ []) × (q' ≡ [])
+Queues (give to batch) q q' = ⊥
+Queues (refuse to) q q' = ⊥
+Queues (take from batch) q q' = q' ≡ q ++ batch
+Queues (take_none from) q q' = q' ≡ q
+Queues (pass colour) q q' = (q ≡ []) × (q' ≡ [])
+Queues restart q q' = (q ≡ []) × (q' ≡ [])
+Queues conclude q q' = (q ≡ []) × (q' ≡ [])
+Queues see_over q q' = (q ≡ []) × (q' ≡ [])
+
+-- whom it asks is drawn, and nothing else
+abbrev pub Draws : ℕ → ℕ → Deed → Lcg → Lcg → Type 0
+Draws n me (ask v) from from' = (v ≡ victim me n (word from)) × (from' ≡ after_word from)
+Draws n me _ from from' = from' ≡ from
+
+-- a service: the oldest strings go to those that ask, in order
+pub record Serves (o : Options) (me : ℕ) (answers : List (ℕ × Strings)) (s s' : Side) : Type 0 where
+  pub ranks : AreAskers me s.told (map (λ x. x.0) answers)
+  pub shares : map (λ x. length x.1) answers ≡ (amounts o.split (length s.queue) (length answers) s.draws).0
+  pub oldest : s.queue ≡ flat_map (λ x. x.1) answers ++ s'.queue
+  pub drawn : s'.draws ≡ (amounts o.split (length s.queue) (length answers) s.draws).1
+  pub log : s'.log ≡ s.log
+  pub batches : s'.batches ≡ batches_after_all (map answer_of answers) s.batches
+  pub told : TellsAll me (map answer_of answers) s.told s'.told
+
+-- the newest string is handled, and the strings pushed for it are queued in order, while nobody asks
+pub record Handles (me : ℕ) (path : List ℕ) (kids : Strings) (s s' : Side) : Type 0 where
+  pub rest : Strings
+  pub live : IsLive me s.told
+  pub newest : s.queue ≡ rest ++ path ∷ []
+  pub unasked : NobodyAsks me s.told
+  pub few : length (rest ++ kids) < 2 ^ 64
+  pub after : s' ≡ record s { queue = rest ++ kids; log = s.log ++ (path, kids) ∷ [] }
+
+pub record DoesDeed (o : Options) (me : ℕ) (deed : Deed) (s s' : Side) : Type 0 where
+  pub queue : Queues deed s.queue s'.queue
+  pub few : length s'.queue < 2 ^ 64
+  pub drawn : Draws o.ranks me deed s.draws s'.draws
+  pub log : s'.log ≡ s.log
+  pub batches : s'.batches ≡ batches_after deed s.batches
+  pub told : Tells me deed s.told s'.told
+
+abbrev pub Does : Options → ℕ → Move → Side → Side → Type 0
+Does o me (handled path kids) s s' = Handles me path kids s s'
+Does o me (served answers) s s' = Serves o me answers s s'
+Does o me (did deed) s s' = DoesDeed o me deed s s'

@@ -1,0 +1,84 @@
+-- A rank beside its board: what it knows, and what its steps come to. Our own.
+use Rattle.std.specs.Prelude.{◌≡◌, ◌≢◌, ℕ, ◌^◌, ◌<◌, ◌≤◌, true, false, if◌then◌else◌, List, length, [], ◌∷◌, ◌++◌, Option}
+use Rattle.std.specs.List.{flat_map}
+use Rattle.post_board.specs.Shown.{Shown, is_served}
+use Rattle.post_board.specs.Told.{Told}
+use Rattle.circle_run.specs.Balance.{Log}
+use Rattle.circle_run.specs.Moves.{Move, Side, Does, events_of}
+use Rattle.ring_core.specs.declared.events.Event.TheVariants.{Handle}
+use Rattle.circle_run.specs.Books.{counted, Writes}
+use Rattle.circle_run.specs.declared.settings.Options.{Options}
+use Rattle.circle_run.specs.declared.ranks.Rank.{Rank}
+
+-- one move after the other
+abbrev pub DoesAll : Options → ℕ → List Move → Side → Side → Type 0
+DoesAll o me [] s s' = s' ≡ s
+DoesAll o me (m ∷ moves) s s' = (mid : Side) × Does o me m s mid × DoesAll o me moves mid s'
+
+module _ {J S T : Type 0} (shows : S → Shown) where
+  -- what a rank knows of itself is what its seat shows
+  pub record Knows (r : Rank J S T) : Type 0 where
+    pub number : (shows r.seat).number ≡ r.me
+    pub ranks : (shows r.seat).n ≡ r.options.ranks
+    pub colour : (shows r.seat).colour ≡ r.colour
+    pub tried : (shows r.seat).tried ≡ r.tried
+    pub asked : (shows r.seat).asked ≡ r.asked
+    pub ended : (shows r.seat).ended ≡ r.ended
+    pub stopped : (shows r.seat).stopped ≡ false
+    pub inside : r.me < r.options.ranks
+    pub few : r.options.ranks ≤ 64
+    pub wide : length (shows r.seat).serves ≡ r.options.ranks
+    pub idle : (shows r.seat).busy ≡ false → r.queue ≡ []
+    pub over : r.ended ≡ true → r.queue ≡ []
+    pub empty : r.fresh ≡ []
+
+  -- it serves nobody
+  abbrev pub ServesNone : Rank J S T → Type 0
+  ServesNone r = (k : ℕ) → is_served (shows r.seat) k ≡ false
+
+module _ {J S T P Q : Type 0} (log : J → Log) (plain : J → Q) (shows : S → Shown) (tells : P → Option Told) (seats : P → S → Type 0) where
+  abbrev pub side : Rank J S T → P → Side
+  side r p = record { queue = r.queue; log = log r.job; draws = r.draws; batches = (shows r.seat).batches; told = tells p }
+
+  -- moves of this kind were made, and written down
+  pub record Went (kind : List Move → Type 0) (r : Rank J S T) (p : P) (r' : Rank J S T) (p' : P) : Type 0 where
+    pub had : r.book.lost ≡ false
+    pub moves : List Move
+    pub are : kind moves
+    pub does : DoesAll r.options r.me moves (side r p) (side r' p')
+    pub kept : r'.book.events.items ≡ r.book.events.items ++ (if r.options.trace then flat_map (events_of r.me) moves else [])
+    pub share : r'.book.share ≡ counted (flat_map (events_of r.me) moves) r.book.share
+
+  -- what a step of a rank comes to. Unless the rank found no memory, it is moves of this kind
+  pub record Came (kind : List Move → Type 0) (r : Rank J S T) (p : P) (r' : Rank J S T) (p' : P) : Type 0 where
+    pub knows : Knows shows r'
+    pub mine : seats p' r'.seat
+    pub none : ServesNone shows r'
+    pub others : (other : S) → (shows other).number ≢ r.me → seats p other → seats p' other
+    pub me : r'.me ≡ r.me
+    pub options : r'.options ≡ r.options
+    pub sums_seat : r'.sums_seat ≡ r.sums_seat
+    pub sums : r'.book.sums ≡ r.book.sums
+    pub facts : plain r'.job ≡ plain r.job
+    pub lost : r.book.lost ≡ true → r'.book.lost ≡ true
+    pub went : r'.book.lost ≡ false → Went kind r p r' p'
+
+module _ {J S T Q : Type 0} (log : J → Log) (plain : J → Q) where
+  -- the newest string was handled, and what was pushed for it was queued
+  pub record Newest (r r' : Rank J S T) : Type 0 where
+    pub path : List ℕ
+    pub kids : List (List ℕ)
+    pub rest : List (List ℕ)
+    pub newest : r.queue ≡ rest ++ path ∷ []
+    pub pushed : r'.queue ≡ rest ++ kids
+    pub few : length (rest ++ kids) < 2 ^ 64
+    pub logged : log r'.job ≡ log r.job ++ (path, kids) ∷ []
+    pub writes : Writes r.options.trace (Handle r.me path (length kids) ∷ []) r.book r'.book
+
+  pub record HandledNewest (r r' : Rank J S T) : Type 0 where
+    pub same : r' ≡ record r { job = r'.job; queue = r'.queue; fresh = r'.fresh; book = r'.book }
+    pub empty : r'.fresh ≡ []
+    pub facts : plain r'.job ≡ plain r.job
+    pub sums : r'.book.sums ≡ r.book.sums
+    pub lost : r.book.lost ≡ true → r'.book.lost ≡ true
+    pub done : r'.book.lost ≡ false → Newest r r'

@@ -1,0 +1,55 @@
+//! What each rank that asks gets of a queue.
+ghost use Rattle.std.specs.Prelude.{◌≡◌, ◌<◌, ◌≤◌, ◌+◌, ◌-◌, ◌∷◌, ◌⊎◌, ℕ, suc};
+ghost use Rattle.rand_pcg.specs.Lcg.{Lcg};
+ghost use Rattle.circle_run.specs.Moves.{amounts};
+ghost use Rattle.circle_run.specs.Services.{amounts_of, Fits};
+
+use crate::settings::Split;
+use rand_pcg::Pcg32;
+use rank_queue::{equal_share, random_share};
+
+/// What is left to share out in a service.
+#[derive(Clone, Copy, Drop)]
+pub(crate) enum Lot {
+    /// To each the same.
+    Same(u64),
+    /// To each a part by lot of so many.
+    ByLot(u32),
+}
+
+impl Lot {
+    /// What is shared out of `queued` strings among `askers` ranks. Lots see at most 2^32 strings.
+    pub(crate) fn make(split: Split, queued: u64, askers: u64) -> Lot
+        requires { askers ≤ 64 }
+        ensures amounts { (from : Lcg) → amounts_of result askers from ≡ amounts split queued askers from }
+        ensures fits { Fits result askers queued }
+    {
+        match split {
+            Split::Equal => Lot::Same(equal_share(queued, askers)),
+            Split::Random => {
+                if queued == 0 {
+                    Lot::Same(0)
+                } else {
+                    Lot::ByLot((queued.min(1 << 32) - 1) as u32)
+                }
+            }
+        }
+    }
+
+    /// What the next rank gets.
+    pub(crate) fn next(&mut self, draws: &mut Pcg32) -> u64
+        ensures first { (k : ℕ) → (amounts_of self.old (suc k) draws.old).0 ≡ result ∷ (amounts_of self.new k draws.new).0 }
+        ensures drawn { (k : ℕ) → (amounts_of self.old (suc k) draws.old).1 ≡ (amounts_of self.new k draws.new).1 }
+        ensures less { (k q : ℕ) → Fits self.old (suc k) q → (result ≡ 0) ⊎ (result < q) }
+        ensures fits { (k q : ℕ) → Fits self.old (suc k) (q + result) → Fits self.new k q }
+    {
+        match *self {
+            Lot::Same(share) => share,
+            Lot::ByLot(left) => {
+                let share = random_share(draws, left as u64);
+                *self = Lot::ByLot(left - share as u32);
+                share
+            }
+        }
+    }
+}

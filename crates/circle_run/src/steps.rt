@@ -1,0 +1,203 @@
+//! The steps of a turn by which a rank goes on.
+ghost use Rattle.std.specs.Prelude.{◌≡◌, ◌≢◌, ◌+◌, ◌<◌, ◌⊎◌, [], length, true, false, Some, None};
+ghost use Rattle.ring_core.specs.declared.states.Colour.{Colour};
+ghost use Rattle.post_board.specs.Shown.{is_here};
+ghost use Rattle.post_board.specs.declared.answers.Ring.TheVariants.{Over as HeardOver, Here as HeardHere, Elsewhere as HeardElsewhere};
+ghost use Rattle.circle_run.specs.Moves.{NobodyAsks};
+ghost use Rattle.circle_run.specs.Ranks.{Knows, ServesNone, Came, HandledNewest};
+ghost use Rattle.circle_run.specs.Turns.{Heard, Acts, Waits};
+ghost use Rattle.circle_run.specs.declared.steps.Did.TheVariants.{Handled as DidHandle, Acted as DidAct, Waited as DidWait};
+
+use crate::jobs::Job;
+use crate::ranks::Rank;
+use post_board::{Answer, Post, Ring};
+use rank_queue::victim;
+use ring_core::{Colour, Event};
+
+/// What a rank did after its service.
+#[derive(Clone, Copy, Debug, Drop, PartialEq, Eq)]
+pub(crate) enum Did {
+    /// It handled a string.
+    Handled,
+    /// It asked, took an answer or moved the token.
+    Acted,
+    /// The answer to its request has not come.
+    Waited,
+}
+
+impl<J: Job, S, T> Rank<J, S, T> {
+    /// Reads the ring.
+    pub(crate) fn hear<P: Post<Seat = S>>(&mut self, post: &mut P) -> Ring
+        requires seat { P.seats post.old self.old.seat }
+        requires knows { Knows P.shows self.old }
+        requires none { ServesNone P.shows self.old }
+        requires live { self.old.ended ≡ false }
+        ensures came { Came J.log J.plain P.shows P.tells P.seats (Heard result) self.old post.old self.new post.new }
+        ensures over { result ≡ HeardOver → self.new.ended ≡ true }
+        ensures more { result ≢ HeardOver → self.new.ended ≡ false }
+        ensures job { self.new.job ≡ self.old.job }
+        ensures elsewhere { result ≡ HeardElsewhere → 1 < self.new.options.ranks }
+        ensures here { (c : Colour) → result ≡ HeardHere c → (P.shows self.new.seat).here ≡ Some c }
+    {
+        let ring = post.ring(&mut self.seat);
+        if let Ring::Over = ring {
+            self.ended = true;
+            let rank = self.me;
+            self.book.note(self.options.trace, Event::SeeOver { rank });
+        }
+        ring
+    }
+
+    /// Handles the newest string and queues what it pushed.
+    fn handle_newest(&mut self)
+        requires some { 0 < length self.old.queue }
+        requires fresh { self.old.fresh ≡ [] }
+        ensures { HandledNewest J.log J.plain self.old self.new }
+    {
+        let Some(path) = self.queue.take() else {
+            unreachable!()
+        };
+        let waiting = self.queue.len();
+        let Ok(()) = self.job.handle(&path, waiting as u64, &mut self.fresh) else {
+            self.book.lost = true;
+            return;
+        };
+        let Ok(()) = self.queue.push_all(&mut self.fresh) else {
+            self.fresh.clear();
+            self.book.lost = true;
+            return;
+        };
+        let rank = self.me;
+        let kids = (self.queue.len() - waiting) as u64;
+        self.book
+            .note(self.options.trace, Event::Handle { rank, path, kids });
+    }
+
+    /// Looks for the answer to the open request, and queues what came.
+    fn look<P: Post<Seat = S>>(&mut self, post: &mut P, victim: u32) -> Did
+        requires seat { P.seats post.old self.old.seat }
+        requires knows { Knows P.shows self.old }
+        requires none { ServesNone P.shows self.old }
+        requires live { self.old.ended ≡ false }
+        requires empty { self.old.queue ≡ [] }
+        requires open { self.old.asked ≡ Some victim }
+        ensures came { Came J.log J.plain P.shows P.tells P.seats (Acts result) self.old post.old self.new post.new }
+        ensures waits { result ≡ DidWait → Waits self.new.me (P.tells post.new) }
+        ensures job { self.new.job ≡ self.old.job }
+        ensures other { result ≢ DidHandle }
+    {
+        let rank = self.me;
+        let trace = self.options.trace;
+        match post.answer(&mut self.seat) {
+            Answer::Pending => Did::Waited,
+            Answer::Nothing => {
+                self.asked = None;
+                self.tried = true;
+                let from = victim;
+                self.book.note(trace, Event::TakeNone { rank, from });
+                Did::Acted
+            }
+            Answer::Work(batch) => {
+                let mut batch = batch;
+                self.asked = None;
+                self.tried = false;
+                let from = victim;
+                let count = batch.len() as u64;
+                let Ok(()) = self.queue.push_all(&mut batch) else {
+                    self.book.lost = true;
+                    return Did::Acted;
+                };
+                self.book.note(trace, Event::Take { rank, from, count });
+                Did::Acted
+            }
+        }
+    }
+
+    /// Passes the token on, sends it round once more, or ends the run.
+    fn move_token<P: Post<Seat = S>>(&mut self, post: &mut P, held: Colour)
+        requires seat { P.seats post.old self.old.seat }
+        requires knows { Knows P.shows self.old }
+        requires none { ServesNone P.shows self.old }
+        requires live { self.old.ended ≡ false }
+        requires empty { self.old.queue ≡ [] }
+        requires rest { self.old.asked ≡ None }
+        requires here { (P.shows self.old.seat).here ≡ Some held }
+        requires tried { (self.old.options.ranks ≡ 1) ⊎ (self.old.tried ≡ true) }
+        ensures came { Came J.log J.plain P.shows P.tells P.seats (Acts DidAct) self.old post.old self.new post.new }
+        ensures job { self.new.job ≡ self.old.job }
+    {
+        let rank = self.me;
+        let trace = self.options.trace;
+        let colour = self.colour.darker(held);
+        if rank > 0 {
+            post.pass(&mut self.seat);
+            self.colour = Colour::White;
+            self.book.note(trace, Event::Pass { rank, colour });
+            return;
+        }
+        match colour {
+            Colour::Black => {
+                post.restart(&mut self.seat);
+                self.colour = Colour::White;
+                self.book.note(trace, Event::Restart { rank });
+            }
+            Colour::White => {
+                post.conclude(&mut self.seat);
+                self.ended = true;
+                self.book.note(trace, Event::Conclude { rank });
+            }
+        }
+    }
+
+    /// Asks another rank for strings.
+    fn ask_next<P: Post<Seat = S>>(&mut self, post: &mut P)
+        requires seat { P.seats post.old self.old.seat }
+        requires knows { Knows P.shows self.old }
+        requires none { ServesNone P.shows self.old }
+        requires live { self.old.ended ≡ false }
+        requires empty { self.old.queue ≡ [] }
+        requires rest { self.old.asked ≡ None }
+        requires many { 1 < self.old.options.ranks }
+        ensures came { Came J.log J.plain P.shows P.tells P.seats (Acts DidAct) self.old post.old self.new post.new }
+        ensures job { self.new.job ≡ self.old.job }
+    {
+        let rank = self.me;
+        let victim = victim(&mut self.draws, rank, self.options.ranks);
+        post.ask(&mut self.seat, victim);
+        self.asked = Some(victim);
+        self.book
+            .note(self.options.trace, Event::Ask { rank, victim });
+    }
+
+    /// Does the first that applies: handles a string, looks for an answer, moves the token, asks.
+    pub(crate) fn go_on<P: Post<Seat = S>>(&mut self, post: &mut P, ring: Ring) -> Did
+        requires seat { P.seats post.old self.old.seat }
+        requires knows { Knows P.shows self.old }
+        requires none { ServesNone P.shows self.old }
+        requires live { self.old.ended ≡ false }
+        requires unasked { NobodyAsks self.old.me (P.tells post.old) }
+        requires over { ring ≢ HeardOver }
+        requires elsewhere { ring ≡ HeardElsewhere → 1 < self.old.options.ranks }
+        requires here { (c : Colour) → ring ≡ HeardHere c → (P.shows self.old.seat).here ≡ Some c }
+        ensures came { Came J.log J.plain P.shows P.tells P.seats (Acts result) self.old post.old self.new post.new }
+        ensures waits { result ≡ DidWait → Waits self.new.me (P.tells post.new) }
+        ensures handled { result ≡ DidHandle → self.new.book.lost ≡ false → length (J.log self.new.job) ≡ length (J.log self.old.job) + 1 }
+        ensures other { result ≢ DidHandle → J.log self.new.job ≡ J.log self.old.job }
+    {
+        if self.queue.len() > 0 {
+            self.handle_newest();
+            return Did::Handled;
+        }
+        if let Some(victim) = self.asked {
+            return self.look(post, victim);
+        }
+        if let Ring::Here(held) = ring {
+            if self.tried || self.options.ranks == 1 {
+                self.move_token(post, held);
+                return Did::Acted;
+            }
+        }
+        self.ask_next(post);
+        Did::Acted
+    }
+}

@@ -1,0 +1,230 @@
+//! A rank's turns.
+ghost use Rattle.std.specs.Prelude.{◌≡◌, ◌≢◌, ℕ, ◌+◌, ◌++◌, ◌∷◌, ◌<◌, ◌≤◌, [], length, true, false, Some, None};
+ghost use Rattle.sum_tree.specs.Shown.{IsLeaf, refreshed};
+ghost use Rattle.circle_run.specs.Progress.{newest};
+ghost use Rattle.circle_run.specs.Ranks.{Knows, ServesNone, Came};
+ghost use Rattle.circle_run.specs.Turns.{Worked, Waits, with_service, turn_of, tallied};
+ghost use Rattle.circle_run.specs.Ready.{IsNew, Ready, SumsReady, Turned};
+ghost use Rattle.circle_run.specs.declared.steps.Did.TheVariants.{Handled as DidHandle, Waited as DidWait};
+ghost use Rattle.circle_run.specs.declared.ranks.Turn.TheVariants.{Went as TurnWent, Waited as TurnWaited, Ended as TurnEnded};
+
+use crate::books::Book;
+use crate::jobs::Job;
+use crate::outcomes::Share;
+use crate::ranks::{Rank, Turn};
+use crate::settings::Options;
+use crate::steps::Did;
+use post_board::{Post, Ring};
+use rank_queue::{Batch, RankQueue, generator};
+use ring_core::{Colour, Event};
+use std::alloc::Global;
+use sum_tree::Sums;
+
+impl<J: Job, S, T> Rank<J, S, T> {
+    /// The rank `me`, which has not had a turn yet. Its job has handled nothing, `queue` has what it was dealt, and its seats
+    /// are unused.
+    pub fn make(
+        alloc: Global,
+        job: J,
+        seat: S,
+        sums_seat: T,
+        queue: RankQueue,
+        options: &Options,
+        me: u32,
+    ) -> Rank<J, S, T>
+        requires { J.log job ≡ [] }
+        ensures { IsNew job seat sums_seat queue options.now me result }
+    {
+        let share = Share {
+            handled: 0,
+            given: 0,
+            taken: 0,
+        };
+        let book = Book {
+            events: Vec::new(alloc),
+            share,
+            sums: Vec::new(alloc),
+            lost: false,
+        };
+        Rank {
+            job,
+            seat,
+            sums_seat,
+            queue,
+            draws: generator(options.seed, me),
+            me,
+            options: *options,
+            colour: Colour::White,
+            tried: false,
+            asked: None,
+            ended: false,
+            book,
+            fresh: Batch::make(alloc),
+            alloc,
+        }
+    }
+
+    /// What it did so far, in order, where the options have a trace.
+    pub fn events(&self) -> &[Event]
+        ensures { result.now ≡ self.now.book.events.items }
+    {
+        &self.book.events
+    }
+
+    /// How many strings it handled, gave and took so far.
+    pub fn share(&self) -> Share
+        ensures { result ≡ self.now.book.share }
+    {
+        self.book.share
+    }
+
+    /// What the rank does at the board in a turn before its end.
+    fn work<P: Post<Seat = S>>(&mut self, post: &mut P) -> Did
+        requires seat { P.seats post.old self.old.seat }
+        requires knows { Knows P.shows self.old }
+        requires none { ServesNone P.shows self.old }
+        requires live { self.old.ended ≡ false }
+        ensures came { Came J.log J.plain P.shows P.tells P.seats (Worked result) self.old post.old self.new post.new }
+        ensures waits { result ≡ DidWait → Waits self.old.me (P.tells post.new) }
+        ensures handled { result ≡ DidHandle → self.new.book.lost ≡ false → length (J.log self.new.job) ≡ length (J.log self.old.job) + 1 }
+        ensures other { result ≢ DidHandle → J.log self.new.job ≡ J.log self.old.job }
+    {
+        let ring = self.hear(post);
+        if let Ring::Over = ring {
+            return Did::Acted;
+        }
+        let some = self.serve(post);
+        settle(&mut self.queue, &self.book, self.alloc);
+        let did = self.go_on(post, ring);
+        in_all(some, did)
+    }
+
+    /// One turn.
+    pub fn turn<P: Post<Seat = S>, Q: Sums<Seat = T>>(&mut self, post: &mut P, sums: &mut Q) -> Turn
+        requires ready { Ready J.log P.shows P.seats Q.shows Q.seats self.old post.old sums.old }
+        requires unfinished { (Q.shows self.old.sums_seat).answer ≡ None }
+        ensures ready { Ready J.log P.shows P.seats Q.shows Q.seats self.new post.new sums.new }
+        ensures turned { Turned J.log J.plain P.shows P.tells P.seats result self.old post.old self.new post.new }
+        ensures others { (other : S) → (P.shows other).number ≢ self.old.me → P.seats post.old other → P.seats post.new other }
+        ensures sums_others { (other : T) → (Q.shows other).number ≢ self.old.me → Q.seats sums.old other → Q.seats sums.new other }
+
+        // It waits for an answer before the end, and for final sums after it. After the end nothing happens at the board.
+        ensures waits { result ≡ TurnWaited → self.old.ended ≡ false → Waits self.old.me (P.tells post.new) }
+        ensures ended { result ≡ TurnEnded → (self.new.ended ≡ true) × ((Q.shows self.new.sums_seat).answer ≢ None) }
+        ensures unfinished { result ≢ TurnEnded → (Q.shows self.new.sums_seat).answer ≡ None }
+        ensures over { self.old.ended ≡ true → (result ≢ TurnWent) × (self.new.ended ≡ true) × (post.new ≡ post.old) }
+    {
+        if self.ended {
+            return self.finish(sums);
+        }
+        let did = self.work(post);
+        self.tally(sums, did);
+        settle(&mut self.queue, &self.book, self.alloc);
+        as_turn(did)
+    }
+
+    /// Counts a string that was handled, and shows what this rank and those below it counted.
+    fn tally<Q: Sums<Seat = T>>(&mut self, sums: &mut Q, did: Did)
+        requires seat { Q.seats sums.old self.old.sums_seat }
+        requires number { (Q.shows self.old.sums_seat).number ≡ self.old.me }
+        requires unfinished { (Q.shows self.old.sums_seat).answer ≡ None }
+        requires few { self.old.me < 64 }
+        requires narrow { self.old.options.width ≤ 64 }
+        ensures same { self.new ≡ record self.old { sums_seat = self.new.sums_seat; book = self.new.book } }
+        ensures book { self.new.book ≡ record self.old.book { sums = self.new.book.sums; lost = self.new.book.lost } }
+        ensures lost { self.old.book.lost ≡ true → self.new.book.lost ≡ true }
+        ensures unfinished { (Q.shows self.new.sums_seat).answer ≡ None }
+        ensures ready { (strings : ℕ) → SumsReady Q.shows Q.seats strings self.old sums.old → SumsReady Q.shows Q.seats (tallied did strings) self.new sums.new }
+        ensures others { (other : T) → (Q.shows other).number ≢ self.old.me → Q.seats sums.old other → Q.seats sums.new other }
+    {
+        match did {
+            Did::Handled => {
+                sums.raise(&mut self.sums_seat, 1);
+                self.show(sums);
+            }
+            _ => {
+                if self.me * self.options.width + 1 < self.options.ranks {
+                    self.show(sums);
+                }
+            }
+        }
+    }
+
+    /// Shows what this rank and those below it counted. Rank 0 keeps it as a number of progress.
+    fn show<Q: Sums<Seat = T>>(&mut self, sums: &mut Q)
+        requires seat { Q.seats sums.old self.old.sums_seat }
+        requires unfinished { (Q.shows self.old.sums_seat).answer ≡ None }
+        ensures same { self.new ≡ record self.old { sums_seat = self.new.sums_seat; book = self.new.book } }
+        ensures book { self.new.book ≡ record self.old.book { sums = self.new.book.sums; lost = self.new.book.lost } }
+        ensures lost { self.old.book.lost ≡ true → self.new.book.lost ≡ true }
+        ensures mine { Q.seats sums.new self.new.sums_seat }
+        ensures others { (other : T) → (Q.shows other).number ≢ (Q.shows self.old.sums_seat).number → Q.seats sums.old other → Q.seats sums.new other }
+        ensures shown { Q.shows self.new.sums_seat ≡ refreshed (Q.shows self.new.sums_seat).word (Q.shows self.old.sums_seat) }
+        ensures rises { (Q.shows self.old.sums_seat).word ≤ (Q.shows self.new.sums_seat).word }
+        ensures alone { IsLeaf (Q.shows self.old.sums_seat) → (Q.shows self.new.sums_seat).word ≡ (Q.shows self.old.sums_seat).count }
+        ensures more { self.old.me ≡ 0 → self.new.book.lost ≡ false → newest 0 self.old.book.sums.items + 1000 ≤ (Q.shows self.new.sums_seat).word → self.new.book.sums.items ≡ self.old.book.sums.items ++ (Q.shows self.new.sums_seat).word ∷ [] }
+        ensures few { self.old.me ≡ 0 → self.new.book.lost ≡ false → (Q.shows self.new.sums_seat).word < newest 0 self.old.book.sums.items + 1000 → self.new.book.sums.items ≡ self.old.book.sums.items }
+        ensures rest { self.old.me ≢ 0 → self.new.book ≡ self.old.book }
+    {
+        sums.refresh(&mut self.sums_seat);
+        if self.me > 0 {
+            return;
+        }
+        let word = sums.shown(&mut self.sums_seat);
+        self.book.keep(word);
+    }
+
+    /// Asks for the final sum. Rank 0 keeps it as the last number of progress.
+    fn finish<Q: Sums<Seat = T>>(&mut self, sums: &mut Q) -> Turn
+        requires seat { Q.seats sums.old self.old.sums_seat }
+        requires unfinished { (Q.shows self.old.sums_seat).answer ≡ None }
+        ensures same { self.new ≡ record self.old { sums_seat = self.new.sums_seat; book = self.new.book } }
+        ensures book { self.new.book ≡ record self.old.book { sums = self.new.book.sums; lost = self.new.book.lost } }
+        ensures lost { self.old.book.lost ≡ true → self.new.book.lost ≡ true }
+        ensures ready { (strings : ℕ) → SumsReady Q.shows Q.seats strings self.old sums.old → SumsReady Q.shows Q.seats strings self.new sums.new }
+        ensures others { (other : T) → (Q.shows other).number ≢ (Q.shows self.old.sums_seat).number → Q.seats sums.old other → Q.seats sums.new other }
+        ensures ended { result ≡ TurnEnded → (Q.shows self.new.sums_seat).answer ≢ None }
+        ensures unfinished { result ≢ TurnEnded → (Q.shows self.new.sums_seat).answer ≡ None }
+        ensures over { result ≢ TurnWent }
+    {
+        match sums.finish(&mut self.sums_seat) {
+            None => Turn::Waited,
+            Some(sum) => {
+                if self.me == 0 {
+                    self.book.keep_last(sum);
+                }
+                Turn::Ended
+            }
+        }
+    }
+}
+
+// What came of a turn before the end.
+fn as_turn(did: Did) -> Turn
+    ensures { result ≡ turn_of did }
+{
+    match did {
+        Did::Waited => Turn::Waited,
+        _ => Turn::Went,
+    }
+}
+
+// What a rank did in all, where some asked it or none.
+fn in_all(some: bool, did: Did) -> Did
+    ensures { result ≡ with_service some did }
+{
+    match did {
+        Did::Waited => { if some { Did::Acted } else { Did::Waited } }
+        _ => did,
+    }
+}
+
+// A rank that found no memory has no string.
+fn settle(queue: &mut RankQueue, book: &Book, alloc: Global)
+    ensures lost { book.now.lost ≡ true → queue.new ≡ [] }
+    ensures kept { book.now.lost ≡ false → queue.new ≡ queue.old }
+{
+    if book.lost {
+        *queue = RankQueue::make(alloc);
+    }
+}
