@@ -3,18 +3,23 @@ use Rattle.std.proofs.Common.{◌≡◌, ℕ, Bool, true, false, cond, List, [],
 use Rattle.std.specs.List.{AllZip}
 use Rattle.std.specs.declared.cmp.Ordering.TheVariants.{Less, Equal, Greater}
 use Rattle.std.specs.FinMap.{get, insert, remove, get-insert, get-remove, same_map, from_entries}
-use Rattle.std.specs.Map.{lookup, remove_entry}
+use Rattle.std.specs.Map.{lookup, remove_entry, set_value}
 use Rattle.std.specs.BTreeMap.{is_at, insert_entry}
 use Rattle.std.specs.Ordering.{match_ordering}
 use Rattle.std.specs.Cmp.{eq_by_cmp_equiv}
 use Rattle.std.specs.Option.{option_map}
 use Rattle.files_mem.specs.declared.nodes.Node as stored
-use Rattle.files_mem.specs.Stored.{node_of, files_of, AllValid}
+use Rattle.files_mem.specs.Stored.{node_of, body_of, files_of, AllValid}
 use Rattle.files_mem.proofs.Found.{get_is}
 use Rattle.files_mem.proofs.Listed.{told}
+use Rattle.std.specs.Prelude.{Result, Ok, Err, OnOk, OnErr}
+use Rattle.std.specs.Ordering.{eq_by_cmp}
+use Rattle.std.specs.Cmp.Lexicographic.{bytes_decides}
+use Rattle.outside.specs.Tree.{Files, Node, file, content, bytes_of}
+use Rattle.outside.specs.Writes.{written, spliced, time_of}
 use Rattle.path_text.specs.Order.{path_cmp}
 use Rattle.path_text.specs.Path.{refusal}
-use Rattle.path_text.specs.Total.{path_cmp_total, path_cmp_same}
+use Rattle.path_text.specs.Total.{path_cmp_total, path_cmp_same, path_cmp_ties}
 
 pub inserted : (old new : List (List ℕ × stored.Node)) (p : List ℕ) (n : stored.Node) →
     ((q : List ℕ) → lookup (is_at (path_cmp q)) new ≡ cond (is_at (path_cmp p) q) (Some n) (lookup (is_at (path_cmp q)) old)) → files_of new ≡ insert (files_of old) p (node_of n)
@@ -28,6 +33,37 @@ inserted old new p n h =
     through : (b : Bool) (o : Option stored.Node) → option_map node_of (cond b (Some n) o) ≡ cond b (Some (node_of n)) (option_map node_of o)
     through true o = refl
     through false o = refl
+
+-- what a look-up in the map finds, the tree has
+pub node_here : (es : List (List ℕ × stored.Node)) (f : Files) (p : List ℕ) (n : stored.Node) → Some n ≡ lookup (is_at (path_cmp p)) es → files_of es ≡ f → get f p ≡ Some (node_of n)
+node_here es f p n found view = ap (λ f. get f p) (sym view) ∙ get_is p es ∙ ap (option_map node_of) (sym found)
+
+pub none_here : (es : List (List ℕ × stored.Node)) (f : Files) (p : List ℕ) → None ≡ lookup (is_at (path_cmp p)) es → files_of es ≡ f → get f p ≡ None
+none_here es f p found view = ap (λ f. get f p) (sym view) ∙ get_is p es ∙ ap (option_map node_of) (sym found)
+
+-- what a write through `get_mut` does
+
+abbrev Through : List (List ℕ × stored.Node) → List (List ℕ × stored.Node) → List ℕ → stored.Node → Type 0
+Through old new p w = (q : List ℕ) → lookup (is_at (path_cmp q)) new ≡ cond (is_at (path_cmp p) q) (Some w) (lookup (is_at (path_cmp q)) old)
+
+insert_same : (f : Files) (p : List ℕ) (n : Node) → get f p ≡ Some n → insert f p n ≡ f
+insert_same f p n here =
+    same_map path_cmp_total path_cmp_same (insert f p n) f
+    (λ q. get-insert path_cmp_total f p n q ∙ elim (eq_by_cmp path_cmp q p) as (λ b. eq_by_cmp path_cmp q p ≡ b → cond b (Some n) (get f q) ≡ get f q) [
+      | true ↦ λ e. sym here ∙ ap (get f) (sym ((bytes_decides q p).0 (path_cmp_ties q p ∙ e)))
+      | false ↦ λ e. refl
+    ] refl)
+
+pub wrote : {B : Type 0} (r : Result (Unit {0}) B) (es ns : List (List ℕ × stored.Node)) (f : Files) (p : List ℕ) (n w : stored.Node) (at : ℕ) (bytes : List ℕ) → files_of es ≡ f → get f p ≡ Some (node_of n) → Through es ns p w →
+    OnOk r (node_of w ≡ record { body = file (spliced (bytes_of (body_of n.body)) at bytes); mtime = n.mtime }) → OnOk r (files_of ns ≡ written f p at bytes)
+wrote (Ok x) es ns f p n w at bytes view here t done =
+    inserted es ns p w t ∙ ap (λ f. insert f p (node_of w)) view ∙ ap (insert f p) done
+    ∙ ap (λ o. insert f p (record { body = file (spliced (content o) at bytes); mtime = time_of o })) (sym here)
+wrote (Err x) es ns f p n w at bytes view here t done = tt
+
+pub wrote_not : {B : Type 0} (r : Result (Unit {0}) B) (es ns : List (List ℕ × stored.Node)) (f : Files) (p : List ℕ) (n w : stored.Node) → files_of es ≡ f → get f p ≡ Some (node_of n) → Through es ns p w → OnErr r (node_of w ≡ node_of n) → OnErr r (files_of ns ≡ f)
+wrote_not (Ok x) es ns f p n w view here t kept = tt
+wrote_not (Err x) es ns f p n w view here t kept = inserted es ns p w t ∙ ap (λ f. insert f p (node_of w)) view ∙ ap (insert f p) kept ∙ insert_same f p (node_of n) here
 
 pub removed : (old new : List (List ℕ × stored.Node)) (p : List ℕ) →
     ((q : List ℕ) → lookup (is_at (path_cmp q)) new ≡ cond (is_at (path_cmp p) q) None (lookup (is_at (path_cmp q)) old)) → files_of new ≡ remove (files_of old) p
@@ -54,6 +90,10 @@ valid_insert (e ∷ es) p n v a =
 pub valid_remove : (test : List ℕ → Bool) (es : List (List ℕ × stored.Node)) → AllValid es → AllValid (remove_entry test es)
 valid_remove test [] a = tt
 valid_remove test (e ∷ es) a = elim (test e.0) as (λ b. AllValid (cond b es (e ∷ remove_entry test es))) [ true ↦ a.1 | false ↦ (a.0, valid_remove test es a.1) ]
+
+pub valid_set : (test : List ℕ → Bool) (es : List (List ℕ × stored.Node)) (n : stored.Node) → AllValid es → AllValid (set_value test es n)
+valid_set test [] n a = tt
+valid_set test (e ∷ es) n a = elim (test e.0) as (λ b. AllValid (cond b ((e.0, n) ∷ es) (e ∷ set_value test es n))) [ true ↦ a | false ↦ (a.0, valid_set test es n a.1) ]
 
 abbrev pub IsCopy : List (List ℕ × stored.Node) → List (List ℕ × stored.Node) → Type 0
 IsCopy es fs = AllZip (λ p q. (q.0 ≡ p.0) × (node_of q.1 ≡ node_of p.1)) es fs

@@ -1,15 +1,20 @@
 -- A tree stays one where a node is added in a directory.
-use Rattle.std.proofs.Common.{◌≡◌, ℕ, Bool, true, false, cond, ◌&&◌, ◌||◌, List, [], ◌∷◌, Option, Some, None, refl, ap, ◌∙◌, sym, subst}
-use Rattle.std.specs.Prelude.{Result, Ok, Err, OnOk, OnErr}
+use Rattle.std.proofs.Common.{◌≡◌, ℕ, Bool, true, false, cond, ◌&&◌, ◌||◌, List, [], ◌∷◌, Option, Some, None, refl, ap, ◌∙◌, sym, subst, arith}
+use Rattle.std.specs.Prelude.{length, not, Result, Ok, Err, OnOk, OnErr}
 use Rattle.std.specs.Option.{is_none, is_some}
 use Rattle.std.specs.Ordering.{eq_by_cmp}
 use Rattle.std.specs.Cmp.Lexicographic.{bytes_decides}
-use Rattle.std.specs.FinMap.{get, insert, empty, get-insert, get-empty}
+use Rattle.std.specs.FinMap.{get, insert, empty, remove, get-insert, get-remove, get-empty}
 use Rattle.std.proofs.lemmas.Bool.{false≢true}
 use Rattle.path_text.specs.Order.{path_cmp}
 use Rattle.path_text.specs.Path.{refusal, parent_of}
 use Rattle.path_text.specs.Total.{path_cmp_total, path_cmp_ties}
-use Rattle.outside.specs.Tree.{Files, Node, dir, is_dir, is_root, IsTree}
+use Rattle.outside.specs.Tree.{Files, Node, Body, dir, file, link, other, is_dir, is_dir_body, is_file, is_file_body, is_root, names_in, IsTree}
+use Rattle.outside.specs.Writes.{written, write_refusal, remove_file_refusal, remove_dir_refusal, is_open, all_but}
+use Rattle.outside.specs.Parents.{no_child}
+use Rattle.outside.specs.declared.plots.WriteError.TheVariants as write
+use Rattle.std.specs.Bool.{IsTrue}
+use Rattle.std.proofs.lemmas.Bool.Decides.{nat_tests}
 use Rattle.files_mem.specs.declared.errors.PutError.TheVariants.{Exists, NoParent}
 use Rattle.files_mem.specs.Memory.{put_refusal, empty_files}
 
@@ -20,10 +25,10 @@ same_path q p e = (bytes_decides q p).0 (path_cmp_ties q p ∙ e)
 elsewhere : (files : Files) (p q : List ℕ) (n : Node) → eq_by_cmp path_cmp q p ≡ false → get (insert files p n) q ≡ get files q
 elsewhere files p q n e = get-insert path_cmp_total files p n q ∙ ap (λ b. cond b (Some n) (get files q)) e
 
-keeps_dir : (files : Files) (p x : List ℕ) (n : Node) → get files p ≡ None → is_dir (get files x) ≡ true → is_dir (get (insert files p n) x) ≡ true
-keeps_dir files p x n none d =
+keeps_dir : (files : Files) (p x : List ℕ) (n : Node) → is_dir (get files p) ≡ false → is_dir (get files x) ≡ true → is_dir (get (insert files p n) x) ≡ true
+keeps_dir files p x n off d =
     elim (eq_by_cmp path_cmp x p) as (λ b. eq_by_cmp path_cmp x p ≡ b → is_dir (get (insert files p n) x) ≡ true) [
-      | true ↦ λ e. absurd (false≢true (ap is_dir (sym none ∙ ap (get files) (sym (same_path x p e))) ∙ d))
+      | true ↦ λ e. absurd (false≢true (sym off ∙ ap is_dir (ap (get files) (sym (same_path x p e))) ∙ d))
       | false ↦ λ e. ap is_dir (elsewhere files p x n e) ∙ d
     ] refl
 
@@ -39,27 +44,27 @@ both false b p q = p
 abbrev IsPlaced : Files → List ℕ → Type 0
 IsPlaced files q = (is_none (get files q) || (is_none (refusal q) && is_dir (get files (parent_of q)))) ≡ true
 
+still : (a b c d : Bool) → (c ≡ true → d ≡ true) → (a || (b && c)) ≡ true → (a || (b && d)) ≡ true
+still true b c d k e = refl
+still false true c d k e = k e
+still false false c d k e = e
+
 placed_new : (files : Files) (p q : List ℕ) (n : Node) → get files p ≡ None → refusal p ≡ None → is_dir (get files (parent_of p)) ≡ true → IsPlaced files q → IsPlaced (insert files p n) q
 placed_new files p q n none fine above h =
     elim (eq_by_cmp path_cmp q p) as (λ b. eq_by_cmp path_cmp q p ≡ b → IsPlaced (insert files p n) q) [
       | true ↦ λ e. let is = same_path q p e in
-          or_right (is_none (get (insert files p n) q)) _ (both (is_none (refusal q)) _ (ap is_none (ap refusal is ∙ fine)) (keeps_dir files p (parent_of q) n none (ap (λ x. is_dir (get files (parent_of x))) is ∙ above)))
+          or_right (is_none (get (insert files p n) q)) _ (both (is_none (refusal q)) _ (ap is_none (ap refusal is ∙ fine)) (keeps_dir files p (parent_of q) n (ap is_dir none) (ap (λ x. is_dir (get files (parent_of x))) is ∙ above)))
       | false ↦ λ e.
           ap (λ o. is_none o || (is_none (refusal q) && is_dir (get (insert files p n) (parent_of q)))) (elsewhere files p q n e)
-          ∙ still (is_none (get files q)) (is_none (refusal q)) (is_dir (get files (parent_of q))) (is_dir (get (insert files p n) (parent_of q))) (keeps_dir files p (parent_of q) n none) h
+          ∙ still (is_none (get files q)) (is_none (refusal q)) (is_dir (get files (parent_of q))) (is_dir (get (insert files p n) (parent_of q))) (keeps_dir files p (parent_of q) n (ap is_dir none)) h
     ] refl
-  where
-    still : (a b c d : Bool) → (c ≡ true → d ≡ true) → (a || (b && c)) ≡ true → (a || (b && d)) ≡ true
-    still true b c d k e = refl
-    still false true c d k e = k e
-    still false false c d k e = e
 
 insert_tree : (files : Files) (p : List ℕ) (n : Node) → IsTree files → get files p ≡ None → refusal p ≡ None → is_dir (get files (parent_of p)) ≡ true → IsTree (insert files p n)
 unfolding IsTree
 insert_tree files p n h none fine above q =
     elim (is_root q) as (λ b. cond b (is_dir (get files q)) (is_none (get files q) || (is_none (refusal q) && is_dir (get files (parent_of q)))) ≡ true →
     cond b (is_dir (get (insert files p n) q)) (is_none (get (insert files p n) q) || (is_none (refusal q) && is_dir (get (insert files p n) (parent_of q)))) ≡ true) [
-      | true ↦ keeps_dir files p q n none
+      | true ↦ keeps_dir files p q n (ap is_dir none)
       | false ↦ placed_new files p q n none fine above
     ] (h q)
 
@@ -85,3 +90,132 @@ empty_tree q =
       | true ↦ λ e. ap is_dir e
       | false ↦ λ e. ap (λ o. is_none o || (is_none (refusal q) && is_dir (get empty_files (parent_of q)))) (e ∙ get-empty path_cmp q)
     ] here
+
+-- a node that is no directory takes the place of one that is none
+
+placed_again : (files : Files) (p q : List ℕ) (n : Node) → is_none (get files p) ≡ false → is_dir (get files p) ≡ false → IsPlaced files q → IsPlaced (insert files p n) q
+placed_again files p q n some off h =
+    elim (eq_by_cmp path_cmp q p) as (λ b. eq_by_cmp path_cmp q p ≡ b → IsPlaced (insert files p n) q) [
+      | true ↦ λ e. or_right (is_none (get (insert files p n) q)) _
+          (still false (is_none (refusal q)) (is_dir (get files (parent_of q))) (is_dir (get (insert files p n) (parent_of q))) (keeps_dir files p (parent_of q) n off)
+          (ap (λ b. b || (is_none (refusal q) && is_dir (get files (parent_of q)))) (sym (ap is_none (ap (get files) (same_path q p e)) ∙ some)) ∙ h))
+      | false ↦ λ e.
+          ap (λ o. is_none o || (is_none (refusal q) && is_dir (get (insert files p n) (parent_of q)))) (elsewhere files p q n e)
+          ∙ still (is_none (get files q)) (is_none (refusal q)) (is_dir (get files (parent_of q))) (is_dir (get (insert files p n) (parent_of q))) (keeps_dir files p (parent_of q) n off) h
+    ] refl
+
+again_tree : (files : Files) (p : List ℕ) (n : Node) → IsTree files → is_none (get files p) ≡ false → is_dir (get files p) ≡ false → IsTree (insert files p n)
+unfolding IsTree
+again_tree files p n h some off q =
+    elim (is_root q) as (λ b. cond b (is_dir (get files q)) (is_none (get files q) || (is_none (refusal q) && is_dir (get files (parent_of q)))) ≡ true →
+    cond b (is_dir (get (insert files p n) q)) (is_none (get (insert files p n) q) || (is_none (refusal q) && is_dir (get (insert files p n) (parent_of q)))) ≡ true) [
+      | true ↦ keeps_dir files p q n off
+      | false ↦ placed_again files p q n some off
+    ] (h q)
+
+file_there : (o : Option Node) → is_file o ≡ true → (is_none o ≡ false) × (is_dir o ≡ false)
+file_there None e = absurd (false≢true e)
+file_there (Some n) e = (refl, by_body n.body e)
+  where
+    by_body : (b : Body) → is_file_body b ≡ true → is_dir_body b ≡ false
+    by_body (dir far) e = absurd (false≢true e)
+    by_body (file bytes) e = refl
+    by_body link e = refl
+    by_body other e = refl
+
+-- after bytes were written to a file, or were not
+pub write_tree : {B : Type 0} (r : Result (Unit {0}) B) (old new : Files) (p : List ℕ) (at : ℕ) (bytes : List ℕ) → IsTree old → is_file (get old p) ≡ true → OnOk r (new ≡ written old p at bytes) → OnErr r (new ≡ old) → IsTree new
+write_tree (Ok x) old new p at bytes t f done kept = let h = file_there (get old p) f in subst IsTree (sym done) (again_tree old p _ t h.0 h.1)
+write_tree (Err x) old new p at bytes t f done kept = subst IsTree (sym kept) t
+
+-- a node is gone, over which no other node stands
+
+off_here : (files : Files) (p q : List ℕ) → eq_by_cmp path_cmp q p ≡ false → get (remove files p) q ≡ get files q
+off_here files p q e = get-remove path_cmp_total files p q ∙ ap (λ b. cond b None (get files q)) e
+
+-- no node has the path as its parent
+abbrev pub IsBare : Files → List ℕ → Type 0
+IsBare files p = (q : List ℕ) → refusal q ≡ None → is_root q ≡ false → is_some (get files q) ≡ true → parent_of q ≡ p → ⊥
+
+none_of : {A : Type 0} (o : Option A) → is_none o ≡ true → o ≡ None
+none_of None e = refl
+none_of (Some x) e = absurd (false≢true e)
+
+some_of : {A : Type 0} (o : Option A) → is_none o ≡ false → is_some o ≡ true
+some_of None e = absurd (false≢true (sym e))
+some_of (Some x) e = refl
+
+both_parts : (a b : Bool) → (a && b) ≡ true → (a ≡ true) × (b ≡ true)
+both_parts true b e = (refl, e)
+both_parts false b e = absurd (false≢true e)
+
+placed_left : (files : Files) (p q : List ℕ) → IsBare files p → is_root q ≡ false → IsPlaced files q → IsPlaced (remove files p) q
+placed_left files p q bare off h =
+    elim (eq_by_cmp path_cmp q p) as (λ b. eq_by_cmp path_cmp q p ≡ b → IsPlaced (remove files p) q) [
+      | true ↦ λ e. ap (λ o. is_none o || (is_none (refusal q) && is_dir (get (remove files p) (parent_of q)))) (get-remove path_cmp_total files p q ∙ ap (λ b. cond b None (get files q)) e)
+      | false ↦ λ e. ap (λ o. is_none o || (is_none (refusal q) && is_dir (get (remove files p) (parent_of q)))) (off_here files p q e) ∙ there (is_none (get files q)) refl
+    ] refl
+  where
+    over : is_none (get files q) ≡ false → is_none (refusal q) ≡ true → eq_by_cmp path_cmp (parent_of q) p ≡ false
+    over some fine =
+        elim (eq_by_cmp path_cmp (parent_of q) p) as (λ b. eq_by_cmp path_cmp (parent_of q) p ≡ b → b ≡ false) [
+          | true ↦ λ e. absurd (bare q (none_of (refusal q) fine) off (some_of (get files q) some) (same_path (parent_of q) p e))
+          | false ↦ λ e. refl
+        ] refl
+
+    there : (b : Bool) → is_none (get files q) ≡ b → (is_none (get files q) || (is_none (refusal q) && is_dir (get (remove files p) (parent_of q)))) ≡ true
+    there true e = ap (λ b. b || (is_none (refusal q) && is_dir (get (remove files p) (parent_of q)))) e
+    there false e =
+        let parts = both_parts (is_none (refusal q)) (is_dir (get files (parent_of q))) (ap (λ b. b || (is_none (refusal q) && is_dir (get files (parent_of q)))) (sym e) ∙ h) in
+        or_right (is_none (get files q)) _ (both (is_none (refusal q)) _ parts.0 (ap is_dir (off_here files p (parent_of q) (over e parts.0)) ∙ parts.1))
+
+root_off : (p q : List ℕ) → is_root p ≡ false → is_root q ≡ true → eq_by_cmp path_cmp q p ≡ false
+root_off p q off on =
+    elim (eq_by_cmp path_cmp q p) as (λ b. eq_by_cmp path_cmp q p ≡ b → b ≡ false) [
+      | true ↦ λ e. absurd (false≢true (sym off ∙ ap is_root (sym (same_path q p e)) ∙ on))
+      | false ↦ λ e. refl
+    ] refl
+
+remove_tree : (files : Files) (p : List ℕ) → IsTree files → is_root p ≡ false → IsBare files p → IsTree (remove files p)
+unfolding IsTree
+remove_tree files p h off bare q =
+    elim (is_root q) as (λ b. is_root q ≡ b → cond b (is_dir (get files q)) (is_none (get files q) || (is_none (refusal q) && is_dir (get files (parent_of q)))) ≡ true →
+    cond b (is_dir (get (remove files p) q)) (is_none (get (remove files p) q) || (is_none (refusal q) && is_dir (get (remove files p) (parent_of q)))) ≡ true) [
+      | true ↦ λ is d. ap is_dir (off_here files p q (root_off p q off is)) ∙ d
+      | false ↦ λ is. placed_left files p q bare is
+    ] refl (h q)
+
+-- no node is under one that is no directory
+bare_file : (files : Files) (p : List ℕ) → IsTree files → is_dir (get files p) ≡ false → IsBare files p
+unfolding IsTree
+bare_file files p h off q fine root here over =
+    false≢true (sym off ∙ ap (λ x. is_dir (get files x)) (sym over) ∙ dir_over (is_root q) root (get files q) here (h q))
+  where
+    dir_over : (b : Bool) → b ≡ false → (o : Option Node) → is_some o ≡ true → cond b (is_dir o) (is_none o || (is_none (refusal q) && is_dir (get files (parent_of q)))) ≡ true → is_dir (get files (parent_of q)) ≡ true
+    dir_over true e o s c = absurd (false≢true (sym e))
+    dir_over false e None s c = absurd (false≢true s)
+    dir_over false e (Some n) s c = (both_parts (is_none (refusal q)) (is_dir (get files (parent_of q))) c).1
+
+no_dir : (o : Option Node) → remove_file_refusal o ≡ None → is_dir o ≡ false
+no_dir None e = refl
+no_dir (Some n) e = elim (is_dir (Some n)) as (λ b. cond b (Some write.WrongKind) None ≡ None → b ≡ false) [ true ↦ λ h. cc | false ↦ λ h. refl ] e
+
+pub can_write : (o : Option Node) → write_refusal o ≡ None → is_file o ≡ true
+can_write None e = cc
+can_write (Some n) e = elim (is_file (Some n)) as (λ b. cond b None (Some write.WrongKind) ≡ None → b ≡ true) [ true ↦ λ h. refl | false ↦ λ h. cc ] e
+
+no_name : (files : Files) (p : List ℕ) → remove_dir_refusal files p ≡ None → length (names_in files p) ≡ 0
+no_name files p e = grind (arith, nat_tests)
+
+not_root : (p : List ℕ) → IsTrue (is_open (all_but []) p) → is_root p ≡ false
+not_root p o = elim (is_root p) as (λ b. not b ≡ true → b ≡ false) [ true ↦ λ h. absurd (false≢true h) | false ↦ λ h. refl ] o
+
+-- after a node was removed as that is not refused, or was not
+
+pub take_file : {B : Type 0} (r : Result (Unit {0}) B) (old new : Files) (p : List ℕ) → IsTree old → IsTrue (is_open (all_but []) p) → remove_file_refusal (get old p) ≡ None → OnOk r (new ≡ remove old p) → OnErr r (new ≡ old) → IsTree new
+take_file (Ok x) old new p t o e done kept = subst IsTree (sym done) (remove_tree old p t (not_root p o) (bare_file old p t (no_dir (get old p) e)))
+take_file (Err x) old new p t o e done kept = subst IsTree (sym kept) t
+
+pub take_dir : {B : Type 0} (r : Result (Unit {0}) B) (old new : Files) (p : List ℕ) → IsTree old → IsTrue (is_open (all_but []) p) → remove_dir_refusal old p ≡ None → OnOk r (new ≡ remove old p) → OnErr r (new ≡ old) → IsTree new
+take_dir (Ok x) old new p t o e done kept = subst IsTree (sym done) (remove_tree old p t (not_root p o) (λ q fine off here over. no_child old p q (no_name old p e) fine off here over))
+take_dir (Err x) old new p t o e done kept = subst IsTree (sym kept) t

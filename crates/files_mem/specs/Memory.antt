@@ -1,15 +1,17 @@
 -- Files in memory: the tree, what is planned to fail in it, and how often it has failed. Our own.
-use Rattle.std.specs.Prelude.{ℕ, Bool, List, [], ◌∷◌, ◌++◌, Option, Some, None, if◌then◌else◌, is_some, refl}
+use Rattle.std.specs.Prelude.{◌≡◌, ℕ, ◌-◌, min, length, take, drop, true, false, Bool, Result, Ok, Err, List, [], ◌∷◌, ◌++◌, Option, Some, None, if◌then◌else◌, is_some, refl}
 use Rattle.std.specs.Coded.{Coded, code_by, coded×, coded_ℕ}
 use Rattle.std.specs.FinMap.{get, insert, empty}
-use Rattle.outside.specs.Tree.{Files, Node, Body, dir, file, link, other, is_dir}
+use Rattle.outside.specs.Tree.{Files, Node, Body, dir, file, link, other, is_dir, is_file, content}
 use Rattle.path_text.specs.Path.{parent_of}
 use Rattle.outside.specs.Codes.{files_code}
 use Rattle.outside.specs.Count.{capped}
 use Rattle.files_mem.specs.declared.plans.Call.{Call}
 use Rattle.files_mem.specs.declared.errors.PutError.{PutError}
-use Rattle.files_mem.specs.declared.errors.PutError.TheVariants.{Exists, NoParent}
-use Rattle.files_mem.specs.Planned.{planned_code}
+use Rattle.files_mem.specs.declared.errors.PutError.TheVariants as put
+use Rattle.outside.specs.declared.plots.WriteError.{WriteError}
+use Rattle.outside.specs.declared.plots.WriteError.TheVariants as write
+use Rattle.files_mem.specs.Planned.{planned_code, is_planned}
 
 -- the nodes by their paths, the calls that are planned to fail, and the count of faults
 pub record Memory : Type 0 where
@@ -41,9 +43,15 @@ with_planned m call path = record m { planned = m.planned ++ (call, path) ∷ []
 -- why no node can be put at the path
 abbrev pub put_refusal : Files → List ℕ → Option PutError
 put_refusal files path =
-    if is_some (get files path) then Some Exists
+    if is_some (get files path) then Some put.Exists
     else if is_dir (get files (parent_of path)) then None
-    else Some NoParent
+    else Some put.NoParent
+
+-- the refusal of a call that writes, where putting is refused so
+abbrev pub write_error : PutError → WriteError
+write_error put.Exists = write.Exists
+write_error put.NoParent = write.NoParent
+write_error put.OutOfMemory = write.OutOfMemory
 
 -- of a directory the number of children whose path is too long
 abbrev pub body_far : Body → Option ℕ
@@ -55,3 +63,21 @@ body_far other = None
 abbrev pub dir_far : Option Node → Option ℕ
 dir_far None = None
 dir_far (Some n) = body_far n.body
+
+-- a buffer's front holds the file's bytes from a place on, as many as there are and as fit
+pub record FillsFrom (node : Option Node) (at : ℕ) (buffer : List ℕ) (n : ℕ) : Type 0 where
+  pub is_file : is_file node ≡ true
+  pub many : n ≡ min (length buffer) (length (content node) - at)
+  pub same : take n buffer ≡ take n (drop at (content node))
+
+-- what a call that writes answers and leaves, where it is refused as `refusal` says, and else makes `after` of the files: it
+-- fails exactly where that is planned, and counts that; else only want of memory may stand in place of an answer
+abbrev pub Acts : Call → List ℕ → Option WriteError → Files → Memory → Result (Unit {0}) WriteError → Memory → Type 0
+Acts call path refusal after before (Ok _) new = (is_planned call path before.planned ≡ false) × ((refusal ≡ None) × (new ≡ record before { files = after }))
+Acts call path refusal after before (Err write.Failed) new = (is_planned call path before.planned ≡ true) × (new ≡ answered true before)
+Acts call path refusal after before (Err write.OutOfMemory) new = (is_planned call path before.planned ≡ false) × (new ≡ before)
+Acts call path refusal after before (Err write.Exists) new = (is_planned call path before.planned ≡ false) × ((refusal ≡ Some write.Exists) × (new ≡ before))
+Acts call path refusal after before (Err write.NoParent) new = (is_planned call path before.planned ≡ false) × ((refusal ≡ Some write.NoParent) × (new ≡ before))
+Acts call path refusal after before (Err write.Absent) new = (is_planned call path before.planned ≡ false) × ((refusal ≡ Some write.Absent) × (new ≡ before))
+Acts call path refusal after before (Err write.WrongKind) new = (is_planned call path before.planned ≡ false) × ((refusal ≡ Some write.WrongKind) × (new ≡ before))
+Acts call path refusal after before (Err write.NotEmpty) new = (is_planned call path before.planned ≡ false) × ((refusal ≡ Some write.NotEmpty) × (new ≡ before))

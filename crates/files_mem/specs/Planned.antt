@@ -4,12 +4,18 @@ use Rattle.std.specs.Coded.{Coded, code_by, coded×, coded_ℕ, coded_list}
 use Rattle.std.specs.List.{list_any}
 use Rattle.std.specs.Cmp.Lexicographic.{pointwise}
 use Rattle.files_mem.specs.declared.plans.Call.{Call}
-use Rattle.files_mem.specs.declared.plans.Call.TheVariants.{Stat, List as ListCall, Name}
+use Rattle.files_mem.specs.declared.plans.Call.TheVariants.{Stat, List as ListCall, Name, Read, MakeDir, MakeFile, Write, RemoveFile, RemoveDir}
 
 abbrev pub call_number : Call → ℕ
 call_number Stat = 0
 call_number ListCall = 1
 call_number Name = 2
+call_number Read = 3
+call_number MakeDir = 4
+call_number MakeFile = 5
+call_number Write = 6
+call_number RemoveFile = 7
+call_number RemoveDir = 8
 
 -- two are one call
 abbrev pub is_call : Call → Call → Bool
@@ -22,12 +28,24 @@ is_planned call path planned = list_any (λ p. is_call p.0 call && pointwise nat
 abbrev pub from_number : ℕ → Call
 from_number zero = Stat
 from_number (suc zero) = ListCall
-from_number (suc (suc n)) = Name
+from_number (suc (suc zero)) = Name
+from_number (suc (suc (suc zero))) = Read
+from_number (suc (suc (suc (suc zero)))) = MakeDir
+from_number (suc (suc (suc (suc (suc zero))))) = MakeFile
+from_number (suc (suc (suc (suc (suc (suc zero)))))) = Write
+from_number (suc (suc (suc (suc (suc (suc (suc zero))))))) = RemoveFile
+from_number (suc (suc (suc (suc (suc (suc (suc (suc n)))))))) = RemoveDir
 
 abbrev pub same_call : (c : Call) → from_number (call_number c) ≡ c
 same_call Stat = refl
 same_call ListCall = refl
 same_call Name = refl
+same_call Read = refl
+same_call MakeDir = refl
+same_call MakeFile = refl
+same_call Write = refl
+same_call RemoveFile = refl
+same_call RemoveDir = refl
 
 abbrev pub planned_code : Coded (List (Call × List ℕ))
 planned_code = coded_list (coded× (code_by ℕ coded_ℕ call_number from_number same_call) (coded_list coded_ℕ))

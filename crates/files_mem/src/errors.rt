@@ -1,4 +1,5 @@
 //! Why a node is not put.
+use outside::WriteError;
 use path_text::OutOfMemory;
 use std::alloc::{AllocError, AllocFailed};
 use thiserror::Error;
@@ -36,5 +37,20 @@ impl From<AllocError> for PutError {
 
     fn from(_: AllocError) -> Self {
         PutError::OutOfMemory
+    }
+}
+
+impl From<PutError> for WriteError {
+    ghost use Rattle.std.specs.Prelude.{◌≡◌};
+    ghost use Rattle.files_mem.specs.Memory.{write_error};
+
+    ghost from_gives = { λ refused e. e ≡ write_error refused };
+
+    fn from(refused: PutError) -> Self {
+        match refused {
+            PutError::Exists => WriteError::Exists,
+            PutError::NoParent => WriteError::NoParent,
+            PutError::OutOfMemory => WriteError::OutOfMemory,
+        }
     }
 }

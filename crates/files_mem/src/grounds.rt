@@ -1,18 +1,20 @@
 //! Files in memory.
-ghost use Rattle.std.specs.Prelude.{◌≡◌, ◌⊎◌, ◌++◌, ◌∷◌, [], Some, None, OnOk, OnErr, IfOk, IfErr};
+ghost use Rattle.std.specs.Prelude.{◌≡◌, ◌⊎◌, ◌≤◌, ◌++◌, ◌∷◌, [], Some, None, true, length, IsTrue, OnOk, OnErr, IfOk, IfErr, IsErrOf};
 ghost use Rattle.std.specs.Arc.{arc_value};
 ghost use Rattle.std.specs.FinMap as map;
-ghost use Rattle.outside.specs.Count.{capped};
-ghost use Rattle.outside.specs.Tree.{IsTree, dir, file, link, other};
+ghost use Rattle.outside.specs.Count.{RoseBy, capped};
+ghost use Rattle.outside.specs.Tree.{IsTree, dir, file, link, other, is_file, content};
+ghost use Rattle.outside.specs.Writes.{all_but, is_open, make_refusal, write_refusal, remove_file_refusal, remove_dir_refusal, empty_dir, new_file, written, HasPlace, Answers, may_make, may_change, may_empty};
 ghost use Rattle.files_mem.specs.Stored.{node_of};
-ghost use Rattle.files_mem.specs.Memory.{Memory, put_refusal, empty_files, with_node, with_planned};
+ghost use Rattle.files_mem.specs.Planned.{is_planned};
+ghost use Rattle.files_mem.specs.Memory.{Memory, put_refusal, empty_files, with_node, with_planned, answered, Acts};
 
 use crate::errors::PutError;
 use crate::nodes::{Body, Node};
 use crate::plans::{Call, Plan};
 use crate::readers::MemReader;
 use crate::stores::Store;
-use outside::{Ground, Tree};
+use outside::{Ground, Plot, Tree, WriteError};
 use path_text::{OutOfMemory, Path, PathError};
 use std::alloc::{AllocError, AllocFailed, Global};
 use std::marker::Model;
@@ -116,6 +118,20 @@ impl MemGround {
         Ok(())
     }
 
+    // Whether the call is to fail at the path. Where it is, that is counted.
+    fn fails(&mut self, call: Call, path: &Path) -> bool
+        ensures planned { result ≡ is_planned call path.now self.old.planned }
+        ensures counted { self.new ≡ answered (is_planned call path.now self.old.planned) self.old }
+        ensures count { RoseBy 0 self.old.count self.new.count }
+        ensures cause { IsTrue result → RoseBy 1 self.old.count self.new.count }
+    {
+        let planned = self.plan.has(call, path);
+        if planned {
+            self.count = self.count.saturating_add(1);
+        }
+        planned
+    }
+
     // Puts a node where none is, in a directory.
     fn put(&mut self, path: &Path, node: Node) -> Result<(), PutError>
         ensures put { OnOk result (self.new ≡ with_node self.old path.now (node_of node)) }
@@ -128,6 +144,20 @@ impl MemGround {
         }
         let _ = path.text(); // tells that it is a path
         put_in(&mut self.store, path.copy()?, node)?;
+        Ok(())
+    }
+
+    // Makes a node, as the calls do that write.
+    fn make(&mut self, call: Call, path: &Path, node: Node) -> Result<(), WriteError>
+        ensures acts { Acts call path.now (make_refusal (all_but []) self.old.files path.now) (map.insert self.old.files path.now (node_of node)) self.old result self.new }
+        ensures named { IfErr result (λ e. IsTrue (may_make e)) }
+        ensures count { RoseBy 0 self.old.count self.new.count }
+        ensures cause { IsErrOf result WriteError.Failed → RoseBy 1 self.old.count self.new.count }
+    {
+        if self.fails(call, path) {
+            return Err(WriteError::Failed);
+        }
+        self.put(path, node)?;
         Ok(())
     }
 }
@@ -157,18 +187,131 @@ fn add_to(plan: &mut Arc<Plan>, call: Call, path: Path) -> Result<(), AllocError
     Arc::make_mut(plan)?.add(call, path)
 }
 
-impl Ground for MemGround {
-    ghost use Rattle.std.specs.Prelude.{Some};
+// Writes to a file in the store, or in a copy of it where readers hold the one that is there.
+fn write_in(store: &mut Arc<Store>, path: &Path, at: usize, bytes: &[u8]) -> Result<(), AllocError>
+    requires file { is_file (map.get (arc_value store.old) path.now) ≡ true }
+    requires place { at ≤ length (content (map.get (arc_value store.old) path.now)) }
+    ensures ok { OnOk result (arc_value store.new ≡ written (arc_value store.old) path.now at bytes.now) }
+    ensures err { OnErr result (arc_value store.new ≡ arc_value store.old) }
+{
+    Arc::make_mut(store)?.write(path, at, bytes)
+}
+
+// Removes a node of the store, or of a copy of it where readers hold the one that is there.
+fn take_from(store: &mut Arc<Store>, path: &Path) -> Result<(), AllocError>
+    ensures ok { OnOk result (arc_value store.new ≡ map.remove (arc_value store.old) path.now) }
+    ensures err { OnErr result (arc_value store.new ≡ arc_value store.old) }
+{
+    Arc::make_mut(store)?.take(path);
+    Ok(())
+}
+
+impl Plot for MemGround {
+    ghost use Rattle.std.specs.Prelude.{Some, []};
+    ghost use Rattle.outside.specs.Writes.{all_but};
 
     ghost tree = { λ g. Some g.files };
 
     ghost count = { λ g. g.count };
 
-    type Reader = MemReader;
+    ghost area = { λ _. all_but [] };
 
     fn faults(&self) -> u64 {
         self.count
     }
+
+    /// Makes an empty directory without a time. It fails exactly where that is planned, before any other refusal, and changes nothing then.
+    fn make_dir(&mut self, alloc: Global, path: &Path) -> Result<(), WriteError>
+        requires { IsTrue (is_open (all_but []) path.now) }
+        ensures acts { Acts Call.MakeDir path.now (make_refusal (all_but []) self.old.files path.now) (map.insert self.old.files path.now empty_dir) self.old result self.new }
+        ensures told { Answers path.now (make_refusal (all_but []) self.old.files path.now) self.old.files (map.insert self.old.files path.now empty_dir) result (Some self.new.files) }
+        ensures named { IfErr result (λ e. IsTrue (may_make e)) }
+        ensures count { RoseBy 0 self.old.count self.new.count }
+        ensures cause { IsErrOf result WriteError.Failed → RoseBy 1 self.old.count self.new.count }
+    {
+        self.make(Call::MakeDir, path, folder(0, None))
+    }
+
+    /// Makes an empty file without a time. It fails exactly where that is planned, before any other refusal, and changes nothing then.
+    fn make_file(&mut self, alloc: Global, path: &Path) -> Result<(), WriteError>
+        requires { IsTrue (is_open (all_but []) path.now) }
+        ensures acts { Acts Call.MakeFile path.now (make_refusal (all_but []) self.old.files path.now) (map.insert self.old.files path.now (new_file [])) self.old result self.new }
+        ensures told { Answers path.now (make_refusal (all_but []) self.old.files path.now) self.old.files (map.insert self.old.files path.now (new_file [])) result (Some self.new.files) }
+        ensures named { IfErr result (λ e. IsTrue (may_make e)) }
+        ensures count { RoseBy 0 self.old.count self.new.count }
+        ensures cause { IsErrOf result WriteError.Failed → RoseBy 1 self.old.count self.new.count }
+    {
+        let body = Body::File(Vec::new(alloc));
+        self.make(Call::MakeFile, path, Node { body, mtime: None })
+    }
+
+    /// Writes bytes over those of a file from a place on, and past its end. It fails exactly where that is planned, before any other refusal, and changes nothing then.
+    fn write_at(
+        &mut self,
+        alloc: Global,
+        path: &Path,
+        at: u64,
+        bytes: &[u8],
+    ) -> Result<(), WriteError>
+        requires open { IsTrue (is_open (all_but []) path.now) }
+        requires place { HasPlace at (map.get self.old.files path.now) }
+        ensures acts { Acts Call.Write path.now (write_refusal (map.get self.old.files path.now)) (written self.old.files path.now at bytes.now) self.old result self.new }
+        ensures told { Answers path.now (write_refusal (map.get self.old.files path.now)) self.old.files (written self.old.files path.now at bytes.now) result (Some self.new.files) }
+        ensures named { IfErr result (λ e. IsTrue (may_change e)) }
+        ensures count { RoseBy 0 self.old.count self.new.count }
+        ensures cause { IsErrOf result WriteError.Failed → RoseBy 1 self.old.count self.new.count }
+    {
+        if self.fails(Call::Write, path) {
+            return Err(WriteError::Failed);
+        }
+        if let Some(refused) = self.store.write_refusal(path) {
+            return Err(refused);
+        }
+        write_in(&mut self.store, path, at as usize, bytes)?;
+        Ok(())
+    }
+
+    /// Removes what is no directory. It fails exactly where that is planned, before any other refusal, and changes nothing then.
+    fn remove_file(&mut self, alloc: Global, path: &Path) -> Result<(), WriteError>
+        requires { IsTrue (is_open (all_but []) path.now) }
+        ensures acts { Acts Call.RemoveFile path.now (remove_file_refusal (map.get self.old.files path.now)) (map.remove self.old.files path.now) self.old result self.new }
+        ensures told { Answers path.now (remove_file_refusal (map.get self.old.files path.now)) self.old.files (map.remove self.old.files path.now) result (Some self.new.files) }
+        ensures named { IfErr result (λ e. IsTrue (may_change e)) }
+        ensures count { RoseBy 0 self.old.count self.new.count }
+        ensures cause { IsErrOf result WriteError.Failed → RoseBy 1 self.old.count self.new.count }
+    {
+        if self.fails(Call::RemoveFile, path) {
+            return Err(WriteError::Failed);
+        }
+        if let Some(refused) = self.store.remove_file_refusal(path) {
+            return Err(refused);
+        }
+        take_from(&mut self.store, path)?;
+        Ok(())
+    }
+
+    /// Removes an empty directory. It fails exactly where that is planned, before any other refusal, and changes nothing then.
+    fn remove_dir(&mut self, alloc: Global, path: &Path) -> Result<(), WriteError>
+        requires { IsTrue (is_open (all_but []) path.now) }
+        ensures acts { Acts Call.RemoveDir path.now (remove_dir_refusal self.old.files path.now) (map.remove self.old.files path.now) self.old result self.new }
+        ensures told { Answers path.now (remove_dir_refusal self.old.files path.now) self.old.files (map.remove self.old.files path.now) result (Some self.new.files) }
+        ensures named { IfErr result (λ e. IsTrue (may_empty e)) }
+        ensures count { RoseBy 0 self.old.count self.new.count }
+        ensures cause { IsErrOf result WriteError.Failed → RoseBy 1 self.old.count self.new.count }
+    {
+        if self.fails(Call::RemoveDir, path) {
+            return Err(WriteError::Failed);
+        }
+        if let Some(refused) = self.store.remove_dir_refusal(alloc, path)? {
+            return Err(refused);
+        }
+        take_from(&mut self.store, path)?;
+        Ok(())
+    }
+}
+
+impl Ground for MemGround {
+    type Reader = MemReader;
 
     /// It shares the nodes and the plan with the reader. A later call that changes them copies them first.
     fn reader(&mut self, alloc: Global) -> Result<MemReader, OutOfMemory>

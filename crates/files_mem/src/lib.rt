@@ -1,9 +1,9 @@
 //! Trees of files in memory: for tests of what works on files, and for trees that are made up.
 //!
 //! [`MemGround`] begins with `/` alone. [`MemGround::put_dir`], [`MemGround::put_file`], [`MemGround::put_link`] and
-//! [`MemGround::put_other`] put one node each, in a directory that is there. It is an [`outside::Ground`], and its readers,
-//! each a [`MemReader`], are [`outside::Tree`]s that tell the files as they were when the reader was made: the nodes are
-//! shared, and copied once they are changed while a reader is out.
+//! [`MemGround::put_other`] put one node each, in a directory that is there. It is an [`outside::Ground`], so it can be
+//! written, and its readers, each a [`MemReader`], are [`outside::Tree`]s that tell the files as they were when the reader was
+//! made: the nodes are shared, and copied once they are changed while a reader is out.
 //!
 //! [`MemGround::plan`] plans a [`Call`] to fail at a path. Such a call fails every time, before anything else is looked at,
 //! and is counted; no other call fails. So what a program answers to faults can be tried, and is the same whatever the
@@ -21,8 +21,9 @@
 //! Both types are seen as a `Memory`: the nodes by their paths, the calls that are planned to fail, and the count of faults.
 //! Proved: each call answers exactly what that tells, changes exactly what its clauses name, and leaves a tree; only want of
 //! memory may stand in place of an answer. Listing a directory costs its children and not what is under them, which is
-//! measured and not proved. Definitions stand in `specs/`: `Memory`, `Planned` (what is planned to fail) and `Stored` (the
-//! tree that a map in memory is).
+//! measured and not proved; a write costs the bytes that it writes and not those of the file, unless a reader is out.
+//! Definitions stand in `specs/`: `Memory`, `Planned` (what is planned to fail) and `Stored` (the tree that a map in memory
+//! is).
 #![tactic(auto)]
 
 mod child_names;

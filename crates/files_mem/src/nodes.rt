@@ -1,6 +1,7 @@
 //! What stands at a path.
-ghost use Rattle.std.specs.Prelude.{◌≡◌};
-ghost use Rattle.outside.specs.Tree.{stat_of, is_dir_body};
+ghost use Rattle.std.specs.Prelude.{◌≡◌, ◌≤◌, true, false, length, OnOk, OnErr, IfSome, IfNone};
+ghost use Rattle.outside.specs.Tree.{stat_of, is_dir_body, is_file_body, bytes_of, file};
+ghost use Rattle.outside.specs.Writes.{spliced};
 ghost use Rattle.files_mem.specs.Stored.{body_of, node_of};
 
 use outside::{Kind, Stat};
@@ -49,6 +50,44 @@ impl Node {
     {
         matches!(self.body, Body::Dir(_))
     }
+}
+
+impl Node {
+    /// The bytes of a file.
+    pub fn bytes(&self) -> Option<&[u8]>
+        ensures file { IfSome result (λ bytes. (is_file_body (body_of self.now.body) ≡ true) × (bytes.now ≡ bytes_of (body_of self.now.body))) }
+        ensures other { IfNone result (is_file_body (body_of self.now.body) ≡ false) }
+    {
+        match &self.body {
+            Body::File(bytes) => Some(bytes.as_slice()),
+            _ => None,
+        }
+    }
+
+    /// Writes bytes over those of a file from a place on, and past its end. A refusal changes nothing.
+    pub fn write(&mut self, at: usize, bytes: &[u8]) -> Result<(), AllocError>
+        requires file { is_file_body (body_of self.old.body) ≡ true }
+        requires place { at ≤ length (bytes_of (body_of self.old.body)) }
+        ensures ok { OnOk result (node_of self.new ≡ record { body = file (spliced (bytes_of (body_of self.old.body)) at bytes.now); mtime = self.old.mtime }) }
+        ensures err { OnErr result (node_of self.new ≡ node_of self.old) }
+    {
+        match &mut self.body {
+            Body::File(old) => splice(old, at, bytes),
+            _ => Ok(()),
+        }
+    }
+}
+
+// Puts bytes over others from a place on, and past their end.
+fn splice(old: &mut Vec<u8>, at: usize, bytes: &[u8]) -> Result<(), AllocError>
+    requires { at ≤ length old.old.items }
+    ensures ok { OnOk result (old.new.items ≡ spliced old.old.items at bytes.now) }
+    ensures err { OnErr result (old.new.items ≡ old.old.items) }
+{
+    let over = (old.len() - at).min(bytes.len());
+    old.extend_from_slice(&bytes[over..])?;
+    old[at..at + over].copy_from_slice(&bytes[..over]);
+    Ok(())
 }
 
 impl Clone for Body {

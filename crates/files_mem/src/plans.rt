@@ -17,6 +17,18 @@ pub enum Call {
     List,
     /// `list` answers that one name is no text.
     Name,
+    /// `read` answers `Failed`.
+    Read,
+    /// `make_dir` answers `Failed`.
+    MakeDir,
+    /// `make_file` answers `Failed`.
+    MakeFile,
+    /// `write_at` answers `Failed`.
+    Write,
+    /// `remove_file` answers `Failed`.
+    RemoveFile,
+    /// `remove_dir` answers `Failed`.
+    RemoveDir,
 }
 
 /// The calls that are to fail, each with its path.

@@ -1,16 +1,16 @@
 //! A reader of files in memory.
-ghost use Rattle.std.specs.Prelude.{◌≡◌, ◌≢◌, ◌↔◌, ℕ, Some, true, false, if◌then◌else◌, IsTrue, OnOk, OnErr, IfOk, IfSome, IsErr, IsErrOf};
+ghost use Rattle.std.specs.Prelude.{◌≡◌, ◌≢◌, ◌≤◌, ◌↔◌, length, ℕ, Some, true, false, if◌then◌else◌, IsTrue, OnOk, OnErr, IfOk, IfSome, IsErr, IsErrOf};
 ghost use Rattle.std.specs.Option.{option_map};
 ghost use Rattle.std.specs.Arc.{arc_value};
 ghost use Rattle.std.specs.FinMap as map;
 ghost use Rattle.outside.specs.Count.{RoseBy, capped};
-ghost use Rattle.outside.specs.Tree.{Files, Lists, AreNames, IsTree, is_dir, stat_of};
+ghost use Rattle.outside.specs.Tree.{Files, Lists, AreNames, IsTree, Reads, is_dir, is_file, stat_of};
 ghost use Rattle.files_mem.specs.Planned.{is_planned};
-ghost use Rattle.files_mem.specs.Memory.{Memory, answered};
+ghost use Rattle.files_mem.specs.Memory.{Memory, FillsFrom, answered};
 
 use crate::plans::{Call, Plan};
 use crate::stores::Store;
-use outside::{Failed, Kind, ListError, Listing, Stat, Tree};
+use outside::{Failed, Kind, ListError, Listing, ReadError, Stat, Tree};
 use path_text::{OutOfMemory, Path};
 use std::alloc::Global;
 use std::marker::Model;
@@ -119,5 +119,27 @@ impl Tree for MemReader {
         let unnamed = if self.fails(Call::Name, path) { 1 } else { 0 };
         listing.set_rest(unnamed, far);
         Ok(listing)
+    }
+
+    /// Reads as much as is there and fits. It fails exactly where that is planned, before any other refusal.
+    fn read(&mut self, path: &Path, at: u64, into: &mut [u8]) -> Result<usize, ReadError>
+        ensures valid { IsTree self.old.files }
+        ensures planned { IsErrOf result ReadError.Failed ↔ IsTrue (is_planned Call.Read path.now self.old.planned) }
+        ensures not_file { IsErrOf result ReadError.NotFile ↔ ((is_planned Call.Read path.now self.old.planned ≡ false) × (is_file (map.get self.old.files path.now) ≡ false)) }
+        ensures fills { IfOk result (λ n. FillsFrom (map.get self.old.files path.now) at into.new n) }
+        ensures counted { self.new ≡ answered (is_planned Call.Read path.now self.old.planned) self.old }
+        ensures most { IfOk result (λ n. n ≤ length into.new) }
+        ensures told { IfOk result (λ n. Reads self.old.files path.now at into.new n) }
+        ensures cause { IsErrOf result ReadError.Failed → RoseBy 1 self.old.count self.new.count }
+        ensures count { RoseBy 0 self.old.count self.new.count }
+    {
+        let _ = &self.store; // tells that it is a tree
+        if self.fails(Call::Read, path) {
+            return Err(ReadError::Failed);
+        }
+        match self.store.read(path, at, into) {
+            None => Err(ReadError::NotFile),
+            Some(n) => Ok(n),
+        }
     }
 }

@@ -1,16 +1,17 @@
 //! Nodes by their paths.
-ghost use Rattle.std.specs.Prelude.{◌≡◌, OnOk, OnErr, IfOk};
+ghost use Rattle.std.specs.Prelude.{◌≡◌, ◌≤◌, ◌-◌, true, false, length, take, drop, min, OnOk, OnErr, IfOk, IfSome, IfNone};
 ghost use Rattle.std.specs.Option.{option_copied, option_map};
 ghost use Rattle.std.specs.FinMap as map;
-ghost use Rattle.outside.specs.Tree.{names_in, is_dir, far_of, stat_of};
+ghost use Rattle.outside.specs.Tree.{names_in, is_dir, is_file, content, stat_of};
+ghost use Rattle.outside.specs.Writes.{write_refusal, remove_file_refusal, remove_dir_refusal, written};
 ghost use Rattle.path_text.specs.Path.{parent_of};
 ghost use Rattle.files_mem.specs.Stored.{node_of};
-ghost use Rattle.files_mem.specs.Memory.{put_refusal, dir_far};
+ghost use Rattle.files_mem.specs.Memory.{put_refusal, dir_far, FillsFrom};
 
 use crate::child_names;
 use crate::errors::PutError;
 use crate::nodes::{Body, Node};
-use outside::{Listing, Stat};
+use outside::{Listing, Stat, WriteError};
 use path_text::{OutOfMemory, Path, PathError};
 use std::alloc::{AllocError, AllocFailed, Global};
 use std::collections::BTreeMap;
@@ -136,6 +137,91 @@ impl Store {
         Ok(Some(PutError::NoParent))
     }
 
+    /// Why bytes can't be written to what is at the path.
+    pub fn write_refusal(&self, path: &Path) -> Option<WriteError>
+        ensures { result ≡ write_refusal (map.get self.now path.now) }
+    {
+        match self.node_at(path) {
+            None => Some(WriteError::Absent),
+            Some(node) => match &node.body {
+                Body::File(_) => None,
+                _ => Some(WriteError::WrongKind),
+            },
+        }
+    }
+
+    /// Why what is at the path can't be removed as no directory.
+    pub fn remove_file_refusal(&self, path: &Path) -> Option<WriteError>
+        ensures { result ≡ remove_file_refusal (map.get self.now path.now) }
+    {
+        match self.node_at(path) {
+            None => Some(WriteError::Absent),
+            Some(node) => {
+                if node.is_dir() {
+                    Some(WriteError::WrongKind)
+                } else {
+                    None
+                }
+            }
+        }
+    }
+
+    /// Why what is at the path can't be removed as an empty directory.
+    pub fn remove_dir_refusal(
+        &self,
+        alloc: Global,
+        path: &Path,
+    ) -> Result<Option<WriteError>, OutOfMemory>
+        ensures { IfOk result (λ refusal. refusal ≡ remove_dir_refusal self.now path.now) }
+    {
+        match self.node_at(path) {
+            None => Ok(Some(WriteError::Absent)),
+            Some(node) => match &node.body {
+                Body::Dir(far) => {
+                    if *far != 0 || self.list(alloc, path)?.len() != 0 {
+                        return Ok(Some(WriteError::NotEmpty));
+                    }
+                    Ok(None)
+                }
+                _ => Ok(Some(WriteError::WrongKind)),
+            },
+        }
+    }
+
+    /// Reads the file at the path from a place on, as much as there is room for and bytes are there; `None` of all else.
+    pub fn read(&self, path: &Path, at: u64, into: &mut [u8]) -> Option<usize>
+        ensures file { IfSome result (λ n. FillsFrom (map.get self.now path.now) at into.new n) }
+        ensures other { IfNone result (is_file (map.get self.now path.now) ≡ false) }
+    {
+        match self.node_at(path) {
+            None => None,
+            Some(node) => match &node.body {
+                Body::File(bytes) => Some(fill(bytes, at, into)),
+                _ => None,
+            },
+        }
+    }
+
+    /// Writes bytes over those of the file at the path from a place on, and past its end. A refusal changes nothing.
+    pub fn write(&mut self, path: &Path, at: usize, bytes: &[u8]) -> Result<(), AllocError>
+        requires file { is_file (map.get self.old path.now) ≡ true }
+        requires place { at ≤ length (content (map.get self.old path.now)) }
+        ensures ok { OnOk result (self.new ≡ written self.old path.now at bytes.now) }
+        ensures err { OnErr result (self.new ≡ self.old) }
+    {
+        let Some(node) = self.map.get_mut(path) else {
+            return Ok(());
+        };
+        node.write(at, bytes)
+    }
+
+    /// Removes what is at the path.
+    pub fn take(&mut self, path: &Path)
+        ensures { self.new ≡ map.remove self.old path.now }
+    {
+        let _ = self.map.remove(path);
+    }
+
     /// The names of the children of the path.
     pub fn list(&self, alloc: Global, path: &Path) -> Result<Listing, OutOfMemory>
         ensures { IfOk result (λ listing. (listing.0 ≡ names_in self.now path.now) × (listing.1 ≡ 0) × (listing.2 ≡ 0)) }
@@ -154,4 +240,18 @@ fn parent_text(path: &Path) -> &str
         Some(0) => "/",
         Some(at) => &text[..at],
     }
+}
+
+// Fills the front of a buffer with the bytes from a place on, and answers how many.
+fn fill(bytes: &[u8], at: u64, into: &mut [u8]) -> usize
+    ensures many { result ≡ min (length into.new) (length bytes.now - at) }
+    ensures same { take result into.new ≡ take result (drop at bytes.now) }
+{
+    if at >= bytes.len() as u64 {
+        return 0;
+    }
+    let rest = &bytes[at as usize..];
+    let n = rest.len().min(into.len());
+    into[..n].copy_from_slice(&rest[..n]);
+    n
 }

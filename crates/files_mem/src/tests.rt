@@ -1,6 +1,8 @@
-//! Trees that are put, read and planned to fail.
+//! Trees that are put, read, written and planned to fail.
 use super::*;
-use outside::{Failed, Ground, Kind, ListError, Stat, Tree};
+use outside::{
+    Failed, Ground, Kind, ListError, LoadError, Plot, SaveError, Stat, Tree, WriteError, load, save,
+};
 use path_text::Path;
 use std::alloc::Global;
 use std::test::Fail;
@@ -155,6 +157,144 @@ fn a_reader_keeps_what_it_was_made_of(rt: HostRuntime) -> Result<(), Fail> {
     let mut after = files.reader(alloc)?;
     assert_eq!(rt; before.stat(&path), Ok(None));
     assert_eq!(rt; after.stat(&path), Err(Failed));
+    Ok(())
+}
+
+// What the file at the path holds.
+fn loaded(alloc: Global, files: &mut MemGround, path: &str) -> Result<Vec<u8>, Fail> {
+    let mut reader = files.reader(alloc)?;
+    Ok(load(alloc, &mut reader, &Path::parse(alloc, path)?)?)
+}
+
+#[test]
+fn writes_are_refused_by_what_is_there(rt: HostRuntime) -> Result<(), Fail> {
+    let alloc = rt.alloc();
+    let mut files = tree_t(alloc)?;
+    files.put_dir(&Path::parse(alloc, "/w")?, 1, None)?;
+    let t = Path::parse(alloc, "/t")?;
+    let w = Path::parse(alloc, "/w")?;
+    let under_file = Path::parse(alloc, "/t/a/z")?;
+    let none = Path::parse(alloc, "/zz")?;
+    assert_eq!(rt; files.make_dir(alloc, &t), Err(WriteError::Exists));
+    assert_eq!(rt;
+        files.make_file(alloc, &under_file),
+        Err(WriteError::NoParent)
+    );
+    assert_eq!(rt;
+        files.write_at(alloc, &Path::parse(alloc, "/t/b")?, 0, b"b"),
+        Err(WriteError::WrongKind)
+    );
+    assert_eq!(rt; files.remove_file(alloc, &none), Err(WriteError::Absent));
+    assert_eq!(rt; files.remove_dir(alloc, &t), Err(WriteError::NotEmpty));
+    assert_eq!(rt; files.remove_dir(alloc, &w), Err(WriteError::NotEmpty));
+    assert_eq!(rt; files.faults(), 0);
+    Ok(())
+}
+
+#[test]
+fn writes_do_what_they_say_and_readers_keep_theirs(rt: HostRuntime) -> Result<(), Fail> {
+    let alloc = rt.alloc();
+    let mut files = tree_t(alloc)?;
+    let d = Path::parse(alloc, "/t/d")?;
+    let f = Path::parse(alloc, "/t/d/f")?;
+    let mut before = files.reader(alloc)?;
+    files.make_dir(alloc, &d)?;
+    files.make_file(alloc, &f)?;
+    files.write_at(alloc, &f, 0, b"abc")?;
+    files.write_at(alloc, &f, 0, b"vwxyz")?;
+    files.write_at(alloc, &f, 0, b"-")?;
+    assert_eq!(rt;
+        loaded(alloc, &mut files, "/t/d/f")?.as_slice(),
+        b"-wxyz".as_slice()
+    );
+    files.remove_file(alloc, &f)?;
+    files.remove_dir(alloc, &d)?;
+    assert_eq!(rt; files.reader(alloc)?.stat(&d), Ok(None));
+    assert_eq!(rt; before.stat(&d), Ok(None));
+    let mut three = [0; 3];
+    let n = before.read(&Path::parse(alloc, "/t/a")?, 3, &mut three)?;
+    assert_eq!(rt; (n, three), (2, *b"lo\0"));
+    Ok(())
+}
+
+#[test]
+fn files_are_loaded_and_saved_whole(rt: HostRuntime) -> Result<(), Fail> {
+    let alloc = rt.alloc();
+    let mut files = tree_t(alloc)?;
+    assert_eq!(rt;
+        loaded(alloc, &mut files, "/t/a")?.as_slice(),
+        b"hello".as_slice()
+    );
+    let mut reader = files.reader(alloc)?;
+    let folder = load(alloc, &mut reader, &Path::parse(alloc, "/t")?);
+    assert_eq!(rt; folder.err(), Some(LoadError::NoFile));
+    for path in ["/", "/t/a/z", "/t/b", "/none/x"] {
+        let told = save(alloc, &mut files, &Path::parse(alloc, path)?, b"b");
+        assert_eq!(rt; told, Err(SaveError::NoPlace), "at {path}");
+    }
+    let long = vec![in alloc; 7u8; 140_000]?;
+    for (path, bytes) in [("/t/a", b"hi".as_slice()), ("/new", long.as_slice())] {
+        save(alloc, &mut files, &Path::parse(alloc, path)?, bytes)?;
+        assert!(rt;
+            loaded(alloc, &mut files, path)?.as_slice() == bytes,
+            "at {path}"
+        );
+    }
+    assert_eq!(rt; files.faults(), 0);
+    Ok(())
+}
+
+#[test]
+fn a_fault_at_each_call_changes_nothing_and_is_counted(rt: HostRuntime) -> Result<(), Fail> {
+    let alloc = rt.alloc();
+    let mut files = tree_t(alloc)?;
+    let a = Path::parse(alloc, "/t/a")?;
+    let calls = [
+        Call::MakeDir,
+        Call::MakeFile,
+        Call::Write,
+        Call::RemoveFile,
+        Call::RemoveDir,
+    ];
+    for (k, call) in calls.iter().enumerate() {
+        files.plan(*call, &a)?;
+        let told = match call {
+            Call::MakeDir => files.make_dir(alloc, &a),
+            Call::MakeFile => files.make_file(alloc, &a),
+            Call::Write => files.write_at(alloc, &a, 0, b"x"),
+            Call::RemoveFile => files.remove_file(alloc, &a),
+            _ => files.remove_dir(alloc, &a),
+        };
+        assert_eq!(rt; told, Err(WriteError::Failed));
+        assert_eq!(rt; files.faults(), k as u64 + 1);
+    }
+    assert_eq!(rt;
+        loaded(alloc, &mut files, "/t/a")?.as_slice(),
+        b"hello".as_slice()
+    );
+    Ok(())
+}
+
+#[test]
+fn a_fault_within_a_save_or_a_load_is_told(rt: HostRuntime) -> Result<(), Fail> {
+    let alloc = rt.alloc();
+    let a = Path::parse(alloc, "/t/a")?;
+    for call in [Call::Stat, Call::RemoveFile, Call::MakeFile, Call::Write] {
+        let mut files = tree_t(alloc)?;
+        files.plan(call, &a)?;
+        assert_eq!(rt;
+            save(alloc, &mut files, &a, b"bytes"),
+            Err(SaveError::Failed)
+        );
+        assert_eq!(rt; files.faults(), 1);
+    }
+    for call in [Call::Stat, Call::Read] {
+        let mut files = tree_t(alloc)?;
+        files.plan(call, &a)?;
+        let mut reader = files.reader(alloc)?;
+        assert_eq!(rt; load(alloc, &mut reader, &a).err(), Some(LoadError::Failed));
+        assert_eq!(rt; reader.faults(), 1);
+    }
     Ok(())
 }
 

@@ -4,3 +4,6 @@ pub mod Count
 pub mod Sinks
 pub mod Children
 pub mod Names
+pub mod Parents
+pub mod Writes
+pub mod Whole

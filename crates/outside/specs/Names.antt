@@ -88,7 +88,7 @@ onto_append : (x : ℕ) (ps qs : List (List ℕ)) → 0 < length ps → onto_fir
 onto_append x [] qs h = absurd (omega arith)
 onto_append x (p ∷ ps) qs h = refl
 
-split_more : (xs ys : List ℕ) → slice_split is_slash (xs ++ 47 ∷ ys) ≡ slice_split is_slash xs ++ slice_split is_slash ys
+pub split_more : (xs ys : List ℕ) → slice_split is_slash (xs ++ 47 ∷ ys) ≡ slice_split is_slash xs ++ slice_split is_slash ys
 split_more [] ys = refl
 split_more (x ∷ xs) ys =
     let rest = split_more xs ys in
@@ -97,7 +97,7 @@ split_more (x ∷ xs) ys =
       | false ↦ ap (onto_first x) rest ∙ onto_append x _ _ (some_part xs)
     ]
 
-split_name : (n : List ℕ) → list_any is_slash n ≡ false → slice_split is_slash n ≡ n ∷ []
+pub split_name : (n : List ℕ) → list_any is_slash n ≡ false → slice_split is_slash n ≡ n ∷ []
 split_name [] h = refl
 split_name (x ∷ n) h =
     elim (is_slash x) as (λ b. (b || list_any is_slash n) ≡ false → cond b ([] ∷ slice_split is_slash n) (onto_first x (slice_split is_slash n)) ≡ (x ∷ n) ∷ []) [
@@ -105,11 +105,11 @@ split_name (x ∷ n) h =
       | false ↦ λ e. ap (onto_first x) (split_name n e)
     ] h
 
-last_fine : (parts : List (List ℕ)) (m : List ℕ) → first_fault (parts ++ m ∷ []) ≡ None → name_fault m ≡ None
+pub last_fine : (parts : List (List ℕ)) (m : List ℕ) → first_fault (parts ++ m ∷ []) ≡ None → name_fault m ≡ None
 last_fine [] m h = elim (name_fault m) as (λ f. cond (is_none f) None f ≡ None → f ≡ None) [ None ↦ λ e. refl | Some x ↦ λ e. e ] h
 last_fine (p ∷ parts) m h = last_fine parts m (elim (name_fault p) as (λ f. cond (is_none f) (first_fault (parts ++ m ∷ [])) f ≡ None → first_fault (parts ++ m ∷ []) ≡ None) [ None ↦ λ e. e | Some x ↦ λ e. cc ] h)
 
-after_slash : (b : ℕ) (bytes : List ℕ) → refusal (b ∷ bytes) ≡ None → 0 < length bytes → first_fault (slice_split is_slash bytes) ≡ None
+pub after_slash : (b : ℕ) (bytes : List ℕ) → refusal (b ∷ bytes) ≡ None → 0 < length bytes → first_fault (slice_split is_slash bytes) ≡ None
 after_slash b bytes h l = grind (arith, nat_tests)
 
 name_fine : (p m : List ℕ) → refusal (front p ++ m) ≡ None → 0 < length m → list_any is_slash m ≡ false → name_fault m ≡ None

@@ -1,5 +1,5 @@
 -- A tree of files: a finite map from paths to nodes. Our own, after the tree of a file system.
-use Rattle.std.specs.Prelude.{◌≡◌, ℕ, ◌≤◌, Bool, true, false, not, ◌&&◌, ◌||◌, List, [], ◌∷◌, length, drop, if◌then◌else◌, ◌==◌, Option, Some, None, IsTrue, nat_eq, is_none}
+use Rattle.std.specs.Prelude.{◌≡◌, ℕ, ◌-◌, ◌<◌, ◌≤◌, Bool, true, false, not, ◌&&◌, ◌||◌, List, [], ◌∷◌, length, take, drop, if◌then◌else◌, ◌==◌, Option, Some, None, IsTrue, nat_eq, is_none}
 use Rattle.std.specs.List.{starts_with, list_any, filter_map, All}
 use Rattle.std.specs.FinMap.{FinMap, get, keys}
 use Rattle.std.specs.List.Sorted.{IsStrictlySortedBy}
@@ -66,6 +66,31 @@ far_of (file bytes) = 0
 far_of link = 0
 far_of other = 0
 
+-- of a file its bytes
+abbrev pub bytes_of : Body → List ℕ
+bytes_of (dir far) = []
+bytes_of (file bytes) = bytes
+bytes_of link = []
+bytes_of other = []
+
+abbrev pub is_file_body : Body → Bool
+is_file_body (dir far) = false
+is_file_body (file bytes) = true
+is_file_body link = false
+is_file_body other = false
+
+abbrev pub is_file : Option Node → Bool
+is_file None = false
+is_file (Some n) = is_file_body n.body
+
+abbrev pub content : Option Node → List ℕ
+content None = []
+content (Some n) = bytes_of n.body
+
+abbrev pub far_at : Option Node → ℕ
+far_at None = 0
+far_at (Some n) = far_of n.body
+
 -- what `stat` tells of a node
 abbrev pub stat_of : Node → Stat
 stat_of n = record { kind = kind_of n.body; size = size_of n.body; mtime = n.mtime }
@@ -75,6 +100,13 @@ pub record Lists (files : Files) (path : List ℕ) (listing : List (List ℕ) ×
   pub is_dir : is_dir (get files path) ≡ true
   pub names : listing.0 ≡ names_in files path
   pub far : Some listing.2 ≡ option_map (λ n. far_of n.body) (get files path)
+
+-- n bytes of the file at a path, from the place `at` on, fill the front of a buffer: one at least where both go on
+pub record Reads (files : Files) (path : List ℕ) (at : ℕ) (buffer : List ℕ) (n : ℕ) : Type 0 where
+  pub is_file : is_file (get files path) ≡ true
+  pub same : take n buffer ≡ take n (drop at (content (get files path)))
+  pub inside : n ≤ length (content (get files path)) - at
+  pub some : at < length (content (get files path)) → 0 < length buffer → 0 < n
 
 -- distinct valid names in ascending order, each giving a path that is not too long
 pub record AreNames (path : List ℕ) (names : List (List ℕ)) : Type 0 where

@@ -1,27 +1,39 @@
-//! What the tools ask of the outside: trees of files that can be looked at, and sinks that take text.
+//! What the tools ask of the outside: trees of files that can be looked at and written, and sinks that take text.
 //!
 //! - [`Tree`] looks at files: [`Tree::stat`] tells what stands at a path, [`Tree::list`] the names in a directory, as a
-//!   [`Listing`].
-//! - [`Ground`] is a set of files of which readers can be made. Each [`Ground::Reader`] is a [`Tree`].
+//!   [`Listing`], and [`Tree::read`] bytes of a file.
+//! - [`Plot`] is written, by five calls that each name one path: [`Plot::make_dir`], [`Plot::make_file`],
+//!   [`Plot::write_at`], [`Plot::remove_file`] and [`Plot::remove_dir`]. [`WriteError`] says why one is refused.
+//! - [`Ground`] is a set of files that can be written and of which readers can be made. Each [`Ground::Reader`] is a [`Tree`].
+//! - [`load`] reads a whole file, and [`save`] writes one, in place of a file that is there.
 //! - [`Sink`] takes bytes, and [`put_all`] puts all of a text there. [`MemSink`] is a sink in memory.
 //!
 //! An object may *tell its tree*: then the ghost member `tree` is the finite map from paths to nodes that its answers are
-//! about, and each answer is tied to that map. An object over a real disk tells none, and its contract still says which
-//! answers it has and when each may come.
+//! about, and each answer is tied to that map, as is what each call leaves. An object over a real disk tells none, and its
+//! contract still says which answers it has and when each may come. The ghost member `area` says where an object may be
+//! written; it is made for parts that are lent out, and of a ground today it is every path.
 //!
 //! Everything outside may fail. Each object counts its *faults* in a number that never falls and stops at 2^64 - 1; an
 //! answer that blames the outside comes only where that count rose, or stands at its end.
 //!
-//! Proved: [`put_all`] ends and appends exactly its bytes, or a front of them where the sink failed; [`MemSink`] and
-//! [`Listing`] meet their clauses. The traits' clauses are what each implementation is proved to meet. A law says what the
-//! names in every tree are like ([`children_have_names`]). Definitions stand in `specs/`: `Tree` (files, nodes, listings),
-//! `Count` (counts of faults), `Sinks`.
+//! Proved: [`put_all`], [`load`] and [`save`] end, over every object. [`put_all`] appends exactly its bytes, or a front of
+//! them where the sink failed. [`load`] gives exactly the bytes of the file, and `NoFile` where no file is there, and [`save`]
+//! leaves a file with exactly the bytes and all else as before, or says `NoPlace` exactly where no file can be, both where the
+//! files tell their tree. [`MemSink`] and [`Listing`] meet their clauses. The traits' clauses are what each implementation is
+//! proved to meet. A law says what the names in every tree are like ([`children_have_names`]). Not claimed: what stands at the
+//! path of a [`save`] that failed or found no memory.
+//!
+//! Definitions stand in `specs/`: `Tree` (files, nodes, listings, bytes that are read), `Writes` (areas, refusals, what a call
+//! answers and leaves), `Whole` (whole files), `Count` (counts of faults), `Sinks`.
 #![tactic(auto)]
 
 mod failures;
 mod grounds;
 mod laws;
 mod listings;
+mod loading;
+mod plots;
+mod saving;
 mod sinks;
 mod trees;
 
@@ -29,8 +41,11 @@ pub use failures::Failed;
 pub use grounds::Ground;
 pub use laws::children_have_names;
 pub use listings::Listing;
+pub use loading::{LoadError, load};
+pub use plots::{Plot, WriteError};
+pub use saving::{SaveError, save};
 pub use sinks::{MemSink, Sink, put_all};
-pub use trees::{Kind, ListError, Stat, Tree};
+pub use trees::{Kind, ListError, ReadError, Stat, Tree};
 
 #[cfg(test)]
 mod tests;

@@ -1,5 +1,10 @@
-//! A sink in memory, a sink that takes little at a time, and a listing.
-use crate::{Failed, Listing, MemSink, Sink, put_all};
+//! A sink in memory, a sink that takes little at a time, a listing, and a reader that gives little at a time.
+use crate::{
+    Failed, Kind, ListError, Listing, LoadError, MemSink, ReadError, Sink, Stat, Tree, load,
+    put_all,
+};
+use path_text::Path;
+use std::alloc::Global;
 use std::test::Fail;
 
 #[test]
@@ -79,5 +84,80 @@ fn a_listing_gives_its_names_back(rt: HostRuntime) -> Result<(), Fail> {
     assert_eq!(rt; listing.name(1), "b-x");
     assert_eq!(rt; listing.unnamed(), 2);
     assert_eq!(rt; listing.far(), 3);
+    Ok(())
+}
+
+/// A reader of one file, two bytes at a time, which tells some size of it and fails at one of its calls.
+#[derive(Drop)]
+struct Drip {
+    told: u64,
+    fails_at: u64,
+    calls: u64,
+    count: u64,
+}
+
+impl Tree for Drip {
+    ghost use Rattle.std.specs.Prelude.{None};
+
+    ghost tree = { λ d. None };
+
+    ghost count = { λ d. d.count };
+
+    fn faults(&self) -> u64 {
+        self.count
+    }
+
+    fn stat(&mut self, _path: &Path) -> Result<Option<Stat>, Failed> {
+        Ok(Some(Stat {
+            kind: Kind::File,
+            size: self.told,
+            mtime: None,
+        }))
+    }
+
+    fn list(&mut self, _alloc: Global, _path: &Path) -> Result<Listing, ListError> {
+        Err(ListError::NotDir)
+    }
+
+    fn read(&mut self, _path: &Path, at: u64, into: &mut [u8]) -> Result<usize, ReadError> {
+        self.calls = self.calls.saturating_add(1);
+        if self.calls == self.fails_at {
+            self.count = self.count.saturating_add(1);
+            return Err(ReadError::Failed);
+        }
+        let rest: &[u8] = match at {
+            0 => b"drops",
+            2 => b"ops",
+            4 => b"s",
+            _ => b"",
+        };
+        let n = rest.len().min(into.len()).min(2);
+        into[..n].copy_from_slice(&rest[..n]);
+        Ok(n)
+    }
+}
+
+#[test]
+fn a_file_is_loaded_in_pieces_up_to_its_end_or_a_fault(rt: HostRuntime) -> Result<(), Fail> {
+    let path = Path::parse(rt.alloc(), "/f")?;
+    for (told, fails_at, want, faults) in [
+        (5, 0, Ok("drops"), 0),
+        (9, 0, Ok("drops"), 0),
+        (3, 0, Ok("dro"), 0),
+        (5, 1, Err(LoadError::Failed), 1),
+        (5, 3, Err(LoadError::Failed), 1),
+    ] {
+        let mut reader = Drip {
+            told,
+            fails_at,
+            calls: 0,
+            count: 0,
+        };
+        match load(rt.alloc(), &mut reader, &path) {
+            Ok(bytes) => assert!(rt; want.ok().map(|t| t.as_bytes()) == Some(bytes.as_slice())),
+            Err(error) => assert!(rt; want.err() == Some(error)),
+        }
+        assert_eq!(rt; reader.faults(), faults);
+    }
     Ok(())
 }

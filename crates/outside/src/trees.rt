@@ -1,5 +1,5 @@
 //! Trees of files that can be looked at.
-ghost use Rattle.std.specs.Prelude.{◌≡◌, ◌≢◌, ◌≤◌, ℕ, Option, Some, false, OnOk, OnErr, IfOk, IfSome, IsErrOf};
+ghost use Rattle.std.specs.Prelude.{◌≡◌, ◌≢◌, ◌≤◌, ℕ, Option, Some, false, length, OnOk, OnErr, IfOk, IfSome, IsErrOf};
 ghost use Rattle.outside.specs.Count.{RoseBy};
 
 use crate::failures::Failed;
@@ -46,9 +46,20 @@ pub enum ListError {
     OutOfMemory,
 }
 
+/// Why the bytes of a file are not told.
+#[derive(Clone, Copy, Debug, Drop, PartialEq, Eq, Error)]
+pub enum ReadError {
+    /// The outside failed, and the object has counted it.
+    #[error("the outside failed")]
+    Failed,
+    /// The path is no file.
+    #[error("the path is no file")]
+    NotFile,
+}
+
 /// Files that can be looked at. Links are not followed.
 pub trait Tree {
-    ghost use Rattle.outside.specs.Tree.{Files, is_dir, stat_of, Lists, AreNames, IsTree};
+    ghost use Rattle.outside.specs.Tree.{Files, is_dir, is_file, stat_of, Lists, AreNames, IsTree, Reads};
     ghost use Rattle.std.specs.FinMap as map;
     ghost use Rattle.std.specs.Option.{option_map};
 
@@ -81,4 +92,15 @@ pub trait Tree {
         ensures unnamed { IfOk result (λ listing. RoseBy listing.1 (count self.old) (count self.new)) }
         ensures cause { IsErrOf result ListError.Failed → RoseBy 1 (count self.old) (count self.new) }
         ensures err { OnErr result (RoseBy 0 (count self.old) (count self.new)) };
+
+    /// Reads the file at the path from a place on, into the front of `into`, and answers how many bytes: one at least where
+    /// neither is at its end. What `into` holds behind them, and after a refusal, is not said.
+    fn read(&mut self, path: &Path, at: u64, into: &mut [u8]) -> Result<usize, ReadError>
+        ensures valid { IfSome (tree self.old) IsTree }
+        ensures same { tree self.new ≡ tree self.old }
+        ensures most { IfOk result (λ n. n ≤ length into.new) }
+        ensures told { IfOk result (λ n. IfSome (tree self.old) (λ files. Reads files path.now at into.new n)) }
+        ensures not_file { IsErrOf result ReadError.NotFile → IfSome (tree self.old) (λ files. is_file (map.get files path.now) ≡ false) }
+        ensures cause { IsErrOf result ReadError.Failed → RoseBy 1 (count self.old) (count self.new) }
+        ensures count { RoseBy 0 (count self.old) (count self.new) };
 }

@@ -1,0 +1,20 @@
+use Rattle.std.proofs.Common.{◌≡◌, ◌-◌, ◌≤◌, length, take, Some, IfSome}
+use Rattle.std.specs.Option.{is_some}
+use Rattle.outside.specs.Count.{RoseBy}
+use Rattle.outside.specs.Writes.{new_file}
+use Rattle.outside.specs.Whole.{Holds}
+use Rattle.outside.proofs.saving.write_all.Given as goal
+
+abbrev pub invariant-loop-at : goal.invariant-loop-at
+invariant-loop-at g l =
+    let plot = g.G.Plot in
+    record {
+      inside : l.at ≤ length l.bytes;
+      written : IfSome (plot.tree l.fn.ground) (λ files. IfSome (plot.tree l.ground) (Holds l.path (Some (new_file (take l.at l.bytes))) files));
+      tells : is_some (plot.tree l.ground) ≡ is_some (plot.tree l.fn.ground);
+      area : plot.area l.ground ≡ plot.area l.fn.ground;
+      count : RoseBy 0 (plot.count l.fn.ground) (plot.count l.ground);
+    }
+
+abbrev pub decreases-loop-at : goal.decreases-loop-at
+decreases-loop-at g l = length l.bytes - l.at

@@ -1,0 +1,135 @@
+//! Files that can be written.
+ghost use Rattle.std.specs.Prelude.{◌≡◌, ℕ, Option, IsTrue, IfErr, IfSome, IsErrOf, is_some};
+ghost use Rattle.outside.specs.Count.{RoseBy};
+
+use path_text::{OutOfMemory, Path};
+use std::alloc::{AllocError, Global};
+use thiserror::Error;
+
+/// Why a call that writes is refused. Where several of them stand, `Exists` comes before `NoParent`, and `Absent` before
+/// `WrongKind` before `NotEmpty`.
+#[derive(Clone, Copy, Debug, Drop, PartialEq, Eq, Error)]
+pub enum WriteError {
+    /// The outside failed, and the object has counted it.
+    #[error("the outside failed")]
+    Failed,
+    /// A node is there.
+    #[error("a node is there already")]
+    Exists,
+    /// The path over it is no directory.
+    #[error("the path over it is no directory")]
+    NoParent,
+    /// What is there is of another kind.
+    #[error("what is there is of another kind")]
+    WrongKind,
+    /// The directory has a child.
+    #[error("the directory is not empty")]
+    NotEmpty,
+    /// Nothing is there.
+    #[error("nothing is there")]
+    Absent,
+    /// No memory was found.
+    #[error("out of memory")]
+    OutOfMemory,
+}
+
+impl From<OutOfMemory> for WriteError {
+    ghost use Rattle.std.specs.Prelude.{◌≡◌};
+    ghost use Rattle.outside.specs.declared.plots.WriteError.TheVariants as write;
+
+    ghost from_gives = { λ _ e. e ≡ write.OutOfMemory };
+
+    fn from(_: OutOfMemory) -> Self {
+        WriteError::OutOfMemory
+    }
+}
+
+impl From<AllocError> for WriteError {
+    ghost use Rattle.std.specs.Prelude.{◌≡◌};
+    ghost use Rattle.outside.specs.declared.plots.WriteError.TheVariants as write;
+
+    ghost from_gives = { λ _ e. e ≡ write.OutOfMemory };
+
+    fn from(_: AllocError) -> Self {
+        WriteError::OutOfMemory
+    }
+}
+
+/// Files that can be written, each call at one path. A refusal other than `Failed` leaves them as before, and `Failed` every
+/// path but the one that the call names.
+pub trait Plot {
+    ghost use Rattle.outside.specs.Tree.{Files};
+    ghost use Rattle.outside.specs.Writes.{Area, is_open, make_refusal, write_refusal, remove_file_refusal, remove_dir_refusal, empty_dir, new_file, written, HasPlace, Answers, may_make, may_change, may_empty};
+    ghost use Rattle.std.specs.FinMap as map;
+    ghost use Rattle.std.specs.Prelude.{[]};
+
+    /// The nodes by their paths, where the object tells them.
+    ghost tree: { Self → Option Files };
+
+    /// How often it, and what it took back, have failed.
+    ghost count: { Self → ℕ };
+
+    /// Where it may write.
+    ghost area: { Self → Area };
+
+    /// How often it, and what it took back, have failed.
+    fn faults(&self) -> u64
+        ensures { result ≡ count self.now };
+
+    /// Makes an empty directory without a time.
+    fn make_dir(&mut self, alloc: Global, path: &Path) -> Result<(), WriteError>
+        requires { IsTrue (is_open (area self.old) path.now) }
+        ensures told { IfSome (tree self.old) (λ files. Answers path.now (make_refusal (area self.old) files path.now) files (map.insert files path.now empty_dir) result (tree self.new)) }
+        ensures named { IfErr result (λ e. IsTrue (may_make e)) }
+        ensures tells { is_some (tree self.new) ≡ is_some (tree self.old) }
+        ensures area { area self.new ≡ area self.old }
+        ensures count { RoseBy 0 (count self.old) (count self.new) }
+        ensures cause { IsErrOf result WriteError.Failed → RoseBy 1 (count self.old) (count self.new) };
+
+    /// Makes an empty file without a time.
+    fn make_file(&mut self, alloc: Global, path: &Path) -> Result<(), WriteError>
+        requires { IsTrue (is_open (area self.old) path.now) }
+        ensures told { IfSome (tree self.old) (λ files. Answers path.now (make_refusal (area self.old) files path.now) files (map.insert files path.now (new_file [])) result (tree self.new)) }
+        ensures named { IfErr result (λ e. IsTrue (may_make e)) }
+        ensures tells { is_some (tree self.new) ≡ is_some (tree self.old) }
+        ensures area { area self.new ≡ area self.old }
+        ensures count { RoseBy 0 (count self.old) (count self.new) }
+        ensures cause { IsErrOf result WriteError.Failed → RoseBy 1 (count self.old) (count self.new) };
+
+    /// Writes bytes over those of a file from a place on, and past its end.
+    fn write_at(
+        &mut self,
+        alloc: Global,
+        path: &Path,
+        at: u64,
+        bytes: &[u8],
+    ) -> Result<(), WriteError>
+        requires open { IsTrue (is_open (area self.old) path.now) }
+        requires place { IfSome (tree self.old) (λ files. HasPlace at (map.get files path.now)) }
+        ensures told { IfSome (tree self.old) (λ files. Answers path.now (write_refusal (map.get files path.now)) files (written files path.now at bytes.now) result (tree self.new)) }
+        ensures named { IfErr result (λ e. IsTrue (may_change e)) }
+        ensures tells { is_some (tree self.new) ≡ is_some (tree self.old) }
+        ensures area { area self.new ≡ area self.old }
+        ensures count { RoseBy 0 (count self.old) (count self.new) }
+        ensures cause { IsErrOf result WriteError.Failed → RoseBy 1 (count self.old) (count self.new) };
+
+    /// Removes what is no directory.
+    fn remove_file(&mut self, alloc: Global, path: &Path) -> Result<(), WriteError>
+        requires { IsTrue (is_open (area self.old) path.now) }
+        ensures told { IfSome (tree self.old) (λ files. Answers path.now (remove_file_refusal (map.get files path.now)) files (map.remove files path.now) result (tree self.new)) }
+        ensures named { IfErr result (λ e. IsTrue (may_change e)) }
+        ensures tells { is_some (tree self.new) ≡ is_some (tree self.old) }
+        ensures area { area self.new ≡ area self.old }
+        ensures count { RoseBy 0 (count self.old) (count self.new) }
+        ensures cause { IsErrOf result WriteError.Failed → RoseBy 1 (count self.old) (count self.new) };
+
+    /// Removes an empty directory.
+    fn remove_dir(&mut self, alloc: Global, path: &Path) -> Result<(), WriteError>
+        requires { IsTrue (is_open (area self.old) path.now) }
+        ensures told { IfSome (tree self.old) (λ files. Answers path.now (remove_dir_refusal files path.now) files (map.remove files path.now) result (tree self.new)) }
+        ensures named { IfErr result (λ e. IsTrue (may_empty e)) }
+        ensures tells { is_some (tree self.new) ≡ is_some (tree self.old) }
+        ensures area { area self.new ≡ area self.old }
+        ensures count { RoseBy 0 (count self.old) (count self.new) }
+        ensures cause { IsErrOf result WriteError.Failed → RoseBy 1 (count self.old) (count self.new) };
+}

@@ -1,0 +1,198 @@
+//! Whole files, written.
+ghost use Rattle.std.specs.Prelude.{◌≡◌, true, false, [], Some, None, OnOk, OnErr, IfOk, IfErr, IfSome, IsErrOf, IsTrue, is_some};
+ghost use Rattle.std.specs.FinMap as map;
+ghost use Rattle.outside.specs.Count.{RoseBy};
+ghost use Rattle.outside.specs.Tree.{is_file, is_dir};
+ghost use Rattle.outside.specs.Writes.{all_but, is_open, make_refusal, new_file, SameBut};
+ghost use Rattle.outside.specs.Whole.{can_put, Saves, Holds, IsOld};
+
+use crate::failures::Failed;
+use crate::grounds::Ground;
+use crate::plots::{Plot, WriteError};
+use crate::trees::{Kind, Tree};
+use path_text::{OutOfMemory, Path};
+use std::alloc::Global;
+use thiserror::Error;
+
+/// How many bytes are written at a time.
+const PIECE: usize = 65536;
+
+/// Why a file is not saved.
+#[derive(Clone, Copy, Debug, Drop, PartialEq, Eq, Error)]
+pub enum SaveError {
+    /// The outside failed, and the files have counted it.
+    #[error("the outside failed")]
+    Failed,
+    /// No file can be at the path: no directory is over it, or what is there is no file.
+    #[error("no file can be there")]
+    NoPlace,
+    /// No memory was found.
+    #[error("out of memory")]
+    OutOfMemory,
+}
+
+impl From<Failed> for SaveError {
+    ghost use Rattle.std.specs.Prelude.{◌≡◌};
+    ghost use Rattle.outside.specs.declared.saving.SaveError.TheVariants as save;
+
+    ghost from_gives = { λ _ e. e ≡ save.Failed };
+
+    fn from(_: Failed) -> Self {
+        SaveError::Failed
+    }
+}
+
+impl From<OutOfMemory> for SaveError {
+    ghost use Rattle.std.specs.Prelude.{◌≡◌};
+    ghost use Rattle.outside.specs.declared.saving.SaveError.TheVariants as save;
+
+    ghost from_gives = { λ _ e. e ≡ save.OutOfMemory };
+
+    fn from(_: OutOfMemory) -> Self {
+        SaveError::OutOfMemory
+    }
+}
+
+impl From<WriteError> for SaveError {
+    ghost use Rattle.std.specs.Prelude.{◌≡◌};
+    ghost use Rattle.outside.specs.Whole.{save_error};
+
+    ghost from_gives = { λ refused e. e ≡ save_error refused };
+
+    fn from(refused: WriteError) -> Self {
+        match refused {
+            WriteError::Failed => SaveError::Failed,
+            WriteError::OutOfMemory => SaveError::OutOfMemory,
+            _ => SaveError::NoPlace,
+        }
+    }
+}
+
+/// Puts a file with these bytes at the path, in place of a file that is there. It ends by itself: each turn writes one byte
+/// at least. After `Failed` and `OutOfMemory` nothing is said of the path itself.
+pub fn save<G: Ground>(
+    alloc: Global,
+    ground: &mut G,
+    path: &Path,
+    bytes: &[u8],
+) -> Result<(), SaveError>
+    requires { G.area ground.old ≡ all_but [] }
+    ensures told { IfSome (G.tree ground.old) (λ files. Saves path.now bytes.now files result (G.tree ground.new)) }
+    ensures tells { is_some (G.tree ground.new) ≡ is_some (G.tree ground.old) }
+    ensures area { G.area ground.new ≡ G.area ground.old }
+    ensures count { RoseBy 0 (G.count ground.old) (G.count ground.new) }
+    ensures cause { IsErrOf result SaveError.Failed → RoseBy 1 (G.count ground.old) (G.count ground.new) }
+{
+    let _ = path.text(); // tells that it is a path
+    let Some(parent) = path.parent()? else {
+        return Err(SaveError::NoPlace);
+    };
+    let old = find_old(alloc, ground, path, &parent)?;
+    clear(alloc, ground, path, old)?;
+    make_empty(alloc, ground, path)?;
+    write_all(alloc, ground, path, bytes)
+}
+
+// Whether the path holds a file already, where one can be saved there.
+fn find_old<G: Ground>(
+    alloc: Global,
+    ground: &mut G,
+    path: &Path,
+    parent: &Path,
+) -> Result<bool, SaveError>
+    ensures told { IfOk result (λ old. IfSome (G.tree ground.old) (λ files. (can_put files path.now parent.now ≡ true) × (is_file (map.get files path.now) ≡ old))) }
+    ensures no_place { IsErrOf result SaveError.NoPlace → IfSome (G.tree ground.old) (λ files. can_put files path.now parent.now ≡ false) }
+    ensures same { G.tree ground.new ≡ G.tree ground.old }
+    ensures area { G.area ground.new ≡ G.area ground.old }
+    ensures count { RoseBy 0 (G.count ground.old) (G.count ground.new) }
+    ensures cause { IsErrOf result SaveError.Failed → RoseBy 1 (G.count ground.old) (G.count ground.new) }
+{
+    let _ = ground.faults(); // tells that the count is a number of 64 bits
+    let mut reader = ground.reader(alloc)?;
+    let old = look(&mut reader, path, parent);
+    ground.take_reader(reader);
+    old
+}
+
+fn look<R: Tree>(reader: &mut R, path: &Path, parent: &Path) -> Result<bool, SaveError>
+    ensures told { IfOk result (λ old. IfSome (R.tree reader.old) (λ files. (can_put files path.now parent.now ≡ true) × (is_file (map.get files path.now) ≡ old))) }
+    ensures no_place { IsErrOf result SaveError.NoPlace → IfSome (R.tree reader.old) (λ files. can_put files path.now parent.now ≡ false) }
+    ensures same { R.tree reader.new ≡ R.tree reader.old }
+    ensures count { RoseBy 0 (R.count reader.old) (R.count reader.new) }
+    ensures cause { IsErrOf result SaveError.Failed → RoseBy 1 (R.count reader.old) (R.count reader.new) }
+{
+    let Some(over) = reader.stat(parent)? else {
+        return Err(SaveError::NoPlace);
+    };
+    if over.kind != Kind::Dir {
+        return Err(SaveError::NoPlace);
+    }
+    let Some(here) = reader.stat(path)? else {
+        return Ok(false);
+    };
+    if here.kind != Kind::File {
+        return Err(SaveError::NoPlace);
+    }
+    Ok(true)
+}
+
+// Removes the file at the path, where one is there.
+fn clear<G: Ground>(alloc: Global, ground: &mut G, path: &Path, old: bool) -> Result<(), SaveError>
+    requires open { IsTrue (is_open (G.area ground.old) path.now) }
+    requires old { IfSome (G.tree ground.old) (λ files. IsOld old (map.get files path.now)) }
+    ensures told { OnOk result (IfSome (G.tree ground.old) (λ files. IfSome (G.tree ground.new) (Holds path.now None files))) }
+    ensures no_place { IsErrOf result SaveError.NoPlace → is_some (G.tree ground.old) ≡ false }
+    ensures rest { OnErr result (IfSome (G.tree ground.old) (λ files. IfSome (G.tree ground.new) (SameBut path.now files))) }
+    ensures tells { is_some (G.tree ground.new) ≡ is_some (G.tree ground.old) }
+    ensures area { G.area ground.new ≡ G.area ground.old }
+    ensures count { RoseBy 0 (G.count ground.old) (G.count ground.new) }
+    ensures cause { IsErrOf result SaveError.Failed → RoseBy 1 (G.count ground.old) (G.count ground.new) }
+{
+    if old {
+        ground.remove_file(alloc, path)?;
+    }
+    Ok(())
+}
+
+// Makes an empty file, where nothing is and the parent is a directory.
+fn make_empty<G: Ground>(alloc: Global, ground: &mut G, path: &Path) -> Result<(), SaveError>
+    requires area { G.area ground.old ≡ all_but [] }
+    requires open { IsTrue (is_open (G.area ground.old) path.now) }
+    requires free { IfSome (G.tree ground.old) (λ files. make_refusal (all_but []) files path.now ≡ None) }
+    ensures told { OnOk result (IfSome (G.tree ground.old) (λ files. IfSome (G.tree ground.new) (Holds path.now (Some (new_file [])) files))) }
+    ensures no_place { IsErrOf result SaveError.NoPlace → is_some (G.tree ground.old) ≡ false }
+    ensures rest { OnErr result (IfSome (G.tree ground.old) (λ files. IfSome (G.tree ground.new) (SameBut path.now files))) }
+    ensures tells { is_some (G.tree ground.new) ≡ is_some (G.tree ground.old) }
+    ensures area { G.area ground.new ≡ G.area ground.old }
+    ensures count { RoseBy 0 (G.count ground.old) (G.count ground.new) }
+    ensures cause { IsErrOf result SaveError.Failed → RoseBy 1 (G.count ground.old) (G.count ground.new) }
+{
+    ground.make_file(alloc, path)?;
+    Ok(())
+}
+
+// Writes all the bytes to a file that is empty.
+fn write_all<G: Ground>(
+    alloc: Global,
+    ground: &mut G,
+    path: &Path,
+    bytes: &[u8],
+) -> Result<(), SaveError>
+    requires open { IsTrue (is_open (G.area ground.old) path.now) }
+    requires empty { IfSome (G.tree ground.old) (λ files. map.get files path.now ≡ Some (new_file [])) }
+    ensures told { OnOk result (IfSome (G.tree ground.old) (λ files. IfSome (G.tree ground.new) (Holds path.now (Some (new_file bytes.now)) files))) }
+    ensures no_place { IsErrOf result SaveError.NoPlace → is_some (G.tree ground.old) ≡ false }
+    ensures rest { OnErr result (IfSome (G.tree ground.old) (λ files. IfSome (G.tree ground.new) (SameBut path.now files))) }
+    ensures tells { is_some (G.tree ground.new) ≡ is_some (G.tree ground.old) }
+    ensures area { G.area ground.new ≡ G.area ground.old }
+    ensures count { RoseBy 0 (G.count ground.old) (G.count ground.new) }
+    ensures cause { IsErrOf result SaveError.Failed → RoseBy 1 (G.count ground.old) (G.count ground.new) }
+{
+    let mut at = 0;
+    while at < bytes.len() {
+        let end = at + (bytes.len() - at).min(PIECE);
+        ground.write_at(alloc, path, at as u64, &bytes[at..end])?;
+        at = end;
+    }
+    Ok(())
+}
