@@ -1,0 +1,11 @@
+pub mod Dealt
+pub mod Ordered
+pub mod Words
+pub mod Numbers
+pub mod Escapes
+pub mod Lines
+pub mod Files
+pub mod Damage
+pub mod Decoded
+pub mod Encoded
+pub mod Unique

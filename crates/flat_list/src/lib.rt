@@ -5,6 +5,10 @@
 //!   crate, so that they can be packed under the same contracts.
 //! - [`FlatList::from_jobs`] joins what several ranks found, by moving it, and puts it in path order.
 //! - A [`Cursor`] goes over the entries without copying them.
+//! - [`FlatList::sort_by`] sorts by a [`Field`], upwards or downwards, and always by path where the field ties.
+//! - [`FlatList::levels`] tells the places of each level, and [`FlatList::spread`] deals copies of the entries to pieces.
+//! - [`FlatList::encode`] writes a list as a list file, text that other tools read, and [`FlatList::decode`] reads it again, or
+//!   tells the first bad line as a [`CacheError`].
 //! - [`FlatList::summary`] counts the entries that have a stat, by kind, the bytes of the files, and the failures that the
 //!   entries name, as a [`Summary`].
 //!
@@ -15,21 +19,43 @@
 //!     let entry = cursor.entry();
 //!     // ..
 //! }
+//! let bytes = list.encode()?;                  // "mfu list 1\nd 0 86400 ok 0 0 /t\nend 1\n"
+//! let again = FlatList::decode(alloc, &bytes)?;
 //! ```
 //!
 //! Proved: a joined list has all entries of the logs and no other, and ascends by path; a sort moves entries only, and keeps
-//! the order of those that have one path; a cursor passes each entry once, in order; the counts are those of the definition.
-//! A call that is refused for want of memory leaves the list as it was. Definitions stand in `specs/Entries`: the shape of an
-//! entry, the number of its notes, the summary.
+//! the order of those that tie; levels, pieces and the first place of a path are those of the definitions; a cursor passes
+//! each entry once, in order; the counts are those of the definition. A call that is refused for want of memory leaves the
+//! list as it was.
+//!
+//! Proved of list files, over a relation between bytes and lists: what is written spells the list; what is read is the list
+//! that the bytes spell; each refusal comes by its cause, the first line through which no list file begins, or too many
+//! entries. A list has one list file, a list file tells one list, none is a proper prefix of another
+//! ([`spelling_is_unique`]), and of two answers about a text one alone is true ([`refusals_are_exact`]).
+//!
+//! Definitions stand in `specs/`: `Entries` (the shape of an entry, its notes, the summary), `Orders` (fields, places, levels,
+//! pieces), `Spelling` (list files), `Reading` (how the words of a line are read). Limits: a list file of more than 4,194,304
+//! entries is refused; `place_of` looks at the entries one by one. That want of memory comes only where it was refused is
+//! not claimed.
 #![tactic(auto)]
 
 mod arranging;
+mod dealing;
+mod decoding;
+mod encoding;
 mod entries;
+mod errors;
+mod laws;
 mod lists;
+mod ordering;
+mod reading;
 mod summaries;
 
 pub use entries::{Entry, Mark};
+pub use errors::CacheError;
+pub use laws::{refusals_are_exact, spelling_is_unique};
 pub use lists::{Cursor, FlatList};
+pub use ordering::Field;
 pub use summaries::Summary;
 
 #[cfg(test)]

@@ -1,14 +1,21 @@
 //! Lists of entries.
-ghost use Rattle.std.specs.Prelude.{◌≡◌, ◌+◌, ◌-◌, ◌<◌, ◌≤◌, ◌++◌, ◌∷◌, [], ◌==◌, nat_lt, if◌then◌else◌, Some, length, take, slice_get, OnOk, OnErr, IfOk};
-ghost use Rattle.std.specs.List.{flat_map};
-ghost use Rattle.std.specs.List.Sorted.{IsPermutation, IsSortedByKey, IsStableByKey};
+ghost use Rattle.std.specs.Prelude.{◌≡◌, ◌+◌, ◌-◌, ◌<◌, ◌≤◌, ◌++◌, ◌∷◌, [], true, false, ◌==◌, nat_lt, if◌then◌else◌, Some, length, map, take, slice_get, OnOk, OnErr, IfOk, IfErr, All};
+ghost use Rattle.std.specs.List.{flat_map, range_with_len};
+ghost use Rattle.std.specs.List.Sorted.{IsPermutation, IsSorted, IsSortedByKey, IsStrictlySortedBy, IsStable, IsStableByKey};
 ghost use Rattle.path_text.specs.Order.{path_cmp};
-ghost use Rattle.flat_list.specs.Entries.{summary_of};
+ghost use Rattle.flat_list.specs.Entries.{is_shaped, summary_of};
+ghost use Rattle.flat_list.specs.Spelling.{paths, Spells, max_entries, IsCause};
+ghost use Rattle.flat_list.specs.Orders.{place_of, sort_order, level_count, places_at, dealt};
 
 use crate::arranging::arrange;
+use crate::dealing::{levels_of, pieces_of};
+use crate::decoding::decode;
+use crate::encoding::encode;
 use crate::entries::{Entry, copy_of};
+use crate::errors::CacheError;
+use crate::ordering::{Field, sort_order};
 use crate::summaries::{Summary, summary_of};
-use path_text::OutOfMemory;
+use path_text::{OutOfMemory, Path};
 use std::alloc::Global;
 use std::marker::Model;
 
@@ -61,6 +68,27 @@ impl FlatList {
         Ok(())
     }
 
+    // Adds an entry behind the others. A refusal leaves the list.
+    pub(crate) fn push(&mut self, entry: Entry) -> Result<(), OutOfMemory>
+        ensures ok { OnOk result (self.new ≡ self.old ++ entry ∷ []) }
+        ensures err { OnErr result (self.new ≡ self.old) }
+    {
+        self.entries.push(entry)?;
+        Ok(())
+    }
+
+    // Whether a path comes after those of a list that ascends strictly.
+    pub(crate) fn precedes(&self, path: &Path) -> bool
+        requires { IsStrictlySortedBy path_cmp (paths self.now) }
+        ensures yes { result ≡ true → IsStrictlySortedBy path_cmp (paths self.now ++ path.now ∷ []) }
+        ensures no { result ≡ false → IsStrictlySortedBy path_cmp (paths self.now ++ path.now ∷ []) → ⊥ }
+    {
+        match self.entries.last() {
+            None => true,
+            Some(last) => last.path.cmp(path).is_lt(),
+        }
+    }
+
     /// All entries of the logs, in path order. They are moved, and memory is taken for them once.
     pub fn from_jobs(alloc: Global, logs: Vec<Vec<Entry>>) -> Result<FlatList, OutOfMemory>
         ensures all { IfOk result (λ list. IsPermutation (flat_map (λ log. log.items) logs.items) list) }
@@ -91,6 +119,59 @@ impl FlatList {
     {
         self.entries.sort_by(|a, b| a.path.cmp(&b.path))?;
         Ok(())
+    }
+
+    /// The first place of a path. It looks at the entries one by one, since a list may stand in any order.
+    pub fn place_of(&self, path: &Path) -> Option<usize>
+        ensures { result ≡ place_of path.now self.now }
+    {
+        self.entries.iter().position(|entry| entry.path == *path)
+    }
+
+    /// Puts the entries in the order of a field, with `down` from the greatest to the least. A missing size, time or kind is
+    /// less than every other. Entries that tie come in path order, upwards in both cases. A refusal leaves the list.
+    pub fn sort_by(&mut self, field: Field, down: bool) -> Result<(), OutOfMemory>
+        ensures all { IsPermutation self.old self.new }
+        ensures sorted { OnOk result (IsSorted (sort_order field down) self.new) }
+        ensures stable { IsStable (sort_order field down) self.old self.new }
+        ensures err { OnErr result (self.new ≡ self.old) }
+    {
+        self.entries.sort_by(|a, b| sort_order(field, down, a, b))?;
+        Ok(())
+    }
+
+    /// The places of the entries of each level, level 0 first, down to the level of the deepest entry.
+    pub fn levels(&self) -> Result<Vec<Vec<usize>>, OutOfMemory>
+        ensures { IfOk result (λ levels. map (λ places. places.items) levels.items ≡ map (λ k. places_at k self.now) (range_with_len 0 (level_count self.now))) }
+    {
+        levels_of(*self.entries.allocator(), &self.entries)
+    }
+
+    /// Copies of the entries in `n` pieces, as cards are dealt: the entry at place `k` goes to piece `k % n`.
+    pub fn spread(&self, n: u32) -> Result<Vec<FlatList>, OutOfMemory>
+        requires { 1 ≤ n }
+        ensures { IfOk result (λ pieces. pieces.items ≡ map (λ j. dealt n j self.now) (range_with_len 0 n)) }
+    {
+        pieces_of(*self.entries.allocator(), &self.entries, n)
+    }
+
+    /// The list file, version 1: the line `mfu list 1`; a line for each entry, `KIND SIZE MTIME MARK UNNAMED FAR PATH`, the path
+    /// as [`escape`](path_text::escape) writes it; and the line `end COUNT`. It takes time in proportion to its text.
+    pub fn encode(&self) -> Result<Vec<u8>, OutOfMemory>
+        requires ascend { IsStrictlySortedBy path_cmp (paths self.now) }
+        requires shaped { All (λ e. is_shaped e ≡ true) self.now }
+        ensures { IfOk result (λ bytes. Spells bytes.items self.now) }
+    {
+        encode(*self.entries.allocator(), &self.entries)
+    }
+
+    /// The list that a list file tells, or why the bytes are none. It takes time in proportion to them.
+    pub fn decode(alloc: Global, bytes: &[u8]) -> Result<FlatList, CacheError>
+        ensures ok { IfOk result (λ list. Spells bytes.now list) }
+        ensures few { IfOk result (λ list. length list ≤ max_entries) }
+        ensures refused { IfErr result (IsCause bytes.now) }
+    {
+        decode(alloc, bytes)
     }
 
     /// The counts of the list. It takes no memory.

@@ -1,5 +1,5 @@
 //! Lists with what is known of them.
-use crate::{Entry, FlatList, Mark, Summary};
+use crate::{CacheError, Entry, Field, FlatList, Mark, Summary};
 use outside::{Kind, Stat};
 use path_text::Path;
 use std::alloc::Global;
@@ -42,6 +42,109 @@ fn has_paths(rt: &impl Abort, list: &FlatList, paths: &[&str]) {
         assert_eq!(rt; cursor.entry().path.text(), *path);
     }
     assert!(rt; !cursor.advance());
+}
+
+// A directory with a file of 5 bytes, a directory with an empty file, and a file of one byte.
+fn worked_tree(alloc: Global) -> Result<FlatList, Fail> {
+    let mut list = FlatList::make(alloc);
+    for (path, kind, size) in [
+        ("/t", Kind::Dir, 0),
+        ("/t/a", Kind::File, 5),
+        ("/t/b", Kind::Dir, 0),
+        ("/t/b/c", Kind::File, 0),
+        ("/t/b-x", Kind::File, 1),
+    ] {
+        list.add(&fine(alloc, path, kind, size)?)?;
+    }
+    Ok(list)
+}
+
+#[test]
+fn sorts_the_worked_tree_by_size(rt: HostRuntime) -> Result<(), Fail> {
+    let alloc = rt.alloc();
+    let mut list = worked_tree(alloc)?;
+    list.sort_by(Field::Size, true)?;
+    has_paths(&rt, &list, &["/t/a", "/t/b-x", "/t", "/t/b", "/t/b/c"]);
+    assert!(rt; list.place_of(&Path::parse(alloc, "/t/b-x")?) == Some(1));
+    assert!(rt; list.place_of(&Path::parse(alloc, "/t/c")?) == None);
+    list.sort_path()?;
+    has_paths(&rt, &list, &["/t", "/t/a", "/t/b", "/t/b/c", "/t/b-x"]);
+    Ok(())
+}
+
+#[test]
+fn takes_the_worked_tree_apart(rt: HostRuntime) -> Result<(), Fail> {
+    let alloc = rt.alloc();
+    let list = worked_tree(alloc)?;
+    let levels = list.levels()?;
+    assert_eq!(rt; levels.len(), 4);
+    assert!(rt; levels[0].is_empty() && levels[1].as_slice() == [0].as_slice());
+    assert!(rt;
+        levels[2].as_slice() == [1, 2, 4].as_slice() && levels[3].as_slice() == [3].as_slice()
+    );
+    let pieces = list.spread(2)?;
+    assert_eq!(rt; pieces.len(), 2);
+    has_paths(&rt, &pieces[0], &["/t", "/t/b", "/t/b-x"]);
+    has_paths(&rt, &pieces[1], &["/t/a", "/t/b/c"]);
+    Ok(())
+}
+
+// The list file of the worked tree.
+const WORKED: &str = "mfu list 1
+d 0 86400 ok 0 0 /t
+f 5 86400 ok 0 0 /t/a
+d 0 86400 ok 0 0 /t/b
+f 0 86400 ok 0 0 /t/b/c
+f 1 86400 ok 0 0 /t/b-x
+end 5
+";
+
+// What a text is refused with.
+fn refusal(alloc: Global, text: &str) -> Option<CacheError> {
+    FlatList::decode(alloc, text.as_bytes()).err()
+}
+
+#[test]
+fn reads_the_worked_list_and_writes_it_again(rt: HostRuntime) -> Result<(), Fail> {
+    let alloc = rt.alloc();
+    let list = FlatList::decode(alloc, WORKED.as_bytes())?;
+    has_paths(&rt, &list, &["/t", "/t/a", "/t/b", "/t/b/c", "/t/b-x"]);
+    assert!(rt; list.summary() == worked_tree(alloc)?.summary());
+    assert!(rt; list.encode()?.as_slice() == WORKED.as_bytes());
+    Ok(())
+}
+
+#[test]
+fn refuses_the_worked_list_cut_anywhere(rt: HostRuntime) -> Result<(), Fail> {
+    let alloc = rt.alloc();
+    let whole = WORKED.as_bytes();
+    assert_eq!(rt; whole.len(), 129);
+    for len in 0..whole.len() {
+        let part = whole.get(..len).unwrap_or(&[]);
+        assert!(rt; FlatList::decode(alloc, part).is_err());
+    }
+    Ok(())
+}
+
+#[test]
+fn tells_the_first_bad_line(rt: HostRuntime) -> Result<(), Fail> {
+    let alloc = rt.alloc();
+    for (text, line) in [
+        ("", 1),
+        ("mfu list 2\nend 0\n", 1),
+        ("mfu list 1\n", 2),
+        ("mfu list 1\nend 0", 2),
+        ("mfu list 1\nend 1\n", 2),
+        ("mfu list 1\nend 0\n\n", 3),
+        ("mfu list 1\nf 05 - ok 0 0 /a\nend 1\n", 2),
+        ("mfu list 1\nd 1 - ok 0 0 /a\nend 1\n", 2),
+        ("mfu list 1\nf 1 - ok 0 0 /a\\x41\nend 1\n", 2),
+        ("mfu list 1\nf 1 - ok 0 0 /b\nf 1 - ok 0 0 /a\nend 2\n", 3),
+    ] {
+        assert!(rt; refusal(alloc, text) == Some(CacheError::Damaged(line)));
+    }
+    assert!(rt; refusal(alloc, "mfu list 1\nend 0\n").is_none());
+    Ok(())
 }
 
 #[test]

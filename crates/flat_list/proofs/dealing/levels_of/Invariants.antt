@@ -1,0 +1,7 @@
+use Rattle.std.proofs.Common.{◌≡◌, map, take}
+use Rattle.std.specs.List.{range_with_len}
+use Rattle.flat_list.specs.Orders.{level_count, places_at}
+use Rattle.flat_list.proofs.dealing.levels_of.Given as goal
+
+abbrev pub invariant-loop-at : goal.invariant-loop-at
+invariant-loop-at l = map (λ places. places.items) l.levels.items ≡ map (λ k. places_at k (take l.at l.entries)) (range_with_len 0 (level_count l.entries))

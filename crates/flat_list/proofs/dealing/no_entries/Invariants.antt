@@ -1,0 +1,7 @@
+use Rattle.std.proofs.Common.{◌≡◌, map, []}
+use Rattle.std.specs.List.{range_with_len}
+use Rattle.flat_list.specs.Orders.{dealt}
+use Rattle.flat_list.proofs.dealing.no_entries.Given as goal
+
+abbrev pub invariant-loop : goal.invariant-loop
+invariant-loop l = l.pieces.items ≡ map (λ j. dealt l.n j []) (range_with_len 0 l.counter)

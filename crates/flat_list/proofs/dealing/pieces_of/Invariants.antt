@@ -1,0 +1,7 @@
+use Rattle.std.proofs.Common.{◌≡◌, map, take}
+use Rattle.std.specs.List.{range_with_len}
+use Rattle.flat_list.specs.Orders.{dealt}
+use Rattle.flat_list.proofs.dealing.pieces_of.Given as goal
+
+abbrev pub invariant-loop-at : goal.invariant-loop-at
+invariant-loop-at l = l.pieces.items ≡ map (λ j. dealt l.n j (take l.at l.entries)) (range_with_len 0 l.n)

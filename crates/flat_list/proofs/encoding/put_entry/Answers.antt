@@ -1,0 +1,32 @@
+use Rattle.std.proofs.Common.{rules, ◌∙◌, ap, List, ℕ, [], ◌∷◌, ◌++◌}
+use Rattle.std.specs.Fmt.{decimal}
+use Rattle.path_text.specs.Escape.{escape}
+use Rattle.flat_list.specs.Entries.{size_by}
+use Rattle.flat_list.specs.Orders.{time_of}
+use Rattle.flat_list.specs.Spelling.{kind_by, kind_word, time_word, mark_word, IsEntry}
+use Rattle.flat_list.proofs.Encoded.{words_joined}
+use Rattle.flat_list.proofs.encoding.put_entry.Goals as goal
+
+pub returns-clause-text : goal.returns-clause-text
+returns-clause-text c =
+    let e = c.args.entry.now in
+    let word = λ (w t : List ℕ). t ++ (w ++ 32 ∷ []) in
+    c.in_ok-push.ensures.items ∙ ap (λ t. t ++ 10 ∷ [])
+    (c.in_ok-put_escaped.ensures.ok ∙ ap (λ t. t ++ escape e.path)
+    (c.in_ok-put_number-2.ensures.text ∙ ap (word (decimal e.far))
+    (c.in_ok-put_number.ensures.text ∙ ap (word (decimal e.unnamed))
+    (c.in_ok-put_word.ensures ∙ ap (λ w. word w c.put_stat.new.text.items) c.mark_word.ensures ∙ ap (word (mark_word e.mark)) c.in_ok-put_stat.ensures.text))))
+    ∙ words_joined (kind_word (kind_by e.stat)) (decimal (size_by e.stat)) (time_word (time_of e.stat)) (mark_word e.mark) (decimal e.unnamed) (decimal e.far) (escape e.path) c.args.text.now.items
+
+pub returns-clause-entry : goal.returns-clause-entry
+returns-clause-entry c =
+    let made : IsEntry c.args.entry.now = record {
+      path = search rules;
+      utf8 = search rules;
+      shape = c.requires;
+      size = c.in_ok-put_stat.ensures.size;
+      time = c.in_ok-put_stat.ensures.time;
+      unnamed = search rules;
+      far = search rules;
+    } in
+    made

@@ -1,0 +1,120 @@
+-- How the text of a line of a list file is read, word by word. That this undoes the writing of `Spelling`, and reads no other text, is proved.
+use Rattle.std.specs.Prelude.{◌≡◌, ◌≢◌, ◌<◌, length, slice_index, ℕ, ◌^◌, Bool, ◌&&◌, ◌==◌, nat_lt, List, [], ◌∷◌, ◌++◌, if◌then◌else◌, Option, Some, None, is_none, Result, Ok, Err, codes}
+use Rattle.std.specs.Str.{IsUtf8, is_utf8, bytes_eq}
+use Rattle.std.specs.Str.Parse.{digits_value}
+use Rattle.std.specs.Fmt.{decimal}
+use Rattle.path_text.specs.Escape.{reading}
+use Rattle.path_text.specs.declared.errors.EscapeError.{EscapeError}
+use Rattle.outside.specs.declared.trees.Kind.{Kind}
+use Rattle.outside.specs.declared.trees.Kind.TheVariants as kind
+use Rattle.outside.specs.declared.trees.Stat.{Stat}
+use Rattle.flat_list.specs.declared.entries.Entry.{Entry}
+use Rattle.flat_list.specs.declared.entries.Mark.{Mark}
+use Rattle.flat_list.specs.declared.entries.Mark.TheVariants as mark
+use Rattle.flat_list.specs.declared.reading.Told.{Told}
+use Rattle.flat_list.specs.Entries.{is_sized, shape_by}
+use Rattle.flat_list.specs.Spelling.{Follows}
+
+infixl 10 ◌>>=◌
+abbrev pub ◌>>=◌ : {A B : Type 0} → Option A → (A → Option B) → Option B
+None >>= f = None
+(Some x) >>= f = f x
+
+-- what stands before a byte's first place and what behind it
+abbrev pub onto_word : ℕ → Option (List ℕ × List ℕ) → Option (List ℕ × List ℕ)
+onto_word b None = None
+onto_word b (Some p) = Some (b ∷ p.0, p.1)
+
+unfoldable pub cut : ℕ → List ℕ → Option (List ℕ × List ℕ)
+cut c [] = None
+cut c (b ∷ bytes) = if b == c then Some ([], bytes) else onto_word b (cut c bytes)
+
+-- the number of 64 bits whose decimal text is the word
+unfoldable pub number_of : List ℕ → Option ℕ
+number_of word = if bytes_eq word (decimal (digits_value 10 word)) && nat_lt (digits_value 10 word) (2 ^ 64) then Some (digits_value 10 word) else None
+
+-- how a word begins that is a number without leading zeros and without a sign
+pub record LeadsNumber (word : List ℕ) : Type 0 where
+  pub some : 0 < length word
+  pub plain : slice_index word 0 ≢ 43
+  pub zero : slice_index word 0 ≡ 48 → length word ≡ 1
+
+unfoldable pub time_from : List ℕ → Option (Option ℕ)
+time_from word = if bytes_eq word (codes "-") then Some None else number_of word >>= λ n. Some (Some n)
+
+unfoldable pub kind_from : List ℕ → Option (Option Kind)
+kind_from word =
+    if bytes_eq word (codes "-") then Some None
+    else if bytes_eq word (codes "f") then Some (Some kind.File)
+    else if bytes_eq word (codes "d") then Some (Some kind.Dir)
+    else if bytes_eq word (codes "l") then Some (Some kind.Link)
+    else if bytes_eq word (codes "o") then Some (Some kind.Other)
+    else None
+
+unfoldable pub mark_from : List ℕ → Option Mark
+mark_from word =
+    if bytes_eq word (codes "ok") then Some mark.Fine
+    else if bytes_eq word (codes "stat") then Some mark.StatFailed
+    else if bytes_eq word (codes "list") then Some mark.ListFailed
+    else if bytes_eq word (codes "gone") then Some mark.Gone
+    else if bytes_eq word (codes "changed") then Some mark.Changed
+    else None
+
+-- a word before a space, read, and what is behind the space
+unfoldable pub word_at : {A : Type 0} → (List ℕ → Option A) → List ℕ → Option (A × List ℕ)
+word_at read text = do
+  word ← cut 32 text
+  value ← read word.0
+  Some (value, word.1)
+
+-- without a kind there is no stat, and then no size and no time
+unfoldable pub stat_from : Option Kind → ℕ → Option ℕ → Option (Option Stat)
+stat_from None size time = if size == 0 && is_none time then Some None else None
+stat_from (Some k) size time = Some (Some (record { kind = k; size = size; mtime = time }))
+
+abbrev pub is_told : Told → Bool
+is_told t = is_sized t.stat && shape_by t.mark t.stat (t.unnamed == 0 && t.far == 0)
+
+abbrev pub told_if : Told → List ℕ → Option (Told × List ℕ)
+told_if told rest = if is_told told then Some (told, rest) else None
+
+-- all but the path, and the word of the path
+unfoldable pub told_at : List ℕ → Option (Told × List ℕ)
+told_at text = do
+  kind ← word_at kind_from text
+  size ← word_at number_of kind.1
+  time ← word_at time_from size.1
+  mark ← word_at mark_from time.1
+  unnamed ← word_at number_of mark.1
+  far ← word_at number_of unnamed.1
+  stat ← stat_from kind.0 size.0 time.0
+  told_if (record { stat = stat; mark = mark.0; unnamed = unnamed.0; far = far.0 }) far.1
+
+abbrev pub ok_of : Result (List ℕ) EscapeError → Option (List ℕ)
+ok_of (Ok path) = Some path
+ok_of (Err e) = None
+
+unfoldable pub path_from : List ℕ → Option (List ℕ)
+path_from word = if is_utf8 word then ok_of (reading word) else None
+
+unfoldable pub entry_at : List ℕ → Option Entry
+entry_at text = do
+  told ← told_at text
+  path ← path_from told.1
+  Some (record { path = path; stat = told.0.stat; mark = told.0.mark; unnamed = told.0.unnamed; far = told.0.far })
+
+-- the count of an end line
+unfoldable pub end_at : List ℕ → Option ℕ
+end_at text = do
+  word ← cut 32 text
+  if bytes_eq word.0 (codes "end") then number_of word.1 else None
+
+-- what was read is added behind the entries
+abbrev pub Adds : Option Entry → List Entry → List Entry → Type 0
+Adds None old new = ⊥
+Adds (Some e) old new = IsUtf8 e.path × (Follows old e × (new ≡ old ++ e ∷ []))
+
+-- what was read is no entry that may come behind them
+abbrev pub NoneFollows : Option Entry → List Entry → Type 0
+NoneFollows None old = Unit {0}
+NoneFollows (Some e) old = Follows old e → ⊥

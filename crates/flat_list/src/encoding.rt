@@ -1,0 +1,145 @@
+//! A list file written.
+ghost use Rattle.std.specs.Prelude.{◌≡◌, ◌+◌, ◌<◌, ◌++◌, ◌∷◌, [], true, map, All, IfOk, OnOk, IfSome, Some, ◌^◌};
+ghost use Rattle.std.specs.List.Sorted.{IsStrictlySortedBy};
+ghost use Rattle.std.specs.Fmt.{decimal};
+ghost use Rattle.path_text.specs.Order.{path_cmp};
+ghost use Rattle.flat_list.specs.Entries.{is_shaped, size_by};
+ghost use Rattle.flat_list.specs.Orders.{time_of};
+ghost use Rattle.flat_list.specs.Spelling.{kind_by, kind_word, time_word, mark_word, text_of, line, header_text, end_text, IsEntry, paths, Spells};
+
+use crate::entries::{Entry, Mark};
+use outside::{Kind, Stat};
+use path_text::{OutOfMemory, put_escaped};
+use std::alloc::Global;
+
+/// The list file of some entries.
+pub(crate) fn encode(alloc: Global, entries: &[Entry]) -> Result<Vec<u8>, OutOfMemory>
+    requires ascend { IsStrictlySortedBy path_cmp (paths entries.now) }
+    requires shaped { All (λ e. is_shaped e ≡ true) entries.now }
+    ensures { IfOk result (λ bytes. Spells bytes.items entries.now) }
+{
+    let mut text = Vec::new(alloc);
+    text.extend_from_slice(b"mfu list 1\n")?;
+    for entry in entries {
+        put_entry(&mut text, entry)?;
+    }
+    put_end(&mut text, entries.len())?;
+    Ok(text)
+}
+
+fn put_end(text: &mut Vec<u8>, count: usize) -> Result<(), OutOfMemory>
+    ensures text { OnOk result (text.new.items ≡ text.old.items ++ line (end_text count)) }
+    ensures small { count < 2 ^ 64 }
+{
+    text.extend_from_slice(b"end ")?;
+    put_decimal(text, count as u64)?;
+    text.push(b'\n')?;
+    Ok(())
+}
+
+fn put_entry(text: &mut Vec<u8>, entry: &Entry) -> Result<(), OutOfMemory>
+    requires { is_shaped entry.now ≡ true }
+    ensures text { OnOk result (text.new.items ≡ text.old.items ++ line (text_of entry.now)) }
+    ensures entry { OnOk result (IsEntry entry.now) }
+{
+    put_stat(text, entry.stat)?;
+    put_word(text, mark_word(entry.mark))?;
+    put_number(text, entry.unnamed)?;
+    put_number(text, entry.far)?;
+    put_escaped(text, &entry.path)?;
+    text.push(b'\n')?;
+    // That a path is UTF-8 is told by its text alone.
+    let _text = entry.path.text();
+    Ok(())
+}
+
+// The words of a stat, each with a space behind it.
+fn put_stat(text: &mut Vec<u8>, stat: Option<Stat>) -> Result<(), OutOfMemory>
+    ensures text { OnOk result (text.new.items ≡ text.old.items ++ (kind_word (kind_by stat) ++ 32 ∷ (decimal (size_by stat) ++ 32 ∷ (time_word (time_of stat) ++ 32 ∷ [])))) }
+    ensures size { OnOk result (size_by stat < 2 ^ 64) }
+    ensures time { OnOk result (IfSome (time_of stat) (λ seconds. seconds < 2 ^ 64)) }
+{
+    match stat {
+        None => put_words(text, "-", 0, None),
+        Some(stat) => put_words(text, kind_word(stat.kind), stat.size, stat.mtime),
+    }
+}
+
+#[tactic(auto, using(crate::proofs::Encoded::told_joined))]
+fn put_words(
+    text: &mut Vec<u8>,
+    kind: &str,
+    size: u64,
+    mtime: Option<u64>,
+) -> Result<(), OutOfMemory>
+    ensures text { OnOk result (text.new.items ≡ text.old.items ++ (kind.now ++ 32 ∷ (decimal size ++ 32 ∷ (time_word mtime ++ 32 ∷ [])))) }
+    ensures size { OnOk result (size < 2 ^ 64) }
+    ensures time { OnOk result (IfSome mtime (λ seconds. seconds < 2 ^ 64)) }
+{
+    put_word(text, kind)?;
+    put_number(text, size)?;
+    put_time(text, mtime)
+}
+
+fn put_time(text: &mut Vec<u8>, mtime: Option<u64>) -> Result<(), OutOfMemory>
+    ensures text { OnOk result (text.new.items ≡ text.old.items ++ (time_word mtime ++ 32 ∷ [])) }
+    ensures small { OnOk result (IfSome mtime (λ seconds. seconds < 2 ^ 64)) }
+{
+    match mtime {
+        Some(seconds) => put_number(text, seconds),
+        None => put_word(text, "-"),
+    }
+}
+
+fn kind_word(kind: Kind) -> &'static str
+    ensures { result.now ≡ kind_word (Some kind) }
+{
+    match kind {
+        Kind::File => "f",
+        Kind::Dir => "d",
+        Kind::Link => "l",
+        Kind::Other => "o",
+    }
+}
+
+fn mark_word(mark: Mark) -> &'static str
+    ensures { result.now ≡ mark_word mark }
+{
+    match mark {
+        Mark::Fine => "ok",
+        Mark::StatFailed => "stat",
+        Mark::ListFailed => "list",
+        Mark::Gone => "gone",
+        Mark::Changed => "changed",
+    }
+}
+
+fn put_word(text: &mut Vec<u8>, word: &str) -> Result<(), OutOfMemory>
+    ensures { OnOk result (text.new.items ≡ text.old.items ++ (word.now ++ 32 ∷ [])) }
+{
+    text.extend_from_slice(word.as_bytes())?;
+    text.push(b' ')?;
+    Ok(())
+}
+
+fn put_number(text: &mut Vec<u8>, n: u64) -> Result<(), OutOfMemory>
+    ensures text { OnOk result (text.new.items ≡ text.old.items ++ (decimal n ++ 32 ∷ [])) }
+    ensures small { n < 2 ^ 64 }
+{
+    put_decimal(text, n)?;
+    text.push(b' ')?;
+    Ok(())
+}
+
+#[tactic(auto, using(crate::proofs::Encoded::decimal_steps))]
+fn put_decimal(text: &mut Vec<u8>, n: u64) -> Result<(), OutOfMemory>
+    ensures { OnOk result (text.new.items ≡ text.old.items ++ decimal n) }
+{
+    if n < 10 {
+        text.push(b'0' + n as u8)?;
+        return Ok(());
+    }
+    put_decimal(text, n / 10)?;
+    text.push(b'0' + (n % 10) as u8)?;
+    Ok(())
+}
