@@ -50,6 +50,12 @@ to_entries P (d ∷ ds) h = (h.0, to_entries P ds h.1)
 pub moved : {X : Type 0} (P : X → Type 0) (xs ys : List X) → IsPermutation xs ys → AllByRecursion P xs → AllByRecursion P ys
 moved P xs ys p h = recursion_from_All P ys (All-permutation P xs ys p (All-from_recursion P xs h))
 
+-- the list tells the answer of each entry
+pub tells_each : (ds : List Held) (list : List Entry) → IsPermutation (entries_of ds) list → IsStrictlySortedBy path_cmp (paths_of list) → AllByRecursion (λ d. answers_in list d.0.path ≡ answer_in d.0) ds
+tells_each ds list p rise =
+    let P : Entry → Type 0 = λ e. answers_in list e.path ≡ answer_in e in
+    of_entries P ds (moved P list (entries_of ds) (IsPermutation-sym (entries_of ds) list p) (tells_itself list rise))
+
 own : (files : Files) (a : Answers) (ds : List Held) → AllByRecursion (IsDone files) ds → AllByRecursion (λ d. a d.0.path ≡ answer_in d.0) ds → AllByRecursion (λ d. IsOwn files a d.0) ds
 own files a [] h t = tt
 own files a (d ∷ ds) h t = (h.0.entry ∙ ap (λ x. entry_of x (get files d.0.path) d.0.path) (sym t.0), own files a ds h.1 t.1)
@@ -85,7 +91,7 @@ whole files ds list starts ordered p s push done apart b m o =
     let a = answers_in list in
     let rise = list_rises ds list [] starts p s push apart b in
     let l = lined ordered o (λ x. omega (arith, from_apart starts apart x, sum_by-IsPermutation (covers x) starts ordered m)) in
-    let told = of_entries (λ e. a e.path ≡ answer_in e) ds (moved (λ (e : Entry). a e.path ≡ answer_in e) list (entries_of ds) (IsPermutation-sym (entries_of ds) list p) (tells_itself list rise)) in
+    let told = tells_each ds list p rise in
     let F = λ (q : List ℕ). entry_of (a q) (get files q) q in
     let entries = moved (λ (e : Entry). e ≡ F e.path) (entries_of ds) list p (to_entries (λ e. e ≡ F e.path) ds (own files a ds done told)) in
     let w = flat_map (walk files a) ordered in

@@ -12,3 +12,4 @@ pub mod Ranks
 pub mod Held
 pub mod Pushed
 pub mod Rooted
+pub mod Traced

@@ -29,11 +29,11 @@ unused_logs jobs h = All-from_recursion (λ job. log_of job.1 ≡ []) jobs (each
     each [] h = tt
     each (j ∷ jobs) h = (ap log_of h.0, each jobs h.1)
 
-all_logs : {R : Type 0} (jobs : List (R × List Held)) → flat_map (λ job. log_of job.1) jobs ≡ log_of (flat_map (λ job. job.1) jobs)
+pub all_logs : {R : Type 0} (jobs : List (R × List Held)) → flat_map (λ job. log_of job.1) jobs ≡ log_of (flat_map (λ job. job.1) jobs)
 all_logs [] = refl
 all_logs (j ∷ jobs) = (λ i. log_of j.1 ++ all_logs jobs i) ∙ sym (map-append (λ (d : Held). (d.0.path, d.1)) j.1 (flat_map (λ job. job.1) jobs))
 
-same_plain : {R : Type 0} (tree : R → Option Files) (told : Option Files) (xs ys : List (R × List Held)) → map (λ j. tree j.0) ys ≡ map (λ j. tree j.0) xs → AllByRecursion (λ j. tree j.0 ≡ told) xs → AllByRecursion (λ j. tree j.0 ≡ told) ys
+pub same_plain : {R : Type 0} (tree : R → Option Files) (told : Option Files) (xs ys : List (R × List Held)) → map (λ j. tree j.0) ys ≡ map (λ j. tree j.0) xs → AllByRecursion (λ j. tree j.0 ≡ told) xs → AllByRecursion (λ j. tree j.0 ≡ told) ys
 same_plain {R = R} tree told xs ys e h = back ys (subst (AllByRecursion (λ t. t ≡ told)) (sym e) (there xs h))
   where
     there : (xs : List (R × List Held)) → AllByRecursion (λ j. tree j.0 ≡ told) xs → AllByRecursion (λ t. t ≡ told) (map (λ j. tree j.0) xs)
@@ -44,7 +44,7 @@ same_plain {R = R} tree told xs ys e h = back ys (subst (AllByRecursion (λ t. t
     back [] h = tt
     back (y ∷ ys) h = (h.0, back ys h.1)
 
-all_done : {R : Type 0} (tree : R → Option Files) (count : R → ℕ) (files : Files) (jobs : List (R × List Held)) → AllByRecursion (λ j. tree j.0 ≡ Some files) jobs → AllByRecursion (λ j. Holds (tree j.0) (count j.0) j.1) jobs →
+pub all_done : {R : Type 0} (tree : R → Option Files) (count : R → ℕ) (files : Files) (jobs : List (R × List Held)) → AllByRecursion (λ j. tree j.0 ≡ Some files) jobs → AllByRecursion (λ j. Holds (tree j.0) (count j.0) j.1) jobs →
     AllByRecursion (λ j. AllByRecursion (IsDone files) j.1) jobs
 all_done tree count files [] e h = tt
 all_done tree count files (j ∷ jobs) e h = (subst (λ t. IfSome t (λ files. AllByRecursion (IsDone files) j.1)) e.0 h.0.done, all_done tree count files jobs e.1 h.1)
@@ -103,16 +103,33 @@ none_capped {X = X} f (x ∷ xs) h =
     let parts = sum_by-cons f x xs in
     omega (arith, h, parts, sum_by-cons (λ (x : X). min (f x) (2 ^ 64 - 1)) x xs, none_capped f xs (omega (arith, h, parts)))
 
+-- the ranks handled as many paths as the list has entries
+pub all_handled : {R : Type 0} (jobs : List (R × List Held)) (all list : List Entry) → all ≡ entries_of (flat_map (λ job. job.1) jobs) → IsPermutation all list →
+    sum_by (λ j. length (log_of j.1)) jobs ≡ length list
+all_handled {R = R} jobs all list logs p =
+    let held = flat_map (λ (j : R × List Held). j.1) jobs in
+    omega (
+      arith,
+      all_lengths jobs,
+      length-map held (λ (d : Held). d.0),
+      ones (entries_of held),
+      ones list,
+      sum_by-IsPermutation (λ (e : Entry). 1) (entries_of held) list (subst (λ es. IsPermutation es list) logs p),
+    )
+
 pub shared : {R : Type 0} (jobs : List (R × List Held)) (all list : List Entry) (shares : List Share) → map (λ s. s.handled) shares ≡ map (λ j. min (length (log_of j.1)) (2 ^ 64 - 1)) jobs →
     all ≡ entries_of (flat_map (λ job. job.1) jobs) → IsPermutation all list → length list < 2 ^ 64 → sum_by (λ s. s.handled) shares ≡ length list
 shared {R = R} jobs all list shares e logs p few =
-    let held = flat_map (λ (j : R × List Held). j.1) jobs in
-    let n : length (entries_of held) ≡ length list =
-    omega (arith, ones (entries_of held), ones list, sum_by-IsPermutation (λ (e : Entry). 1) (entries_of held) list (subst (λ es. IsPermutation es list) logs p)) in
-    let total : sum_by (λ j. length (log_of j.1)) jobs ≡ length list = omega (arith, all_lengths jobs, length-map held (λ (d : Held). d.0), n) in
+    let total = all_handled jobs all list logs p in
     sym (sum_by-map (λ (k : ℕ). k) (λ (s : Share). s.handled) shares) ∙ ap (sum_by (λ (k : ℕ). k)) e
     ∙ sum_by-map (λ (k : ℕ). k) (λ (j : R × List Held). min (length (log_of j.1)) (2 ^ 64 - 1)) jobs
     ∙ none_capped (λ (j : R × List Held). length (log_of j.1)) jobs (omega (arith, total, few)) ∙ total
+
+-- each rank has a share
+pub share_each : {R : Type 0} (jobs : List (R × List Held)) (shares : List Share) (ranks : ℕ) → map (λ s. s.handled) shares ≡ map (λ j. min (length (log_of j.1)) (2 ^ 64 - 1)) jobs →
+    length jobs ≡ ranks → length shares ≡ ranks
+share_each {R = R} jobs shares ranks e n =
+    sym (length-map shares (λ (s : Share). s.handled)) ∙ ap length e ∙ length-map jobs (λ (j : R × List Held). min (length (log_of j.1)) (2 ^ 64 - 1)) ∙ n
 
 -- ---- one job more is opened
 

@@ -1,7 +1,7 @@
 //! The walk of trees of files by ranks: every path at and under the starts, in path order.
 //!
 //! - [`walk`] looks at the starts and at all that is under them, and gives a [`WalkReport`]: the entries as a list in path
-//!   order, and what each rank did.
+//!   order, what each rank did, the events of the run where they are kept, and how the number of entries rose.
 //! - [`roots_of`] makes starts of any paths: it drops what is equal to or under another, so that nothing is walked twice.
 //! - A [`WalkJob`] is what one rank does with a path: it asks the files what stands there, and the names in a directory,
 //!   keeps the entry and pushes the children. The ranks of [`circle_run`] hand paths to each other in any order.
@@ -19,14 +19,21 @@
 //! Proved, over any files and whatever the order in which paths are handled: where the files tell their tree, the list is
 //! the recursive walk of the starts, with the failed answers that its marks name; over all files each path stands in the
 //! list once, in path order, is a start or under one, and each failed answer was counted. This follows from the balance of
-//! the run alone: each path was handled as often as it was a start or was pushed. That a walk ends is not proved: the
-//! runtime that works it off may wait.
+//! the run alone: each path was handled as often as it was a start or was pushed. So the list is the same for every number of
+//! ranks, split and seed.
+//!
+//! Proved of what a report tells beside its list: all that the ranks handled is as much as the list has, what all gave all
+//! took, and the numbers of progress rise to the number of entries, by the thousand where there is one rank. With a trace the
+//! events are those of a traced run by the options in which the ranks handle just the paths of the list and push the children
+//! that the recursive walk goes on with, and the shares are what these events count.
+//!
+//! That a walk ends is not proved: the runtime that works it off may wait.
 //!
 //! The recursive walk has laws of its own, each the contract of a function that does nothing: [`walk_is_recursive`],
 //! [`walk_ascends`], [`walk_has_each_path_once`], [`walk_finds_all`], [`walk_without_faults_is_fine`].
 //!
-//! Definitions stand in `specs/`: `Walk` (the recursive walk and failed answers), `Roots`, `Found` (what a walk gives), `Held`
-//! (what a job keeps).
+//! Definitions stand in `specs/`: `Walk` (the recursive walk and failed answers), `Roots`, `Found` (what a walk gives), `Traced`
+//! (what events and progress tell), `Held` (what a job keeps).
 #![tactic(auto)]
 
 mod errors;

@@ -25,6 +25,7 @@ pub fn look<R: Tree>(
     ensures shaped { IfOk result (λ r. is_shaped r.0 ≡ true) }
     ensures names { IfOk result (λ r. AreNames path r.1.0) }
     ensures alone { IfOk result (λ r. is_listed r.0 ≡ false → r.1.0 ≡ []) }
+    ensures listed { IfOk result (λ r. is_listed r.0 ≡ true → (r.0.unnamed ≡ r.1.1) × (r.0.far ≡ r.1.2)) }
     ensures same { R.tree reader.new ≡ R.tree reader.old }
     ensures counted { IfOk result (λ r. RoseBy (weight_of r.0) (R.count reader.old) (R.count reader.new)) }
     ensures count { RoseBy 0 (R.count reader.old) (R.count reader.new) }

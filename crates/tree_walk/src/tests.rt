@@ -1,9 +1,11 @@
 //! Roots of paths, and walks of small trees.
+ghost use Rattle.std.specs.Prelude.{◌≡◌, ◌≤◌, None};
+
 use crate::{WalkReport, Walked, roots_of, walk};
 use circle_run::{Options, Split};
 use files_mem::{Call, MemGround};
 use flat_list::Mark;
-use outside::{Ground, Kind};
+use outside::{Ground, Kind, Plot};
 use path_text::Path;
 use std::alloc::Global;
 use std::process::Abort;
@@ -60,6 +62,14 @@ fn tree_t(alloc: Global) -> Result<MemGround, Fail> {
     Ok(files)
 }
 
+const TREE_T: [(&str, Mark); 5] = [
+    ("/t", Mark::Fine),
+    ("/t/a", Mark::Fine),
+    ("/t/b", Mark::Fine),
+    ("/t/b/c", Mark::Fine),
+    ("/t/b-x", Mark::Fine),
+];
+
 // The walk of the roots of some paths.
 fn walked<R: Threads + Wait + Sync>(
     rt: &R,
@@ -88,14 +98,7 @@ fn a_walk_finds_a_tree_in_path_order(rt: HostRuntime) -> Result<(), Fail> {
     let alloc = rt.alloc();
     let mut files = tree_t(alloc)?;
     let report = walked(&rt, alloc, &mut files, &["/t"])?;
-    let found = [
-        ("/t", Mark::Fine),
-        ("/t/a", Mark::Fine),
-        ("/t/b", Mark::Fine),
-        ("/t/b/c", Mark::Fine),
-        ("/t/b-x", Mark::Fine),
-    ];
-    has(&rt, &report, &found);
+    has(&rt, &report, &TREE_T);
     assert_eq!(rt; report.list.len(), 5);
     let entry = report.list.entry(1)?;
     let Some(stat) = entry.stat else {
@@ -108,7 +111,58 @@ fn a_walk_finds_a_tree_in_path_order(rt: HostRuntime) -> Result<(), Fail> {
     assert_eq!(rt; report.list.entry(2)?.far, 3);
     assert_eq!(rt; report.shares.len(), 1);
     assert_eq!(rt; report.shares[0].handled, 5);
+    assert!(rt; report.events.is_empty());
+    assert!(rt; report.sums.as_slice() == [5].as_slice());
     assert_eq!(rt; files.faults(), 0);
+    Ok(())
+}
+
+// Walks the tree with a trace, and compares what all ranks together found and did.
+fn walks_with<R: Threads + Wait + Sync + Abort>(
+    rt: &R,
+    alloc: Global,
+    options: &Options,
+) -> Result<(), Fail>
+    requires ranks { (1 ≤ options.now.ranks) × (options.now.ranks ≤ 64) }
+    requires hosts { options.now.hosts ≡ 1 }
+    requires width { options.now.width ≡ 2 }
+    requires stop_after { options.now.stop_after ≡ None }
+{
+    let mut files = tree_t(alloc)?;
+    let starts = roots_of(paths(alloc, &["/t"])?)?;
+    let report = walk(rt, alloc, &mut files, starts, options)?;
+    has(rt, &report, &TREE_T);
+    assert_eq!(rt; report.shares.len(), options.ranks as usize);
+    let handled = report
+        .shares
+        .iter()
+        .fold(0u64, |sum, share| sum.saturating_add(share.handled));
+    assert_eq!(rt; handled, 5);
+    assert!(rt; report.sums.as_slice() == [5].as_slice());
+    assert!(rt; report.events.len() > 5);
+    Ok(())
+}
+
+#[test]
+fn any_number_of_ranks_finds_the_same_list(rt: HostRuntime) -> Result<(), Fail> {
+    let alloc = rt.alloc();
+    for ranks in 1..6 {
+        for (split, seed) in [
+            (Split::Equal, 0),
+            (Split::Equal, 7),
+            (Split::Random, 0),
+            (Split::Random, 7),
+        ] {
+            let options = Options {
+                ranks,
+                split,
+                seed,
+                trace: true,
+                ..OPTIONS
+            };
+            walks_with(&rt, alloc, &options)?;
+        }
+    }
     Ok(())
 }
 

@@ -1,16 +1,18 @@
 //! The walk by ranks.
-ghost use Rattle.std.specs.Prelude.{◌≡◌, ◌≤◌, ◌<◌, ◌^◌, [], false, length, map, sum_by, None, OnOk, IfOk, IfErr};
-ghost use Rattle.std.specs.List.{flat_map, AllByRecursion};
+ghost use Rattle.std.specs.Prelude.{◌≡◌, ◌≤◌, ◌<◌, ◌-◌, ◌^◌, [], true, false, length, map, min, sum_by, None, OnOk, IfOk, IfErr, IfSome};
+ghost use Rattle.std.specs.List.{flat_map, range_with_len, AllByRecursion};
+ghost use Rattle.circle_run.specs.Traced.{share_in};
 ghost use Rattle.outside.specs.Count.{RoseBy};
 ghost use Rattle.tree_walk.specs.Walk.{weight_of};
 ghost use Rattle.tree_walk.specs.Roots.{Apart};
 ghost use Rattle.tree_walk.specs.Held.{Holds, entries_of};
+ghost use Rattle.tree_walk.specs.Traced.{IsTracedWalk, IsProgressTo};
 ghost use Rattle.tree_walk.specs.Found.{IsFound, IsTooMuch, IfTooMany, max_entries};
 
 use crate::errors::WalkError;
 use crate::jobs::WalkJob;
 use crate::reports::{WalkReport, Walked};
-use circle_run::{Options, Share, begin};
+use circle_run::{Options, begin};
 use flat_list::{Entry, FlatList};
 use outside::Ground;
 use path_text::{OutOfMemory, Path};
@@ -32,58 +34,78 @@ pub fn walk<W: Threads + Wait + Sync, G: Ground>(
 ) -> Result<WalkReport, WalkError>
 where
     G::Reader: Send,
-    requires ranks { options.now.ranks ≡ 1 }
+    requires ranks { (1 ≤ options.now.ranks) × (options.now.ranks ≤ 64) }
     requires hosts { options.now.hosts ≡ 1 }
     requires width { (2 ≤ options.now.width) × (options.now.width ≤ 64) }
-    requires trace { options.now.trace ≡ false }
     requires stop_after { options.now.stop_after ≡ None }
     requires apart { Apart starts.items }
     ensures found { IfOk result (λ report. IsFound (G.tree ground.old) starts.items (G.count ground.old) (G.count ground.new) report.list) }
     ensures few { IfOk result (λ report. length report.list ≤ max_entries) }
     ensures too_many { IfErr result (λ e. IfTooMany e (IsTooMuch (G.tree ground.old) starts.items (G.count ground.old) (G.count ground.new))) }
     ensures whole { IfOk result (λ report. options.now.stop_after ≡ None → report.walked ≡ Walked.Whole) }
+
+    // What the ranks did: all that they handled is the list, and what all gave all took. Counts stop at their greatest.
     ensures shares { IfOk result (λ report. sum_by (λ s. s.handled) report.shares.items ≡ length report.list) }
+    ensures by_rank { IfOk result (λ report. length report.shares.items ≡ options.now.ranks) }
+    ensures moved { IfOk result (λ report. min (sum_by (λ s. s.given) report.shares.items) (2 ^ 128 - 1) ≡ min (sum_by (λ s. s.taken) report.shares.items) (2 ^ 128 - 1)) }
+
+    // With a trace the events are those of a run that makes the list, and the shares are what they count.
+    ensures traced { IfOk result (λ report. options.now.trace ≡ true → IfSome (G.tree ground.old) (λ files. IsTracedWalk files options.now starts.items report.list report.events.items)) }
+    ensures counts { IfOk result (λ report. options.now.trace ≡ true → report.shares.items ≡ map (share_in report.events.items) (range_with_len 0 options.now.ranks)) }
+    ensures untraced { IfOk result (λ report. options.now.trace ≡ false → report.events.items ≡ []) }
+
+    ensures progress { IfOk result (λ report. IsProgressTo (length report.list) options.now.ranks report.sums.items) }
     ensures same { G.tree ground.new ≡ G.tree ground.old }
+    ensures area { G.area ground.new ≡ G.area ground.old }
     ensures count { RoseBy 0 (G.count ground.old) (G.count ground.new) }
 {
-    let (list, shares) = found(rt, alloc, ground, starts, options)?;
-    if list.len() > MAX_ENTRIES {
-        return Err(WalkError::TooMany(list.len() as u64));
+    let report = found(rt, alloc, ground, starts, options)?;
+    if report.list.len() > MAX_ENTRIES {
+        return Err(WalkError::TooMany(report.list.len() as u64));
     }
-    Ok(WalkReport {
-        list,
-        walked: Walked::Whole,
-        shares,
-    })
+    Ok(report)
 }
 
-// All that the ranks find, and what each did.
+// What the ranks find and do, whatever the length of the list.
 fn found<W: Threads + Wait + Sync, G: Ground>(
     rt: &W,
     alloc: Global,
     ground: &mut G,
     starts: Vec<Path>,
     options: &Options,
-) -> Result<(FlatList, Vec<Share>), WalkError>
+) -> Result<WalkReport, WalkError>
 where
     G::Reader: Send,
-    requires ranks { options.now.ranks ≡ 1 }
+    requires ranks { (1 ≤ options.now.ranks) × (options.now.ranks ≤ 64) }
     requires hosts { options.now.hosts ≡ 1 }
     requires width { (2 ≤ options.now.width) × (options.now.width ≤ 64) }
-    requires trace { options.now.trace ≡ false }
     requires stop_after { options.now.stop_after ≡ None }
     requires apart { Apart starts.items }
-    ensures found { IfOk result (λ r. IsFound (G.tree ground.old) starts.items (G.count ground.old) (G.count ground.new) r.0) }
-    ensures shares { IfOk result (λ r. length r.0 < 2 ^ 64 → sum_by (λ s. s.handled) r.1.items ≡ length r.0) }
+    ensures found { IfOk result (λ r. IsFound (G.tree ground.old) starts.items (G.count ground.old) (G.count ground.new) r.list) }
+    ensures whole { IfOk result (λ r. r.walked ≡ Walked.Whole) }
+    ensures shares { IfOk result (λ r. length r.list < 2 ^ 64 → sum_by (λ s. s.handled) r.shares.items ≡ length r.list) }
+    ensures by_rank { IfOk result (λ r. length r.shares.items ≡ options.now.ranks) }
+    ensures moved { IfOk result (λ r. min (sum_by (λ s. s.given) r.shares.items) (2 ^ 128 - 1) ≡ min (sum_by (λ s. s.taken) r.shares.items) (2 ^ 128 - 1)) }
+    ensures traced { IfOk result (λ r. options.now.trace ≡ true → IfSome (G.tree ground.old) (λ files. IsTracedWalk files options.now starts.items r.list r.events.items)) }
+    ensures counts { IfOk result (λ r. options.now.trace ≡ true → r.shares.items ≡ map (share_in r.events.items) (range_with_len 0 options.now.ranks)) }
+    ensures untraced { IfOk result (λ r. options.now.trace ≡ false → r.events.items ≡ []) }
+    ensures progress { IfOk result (λ r. length r.list < 2 ^ 56 → IsProgressTo (length r.list) options.now.ranks r.sums.items) }
     ensures memory { IfErr result (λ e. e ≡ WalkError.OutOfMemory) }
     ensures same { G.tree ground.new ≡ G.tree ground.old }
+    ensures area { G.area ground.new ≡ G.area ground.old }
     ensures count { RoseBy 0 (G.count ground.old) (G.count ground.new) }
 {
     let jobs = made(alloc, ground, options.ranks)?;
     let finished = begin(rt, alloc, options, starts, jobs)?;
     let logs = opened(alloc, ground, finished.jobs)?;
     let list = FlatList::from_jobs(alloc, logs)?;
-    Ok((list, finished.shares))
+    Ok(WalkReport {
+        list,
+        walked: Walked::Whole,
+        shares: finished.shares,
+        events: finished.events,
+        sums: finished.sums,
+    })
 }
 
 // A job for each rank, each with a reader of its own.
@@ -96,6 +118,7 @@ fn made<G: Ground>(
     ensures unused { IfOk result (λ jobs. AllByRecursion (λ job. job.1 ≡ []) jobs.items) }
     ensures told { IfOk result (λ jobs. AllByRecursion (λ job. G.Reader.tree job.0 ≡ G.tree ground.old) jobs.items) }
     ensures same { G.tree ground.new ≡ G.tree ground.old }
+    ensures area { G.area ground.new ≡ G.area ground.old }
     ensures count { G.count ground.new ≡ G.count ground.old }
 {
     let mut jobs = Vec::new(alloc);
@@ -116,6 +139,7 @@ fn opened<G: Ground>(
     ensures holds { OnOk result (AllByRecursion (λ job. Holds (G.Reader.tree job.0) (G.Reader.count job.0) job.1) jobs.items) }
     ensures counted { OnOk result (RoseBy (sum_by weight_of (entries_of (flat_map (λ job. job.1) jobs.items))) (G.count ground.old) (G.count ground.new)) }
     ensures same { G.tree ground.new ≡ G.tree ground.old }
+    ensures area { G.area ground.new ≡ G.area ground.old }
     ensures count { RoseBy 0 (G.count ground.old) (G.count ground.new) }
 {
     // The count of faults is a number of 64 bits, and adding to it keeps it so.

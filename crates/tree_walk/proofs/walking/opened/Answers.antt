@@ -10,7 +10,7 @@ loop-job-preserved g c =
     let before = c.loop-job.invariant in
     let opened = c.open-reader.ensures in
     let reader = g.G.Reader.Tree.count in
-    let count = g.G.Ground.count in
+    let count = g.G.Plot.count in
     record {
       logs = more_logs (λ log. log.items) c.loop-job.logs.items c.push.new.self.items _ c.loop-job.yielded c.in-Some.job c.in_ok-push.ensures.items opened.entries before.logs;
       holds = all_append (λ job. Holds (g.G.Reader.Tree.tree job.0) (reader job.0) job.1) c.loop-job.yielded _ before.holds (opened.holds, tt);
@@ -18,6 +18,7 @@ loop-job-preserved g c =
           (c.take_reader.ensures.count ∙ ap (λ r. capped (count c.loop-job.ground) (reader r)) opened.reader) opened.holds.faults;
       below = omega (arith, c.take_reader.ensures.count);
       same = c.take_reader.ensures.same ∙ before.same;
+      area = c.take_reader.ensures.area ∙ before.area;
     }
 
 pub returns-in_err-push-clause-count : goal.returns-in_err-push-clause-count

@@ -1,0 +1,32 @@
+-- What the events and the numbers of progress of a walk tell. The events are those of circle_run, after libcircle (LaFon et al., SC 2012); that what they handle is the recursive walk is our own.
+use Rattle.std.specs.Prelude.{◌≡◌, ℕ, ◌+◌, ◌<◌, ◌≤◌, List, [], ◌∷◌, ◌++◌, map, All}
+use Rattle.std.specs.List.{flat_map}
+use Rattle.std.specs.List.Sorted.{IsPermutation}
+use Rattle.outside.specs.Tree.{Files}
+use Rattle.ring_core.specs.declared.events.Event.{Event}
+use Rattle.flat_list.specs.declared.entries.Entry.{Entry}
+use Rattle.circle_run.specs.Balance.{Log}
+use Rattle.circle_run.specs.Progress.{Rises, Thousands, newest}
+use Rattle.circle_run.specs.Traced.{IsTraced}
+use Rattle.circle_run.specs.declared.settings.Options.{Options}
+use Rattle.tree_walk.specs.Walk.{answers_in, children_of, paths_of}
+
+-- what all ranks handled, one rank after the other
+abbrev pub whole_log : List Log → Log
+whole_log logs = flat_map (λ log. log) logs
+
+-- the events of a traced run of the starts in which the ranks handle the paths of the list, each once, and push for each the children that the recursive walk goes on with
+pub record IsTracedWalk (files : Files) (o : Options) (starts : List (List ℕ)) (list : List Entry) (events : List Event) : Type 0 where
+  pub logs : List Log
+  pub traced : IsTraced o starts logs events
+  pub handled : IsPermutation (map (λ x. x.0) (whole_log logs)) (paths_of list)
+  pub pushed : All (λ x. x.1 ≡ children_of (answers_in list x.0) files x.0) (whole_log logs)
+
+-- the numbers of progress of so many ranks that find so many entries. They never fall, each but the last is at least 1,000 above the one before it, and the last is the number of entries.
+-- Of one rank the others are the thousands up to it
+pub record IsProgressTo (entries ranks : ℕ) (numbers : List ℕ) : Type 0 where
+  pub front : List ℕ
+  pub are : numbers ≡ front ++ entries ∷ []
+  pub rises : Rises 0 front
+  pub within : newest 0 front ≤ entries
+  pub alone : ranks ≡ 1 → Thousands 0 front × (entries < newest 0 front + 1000)
