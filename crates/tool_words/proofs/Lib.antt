@@ -1,2 +1,5 @@
+pub mod Bounds
+pub mod Dashes
+pub mod Numbers
 pub mod Slashes
 pub mod Steps

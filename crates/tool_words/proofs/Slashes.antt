@@ -6,7 +6,7 @@ use Rattle.std.specs.Str.Pattern.{FindsCharSuffix, CutsSuffixes, IsTrimEndMatche
 use Rattle.std.proofs.lemmas.Str.Pattern.{drop_at_char, strip_suffix_char}
 use Rattle.std.proofs.lemmas.Bool.Decides.{nat_tests}
 use Rattle.path_text.specs.Path.{is_slash}
-use Rattle.tool_words.specs.Words.{before_end_slashes}
+use Rattle.tool_words.specs.Value.{before_end_slashes}
 
 one_more : (text : List ℕ) → before_end_slashes (text ++ 47 ∷ []) ≡ before_end_slashes text
 one_more [] = refl

@@ -1,1 +1,4 @@
+pub mod Limits
+pub mod Table
+pub mod Value
 pub mod Words

@@ -1,5 +1,6 @@
 //! What a command line asks for.
 use circle_run::Split;
+use flat_list::Field;
 use path_text::Path;
 
 /// How a walk is to go, whatever the tool.
@@ -25,7 +26,7 @@ pub struct Common {
 
 impl Common {
     ghost use Rattle.std.specs.Prelude.{◌≡◌};
-    ghost use Rattle.tool_words.specs.Words.{standard};
+    ghost use Rattle.tool_words.specs.Table.{standard};
 
     /// What stands where no option says otherwise.
     pub const fn standard() -> Common
@@ -49,6 +50,8 @@ impl Common {
 pub enum Start {
     /// At these paths, which may be nested or stand twice.
     Roots(Vec<Path>),
+    /// Nowhere: the list is read from this file.
+    Input(Path),
 }
 
 /// What a command line asks for.
@@ -60,5 +63,9 @@ pub enum Command {
         common: Common,
         /// Where it starts.
         start: Start,
+        /// The field that the list is sorted by, and whether downwards. It stands in path order without one.
+        sort: Option<(Field, bool)>,
+        /// The file that the list is written to.
+        output: Option<Path>,
     },
 }

@@ -14,12 +14,21 @@ pub enum WordsError {
     /// The tool has no such option.
     #[error("refused word {0} unknown option")]
     UnknownOption(usize),
-    /// The word is no path.
+    /// No value stands behind the option, which is the last word.
+    #[error("refused word {0} no value")]
+    NoValue(usize),
+    /// The word, or its part behind `=`, is no value of the option, or is no path.
     #[error("refused word {0} bad value")]
     BadValue(usize),
     /// A path is wanting behind the last word.
     #[error("refused word {0} no path")]
     NoPath(usize),
+    /// The word is the first path that is one too many.
+    #[error("refused word {0} too many paths")]
+    TooManyPaths(usize),
+    /// The option was given before.
+    #[error("refused word {0} clash")]
+    Clash(usize),
     /// No memory was found.
     #[error("out of memory")]
     OutOfMemory,

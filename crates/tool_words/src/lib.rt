@@ -1,30 +1,66 @@
 //! The words of a command line: what they ask for, or which of them is refused.
 //!
 //! [`read_words`] reads the words behind the program's name, of which word 0 names a tool, and gives a [`Command`]. For now
-//! the one tool is `dwalk`, which takes one or more paths and no option. A path may have `/` at its end, which is left out.
-//! The word `--` ends the options: each later word is a path, whatever it begins with.
+//! the one tool is `dwalk`. It takes paths, one or more, and these options:
+//!
+//! | Option | Value | Without it |
+//! |---|---|---|
+//! | `--ranks` | how many ranks work, 1 to 64 | 4 |
+//! | `--hosts` | how many threads the ranks are spread over: 1, for now | 1 |
+//! | `--split` | `equal` or `random`: what a rank gives to those that ask | `equal` |
+//! | `--seed` | what the lots are drawn from, a number below 2^64 | 0 |
+//! | `--width` | how many ranks report their counts to one, 2 to 64 | 64 |
+//! | `--trace`, `--shares`, `--progress` | none: they are flags | off |
+//! | `--sort` | `path`, `name`, `size`, `mtime` or `kind`, or one of these behind `-`: downwards | path order |
+//! | `--input` | the file to read the list from; there is no path then | the paths are walked |
+//! | `--output` | the file to write the list to | none is written |
+//!
+//! A value stands behind the first `=` or is the next word, whatever that is. An option is given once. A number has 1 to 40
+//! decimal digits, the first of which may be 0. A path may have `/` at its end, which is left out. The word `--` ends the
+//! options: each later word is a path, whatever it begins with.
 //!
 //! ```text
-//! dwalk /t/b /t/        // walks `/t/b` and `/t`
-//! dwalk -- /-x          // walks `/-x`
-//! dwalk --x /t          // UnknownOption(1)
-//! dwalk /t /t/../a      // BadValue(2)
-//! dwalk --              // NoPath(2)
+//! dwalk /t/b /t/                // walks `/t/b` and `/t`
+//! dwalk --sort -size -- /-x     // walks `/-x`, the largest first
+//! dwalk --x /t                  // UnknownOption(1)
+//! dwalk /t /t/../a              // BadValue(2)
+//! dwalk /t --sort               // NoValue(2)
+//! dwalk --trace=1 /t            // BadValue(1)
+//! dwalk --sort=size --sort x    // Clash(2)
+//! dwalk --input /l /t           // TooManyPaths(3)
+//! dwalk --                      // NoPath(2)
 //! ```
 //!
-//! The words are read from left to right, and the first offence is the answer, with the number of its word.
+//! The words are read from left to right, and the first offence is the answer, with the number of its word; that paths are
+//! wanting or too many is told after the last word.
 //!
-//! Proved: the answer is the command or the refusal that the grammar in `specs/Words.antt` gives, for every list of words.
-//! Beside that only memory can be wanting. No word is copied but the paths that the command keeps.
+//! # Parts
+//!
+//! A tool and an option are each one line of a table in `specs/Table.antt` (how it is written, what its value sets), and one
+//! arm in `tables` and in `settings`. `specs/Value.antt` and `values` say which texts are values, `specs/Words.antt` and
+//! `lines` how words are read one by one.
+//!
+//! # What is proved
+//!
+//! The answer is the command or the refusal that the grammar in `specs/Words.antt` gives, for every list of words. Beside
+//! that only memory can be wanting. No word is copied but the paths that the command keeps. What words ask for is within
+//! the limits that a run takes ([`words_ask_within_limits`]).
 #![tactic(auto)]
 
 mod commands;
 mod errors;
+mod laws;
+mod lines;
 mod reading;
+mod settings;
+mod tables;
 mod trimming;
+mod turns;
+mod values;
 
 pub use commands::{Command, Common, Start};
 pub use errors::WordsError;
+pub use laws::words_ask_within_limits;
 pub use reading::read_words;
 
 #[cfg(test)]

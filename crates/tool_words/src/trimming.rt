@@ -1,6 +1,6 @@
 //! A path word without the `/` at its end.
 ghost use Rattle.std.specs.Prelude.{◌≡◌};
-ghost use Rattle.tool_words.specs.Words.{trimmed, before_end_slashes};
+ghost use Rattle.tool_words.specs.Value.{trimmed, before_end_slashes};
 
 /// A path word without any `/` at its end, where its first byte stays.
 pub fn trimmed(word: &str) -> &str

@@ -1,0 +1,15 @@
+use Rattle.std.proofs.Common.{rules, arith, string_bytes}
+use Rattle.std.proofs.lemmas.Result.{err_from_is_err_and}
+use Rattle.tool_words.proofs.Steps.{word_at, more, refused}
+use Rattle.tool_words.proofs.reading.read_line.Goals as goal
+
+pub returns-in_err-read-clause-refused : goal.returns-in_err-read-clause-refused
+returns-in_err-read-clause-refused c =
+    let p = err_from_is_err_and c.from_residual.result c.from_residual.ensures.1 in
+    rw (p.1, p.2) (refused c.args.tool _ _ _ c.as_str.result.now _ c.loop-index.invariant
+    (word_at string_bytes c.args.words.now c.loop-index.index c.index-words-index.result _ (omega arith) c.index-words-index.is (search rules)) c.in_err-read.ensures.refused)
+
+pub loop-index-preserved : goal.loop-index-preserved
+loop-index-preserved c =
+    more c.args.tool _ _ _ _ c.as_str.result.now c.loop-index.invariant
+    (word_at string_bytes c.args.words.now c.loop-index.index c.index-words-index.result _ (omega arith) c.index-words-index.is (search rules)) c.in_ok-read.ensures.read

@@ -1,0 +1,57 @@
+-- What the words of a command line mean as values: numbers, splits, paths and orders. The names of fields are those of mpiFileUtils' dwalk; how a path word is read is our own.
+use Rattle.std.specs.Prelude.{ℕ, Bool, true, false, ◌&&◌, List, [], ◌∷◌, length, drop, if◌then◌else◌, ◌==◌, nat_eq, nat_le, slice_index, codes, Option, Some, None, is_none}
+use Rattle.std.specs.Char.{is_ascii_digit}
+use Rattle.std.specs.List.{list_all}
+use Rattle.std.specs.Str.Parse.{digits_value}
+use Rattle.std.specs.Option.{option_map}
+use Rattle.std.specs.Cmp.Lexicographic.{pointwise}
+use Rattle.path_text.specs.Path.{is_slash, refusal}
+use Rattle.circle_run.specs.declared.settings.Split.{Split}
+use Rattle.circle_run.specs.declared.settings.Split.TheVariants as split
+use Rattle.flat_list.specs.declared.ordering.Field.{Field}
+use Rattle.flat_list.specs.declared.ordering.Field.TheVariants as field
+
+-- the text is this word
+abbrev pub is : List ℕ → List ℕ → Bool
+is word text = pointwise nat_eq text word
+
+-- a number from least to most, in 1 to 40 decimal digits, the first of which may be 0
+abbrev pub number_in : ℕ → ℕ → List ℕ → Option ℕ
+number_in least most text =
+    let n = digits_value 10 text in
+    if list_all is_ascii_digit text && nat_le 1 (length text) && nat_le (length text) 40 && nat_le least n && nat_le n most then Some n else None
+
+abbrev pub split_in : List ℕ → Option Split
+split_in text =
+    if is (codes "equal") text then Some split.Equal
+    else if is (codes "random") text then Some split.Random
+    else None
+
+-- a text without the slashes at its end
+abbrev pub before_end_slashes : List ℕ → List ℕ
+before_end_slashes [] = []
+before_end_slashes (b ∷ text) = if is_slash b && length (before_end_slashes text) == 0 then [] else b ∷ before_end_slashes text
+
+-- a path word as it is read: without the slashes at its end, where the first byte stays
+abbrev pub trimmed : List ℕ → List ℕ
+trimmed [] = []
+trimmed (b ∷ word) = b ∷ before_end_slashes word
+
+-- the path that a word is, if it is one
+abbrev pub path_in : List ℕ → Option (List ℕ)
+path_in word = if is_none (refusal (trimmed word)) then Some (trimmed word) else None
+
+abbrev pub field_in : List ℕ → Option Field
+field_in text =
+    if is (codes "path") text then Some field.Path
+    else if is (codes "name") text then Some field.Name
+    else if is (codes "size") text then Some field.Size
+    else if is (codes "mtime") text then Some field.Mtime
+    else if is (codes "kind") text then Some field.Kind
+    else None
+
+-- a field to sort by, and whether downwards, which a `-` before the field says
+abbrev pub order_in : List ℕ → Option (Field × Bool)
+order_in text =
+    if slice_index text 0 == 45 then option_map (λ f. (f, true)) (field_in (drop 1 text))
+    else option_map (λ f. (f, false)) (field_in text)

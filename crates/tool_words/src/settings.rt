@@ -1,0 +1,75 @@
+//! What the options set.
+ghost use Rattle.std.specs.Prelude.{◌≡◌, ◌⊎◌, Some, None, OnOk, IfErr};
+ghost use Rattle.std.specs.Bool.{OnTrue, OnFalse};
+ghost use Rattle.tool_words.specs.Table.{unset, set, raise};
+
+use crate::commands::Common;
+use crate::errors::WordsError;
+use crate::tables::OptionName;
+use crate::values::{number_in, order_in, path_in, small_number_in, split_in};
+use flat_list::Field;
+use path_text::Path;
+use std::alloc::Global;
+
+/// What the options set, whatever the tool.
+#[derive(Debug, Drop)]
+pub(crate) struct Settings {
+    pub(crate) common: Common,
+    pub(crate) sort: Option<(Field, bool)>,
+    pub(crate) input: Option<Path>,
+    pub(crate) output: Option<Path>,
+}
+
+impl Settings {
+    /// What stands where no option was given.
+    pub(crate) const fn unset() -> Settings
+        ensures { result ≡ unset }
+    {
+        Settings {
+            common: Common::standard(),
+            sort: None,
+            input: None,
+            output: None,
+        }
+    }
+
+    /// Sets what an option sets, by the text of its value, which the word of this number holds.
+    pub(crate) fn set(
+        &mut self,
+        alloc: Global,
+        option: OptionName,
+        text: &str,
+        place: usize,
+    ) -> Result<(), WordsError>
+        ensures set { OnOk result (set option text.now self.old ≡ Some self.new) }
+        ensures refused { IfErr result (λ e. ((e ≡ WordsError.BadValue place) × (set option text.now self.old ≡ None)) ⊎ (e ≡ WordsError.OutOfMemory)) }
+    {
+        let bad = WordsError::BadValue(place);
+        match option {
+            OptionName::Ranks => self.common.ranks = small_number_in(1, 64, text).ok_or(bad)?,
+            OptionName::Hosts => self.common.hosts = small_number_in(1, 1, text).ok_or(bad)?,
+            OptionName::Split => self.common.split = split_in(text).ok_or(bad)?,
+            OptionName::Seed => self.common.seed = number_in(0, u64::MAX, text).ok_or(bad)?,
+            OptionName::Width => self.common.width = small_number_in(2, 64, text).ok_or(bad)?,
+            OptionName::Trace | OptionName::Shares | OptionName::Progress => return Err(bad),
+            OptionName::Sort => self.sort = Some(order_in(text).ok_or(bad)?),
+            OptionName::Input => self.input = Some(path_in(alloc, text, place)?),
+            OptionName::Output => self.output = Some(path_in(alloc, text, place)?),
+        }
+        Ok(())
+    }
+
+    /// Sets what a flag sets, and says whether the option is one.
+    pub(crate) fn raise(&mut self, option: OptionName) -> bool
+        ensures flag { OnTrue result (raise option self.old ≡ Some self.new) }
+        ensures other { OnFalse result ((raise option self.old ≡ None) × (self.new ≡ self.old)) }
+    {
+        match option {
+            OptionName::Trace => self.common.trace = true,
+            OptionName::Shares => self.common.shares = true,
+            OptionName::Progress => self.common.progress = true,
+            _ => return false,
+        }
+        true
+    }
+}

@@ -1,0 +1,85 @@
+//! Words as values.
+ghost use Rattle.std.specs.Prelude.{◌≡◌, ◌⊎◌, Some, None, IfOk, IfErr};
+ghost use Rattle.std.specs.Char.{is_ascii_digit};
+ghost use Rattle.std.specs.List.{list_all};
+ghost use Rattle.tool_words.specs.Value.{number_in, split_in, path_in, field_in, order_in};
+
+use crate::errors::WordsError;
+use crate::trimming::trimmed;
+use circle_run::Split;
+use flat_list::Field;
+use path_text::{Path, PathError};
+use std::alloc::Global;
+
+/// The number from `least` to `most` that a text is.
+pub(crate) fn number_in(least: u64, most: u64, text: &str) -> Option<u64>
+    ensures { result ≡ number_in least most text.now }
+{
+    if text.len() > 40 || !are_digits(text) {
+        return None;
+    }
+    match text.parse::<u64>() {
+        Ok(n) => (least <= n && n <= most).then_some(n),
+        Err(_) => None,
+    }
+}
+
+fn are_digits(text: &str) -> bool
+    ensures { result ≡ list_all is_ascii_digit text.now }
+{
+    text.as_bytes().iter().all(|b| b.is_ascii_digit())
+}
+
+/// The same of a number that is small.
+pub(crate) fn small_number_in(least: u32, most: u32, text: &str) -> Option<u32>
+    ensures { result ≡ number_in least most text.now }
+{
+    Some(number_in(least as u64, most as u64, text)? as u32)
+}
+
+/// What a rank gives, by its name.
+pub(crate) fn split_in(text: &str) -> Option<Split>
+    ensures { result ≡ split_in text.now }
+{
+    match text {
+        "equal" => Some(Split::Equal),
+        "random" => Some(Split::Random),
+        _ => None,
+    }
+}
+
+/// The path that a word is, which has this number.
+pub(crate) fn path_in(alloc: Global, word: &str, place: usize) -> Result<Path, WordsError>
+    ensures path { IfOk result (λ path. path_in word.now ≡ Some path) }
+    ensures refused { IfErr result (λ e. ((e ≡ WordsError.BadValue place) × (path_in word.now ≡ None)) ⊎ (e ≡ WordsError.OutOfMemory)) }
+{
+    match Path::parse(alloc, trimmed(word)) {
+        Ok(path) => Ok(path),
+        Err(PathError::OutOfMemory) => Err(WordsError::OutOfMemory),
+        Err(_) => Err(WordsError::BadValue(place)),
+    }
+}
+
+/// A field to sort by, and whether downwards.
+#[tactic(auto, using(crate::proofs::Dashes::no_dash))]
+pub(crate) fn order_in(text: &str) -> Option<(Field, bool)>
+    ensures { result ≡ order_in text.now }
+{
+    match text.strip_prefix('-') {
+        Some(name) => Some((field_in(name)?, true)),
+        None => Some((field_in(text)?, false)),
+    }
+}
+
+fn field_in(text: &str) -> Option<Field>
+    ensures { result ≡ field_in text.now }
+{
+    match text {
+        "path" => Some(Field::Path),
+        "name" => Some(Field::Name),
+        "size" => Some(Field::Size),
+        "mtime" => Some(Field::Mtime),
+        "kind" => Some(Field::Kind),
+        _ => None,
+    }
+}
