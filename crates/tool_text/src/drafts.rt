@@ -1,8 +1,10 @@
 //! Text in the making: what stands, and behind it what is being added.
 ghost use Rattle.std.specs.Prelude.{◌≡◌, ◌++◌, ◌∷◌, [], replicate, OnOk, OnErr};
 ghost use Rattle.path_text.specs.Escape.{escape};
+ghost use Rattle.ring_core.specs.Text.{line_of};
 
 use path_text::{OutOfMemory, Path, put_escaped};
+use ring_core::{Event, put_event};
 use std::alloc::Global;
 use std::marker::Model;
 
@@ -78,6 +80,13 @@ impl Draft {
         ensures stands { self.new.0 ≡ self.old.0 }
     {
         put_escaped(&mut self.bytes, path)
+    }
+
+    pub(crate) fn put_event(&mut self, event: &Event) -> Result<(), OutOfMemory>
+        ensures ok { OnOk result (self.new.1 ≡ self.old.1 ++ line_of event.now) }
+        ensures stands { self.new.0 ≡ self.old.0 }
+    {
+        put_event(&mut self.bytes, event)
     }
 
     /// Ends the adding, by how it went.

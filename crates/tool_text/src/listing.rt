@@ -91,7 +91,8 @@ pub(crate) fn add_summary(draft: &mut Draft, sum: &Summary) -> Result<(), OutOfM
     draft.push(b'\n')
 }
 
-fn put_count(draft: &mut Draft, label: &str, n: u64) -> Result<(), OutOfMemory>
+/// Adds a number behind its label.
+pub(crate) fn put_count(draft: &mut Draft, label: &str, n: u64) -> Result<(), OutOfMemory>
     ensures ok { OnOk result (draft.new.1 ≡ draft.old.1 ++ (label.now ++ decimal n)) }
     ensures stands { draft.new.0 ≡ draft.old.0 }
 {

@@ -1,8 +1,13 @@
 //! Texts, to the byte.
-use crate::{Note, Text, Why, notes_of, put_line, put_list, put_notes, put_summary};
+use crate::{
+    Note, Text, Why, notes_of, put_line, put_list, put_notes, put_progress, put_shares,
+    put_summary, put_trace,
+};
+use circle_run::Share;
 use flat_list::{Entry, FlatList, Mark};
 use outside::{Kind, Stat};
 use path_text::Path;
+use ring_core::{Colour, Event};
 use std::alloc::Global;
 use std::test::Fail;
 
@@ -146,5 +151,43 @@ fn sums_up_more_bytes_than_one_file_has(rt: HostRuntime) -> Result<(), Fail> {
     put_summary(&mut text, &list.summary())?;
     let line = b"items 2 dirs 0 files 2 links 0 others 0 bytes 18446744073709551620 failed 0\n";
     assert_eq!(rt; text.bytes(), line.as_slice());
+    Ok(())
+}
+
+#[test]
+fn tells_of_a_run(rt: HostRuntime) -> Result<(), Fail> {
+    let alloc = rt.alloc();
+    let events = [
+        Event::Handle {
+            rank: 0,
+            path: Path::parse(alloc, "/u")?,
+            kids: 2,
+        },
+        Event::Ask { rank: 1, victim: 0 },
+        Event::Pass {
+            rank: 1,
+            colour: Colour::White,
+        },
+        Event::SeeOver { rank: 1 },
+    ];
+    let shares = [
+        Share {
+            handled: 2,
+            given: 1,
+            taken: 0,
+        },
+        Share {
+            handled: 1,
+            given: 0,
+            taken: u128::MAX,
+        },
+    ];
+    let mut text = Text::make(alloc);
+    put_trace(&mut text, &events)?;
+    put_shares(&mut text, &shares)?;
+    put_progress(&mut text, &[1000, 2000, 2500])?;
+    let lines =
+        b"handle 0 2 /u\nask 1 0\npass 1 white\nover 1\nrank 0 handled 2 given 1 taken 0\nrank 1 handled 1 given 0 taken 340282366920938463463374607431768211455\nprogress 1000\nprogress 2000\nprogress 2500\n";
+    assert_eq!(rt; text.bytes(), lines.as_slice());
     Ok(())
 }

@@ -1,13 +1,18 @@
 //! Text, and the calls that add to it.
 ghost use Rattle.std.specs.Prelude.{◌≡◌, ◌==◌, ◌++◌, ◌∷◌, [], length, OnOk, OnErr};
+ghost use Rattle.path_text.specs.Escape.{escape};
 ghost use Rattle.tool_text.specs.Lines.{lines_of, summary_line};
 ghost use Rattle.tool_text.specs.Notes.{note_lines};
+ghost use Rattle.tool_text.specs.Runs.{trace_lines, share_lines, progress_lines};
 
 use crate::drafts::Draft;
 use crate::listing::{add_list, add_summary};
 use crate::noting::{Note, add_notes};
+use crate::running::{add_progress, add_shares, add_trace};
+use circle_run::Share;
 use flat_list::{FlatList, Summary};
-use path_text::OutOfMemory;
+use path_text::{OutOfMemory, Path};
+use ring_core::Event;
 use std::alloc::Global;
 use std::marker::Model;
 
@@ -87,6 +92,33 @@ pub fn put_notes(text: &mut Text, notes: &[Note]) -> Result<(), OutOfMemory>
     text.draft.end(put)
 }
 
+/// Appends a line for each event of a run. A refusal leaves the text.
+pub fn put_trace(text: &mut Text, events: &[Event]) -> Result<(), OutOfMemory>
+    ensures ok { OnOk result (text.new ≡ text.old ++ trace_lines events.now) }
+    ensures err { OnErr result (text.new ≡ text.old) }
+{
+    let put = add_trace(&mut text.draft, events);
+    text.draft.end(put)
+}
+
+/// Appends a line for each rank, of what it did. A refusal leaves the text.
+pub fn put_shares(text: &mut Text, shares: &[Share]) -> Result<(), OutOfMemory>
+    ensures ok { OnOk result (text.new ≡ text.old ++ share_lines shares.now) }
+    ensures err { OnErr result (text.new ≡ text.old) }
+{
+    let put = add_shares(&mut text.draft, shares);
+    text.draft.end(put)
+}
+
+/// Appends a line for each count of a run as it rose. A refusal leaves the text.
+pub fn put_progress(text: &mut Text, sums: &[u64]) -> Result<(), OutOfMemory>
+    ensures ok { OnOk result (text.new ≡ text.old ++ progress_lines sums.now) }
+    ensures err { OnErr result (text.new ≡ text.old) }
+{
+    let put = add_progress(&mut text.draft, sums);
+    text.draft.end(put)
+}
+
 /// Appends a line and its line feed. A refusal leaves the text.
 pub fn put_line(text: &mut Text, line: &str) -> Result<(), OutOfMemory>
     ensures ok { OnOk result (text.new ≡ text.old ++ line.now ++ 10 ∷ []) }
@@ -94,6 +126,34 @@ pub fn put_line(text: &mut Text, line: &str) -> Result<(), OutOfMemory>
 {
     let put = add_line(&mut text.draft, line);
     text.draft.end(put)
+}
+
+/// Appends a line that names a path in printable text, and its line feed. A refusal leaves the text.
+pub fn put_path_line(
+    text: &mut Text,
+    before: &str,
+    path: &Path,
+    behind: &str,
+) -> Result<(), OutOfMemory>
+    ensures ok { OnOk result (text.new ≡ text.old ++ before.now ++ escape path.now ++ behind.now ++ 10 ∷ []) }
+    ensures err { OnErr result (text.new ≡ text.old) }
+{
+    let put = add_path_line(&mut text.draft, before, path, behind);
+    text.draft.end(put)
+}
+
+fn add_path_line(
+    draft: &mut Draft,
+    before: &str,
+    path: &Path,
+    behind: &str,
+) -> Result<(), OutOfMemory>
+    ensures ok { OnOk result (draft.new.1 ≡ draft.old.1 ++ before.now ++ escape path.now ++ behind.now ++ 10 ∷ []) }
+    ensures stands { draft.new.0 ≡ draft.old.0 }
+{
+    draft.extend(before.as_bytes())?;
+    draft.put_path(path)?;
+    add_line(draft, behind)
 }
 
 fn add_line(draft: &mut Draft, line: &str) -> Result<(), OutOfMemory>
