@@ -1,82 +1,35 @@
-//! The files of the system.
-ghost use Rattle.std.specs.Prelude.{◌≡◌, ◌≢◌, IfOk, IfSome, None};
+//! The files of the system, looked at.
+ghost use Rattle.std.specs.Prelude.{◌≡◌, ◌≢◌, ◌≤◌, length, IfOk, IfSome, None};
 ghost use Rattle.outside.specs.Count.{RoseBy};
 ghost use Rattle.outside.specs.Tree.{AreNames};
 
+use crate::answers::is_absent;
+use crate::handles::{Handle, to_read};
 use crate::names::FoundNames;
-use outside::{Failed, Ground, Kind, ListError, Listing, Stat, Tree};
+use outside::{Failed, Kind, ListError, Listing, ReadError, Stat, Tree};
 use path_text::{OutOfMemory, Path};
 use std::alloc::Global;
 use std::fs;
 use std::fs::{Files, Metadata};
-use std::io::{ErrorKind, Read};
+use std::io::Read;
 use std::marker::Model;
-use std::os::unix::fs::MetadataExt;
+use std::os::unix::fs::{FileExt, MetadataExt};
 
 /// How many bytes of names are asked of the system at a time.
 const PIECE: usize = 32768;
 
-/// The files of a system, seen as its count of faults. It tells no tree.
-#[derive(Drop)]
-pub struct RealGround<R> {
-    system: R,
-    count: u64,
-}
-
-impl<R> Model for RealGround<R> {
-    ghost use Rattle.std.specs.Prelude.{ℕ};
-
-    ghost Value = { ℕ };
-
-    ghost view = { λ ground. ground.count };
-}
-
-impl<R> RealGround<R> {
-    /// The files of a system, with no fault yet.
-    pub fn make(system: R) -> RealGround<R>
-        ensures { result ≡ 0 }
-    {
-        RealGround { system, count: 0 }
-    }
-}
-
-impl<R: Files + Copy> Ground for RealGround<R> {
-    ghost use Rattle.std.specs.Prelude.{None};
-
-    ghost tree = { λ _. None };
-
-    ghost count = { λ ground. ground };
-
-    type Reader = RealReader<R>;
-
-    fn faults(&self) -> u64 {
-        self.count
-    }
-
-    fn reader(&mut self, alloc: Global) -> Result<RealReader<R>, OutOfMemory> {
-        let buffer = vec![in alloc; 0u8; PIECE]?;
-        Ok(RealReader {
-            system: self.system,
-            buffer,
-            count: 0,
-        })
-    }
-
-    fn take_reader(&mut self, reader: RealReader<R>) {
-        self.count = self.count.saturating_add(reader.count);
-    }
-}
-
 /// Looks at the files of a system, seen as its count of faults. It tells no tree.
 #[derive(Drop)]
-pub struct RealReader<R> {
+pub struct RealReader<R: Files> {
     system: R,
     // What the system writes names into, made once.
     buffer: Vec<u8>,
+    // The file that was read last, until the next look at a path.
+    read: Option<Handle<R::File>>,
     count: u64,
 }
 
-impl<R> Model for RealReader<R> {
+impl<R: Files> Model for RealReader<R> {
     ghost use Rattle.std.specs.Prelude.{ℕ};
 
     ghost Value = { ℕ };
@@ -84,7 +37,22 @@ impl<R> Model for RealReader<R> {
     ghost view = { λ reader. reader.count };
 }
 
-impl<R> RealReader<R> {
+impl<R: Files + Copy> RealReader<R> {
+    /// A reader that has not failed yet.
+    pub fn make(alloc: Global, system: R) -> Result<RealReader<R>, OutOfMemory>
+        ensures { IfOk result (λ reader. reader ≡ 0) }
+    {
+        let buffer = vec![in alloc; 0u8; PIECE]?;
+        Ok(RealReader {
+            system,
+            buffer,
+            read: None,
+            count: 0,
+        })
+    }
+}
+
+impl<R: Files> RealReader<R> {
     // Counts a fault.
     fn fault(&mut self) -> Failed
         ensures { RoseBy 1 self.old self.new }
@@ -94,7 +62,31 @@ impl<R> RealReader<R> {
     }
 }
 
-impl<R: Files> Tree for RealReader<R> {
+impl<R: Files> RealReader<R>
+where
+    R::File: FileExt,
+{
+    // Reads through the handle that is open, or opens one.
+    fn read_open(&mut self, path: &Path, at: u64, into: &mut [u8]) -> Result<usize, ReadError>
+        ensures same { self.new ≡ self.old }
+        ensures most { IfOk result (λ n. n ≤ length into.new) }
+    {
+        if let Some(handle) = &self.read {
+            if let Some(file) = handle.of(path) {
+                return file.read_at(into, at).map_err(|_| ReadError::Failed);
+            }
+        }
+        let file = to_read(&self.system, path)?;
+        let n = file.read_at(into, at).map_err(|_| ReadError::Failed)?;
+        self.read = Handle::keep(path, file);
+        Ok(n)
+    }
+}
+
+impl<R: Files> Tree for RealReader<R>
+where
+    R::File: FileExt,
+{
     ghost use Rattle.std.specs.Prelude.{None};
 
     ghost tree = { λ _. None };
@@ -107,6 +99,7 @@ impl<R: Files> Tree for RealReader<R> {
 
     /// A link is not followed. Where a name of the path is no directory, nothing stands at the path.
     fn stat(&mut self, path: &Path) -> Result<Option<Stat>, Failed> {
+        self.read = None;
         match fs::symlink_metadata(&self.system, path.text()) {
             Ok(data) => Ok(Some(stat_of(&data))),
             Err(e) if is_absent(e.kind()) => Ok(None),
@@ -128,11 +121,16 @@ impl<R: Files> Tree for RealReader<R> {
             Err(e) => Err(e),
         }
     }
-}
 
-// Whether the error says that nothing stands at a path, or no directory where one was asked for.
-fn is_absent(kind: ErrorKind) -> bool {
-    kind == ErrorKind::NotFound || kind == ErrorKind::NotADirectory
+    /// What is no file is not opened, so a link is not followed and a pipe is not waited for.
+    fn read(&mut self, path: &Path, at: u64, into: &mut [u8]) -> Result<usize, ReadError> {
+        match self.read_open(path, at, into) {
+            Err(ReadError::Failed) => match self.fault() {
+                Failed => Err(ReadError::Failed),
+            },
+            told => told,
+        }
+    }
 }
 
 fn stat_of(data: &Metadata) -> Stat
@@ -188,94 +186,9 @@ fn listing_of<R: Files>(
 #[cfg(test)]
 mod tests {
     use super::*;
-    use crate::fakes::FakeSystem;
-    use path_text::PathError;
+    use crate::grounds::RealGround;
+    use outside::Ground;
     use std::test::Fail;
-
-    #[test]
-    fn names_come_in_order_and_once(rt: HostRuntime) -> Result<(), Fail> {
-        let pieces: &[&[u8]] = &[b"b\0.\0a\0..\0\xFF\0", b"a.\0b\0x/y\0"];
-        let mut ground = RealGround::make(FakeSystem {
-            pieces,
-            torn: false,
-        });
-        let mut reader = ground.reader(rt.alloc())?;
-        let listing = reader.list(rt.alloc(), &Path::parse(rt.alloc(), "/t")?)?;
-        assert_eq!(rt;
-            (listing.len(), listing.unnamed(), listing.far()),
-            (3, 2, 0)
-        );
-        for (k, want) in ["a", "a.", "b"].iter().enumerate() {
-            assert_eq!(rt; listing.name(k), *want);
-        }
-        ground.take_reader(reader);
-        assert_eq!(rt; ground.faults(), 2);
-        Ok(())
-    }
-
-    #[test]
-    fn a_child_with_a_long_path_is_far(rt: HostRuntime) -> Result<(), Fail> {
-        let pieces: &[&[u8]] = &[b"a\0a.\0b\0a.\0"];
-        let mut reader = RealGround::make(FakeSystem {
-            pieces,
-            torn: false,
-        })
-        .reader(rt.alloc())?;
-        let mut text = String::from_str(rt.alloc(), "/")?;
-        for _ in 1..4093 {
-            text.push('y')?;
-        }
-        let listing = reader.list(rt.alloc(), &Path::parse(rt.alloc(), text.as_str())?)?;
-        assert_eq!(rt;
-            (listing.len(), listing.unnamed(), listing.far()),
-            (2, 0, 1)
-        );
-        Ok(())
-    }
-
-    #[test]
-    fn a_fault_in_mid_list_is_counted(rt: HostRuntime) -> Result<(), Fail> {
-        let pieces: &[&[u8]] = &[b"a\0"];
-        let mut ground = RealGround::make(FakeSystem { pieces, torn: true });
-        let mut reader = ground.reader(rt.alloc())?;
-        let cases = [
-            ("/t", ListError::Failed, 1),
-            ("/file", ListError::NotDir, 1),
-            ("/closed", ListError::Failed, 2),
-        ];
-        for (path, want, faults) in cases {
-            let path = Path::parse(rt.alloc(), path)?;
-            assert_eq!(rt;
-                reader.list(rt.alloc(), &path).err(),
-                Some(want),
-                "at {path:?}"
-            );
-            assert_eq!(rt; reader.faults(), faults, "at {path:?}");
-        }
-        Ok(())
-    }
-
-    #[test]
-    fn absent_is_no_fault(rt: HostRuntime) -> Result<(), Fail> {
-        let mut reader = RealGround::make(FakeSystem {
-            pieces: &[],
-            torn: false,
-        })
-        .reader(rt.alloc())?;
-        for (path, want, faults) in [
-            ("/absent", Ok(None), 0),
-            ("/file/x", Ok(None), 0),
-            ("/closed", Err(Failed), 1),
-        ] {
-            assert_eq!(rt;
-                reader.stat(&Path::parse(rt.alloc(), path)?),
-                want,
-                "at {path}"
-            );
-            assert_eq!(rt; reader.faults(), faults, "at {path}");
-        }
-        Ok(())
-    }
 
     #[test]
     fn looks_at_the_real_disk(rt: HostRuntime) -> Result<(), Fail> {

@@ -24,13 +24,32 @@ Exit status:
   3  out of memory
   4  an output failed
   5  more than 4194304 entries
+  7  the file to be read is no list, and standard error names its line
+  8  a list could not be read or written, and standard error says why
 ";
 
-const DWALK: &str = "usage: mfu dwalk PATH..
+const DWALK: &str = "usage: mfu dwalk [OPTION].. PATH..
+       mfu dwalk [OPTION].. --input FILE
 
 Lists what stands at each path and below it, in path order: the kind (f, d, l, o), the size of a
 file and the path, and then a summary. Links are not followed. A path that is under another one is
-listed once. The word -- ends the options, of which there are none yet.
+listed once. The word -- ends the options.
+
+  --sort FIELD   prints by path, name, size, mtime or kind; -FIELD from the greatest to the least
+  --output FILE  saves the list, in path order
+  --input FILE   prints the list that was saved in FILE, and walks nothing
+
+How the walk goes changes nothing of the list:
+  --ranks N      N ranks share the walk, 1 to 64; without it 4
+  --hosts N      the ranks run in N threads; for now N is 1
+  --split RULE   what a rank gives to one that asks: equal, the same part to each, or random
+  --seed N       the seed of all that is drawn by lot, a number below 2^64; without it 0
+  --width N      N ranks report their counts to one, 2 to 64; without it 64
+
+Standard error tells first, of a walk alone:
+  --trace        each thing that a rank did, one a line
+  --shares       how many paths each rank handled, gave and took
+  --progress     how many entries had been found, as that number rose by 1000 or more, and at last
 
 Notes on standard error:
   gone P                        nothing stands at P
@@ -38,6 +57,12 @@ Notes on standard error:
   changed P                     P was a directory, and then was none
   unnamed P K                   K names in P are no UTF-8
   too long P K                  K children of P have a path of more than 4095 bytes
+
+A list that is not read or written is named on standard error, and nothing is printed:
+  list absent F                 F is no file
+  list place F                  no file can be F: no directory is over it, or it is something else
+  list fault F                  the system failed
+  damaged F line N              line N of F is the first that shows that it is no list
 
 A control byte or a backslash of a path is printed as \\x and two digits.
 ";

@@ -4,7 +4,9 @@
 //! with the status that this answers. A word that is no text ends it with status 2, and want of memory for the words with
 //! status 3.
 //!
-//! - `disk` has the files of the system as an [`outside::Ground`] and its readers, over the `names` that a directory gives.
+//! - `disk` has what looks at the files of the system, an [`outside::Tree`], over the `names` that a directory gives.
+//! - `grounds` has the files of the system as an [`outside::Ground`], which are written through open `handles`; `answers` says
+//!   what the errors of the system mean there.
 //! - `streams` has a stream of the system as an [`outside::Sink`].
 //! - `given` has the words and the time.
 //! - `help` has what the program says of itself, which is printed where nothing else is asked for.
@@ -14,15 +16,16 @@
 //! whatever the system wrote. No contract says what the disk or a stream holds, so they tell no tree and no text.
 #![tactic(auto)]
 
+mod answers;
 mod disk;
-#[cfg(test)]
-mod fakes;
 mod given;
+mod grounds;
+mod handles;
 mod help;
 mod names;
 mod streams;
 
-use crate::disk::RealGround;
+use crate::grounds::RealGround;
 use crate::streams::RealSink;
 use mfu_top::run;
 use std::process::ExitCode;

@@ -1,3 +1,4 @@
 pub mod Unique
-pub mod Asked
+pub mod Ready
+pub mod Told
 pub mod Succeeds

@@ -1,20 +1,32 @@
 -- What a run does, by its status. Our own.
-use Rattle.std.specs.Prelude.{◌≡◌, ◌⊎◌, ℕ, ◌<◌, List, [], ◌∷◌, ◌++◌, length, Option, Some, IfSome, All, codes, true}
+use Rattle.std.specs.Prelude.{◌≡◌, ◌⊎◌, ℕ, ◌<◌, ◌≤◌, List, [], ◌∷◌, ◌++◌, length, Option, Some, None, is_some, IfSome, All, codes, true, false, Bool}
+use Rattle.std.specs.FinMap.{get, insert}
 use Rattle.std.specs.List.{sum_by, flat_map}
-use Rattle.std.specs.List.Sorted.{IsStrictlySortedBy}
+use Rattle.std.specs.List.Sorted.{IsStrictlySortedBy, IsSorted, IsPermutation}
 use Rattle.std.specs.Fmt.{decimal}
+use Rattle.path_text.specs.Escape.{escape}
 use Rattle.path_text.specs.Order.{path_cmp}
-use Rattle.outside.specs.Tree.{Files, IsTree}
+use Rattle.outside.specs.Tree.{Files, IsTree, is_file}
 use Rattle.outside.specs.Count.{RoseBy}
 use Rattle.outside.specs.Sinks.{GrewByPrefix}
+use Rattle.outside.specs.Writes.{new_file, SameBut}
+use Rattle.outside.specs.Whole.{HoldsFile, can_save}
 use Rattle.flat_list.specs.declared.entries.Entry.{Entry}
+use Rattle.flat_list.specs.declared.entries.Mark.TheVariants as mark
+use Rattle.flat_list.specs.declared.ordering.Field.{Field}
 use Rattle.flat_list.specs.Entries.{summary_of}
+use Rattle.flat_list.specs.Orders.{sort_order}
+use Rattle.flat_list.specs.Spelling.{IsList, Spells, IsRefused, IsTooLong}
 use Rattle.tool_text.specs.Lines.{lines_of, summary_line}
 use Rattle.tool_text.specs.Notes.{notes_of, note_lines}
+use Rattle.tool_words.specs.Words.{Origin, roots, input, Asked}
+use Rattle.tool_words.specs.declared.commands.Common.{Common}
 use Rattle.tool_words.specs.declared.errors.WordsError.{WordsError}
 use Rattle.tool_words.specs.declared.errors.WordsError.TheVariants as e
-use Rattle.tree_walk.specs.Walk.{walk, answers_in, weight_of, paths_of}
+use Rattle.tree_walk.specs.Walk.{walk, all_told, answers_in, weight_of, paths_of}
 use Rattle.tree_walk.specs.Roots.{IsRoots, is_in_some}
+use Rattle.mfu_top.specs.declared.accounts.Account.{Account}
+use Rattle.mfu_top.specs.Tells.{IsAccount, told_text}
 
 -- the entries are a walk of the roots of the given paths, over files that may tell a tree and whose count of faults went from old to new
 pub record Walked (tree : Option Files) (given : List (List ℕ)) (entries : List Entry) (old new : ℕ) : Type 0 where
@@ -30,13 +42,58 @@ pub record Walked (tree : Option Files) (given : List (List ℕ)) (entries : Lis
   -- and the files counted each answer that failed
   pub counted : RoseBy (sum_by weight_of entries) old new
 
--- what `out` gets: the lines and the summary
-abbrev pub out_text : List Entry → List ℕ
-out_text entries = lines_of entries ++ summary_line (summary_of entries)
+-- the entries are those of the list file at the path
+pub record IsRead (tree : Option Files) (path : List ℕ) (entries : List Entry) : Type 0 where
+  -- where the files tell their tree, its bytes spell them
+  pub told : IfSome tree (λ files. (bytes : List ℕ) × HoldsFile bytes (get files path) × Spells bytes entries)
+  -- over all files a list file can tell them
+  pub list : IsList entries
 
--- what `notes` gets: a line for each failure
-abbrev pub notes_text : List Entry → List ℕ
-notes_text entries = note_lines (notes_of entries)
+-- the entries that a run is about, by where they come from
+abbrev pub Listed : Option Files → Origin → List Entry → ℕ → ℕ → Type 0
+Listed tree (roots given) entries old new = Walked tree given entries old new
+Listed tree (input path) entries old new = IsRead tree path entries
+
+-- what is told of how they were found: of a walk the account of it, from the very roots that were walked, and of a list file nothing
+abbrev pub Tells : (common : Common) (tree : Option Files) (start : Origin) (entries : List Entry) (old new : ℕ) → Listed tree start entries old new → Account → Type 0
+Tells common tree (roots given) entries old new walked account = IsAccount common tree walked.roots entries account
+Tells common tree (input path) entries old new read account = told_text common account ≡ []
+
+-- the entries as they are printed: in path order, or in the order that is asked for
+abbrev pub InOrder : Option (Field × Bool) → List Entry → List Entry → Type 0
+InOrder None entries printed = printed ≡ entries
+InOrder (Some order) entries printed = IsPermutation entries printed × IsSorted (sort_order order.0 order.1) printed
+
+-- what `out` gets: the lines and the summary
+abbrev pub out_text : List Entry → List Entry → List ℕ
+out_text entries printed = lines_of printed ++ summary_line (summary_of entries)
+
+-- what `notes` gets: what is told of the walk, and a line for each failure
+abbrev pub notes_text : Common → Account → List Entry → List ℕ
+notes_text common account entries = told_text common account ++ note_lines (notes_of entries)
+
+-- the files once the entries are saved: only the file that is asked for has changed, and its bytes spell them
+abbrev pub Saved : Option (List ℕ) → List Entry → Option Files → Option Files → Type 0
+Saved None entries old new = new ≡ old
+Saved (Some path) entries old new =
+    (is_some new ≡ is_some old)
+    × IfSome old (λ files. (bytes : List ℕ) × Spells bytes entries × (can_save files path ≡ true) × (new ≡ Some (insert files path (new_file bytes))))
+
+-- every path but the file that is to be written is as before
+abbrev pub SameButOutput : Option (List ℕ) → Option Files → Option Files → Type 0
+SameButOutput None old new = new ≡ old
+SameButOutput (Some path) old new = (is_some new ≡ is_some old) × IfSome old (λ files. IfSome new (SameBut path files))
+
+-- what stands when a run comes to print: the entries, what is told of how they were found, in which order they are printed, and that they are saved where that is asked for
+pub record Ready (asked : Asked) (tree tree' : Option Files) (old new : ℕ) : Type 0 where
+  pub entries : List Entry
+  pub listed : Listed tree asked.start entries old new
+  pub few : length entries ≤ 4194304
+  pub account : Account
+  pub tells : Tells asked.common tree asked.start entries old new listed account
+  pub printed : List Entry
+  pub order : InOrder asked.sort entries printed
+  pub saved : Saved asked.output entries tree tree'
 
 -- the line of words that are refused: the number of the word and the reason
 abbrev pub refused_at : ℕ → List ℕ → List ℕ
@@ -46,9 +103,81 @@ abbrev pub refusal_line : WordsError → List ℕ
 refusal_line (e.NoTool word) = refused_at word (codes " no tool")
 refusal_line (e.UnknownTool word) = refused_at word (codes " unknown tool")
 refusal_line (e.UnknownOption word) = refused_at word (codes " unknown option")
+refusal_line (e.NoValue word) = refused_at word (codes " no value")
 refusal_line (e.BadValue word) = refused_at word (codes " bad value")
 refusal_line (e.NoPath word) = refused_at word (codes " no path")
+refusal_line (e.TooManyPaths word) = refused_at word (codes " too many paths")
+refusal_line (e.Clash word) = refused_at word (codes " clash")
 refusal_line e.OutOfMemory = codes "out of memory" ++ 10 ∷ []
+
+-- the line about a list file that can't be read or written
+abbrev pub list_line : List ℕ → List ℕ → List ℕ
+list_line why path = codes "list " ++ why ++ 32 ∷ (escape path ++ 10 ∷ [])
+
+-- the line about a list file that is none
+abbrev pub damaged_line : List ℕ → ℕ → List ℕ
+damaged_line path line = codes "damaged " ++ escape path ++ codes " line " ++ decimal line ++ 10 ∷ []
+
+-- no file is there to be read
+pub record IsAbsent (start : Origin) (tree : Option Files) (path : List ℕ) : Type 0 where
+  pub named : start ≡ input path
+  pub told : IfSome tree (λ files. is_file (get files path) ≡ false)
+
+-- the entries are there, and no file can be where they are to be written
+pub record HasNoPlace (start : Origin) (output : Option (List ℕ)) (tree : Option Files) (old new : ℕ) (path : List ℕ) : Type 0 where
+  pub named : output ≡ Some path
+  pub told : IfSome tree (λ files. can_save files path ≡ false)
+  pub entries : List Entry
+  pub listed : Listed tree start entries old new
+  pub few : length entries ≤ 4194304
+
+-- the files failed while the list file was read or written
+pub record IsFault (start : Origin) (output : Option (List ℕ)) (old new : ℕ) (path : List ℕ) : Type 0 where
+  pub named : (start ≡ input path) ⊎ (output ≡ Some path)
+  pub counted : RoseBy 1 old new
+
+-- why a list file is not read or not written, and the line that says so
+pub data ListFault (start : Origin) (output : Option (List ℕ)) (tree : Option Files) (old new : ℕ) (line : List ℕ) : Type 0 where
+  absent : (path : List ℕ) → IsAbsent start tree path → line ≡ list_line (codes "absent") path → ListFault start output tree old new line
+  place : (path : List ℕ) → HasNoPlace start output tree old new path → line ≡ list_line (codes "place") path → ListFault start output tree old new line
+  fault : (path : List ℕ) → IsFault start output old new path → line ≡ list_line (codes "fault") path → ListFault start output tree old new line
+
+-- the list that is read is none: where the files tell their tree, this is the first line through which its bytes begin no list file
+pub record IsDamagedList (start : Origin) (tree : Option Files) (path : List ℕ) (line : ℕ) : Type 0 where
+  pub named : start ≡ input path
+  pub told : IfSome tree (λ files. (bytes : List ℕ) × HoldsFile bytes (get files path) × IsRefused bytes line)
+
+-- a walk of more entries than a list may have
+pub record IsTooLongWalk (tree : Option Files) (given : List (List ℕ)) (old new : ℕ) : Type 0 where
+  pub entries : List Entry
+  pub walked : Walked tree given entries old new
+  pub many : 4194304 < length entries
+
+-- more entries than a list may have: those of a walk, or those that stand first in the list that is read
+abbrev pub IsTooMuch : Option Files → Origin → ℕ → ℕ → Type 0
+IsTooMuch tree (roots given) old new = IsTooLongWalk tree given old new
+IsTooMuch tree (input path) old new = IfSome tree (λ files. (bytes : List ℕ) × HoldsFile bytes (get files path) × IsTooLong bytes)
+
+-- where nothing is left to name: every root is there, no directory below has a child whose path is too long, and the walk is no longer than a list may be
+pub record IsFineWalk (files : Files) (given : List (List ℕ)) : Type 0 where
+  pub roots : List (List ℕ)
+  pub are : IsRoots given roots
+  pub there : All (λ root. is_some (get files root) ≡ true) roots
+  pub near : All (λ e. e.far ≡ 0) (flat_map (walk files all_told) roots)
+  pub few : length (flat_map (walk files all_told) roots) ≤ 4194304
+
+-- or the file is there, its bytes spell a list that is not too long, and each entry in it is fine
+pub record IsFineList (files : Files) (path : List ℕ) : Type 0 where
+  pub bytes : List ℕ
+  pub holds : HoldsFile bytes (get files path)
+  pub entries : List Entry
+  pub spells : Spells bytes entries
+  pub few : length entries ≤ 4194304
+  pub fine : All (λ e. (e.mark ≡ mark.Fine) × (e.unnamed ≡ 0) × (e.far ≡ 0)) entries
+
+abbrev pub IsFineStart : Files → Origin → Type 0
+IsFineStart files (roots given) = IsFineWalk files given
+IsFineStart files (input path) = IsFineList files path
 
 -- a sink's text grew by all of these bytes, where it tells its text
 abbrev pub Grew : List ℕ → Option (List ℕ) → Option (List ℕ) → Type 0

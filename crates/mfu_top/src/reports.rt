@@ -1,42 +1,50 @@
-//! What a walk leaves to be printed.
-ghost use Rattle.std.specs.Prelude.{◌≡◌, ◌⊎◌, ◌<◌, length, IfOk};
+//! What is to be printed once the entries stand.
+ghost use Rattle.std.specs.Prelude.{◌≡◌, ◌⊎◌, ◌<◌, List, length, IfOk};
 ghost use Rattle.outside.specs.Count.{RoseBy};
+ghost use Rattle.flat_list.specs.declared.entries.Entry.{Entry};
 ghost use Rattle.tool_text.specs.Notes.{notes_of};
-ghost use Rattle.mfu_top.specs.Run.{out_text, notes_text, Grew, GrewBySome};
+ghost use Rattle.mfu_top.specs.Run.{InOrder, out_text, notes_text, Grew, GrewBySome};
 
+use crate::accounts::Found;
 use crate::statuses::Status;
-use flat_list::FlatList;
+use flat_list::{Field, FlatList};
 use outside::{Sink, put_all};
 use path_text::OutOfMemory;
 use std::alloc::Global;
 use tool_text::{Text, notes_of, put_list, put_notes, put_summary};
+use tool_words::Common;
 
-/// The list of a walk that is over, and both texts of it.
+/// Both texts of a run.
 #[derive(Drop)]
 pub(crate) struct Report {
-    list: FlatList,
     failed: u64,
     out: Text,
     notes: Text,
 }
 
 impl Report {
-    /// The report of a list.
-    pub(crate) fn of(alloc: Global, list: FlatList) -> Result<Report, OutOfMemory>
-        ensures list { IfOk result (λ report. report.list ≡ list) }
-        ensures out { IfOk result (λ report. report.out ≡ out_text list) }
-        ensures notes { IfOk result (λ report. report.notes ≡ notes_text list) }
-        ensures failed { IfOk result (λ report. report.failed ≡ length (notes_of list)) }
+    /// The report of what was found, with the lines of its list in the order that is asked for.
+    pub(crate) fn of(
+        alloc: Global,
+        found: Found,
+        common: &Common,
+        order: Option<(Field, bool)>,
+    ) -> Result<Report, OutOfMemory>
+        ensures out { IfOk result (λ report. (printed : List Entry) × InOrder order found.list printed × (report.out ≡ out_text found.list printed)) }
+        ensures notes { IfOk result (λ report. report.notes ≡ notes_text common.now found.account found.list) }
+        ensures failed { IfOk result (λ report. report.failed ≡ length (notes_of found.list)) }
     {
+        let Found { list, account } = found;
         let summary = list.summary();
         let named = notes_of(alloc, &list)?;
+        let printed = in_order(list, order)?;
         let mut out = Text::make(alloc);
-        put_list(&mut out, &list)?;
+        put_list(&mut out, &printed)?;
         put_summary(&mut out, &summary)?;
         let mut notes = Text::make(alloc);
+        account.put(&mut notes, common)?;
         put_notes(&mut notes, &named)?;
         Ok(Report {
-            list,
             failed: summary.failed,
             out,
             notes,
@@ -64,4 +72,15 @@ impl Report {
             Status::Named
         }
     }
+}
+
+// The list in the order that is asked for.
+fn in_order(list: FlatList, order: Option<(Field, bool)>) -> Result<FlatList, OutOfMemory>
+    ensures { IfOk result (InOrder order list) }
+{
+    let mut list = list;
+    if let Some((field, down)) = order {
+        list.sort_by(field, down)?;
+    }
+    Ok(list)
 }

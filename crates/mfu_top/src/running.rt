@@ -1,32 +1,34 @@
 //! The run.
-ghost use Rattle.std.specs.Prelude.{◌≡◌, ◌⊎◌, ◌<◌, ◌≤◌, [], List, ℕ, All, length, map, codes, string_bytes, Err, IfSome, IfOk, IfErr, IsErr, is_some, true, ◌∷◌, ◌++◌};
-ghost use Rattle.std.specs.List.{flat_map};
-ghost use Rattle.std.specs.FinMap as files_map;
+ghost use Rattle.std.specs.Prelude.{◌≡◌, ◌≢◌, ◌⊎◌, ◌<◌, ◌≤◌, [], List, ℕ, length, map, codes, string_bytes, Ok, Err, IfSome, IfOk, IfErr, IsErr, true, ◌∷◌, ◌++◌};
 ghost use Rattle.outside.specs.Count.{RoseBy, StoodStill};
+ghost use Rattle.outside.specs.Writes.{all_but};
+ghost use Rattle.outside.specs.Whole.{can_save};
 ghost use Rattle.tool_text.specs.Notes.{notes_of};
-ghost use Rattle.tool_words.specs.Words.{reading, asked_by};
-ghost use Rattle.tree_walk.specs.Walk.{walk, all_told};
-ghost use Rattle.tree_walk.specs.Roots.{IsRoots};
-ghost use Rattle.tree_walk.specs.Found.{IfTooMany};
-ghost use Rattle.mfu_top.specs.Run.{Walked, out_text, notes_text, refusal_line, Grew, GrewBySome, GrewByLine};
-ghost use Rattle.flat_list.specs.declared.entries.Entry.{Entry};
+ghost use Rattle.tool_words.specs.Words.{reading, asked_by, start_in};
+ghost use Rattle.tool_words.specs.Limits.{Within, CommonWithin};
+ghost use Rattle.tool_words.specs.declared.commands.Command.TheVariants.{Walk};
 ghost use Rattle.tool_words.specs.declared.errors.WordsError.{WordsError};
+ghost use Rattle.mfu_top.specs.Run.{Ready, SameButOutput, out_text, notes_text, refusal_line, damaged_line, IsTooMuch, IsDamagedList, ListFault, IsFineStart, Grew, GrewBySome, GrewByLine};
+ghost use Rattle.mfu_top.specs.Stops.{Stops, IsReport};
 
 use crate::reports::Report;
+use crate::saving::save_list;
+use crate::starting::list_from;
 use crate::statuses::Status;
-use crate::telling::{end_with, refusal, too_much};
-use circle_run::Options;
-use flat_list::FlatList;
+use crate::stops::Stop;
+use crate::telling::{end_stopped, end_with, refusal};
+use flat_list::{Field, refusals_are_exact, spelling_is_unique};
 use outside::{Ground, Sink};
 use path_text::Path;
 use std::alloc::Global;
 use std::sync::Wait;
 use std::thread::Threads;
-use tool_words::{Command, Common, Start, read_words};
-use tree_walk::{WalkError, roots_of, walk, walk_without_faults_is_fine};
+use tool_words::{Command, Common, Start, WordsError, read_words, words_ask_within_limits};
+use tree_walk::walk_without_faults_is_fine;
 
-/// Does all that the program does: reads the words, walks, and writes `out` and then `notes`. All memory is taken before
-/// the first byte goes to `out`. `now` is in seconds since 1970.
+/// Does all that the program does, in this order: reads the words; reads a list, or walks; writes the list to a file where
+/// one is asked for; writes `out`, and then `notes`. All memory is taken before the first byte goes to `out`. `now` is in
+/// seconds since 1970.
 pub fn run<T: Threads + Wait + Sync, G: Ground + Send, O: Sink, E: Sink>(
     rt: &T,
     alloc: Global,
@@ -38,54 +40,73 @@ pub fn run<T: Threads + Wait + Sync, G: Ground + Send, O: Sink, E: Sink>(
 ) -> Status
 where
     G::Reader: Send,
-    // Every path of the files is as before, and no count falls.
-    ensures same { G.tree files.new ≡ G.tree files.old }
+    // No part of the files is lent to anybody.
+    requires lent { G.area files.old ≡ all_but [] }
+
+    // Every path of the files but the one that is to be written is as before, and no count falls.
+    ensures rest { IfOk (reading (map string_bytes words.now)) (λ asked. SameButOutput asked.output (G.tree files.old) (G.tree files.new)) }
     ensures counts { RoseBy 0 (G.count files.old) (G.count files.new) × RoseBy 0 (O.count out.old) (O.count out.new) × RoseBy 0 (E.count notes.old) (E.count notes.new) }
 
     // Status 2 comes exactly where the words are refused, with the line of the first offence; nothing is looked at then.
     ensures words { result ≡ Status.Words → (e : WordsError) × (reading (map string_bytes words.now) ≡ Err e) × (files.new ≡ files.old) × (out.new ≡ out.old)
         × GrewByLine (refusal_line e) (E.text notes.old) (E.text notes.new) (E.count notes.old) (E.count notes.new) }
-    ensures refused { IsErr (reading (map string_bytes words.now)) → (result ≡ Status.Words) ⊎ (result ≡ Status.Memory) }
+    ensures refused { IsErr (reading (map string_bytes words.now)) → (files.new ≡ files.old) × ((result ≡ Status.Words) ⊎ (result ≡ Status.Memory)) }
 
-    // The headline: with status 0 or 1 the walk of the roots is printed, and status 1 comes exactly where a note stands.
-    ensures done { result ≡ Status.Done → IfOk (reading (map string_bytes words.now)) (λ asked. (entries : List Entry)
-        × Walked (G.tree files.old) asked.roots entries (G.count files.old) (G.count files.new) × (length entries ≤ 4194304)
-        × (notes_of entries ≡ []) × Grew (out_text entries) (O.text out.old) (O.text out.new) × Grew (notes_text entries) (E.text notes.old) (E.text notes.new)) }
-    ensures named { result ≡ Status.Named → IfOk (reading (map string_bytes words.now)) (λ asked. (entries : List Entry)
-        × Walked (G.tree files.old) asked.roots entries (G.count files.old) (G.count files.new) × (length entries ≤ 4194304)
-        × (0 < length (notes_of entries)) × Grew (out_text entries) (O.text out.old) (O.text out.new) × Grew (notes_text entries) (E.text notes.old) (E.text notes.new)) }
+    // The headline: with status 0 or 1 the entries are walked or read, saved where that is asked for, and printed in the order
+    // that is asked for; and status 1 comes exactly where a note stands.
+    ensures done { result ≡ Status.Done → IfOk (reading (map string_bytes words.now)) (λ asked. (ready : Ready asked (G.tree files.old) (G.tree files.new) (G.count files.old) (G.count files.new))
+        × (notes_of ready.entries ≡ []) × Grew (out_text ready.entries ready.printed) (O.text out.old) (O.text out.new) × Grew (notes_text asked.common ready.account ready.entries) (E.text notes.old) (E.text notes.new)) }
+    ensures named { result ≡ Status.Named → IfOk (reading (map string_bytes words.now)) (λ asked. (ready : Ready asked (G.tree files.old) (G.tree files.new) (G.count files.old) (G.count files.new))
+        × (0 < length (notes_of ready.entries)) × Grew (out_text ready.entries ready.printed) (O.text out.old) (O.text out.new) × Grew (notes_text asked.common ready.account ready.entries) (E.text notes.old) (E.text notes.new)) }
 
     // Status 3: want of memory, with its line and nothing else.
     ensures memory { result ≡ Status.Memory → (out.new ≡ out.old) × GrewByLine (codes "out of memory" ++ 10 ∷ []) (E.text notes.old) (E.text notes.new) (E.count notes.old) (E.count notes.new) }
 
     // Status 4: a sink failed, and holds a prefix of its text. After a fault of `out` nothing goes to `notes`.
-    ensures sink { result ≡ Status.Sink → IfOk (reading (map string_bytes words.now)) (λ asked. (entries : List Entry)
-        × Walked (G.tree files.old) asked.roots entries (G.count files.old) (G.count files.new) × (length entries ≤ 4194304)
-        × ((RoseBy 1 (O.count out.old) (O.count out.new) × GrewBySome (out_text entries) (O.text out.old) (O.text out.new) × (notes.new ≡ notes.old))
-        ⊎ (RoseBy 1 (E.count notes.old) (E.count notes.new) × Grew (out_text entries) (O.text out.old) (O.text out.new) × GrewBySome (notes_text entries) (E.text notes.old) (E.text notes.new)))) }
+    ensures sink { result ≡ Status.Sink → IfOk (reading (map string_bytes words.now)) (λ asked. (ready : Ready asked (G.tree files.old) (G.tree files.new) (G.count files.old) (G.count files.new))
+        × ((RoseBy 1 (O.count out.old) (O.count out.new) × GrewBySome (out_text ready.entries ready.printed) (O.text out.old) (O.text out.new) × (notes.new ≡ notes.old))
+        ⊎ (RoseBy 1 (E.count notes.old) (E.count notes.new) × Grew (out_text ready.entries ready.printed) (O.text out.old) (O.text out.new) × GrewBySome (notes_text asked.common ready.account ready.entries) (E.text notes.old) (E.text notes.new)))) }
 
-    // Status 5: the list that was walked has more entries than a list may have, and nothing of it is printed.
-    ensures too_many { result ≡ Status.TooMany → IfOk (reading (map string_bytes words.now)) (λ asked. (entries : List Entry)
-        × Walked (G.tree files.old) asked.roots entries (G.count files.old) (G.count files.new) × (4194304 < length entries)
-        × (out.new ≡ out.old) × GrewByLine (codes "too many entries" ++ 10 ∷ []) (E.text notes.old) (E.text notes.new) (E.count notes.old) (E.count notes.new)) }
+    // Status 5: the list that was walked or read has more entries than a list may have. Every path is as before, and nothing is printed.
+    ensures too_many { result ≡ Status.TooMany → IfOk (reading (map string_bytes words.now)) (λ asked. IsTooMuch (G.tree files.old) asked.start (G.count files.old) (G.count files.new)
+        × (G.tree files.new ≡ G.tree files.old) × (out.new ≡ out.old) × GrewByLine (codes "too many entries" ++ 10 ∷ []) (E.text notes.old) (E.text notes.new) (E.count notes.old) (E.count notes.new)) }
 
-    // When a run succeeds: every root is there, no directory below has a child whose path is too long, the list is not too long, and no count rose.
-    ensures complete { IfOk (reading (map string_bytes words.now)) (λ asked. IfSome (G.tree files.old) (λ tree. (roots : List (List ℕ)) → IsRoots asked.roots roots
-        → All (λ root. is_some (files_map.get tree root) ≡ true) roots → All (λ e. e.far ≡ 0) (flat_map (walk tree all_told) roots)
-        → length (flat_map (walk tree all_told) roots) ≤ 4194304
+    // Status 7: the file that was to be read is no list file, and its line is named. Every path is as before.
+    ensures damaged { result ≡ Status.Damaged → IfOk (reading (map string_bytes words.now)) (λ asked. (path : List ℕ) × (line : ℕ) × IsDamagedList asked.start (G.tree files.old) path line
+        × (G.tree files.new ≡ G.tree files.old) × (out.new ≡ out.old) × GrewByLine (damaged_line path line) (E.text notes.old) (E.text notes.new) (E.count notes.old) (E.count notes.new)) }
+
+    // Status 8: a list file could not be read, or could not be written.
+    ensures list_file { result ≡ Status.ListFile → IfOk (reading (map string_bytes words.now)) (λ asked. (line : List ℕ) × ListFault asked.start asked.output (G.tree files.old) (G.count files.old) (G.count files.new) line
+        × (out.new ≡ out.old) × GrewByLine line (E.text notes.old) (E.text notes.new) (E.count notes.old) (E.count notes.new)) }
+
+    // When a run succeeds: nothing is left to name in what is walked or read, there is a place for the list that is to be written, and no count rose.
+    ensures complete { IfOk (reading (map string_bytes words.now)) (λ asked. IfSome (G.tree files.old) (λ tree. IsFineStart tree asked.start → IfSome asked.output (λ path. can_save tree path ≡ true)
         → StoodStill (G.count files.old) (G.count files.new) → StoodStill (O.count out.old) (O.count out.new) → StoodStill (E.count notes.old) (E.count notes.new)
         → (result ≡ Status.Done) ⊎ (result ≡ Status.Memory))) }
 {
     let _ = now;
     walk_without_faults_is_fine();
-    let command = match read_words(alloc, words) {
+    spelling_is_unique();
+    refusals_are_exact();
+    let command = match read_command(alloc, words) {
         Ok(command) => command,
         Err(e) => return end_with(notes, refusal(alloc, e), Status::Words),
     };
     match report_of(rt, alloc, command, files) {
         Ok(report) => report.put(out, notes),
-        Err(e) => end_with(notes, too_much(alloc, e), Status::TooMany),
+        Err(stop) => end_stopped(alloc, notes, stop),
     }
+}
+
+// The command that the words ask for, and that it is within the limits of a run.
+fn read_command(alloc: Global, words: &[String]) -> Result<Command, WordsError>
+    ensures read { IfOk result (λ command. reading (map string_bytes words.now) ≡ Ok (asked_by command)) }
+    ensures within { IfOk result (λ command. Within (asked_by command)) }
+    ensures refused { IfErr result (λ e. (reading (map string_bytes words.now) ≡ Err e) ⊎ (e ≡ WordsError.OutOfMemory)) }
+    ensures memory { reading (map string_bytes words.now) ≢ Err WordsError.OutOfMemory }
+{
+    words_ask_within_limits();
+    read_words(alloc, words)
 }
 
 // Does what is asked for, and makes the texts.
@@ -94,56 +115,46 @@ fn report_of<T: Threads + Wait + Sync, G: Ground>(
     alloc: Global,
     command: Command,
     files: &mut G,
-) -> Result<Report, WalkError>
+) -> Result<Report, Stop>
 where
     G::Reader: Send,
-    requires width { (2 ≤ (asked_by command).common.width) × ((asked_by command).common.width ≤ 64) }
-    ensures walked { IfOk result (λ report. Walked (G.tree files.old) (asked_by command).roots report.list (G.count files.old) (G.count files.new)) }
-    ensures few { IfOk result (λ report. length report.list ≤ 4194304) }
-    ensures out { IfOk result (λ report. report.out ≡ out_text report.list) }
-    ensures notes { IfOk result (λ report. report.notes ≡ notes_text report.list) }
-    ensures failed { IfOk result (λ report. report.failed ≡ length (notes_of report.list)) }
-    ensures too_many { IfErr result (λ e. IfTooMany e (λ n. (entries : List Entry) × Walked (G.tree files.old) (asked_by command).roots entries (G.count files.old) (G.count files.new) × (4194304 < length entries))) }
-    ensures same { G.tree files.new ≡ G.tree files.old }
+    requires lent { G.area files.old ≡ all_but [] }
+    requires within { CommonWithin (asked_by command).common }
+    ensures ready { IfOk result (λ report. IsReport (asked_by command) (G.tree files.old) (G.tree files.new) (G.count files.old) (G.count files.new) report.out report.notes report.failed) }
+    ensures stopped { IfErr result (Stops (asked_by command).start (asked_by command).output (G.tree files.old) (G.tree files.new) (G.count files.old) (G.count files.new)) }
+    ensures rest { SameButOutput (asked_by command).output (G.tree files.old) (G.tree files.new) }
     ensures count { RoseBy 0 (G.count files.old) (G.count files.new) }
 {
-    let Command::Walk {
-        common,
-        start: Start::Roots(paths),
-    } = command;
-    let list = walked(rt, alloc, common, paths, files)?;
-    Ok(Report::of(alloc, list)?)
+    match command {
+        Command::Walk {
+            common,
+            start,
+            sort,
+            output,
+        } => report_of_walk(rt, alloc, &common, start, sort, output, files),
+    }
 }
 
-// Walks the roots of the paths.
-fn walked<T: Threads + Wait + Sync, G: Ground>(
+// Lists what is asked for, saves it where that is asked for, and makes the texts.
+fn report_of_walk<T: Threads + Wait + Sync, G: Ground>(
     rt: &T,
     alloc: Global,
-    common: Common,
-    paths: Vec<Path>,
+    common: &Common,
+    start: Start,
+    sort: Option<(Field, bool)>,
+    output: Option<Path>,
     files: &mut G,
-) -> Result<FlatList, WalkError>
+) -> Result<Report, Stop>
 where
     G::Reader: Send,
-    requires width { (2 ≤ common.width) × (common.width ≤ 64) }
-    ensures walked { IfOk result (λ list. Walked (G.tree files.old) paths.items list (G.count files.old) (G.count files.new)) }
-    ensures few { IfOk result (λ list. length list ≤ 4194304) }
-    ensures too_many { IfErr result (λ e. IfTooMany e (λ n. (entries : List Entry) × Walked (G.tree files.old) paths.items entries (G.count files.old) (G.count files.new) × (4194304 < length entries))) }
-    ensures same { G.tree files.new ≡ G.tree files.old }
+    requires lent { G.area files.old ≡ all_but [] }
+    requires within { CommonWithin common.now }
+    ensures ready { IfOk result (λ report. IsReport (asked_by (Walk common.now start sort output)) (G.tree files.old) (G.tree files.new) (G.count files.old) (G.count files.new) report.out report.notes report.failed) }
+    ensures stopped { IfErr result (Stops (start_in start) output (G.tree files.old) (G.tree files.new) (G.count files.old) (G.count files.new)) }
+    ensures rest { SameButOutput output (G.tree files.old) (G.tree files.new) }
     ensures count { RoseBy 0 (G.count files.old) (G.count files.new) }
 {
-    // The count of faults is a number of 64 bits.
-    let _faults = files.faults();
-    let roots = roots_of(paths)?;
-    let options = Options {
-        ranks: 1,
-        hosts: 1,
-        split: common.split,
-        seed: common.seed,
-        width: common.width,
-        trace: false,
-        stop_after: None,
-    };
-    let found = walk(rt, alloc, files, roots, &options)?;
-    Ok(found.list)
+    let found = list_from(rt, alloc, common, start, files)?;
+    save_list(alloc, files, output, &found.list)?;
+    Ok(Report::of(alloc, found, common, sort)?)
 }

@@ -15,4 +15,8 @@ pub enum Status {
     Sink = 4,
     /// The list has more entries than a list may have.
     TooMany = 5,
+    /// The file that was to be read is no list file.
+    Damaged = 7,
+    /// A list file could not be read, or could not be written.
+    ListFile = 8,
 }

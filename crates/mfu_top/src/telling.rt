@@ -1,15 +1,16 @@
 //! The one line of a run that prints no listing.
 ghost use Rattle.std.specs.Prelude.{◌≡◌, ◌≢◌, ◌++◌, ◌∷◌, [], codes, IfOk, OnOk, OnErr};
 ghost use Rattle.outside.specs.Count.{RoseBy};
-ghost use Rattle.mfu_top.specs.Run.{refused_at, refusal_line, GrewByLine};
+ghost use Rattle.mfu_top.specs.Run.{refused_at, refusal_line, damaged_line, list_line, GrewByLine};
+ghost use Rattle.mfu_top.specs.Stops.{status_of, trouble_word, stop_line, Told};
 
 use crate::statuses::Status;
+use crate::stops::{Stop, Trouble};
 use outside::{Sink, put_all};
-use path_text::OutOfMemory;
+use path_text::{OutOfMemory, Path};
 use std::alloc::Global;
-use tool_text::{Text, put_line};
+use tool_text::{Text, put_line, put_path_line};
 use tool_words::WordsError;
-use tree_walk::WalkError;
 
 /// Ends with one line. Where no memory was found for it, the line of status 3 stands in its place, which needs none. The
 /// status stands also where the sink fails.
@@ -52,8 +53,11 @@ pub(crate) fn refusal(alloc: Global, e: WordsError) -> Result<Text, OutOfMemory>
         WordsError::NoTool(word) => refused_at(alloc, word, " no tool"),
         WordsError::UnknownTool(word) => refused_at(alloc, word, " unknown tool"),
         WordsError::UnknownOption(word) => refused_at(alloc, word, " unknown option"),
+        WordsError::NoValue(word) => refused_at(alloc, word, " no value"),
         WordsError::BadValue(word) => refused_at(alloc, word, " bad value"),
         WordsError::NoPath(word) => refused_at(alloc, word, " no path"),
+        WordsError::TooManyPaths(word) => refused_at(alloc, word, " too many paths"),
+        WordsError::Clash(word) => refused_at(alloc, word, " clash"),
         WordsError::OutOfMemory => Err(OutOfMemory),
     }
 }
@@ -65,14 +69,63 @@ fn refused_at(alloc: Global, word: usize, reason: &str) -> Result<Text, OutOfMem
     text_of(alloc, &line)
 }
 
-/// The line that says that a walk found too much.
-pub(crate) fn too_much(alloc: Global, e: WalkError) -> Result<Text, OutOfMemory>
-    ensures line { IfOk result (λ text. text ≡ codes "too many entries" ++ 10 ∷ []) }
-    ensures many { OnOk result (e ≢ WalkError.OutOfMemory) }
+/// Ends a run that stopped, with its line.
+pub(crate) fn end_stopped<E: Sink>(alloc: Global, notes: &mut E, stop: Stop) -> Status
+    ensures told { Told stop result (E.text notes.old) (E.text notes.new) (E.count notes.old) (E.count notes.new) }
+    ensures count { RoseBy 0 (E.count notes.old) (E.count notes.new) }
 {
-    match e {
-        WalkError::TooMany(_) => text_of(alloc, "too many entries"),
-        WalkError::OutOfMemory => Err(OutOfMemory),
+    let status = status_of(&stop);
+    end_with(notes, stop_line(alloc, &stop), status)
+}
+
+fn status_of(stop: &Stop) -> Status
+    ensures { result ≡ status_of stop.now }
+{
+    match stop {
+        Stop::OutOfMemory => Status::Memory,
+        Stop::TooMany => Status::TooMany,
+        Stop::Damaged(..) => Status::Damaged,
+        Stop::ListFile(..) => Status::ListFile,
+    }
+}
+
+// The line that says why a run stopped. None is made of want of memory.
+fn stop_line(alloc: Global, stop: &Stop) -> Result<Text, OutOfMemory>
+    ensures { IfOk result (λ text. text ≡ stop_line stop.now) }
+{
+    match stop {
+        Stop::OutOfMemory => Err(OutOfMemory),
+        Stop::TooMany => text_of(alloc, "too many entries"),
+        Stop::Damaged(path, line) => damaged_line(alloc, path, *line),
+        Stop::ListFile(trouble, path) => list_line(alloc, trouble_word(*trouble), path),
+    }
+}
+
+fn damaged_line(alloc: Global, path: &Path, line: u64) -> Result<Text, OutOfMemory>
+    ensures { IfOk result (λ text. text ≡ damaged_line path.now line) }
+{
+    let mut text = Text::make(alloc);
+    let place = format!(in alloc; " line {line}")?;
+    put_path_line(&mut text, "damaged ", path, &place)?;
+    Ok(text)
+}
+
+fn list_line(alloc: Global, why: &str, path: &Path) -> Result<Text, OutOfMemory>
+    ensures { IfOk result (λ text. text ≡ list_line why.now path.now) }
+{
+    let mut text = Text::make(alloc);
+    let fault = format!(in alloc; "list {why} ")?;
+    put_path_line(&mut text, &fault, path, "")?;
+    Ok(text)
+}
+
+fn trouble_word(trouble: Trouble) -> &'static str
+    ensures { result.now ≡ trouble_word trouble }
+{
+    match trouble {
+        Trouble::Absent => "absent",
+        Trouble::NoPlace => "place",
+        Trouble::Fault => "fault",
     }
 }
 

@@ -1,7 +1,7 @@
 //! Runs over files in memory, to the byte.
 use super::*;
 use files_mem::{Call, MemGround};
-use outside::{Ground, MemSink};
+use outside::{Ground, MemSink, Plot, load};
 use path_text::Path;
 use std::alloc::Global;
 use std::process::Abort;
@@ -114,10 +114,16 @@ fn prints_the_tree_and_names_what_failed(rt: HostRuntime) -> Result<(), Fail> {
             "refused word 1 bad value\n",
         ),
         (
-            ["dwalk", "/t", "--ranks", "4"].as_slice(),
+            ["dwalk", "--ranks", "65", "/t"].as_slice(),
             Status::Words,
             "",
-            "refused word 2 unknown option\n",
+            "refused word 2 bad value\n",
+        ),
+        (
+            ["dwalk", "--hosts", "2", "/t"].as_slice(),
+            Status::Words,
+            "",
+            "refused word 2 bad value\n",
         ),
     ] {
         let told = run_with(&rt, alloc, &mut files, words, (AMPLE, AMPLE))?;
@@ -204,5 +210,189 @@ fn walks_ten_thousand_nodes(rt: HostRuntime) -> Result<(), Fail> {
     let summary = b"items 10001 dirs 101 files 9900 links 0 others 0 bytes 19800 failed 0\n";
     assert_eq!(rt; told.0, Status::Done);
     assert!(rt; told.1.text().ends_with(summary));
+    Ok(())
+}
+
+const LIST_T: &str = "mfu list 1
+d 0 86400 ok 0 0 /t
+f 5 86400 ok 0 0 /t/a
+d 0 86400 ok 0 0 /t/b
+f 0 86400 ok 0 0 /t/b/c
+f 1 86400 ok 0 0 /t/b-x
+end 5
+";
+
+// Whether the file at a path holds this text.
+fn holds(alloc: Global, files: &mut MemGround, path: &str, text: &str) -> Result<bool, Fail> {
+    let mut reader = files.reader(alloc)?;
+    let bytes = load(alloc, &mut reader, &Path::parse(alloc, path)?)?;
+    Ok(bytes.as_slice() == text.as_bytes())
+}
+
+#[test]
+fn saves_a_list_and_reads_it_back(rt: HostRuntime) -> Result<(), Fail> {
+    let alloc = rt.alloc();
+    let mut files = trees(alloc)?;
+    for words in [
+        ["dwalk", "--output", "/l", "/t"],
+        ["dwalk", "--output=/m", "--input", "/l"],
+    ] {
+        let told = run_with(&rt, alloc, &mut files, &words, (AMPLE, AMPLE))?;
+        assert_eq!(rt; told.0, Status::Done);
+        assert_eq!(rt; told.1.text(), TREE_T.as_bytes());
+        assert_eq!(rt; told.2.text(), b"".as_slice());
+    }
+    for path in ["/l", "/m"] {
+        assert!(rt; holds(alloc, &mut files, path, LIST_T)?);
+    }
+    Ok(())
+}
+
+// A name of two lines, a mark, and numbers that are named.
+const LIST_M: &str = "mfu list 1
+d 0 - ok 2 1 /m
+f 7 - ok 0 0 /m/x\\x0Ay
+- 0 - gone 0 0 /m/z
+end 3
+";
+
+#[test]
+fn tells_what_a_list_file_tells(rt: HostRuntime) -> Result<(), Fail> {
+    let alloc = rt.alloc();
+    for (list, status, out, notes) in [
+        (
+            LIST_M,
+            Status::Named,
+            "d            0 /m\nf            7 /m/x\\x0Ay\nitems 2 dirs 1 files 1 links 0 others 0 bytes 7 failed 3\n",
+            "unnamed /m 2\ntoo long /m 1\ngone /m/z\n",
+        ),
+        (
+            &LIST_T[..LIST_T.len() - 1],
+            Status::Damaged,
+            "",
+            "damaged /l line 7\n",
+        ),
+    ] {
+        let mut files = MemGround::empty(alloc)?;
+        files.put_file(&Path::parse(alloc, "/l")?, list.as_bytes(), None)?;
+        let told = run_with(
+            &rt,
+            alloc,
+            &mut files,
+            &["dwalk", "--input", "/l"],
+            (AMPLE, AMPLE),
+        )?;
+        assert_eq!(rt; told.0, status);
+        assert_eq!(rt; told.1.text(), out.as_bytes());
+        assert_eq!(rt; told.2.text(), notes.as_bytes());
+    }
+    Ok(())
+}
+
+#[test]
+fn refuses_a_list_file_of_no_use(rt: HostRuntime) -> Result<(), Fail> {
+    let alloc = rt.alloc();
+    let mut files = trees(alloc)?;
+    files.plan(Call::Read, &Path::parse(alloc, "/t/a")?)?;
+    for (words, line) in [
+        (["dwalk", "--input", "/l"].as_slice(), "list absent /l\n"),
+        (["dwalk", "--input", "/t"].as_slice(), "list absent /t\n"),
+        (["dwalk", "--input", "/t/a"].as_slice(), "list fault /t/a\n"),
+        (
+            ["dwalk", "--output", "/t/a/z", "/t"].as_slice(),
+            "list place /t/a/z\n",
+        ),
+    ] {
+        let told = run_with(&rt, alloc, &mut files, words, (AMPLE, AMPLE))?;
+        assert_eq!(rt; told.0, Status::ListFile);
+        assert_eq!(rt; told.1.text(), b"".as_slice());
+        assert_eq!(rt; told.2.text(), line.as_bytes());
+    }
+    Ok(())
+}
+
+#[test]
+fn prints_in_the_order_asked_for(rt: HostRuntime) -> Result<(), Fail> {
+    let alloc = rt.alloc();
+    let mut files = trees(alloc)?;
+    let words = ["dwalk", "--sort", "-size", "--output", "/l", "/t"];
+    let told = run_with(&rt, alloc, &mut files, &words, (AMPLE, AMPLE))?;
+    let out = "f            5 /t/a
+f            1 /t/b-x
+d            0 /t
+d            0 /t/b
+f            0 /t/b/c
+items 5 dirs 2 files 3 links 0 others 0 bytes 6 failed 0
+";
+    assert_eq!(rt; told.0, Status::Done);
+    assert_eq!(rt; told.1.text(), out.as_bytes());
+    // The list is saved in path order all the same.
+    assert!(rt; holds(alloc, &mut files, "/l", LIST_T)?);
+    Ok(())
+}
+
+const TOLD_U: &str = "handle 0 2 /u
+ask 1 0
+give 0 1 1
+handle 0 0 /u/b
+take 1 0 1
+ask 0 1
+refuse 1 0
+handle 1 0 /u/a
+none 0 1
+ask 1 0
+refuse 0 1
+restart 0
+none 1 0
+ask 0 1
+refuse 1 0
+pass 1 white
+none 0 1
+ask 1 0
+refuse 0 1
+conclude 0
+over 1
+rank 0 handled 2 given 1 taken 0
+rank 1 handled 1 given 0 taken 1
+";
+
+#[test]
+fn tells_what_two_ranks_do(rt: HostRuntime) -> Result<(), Fail> {
+    let alloc = rt.alloc();
+    let mut files = MemGround::empty(alloc)?;
+    files.put_dir(&Path::parse(alloc, "/u")?, 0, TIME)?;
+    files.put_file(&Path::parse(alloc, "/u/a")?, b"", TIME)?;
+    files.put_file(&Path::parse(alloc, "/u/b")?, b"", TIME)?;
+    let words = [
+        "dwalk", "--ranks", "2", "--hosts", "1", "--split", "equal", "--trace", "--shares", "/u",
+    ];
+    let told = run_with(&rt, alloc, &mut files, &words, (AMPLE, AMPLE))?;
+    assert_eq!(rt; told.0, Status::Done);
+    assert_eq!(rt; told.2.text(), TOLD_U.as_bytes());
+    Ok(())
+}
+
+#[test]
+fn finds_the_same_by_any_ranks(rt: HostRuntime) -> Result<(), Fail> {
+    let alloc = rt.alloc();
+    let mut files = trees(alloc)?;
+    for (words, notes) in [
+        (
+            ["dwalk", "--ranks", "64", "--width", "2", "--progress", "/t"].as_slice(),
+            "progress 5\n",
+        ),
+        (
+            [
+                "dwalk", "--seed", "7", "--split", "random", "--ranks", "3", "/t",
+            ]
+            .as_slice(),
+            "",
+        ),
+    ] {
+        let told = run_with(&rt, alloc, &mut files, words, (AMPLE, AMPLE))?;
+        assert_eq!(rt; told.0, Status::Done);
+        assert_eq!(rt; told.1.text(), TREE_T.as_bytes());
+        assert_eq!(rt; told.2.text(), notes.as_bytes());
+    }
     Ok(())
 }

@@ -1,0 +1,7 @@
+use Rattle.std.proofs.Common.{map}
+use Rattle.std.specs.String.{string_bytes}
+use Rattle.mfu_top.proofs.Ready.{within}
+use Rattle.mfu_top.proofs.running.read_command.Goals as goal
+
+pub returns-clause-within : goal.returns-clause-within
+returns-clause-within c = within (map string_bytes c.args.words.now) _ c.words_ask_within_limits.ensures c.read_words.ensures.read

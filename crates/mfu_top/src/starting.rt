@@ -1,0 +1,125 @@
+//! The entries that a run is about.
+ghost use Rattle.std.specs.Prelude.{◌≡◌, ◌<◌, ◌≤◌, List, All, length, IfOk, IfErr, true};
+ghost use Rattle.std.specs.List.Sorted.{IsStrictlySortedBy};
+ghost use Rattle.path_text.specs.Order.{path_cmp};
+ghost use Rattle.outside.specs.Count.{RoseBy};
+ghost use Rattle.flat_list.specs.Entries.{is_shaped};
+ghost use Rattle.flat_list.specs.Spelling.{paths};
+ghost use Rattle.tool_words.specs.Limits.{CommonWithin};
+ghost use Rattle.tool_words.specs.Words.{start_in};
+ghost use Rattle.tree_walk.specs.Found.{IsFound, IfTooMany, IsTooMuch};
+ghost use Rattle.tree_walk.specs.Roots.{Apart};
+ghost use Rattle.mfu_top.specs.Run.{Walked, Listed, Tells, IsTooLongWalk};
+ghost use Rattle.mfu_top.specs.Stops.{StopsListing};
+ghost use Rattle.mfu_top.specs.Tells.{IsAccount};
+
+use crate::accounts::{Account, Found};
+use crate::reading::read_list;
+use crate::stops::Stop;
+use circle_run::Options;
+use outside::Ground;
+use path_text::Path;
+use std::alloc::Global;
+use std::sync::Wait;
+use std::thread::Threads;
+use tool_words::{Common, Start};
+use tree_walk::{WalkError, roots_of, walk};
+
+/// The entries of the roots, which are walked, or of the list file; and what is told of the walk.
+pub(crate) fn list_from<T: Threads + Wait + Sync, G: Ground>(
+    rt: &T,
+    alloc: Global,
+    common: &Common,
+    start: Start,
+    files: &mut G,
+) -> Result<Found, Stop>
+where
+    G::Reader: Send,
+    requires within { CommonWithin common.now }
+    ensures listed { IfOk result (λ found. Listed (G.tree files.old) (start_in start) found.list (G.count files.old) (G.count files.new)) }
+    ensures told { IfOk result (λ found. (listed : Listed (G.tree files.old) (start_in start) found.list (G.count files.old) (G.count files.new))
+        × Tells common.now (G.tree files.old) (start_in start) found.list (G.count files.old) (G.count files.new) listed found.account) }
+    ensures few { IfOk result (λ found. length found.list ≤ 4194304) }
+    ensures ascend { IfOk result (λ found. IsStrictlySortedBy path_cmp (paths found.list)) }
+    ensures shaped { IfOk result (λ found. All (λ e. is_shaped e ≡ true) found.list) }
+    ensures stopped { IfErr result (StopsListing (G.tree files.old) (start_in start) (G.count files.old) (G.count files.new)) }
+    ensures same { G.tree files.new ≡ G.tree files.old }
+    ensures area { G.area files.new ≡ G.area files.old }
+    ensures count { RoseBy 0 (G.count files.old) (G.count files.new) }
+{
+    match start {
+        Start::Roots(paths) => Ok(walked(rt, alloc, common, paths, files)?),
+        Start::Input(path) => Ok(Found {
+            list: read_list(alloc, files, path)?,
+            account: Account::of_nothing(alloc),
+        }),
+    }
+}
+
+// Walks the roots of the given paths.
+fn walked<T: Threads + Wait + Sync, G: Ground>(
+    rt: &T,
+    alloc: Global,
+    common: &Common,
+    given: Vec<Path>,
+    files: &mut G,
+) -> Result<Found, WalkError>
+where
+    G::Reader: Send,
+    requires within { CommonWithin common.now }
+    ensures walked { IfOk result (λ found. Walked (G.tree files.old) given.items found.list (G.count files.old) (G.count files.new)) }
+    ensures told { IfOk result (λ found. (walked : Walked (G.tree files.old) given.items found.list (G.count files.old) (G.count files.new))
+        × IsAccount common.now (G.tree files.old) walked.roots found.list found.account) }
+    ensures few { IfOk result (λ found. length found.list ≤ 4194304) }
+    ensures ascend { IfOk result (λ found. IsStrictlySortedBy path_cmp (paths found.list)) }
+    ensures shaped { IfOk result (λ found. All (λ e. is_shaped e ≡ true) found.list) }
+    ensures too_many { IfErr result (λ e. IfTooMany e (λ n. IsTooLongWalk (G.tree files.old) given.items (G.count files.old) (G.count files.new))) }
+    ensures same { G.tree files.new ≡ G.tree files.old }
+    ensures area { G.area files.new ≡ G.area files.old }
+    ensures count { RoseBy 0 (G.count files.old) (G.count files.new) }
+{
+    let roots = roots_of(given)?;
+    walked_from(rt, alloc, common, roots, files)
+}
+
+// Walks these roots, with as many ranks as are asked for.
+fn walked_from<T: Threads + Wait + Sync, G: Ground>(
+    rt: &T,
+    alloc: Global,
+    common: &Common,
+    roots: Vec<Path>,
+    files: &mut G,
+) -> Result<Found, WalkError>
+where
+    G::Reader: Send,
+    requires within { CommonWithin common.now }
+    requires apart { Apart roots.items }
+    ensures found { IfOk result (λ found. IsFound (G.tree files.old) roots.items (G.count files.old) (G.count files.new) found.list) }
+    ensures account { IfOk result (λ found. IsAccount common.now (G.tree files.old) roots.items found.list found.account) }
+    ensures few { IfOk result (λ found. length found.list ≤ 4194304) }
+    ensures too_many { IfErr result (λ e. IfTooMany e (IsTooMuch (G.tree files.old) roots.items (G.count files.old) (G.count files.new))) }
+    ensures same { G.tree files.new ≡ G.tree files.old }
+    ensures area { G.area files.new ≡ G.area files.old }
+    ensures count { RoseBy 0 (G.count files.old) (G.count files.new) }
+{
+    // The count of faults is a number of 64 bits.
+    let _faults = files.faults();
+    let options = Options {
+        ranks: common.ranks,
+        hosts: common.hosts,
+        split: common.split,
+        seed: common.seed,
+        width: common.width,
+        trace: common.trace || common.shares,
+        stop_after: None,
+    };
+    let report = walk(rt, alloc, files, roots, &options)?;
+    Ok(Found {
+        list: report.list,
+        account: Account {
+            events: report.events,
+            shares: report.shares,
+            sums: report.sums,
+        },
+    })
+}
