@@ -37,6 +37,7 @@ notes_of entries = flat_map entry_notes entries
 abbrev pub why_text : Why → List ℕ → List ℕ
 why_text why.Gone path = codes "gone " ++ escape path
 why_text why.FailedStat path = codes "failed stat " ++ escape path
+why_text why.FailedNewer path = codes "failed newer " ++ escape path
 why_text why.FailedList path = codes "failed list " ++ escape path
 why_text why.Changed path = codes "changed " ++ escape path
 why_text (why.Unnamed k) path = codes "unnamed " ++ escape path ++ 32 ∷ decimal k

@@ -5,6 +5,8 @@
 //!   in printable text. [`put_summary`] appends the line of a [`Summary`](flat_list::Summary).
 //! - [`notes_of`] makes the failure notes of a list, as many as its summary counts, and [`put_notes`] appends a line for each
 //!   [`Note`].
+//! - [`in_order`] puts notes from several places into one order, each once: in path order, of one path those of a destination
+//!   last, and then in the order of [`Why`].
 //! - [`put_trace`], [`put_shares`] and [`put_progress`] append what is told of a run: a line for each of its events, for what
 //!   each rank did, and for each count as it rose.
 //! - [`put_line`] appends a line of another kind, and [`put_path_line`] one that names a path.
@@ -16,17 +18,23 @@
 //! ```
 //!
 //! Proved: each call appends exactly the text of its definition, and one that is refused for want of memory leaves the text as
-//! it was. Definitions stand in `specs/`: `Lines` (entries and the summary), `Notes`, `Runs`.
+//! it was. Laws say that the notes of a list in path order stand in their order ([`notes_stand_in_order`]), and that notes have
+//! one order ([`order_is_unique`]), which is empty for no notes alone ([`nothing_to_order`]). Definitions stand in `specs/`:
+//! `Lines` (entries and the summary), `Notes`, `NoteOrder`, `Runs`.
 #![tactic(auto)]
 
 mod drafts;
+mod laws;
 mod listing;
 mod noting;
 mod numbers;
+mod ordering;
 mod running;
 mod texts;
 
+pub use laws::{notes_stand_in_order, nothing_to_order, order_is_unique};
 pub use noting::{Note, Why, notes_of};
+pub use ordering::in_order;
 pub use texts::{
     Text, put_line, put_list, put_notes, put_path_line, put_progress, put_shares, put_summary,
     put_trace,

@@ -12,13 +12,15 @@ use flat_list::{Entry, FlatList, Mark};
 use path_text::{OutOfMemory, Path};
 use std::alloc::Global;
 
-/// Why a path is named.
+/// Why a path is named. Of one path the notes stand in the order of these reasons.
 #[derive(Clone, Copy, Debug, Drop, PartialEq, Eq)]
 pub enum Why {
     /// Nothing is there.
     Gone,
     /// Its stat failed.
     FailedStat,
+    /// The look at it, for the time of its last change, failed.
+    FailedNewer,
     /// Its names failed.
     FailedList,
     /// It was told to be a directory, and then to be none.
@@ -125,6 +127,7 @@ fn add_why(draft: &mut Draft, why: Why, path: &Path) -> Result<(), OutOfMemory>
     match why {
         Why::Gone => add_named(draft, "gone ", path),
         Why::FailedStat => add_named(draft, "failed stat ", path),
+        Why::FailedNewer => add_named(draft, "failed newer ", path),
         Why::FailedList => add_named(draft, "failed list ", path),
         Why::Changed => add_named(draft, "changed ", path),
         Why::Unnamed(k) => add_counted(draft, "unnamed ", path, k),

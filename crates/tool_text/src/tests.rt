@@ -1,6 +1,6 @@
 //! Texts, to the byte.
 use crate::{
-    Note, Text, Why, notes_of, put_line, put_list, put_notes, put_progress, put_shares,
+    Note, Text, Why, in_order, notes_of, put_line, put_list, put_notes, put_progress, put_shares,
     put_summary, put_trace,
 };
 use circle_run::Share;
@@ -138,6 +138,54 @@ fn names_what_failed(rt: HostRuntime) -> Result<(), Fail> {
         b"no\nfailed stat /a\nchanged /b\ngone /none\nunnamed /w 3\ntoo long /w 1\ndest gone /z\n";
     assert_eq!(rt; text.bytes(), lines.as_slice());
     assert!(rt; !text.is_empty());
+    Ok(())
+}
+
+fn note(alloc: Global, path: &str, why: Why, dest: bool) -> Result<Note, Fail> {
+    Ok(Note {
+        path: Path::parse(alloc, path)?,
+        why,
+        dest,
+    })
+}
+
+#[test]
+fn puts_notes_in_order(rt: HostRuntime) -> Result<(), Fail> {
+    let alloc = rt.alloc();
+    let mut notes = Vec::new(alloc);
+    for (path, why, dest) in [
+        ("/t/b-x", Why::Gone, false),
+        ("/t/b", Why::Gone, true),
+        ("/t/b", Why::TooLong(2), false),
+        ("/t/b", Why::Unnamed(7), false),
+        ("/t/b/c", Why::FailedStat, false),
+        ("/t/b", Why::Changed, false),
+        ("/t/b", Why::FailedList, false),
+        ("/t/b", Why::Unnamed(3), false),
+        ("/t/b", Why::FailedNewer, false),
+        ("/t/b", Why::FailedStat, false),
+        ("/t/b", Why::Gone, false),
+        ("/t/b", Why::FailedNewer, false),
+        ("/a", Why::FailedNewer, true),
+        ("/t/b/c", Why::FailedStat, false),
+    ] {
+        notes.push(note(alloc, path, why, dest)?)?;
+    }
+    let lines =
+        b"dest failed newer /a\ngone /t/b\nfailed stat /t/b\nfailed newer /t/b\nfailed list /t/b\nchanged /t/b\nunnamed /t/b 3\nunnamed /t/b 7\ntoo long /t/b 2\ndest gone /t/b\nfailed stat /t/b/c\ngone /t/b-x\n";
+    for _ in 0..2 {
+        notes = in_order(notes)?;
+        let mut text = Text::make(alloc);
+        put_notes(&mut text, &notes)?;
+        assert_eq!(rt; text.bytes(), lines.as_slice());
+    }
+    Ok(())
+}
+
+#[test]
+fn no_notes_stay_none(rt: HostRuntime) -> Result<(), Fail> {
+    let notes = in_order(Vec::new(rt.alloc()))?;
+    assert!(rt; notes.is_empty());
     Ok(())
 }
 

@@ -1,0 +1,65 @@
+-- The order of notes is a total order in which only equal notes tie.
+use Rattle.std.proofs.Common.{◌≡◌, ℕ, Bool, true, false, cond, refl, sym, ◌∙◌}
+use Rattle.std.specs.Prelude.{◌==◌}
+use Rattle.std.specs.Cmp.{IsTotalOrder, Equal-is, bool_cmp_total}
+use Rattle.std.specs.FinMap.{nat_cmp-IsAntisymmetric}
+use Rattle.std.specs.Ordering.{ordering_then, nat_cmp, bool_cmp, eq_by_cmp}
+use Rattle.std.specs.declared.cmp.Ordering.{Ordering}
+use Rattle.std.specs.declared.cmp.Ordering.TheVariants.{Less, Equal, Greater}
+use Rattle.std.proofs.lemmas.Cmp.{on_total, then_total, nat_cmp_total}
+use Rattle.path_text.specs.Order.{path_cmp}
+use Rattle.path_text.specs.Total.{path_cmp_total, path_cmp_same}
+use Rattle.tool_text.specs.declared.noting.Why.{Why}
+use Rattle.tool_text.specs.declared.noting.Why.TheVariants as why
+use Rattle.tool_text.specs.declared.noting.Note.{Note}
+use Rattle.tool_text.specs.NoteOrder.{why_place, why_number, why_cmp, note_cmp}
+
+why_total : IsTotalOrder why_cmp
+why_total = then_total (on_total why_place nat_cmp_total) (on_total why_number nat_cmp_total)
+
+pub note_total : IsTotalOrder note_cmp
+note_total = then_total (on_total (λ n. n.path) path_cmp_total) (then_total (on_total (λ n. n.dest) bool_cmp_total) (on_total (λ n. n.why) why_total))
+
+both_equal : (r s : Ordering) → ordering_then r s ≡ Equal → (r ≡ Equal) × (s ≡ Equal)
+both_equal Less s e = absurd (cc e)
+both_equal Equal s e = (refl, e)
+both_equal Greater s e = absurd (cc e)
+
+-- the reason at a place, with a number
+abbrev why_at : ℕ → ℕ → Why
+why_at place k = cond (place == 0) why.Gone (cond (place == 1) why.FailedStat (cond (place == 2) why.FailedNewer (cond (place == 3) why.FailedList (cond (place == 4) why.Changed (cond (place == 5) (why.Unnamed k) (why.TooLong k))))))
+
+why_again : (w : Why) → why_at (why_place w) (why_number w) ≡ w
+why_again why.Gone = refl
+why_again why.FailedStat = refl
+why_again why.FailedNewer = refl
+why_again why.FailedList = refl
+why_again why.Changed = refl
+why_again (why.Unnamed k) = refl
+why_again (why.TooLong k) = refl
+
+why_same : (v w : Why) → why_cmp v w ≡ Equal → v ≡ w
+why_same v w e =
+    let parts = both_equal (nat_cmp (why_place v) (why_place w)) (nat_cmp (why_number v) (why_number w)) e in
+    let place = nat_cmp-IsAntisymmetric (why_place v) (why_place w) parts.0 in
+    let number = nat_cmp-IsAntisymmetric (why_number v) (why_number w) parts.1 in
+    sym (why_again v) ∙ (λ i. why_at (place i) (number i)) ∙ why_again w
+
+side_same : (a b : Bool) → bool_cmp a b ≡ Equal → a ≡ b
+side_same false false e = refl
+side_same false true e = absurd (cc e)
+side_same true false e = absurd (cc e)
+side_same true true e = refl
+
+note_same : (a b : Note) → note_cmp a b ≡ Equal → a ≡ b
+note_same a b e =
+    let in_path = ordering_then (bool_cmp a.dest b.dest) (why_cmp a.why b.why) in
+    let outer = both_equal (path_cmp a.path b.path) in_path e in
+    let inner = both_equal (bool_cmp a.dest b.dest) (why_cmp a.why b.why) outer.1 in
+    let path = path_cmp_same a.path b.path outer.0 in
+    let reason = why_same a.why b.why inner.1 in
+    let side = side_same a.dest b.dest inner.0 in
+    λ i. record { path = path i; why = reason i; dest = side i }
+
+pub only_same : (a b : Note) → eq_by_cmp note_cmp a b ≡ true → a ≡ b
+only_same a b e = note_same a b ((Equal-is (note_cmp a b)).0 e)
