@@ -1,0 +1,66 @@
+-- What the looks of a reader at paths tell, once the reader is taken back; and looks that tell of something.
+use Rattle.std.proofs.Common.{◌≡◌, ℕ, ◌<◌, ◌^◌, true, List, [], ◌∷◌, Option, Some, Result, Ok, Err, IfOk, refl, ap, ◌∙◌, sym, subst, arith}
+use Rattle.std.specs.List.{All, Contains, sum_by}
+use Rattle.std.specs.List.Sorted.{IsStrictlySortedBy}
+use Rattle.std.specs.FinMap.{get}
+use Rattle.std.specs.Option.{is_some}
+use Rattle.std.proofs.lemmas.Bool.{false≢true}
+use Rattle.std.proofs.lemmas.List.Elements.{All-nil, All-cons, All-head, All-tail, All-contains}
+use Rattle.std.proofs.lemmas.List.Sums.{get_or-le-sum_by}
+use Rattle.path_text.specs.Order.{path_cmp}
+use Rattle.outside.specs.Tree.{Files}
+use Rattle.outside.specs.Count.{RoseBy, StoodStill, capped}
+use Rattle.path_looks.specs.declared.looks.Look.{Look}
+use Rattle.path_looks.specs.declared.looks.Seen.{Seen}
+use Rattle.path_looks.specs.declared.looks.Seen.TheVariants as seen
+use Rattle.path_looks.specs.Looks.{IsSeen, AreLooks, fault_of, faults_in, paths_of, is_at, LooksWithoutFaultsAreTold}
+
+all_paths : (P : List ℕ → Type 0) (looks : List Look) → All P (paths_of looks) → All (λ l. P l.path) looks
+all_paths P [] h = All-nil (λ (l : Look). P l.path)
+all_paths P (l ∷ looks) h = All-cons (λ (l : Look). P l.path) l looks (All-head P l.path (paths_of looks) h) (all_paths P looks (All-tail P l.path (paths_of looks) h))
+
+-- the count of a reader, added to that of the files
+counted_back : (n old read new : ℕ) → RoseBy n 0 read → old < 2 ^ 64 → new ≡ capped old read → RoseBy n old new
+counted_back n old read new h l e = record { kept = omega (arith, e); rose = omega (arith, e, h.rose) }
+
+pub are_looks : (tree told : Option Files) (given each : List (List ℕ)) (looks : List Look) (old during began read new : ℕ) →
+    IsStrictlySortedBy path_cmp each → All (Contains each) given → All (Contains given) each → told ≡ tree → began ≡ 0 → old < 2 ^ 64 → during ≡ old → new ≡ capped during read →
+    paths_of looks ≡ each → All (λ l. IsSeen told l.path l.seen) looks → RoseBy (sum_by fault_of looks) began read → AreLooks tree given looks old new
+are_looks tree told given each looks old during began read new once every none_else same zero below stood back paths seen counted = record {
+  once = subst (IsStrictlySortedBy path_cmp) (sym paths) once;
+  every = subst (λ ps. All (Contains ps) given) (sym paths) every;
+  none_else = all_paths (Contains given) looks (subst (All (Contains given)) (sym paths) none_else);
+  told = subst (λ t. All (λ (l : Look). IsSeen t l.path l.seen) looks) same seen;
+  counted = counted_back (sum_by fault_of looks) old read new (subst (λ n. RoseBy (sum_by fault_of looks) n read) zero counted) below (back ∙ ap (λ n. capped n read) stood);
+}
+
+-- no path, no look
+pub no_looks : (tree : Option Files) (given : List (List ℕ)) (looks : List Look) (count : ℕ) → given ≡ [] → looks ≡ [] → AreLooks tree given looks count count
+unfolding IsStrictlySortedBy
+no_looks tree given looks count e d =
+    subst (λ ps. AreLooks tree ps looks count count) (sym e)
+    (subst (λ ls. AreLooks tree [] ls count count) (sym d) (record {
+      once = tt;
+      every = All-nil (Contains []);
+      none_else = All-nil (λ (l : Look). Contains [] l.path);
+      told = All-nil (λ (l : Look). IsSeen tree l.path l.seen);
+      counted = record { kept = omega arith; rose = omega arith };
+    }))
+
+tells : (files : Files) (path : List ℕ) (s : Seen) → is_some (get files path) ≡ true → IsSeen (Some files) path s → faults_in s ≡ 0 → is_at s ≡ true
+tells files path (seen.At mtime) there told none = refl
+tells files path seen.Absent there told none = absurd (false≢true (sym (ap is_some told) ∙ there))
+tells files path seen.Failed there told none = absurd (omega arith)
+
+none_counted : (n old new : ℕ) → RoseBy n old new → StoodStill old new → n ≡ 0
+none_counted n old new r s = omega (arith, r.rose, s.same, s.below_end)
+
+pub looks_without_faults_are_told : LooksWithoutFaultsAreTold
+looks_without_faults_are_told files paths looks old new a there still = λ k d l.
+    let none = none_counted (sum_by fault_of looks) old new a.counted still in
+    tells files _ _ (All-contains (λ path. is_some (get files path) ≡ true) paths _ there (a.none_else k d l)) (a.told k d l) (omega (arith, none, get_or-le-sum_by fault_of looks k d l))
+
+-- three facts of what a call answers together
+pub if_ok_all : {X E : Type 0} (result : Result X E) (P Q R S : X → Type 0) → ((x : X) → P x → Q x → R x → S x) → IfOk result P → IfOk result Q → IfOk result R → IfOk result S
+if_ok_all (Ok x) P Q R S f p q r = f x p q r
+if_ok_all (Err e) P Q R S f p q r = tt
