@@ -1,0 +1,4 @@
+pub mod Nodes
+pub mod Steady
+pub mod Made
+pub mod Laws

@@ -1,0 +1,30 @@
+-- The tree while it is made, node after node. Our own.
+use Rattle.std.specs.Prelude.{◌≡◌, ℕ, ◌+◌, ◌/◌, List, [], ◌∷◌, map, min, zero, suc}
+use Rattle.std.specs.List.{range_with_len}
+use Rattle.std.specs.FinMap.{from_entries}
+use Rattle.outside.specs.Tree.{Files}
+use Rattle.outside.specs.Writes.{empty_dir}
+use Rattle.files_mem.specs.Memory.{Memory}
+use Rattle.test_tree.specs.Nodes.{path_of, node_of}
+
+-- `/` and the first k of n nodes
+unfoldable pub first_files : ℕ → ℕ → Files
+first_files n k = from_entries ((47 ∷ [], empty_dir) ∷ map (λ j. (path_of j, node_of n j)) (range_with_len 0 k))
+
+-- where a node can stand: at `/`, or at the node with the number before
+abbrev pub place : ℕ → List ℕ
+place zero = 47 ∷ []
+place (suc k) = path_of k
+
+-- where node k stands
+abbrev pub place_over : ℕ → List ℕ
+place_over k = place ((k + 7) / 8)
+
+-- `/`, and the directories among the first k of n nodes
+abbrev pub places : ℕ → ℕ → List (List ℕ)
+places n k = map place (range_with_len 0 (min k ((n + 6) / 8) + 1))
+
+-- files in memory and the places in them, when the first k of n nodes are made
+pub record IsMade (n k : ℕ) (m : Memory) (dirs : List (List ℕ)) : Type 0 where
+  pub files : m ≡ record { files = first_files n k; planned = []; count = 0 }
+  pub kept : dirs ≡ places n k

@@ -1,0 +1,22 @@
+//! Laws of the made-up tree, each the contract of a function that does nothing.
+ghost use Rattle.test_tree.specs.Laws.{FirstNodeIsThere, TestFilesAreTree, NoChildIsFar, NodesAreCounted};
+
+/// Node 0 is there, at `/n0`.
+pub fn first_node_is_there()
+    ensures { FirstNodeIsThere }
+{}
+
+/// What is made is a tree: each node stands in a directory, at a valid path.
+pub fn test_files_are_tree()
+    ensures { TestFilesAreTree }
+{}
+
+/// No directory has a child whose path is too long.
+pub fn no_child_is_far()
+    ensures { NoChildIsFar }
+{}
+
+/// The paths are as many as the nodes, and `/`.
+pub fn nodes_are_counted()
+    ensures { NodesAreCounted }
+{}
