@@ -4,14 +4,14 @@ use Rattle.std.specs.Prelude.{Result, Ok, Err}
 use Rattle.std.specs.List.{drop-map}
 use Rattle.tool_words.specs.declared.errors.WordsError.{WordsError}
 use Rattle.tool_words.specs.declared.errors.WordsError.TheVariants.{OutOfMemory}
-use Rattle.tool_words.specs.declared.settings.Settings.{Settings}
 use Rattle.tool_words.specs.declared.tables.Tool.{Tool}
+use Rattle.tool_words.specs.declared.tables.Tool.TheVariants as tool
 use Rattle.tool_words.specs.declared.tables.OptionName.{OptionName}
 use Rattle.tool_words.specs.declared.turns.Turn.{Turn}
 use Rattle.tool_words.specs.declared.turns.Turn.TheVariants as turn
-use Rattle.tool_words.specs.Value.{path_in}
-use Rattle.tool_words.specs.Table.{tool_named, option_named, set, raise}
-use Rattle.tool_words.specs.Words.{ends_options, is_option, name_in, value_in, Given, nothing, with_path, with_settings, with_flag, with_value, was_given, with_option, with_word, at_end, and_then, with_words, walk_by, walk_of, reading_for, reading}
+use Rattle.tool_words.specs.Value.{number_in, path_in}
+use Rattle.tool_words.specs.Table.{tool_named, option_named, Set, set, raise}
+use Rattle.tool_words.specs.Words.{ends_options, is_option, name_in, value_in, Given, nothing, with_path, with_number, with_plain, with_settings, with_flag, with_value, is_repeated, with_option, with_word, at_end, and_then, with_words, Choice, choice_of, list_by, made_by, asked_of, if_given, reading_for, reading}
 
 -- the words before a place gave this
 pub record Read (tool : Tool) (words : List (List ℕ)) (at : ℕ) (given : Given) : Type 0 where
@@ -57,11 +57,20 @@ path_never : (given : Given) (place : ℕ) (path : Option (List ℕ)) → Never 
 path_never given place (Some path) e = cc
 path_never given place None e = cc
 
-settings_never : (given : Given) (place : ℕ) (settings : Option Settings) → Never (with_settings given place settings)
+number_never : (given : Given) (place : ℕ) (number : Option ℕ) → Never (with_number given place number)
+number_never given place (Some n) e = cc
+number_never given place None e = cc
+
+plain_never : (tool : Tool) (given : Given) (place : ℕ) (word : List ℕ) → Never (with_plain tool given place word)
+plain_never tool.Walk given place word = path_never given place (path_in word)
+plain_never tool.Find given place word = path_never given place (path_in word)
+plain_never tool.Test given place word = number_never given place (number_in 1 1000000 word)
+
+settings_never : (given : Given) (place : ℕ) (settings : Option Set) → Never (with_settings given place settings)
 settings_never given place (Some settings) e = cc
 settings_never given place None e = cc
 
-flag_never : (given : Given) (place : ℕ) (option : OptionName) (settings : Option Settings) → Never (with_flag given place option settings)
+flag_never : (given : Given) (place : ℕ) (option : OptionName) (settings : Option Set) → Never (with_flag given place option settings)
 flag_never given place option (Some settings) e = cc
 flag_never given place option None e = cc
 
@@ -71,19 +80,19 @@ value_never given place option None e = flag_never given place option (raise opt
 
 option_never : (given : Given) (place : ℕ) (option : Option OptionName) (value : Option (List ℕ)) → Never (with_option given place option value)
 option_never given place None value e = cc
-option_never given place (Some option) value e = either (was_given option given.options) _ _ (λ e. cc) (value_never (record given { options = given.options ++ option ∷ [] }) place option value) e
+option_never given place (Some option) value e = either (is_repeated option given.options) _ _ (λ e. cc) (value_never (record given { options = given.options ++ option ∷ [] }) place option value) e
 
 word_never : (tool : Tool) (next : Turn) (given : Given) (place : ℕ) (word : List ℕ) → Never (with_word tool next given place word)
 word_never tool turn.Any given place word =
     either (ends_options word) _ _ (λ e. cc)
-    (either (is_option word) _ _ (option_never given place (option_named tool (name_in word)) (value_in word)) (path_never given place (path_in word)))
+    (either (is_option word) _ _ (option_never given place (option_named tool (name_in word)) (value_in word)) (plain_never tool given place word))
 word_never tool (turn.Value option at) given place word = settings_never given place (set option word given.settings)
-word_never tool turn.Path given place word = path_never given place (path_in word)
+word_never tool turn.Plain given place word = plain_never tool given place word
 
 end_never : (next : Turn) (given : Given) → Never (at_end next given)
 end_never turn.Any given e = cc
 end_never (turn.Value option place) given e = cc
-end_never turn.Path given e = cc
+end_never turn.Plain given e = cc
 
 then_never : (r : Result Given WordsError) (next : Given → Result Given WordsError) → Never r → ((given : Given) → Never (next given)) → Never (and_then r next)
 then_never (Ok given) next p q e = q given e
@@ -93,19 +102,32 @@ words_never : (tool : Tool) (place : ℕ) (words : List (List ℕ)) (given : Giv
 words_never tool place [] given = end_never given.next given
 words_never tool place (word ∷ words) given = then_never (with_word tool given.next given place word) _ (word_never tool given.next given place word) (words_never tool (place + 1) words)
 
-by_never : (wanting : ℕ) (s : Settings) (input : Option (List ℕ)) (paths : List (List ℕ)) (places : List ℕ) → Never (walk_by wanting s input paths places)
-by_never wanting s None [] places e = cc
-by_never wanting s None (path ∷ paths) places e = cc
-by_never wanting s (Some file) paths [] e = cc
-by_never wanting s (Some file) paths (place ∷ places) e = cc
+list_never : (wanting : ℕ) (s : Set) (chosen : Option Choice) (input : Option (List ℕ)) (paths : List (List ℕ)) (places : List ℕ) → Never (list_by wanting s chosen input paths places)
+list_never wanting s chosen None [] places e = cc
+list_never wanting s chosen None (path ∷ paths) places e = cc
+list_never wanting s chosen (Some file) paths [] e = cc
+list_never wanting s chosen (Some file) paths (place ∷ places) e = cc
 
-walk_never : (wanting : ℕ) (r : Result Given WordsError) → Never r → Never (walk_of wanting r)
-walk_never wanting (Ok given) p e = by_never wanting given.settings given.settings.input given.paths given.places e
-walk_never wanting (Err f) p e = p (cc)
+made_never : (wanting : ℕ) (s : Set) (chosen : Option Choice) (numbers places : List ℕ) → Never (made_by wanting s chosen numbers places)
+made_never wanting s chosen [] [] e = cc
+made_never wanting s chosen (n ∷ numbers) [] e = cc
+made_never wanting s chosen [] (place ∷ []) e = cc
+made_never wanting s chosen (n ∷ numbers) (place ∷ []) e = cc
+made_never wanting s chosen [] (place ∷ another ∷ places) e = cc
+made_never wanting s chosen (n ∷ numbers) (place ∷ another ∷ places) e = cc
+
+asked_never : (wanting : ℕ) (tool : Tool) (given : Given) → Never (asked_of wanting tool given)
+asked_never wanting tool.Walk given = list_never wanting given.settings None given.settings.input given.paths given.places
+asked_never wanting tool.Find given = list_never wanting given.settings (Some (choice_of given.settings)) given.settings.input given.paths given.places
+asked_never wanting tool.Test given = made_never wanting given.settings (Some (choice_of given.settings)) given.numbers given.places
+
+given_never : (wanting : ℕ) (tool : Tool) (r : Result Given WordsError) → Never r → Never (if_given wanting tool r)
+given_never wanting tool (Ok given) p e = asked_never wanting tool given e
+given_never wanting tool (Err f) p e = p (cc)
 
 tool_never : (tool : Option Tool) (words : List (List ℕ)) → Never (reading_for tool words)
 tool_never None words e = cc
-tool_never (Some tool) words e = walk_never (length words + 1) (with_words tool 1 words nothing) (words_never tool 1 words nothing) e
+tool_never (Some tool) words e = given_never (length words + 1) tool (with_words tool 1 words nothing) (words_never tool 1 words nothing) e
 
 pub never_memory : (words : List (List ℕ)) → Never (reading words)
 never_memory [] e = cc

@@ -1,17 +1,23 @@
--- The tools and their options: how each option is written, and what its value sets. Names of options are those of mpiFileUtils' dwalk and of libcircle, as far as these have them.
-use Rattle.std.specs.Prelude.{ℕ, ◌-◌, ◌^◌, true, List, [], ◌∷◌, false, if◌then◌else◌, codes, find, Option, Some, None}
+-- The tools and their options: how each option is written, and what its value sets. Names of options are those of mpiFileUtils' dwalk and dfind and of libcircle, as far as these have them.
+use Rattle.std.specs.Prelude.{ℕ, ◌-◌, ◌^◌, Bool, true, List, [], ◌∷◌, ◌++◌, false, if◌then◌else◌, codes, find, Option, Some, None}
 use Rattle.std.specs.Option.{option_map}
 use Rattle.circle_run.specs.declared.settings.Split.TheVariants.{Equal}
 use Rattle.tool_words.specs.declared.commands.Common.{Common}
-use Rattle.tool_words.specs.declared.settings.Settings.{Settings}
+use Rattle.flat_list.specs.declared.ordering.Field.{Field}
+use Rattle.find_tests.specs.declared.testing.Test.{Test}
+use Rattle.find_tests.specs.declared.testing.TestName.TheVariants as name
 use Rattle.tool_words.specs.declared.tables.Tool.{Tool}
 use Rattle.tool_words.specs.declared.tables.Tool.TheVariants as tool
 use Rattle.tool_words.specs.declared.tables.OptionName.{OptionName}
 use Rattle.tool_words.specs.declared.tables.OptionName.TheVariants as option
-use Rattle.tool_words.specs.Value.{is, number_in, split_in, path_in, order_in}
+use Rattle.tool_words.specs.Value.{is, number_in, split_in, path_in, order_in, test_in}
 
 abbrev pub tool_named : List ℕ → Option Tool
-tool_named text = if is (codes "dwalk") text then Some tool.Walk else None
+tool_named text =
+    if is (codes "dwalk") text then Some tool.Walk
+    else if is (codes "dfind") text then Some tool.Find
+    else if is (codes "dtest") text then Some tool.Test
+    else None
 
 -- how an option is written
 unfoldable pub text_of : OptionName → List ℕ
@@ -26,12 +32,26 @@ text_of option.Progress = codes "--progress"
 text_of option.Sort = codes "--sort"
 text_of option.Input = codes "--input"
 text_of option.Output = codes "--output"
+text_of (option.Test name.Name) = codes "--name"
+text_of (option.Test name.Path) = codes "--path"
+text_of (option.Test name.Kind) = codes "--type"
+text_of (option.Test name.Size) = codes "--size"
+text_of (option.Test name.Days) = codes "--mtime"
+text_of (option.Test name.Minutes) = codes "--mmin"
+text_of option.Newer = codes "--newer"
 
--- the options of a tool
+-- the options of a tool: how a walk is to go, and what is told of it; then where its list comes from, in which order it is printed, and where it is saved; and the tests
 abbrev pub options_of : Tool → List OptionName
 options_of tool.Walk =
     option.Ranks ∷ option.Hosts ∷ option.Split ∷ option.Seed ∷ option.Width ∷ option.Trace ∷ option.Shares ∷ option.Progress
     ∷ option.Sort ∷ option.Input ∷ option.Output ∷ []
+options_of tool.Find =
+    option.Ranks ∷ option.Hosts ∷ option.Split ∷ option.Seed ∷ option.Width ∷ option.Trace ∷ option.Shares ∷ option.Progress
+    ∷ option.Sort ∷ option.Input ∷ option.Output
+    ∷ option.Test name.Name ∷ option.Test name.Path ∷ option.Test name.Kind ∷ option.Test name.Size ∷ option.Test name.Days ∷ option.Test name.Minutes ∷ option.Newer ∷ []
+options_of tool.Test =
+    option.Ranks ∷ option.Hosts ∷ option.Split ∷ option.Seed ∷ option.Width ∷ option.Trace ∷ option.Shares ∷ option.Progress
+    ∷ option.Test name.Name ∷ option.Test name.Path ∷ option.Test name.Kind ∷ option.Test name.Size ∷ option.Test name.Days ∷ option.Test name.Minutes ∷ option.Newer ∷ []
 
 -- the option of the tool that is written so
 abbrev pub option_named : Tool → List ℕ → Option OptionName
@@ -41,11 +61,26 @@ option_named tool text = find (λ o. is (text_of o) text) (options_of tool)
 abbrev pub standard : Common
 standard = record { ranks = 4; hosts = 1; split = Equal; seed = 0; width = 64; trace = false; shares = false; progress = false }
 
-abbrev pub unset : Settings
-unset = record { common = standard; sort = None; input = None; output = None }
+-- what options set: how a walk is to go, the order, the files, the tests, and the paths of `--newer`
+pub record Set : Type 0 where
+  pub common : Common
+  pub sort : Option (Field × Bool)
+  pub input : Option (List ℕ)
+  pub output : Option (List ℕ)
+  pub tests : List Test
+  pub newer : List (List ℕ)
 
--- the settings after an option with this text as its value, if the text is one; a flag has no value
-abbrev pub set : OptionName → List ℕ → Settings → Option Settings
+abbrev pub unset : Set
+unset = record { common = standard; sort = None; input = None; output = None; tests = []; newer = [] }
+
+-- tests add up, and so do the paths of `--newer`; every other option is given once
+abbrev pub adds_up : OptionName → Bool
+adds_up (option.Test _) = true
+adds_up option.Newer = true
+adds_up _ = false
+
+-- what is set after an option with this text as its value, if the text is one; a flag has no value
+abbrev pub set : OptionName → List ℕ → Set → Option Set
 set option.Ranks text s = option_map (λ n. record s { common = record s.common { ranks = n } }) (number_in 1 64 text)
 set option.Hosts text s = option_map (λ n. record s { common = record s.common { hosts = n } }) (number_in 1 1 text)
 set option.Split text s = option_map (λ split. record s { common = record s.common { split = split } }) (split_in text)
@@ -57,9 +92,11 @@ set option.Progress text s = None
 set option.Sort text s = option_map (λ order. record s { sort = Some order }) (order_in text)
 set option.Input text s = option_map (λ path. record s { input = Some path }) (path_in text)
 set option.Output text s = option_map (λ path. record s { output = Some path }) (path_in text)
+set (option.Test name) text s = option_map (λ test. record s { tests = s.tests ++ test ∷ [] }) (test_in name text)
+set option.Newer text s = option_map (λ path. record s { newer = s.newer ++ path ∷ [] }) (path_in text)
 
--- the settings after a flag; the other options have a value
-abbrev pub raise : OptionName → Settings → Option Settings
+-- what is set after a flag; the other options have a value
+abbrev pub raise : OptionName → Set → Option Set
 raise option.Trace s = Some (record s { common = record s.common { trace = true } })
 raise option.Shares s = Some (record s { common = record s.common { shares = true } })
 raise option.Progress s = Some (record s { common = record s.common { progress = true } })

@@ -1,5 +1,5 @@
--- What the words of a command line mean as values: numbers, splits, paths and orders. The names of fields are those of mpiFileUtils' dwalk; how a path word is read is our own.
-use Rattle.std.specs.Prelude.{ℕ, Bool, true, false, ◌&&◌, List, [], ◌∷◌, length, drop, if◌then◌else◌, ◌==◌, nat_eq, nat_le, slice_index, codes, Option, Some, None, is_none}
+-- What the words of a command line mean as values: numbers, splits, paths, orders and tests. The names of fields are those of mpiFileUtils' dwalk; how a path word is read is our own.
+use Rattle.std.specs.Prelude.{ℕ, Bool, true, false, ◌&&◌, List, [], ◌∷◌, length, drop, if◌then◌else◌, ◌==◌, nat_eq, nat_le, slice_index, codes, Option, Some, None, is_none, Result, Ok, Err}
 use Rattle.std.specs.Char.{is_ascii_digit}
 use Rattle.std.specs.List.{list_all}
 use Rattle.std.specs.Str.Parse.{digits_value}
@@ -10,6 +10,10 @@ use Rattle.circle_run.specs.declared.settings.Split.{Split}
 use Rattle.circle_run.specs.declared.settings.Split.TheVariants as split
 use Rattle.flat_list.specs.declared.ordering.Field.{Field}
 use Rattle.flat_list.specs.declared.ordering.Field.TheVariants as field
+use Rattle.find_tests.specs.declared.errors.TestError.{TestError}
+use Rattle.find_tests.specs.declared.testing.Test.{Test}
+use Rattle.find_tests.specs.declared.testing.TestName.{TestName}
+use Rattle.find_tests.specs.Tests.{test_reading}
 
 -- the text is this word
 abbrev pub is : List ℕ → List ℕ → Bool
@@ -55,3 +59,11 @@ abbrev pub order_in : List ℕ → Option (Field × Bool)
 order_in text =
     if slice_index text 0 == 45 then option_map (λ f. (f, true)) (field_in (drop 1 text))
     else option_map (λ f. (f, false)) (field_in text)
+
+-- the test that a text says, if it says one
+abbrev pub if_test : Result Test TestError → Option Test
+if_test (Ok test) = Some test
+if_test (Err e) = None
+
+abbrev pub test_in : TestName → List ℕ → Option Test
+test_in name text = if_test (test_reading name text)

@@ -1,5 +1,6 @@
 //! What a command line asks for.
 use circle_run::Split;
+use find_tests::Test;
 use flat_list::Field;
 use path_text::Path;
 
@@ -54,6 +55,15 @@ pub enum Start {
     Input(Path),
 }
 
+/// What is chosen of a list.
+#[derive(Debug, Drop)]
+pub struct Tests {
+    /// What meets all of these.
+    pub tests: Vec<Test>,
+    /// And has changed after each of these paths, which may stand twice.
+    pub newer: Vec<Path>,
+}
+
 /// What a command line asks for.
 #[derive(Debug, Drop)]
 pub enum Command {
@@ -67,5 +77,27 @@ pub enum Command {
         sort: Option<(Field, bool)>,
         /// The file that the list is written to.
         output: Option<Path>,
+    },
+    /// The same of what is chosen alone.
+    Find {
+        /// How the walk is to go.
+        common: Common,
+        /// Where it starts.
+        start: Start,
+        /// What is chosen.
+        tests: Tests,
+        /// The field that the list is sorted by, and whether downwards.
+        sort: Option<(Field, bool)>,
+        /// The file that what is chosen is written to.
+        output: Option<Path>,
+    },
+    /// A walk of a made-up tree, and the summary of what is chosen.
+    Test {
+        /// How the walk is to go.
+        common: Common,
+        /// How many nodes the tree has.
+        nodes: u64,
+        /// What is chosen.
+        tests: Tests,
     },
 }

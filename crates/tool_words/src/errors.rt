@@ -17,13 +17,13 @@ pub enum WordsError {
     /// No value stands behind the option, which is the last word.
     #[error("refused word {0} no value")]
     NoValue(usize),
-    /// The word, or its part behind `=`, is no value of the option, or is no path.
+    /// The word, or its part behind `=`, is no value of the option, or is no path or number of nodes.
     #[error("refused word {0} bad value")]
     BadValue(usize),
-    /// A path is wanting behind the last word.
+    /// A path, or the number of nodes, is wanting behind the last word.
     #[error("refused word {0} no path")]
     NoPath(usize),
-    /// The word is the first path that is one too many.
+    /// The word is the first path, or number of nodes, that is one too many.
     #[error("refused word {0} too many paths")]
     TooManyPaths(usize),
     /// The option was given before.

@@ -1,7 +1,13 @@
 //! The words of a command line: what they ask for, or which of them is refused.
 //!
-//! [`read_words`] reads the words behind the program's name, of which word 0 names a tool, and gives a [`Command`]. For now
-//! the one tool is `dwalk`. It takes paths, one or more, and these options:
+//! [`read_words`] reads the words behind the program's name, of which word 0 names a tool, and gives a [`Command`]. There are
+//! three tools:
+//!
+//! - `dwalk` lists what stands below paths, one or more, or reads the list from a file.
+//! - `dfind` does the same, and keeps what meets all tests.
+//! - `dtest` walks a made-up tree, and sums up what meets all tests. It takes one number, of nodes, 1 to 1,000,000.
+//!
+//! Each takes options. These are of all three:
 //!
 //! | Option | Value | Without it |
 //! |---|---|---|
@@ -11,40 +17,66 @@
 //! | `--seed` | what the lots are drawn from, a number below 2^64 | 0 |
 //! | `--width` | how many ranks report their counts to one, 2 to 64 | 64 |
 //! | `--trace`, `--shares`, `--progress` | none: they are flags | off |
+//!
+//! These are of `dwalk` and `dfind`:
+//!
+//! | Option | Value | Without it |
+//! |---|---|---|
 //! | `--sort` | `path`, `name`, `size`, `mtime` or `kind`, or one of these behind `-`: downwards | path order |
 //! | `--input` | the file to read the list from; there is no path then | the paths are walked |
 //! | `--output` | the file to write the list to | none is written |
 //!
-//! A value stands behind the first `=` or is the next word, whatever that is. An option is given once. A number has 1 to 40
-//! decimal digits, the first of which may be 0. A path may have `/` at its end, which is left out. The word `--` ends the
-//! options: each later word is a path, whatever it begins with.
+//! And these are the tests of `dfind` and `dtest`. Where there is none, everything is kept:
+//!
+//! | Option | Value |
+//! |---|---|
+//! | `--name`, `--path` | a glob for the last name, or for the whole path |
+//! | `--type` | `f`, `d`, `l` or `o`: a file, a directory, a link, or something else |
+//! | `--size` | a bound on the bytes; behind its digits may stand `B`, `k`, `M` or `G` |
+//! | `--mtime`, `--mmin` | a bound on the age in days, or in minutes |
+//! | `--newer` | a path, after which it is to have changed |
+//!
+//! A bound is `N`, `+N` or `-N`: equal to N, greater, or less.
+//!
+//! A value stands behind the first `=` or is the next word, whatever that is. Tests add up, also where an option says two of
+//! them; every other option is given once. A number has 1 to 40 decimal digits, the first of which may be 0. A path may have
+//! `/` at its end, which is left out. The word `--` ends the options: each later word is a path, or a number for `dtest`,
+//! whatever it begins with.
 //!
 //! ```text
-//! dwalk /t/b /t/                // walks `/t/b` and `/t`
-//! dwalk --sort -size -- /-x     // walks `/-x`, the largest first
-//! dwalk --x /t                  // UnknownOption(1)
-//! dwalk /t /t/../a              // BadValue(2)
-//! dwalk /t --sort               // NoValue(2)
-//! dwalk --trace=1 /t            // BadValue(1)
-//! dwalk --sort=size --sort x    // Clash(2)
-//! dwalk --input /l /t           // TooManyPaths(3)
-//! dwalk --                      // NoPath(2)
+//! dwalk /t/b /t/                        // walks `/t/b` and `/t`
+//! dwalk --sort -size -- /-x             // walks `/-x`, the largest first
+//! dfind --name *.log --size +10M /t     // of `/t` the logs above 10 MB
+//! dfind --mtime +1 --mtime -7 /t        // what is two to six days old
+//! dfind --input /l --newer /stamp       // of the list in `/l` what changed after `/stamp`
+//! dtest --type d 100000                 // the directories of a tree of 100,000 nodes
+//! dwalk --x /t                          // UnknownOption(1)
+//! dwalk --name x /t                     // UnknownOption(1)
+//! dwalk /t /t/../a                      // BadValue(2)
+//! dfind /t --size 2x                    // BadValue(3)
+//! dtest 1000001                         // BadValue(1)
+//! dwalk /t --sort                       // NoValue(2)
+//! dwalk --trace=1 /t                    // BadValue(1)
+//! dwalk --sort=size --sort x            // Clash(2)
+//! dwalk --input /l /t                   // TooManyPaths(3)
+//! dtest 10 20                           // TooManyPaths(2)
+//! dwalk --                              // NoPath(2)
 //! ```
 //!
-//! The words are read from left to right, and the first offence is the answer, with the number of its word; that paths are
-//! wanting or too many is told after the last word.
+//! The words are read from left to right, and the first offence is the answer, with the number of its word; that paths or
+//! numbers are wanting or too many is told after the last word.
 //!
 //! # Parts
 //!
 //! A tool and an option are each one line of a table in `specs/Table.antt` (how it is written, what its value sets), and one
 //! arm in `tables` and in `settings`. `specs/Value.antt` and `values` say which texts are values, `specs/Words.antt` and
-//! `lines` how words are read one by one.
+//! `lines` how words are read one by one. What a test's value says is `find_tests`'.
 //!
 //! # What is proved
 //!
 //! The answer is the command or the refusal that the grammar in `specs/Words.antt` gives, for every list of words. Beside
-//! that only memory can be wanting. No word is copied but the paths that the command keeps. What words ask for is within
-//! the limits that a run takes ([`words_ask_within_limits`]).
+//! that only memory can be wanting. No word is copied but the paths and the globs that the command keeps. What words ask for
+//! is within the limits that a run takes ([`words_ask_within_limits`]).
 #![tactic(auto)]
 
 mod commands;
@@ -58,7 +90,7 @@ mod trimming;
 mod turns;
 mod values;
 
-pub use commands::{Command, Common, Start};
+pub use commands::{Command, Common, Start, Tests};
 pub use errors::WordsError;
 pub use laws::words_ask_within_limits;
 pub use reading::read_words;

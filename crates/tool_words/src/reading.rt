@@ -23,9 +23,7 @@ pub fn read_words(alloc: Global, words: &[String]) -> Result<Command, WordsError
         return Err(WordsError::UnknownTool(0));
     };
     let line = read_line(alloc, tool, behind)?;
-    match tool {
-        Tool::Walk => line.walk(words.len()),
-    }
+    line.command(tool, words.len())
 }
 
 // What the words behind the tool give, of which the first is word 1.

@@ -6,10 +6,12 @@ ghost use Rattle.tool_words.specs.Table.{unset, set, raise};
 use crate::commands::Common;
 use crate::errors::WordsError;
 use crate::tables::OptionName;
-use crate::values::{number_in, order_in, path_in, small_number_in, split_in};
+use crate::values::{number_in, order_in, path_in, small_number_in, split_in, test_in};
+use find_tests::Test;
 use flat_list::Field;
 use path_text::Path;
 use std::alloc::Global;
+use std::marker::Model;
 
 /// What the options set, whatever the tool.
 #[derive(Debug, Drop)]
@@ -18,11 +20,21 @@ pub(crate) struct Settings {
     pub(crate) sort: Option<(Field, bool)>,
     pub(crate) input: Option<Path>,
     pub(crate) output: Option<Path>,
+    pub(crate) tests: Vec<Test>,
+    pub(crate) newer: Vec<Path>,
+}
+
+impl Model for Settings {
+    ghost use Rattle.tool_words.specs.Table.{Set};
+
+    ghost Value = { Set };
+
+    ghost view = { λ s. record { common = s.common; sort = s.sort; input = s.input; output = s.output; tests = s.tests.items; newer = s.newer.items } };
 }
 
 impl Settings {
     /// What stands where no option was given.
-    pub(crate) const fn unset() -> Settings
+    pub(crate) fn unset(alloc: Global) -> Settings
         ensures { result ≡ unset }
     {
         Settings {
@@ -30,6 +42,8 @@ impl Settings {
             sort: None,
             input: None,
             output: None,
+            tests: Vec::new(alloc),
+            newer: Vec::new(alloc),
         }
     }
 
@@ -55,6 +69,8 @@ impl Settings {
             OptionName::Sort => self.sort = Some(order_in(text).ok_or(bad)?),
             OptionName::Input => self.input = Some(path_in(alloc, text, place)?),
             OptionName::Output => self.output = Some(path_in(alloc, text, place)?),
+            OptionName::Test(name) => self.tests.push(test_in(alloc, name, text, place)?)?,
+            OptionName::Newer => self.newer.push(path_in(alloc, text, place)?)?,
         }
         Ok(())
     }

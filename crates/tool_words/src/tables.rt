@@ -1,13 +1,19 @@
 //! The tools and their options, by how they are written.
 ghost use Rattle.std.specs.Prelude.{◌≡◌, find};
 ghost use Rattle.tool_words.specs.Value.{is};
-ghost use Rattle.tool_words.specs.Table.{tool_named, text_of, options_of, option_named};
+ghost use Rattle.tool_words.specs.Table.{tool_named, text_of, options_of, option_named, adds_up};
+
+use find_tests::TestName;
 
 /// A tool.
 #[derive(Clone, Copy, Debug, Drop, PartialEq, Eq)]
 pub(crate) enum Tool {
     /// `dwalk`
     Walk,
+    /// `dfind`
+    Find,
+    /// `dtest`
+    Test,
 }
 
 impl Tool {
@@ -17,6 +23,8 @@ impl Tool {
     {
         match text {
             "dwalk" => Some(Tool::Walk),
+            "dfind" => Some(Tool::Find),
+            "dtest" => Some(Tool::Test),
             _ => None,
         }
     }
@@ -37,6 +45,43 @@ impl Tool {
                 OptionName::Sort,
                 OptionName::Input,
                 OptionName::Output,
+            ],
+            Tool::Find => &[
+                OptionName::Ranks,
+                OptionName::Hosts,
+                OptionName::Split,
+                OptionName::Seed,
+                OptionName::Width,
+                OptionName::Trace,
+                OptionName::Shares,
+                OptionName::Progress,
+                OptionName::Sort,
+                OptionName::Input,
+                OptionName::Output,
+                OptionName::Test(TestName::Name),
+                OptionName::Test(TestName::Path),
+                OptionName::Test(TestName::Kind),
+                OptionName::Test(TestName::Size),
+                OptionName::Test(TestName::Days),
+                OptionName::Test(TestName::Minutes),
+                OptionName::Newer,
+            ],
+            Tool::Test => &[
+                OptionName::Ranks,
+                OptionName::Hosts,
+                OptionName::Split,
+                OptionName::Seed,
+                OptionName::Width,
+                OptionName::Trace,
+                OptionName::Shares,
+                OptionName::Progress,
+                OptionName::Test(TestName::Name),
+                OptionName::Test(TestName::Path),
+                OptionName::Test(TestName::Kind),
+                OptionName::Test(TestName::Size),
+                OptionName::Test(TestName::Days),
+                OptionName::Test(TestName::Minutes),
+                OptionName::Newer,
             ],
         }
     }
@@ -69,6 +114,8 @@ pub(crate) enum OptionName {
     Sort,
     Input,
     Output,
+    Test(TestName),
+    Newer,
 }
 
 impl OptionName {
@@ -89,6 +136,20 @@ impl OptionName {
             OptionName::Sort => "--sort",
             OptionName::Input => "--input",
             OptionName::Output => "--output",
+            OptionName::Test(TestName::Name) => "--name",
+            OptionName::Test(TestName::Path) => "--path",
+            OptionName::Test(TestName::Kind) => "--type",
+            OptionName::Test(TestName::Size) => "--size",
+            OptionName::Test(TestName::Days) => "--mtime",
+            OptionName::Test(TestName::Minutes) => "--mmin",
+            OptionName::Newer => "--newer",
         }
+    }
+
+    /// Whether it may be given again, since what it says adds up.
+    pub(crate) fn adds_up(self) -> bool
+        ensures { result ≡ adds_up self }
+    {
+        matches!(self, OptionName::Test(_) | OptionName::Newer)
     }
 }

@@ -1,9 +1,11 @@
 //! Command lines and what they are read as.
-use crate::{Command, Common, Start, WordsError, read_words};
+use crate::{Command, Common, Start, Tests, WordsError, read_words};
 use circle_run::Split;
+use find_tests::{Bound, Test, glob_match};
 use flat_list::Field;
 use path_text::Path;
 use std::alloc::{AllocError, Global};
+use std::process::Abort;
 use std::test::Fail;
 
 fn line_of(alloc: Global, words: &[&str]) -> Result<Vec<String>, AllocError> {
@@ -34,7 +36,9 @@ fn paths_of_command_lines(rt: HostRuntime) -> Result<(), Fail> {
     ];
     for (words, paths) in lines {
         let line = line_of(rt.alloc(), words)?;
-        let Command::Walk { common, start, .. } = read_words(rt.alloc(), &line)?;
+        let Command::Walk { common, start, .. } = read_words(rt.alloc(), &line)? else {
+            return Err(Fail::new("a walk was asked for"));
+        };
         assert!(rt; common == Common::standard());
         let Start::Roots(roots) = start else {
             return Err(Fail::new("a walk of roots was asked for"));
@@ -119,7 +123,9 @@ fn runs_of_command_lines(rt: HostRuntime) -> Result<(), Fail> {
     ];
     for (words, wanted) in lines {
         let line = line_of(rt.alloc(), words)?;
-        let Command::Walk { common, .. } = read_words(rt.alloc(), &line)?;
+        let Command::Walk { common, .. } = read_words(rt.alloc(), &line)? else {
+            return Err(Fail::new("a walk was asked for"));
+        };
         assert!(rt; common == wanted, "{words:?}");
     }
     Ok(())
@@ -207,7 +213,10 @@ fn lists_of_command_lines(rt: HostRuntime) -> Result<(), Fail> {
             sort,
             output,
             ..
-        } = read_words(rt.alloc(), &line)?;
+        } = read_words(rt.alloc(), &line)?
+        else {
+            return Err(Fail::new("a walk was asked for"));
+        };
         let input = match start {
             Start::Roots(_) => None,
             Start::Input(file) => Some(file),
@@ -224,7 +233,7 @@ fn refused_command_lines(rt: HostRuntime) -> Result<(), Fail> {
         (&[], WordsError::NoTool(0)),
         (&["dwalk"], WordsError::NoPath(1)),
         (&[""], WordsError::UnknownTool(0)),
-        (&["dfind", "/t"], WordsError::UnknownTool(0)),
+        (&["dcp", "/t"], WordsError::UnknownTool(0)),
         (&["dwalk", "--x", "/t"], WordsError::UnknownOption(1)),
         (&["dwalk", "/t", "-x"], WordsError::UnknownOption(2)),
         (&["dwalk", "--=", "/t"], WordsError::UnknownOption(1)),
@@ -277,4 +286,235 @@ fn what_stands_without_options(rt: HostRuntime) {
         (common.trace, common.shares, common.progress),
         (false, false, false)
     );
+}
+
+// What a test asks for: of a glob whether it matches a name, else the bound.
+fn said(test: &Test) -> (&'static str, Option<Bound>) {
+    match test {
+        Test::Name(glob) if glob_match(glob, "x.log") => ("name of x.log", None),
+        Test::Name(_) => ("another name", None),
+        Test::Path(glob) if glob_match(glob, "/u/x.log") => ("path of /u/x.log", None),
+        Test::Path(_) => ("another path", None),
+        Test::Kind(_) => ("kind", None),
+        Test::Size(bound) => ("size", Some(*bound)),
+        Test::Days(bound) => ("days", Some(*bound)),
+        Test::Minutes(bound) => ("minutes", Some(*bound)),
+        Test::Newer(_) => ("newer", None),
+    }
+}
+
+// Whether these are the tests and the paths of `--newer`.
+fn has_tests(
+    rt: &impl Abort,
+    words: &[&str],
+    found: &Tests,
+    tests: &[(&str, Option<Bound>)],
+    newer: &[&str],
+) {
+    assert_eq!(rt; found.tests.len(), tests.len(), "{words:?}");
+    for (test, (name, bound)) in found.tests.iter().zip(tests) {
+        let (told, limit) = said(test);
+        assert_eq!(rt; told, *name, "{words:?}");
+        assert!(rt; limit == *bound, "{words:?}");
+    }
+    assert_eq!(rt; found.newer.len(), newer.len(), "{words:?}");
+    for (path, text) in found.newer.iter().zip(newer) {
+        assert_eq!(rt; path.text(), *text, "{words:?}");
+    }
+}
+
+// Lines of dfind, the tests and the paths of `--newer` that they give.
+static FINDS: [(&[&str], &[(&str, Option<Bound>)], &[&str]); 7] = [
+    (&["dfind", "/t"], &[], &[]),
+    (
+        &[
+            "dfind", "--name", "*.log", "--size", "+10M", "--mtime", "+30", "/t",
+        ],
+        &[
+            ("name of x.log", None),
+            ("size", Some(Bound::More(10485760))),
+            ("days", Some(Bound::More(30))),
+        ],
+        &[],
+    ),
+    (
+        &["dfind", "--size=-1", "/t"],
+        &[("size", Some(Bound::Less(1)))],
+        &[],
+    ),
+    (
+        &["dfind", "--size", "2k", "/t", "--size=-4k", "--mmin=60"],
+        &[
+            ("size", Some(Bound::Equal(2048))),
+            ("size", Some(Bound::Less(4096))),
+            ("minutes", Some(Bound::Equal(60))),
+        ],
+        &[],
+    ),
+    (
+        &["dfind", "/t", "--newer", "/a", "--type=f", "--newer=/b/"],
+        &[("kind", None)],
+        &["/a", "/b"],
+    ),
+    (
+        &["dfind", "--name", "-x", "--path", "/u/*", "--input", "/l"],
+        &[("another name", None), ("path of /u/x.log", None)],
+        &[],
+    ),
+    (
+        &["dfind", "--newer", "/a", "--newer", "/a", "--", "/t"],
+        &[],
+        &["/a", "/a"],
+    ),
+];
+
+#[test]
+fn tests_of_dfind(rt: HostRuntime) -> Result<(), Fail> {
+    for (words, tests, newer) in FINDS.iter() {
+        let line = line_of(rt.alloc(), words)?;
+        let Command::Find { tests: found, .. } = read_words(rt.alloc(), &line)? else {
+            return Err(Fail::new("a choice was asked for"));
+        };
+        has_tests(&rt, words, &found, tests, newer);
+    }
+    Ok(())
+}
+
+#[test]
+fn lists_of_dfind(rt: HostRuntime) -> Result<(), Fail> {
+    let words = [
+        "dfind",
+        "--input",
+        "/l",
+        "--sort",
+        "-mtime",
+        "--type",
+        "d",
+        "--output=/o",
+        "--ranks=2",
+    ];
+    let line = line_of(rt.alloc(), &words)?;
+    let Command::Find {
+        common,
+        start,
+        sort,
+        output,
+        ..
+    } = read_words(rt.alloc(), &line)?
+    else {
+        return Err(Fail::new("a choice was asked for"));
+    };
+    let Start::Input(file) = start else {
+        return Err(Fail::new("a list in a file was asked for"));
+    };
+    assert_eq!(rt; common.ranks, 2);
+    assert_eq!(rt; (file.text(), text_of(&output)), ("/l", "/o"));
+    assert!(rt; sort == Some((Field::Mtime, true)));
+    Ok(())
+}
+
+// Lines of dtest, the nodes, the tests and the paths of `--newer` that they give.
+static MADE: [(&[&str], u64, &[(&str, Option<Bound>)], &[&str]); 5] = [
+    (&["dtest", "10"], 10, &[], &[]),
+    (
+        &["dtest", "--type", "d", "100000"],
+        100000,
+        &[("kind", None)],
+        &[],
+    ),
+    (&["dtest", "--newer", "/a", "01"], 1, &[], &["/a"]),
+    (&["dtest", "--", "1000000"], 1000000, &[], &[]),
+    (
+        &["dtest", "7", "--mtime", "-2", "--mtime", "0", "--trace"],
+        7,
+        &[
+            ("days", Some(Bound::Less(2))),
+            ("days", Some(Bound::Equal(0))),
+        ],
+        &[],
+    ),
+];
+
+#[test]
+fn trees_of_dtest(rt: HostRuntime) -> Result<(), Fail> {
+    for (words, wanted, tests, newer) in MADE.iter() {
+        let line = line_of(rt.alloc(), words)?;
+        let Command::Test {
+            nodes,
+            tests: found,
+            ..
+        } = read_words(rt.alloc(), &line)?
+        else {
+            return Err(Fail::new("a made-up tree was asked for"));
+        };
+        assert_eq!(rt; nodes, *wanted);
+        has_tests(&rt, words, &found, tests, newer);
+    }
+    Ok(())
+}
+
+static REFUSED: [(&[&str], WordsError); 27] = [
+    (&["dfind"], WordsError::NoPath(1)),
+    (&["dfind", "/t", "--size", "2x"], WordsError::BadValue(3)),
+    (&["dfind", "/t", "--size", "k"], WordsError::BadValue(3)),
+    (&["dfind", "/t", "--type", "z"], WordsError::BadValue(3)),
+    (&["dfind", "/t", "--mtime", "1d"], WordsError::BadValue(3)),
+    (&["dfind", "/t", "--mmin="], WordsError::BadValue(2)),
+    (&["dfind", "/t", "--newer", "a"], WordsError::BadValue(3)),
+    (&["dfind", "/t", "--name"], WordsError::NoValue(2)),
+    (&["dfind", "/t", "--newer"], WordsError::NoValue(2)),
+    (
+        &["dfind", "/t", "--kind", "f"],
+        WordsError::UnknownOption(2),
+    ),
+    (&["dfind", "--", "-x"], WordsError::BadValue(2)),
+    (
+        &["dfind", "--sort=size", "/t", "--sort=size"],
+        WordsError::Clash(3),
+    ),
+    (
+        &["dfind", "--input", "/l", "/t"],
+        WordsError::TooManyPaths(3),
+    ),
+    (
+        &["dfind", "/t", "--name=a", "--name"],
+        WordsError::NoValue(3),
+    ),
+    (
+        &["dwalk", "--name", "x", "/t"],
+        WordsError::UnknownOption(1),
+    ),
+    (&["dwalk", "--newer=/a", "/t"], WordsError::UnknownOption(1)),
+    (&["dtest"], WordsError::NoPath(1)),
+    (&["dtest", "--type", "f"], WordsError::NoPath(3)),
+    (&["dtest", "0"], WordsError::BadValue(1)),
+    (&["dtest", "1000001"], WordsError::BadValue(1)),
+    (&["dtest", "/t"], WordsError::BadValue(1)),
+    (&["dtest", "10", "20"], WordsError::TooManyPaths(2)),
+    (
+        &["dtest", "10", "20", "--trace", "30"],
+        WordsError::TooManyPaths(2),
+    ),
+    (&["dtest", "10", "x"], WordsError::BadValue(2)),
+    (
+        &["dtest", "--sort", "size", "10"],
+        WordsError::UnknownOption(1),
+    ),
+    (&["dtest", "--input", "/l"], WordsError::UnknownOption(1)),
+    (
+        &["dtest", "--output=/o", "10"],
+        WordsError::UnknownOption(1),
+    ),
+];
+
+#[test]
+fn refused_lines_of_dfind_and_dtest(rt: HostRuntime) -> Result<(), Fail> {
+    for (words, refusal) in REFUSED.iter() {
+        let line = line_of(rt.alloc(), words)?;
+        assert!(rt;
+            read_words(rt.alloc(), &line).err() == Some(*refusal),
+            "{words:?}"
+        );
+    }
+    Ok(())
 }

@@ -2,11 +2,12 @@
 ghost use Rattle.std.specs.Prelude.{◌≡◌, ◌⊎◌, Some, None, IfOk, IfErr};
 ghost use Rattle.std.specs.Char.{is_ascii_digit};
 ghost use Rattle.std.specs.List.{list_all};
-ghost use Rattle.tool_words.specs.Value.{number_in, split_in, path_in, field_in, order_in};
+ghost use Rattle.tool_words.specs.Value.{number_in, split_in, path_in, field_in, order_in, test_in};
 
 use crate::errors::WordsError;
 use crate::trimming::trimmed;
 use circle_run::Split;
+use find_tests::{Test, TestError, TestName, parse_test};
 use flat_list::Field;
 use path_text::{Path, PathError};
 use std::alloc::Global;
@@ -81,5 +82,24 @@ fn field_in(text: &str) -> Option<Field>
         "mtime" => Some(Field::Mtime),
         "kind" => Some(Field::Kind),
         _ => None,
+    }
+}
+
+/// The test that a text says, which the word of this number holds.
+pub(crate) fn test_in(
+    alloc: Global,
+    name: TestName,
+    text: &str,
+    place: usize,
+) -> Result<Test, WordsError>
+    ensures test { IfOk result (λ test. test_in name text.now ≡ Some test) }
+    ensures refused { IfErr result (λ e. ((e ≡ WordsError.BadValue place) × (test_in name text.now ≡ None)) ⊎ (e ≡ WordsError.OutOfMemory)) }
+{
+    match parse_test(alloc, name, text) {
+        Ok(test) => Ok(test),
+        Err(TestError::OutOfMemory) => Err(WordsError::OutOfMemory),
+        Err(TestError::BadNumber | TestError::BadUnit | TestError::BadKind) => {
+            Err(WordsError::BadValue(place))
+        }
     }
 }
