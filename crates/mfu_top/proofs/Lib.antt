@@ -1,4 +1,5 @@
 pub mod Unique
+pub mod Chosen
 pub mod Ready
 pub mod Told
 pub mod Succeeds

@@ -13,19 +13,29 @@ use Rattle.outside.specs.Whole.{HoldsFile, can_save}
 use Rattle.flat_list.specs.declared.entries.Entry.{Entry}
 use Rattle.flat_list.specs.declared.entries.Mark.TheVariants as mark
 use Rattle.flat_list.specs.Spelling.{Spells, SpellsOne, RefusesExactly}
+use Rattle.path_looks.specs.declared.looks.Look.{Look}
+use Rattle.path_looks.specs.declared.looks.Seen.{Seen}
+use Rattle.path_looks.specs.declared.looks.Seen.TheVariants as seen
+use Rattle.path_looks.specs.Looks.{is_at, LooksWithoutFaultsAreTold}
+use Rattle.tool_text.specs.declared.noting.Note.{Note}
 use Rattle.tool_text.specs.declared.noting.Why.TheVariants as why
 use Rattle.tool_text.specs.Notes.{mark_whys, number_whys, whys_of, notes_of}
-use Rattle.tool_words.specs.Words.{Origin, roots, input, Asked, reading}
+use Rattle.tool_text.specs.NoteOrder.{AreInOrder, NothingToOrder}
+use Rattle.tool_words.specs.declared.commands.Common.{Common}
+use Rattle.tool_words.specs.Words.{Origin, roots, input, made, Choice, Asked, reading}
 use Rattle.tool_words.specs.Limits.{Within, paths_in}
 use Rattle.tree_walk.specs.Walk.{walk, all_told, answers_in, weight_of, WalkWithoutFaultsIsFine}
 use Rattle.tree_walk.specs.Roots.{IsRoots}
+use Rattle.mfu_top.specs.declared.accounts.Account.{Account}
+use Rattle.mfu_top.specs.declared.reports.Report.{Report}
 use Rattle.mfu_top.specs.declared.statuses.Status.{Status}
 use Rattle.mfu_top.specs.declared.statuses.Status.TheVariants as status
 use Rattle.mfu_top.specs.declared.stops.Trouble.TheVariants as trouble
 use Rattle.mfu_top.specs.declared.stops.Stop.{Stop}
 use Rattle.mfu_top.specs.declared.stops.Stop.TheVariants as stop
-use Rattle.mfu_top.specs.Run.{Walked, Listed, IsFineList, IsFineStart, IsDamagedList, IsAbsent, HasNoPlace, IsTooMuch}
-use Rattle.mfu_top.specs.Stops.{Stops, Told, IsReport, status_of}
+use Rattle.mfu_top.specs.Choosing.{newer_in, look_whys, look_notes}
+use Rattle.mfu_top.specs.Run.{Walked, Listed, Finds, made_root, has_lines, files_of, faults_of, IsReport, IsFineList, IsFineStart, AreThere, IsDamagedList, IsAbsent, HasNoPlace, IsTooMuch}
+use Rattle.mfu_top.specs.Stops.{Stops, Told, status_of}
 use Rattle.mfu_top.proofs.Unique.{roots_are_unique}
 use Rattle.mfu_top.proofs.Ready.{of_reading}
 
@@ -92,6 +102,10 @@ spelled tree path bytes holds fine = subst (λ b. Spells b fine.entries) (same_b
 
 -- ---- what was listed names nothing
 
+-- the root of a made-up tree is a path
+root_valid : All (λ path. refusal path ≡ None) (made_root ∷ [])
+root_valid = All-from_recursion (λ path. refusal path ≡ None) (made_root ∷ []) (refl, tt)
+
 nothing_named : (tree : Files) (start : Origin) (entries : List Entry) (old new : ℕ) → WalkWithoutFaultsIsFine → SpellsOne → All (λ path. refusal path ≡ None) (paths_in start) →
     Listed (Some tree) start entries old new → IsFineStart tree start → StoodStill old new → notes_of entries ≡ []
 nothing_named tree (roots given) entries old new law one valid w fine stood =
@@ -99,6 +113,28 @@ nothing_named tree (roots given) entries old new law one valid w fine stood =
 nothing_named tree (input path) entries old new law one valid r fine stood =
     let same : fine.entries ≡ entries = one.one_list r.told.0 fine.entries entries (spelled tree path r.told.0 r.told.1 fine) r.told.2 in
     no_notes entries (recursion_from_All IsFine entries (subst (λ es. All IsFine es) same fine.fine))
+nothing_named tree (made n) entries old new law one valid w fine stood =
+    (whole tree (made_root ∷ []) fine.roots entries old new law root_valid w fine.are fine.there stood).unnamed fine.near
+
+-- looks that told a time name nothing
+look_named : (seen : Seen) → is_at seen ≡ true → look_whys seen ≡ []
+look_named (seen.At mtime) e = refl
+look_named seen.Absent e = absurd (cc)
+look_named seen.Failed e = absurd (cc)
+
+looks_named : (looks : List Look) → AllByRecursion (λ l. is_at l.seen ≡ true) looks → flat_map look_notes looks ≡ []
+looks_named [] h = refl
+looks_named (l ∷ looks) h = (λ i. map (λ w. record { path = l.path; why = w; dest = false }) (look_named l.seen h.0 i) ++ looks_named looks h.1 i)
+
+nothing_fails : {common : Common} {start : Origin} {choice : Option Choice} {now old new : ℕ} {chosen : List Entry} {notes : List Note} {account : Account} (tree : Files) →
+    WalkWithoutFaultsIsFine → LooksWithoutFaultsAreTold → NothingToOrder → SpellsOne → All (λ path. refusal path ≡ None) (paths_in start) →
+    Finds common start choice now (Some tree) old new chosen notes account → IsFineStart tree start → AreThere tree choice → StoodStill old new → notes ≡ []
+nothing_fails {start = start} {choice = choice} {old = old} {new = new} {notes = notes} tree law told order one valid f fine there stood =
+    let first : StoodStill old f.between = record { same = omega (arith, f.looked.counted.kept, f.later, stood.same); below_end = omega (arith, f.later, stood.below_end) } in
+    let then : StoodStill f.between new = record { same = omega (arith, f.looked.counted.kept, f.later, stood.same); below_end = stood.below_end } in
+    let looks = looks_named f.looks (recursion_from_All _ f.looks (told tree (newer_in choice) f.looks old f.between f.looked there first)) in
+    let entries = nothing_named tree start f.entries f.between new law one valid f.listed fine then in
+    order.none notes (subst (λ given. AreInOrder given notes) (λ i. looks i ++ entries i) f.names)
 
 -- ---- what is fine does not stop a run
 
@@ -108,6 +144,8 @@ too_much tree (roots given) old new law exact valid long fine stood =
     absurd (omega (arith, long.many, fine.few, ap length (whole tree given fine.roots long.entries old new law valid long.walked fine.are fine.there stood).same))
 too_much tree (input path) old new law exact valid long fine stood =
     absurd (omega (arith, exact.long_list long.0 fine.entries (spelled tree path long.0 long.1 fine) long.2, fine.few))
+too_much tree (made n) old new law exact valid long fine stood =
+    absurd (omega (arith, long.many, fine.few, ap length (whole tree (made_root ∷ []) fine.roots long.entries old new law root_valid long.walked fine.are fine.there stood).same))
 
 damaged : (tree : Files) (start : Origin) (path : List ℕ) (line : ℕ) → RefusesExactly → IsDamagedList start (Some tree) path line → IsFineStart tree start → ⊥
 damaged tree start path line exact bad fine =
@@ -124,52 +162,89 @@ no_place tree start output old new path none can =
     let here : can_save tree path ≡ true = subst (λ o. IfSome o (λ path. can_save tree path ≡ true)) none.named can in
     false≢true (sym none.told ∙ here)
 
-only_memory : (tree : Files) (start : Origin) (output : Option (List ℕ)) (after : Option Files) (old new : ℕ) (why : Stop) → WalkWithoutFaultsIsFine → RefusesExactly → All (λ path. refusal path ≡ None) (paths_in start) →
-    Stops start output (Some tree) after old new why → IsFineStart tree start → IfSome output (λ path. can_save tree path ≡ true) → StoodStill old new → status_of why ≡ status.Memory
-only_memory tree start output after old new stop.OutOfMemory law exact valid stops fine can stood = refl
-only_memory tree start output after old new stop.TooMany law exact valid stops fine can stood = absurd (too_much tree start old new law exact valid stops.0 fine stood)
-only_memory tree start output after old new (stop.Damaged path line) law exact valid stops fine can stood = absurd (damaged tree start path line exact stops.0 fine)
-only_memory tree start output after old new (stop.ListFile trouble.Absent path) law exact valid stops fine can stood = absurd (absent tree start path stops fine)
-only_memory tree start output after old new (stop.ListFile trouble.NoPlace path) law exact valid stops fine can stood = absurd (no_place tree start output old new path stops can)
-only_memory tree start output after old new (stop.ListFile trouble.Fault path) law exact valid stops fine can stood = absurd (no_fault old new stops.counted stood)
+-- ---- a list that is no made-up tree is one of the files of the run
+
+files_here : (start : Origin) (tree : Option Files) → has_lines start ≡ true → files_of start tree ≡ tree
+files_here (roots given) tree e = refl
+files_here (input path) tree e = refl
+files_here (made n) tree e = absurd (false≢true e)
+
+faults_here : (start : Origin) (count : ℕ) → has_lines start ≡ true → faults_of start count ≡ count
+faults_here (roots given) count e = refl
+faults_here (input path) count e = refl
+faults_here (made n) count e = absurd (false≢true e)
+
+is_here : (start : Origin) (tree : Option Files) (files : Files) → has_lines start ≡ true → files_of start tree ≡ Some files → tree ≡ Some files
+is_here start tree files here told = sym (files_here start tree here) ∙ told
+
+stood_here : (start : Origin) (old new : ℕ) → has_lines start ≡ true → StoodStill (faults_of start old) (faults_of start new) → StoodStill old new
+stood_here start old new here stood =
+    record { same = sym (faults_here start new here) ∙ stood.same ∙ faults_here start old here; below_end = subst (λ n. n < 18446744073709551615) (faults_here start new here) stood.below_end }
+
+from_input : (start : Origin) (path : List ℕ) → start ≡ input path → has_lines start ≡ true
+from_input start path e = ap has_lines e
+
+only_memory : (start : Origin) (output : Option (List ℕ)) (tree after : Option Files) (old new : ℕ) (why : Stop) (files : Files) → WalkWithoutFaultsIsFine → RefusesExactly → All (λ path. refusal path ≡ None) (paths_in start) →
+    Stops start output tree after old new why → files_of start tree ≡ Some files → IsFineStart files start → IfSome output (λ path. can_save files path ≡ true) →
+    StoodStill (faults_of start old) (faults_of start new) → status_of why ≡ status.Memory
+only_memory start output tree after old new stop.OutOfMemory files law exact valid stops told fine can stood = refl
+only_memory start output tree after old new stop.TooMany files law exact valid stops told fine can stood =
+    absurd (too_much files start (faults_of start old) (faults_of start new) law exact valid (subst (λ t. IsTooMuch t start (faults_of start old) (faults_of start new)) told stops.0) fine stood)
+only_memory start output tree after old new (stop.Damaged path line) files law exact valid stops told fine can stood =
+    let here = is_here start tree files (from_input start path stops.0.named) told in
+    absurd (damaged files start path line exact (subst (λ t. IsDamagedList start t path line) here stops.0) fine)
+only_memory start output tree after old new (stop.ListFile trouble.Absent path) files law exact valid stops told fine can stood =
+    let here = is_here start tree files (from_input start path stops.named) told in
+    absurd (absent files start path (subst (λ t. IsAbsent start t path) here stops) fine)
+only_memory start output tree after old new (stop.ListFile trouble.NoPlace path) files law exact valid stops told fine can stood =
+    let here = is_here start tree files stops.listable told in
+    absurd (no_place files start output old new path (subst (λ t. HasNoPlace start output t old new path) here stops) can)
+only_memory start output tree after old new (stop.ListFile trouble.Fault path) files law exact valid stops told fine can stood =
+    absurd (no_fault old new stops.counted (stood_here start old new stops.listable stood))
 
 -- ---- the clause
 
--- what it asks of the start, the output, the files and the counts, and what then holds
+-- what it asks of the files that are looked at, of the output, and of the counts, and what then holds
 abbrev pub WhereFine : Asked → Option Files → (files_old files_new out_old out_new notes_old notes_new : ℕ) → Type 0 → Type 0
 WhereFine asked tree files_old files_new out_old out_new notes_old notes_new P =
-    IfSome tree (λ tree. IsFineStart tree asked.start → IfSome asked.output (λ path. can_save tree path ≡ true)
-    → StoodStill files_old files_new → StoodStill out_old out_new → StoodStill notes_old notes_new → P)
+    IfSome (files_of asked.start tree) (λ tree. IsFineStart tree asked.start → AreThere tree asked.chosen → IfSome asked.output (λ path. can_save tree path ≡ true)
+    → StoodStill (faults_of asked.start files_old) (faults_of asked.start files_new) → StoodStill out_old out_new → StoodStill notes_old notes_new → P)
 
-printed : {A B C D E F : Type 0} (asked : Asked) (tree after : Option Files) (fo fn oo on mo mn : ℕ) (out notes : List ℕ) (failed : ℕ) (r : Status) →
-    WalkWithoutFaultsIsFine → SpellsOne → Within asked → IsReport asked tree after fo fn out notes failed →
-    (r ≡ status.Named → (0 < failed) × A × B) → (r ≡ status.Sink → (RoseBy 1 oo on × C × D) ⊎ (RoseBy 1 mo mn × E × F)) →
+of_some : {X : Type 0} (P : X → Type 0) (o : Option X) → ((x : X) → o ≡ Some x → P x) → IfSome o P
+of_some P (Some x) h = h x refl
+of_some P None h = tt
+
+printed : {A B C D E F : Type 0} (asked : Asked) (now : ℕ) (tree after : Option Files) (fo fn oo on mo mn : ℕ) (report : Report) (r : Status) →
+    WalkWithoutFaultsIsFine → LooksWithoutFaultsAreTold → NothingToOrder → SpellsOne → Within asked → IsReport asked now tree after fo fn report →
+    (r ≡ status.Named → (0 < report.failed) × A × B) → (r ≡ status.Sink → (RoseBy 1 oo on × C × D) ⊎ (RoseBy 1 mo mn × E × F)) →
     (r ≡ status.Done) ⊎ ((r ≡ status.Named) ⊎ (r ≡ status.Sink)) → WhereFine asked tree fo fn oo on mo mn ((r ≡ status.Done) ⊎ (r ≡ status.Memory))
-printed asked None after fo fn oo on mo mn out notes failed r law one within report named sink which = tt
-printed asked (Some tree) after fo fn oo on mo mn out notes failed r law one within report named sink which =
-    λ fine can files still_out still_notes.
+printed asked now tree after fo fn oo on mo mn report r law looks order one within is named sink which =
+    of_some _ (files_of asked.start tree)
+    (λ files told fine there can stood still_out still_notes.
     ⊎_elim (λ done. inl done)
     (⊎_elim
-    (λ is. absurd (omega (arith, ap length (nothing_named tree asked.start report.ready.entries fo fn law one within.start report.ready.listed fine files), (named is).0, report.counts)))
-    (λ is. ⊎_elim (λ f. absurd (no_fault oo on f.0 still_out)) (λ f. absurd (no_fault mo mn f.0 still_notes)) (sink is)))
-    which
+    (λ n.
+    let found = subst (λ t. Finds asked.common asked.start asked.chosen now t (faults_of asked.start fo) (faults_of asked.start fn) is.chosen is.notes is.account) told is.finds in
+    absurd (omega (arith, ap length (nothing_fails files law looks order one within.start found fine there stood), (named n).0, is.counts)))
+    (λ s. ⊎_elim (λ f. absurd (no_fault oo on f.0 still_out)) (λ f. absurd (no_fault mo mn f.0 still_notes)) (sink s)))
+    which)
 
 -- a run that came to its report
-pub succeeds : {A B C D E F : Type 0} (words : List (List ℕ)) (asked : Asked) (tree after : Option Files) (fo fn oo on mo mn : ℕ) (out notes : List ℕ) (failed : ℕ) (r : Status) → reading words ≡ Ok asked →
-    WalkWithoutFaultsIsFine → SpellsOne → Within asked → IsReport asked tree after fo fn out notes failed →
-    (r ≡ status.Named → (0 < failed) × A × B) → (r ≡ status.Sink → (RoseBy 1 oo on × C × D) ⊎ (RoseBy 1 mo mn × E × F)) →
+pub succeeds : {A B C D E F : Type 0} (words : List (List ℕ)) (asked : Asked) (now : ℕ) (tree after : Option Files) (fo fn oo on mo mn : ℕ) (report : Report) (r : Status) → reading words ≡ Ok asked →
+    WalkWithoutFaultsIsFine → LooksWithoutFaultsAreTold → NothingToOrder → SpellsOne → Within asked → IsReport asked now tree after fo fn report →
+    (r ≡ status.Named → (0 < report.failed) × A × B) → (r ≡ status.Sink → (RoseBy 1 oo on × C × D) ⊎ (RoseBy 1 mo mn × E × F)) →
     (r ≡ status.Done) ⊎ ((r ≡ status.Named) ⊎ (r ≡ status.Sink)) → IfOk (reading words) (λ asked. WhereFine asked tree fo fn oo on mo mn ((r ≡ status.Done) ⊎ (r ≡ status.Memory)))
-succeeds words asked tree after fo fn oo on mo mn out notes failed r read law one within report named sink which =
+succeeds words asked now tree after fo fn oo on mo mn report r read law looks order one within is named sink which =
     of_reading words asked (λ asked. WhereFine asked tree fo fn oo on mo mn ((r ≡ status.Done) ⊎ (r ≡ status.Memory))) read
-    (printed asked tree after fo fn oo on mo mn out notes failed r law one within report named sink which)
+    (printed asked now tree after fo fn oo on mo mn report r law looks order one within is named sink which)
 
 stopped : (asked : Asked) (tree after : Option Files) (fo fn oo on mo mn : ℕ) (why : Stop) (old new : Option (List ℕ)) (r : Status) →
     WalkWithoutFaultsIsFine → RefusesExactly → Within asked → Stops asked.start asked.output tree after fo fn why → Told why r old new mo mn →
     WhereFine asked tree fo fn oo on mo mn ((r ≡ status.Done) ⊎ (r ≡ status.Memory))
-stopped asked None after fo fn oo on mo mn why old new r law exact within stops told = tt
-stopped asked (Some tree) after fo fn oo on mo mn why old new r law exact within stops told =
-    λ fine can files still_out still_notes.
-    inr (⊎_elim (λ t. t.0 ∙ only_memory tree asked.start asked.output after fo fn why law exact within.start stops fine can files) (λ t. t.0) told)
+stopped asked tree after fo fn oo on mo mn why old new r law exact within stops told =
+    of_some _ (files_of asked.start tree)
+    (λ files here fine there can stood still_out still_notes.
+    inr (⊎_elim (λ t. t.0 ∙ only_memory asked.start asked.output tree after fo fn why files law exact within.start stops here fine can stood) (λ t. t.0) told))
 
 -- a run that stopped
 pub stops : (words : List (List ℕ)) (asked : Asked) (tree after : Option Files) (fo fn oo on mo mn : ℕ) (why : Stop) (old new : Option (List ℕ)) (r : Status) → reading words ≡ Ok asked →

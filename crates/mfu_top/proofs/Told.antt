@@ -12,7 +12,7 @@ use Rattle.tree_walk.specs.declared.errors.WalkError.{WalkError}
 use Rattle.tree_walk.specs.Walk.{walk, answers_in}
 use Rattle.tree_walk.specs.Roots.{IsRoots}
 use Rattle.tree_walk.specs.Found.{IsFound, IsWalkOf}
-use Rattle.mfu_top.specs.declared.accounts.Found.{Found}
+use Rattle.mfu_top.specs.declared.accounts.Entries.{Entries}
 use Rattle.mfu_top.specs.Run.{Walked}
 use Rattle.mfu_top.specs.Tells.{IsAccount}
 
@@ -34,9 +34,9 @@ walked_from tree given starts entries old new are is = record {
 }
 
 -- a walk of the roots is one of the given paths
-pub told : (common : Common) (tree : Option Files) (given starts : List (List ℕ)) (old new : ℕ) (r : Result Found WalkError) → IsRoots given starts →
-    IfOk r (λ found. IsFound tree starts old new found.list) → IfOk r (λ found. IsAccount common tree starts found.list found.account) →
-    IfOk r (λ found. (walked : Walked tree given found.list old new) × IsAccount common tree walked.roots found.list found.account)
+pub told : (common : Common) (tree : Option Files) (given starts : List (List ℕ)) (old new : ℕ) (r : Result Entries WalkError) → IsRoots given starts →
+    IfOk r (λ entries. IsFound tree starts old new entries.list) → IfOk r (λ entries. IsAccount common tree starts entries.list entries.account) →
+    IfOk r (λ entries. (walked : Walked tree given entries.list old new) × IsAccount common tree walked.roots entries.list entries.account)
 unfolding walked_from
-told common tree given starts old new (Ok found) are is account = (walked_from tree given starts found.list old new are is, account)
+told common tree given starts old new (Ok entries) are is account = (walked_from tree given starts entries.list old new are is, account)
 told common tree given starts old new (Err e) are is account = tt

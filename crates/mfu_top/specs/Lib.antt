@@ -1,3 +1,4 @@
+pub mod Choosing
 pub mod Run
 pub mod Stops
 pub mod Tells

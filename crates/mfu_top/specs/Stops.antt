@@ -1,10 +1,9 @@
 -- Why a run stops before it prints its listing: by its steps, and what it then tells. Our own.
-use Rattle.std.specs.Prelude.{◌≡◌, ◌⊎◌, ℕ, ◌++◌, ◌∷◌, [], List, length, codes, Option, Some, IfSome, false}
+use Rattle.std.specs.Prelude.{◌≡◌, ◌⊎◌, ℕ, ◌++◌, ◌∷◌, [], List, codes, Option, Some, IfSome, false}
 use Rattle.outside.specs.Tree.{Files}
 use Rattle.outside.specs.Count.{RoseBy}
 use Rattle.outside.specs.Whole.{can_save}
-use Rattle.tool_text.specs.Notes.{notes_of}
-use Rattle.tool_words.specs.Words.{Origin, input, Asked}
+use Rattle.tool_words.specs.Words.{Origin, input}
 use Rattle.tree_walk.specs.declared.errors.WalkError.{WalkError}
 use Rattle.tree_walk.specs.declared.errors.WalkError.TheVariants as walked
 use Rattle.mfu_top.specs.declared.statuses.Status.{Status}
@@ -13,7 +12,7 @@ use Rattle.mfu_top.specs.declared.stops.Trouble.{Trouble}
 use Rattle.mfu_top.specs.declared.stops.Trouble.TheVariants as trouble
 use Rattle.mfu_top.specs.declared.stops.Stop.{Stop}
 use Rattle.mfu_top.specs.declared.stops.Stop.TheVariants as stop
-use Rattle.mfu_top.specs.Run.{Ready, out_text, notes_text, IsTooMuch, IsDamagedList, IsAbsent, HasNoPlace, IsFault, list_line, damaged_line, GrewByLine}
+use Rattle.mfu_top.specs.Run.{files_of, faults_of, IsTooMuch, IsDamagedList, IsAbsent, HasNoPlace, IsFault, list_line, damaged_line, GrewByLine}
 
 -- the entries were not listed
 abbrev pub StopsListing : Option Files → Origin → ℕ → ℕ → Stop → Type 0
@@ -36,7 +35,7 @@ StopsSaving tree output old new (stop.ListFile trouble.Fault path) = (output ≡
 -- the run stopped, and left the files as the second tree
 abbrev pub Stops : Origin → Option (List ℕ) → Option Files → Option Files → ℕ → ℕ → Stop → Type 0
 Stops start output tree tree' old new stop.OutOfMemory = Unit {0}
-Stops start output tree tree' old new stop.TooMany = IsTooMuch tree start old new × (tree' ≡ tree)
+Stops start output tree tree' old new stop.TooMany = IsTooMuch (files_of start tree) start (faults_of start old) (faults_of start new) × (tree' ≡ tree)
 Stops start output tree tree' old new (stop.Damaged path line) = IsDamagedList start tree path line × (tree' ≡ tree)
 Stops start output tree tree' old new (stop.ListFile trouble.Absent path) = IsAbsent start tree path
 Stops start output tree tree' old new (stop.ListFile trouble.NoPlace path) = HasNoPlace start output tree old new path
@@ -74,10 +73,3 @@ Told why answer old new count_old count_new =
 abbrev pub stop_by : WalkError → Stop
 stop_by walked.OutOfMemory = stop.OutOfMemory
 stop_by (walked.TooMany n) = stop.TooMany
-
--- the texts of what stands when a run comes to print
-pub record IsReport (asked : Asked) (tree tree' : Option Files) (old new : ℕ) (out notes : List ℕ) (failed : ℕ) : Type 0 where
-  pub ready : Ready asked tree tree' old new
-  pub prints : out ≡ out_text ready.entries ready.printed
-  pub names : notes ≡ notes_text asked.common ready.account ready.entries
-  pub counts : failed ≡ length (notes_of ready.entries)

@@ -21,9 +21,9 @@ pub(crate) struct Account {
     pub(crate) sums: Vec<u64>,
 }
 
-/// What a run is about.
+/// The entries of a walk or of a list file, and what is told of the walk.
 #[derive(Drop)]
-pub(crate) struct Found {
+pub(crate) struct Entries {
     pub(crate) list: FlatList,
     pub(crate) account: Account,
 }

@@ -28,7 +28,10 @@
 #![tactic(auto)]
 
 mod accounts;
+mod choosing;
+mod finding;
 mod reading;
+mod reporting;
 mod reports;
 mod running;
 mod saving;

@@ -1,17 +1,17 @@
 //! What is to be printed once the entries stand.
-ghost use Rattle.std.specs.Prelude.{◌≡◌, ◌⊎◌, ◌<◌, List, length, IfOk};
+ghost use Rattle.std.specs.Prelude.{◌≡◌, ◌⊎◌, ◌<◌, ◌++◌, [], if◌then◌else◌, List, length, IfOk, OnOk};
 ghost use Rattle.outside.specs.Count.{RoseBy};
 ghost use Rattle.flat_list.specs.declared.entries.Entry.{Entry};
-ghost use Rattle.tool_text.specs.Notes.{notes_of};
+ghost use Rattle.tool_text.specs.Lines.{lines_of};
 ghost use Rattle.mfu_top.specs.Run.{InOrder, out_text, notes_text, Grew, GrewBySome};
 
-use crate::accounts::Found;
+use crate::finding::Findings;
 use crate::statuses::Status;
-use flat_list::{Field, FlatList};
+use flat_list::{Field, FlatList, Summary};
 use outside::{Sink, put_all};
 use path_text::OutOfMemory;
 use std::alloc::Global;
-use tool_text::{Text, notes_of, put_list, put_notes, put_summary};
+use tool_text::{Text, put_list, put_notes, put_summary};
 use tool_words::Common;
 
 /// Both texts of a run.
@@ -23,32 +23,37 @@ pub(crate) struct Report {
 }
 
 impl Report {
-    /// The report of what was found, with the lines of its list in the order that is asked for.
+    /// The report of what was found: the lines of what is chosen in the order that is asked for, where there are to be lines,
+    /// and the summary.
     pub(crate) fn of(
         alloc: Global,
-        found: Found,
+        found: Findings,
         common: &Common,
         order: Option<(Field, bool)>,
+        lines: bool,
     ) -> Result<Report, OutOfMemory>
-        ensures out { IfOk result (λ report. (printed : List Entry) × InOrder order found.list printed × (report.out ≡ out_text found.list printed)) }
-        ensures notes { IfOk result (λ report. report.notes ≡ notes_text common.now found.account found.list) }
-        ensures failed { IfOk result (λ report. report.failed ≡ length (notes_of found.list)) }
+        ensures out { IfOk result (λ report. (printed : List Entry) × InOrder order found.chosen printed × (report.out ≡ out_text lines found.chosen printed (length found.notes.items))) }
+        ensures notes { IfOk result (λ report. report.notes ≡ notes_text common.now found.account found.notes.items) }
+        ensures failed { IfOk result (λ report. report.failed ≡ length found.notes.items) }
     {
-        let Found { list, account } = found;
-        let summary = list.summary();
-        let named = notes_of(alloc, &list)?;
-        let printed = in_order(list, order)?;
+        let Findings {
+            chosen,
+            notes: named,
+            account,
+        } = found;
+        let failed = named.len() as u64;
+        let summary = Summary {
+            failed,
+            ..chosen.summary()
+        };
+        let printed = in_order(chosen, order)?;
         let mut out = Text::make(alloc);
-        put_list(&mut out, &printed)?;
+        put_lines(&mut out, &printed, lines)?;
         put_summary(&mut out, &summary)?;
         let mut notes = Text::make(alloc);
         account.put(&mut notes, common)?;
         put_notes(&mut notes, &named)?;
-        Ok(Report {
-            failed: summary.failed,
-            out,
-            notes,
-        })
+        Ok(Report { failed, out, notes })
     }
 
     /// Writes both texts. Nothing goes to `notes` after a fault of `out`.
@@ -83,4 +88,14 @@ fn in_order(list: FlatList, order: Option<(Field, bool)>) -> Result<FlatList, Ou
         list.sort_by(field, down)?;
     }
     Ok(list)
+}
+
+// The lines of the list, where there are to be lines.
+fn put_lines(text: &mut Text, list: &FlatList, lines: bool) -> Result<(), OutOfMemory>
+    ensures { OnOk result (text.new ≡ text.old ++ (if lines then lines_of list.now else [])) }
+{
+    if lines {
+        put_list(text, list)?;
+    }
+    Ok(())
 }

@@ -1,34 +1,30 @@
 //! The run.
-ghost use Rattle.std.specs.Prelude.{◌≡◌, ◌≢◌, ◌⊎◌, ◌<◌, ◌≤◌, [], List, ℕ, length, map, codes, string_bytes, Ok, Err, IfSome, IfOk, IfErr, IsErr, true, ◌∷◌, ◌++◌};
+ghost use Rattle.std.specs.Prelude.{◌≡◌, ◌≢◌, ◌⊎◌, ◌<◌, [], List, ℕ, map, codes, string_bytes, Ok, Err, IfSome, IfOk, IfErr, IsErr, true, false, ◌∷◌, ◌++◌};
 ghost use Rattle.outside.specs.Count.{RoseBy, StoodStill};
 ghost use Rattle.outside.specs.Writes.{all_but};
 ghost use Rattle.outside.specs.Whole.{can_save};
-ghost use Rattle.tool_text.specs.Notes.{notes_of};
-ghost use Rattle.tool_words.specs.Words.{reading, asked_by, start_in};
-ghost use Rattle.tool_words.specs.Limits.{Within, CommonWithin};
-ghost use Rattle.tool_words.specs.declared.commands.Command.TheVariants.{Walk};
+ghost use Rattle.tool_words.specs.Words.{reading, asked_by};
+ghost use Rattle.tool_words.specs.Limits.{Within};
 ghost use Rattle.tool_words.specs.declared.errors.WordsError.{WordsError};
-ghost use Rattle.mfu_top.specs.Run.{Ready, SameButOutput, out_text, notes_text, refusal_line, damaged_line, IsTooMuch, IsDamagedList, ListFault, IsFineStart, Grew, GrewBySome, GrewByLine};
-ghost use Rattle.mfu_top.specs.Stops.{Stops, IsReport};
+ghost use Rattle.mfu_top.specs.declared.reports.Report.{Report};
+ghost use Rattle.mfu_top.specs.Run.{IsReport, SameButOutput, refusal_line, damaged_line, files_of, faults_of, has_lines, IsTooMuch, IsDamagedList, ListFault, IsFineStart, AreThere, Grew, GrewBySome, GrewByLine};
 
-use crate::reports::Report;
-use crate::saving::save_list;
-use crate::starting::list_from;
+use crate::reporting::report_of;
 use crate::statuses::Status;
-use crate::stops::Stop;
 use crate::telling::{end_stopped, end_with, refusal};
-use flat_list::{Field, refusals_are_exact, spelling_is_unique};
+use flat_list::{refusals_are_exact, spelling_is_unique};
 use outside::{Ground, Sink};
-use path_text::Path;
+use path_looks::looks_without_faults_are_told;
 use std::alloc::Global;
 use std::sync::Wait;
 use std::thread::Threads;
-use tool_words::{Command, Common, Start, WordsError, read_words, words_ask_within_limits};
+use tool_text::nothing_to_order;
+use tool_words::{Command, WordsError, read_words, words_ask_within_limits};
 use tree_walk::walk_without_faults_is_fine;
 
-/// Does all that the program does, in this order: reads the words; reads a list, or walks; writes the list to a file where
-/// one is asked for; writes `out`, and then `notes`. All memory is taken before the first byte goes to `out`. `now` is in
-/// seconds since 1970.
+/// Does all that the program does, in this order: reads the words; looks at the paths of `--newer`; reads a list, or walks;
+/// writes what is chosen of it to a file where one is asked for; writes `out`, and then `notes`. All memory is taken before the
+/// first byte goes to `out`. `now` is in seconds since 1970.
 pub fn run<T: Threads + Wait + Sync, G: Ground + Send, O: Sink, E: Sink>(
     rt: &T,
     alloc: Global,
@@ -45,6 +41,8 @@ where
 
     // Every path of the files but the one that is to be written is as before, and no count falls.
     ensures rest { IfOk (reading (map string_bytes words.now)) (λ asked. SameButOutput asked.output (G.tree files.old) (G.tree files.new)) }
+    // A run over a made-up tree leaves the files alone.
+    ensures alone { IfOk (reading (map string_bytes words.now)) (λ asked. has_lines asked.start ≡ false → files.new ≡ files.old) }
     ensures counts { RoseBy 0 (G.count files.old) (G.count files.new) × RoseBy 0 (O.count out.old) (O.count out.new) × RoseBy 0 (E.count notes.old) (E.count notes.new) }
 
     // Status 2 comes exactly where the words are refused, with the line of the first offence; nothing is looked at then.
@@ -52,23 +50,23 @@ where
         × GrewByLine (refusal_line e) (E.text notes.old) (E.text notes.new) (E.count notes.old) (E.count notes.new) }
     ensures refused { IsErr (reading (map string_bytes words.now)) → (files.new ≡ files.old) × ((result ≡ Status.Words) ⊎ (result ≡ Status.Memory)) }
 
-    // The headline: with status 0 or 1 the entries are walked or read, saved where that is asked for, and printed in the order
-    // that is asked for; and status 1 comes exactly where a note stands.
-    ensures done { result ≡ Status.Done → IfOk (reading (map string_bytes words.now)) (λ asked. (ready : Ready asked (G.tree files.old) (G.tree files.new) (G.count files.old) (G.count files.new))
-        × (notes_of ready.entries ≡ []) × Grew (out_text ready.entries ready.printed) (O.text out.old) (O.text out.new) × Grew (notes_text asked.common ready.account ready.entries) (E.text notes.old) (E.text notes.new)) }
-    ensures named { result ≡ Status.Named → IfOk (reading (map string_bytes words.now)) (λ asked. (ready : Ready asked (G.tree files.old) (G.tree files.new) (G.count files.old) (G.count files.new))
-        × (0 < length (notes_of ready.entries)) × Grew (out_text ready.entries ready.printed) (O.text out.old) (O.text out.new) × Grew (notes_text asked.common ready.account ready.entries) (E.text notes.old) (E.text notes.new)) }
+    // The headline: with status 0 or 1 the entries are walked or read, chosen, saved where that is asked for, and printed in the
+    // order that is asked for; and status 1 comes exactly where a note stands.
+    ensures done { result ≡ Status.Done → IfOk (reading (map string_bytes words.now)) (λ asked. (report : Report) × IsReport asked now (G.tree files.old) (G.tree files.new) (G.count files.old) (G.count files.new) report
+        × (report.failed ≡ 0) × Grew report.out (O.text out.old) (O.text out.new) × Grew report.notes (E.text notes.old) (E.text notes.new)) }
+    ensures named { result ≡ Status.Named → IfOk (reading (map string_bytes words.now)) (λ asked. (report : Report) × IsReport asked now (G.tree files.old) (G.tree files.new) (G.count files.old) (G.count files.new) report
+        × (0 < report.failed) × Grew report.out (O.text out.old) (O.text out.new) × Grew report.notes (E.text notes.old) (E.text notes.new)) }
 
     // Status 3: want of memory, with its line and nothing else.
     ensures memory { result ≡ Status.Memory → (out.new ≡ out.old) × GrewByLine (codes "out of memory" ++ 10 ∷ []) (E.text notes.old) (E.text notes.new) (E.count notes.old) (E.count notes.new) }
 
     // Status 4: a sink failed, and holds a prefix of its text. After a fault of `out` nothing goes to `notes`.
-    ensures sink { result ≡ Status.Sink → IfOk (reading (map string_bytes words.now)) (λ asked. (ready : Ready asked (G.tree files.old) (G.tree files.new) (G.count files.old) (G.count files.new))
-        × ((RoseBy 1 (O.count out.old) (O.count out.new) × GrewBySome (out_text ready.entries ready.printed) (O.text out.old) (O.text out.new) × (notes.new ≡ notes.old))
-        ⊎ (RoseBy 1 (E.count notes.old) (E.count notes.new) × Grew (out_text ready.entries ready.printed) (O.text out.old) (O.text out.new) × GrewBySome (notes_text asked.common ready.account ready.entries) (E.text notes.old) (E.text notes.new)))) }
+    ensures sink { result ≡ Status.Sink → IfOk (reading (map string_bytes words.now)) (λ asked. (report : Report) × IsReport asked now (G.tree files.old) (G.tree files.new) (G.count files.old) (G.count files.new) report
+        × ((RoseBy 1 (O.count out.old) (O.count out.new) × GrewBySome report.out (O.text out.old) (O.text out.new) × (notes.new ≡ notes.old))
+        ⊎ (RoseBy 1 (E.count notes.old) (E.count notes.new) × Grew report.out (O.text out.old) (O.text out.new) × GrewBySome report.notes (E.text notes.old) (E.text notes.new)))) }
 
     // Status 5: the list that was walked or read has more entries than a list may have. Every path is as before, and nothing is printed.
-    ensures too_many { result ≡ Status.TooMany → IfOk (reading (map string_bytes words.now)) (λ asked. IsTooMuch (G.tree files.old) asked.start (G.count files.old) (G.count files.new)
+    ensures too_many { result ≡ Status.TooMany → IfOk (reading (map string_bytes words.now)) (λ asked. IsTooMuch (files_of asked.start (G.tree files.old)) asked.start (faults_of asked.start (G.count files.old)) (faults_of asked.start (G.count files.new))
         × (G.tree files.new ≡ G.tree files.old) × (out.new ≡ out.old) × GrewByLine (codes "too many entries" ++ 10 ∷ []) (E.text notes.old) (E.text notes.new) (E.count notes.old) (E.count notes.new)) }
 
     // Status 7: the file that was to be read is no list file, and its line is named. Every path is as before.
@@ -79,20 +77,22 @@ where
     ensures list_file { result ≡ Status.ListFile → IfOk (reading (map string_bytes words.now)) (λ asked. (line : List ℕ) × ListFault asked.start asked.output (G.tree files.old) (G.count files.old) (G.count files.new) line
         × (out.new ≡ out.old) × GrewByLine line (E.text notes.old) (E.text notes.new) (E.count notes.old) (E.count notes.new)) }
 
-    // When a run succeeds: nothing is left to name in what is walked or read, there is a place for the list that is to be written, and no count rose.
-    ensures complete { IfOk (reading (map string_bytes words.now)) (λ asked. IfSome (G.tree files.old) (λ tree. IsFineStart tree asked.start → IfSome asked.output (λ path. can_save tree path ≡ true)
-        → StoodStill (G.count files.old) (G.count files.new) → StoodStill (O.count out.old) (O.count out.new) → StoodStill (E.count notes.old) (E.count notes.new)
+    // When a run succeeds: nothing is left to name in what is looked at, walked or read, there is a place for the list that is
+    // to be written, and no count rose.
+    ensures complete { IfOk (reading (map string_bytes words.now)) (λ asked. IfSome (files_of asked.start (G.tree files.old)) (λ tree. IsFineStart tree asked.start → AreThere tree asked.chosen → IfSome asked.output (λ path. can_save tree path ≡ true)
+        → StoodStill (faults_of asked.start (G.count files.old)) (faults_of asked.start (G.count files.new)) → StoodStill (O.count out.old) (O.count out.new) → StoodStill (E.count notes.old) (E.count notes.new)
         → (result ≡ Status.Done) ⊎ (result ≡ Status.Memory))) }
 {
-    let _ = now;
     walk_without_faults_is_fine();
+    looks_without_faults_are_told();
+    nothing_to_order();
     spelling_is_unique();
     refusals_are_exact();
     let command = match read_command(alloc, words) {
         Ok(command) => command,
         Err(e) => return end_with(notes, refusal(alloc, e), Status::Words),
     };
-    match report_of(rt, alloc, command, files) {
+    match report_of(rt, alloc, command, files, now) {
         Ok(report) => report.put(out, notes),
         Err(stop) => end_stopped(alloc, notes, stop),
     }
@@ -107,54 +107,4 @@ fn read_command(alloc: Global, words: &[String]) -> Result<Command, WordsError>
 {
     words_ask_within_limits();
     read_words(alloc, words)
-}
-
-// Does what is asked for, and makes the texts.
-fn report_of<T: Threads + Wait + Sync, G: Ground>(
-    rt: &T,
-    alloc: Global,
-    command: Command,
-    files: &mut G,
-) -> Result<Report, Stop>
-where
-    G::Reader: Send,
-    requires lent { G.area files.old ≡ all_but [] }
-    requires within { CommonWithin (asked_by command).common }
-    ensures ready { IfOk result (λ report. IsReport (asked_by command) (G.tree files.old) (G.tree files.new) (G.count files.old) (G.count files.new) report.out report.notes report.failed) }
-    ensures stopped { IfErr result (Stops (asked_by command).start (asked_by command).output (G.tree files.old) (G.tree files.new) (G.count files.old) (G.count files.new)) }
-    ensures rest { SameButOutput (asked_by command).output (G.tree files.old) (G.tree files.new) }
-    ensures count { RoseBy 0 (G.count files.old) (G.count files.new) }
-{
-    match command {
-        Command::Walk {
-            common,
-            start,
-            sort,
-            output,
-        } => report_of_walk(rt, alloc, &common, start, sort, output, files),
-    }
-}
-
-// Lists what is asked for, saves it where that is asked for, and makes the texts.
-fn report_of_walk<T: Threads + Wait + Sync, G: Ground>(
-    rt: &T,
-    alloc: Global,
-    common: &Common,
-    start: Start,
-    sort: Option<(Field, bool)>,
-    output: Option<Path>,
-    files: &mut G,
-) -> Result<Report, Stop>
-where
-    G::Reader: Send,
-    requires lent { G.area files.old ≡ all_but [] }
-    requires within { CommonWithin common.now }
-    ensures ready { IfOk result (λ report. IsReport (asked_by (Walk common.now start sort output)) (G.tree files.old) (G.tree files.new) (G.count files.old) (G.count files.new) report.out report.notes report.failed) }
-    ensures stopped { IfErr result (Stops (start_in start) output (G.tree files.old) (G.tree files.new) (G.count files.old) (G.count files.new)) }
-    ensures rest { SameButOutput output (G.tree files.old) (G.tree files.new) }
-    ensures count { RoseBy 0 (G.count files.old) (G.count files.new) }
-{
-    let found = list_from(rt, alloc, common, start, files)?;
-    save_list(alloc, files, output, &found.list)?;
-    Ok(Report::of(alloc, found, common, sort)?)
 }

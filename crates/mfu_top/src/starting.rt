@@ -13,7 +13,7 @@ ghost use Rattle.mfu_top.specs.Run.{Walked, Listed, Tells, IsTooLongWalk};
 ghost use Rattle.mfu_top.specs.Stops.{StopsListing};
 ghost use Rattle.mfu_top.specs.Tells.{IsAccount};
 
-use crate::accounts::{Account, Found};
+use crate::accounts::{Account, Entries};
 use crate::reading::read_list;
 use crate::stops::Stop;
 use circle_run::Options;
@@ -32,16 +32,16 @@ pub(crate) fn list_from<T: Threads + Wait + Sync, G: Ground>(
     common: &Common,
     start: Start,
     files: &mut G,
-) -> Result<Found, Stop>
+) -> Result<Entries, Stop>
 where
     G::Reader: Send,
     requires within { CommonWithin common.now }
-    ensures listed { IfOk result (λ found. Listed (G.tree files.old) (start_in start) found.list (G.count files.old) (G.count files.new)) }
-    ensures told { IfOk result (λ found. (listed : Listed (G.tree files.old) (start_in start) found.list (G.count files.old) (G.count files.new))
-        × Tells common.now (G.tree files.old) (start_in start) found.list (G.count files.old) (G.count files.new) listed found.account) }
-    ensures few { IfOk result (λ found. length found.list ≤ 4194304) }
-    ensures ascend { IfOk result (λ found. IsStrictlySortedBy path_cmp (paths found.list)) }
-    ensures shaped { IfOk result (λ found. All (λ e. is_shaped e ≡ true) found.list) }
+    ensures listed { IfOk result (λ entries. Listed (G.tree files.old) (start_in start) entries.list (G.count files.old) (G.count files.new)) }
+    ensures told { IfOk result (λ entries. (listed : Listed (G.tree files.old) (start_in start) entries.list (G.count files.old) (G.count files.new))
+        × Tells common.now (G.tree files.old) (start_in start) entries.list (G.count files.old) (G.count files.new) listed entries.account) }
+    ensures few { IfOk result (λ entries. length entries.list ≤ 4194304) }
+    ensures ascend { IfOk result (λ entries. IsStrictlySortedBy path_cmp (paths entries.list)) }
+    ensures shaped { IfOk result (λ entries. All (λ e. is_shaped e ≡ true) entries.list) }
     ensures stopped { IfErr result (StopsListing (G.tree files.old) (start_in start) (G.count files.old) (G.count files.new)) }
     ensures same { G.tree files.new ≡ G.tree files.old }
     ensures area { G.area files.new ≡ G.area files.old }
@@ -49,7 +49,7 @@ where
 {
     match start {
         Start::Roots(paths) => Ok(walked(rt, alloc, common, paths, files)?),
-        Start::Input(path) => Ok(Found {
+        Start::Input(path) => Ok(Entries {
             list: read_list(alloc, files, path)?,
             account: Account::of_nothing(alloc),
         }),
@@ -63,16 +63,16 @@ fn walked<T: Threads + Wait + Sync, G: Ground>(
     common: &Common,
     given: Vec<Path>,
     files: &mut G,
-) -> Result<Found, WalkError>
+) -> Result<Entries, WalkError>
 where
     G::Reader: Send,
     requires within { CommonWithin common.now }
-    ensures walked { IfOk result (λ found. Walked (G.tree files.old) given.items found.list (G.count files.old) (G.count files.new)) }
-    ensures told { IfOk result (λ found. (walked : Walked (G.tree files.old) given.items found.list (G.count files.old) (G.count files.new))
-        × IsAccount common.now (G.tree files.old) walked.roots found.list found.account) }
-    ensures few { IfOk result (λ found. length found.list ≤ 4194304) }
-    ensures ascend { IfOk result (λ found. IsStrictlySortedBy path_cmp (paths found.list)) }
-    ensures shaped { IfOk result (λ found. All (λ e. is_shaped e ≡ true) found.list) }
+    ensures walked { IfOk result (λ entries. Walked (G.tree files.old) given.items entries.list (G.count files.old) (G.count files.new)) }
+    ensures told { IfOk result (λ entries. (walked : Walked (G.tree files.old) given.items entries.list (G.count files.old) (G.count files.new))
+        × IsAccount common.now (G.tree files.old) walked.roots entries.list entries.account) }
+    ensures few { IfOk result (λ entries. length entries.list ≤ 4194304) }
+    ensures ascend { IfOk result (λ entries. IsStrictlySortedBy path_cmp (paths entries.list)) }
+    ensures shaped { IfOk result (λ entries. All (λ e. is_shaped e ≡ true) entries.list) }
     ensures too_many { IfErr result (λ e. IfTooMany e (λ n. IsTooLongWalk (G.tree files.old) given.items (G.count files.old) (G.count files.new))) }
     ensures same { G.tree files.new ≡ G.tree files.old }
     ensures area { G.area files.new ≡ G.area files.old }
@@ -89,14 +89,14 @@ fn walked_from<T: Threads + Wait + Sync, G: Ground>(
     common: &Common,
     roots: Vec<Path>,
     files: &mut G,
-) -> Result<Found, WalkError>
+) -> Result<Entries, WalkError>
 where
     G::Reader: Send,
     requires within { CommonWithin common.now }
     requires apart { Apart roots.items }
-    ensures found { IfOk result (λ found. IsFound (G.tree files.old) roots.items (G.count files.old) (G.count files.new) found.list) }
-    ensures account { IfOk result (λ found. IsAccount common.now (G.tree files.old) roots.items found.list found.account) }
-    ensures few { IfOk result (λ found. length found.list ≤ 4194304) }
+    ensures found { IfOk result (λ entries. IsFound (G.tree files.old) roots.items (G.count files.old) (G.count files.new) entries.list) }
+    ensures account { IfOk result (λ entries. IsAccount common.now (G.tree files.old) roots.items entries.list entries.account) }
+    ensures few { IfOk result (λ entries. length entries.list ≤ 4194304) }
     ensures too_many { IfErr result (λ e. IfTooMany e (IsTooMuch (G.tree files.old) roots.items (G.count files.old) (G.count files.new))) }
     ensures same { G.tree files.new ≡ G.tree files.old }
     ensures area { G.area files.new ≡ G.area files.old }
@@ -114,7 +114,7 @@ where
         stop_after: None,
     };
     let report = walk(rt, alloc, files, roots, &options)?;
-    Ok(Found {
+    Ok(Entries {
         list: report.list,
         account: Account {
             events: report.events,

@@ -47,14 +47,45 @@ fn run_with<T: Abort + Threads + Wait + Sync>(
     words: &[&str],
     takes: (u64, u64),
 ) -> Result<(Status, MemSink, MemSink), Fail> {
+    run_at(rt, alloc, files, words, takes, NOW)
+}
+
+// The same at this time.
+fn run_at<T: Abort + Threads + Wait + Sync>(
+    rt: &T,
+    alloc: Global,
+    files: &mut MemGround,
+    words: &[&str],
+    takes: (u64, u64),
+    now: u64,
+) -> Result<(Status, MemSink, MemSink), Fail> {
     let mut given = Vec::new(alloc);
     for word in words {
         given.push(String::from_str(alloc, word)?)?;
     }
     let mut out = MemSink::limited(alloc, takes.0)?;
     let mut notes = MemSink::limited(alloc, takes.1)?;
-    let status = run(rt, alloc, &given, files, &mut out, &mut notes, NOW);
+    let status = run(rt, alloc, &given, files, &mut out, &mut notes, now);
     Ok((status, out, notes))
+}
+
+// What is wanted of a run: its words, its status, and what it writes.
+type Want<'w> = (&'w [&'w str], Status, &'w str, &'w str);
+
+// Whether each run does what is wanted, one after the other over the same files.
+fn do_as_wanted<T: Abort + Threads + Wait + Sync>(
+    rt: &T,
+    alloc: Global,
+    files: &mut MemGround,
+    wants: &[Want],
+) -> Result<(), Fail> {
+    for (words, status, out, notes) in wants {
+        let told = run_with(rt, alloc, files, words, (AMPLE, AMPLE))?;
+        assert_eq!(rt; told.0, *status, "{words:?}");
+        assert_eq!(rt; told.1.text(), out.as_bytes(), "{words:?}");
+        assert_eq!(rt; told.2.text(), notes.as_bytes(), "{words:?}");
+    }
+    Ok(())
 }
 
 #[test]
@@ -395,4 +426,245 @@ fn finds_the_same_by_any_ranks(rt: HostRuntime) -> Result<(), Fail> {
         assert_eq!(rt; told.2.text(), notes.as_bytes());
     }
     Ok(())
+}
+
+#[test]
+fn finds_what_meets_the_tests(rt: HostRuntime) -> Result<(), Fail> {
+    let alloc = rt.alloc();
+    let mut files = trees(alloc)?;
+    do_as_wanted(
+        &rt,
+        alloc,
+        &mut files,
+        &[
+            (
+                &["dfind", "/t", "--size=-1"],
+                Status::Done,
+                "d            0 /t\nd            0 /t/b\nf            0 /t/b/c\nitems 3 dirs 2 files 1 links 0 others 0 bytes 0 failed 0\n",
+                "",
+            ),
+            (
+                &["dfind", "/t", "--size", "+0", "--type", "f"],
+                Status::Done,
+                "f            5 /t/a\nf            1 /t/b-x\nitems 2 dirs 0 files 2 links 0 others 0 bytes 6 failed 0\n",
+                "",
+            ),
+            (
+                &["dfind", "/t", "--mtime", "2", "--mmin", "2880"],
+                Status::Done,
+                TREE_T,
+                "",
+            ),
+            (
+                &["dfind", "/t", "--mtime", "+2"],
+                Status::Done,
+                "items 0 dirs 0 files 0 links 0 others 0 bytes 0 failed 0\n",
+                "",
+            ),
+            (
+                &["dfind", "--sort", "size", "--path", "*/b*", "/t"],
+                Status::Done,
+                "d            0 /t/b\nf            0 /t/b/c\nf            1 /t/b-x\nitems 3 dirs 1 files 2 links 0 others 0 bytes 1 failed 0\n",
+                "",
+            ),
+            (
+                &["dfind", "--name", "l", "/v", "/w"],
+                Status::Named,
+                "l            0 /v/l\nitems 1 dirs 0 files 0 links 1 others 0 bytes 0 failed 1\n",
+                "too long /w 1\n",
+            ),
+            (
+                &["dfind", "/t", "--size", "2x"],
+                Status::Words,
+                "",
+                "refused word 3 bad value\n",
+            ),
+        ],
+    )
+}
+
+#[test]
+fn finds_in_an_ordinary_folder(rt: HostRuntime) -> Result<(), Fail> {
+    let alloc = rt.alloc();
+    let mut files = MemGround::empty(alloc)?;
+    files.put_dir(&Path::parse(alloc, "/home")?, 0, None)?;
+    files.put_dir(&Path::parse(alloc, "/home/ann")?, 0, None)?;
+    let profile = Path::parse(alloc, "/home/ann/.profile")?;
+    files.put_file(&profile, &[b'p'; 807], Some(1_600_000_000))?;
+    files.put_link(&Path::parse(alloc, "/home/ann/latest")?, None)?;
+    let text = Path::parse(alloc, "/home/ann/notes 2024.txt")?;
+    files.put_file(&text, &[b'n'; 1200], Some(1_699_900_000))?;
+    let words = ["dfind", "--name", "*.txt", "--mtime", "-7", "/home/ann"];
+    let takes = (AMPLE, AMPLE);
+    let told = run_at(&rt, alloc, &mut files, &words, takes, 1_700_000_000)?;
+    let out = "f         1200 /home/ann/notes 2024.txt
+items 1 dirs 0 files 1 links 0 others 0 bytes 1200 failed 0
+";
+    assert_eq!(rt; told.0, Status::Done);
+    assert_eq!(rt; told.1.text(), out.as_bytes());
+    assert_eq!(rt; told.2.text(), b"".as_slice());
+    Ok(())
+}
+
+#[test]
+fn names_each_path_of_newer_once(rt: HostRuntime) -> Result<(), Fail> {
+    let alloc = rt.alloc();
+    let mut files = trees(alloc)?;
+    files.put_file(&Path::parse(alloc, "/v/new")?, b"", Some(86401))?;
+    files.plan(Call::Stat, &Path::parse(alloc, "/t/a")?)?;
+    let nothing = "items 0 dirs 0 files 0 links 0 others 0 bytes 0 failed 1\n";
+    do_as_wanted(
+        &rt,
+        alloc,
+        &mut files,
+        &[
+            (
+                &["dfind", "/v", "--newer", "/t"],
+                Status::Done,
+                "f            0 /v/new\nitems 1 dirs 0 files 1 links 0 others 0 bytes 0 failed 0\n",
+                "",
+            ),
+            (
+                &["dfind", "/v", "--newer", "/none"],
+                Status::Named,
+                nothing,
+                "gone /none\n",
+            ),
+            (
+                &["dfind", "--newer", "/none", "/none", "--newer=/none"],
+                Status::Named,
+                nothing,
+                "gone /none\n",
+            ),
+            (
+                &["dfind", "/w", "--newer", "/x", "--newer", "/a"],
+                Status::Named,
+                "items 0 dirs 0 files 0 links 0 others 0 bytes 0 failed 3\n",
+                "gone /a\ntoo long /w 1\ngone /x\n",
+            ),
+        ],
+    )?;
+    assert_eq!(rt; files.faults(), 0);
+    do_as_wanted(
+        &rt,
+        alloc,
+        &mut files,
+        &[(
+            &["dfind", "/v", "--newer", "/t/a", "--newer", "/t/a"],
+            Status::Named,
+            nothing,
+            "failed newer /t/a\n",
+        )],
+    )?;
+    assert_eq!(rt; files.faults(), 1);
+    Ok(())
+}
+
+#[test]
+fn chooses_from_a_list_and_saves_what_was_chosen(rt: HostRuntime) -> Result<(), Fail> {
+    let alloc = rt.alloc();
+    let mut files = trees(alloc)?;
+    let two =
+        "f            5 /t/a\nf            1 /t/b-x\nitems 2 dirs 0 files 2 links 0 others 0 bytes 6 failed 0\n";
+    do_as_wanted(
+        &rt,
+        alloc,
+        &mut files,
+        &[
+            (&["dwalk", "--output", "/l", "/t"], Status::Done, TREE_T, ""),
+            (
+                &["dfind", "--input", "/l", "--size", "+0", "--output", "/m"],
+                Status::Done,
+                two,
+                "",
+            ),
+            (&["dfind", "--input", "/m"], Status::Done, two, ""),
+            (
+                &["dfind", "--input", "/none", "--newer", "/none"],
+                Status::ListFile,
+                "",
+                "list absent /none\n",
+            ),
+        ],
+    )?;
+    let saved = "mfu list 1\nf 5 86400 ok 0 0 /t/a\nf 1 86400 ok 0 0 /t/b-x\nend 2\n";
+    assert!(rt; holds(alloc, &mut files, "/m", saved)?);
+    Ok(())
+}
+
+#[test]
+fn walks_a_tree_of_its_own(rt: HostRuntime) -> Result<(), Fail> {
+    let alloc = rt.alloc();
+    let mut files = MemGround::empty(alloc)?;
+    files.plan(Call::Stat, &Path::parse(alloc, "/n0")?)?;
+    do_as_wanted(
+        &rt,
+        alloc,
+        &mut files,
+        &[
+            (
+                &["dtest", "10"],
+                Status::Done,
+                "items 10 dirs 2 files 8 links 0 others 0 bytes 416 failed 0\n",
+                "",
+            ),
+            (
+                &["dtest", "--ranks", "8", "--progress", "10"],
+                Status::Done,
+                "items 10 dirs 2 files 8 links 0 others 0 bytes 416 failed 0\n",
+                "progress 10\n",
+            ),
+            (
+                &["dtest", "--ranks", "1", "--progress", "2500"],
+                Status::Done,
+                "items 2500 dirs 313 files 2187 links 0 others 0 bytes 109340 failed 0\n",
+                "progress 1000\nprogress 2000\nprogress 2500\n",
+            ),
+            (
+                &["dtest", "--newer", "/n0", "10"],
+                Status::Done,
+                "items 0 dirs 0 files 0 links 0 others 0 bytes 0 failed 0\n",
+                "",
+            ),
+            (
+                &["dtest", "10", "--newer", "/t", "--name", "n[!12]"],
+                Status::Named,
+                "items 0 dirs 0 files 0 links 0 others 0 bytes 0 failed 1\n",
+                "gone /t\n",
+            ),
+            (
+                &["dtest", "0"],
+                Status::Words,
+                "",
+                "refused word 1 bad value\n",
+            ),
+        ],
+    )?;
+    assert_eq!(rt; files.faults(), 0);
+    Ok(())
+}
+
+#[test]
+fn walks_a_hundred_thousand_nodes(rt: HostRuntime) -> Result<(), Fail> {
+    let alloc = rt.alloc();
+    let mut files = MemGround::empty(alloc)?;
+    do_as_wanted(
+        &rt,
+        alloc,
+        &mut files,
+        &[
+            (
+                &["dtest", "100000"],
+                Status::Done,
+                "items 100000 dirs 12500 files 87500 links 0 others 0 bytes 4374975 failed 0\n",
+                "",
+            ),
+            (
+                &["dtest", "--type", "d", "100000"],
+                Status::Done,
+                "items 12500 dirs 12500 files 0 links 0 others 0 bytes 0 failed 0\n",
+                "",
+            ),
+        ],
+    )
 }

@@ -6,19 +6,19 @@ use Rattle.mfu_top.proofs.running.run.Goals as goal
 
 pub returns-in-Ok-report_of-clause-done : goal.returns-in-Ok-report_of-clause-done
 returns-in-Ok-report_of-clause-done g c = λ is.
-    done (map string_bytes c.args.words.now) _ _ _ _ _ _ _ _ _ _ _ _ c.in-Ok.ensures.read c.in-Ok-report_of.ensures.ready (c.put.ensures.done is)
+    done (map string_bytes c.args.words.now) _ _ _ _ _ _ c.in-Ok-report_of.report _ _ _ _ c.in-Ok.ensures.read c.in-Ok-report_of.ensures.ready (c.put.ensures.done is)
 
 pub returns-in-Ok-report_of-clause-named : goal.returns-in-Ok-report_of-clause-named
 returns-in-Ok-report_of-clause-named g c = λ is.
-    named (map string_bytes c.args.words.now) _ _ _ _ _ _ _ _ _ _ _ _ c.in-Ok.ensures.read c.in-Ok-report_of.ensures.ready (c.put.ensures.named is)
+    named (map string_bytes c.args.words.now) _ _ _ _ _ _ c.in-Ok-report_of.report _ _ _ _ c.in-Ok.ensures.read c.in-Ok-report_of.ensures.ready (c.put.ensures.named is)
 
 pub returns-in-Ok-report_of-clause-sink : goal.returns-in-Ok-report_of-clause-sink
 returns-in-Ok-report_of-clause-sink g c = λ is.
-    broken (map string_bytes c.args.words.now) _ _ _ _ _ _ _ _ _ _ _ _ _ _ _ _ _ c.in-Ok.ensures.read c.in-Ok-report_of.ensures.ready (c.put.ensures.sink is)
+    broken (map string_bytes c.args.words.now) _ _ _ _ _ _ c.in-Ok-report_of.report _ _ _ _ _ _ _ _ _ c.in-Ok.ensures.read c.in-Ok-report_of.ensures.ready (c.put.ensures.sink is)
 
 pub returns-in-Ok-report_of-clause-complete : goal.returns-in-Ok-report_of-clause-complete
 returns-in-Ok-report_of-clause-complete g c =
-    succeeds (map string_bytes c.args.words.now) _ _ _ _ _ _ _ _ _ _ _ _ _ c.in-Ok.ensures.read c.walk_without_faults_is_fine.ensures c.spelling_is_unique.ensures
+    succeeds (map string_bytes c.args.words.now) _ _ _ _ _ _ _ _ _ _ c.in-Ok-report_of.report _ c.in-Ok.ensures.read c.walk_without_faults_is_fine.ensures c.looks_without_faults_are_told.ensures c.nothing_to_order.ensures c.spelling_is_unique.ensures
     c.in-Ok.ensures.within
     c.in-Ok-report_of.ensures.ready c.put.ensures.named c.put.ensures.sink c.put.ensures.which
 
