@@ -11,6 +11,8 @@ const TOOLS: &str = "usage: mfu TOOL WORD..
 Tools for trees of files.
 
   dwalk PATH..     lists what stands at each path and below it, in path order
+  dfind PATH..     lists of that what meets tests
+  dtest N          walks a made-up tree of N nodes in memory, and touches no disk
 
   mfu TOOL --help  says more of a tool
   mfu --version    prints the version
@@ -67,6 +69,44 @@ A list that is not read or written is named on standard error, and nothing is pr
 A control byte or a backslash of a path is printed as \\x and two digits.
 ";
 
+const DFIND: &str = "usage: mfu dfind [OPTION].. [TEST].. PATH..
+       mfu dfind [OPTION].. [TEST].. --input FILE
+
+Lists, of what dwalk lists, what meets all tests, and a summary of that. It takes the options of
+dwalk: --output saves what was chosen, --sort orders it, --input chooses from a saved list. Every
+failure is named, also that of a path that no test would have chosen.
+
+  --name GLOB    the last name of the path matches
+  --path GLOB    the whole path matches
+  --type KIND    f, a regular file; d, a directory; l, a symbolic link; o, anything else
+  --size BOUND   the size in bytes; behind the number B, k, M and G stand for 1, 1024, 1024^2 and
+                 1024^3 bytes. Only regular files have a size above 0
+  --mtime BOUND  the whole days of 86400 seconds since the last change
+  --mmin BOUND   the whole minutes since the last change
+  --newer PATH   the last change came after that of PATH, which is looked at once, at the start
+
+A test may stand several times; all of them have to be met. A BOUND is N, which means exactly N; +N,
+more; or -N, less. What has no time meets no test of time.
+
+In a GLOB * is any text and ? any character, / too. [abc] is one of these characters, [a-c] one from
+a to c, [!abc] one that is none of them. A ] that stands first and a - that stands first or last are
+members. A backslash makes the next character stand for itself, as a [ does that no ] closes.
+
+Notes on standard error, beside those of dwalk:
+  gone P, failed newer P        nothing stands at a path P of --newer, or the system did not tell of it
+";
+
+const DTEST: &str = "usage: mfu dtest [OPTION].. [TEST].. N
+
+Makes a tree of N nodes in memory, 1 to 1000000, walks it, and prints the summary of what meets all
+tests. It touches no disk. Node K is named nK; node 0 stands under /, and each other node K under
+node (K - 1) / 8. A node with children is a directory, each other one a file of 37 K mod 101 bytes.
+No node has a time.
+
+The tests are those of dfind; a path of --newer is looked at in the made-up tree. The options are
+--ranks, --hosts, --split, --seed, --width, --trace, --shares and --progress, as for dwalk.
+";
+
 /// The text that the words ask for, where they are `--help`, a tool and `--help`, or `--version` and no more.
 pub fn asked(words: &[String]) -> Option<&'static str> {
     match words {
@@ -75,7 +115,16 @@ pub fn asked(words: &[String]) -> Option<&'static str> {
             "--version" => Some(VERSION),
             _ => None,
         },
-        [tool, word] if tool.as_str() == "dwalk" && word.as_str() == "--help" => Some(DWALK),
+        [tool, word] if word.as_str() == "--help" => help_of(tool.as_str()),
+        _ => None,
+    }
+}
+
+fn help_of(tool: &str) -> Option<&'static str> {
+    match tool {
+        "dwalk" => Some(DWALK),
+        "dfind" => Some(DFIND),
+        "dtest" => Some(DTEST),
         _ => None,
     }
 }
@@ -95,10 +144,13 @@ mod tests {
 
     #[test]
     fn help_is_the_whole_command_line(rt: HostRuntime) -> Result<(), Fail> {
-        let cases: [(&[&str], Option<&str>); 7] = [
+        let cases: [(&[&str], Option<&str>); 10] = [
             (&["--help"], Some("usage: mfu TOOL")),
             (&["--version"], Some("mfu 0.1.0")),
             (&["dwalk", "--help"], Some("usage: mfu dwalk")),
+            (&["dfind", "--help"], Some("usage: mfu dfind")),
+            (&["dtest", "--help"], Some("usage: mfu dtest")),
+            (&["dnone", "--help"], None),
             (&[], None),
             (&["dwalk"], None),
             (&["--help", "dwalk"], None),
