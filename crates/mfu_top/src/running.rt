@@ -9,6 +9,7 @@ ghost use Rattle.tool_words.specs.declared.errors.WordsError.{WordsError};
 ghost use Rattle.mfu_top.specs.declared.reports.Report.{Report};
 ghost use Rattle.mfu_top.specs.Run.{IsReport, SameButOutput, refusal_line, damaged_line, files_of, faults_of, has_lines, IsTooMuch, IsDamagedList, ListFault, IsFineStart, AreThere, Grew, GrewBySome, GrewByLine};
 
+use crate::laws::made_walk_is_fine;
 use crate::reporting::report_of;
 use crate::statuses::Status;
 use crate::telling::{end_stopped, end_with, refusal};
@@ -83,6 +84,7 @@ where
         → StoodStill (faults_of asked.start (G.count files.old)) (faults_of asked.start (G.count files.new)) → StoodStill (O.count out.old) (O.count out.new) → StoodStill (E.count notes.old) (E.count notes.new)
         → (result ≡ Status.Done) ⊎ (result ≡ Status.Memory))) }
 {
+    made_walk_is_fine();
     walk_without_faults_is_fine();
     looks_without_faults_are_told();
     nothing_to_order();

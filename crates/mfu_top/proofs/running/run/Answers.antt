@@ -18,7 +18,7 @@ returns-in-Ok-report_of-clause-sink g c = λ is.
 
 pub returns-in-Ok-report_of-clause-complete : goal.returns-in-Ok-report_of-clause-complete
 returns-in-Ok-report_of-clause-complete g c =
-    succeeds (map string_bytes c.args.words.now) _ _ _ _ _ _ _ _ _ _ c.in-Ok-report_of.report _ c.in-Ok.ensures.read c.walk_without_faults_is_fine.ensures c.looks_without_faults_are_told.ensures c.nothing_to_order.ensures c.spelling_is_unique.ensures
+    succeeds (map string_bytes c.args.words.now) _ _ _ _ _ _ _ _ _ _ c.in-Ok-report_of.report _ c.in-Ok.ensures.read c.made_walk_is_fine.ensures c.walk_without_faults_is_fine.ensures c.looks_without_faults_are_told.ensures c.nothing_to_order.ensures c.spelling_is_unique.ensures
     c.in-Ok.ensures.within
     c.in-Ok-report_of.ensures.ready c.put.ensures.named c.put.ensures.sink c.put.ensures.which
 
@@ -28,6 +28,6 @@ returns-in-Err-report_of-clause-list_file g c = λ is.
 
 pub returns-in-Err-report_of-clause-complete : goal.returns-in-Err-report_of-clause-complete
 returns-in-Err-report_of-clause-complete g c =
-    stops (map string_bytes c.args.words.now) _ _ _ _ _ _ _ _ _ c.in-Err-report_of.stop _ _ _ c.in-Ok.ensures.read c.walk_without_faults_is_fine.ensures c.refusals_are_exact.ensures
+    stops (map string_bytes c.args.words.now) _ _ _ _ _ _ _ _ _ c.in-Err-report_of.stop _ _ _ c.in-Ok.ensures.read c.made_walk_is_fine.ensures c.walk_without_faults_is_fine.ensures c.refusals_are_exact.ensures
     c.in-Ok.ensures.within
     c.in-Err-report_of.ensures.stopped c.end_stopped.ensures.told
