@@ -22,7 +22,7 @@ wrong=0
 
 # asked 'OUR TESTS' 'THEIRS': whether both choose the same paths
 asked() {
-    eval "$program dfind $1 '$work/tree'" 2>"$work/notes" | sed '$d' | cut -c 16- >"$work/ours"
+    eval "'$program' dfind $1 '$work/tree'" 2>"$work/notes" | sed '$d' | cut -c 16- >"$work/ours"
     eval "find '$work/tree' $2 -print" | tr / '\001' | LC_ALL=C sort | tr '\001' / >"$work/theirs"
     if [ -s "$work/notes" ] || ! cmp -s "$work/ours" "$work/theirs"; then
         echo "WRONG: dfind $1"
