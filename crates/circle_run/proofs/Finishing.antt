@@ -10,7 +10,7 @@ use Rattle.std.specs.List.{flat_map, range_with_len, sum_by}
 use Rattle.ring_core.specs.declared.events.Event.{Event}
 use Rattle.ring_core.specs.declared.states.Token.TheVariants.{Over}
 use Rattle.ring_core.specs.World.{started}
-use Rattle.post_board.specs.Shown.{Strings, Shown}
+use Rattle.post_board.specs.Shown.{Strings, Shown, is_served}
 use Rattle.post_board.specs.Told.{Told, place}
 use Rattle.post_board.specs.Deeds.{DeedsKeepSound}
 use Rattle.post_board.specs.Fresh.{fresh_told}
@@ -209,12 +209,12 @@ module _ {J S T P Q D : Type 0} (log : J → Log) (plain : J → D) (shows : S �
       → AllDone shows (seats p) all_seats
   seats_done o ranks p q all_seats all done are =
       let long : o.ranks ≡ length all_seats = sym (ap length are ∙ length-map ranks (λ (r : Rank J S T). r.seat) ∙ all.count) in
-      map_each (λ (k : ℕ) (x : S). seats p x × ((shows x).number ≡ k) × ((shows x).n ≡ length all_seats) × (((shows x).ended ≡ true) ⊎ ((shows x).stopped ≡ true))) (λ (r : Rank J S T). r.seat) ranks all_seats are
+      map_each (λ (k : ℕ) (x : S). seats p x × ((shows x).number ≡ k) × ((shows x).n ≡ length all_seats) × (((shows x).ended ≡ true) ⊎ ((shows x).stopped ≡ true)) × ((i : ℕ) → is_served (shows x) i ≡ false)) (λ (r : Rank J S T). r.seat) ranks all_seats are
       (λ k d h.
       let x = done k d h in
       let knows = x.ready.knows in
       let me = all.each k d h in
-      (x.ready.mine, knows.number ∙ me.0, knows.ranks ∙ ap (λ (q : Options). q.ranks) me.1 ∙ long, inl (knows.ended ∙ (x.over refl).0)))
+      (x.ready.mine, knows.number ∙ me.0, knows.ranks ∙ ap (λ (q : Options). q.ranks) me.1 ∙ long, inl (knows.ended ∙ (x.over refl).0), x.ready.none))
 
   pub sums_done : (o : Options) (ranks : List (Rank J S T)) (p : P) (q : Q) (all_sums : List T) → AreAll o ranks → AllEnded log shows seats sums_shows sums_seats ranks p q → all_sums ≡ map (λ (r : Rank J S T). r.sums_seat) ranks
       → AllFinished sums_shows (sums_seats q) all_sums

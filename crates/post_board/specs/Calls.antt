@@ -76,10 +76,10 @@ Even (Some x) i (Some y) j = slice_index_or y.taken i [] ≡ slice_index_or x.gi
 Even _ i _ j = Unit {0}
 
 module _ {S : Type 0} (shows : S → Shown) (seats : S → Type 0) where
-  -- the seats of all ranks, in ascending number, each ended or stopped
+  -- the seats of all ranks, in ascending number, each ended or stopped, and serving nobody
   abbrev pub AllDone : List S → Type 0
   AllDone all = (k : ℕ) (d : S) → k < length all → let s = shows (slice_index_or all k d) in
-      seats (slice_index_or all k d) × (s.number ≡ k) × (s.n ≡ length all) × ((s.ended ≡ true) ⊎ (s.stopped ≡ true))
+      seats (slice_index_or all k d) × (s.number ≡ k) × (s.n ≡ length all) × ((s.ended ≡ true) ⊎ (s.stopped ≡ true)) × ((r : ℕ) → is_served s r ≡ false)
 
   -- for each two ranks, what one took from the other is what that one gave
   abbrev pub AllEven : List S → Type 0

@@ -1,0 +1,5 @@
+//! Tests of the public calls of the crates at the bottom: paths, files, queues, looks and made-up trees.
+//!
+//! They stand here, and not in the crates, so that each of those is proved once: what they call is proved, and they are proved over
+//! its contracts.
+#![tactic(auto)]

@@ -1,0 +1,5 @@
+//! Tests of the public calls on lists, tests, words and texts.
+//!
+//! They stand here, and not in the crates, so that each of those is proved once: what they call is proved, and they are proved over
+//! its contracts.
+#![tactic(auto)]

@@ -1,0 +1,5 @@
+//! Tests of the public calls of the runtime: the pure world, boards, sums, ranks that take turns, and the walk.
+//!
+//! They stand here, and not in the crates, so that each of those is proved once: what they call is proved, and they are proved over
+//! its contracts.
+#![tactic(auto)]
