@@ -1,0 +1,5 @@
+pub mod Ends
+pub mod Lines
+pub mod Sides
+pub mod Statuses
+pub mod Stops

@@ -1,0 +1,144 @@
+//! The one line of a run that prints no listing.
+ghost use Rattle.std.specs.Prelude.{◌≡◌, ◌≢◌, ◌++◌, ◌∷◌, [], codes, IfOk, OnOk, OnErr};
+ghost use Rattle.outside.specs.Count.{RoseBy};
+ghost use Rattle.run_report.specs.Ends.{GrewByLine};
+ghost use Rattle.run_report.specs.Lines.{memory_line, refused_at, refusal_line, damaged_line, list_line};
+ghost use Rattle.run_report.specs.Sides.{stream_of};
+ghost use Rattle.run_report.specs.Stops.{status_of, trouble_word, stop_line, Told, ToldRefusal};
+
+use crate::statuses::Status;
+use crate::stops::{Stop, Trouble};
+use outside::{Sink, put_all};
+use path_text::{OutOfMemory, Path};
+use std::alloc::Global;
+use tool_text::{Text, put_line, put_path_line};
+use tool_words::WordsError;
+
+// Ends with one line. Where no memory was found for it, the line of status 3 stands in its place, which needs none. The
+// status stands also where the sink fails.
+fn end_with<E: Sink>(notes: &mut E, line: Result<Text, OutOfMemory>, status: Status) -> Status
+    ensures status { OnOk line (result ≡ status) }
+    ensures line { IfOk line (λ text. GrewByLine text (stream_of (E.text notes.old) (E.count notes.old)) (stream_of (E.text notes.new) (E.count notes.new))) }
+    ensures memory { OnErr line ((result ≡ Status.Memory) × GrewByLine memory_line (stream_of (E.text notes.old) (E.count notes.old)) (stream_of (E.text notes.new) (E.count notes.new))) }
+    ensures count { RoseBy 0 (E.count notes.old) (E.count notes.new) }
+{
+    match line {
+        Ok(text) => {
+            put_or_fail(notes, text.bytes());
+            status
+        }
+        Err(OutOfMemory) => {
+            put_or_fail(notes, b"out of memory\n");
+            Status::Memory
+        }
+    }
+}
+
+// Puts a line, or what a sink that fails takes of it.
+fn put_or_fail<E: Sink>(notes: &mut E, line: &[u8])
+    ensures line { GrewByLine line.now (stream_of (E.text notes.old) (E.count notes.old)) (stream_of (E.text notes.new) (E.count notes.new)) }
+    ensures count { RoseBy 0 (E.count notes.old) (E.count notes.new) }
+{
+    let _ = put_all(notes, line);
+}
+
+/// Ends a run whose words are refused, with the line of the offence; or, where no memory was found, with that line.
+pub fn end_refused<E: Sink>(alloc: Global, notes: &mut E, why: WordsError) -> Status
+    ensures told { ToldRefusal why result (stream_of (E.text notes.old) (E.count notes.old)) (stream_of (E.text notes.new) (E.count notes.new)) }
+    ensures count { RoseBy 0 (E.count notes.old) (E.count notes.new) }
+{
+    end_with(notes, refusal(alloc, why), Status::Words)
+}
+
+// The line that says which word is refused, and why.
+fn refusal(alloc: Global, e: WordsError) -> Result<Text, OutOfMemory>
+    ensures line { IfOk result (λ text. text ≡ refusal_line e) }
+    ensures words { OnOk result (e ≢ WordsError.OutOfMemory) }
+{
+    match e {
+        WordsError::NoTool(word) => refused_at(alloc, word, " no tool"),
+        WordsError::UnknownTool(word) => refused_at(alloc, word, " unknown tool"),
+        WordsError::UnknownOption(word) => refused_at(alloc, word, " unknown option"),
+        WordsError::NoValue(word) => refused_at(alloc, word, " no value"),
+        WordsError::BadValue(word) => refused_at(alloc, word, " bad value"),
+        WordsError::NoPath(word) => refused_at(alloc, word, " no path"),
+        WordsError::TooManyPaths(word) => refused_at(alloc, word, " too many paths"),
+        WordsError::Clash(word) => refused_at(alloc, word, " clash"),
+        WordsError::OutOfMemory => Err(OutOfMemory),
+    }
+}
+
+fn refused_at(alloc: Global, word: usize, reason: &str) -> Result<Text, OutOfMemory>
+    ensures { IfOk result (λ text. text ≡ refused_at word reason.now) }
+{
+    let line = format!(in alloc; "refused word {word}{reason}")?;
+    text_of(alloc, &line)
+}
+
+/// Ends a run that stopped, with its line; or, where no memory was found for that, with the line that says so.
+pub fn end_stopped<E: Sink>(alloc: Global, notes: &mut E, stop: Stop) -> Status
+    ensures told { Told stop result (stream_of (E.text notes.old) (E.count notes.old)) (stream_of (E.text notes.new) (E.count notes.new)) }
+    ensures count { RoseBy 0 (E.count notes.old) (E.count notes.new) }
+{
+    let status = status_of(&stop);
+    end_with(notes, stop_line(alloc, &stop), status)
+}
+
+fn status_of(stop: &Stop) -> Status
+    ensures { result ≡ status_of stop.now }
+{
+    match stop {
+        Stop::OutOfMemory => Status::Memory,
+        Stop::TooMany => Status::TooMany,
+        Stop::Damaged(..) => Status::Damaged,
+        Stop::ListFile(..) => Status::ListFile,
+    }
+}
+
+// The line that says why a run stopped. None is made of want of memory.
+fn stop_line(alloc: Global, stop: &Stop) -> Result<Text, OutOfMemory>
+    ensures { IfOk result (λ text. text ≡ stop_line stop.now) }
+{
+    match stop {
+        Stop::OutOfMemory => Err(OutOfMemory),
+        Stop::TooMany => text_of(alloc, "too many entries"),
+        Stop::Damaged(path, line) => damaged_line(alloc, path, *line),
+        Stop::ListFile(trouble, path) => list_line(alloc, trouble_word(*trouble), path),
+    }
+}
+
+fn damaged_line(alloc: Global, path: &Path, line: u64) -> Result<Text, OutOfMemory>
+    ensures { IfOk result (λ text. text ≡ damaged_line path.now line) }
+{
+    let mut text = Text::make(alloc);
+    let place = format!(in alloc; " line {line}")?;
+    put_path_line(&mut text, "damaged ", path, &place)?;
+    Ok(text)
+}
+
+fn list_line(alloc: Global, why: &str, path: &Path) -> Result<Text, OutOfMemory>
+    ensures { IfOk result (λ text. text ≡ list_line why.now path.now) }
+{
+    let mut text = Text::make(alloc);
+    let fault = format!(in alloc; "list {why} ")?;
+    put_path_line(&mut text, &fault, path, "")?;
+    Ok(text)
+}
+
+fn trouble_word(trouble: Trouble) -> &'static str
+    ensures { result.now ≡ trouble_word trouble }
+{
+    match trouble {
+        Trouble::Absent => "absent",
+        Trouble::NoPlace => "place",
+        Trouble::Fault => "fault",
+    }
+}
+
+fn text_of(alloc: Global, line: &str) -> Result<Text, OutOfMemory>
+    ensures { IfOk result (λ text. text ≡ line.now ++ 10 ∷ []) }
+{
+    let mut text = Text::make(alloc);
+    put_line(&mut text, line)?;
+    Ok(text)
+}
