@@ -1,0 +1,6 @@
+pub mod Chosen
+pub mod Fine
+pub mod Found
+pub mod Saved
+pub mod Told
+pub mod Unique

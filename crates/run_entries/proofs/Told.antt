@@ -1,0 +1,44 @@
+-- What is told of a walk, from its roots on.
+use Rattle.std.proofs.Common.{ℕ, List, Option, Some, None, IfSome, ◌≡◌}
+use Rattle.std.specs.Prelude.{Result, Ok, Err, IfOk}
+use Rattle.std.specs.List.{flat_map}
+use Rattle.std.specs.List.Sorted.{IsStrictlySortedBy}
+use Rattle.std.proofs.lemmas.List.Sorted.{IsPermutation-refl}
+use Rattle.path_text.specs.Order.{path_cmp}
+use Rattle.outside.specs.Tree.{Files}
+use Rattle.flat_list.specs.declared.entries.Entry.{Entry}
+use Rattle.tool_words.specs.declared.commands.Common.{Common}
+use Rattle.tree_walk.specs.declared.errors.WalkError.{WalkError}
+use Rattle.tree_walk.specs.Walk.{walk, answers_in}
+use Rattle.tree_walk.specs.Roots.{IsRoots}
+use Rattle.tree_walk.specs.Found.{IsFound, IsWalkOf}
+use Rattle.run_report.specs.Sides.{Side}
+use Rattle.run_entries.specs.declared.accounts.Entries.{Entries}
+use Rattle.run_entries.specs.Entries.{Walked}
+use Rattle.run_entries.specs.Tells.{IsAccount}
+
+-- starts that stand in path order are walked one after the other
+in_order : (tree : Option Files) (starts : List (List ℕ)) (entries : List Entry) → IsStrictlySortedBy path_cmp starts → IfSome tree (λ files. IsWalkOf files entries starts) →
+    IfSome tree (λ files. entries ≡ flat_map (walk files (answers_in entries)) starts)
+in_order None starts entries ascend told = tt
+in_order (Some files) starts entries ascend told = told starts (IsPermutation-refl starts) ascend
+
+walked_from : (before after : Side) (given starts : List (List ℕ)) (entries : List Entry) → IsRoots given starts →
+    IsFound before.tree starts before.count after.count entries → Walked given entries before after
+walked_from before after given starts entries are is = record {
+  roots = starts;
+  are = are;
+  told = in_order before.tree starts entries are.ascend is.told;
+  valid = is.valid;
+  ascend = is.ascend;
+  within = is.within;
+  counted = is.counted;
+}
+
+-- a walk of the roots is one of the given paths
+pub told : (common : Common) (before after : Side) (given starts : List (List ℕ)) (r : Result Entries WalkError) → IsRoots given starts →
+    IfOk r (λ entries. IsFound before.tree starts before.count after.count entries.list) → IfOk r (λ entries. IsAccount common before.tree starts entries.list entries.account) →
+    IfOk r (λ entries. (walked : Walked given entries.list before after) × IsAccount common before.tree walked.roots entries.list entries.account)
+unfolding walked_from
+told common before after given starts (Ok entries) are is account = (walked_from before after given starts entries.list are is, account)
+told common before after given starts (Err e) are is account = tt

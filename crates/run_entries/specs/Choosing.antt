@@ -1,0 +1,49 @@
+-- What is chosen of a list, and what is named beside it. After the tests of find and of mpiFileUtils' dfind.
+use Rattle.std.specs.Prelude.{ℕ, false, List, [], ◌∷◌, ◌++◌, map, filter, Option, Some, None}
+use Rattle.std.specs.List.{flat_map}
+use Rattle.flat_list.specs.declared.entries.Entry.{Entry}
+use Rattle.find_tests.specs.declared.testing.Test.{Test}
+use Rattle.find_tests.specs.declared.testing.Test.TheVariants as test
+use Rattle.find_tests.specs.Tests.{is_selected}
+use Rattle.path_looks.specs.declared.looks.Look.{Look}
+use Rattle.path_looks.specs.declared.looks.Seen.{Seen}
+use Rattle.path_looks.specs.declared.looks.Seen.TheVariants as seen
+use Rattle.tool_text.specs.declared.noting.Note.{Note}
+use Rattle.tool_text.specs.declared.noting.Why.{Why}
+use Rattle.tool_text.specs.declared.noting.Why.TheVariants as why
+use Rattle.tool_text.specs.Notes.{notes_of}
+use Rattle.tool_words.specs.Words.{Choice}
+
+-- the paths that are looked at
+abbrev pub newer_in : Option Choice → List (List ℕ)
+newer_in None = []
+newer_in (Some choice) = choice.newer
+
+-- the tests that the words say
+abbrev pub tests_in : Option Choice → Option (List Test)
+tests_in None = None
+tests_in (Some choice) = Some choice.tests
+
+-- the test that a look gives: a change after that time. Where no time was told, nothing has changed after it
+abbrev pub newer_than : Seen → Test
+newer_than (seen.At mtime) = test.Newer mtime
+newer_than seen.Absent = test.Newer None
+newer_than seen.Failed = test.Newer None
+
+-- what is chosen: all, or the entries that have a stat and meet every test
+abbrev pub chosen_of : Option (List Test) → List Look → ℕ → List Entry → List Entry
+chosen_of None looks now entries = entries
+chosen_of (Some tests) looks now entries = filter (is_selected (tests ++ map (λ l. newer_than l.seen) looks) now) entries
+
+-- why a path is named that was looked at
+abbrev pub look_whys : Seen → List Why
+look_whys (seen.At mtime) = []
+look_whys seen.Absent = why.Gone ∷ []
+look_whys seen.Failed = why.FailedNewer ∷ []
+
+abbrev pub look_notes : Look → List Note
+look_notes look = map (λ w. record { path = look.path; why = w; dest = false }) (look_whys look.seen)
+
+-- all that is to be named: of the looks, and of the entries, chosen or not
+abbrev pub failures_of : List Look → List Entry → List Note
+failures_of looks entries = flat_map look_notes looks ++ notes_of entries

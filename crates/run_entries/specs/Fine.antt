@@ -1,0 +1,78 @@
+-- When nothing stands against finding and saving entries. Our own.
+use Rattle.std.specs.Prelude.{◌≡◌, ℕ, ◌≤◌, List, [], length, Option, Some, IfSome, All, true, is_some}
+use Rattle.std.specs.FinMap.{get}
+use Rattle.std.specs.List.{flat_map}
+use Rattle.outside.specs.Tree.{Files}
+use Rattle.outside.specs.Count.{StoodStill}
+use Rattle.outside.specs.Whole.{HoldsFile, can_save}
+use Rattle.flat_list.specs.declared.entries.Entry.{Entry}
+use Rattle.flat_list.specs.declared.entries.Mark.TheVariants as mark
+use Rattle.flat_list.specs.Spelling.{Spells}
+use Rattle.tool_text.specs.declared.noting.Note.{Note}
+use Rattle.tool_words.specs.declared.commands.Common.{Common}
+use Rattle.tool_words.specs.Limits.{Valid, paths_in}
+use Rattle.tool_words.specs.Words.{Origin, roots, input, made, Choice}
+use Rattle.tree_walk.specs.Walk.{walk, all_told}
+use Rattle.tree_walk.specs.Roots.{IsRoots}
+use Rattle.run_report.specs.declared.stops.Stop.{Stop}
+use Rattle.run_report.specs.declared.stops.Stop.TheVariants as stop
+use Rattle.run_report.specs.Sides.{Side}
+use Rattle.run_entries.specs.declared.accounts.Account.{Account}
+use Rattle.run_entries.specs.Choosing.{newer_in}
+use Rattle.run_entries.specs.Entries.{Finds}
+use Rattle.run_entries.specs.Stopping.{StopsFinding, StopsSaving}
+
+-- nothing is left to name in a walk: every root is there, no directory below has a child whose path is too long, and the walk is no longer than a list may be
+pub record IsFineWalk (files : Files) (given : List (List ℕ)) : Type 0 where
+  pub roots : List (List ℕ)
+  pub are : IsRoots given roots
+  pub there : All (λ root. is_some (get files root) ≡ true) roots
+  pub near : All (λ e. e.far ≡ 0) (flat_map (walk files all_told) roots)
+  pub few : length (flat_map (walk files all_told) roots) ≤ 4194304
+
+-- or in a list file: it is there, its bytes spell a list that is not too long, and each entry in it is fine
+pub record IsFineList (files : Files) (path : List ℕ) : Type 0 where
+  pub bytes : List ℕ
+  pub holds : HoldsFile bytes (get files path)
+  pub entries : List Entry
+  pub spells : Spells bytes entries
+  pub few : length entries ≤ 4194304
+  pub fine : All (λ e. (e.mark ≡ mark.Fine) × (e.unnamed ≡ 0) × (e.far ≡ 0)) entries
+
+abbrev pub IsFineStart : Files → Origin → Type 0
+IsFineStart files (roots given) = IsFineWalk files given
+IsFineStart files (input path) = IsFineList files path
+IsFineStart files (made n) = ⊥
+
+-- something is at each of the paths that are looked at
+abbrev pub AreThere : Files → Option Choice → Type 0
+AreThere files choice = All (λ path. is_some (get files path) ≡ true) (newer_in choice)
+
+-- the side tells a fine tree, and no fault is counted
+pub record IsFineSide (start : Origin) (before after : Side) : Type 0 where
+  pub files : Files
+  pub told : before.tree ≡ Some files
+  pub fine : IsFineStart files start
+  pub stood : StoodStill before.count after.count
+
+-- the laws
+
+abbrev pub RootsAreUnique : Type 0
+RootsAreUnique = (given roots others : List (List ℕ)) → All Valid given → IsRoots given roots → IsRoots given others → roots ≡ others
+
+-- what is found in a fine side names nothing
+abbrev pub FineFindsNameNothing : Type 0
+FineFindsNameNothing =
+    (common : Common) (start : Origin) (choice : Option Choice) (now : ℕ) (before after : Side) (chosen : List Entry) (notes : List Note) (account : Account) → All Valid (paths_in start) →
+    (fine : IsFineSide start before after) → AreThere fine.files choice → Finds common start choice now before after chosen notes account → notes ≡ []
+
+-- only want of memory stops a run that looks for entries in a fine side
+abbrev pub FineFindsStopForMemory : Type 0
+FineFindsStopForMemory =
+    (start : Origin) (choice : Option Choice) (before after : Side) (why : Stop) → All Valid (paths_in start) → IsFineSide start before after → StopsFinding start choice before after why → why ≡ stop.OutOfMemory
+
+-- and one that saves them where they have a place, and no fault is counted
+abbrev pub FinePlacesStopForMemory : Type 0
+FinePlacesStopForMemory =
+    (output : Option (List ℕ)) (files : Files) (before after : Side) (why : Stop) → before.tree ≡ Some files → IfSome output (λ path. can_save files path ≡ true) →
+    StoodStill before.count after.count → StopsSaving output before after why → why ≡ stop.OutOfMemory

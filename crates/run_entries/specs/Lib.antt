@@ -1,0 +1,6 @@
+pub mod Choosing
+pub mod Entries
+pub mod Fine
+pub mod Saving
+pub mod Stopping
+pub mod Tells

@@ -1,0 +1,100 @@
+-- Why a run stops while it finds or saves its entries, step by step. Our own.
+use Rattle.std.specs.Prelude.{◌≡◌, ◌⊎◌, ℕ, ◌<◌, ◌≤◌, List, length, Option, Some, IfSome, false}
+use Rattle.std.specs.FinMap.{get}
+use Rattle.outside.specs.Tree.{is_file}
+use Rattle.outside.specs.Count.{RoseBy}
+use Rattle.outside.specs.Whole.{HoldsFile, can_save}
+use Rattle.flat_list.specs.declared.entries.Entry.{Entry}
+use Rattle.flat_list.specs.Spelling.{IsRefused, IsTooLong}
+use Rattle.path_looks.specs.declared.looks.Look.{Look}
+use Rattle.path_looks.specs.Looks.{AreLooks}
+use Rattle.tool_words.specs.Words.{Origin, roots, input, made, Choice}
+use Rattle.tree_walk.specs.declared.errors.WalkError.{WalkError}
+use Rattle.tree_walk.specs.declared.errors.WalkError.TheVariants as walked
+use Rattle.run_report.specs.declared.stops.Trouble.TheVariants as trouble
+use Rattle.run_report.specs.declared.stops.Stop.{Stop}
+use Rattle.run_report.specs.declared.stops.Stop.TheVariants as stop
+use Rattle.run_report.specs.Sides.{Side, side_of}
+use Rattle.run_entries.specs.Choosing.{newer_in}
+use Rattle.run_entries.specs.Entries.{Walked, Surveyed}
+
+-- no file is there to be read
+pub record IsAbsent (start : Origin) (before : Side) (path : List ℕ) : Type 0 where
+  pub named : start ≡ input path
+  pub told : IfSome before.tree (λ files. is_file (get files path) ≡ false)
+
+-- the list that is read is none: where the files tell their tree, this is the first line through which its bytes begin no list file
+pub record IsDamagedList (start : Origin) (before : Side) (path : List ℕ) (line : ℕ) : Type 0 where
+  pub named : start ≡ input path
+  pub told : IfSome before.tree (λ files. (bytes : List ℕ) × HoldsFile bytes (get files path) × IsRefused bytes line)
+
+-- the files failed while the list file was read
+pub record FailedRead (start : Origin) (before after : Side) (path : List ℕ) : Type 0 where
+  pub named : start ≡ input path
+  pub counted : RoseBy 1 before.count after.count
+
+-- a walk of more entries than a list may have
+pub record IsTooLongWalk (given : List (List ℕ)) (before after : Side) : Type 0 where
+  pub entries : List Entry
+  pub walked : Walked given entries before after
+  pub many : 4194304 < length entries
+
+-- more entries than a list may have: those of a walk, or those that stand first in the list that is read
+abbrev pub IsTooMuch : Origin → Side → Side → Type 0
+IsTooMuch (roots given) before after = IsTooLongWalk given before after
+IsTooMuch (input path) before after = IfSome before.tree (λ files. (bytes : List ℕ) × HoldsFile bytes (get files path) × IsTooLong bytes)
+IsTooMuch (made n) before after = ⊥
+
+-- the entries were not listed
+abbrev pub StopsListing : Origin → Side → Side → Stop → Type 0
+StopsListing start before after stop.OutOfMemory = Unit {0}
+StopsListing start before after stop.TooMany = IsTooMuch start before after
+StopsListing start before after (stop.Damaged path line) = IsDamagedList start before path line
+StopsListing start before after (stop.ListFile trouble.Absent path) = IsAbsent start before path
+StopsListing start before after (stop.ListFile trouble.NoPlace path) = ⊥
+StopsListing start before after (stop.ListFile trouble.Fault path) = FailedRead start before after path
+
+-- they were not, though the paths of `--newer` were looked at, which comes before
+pub record StopsAfterLooks (start : Origin) (choice : Option Choice) (before after : Side) (why : Stop) : Type 0 where
+  pub looks : List Look
+  pub between : ℕ
+  pub looked : AreLooks before.tree (newer_in choice) looks before.count between
+  pub later : between ≤ after.count
+  pub stops : StopsListing start (side_of before.tree between) after why
+
+-- nothing was found: for want of memory, or since the entries were not listed
+abbrev pub StopsFinding : Origin → Option Choice → Side → Side → Stop → Type 0
+StopsFinding start choice before after why = (why ≡ stop.OutOfMemory) ⊎ StopsAfterLooks start choice before after why
+
+-- no file can be where the list is to be written
+pub record HasNoPlace (output : Option (List ℕ)) (before : Side) (path : List ℕ) : Type 0 where
+  pub named : output ≡ Some path
+  pub told : IfSome before.tree (λ files. can_save files path ≡ false)
+
+-- the files failed while the list file was written
+pub record FailedWrite (output : Option (List ℕ)) (before after : Side) (path : List ℕ) : Type 0 where
+  pub named : output ≡ Some path
+  pub counted : RoseBy 1 before.count after.count
+
+-- the entries were not saved
+abbrev pub StopsSaving : Option (List ℕ) → Side → Side → Stop → Type 0
+StopsSaving output before after stop.OutOfMemory = Unit {0}
+StopsSaving output before after stop.TooMany = ⊥
+StopsSaving output before after (stop.Damaged path line) = ⊥
+StopsSaving output before after (stop.ListFile trouble.Absent path) = ⊥
+StopsSaving output before after (stop.ListFile trouble.NoPlace path) = HasNoPlace output before path
+StopsSaving output before after (stop.ListFile trouble.Fault path) = FailedWrite output before after path
+
+-- they were not, though they were looked for and listed before, and were no more than a list may have
+pub record StopsAfterListing (start : Origin) (choice : Option Choice) (output : Option (List ℕ)) (before after : Side) (why : Stop) : Type 0 where
+  pub looks : List Look
+  pub entries : List Entry
+  pub between : ℕ
+  pub survey : Surveyed start choice before (side_of before.tree between) looks entries
+  pub later : between ≤ after.count
+  pub stops : StopsSaving output (side_of before.tree between) after why
+
+-- why a walk gave no list
+abbrev pub stop_by : WalkError → Stop
+stop_by walked.OutOfMemory = stop.OutOfMemory
+stop_by (walked.TooMany n) = stop.TooMany

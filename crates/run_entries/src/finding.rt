@@ -1,0 +1,128 @@
+//! What a run finds in its files.
+ghost use Rattle.std.specs.Prelude.{◌≡◌, All, IfOk, IfErr, Some, None, true};
+ghost use Rattle.std.specs.List.Sorted.{IsStrictlySortedBy};
+ghost use Rattle.std.specs.Option.{option_map};
+ghost use Rattle.path_text.specs.Order.{path_cmp};
+ghost use Rattle.outside.specs.Count.{RoseBy};
+ghost use Rattle.flat_list.specs.Entries.{is_shaped};
+ghost use Rattle.flat_list.specs.Spelling.{paths};
+ghost use Rattle.tool_words.specs.Limits.{CommonWithin};
+ghost use Rattle.tool_words.specs.Words.{start_in, choice_in};
+ghost use Rattle.run_report.specs.Sides.{side_of};
+ghost use Rattle.run_entries.specs.Entries.{Finds};
+ghost use Rattle.run_entries.specs.Stopping.{StopsFinding};
+
+use crate::accounts::{Account, Entries};
+use crate::choosing::{choose, failures};
+use crate::starting::list_from;
+use flat_list::FlatList;
+use outside::Ground;
+use path_looks::look_at_each;
+use run_report::Stop;
+use std::alloc::Global;
+use std::sync::Wait;
+use std::thread::Threads;
+use tool_text::Note;
+use tool_words::{Common, Start, Tests};
+
+/// What a run finds.
+#[derive(Drop)]
+pub struct Findings {
+    /// The entries that are chosen.
+    pub chosen: FlatList,
+    /// The notes of all that failed.
+    pub notes: Vec<Note>,
+    /// What is told of the walk.
+    pub account: Account,
+}
+
+/// Lists what stands at the start and below it, or reads the list, and chooses of it: by the tests, or all.
+pub fn find<T: Threads + Wait + Sync, G: Ground>(
+    rt: &T,
+    alloc: Global,
+    common: &Common,
+    start: Start,
+    choice: Option<Tests>,
+    now: u64,
+    files: &mut G,
+) -> Result<Findings, Stop>
+where
+    G::Reader: Send,
+    requires within { CommonWithin common.now }
+    ensures finds { IfOk result (λ found. Finds common.now (start_in start) (option_map choice_in choice) now (side_of (G.tree files.old) (G.count files.old)) (side_of (G.tree files.new) (G.count files.new)) found.chosen found.notes.items found.account) }
+    ensures ascend { IfOk result (λ found. IsStrictlySortedBy path_cmp (paths found.chosen)) }
+    ensures shaped { IfOk result (λ found. All (λ e. is_shaped e ≡ true) found.chosen) }
+    ensures stopped { IfErr result (StopsFinding (start_in start) (option_map choice_in choice) (side_of (G.tree files.old) (G.count files.old)) (side_of (G.tree files.new) (G.count files.new))) }
+    ensures same { G.tree files.new ≡ G.tree files.old }
+    ensures area { G.area files.new ≡ G.area files.old }
+    ensures count { RoseBy 0 (G.count files.old) (G.count files.new) }
+{
+    match choice {
+        Some(tests) => find_chosen(rt, alloc, common, start, tests, now, files),
+        None => find_all(rt, alloc, common, start, now, files),
+    }
+}
+
+// All that is listed.
+fn find_all<T: Threads + Wait + Sync, G: Ground>(
+    rt: &T,
+    alloc: Global,
+    common: &Common,
+    start: Start,
+    now: u64,
+    files: &mut G,
+) -> Result<Findings, Stop>
+where
+    G::Reader: Send,
+    requires within { CommonWithin common.now }
+    ensures finds { IfOk result (λ found. Finds common.now (start_in start) None now (side_of (G.tree files.old) (G.count files.old)) (side_of (G.tree files.new) (G.count files.new)) found.chosen found.notes.items found.account) }
+    ensures ascend { IfOk result (λ found. IsStrictlySortedBy path_cmp (paths found.chosen)) }
+    ensures shaped { IfOk result (λ found. All (λ e. is_shaped e ≡ true) found.chosen) }
+    ensures stopped { IfErr result (StopsFinding (start_in start) None (side_of (G.tree files.old) (G.count files.old)) (side_of (G.tree files.new) (G.count files.new))) }
+    ensures same { G.tree files.new ≡ G.tree files.old }
+    ensures area { G.area files.new ≡ G.area files.old }
+    ensures count { RoseBy 0 (G.count files.old) (G.count files.new) }
+{
+    // The count of faults is a number of 64 bits.
+    let _faults = files.faults();
+    let Entries { list, account } = list_from(rt, alloc, common, start, files)?;
+    let notes = failures(alloc, &[], &list)?;
+    Ok(Findings {
+        chosen: list,
+        notes,
+        account,
+    })
+}
+
+// What meets the tests. The paths of `--newer` are looked at first.
+fn find_chosen<T: Threads + Wait + Sync, G: Ground>(
+    rt: &T,
+    alloc: Global,
+    common: &Common,
+    start: Start,
+    choice: Tests,
+    now: u64,
+    files: &mut G,
+) -> Result<Findings, Stop>
+where
+    G::Reader: Send,
+    requires within { CommonWithin common.now }
+    ensures finds { IfOk result (λ found. Finds common.now (start_in start) (Some (choice_in choice)) now (side_of (G.tree files.old) (G.count files.old)) (side_of (G.tree files.new) (G.count files.new)) found.chosen found.notes.items found.account) }
+    ensures ascend { IfOk result (λ found. IsStrictlySortedBy path_cmp (paths found.chosen)) }
+    ensures shaped { IfOk result (λ found. All (λ e. is_shaped e ≡ true) found.chosen) }
+    ensures stopped { IfErr result (StopsFinding (start_in start) (Some (choice_in choice)) (side_of (G.tree files.old) (G.count files.old)) (side_of (G.tree files.new) (G.count files.new))) }
+    ensures same { G.tree files.new ≡ G.tree files.old }
+    ensures area { G.area files.new ≡ G.area files.old }
+    ensures count { RoseBy 0 (G.count files.old) (G.count files.new) }
+{
+    let Tests { tests, newer } = choice;
+    let looks = look_at_each(alloc, files, newer)?;
+    let Entries { list, account } = list_from(rt, alloc, common, start, files)?;
+    let notes = failures(alloc, &looks, &list)?;
+    let chosen = choose(alloc, &list, tests, &looks, now)?;
+    Ok(Findings {
+        chosen,
+        notes,
+        account,
+    })
+}

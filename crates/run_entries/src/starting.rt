@@ -1,0 +1,139 @@
+//! The entries that a run is about.
+ghost use Rattle.std.specs.Prelude.{◌≡◌, ◌<◌, ◌≤◌, List, All, length, IfOk, IfErr, true};
+ghost use Rattle.std.specs.List.Sorted.{IsStrictlySortedBy};
+ghost use Rattle.path_text.specs.Order.{path_cmp};
+ghost use Rattle.outside.specs.Count.{RoseBy};
+ghost use Rattle.flat_list.specs.Entries.{is_shaped};
+ghost use Rattle.flat_list.specs.Spelling.{paths};
+ghost use Rattle.tool_words.specs.Limits.{CommonWithin};
+ghost use Rattle.tool_words.specs.Words.{start_in};
+ghost use Rattle.tree_walk.specs.Found.{IsFound, IfTooMany, IsTooMuch};
+ghost use Rattle.tree_walk.specs.Roots.{Apart};
+ghost use Rattle.run_report.specs.Sides.{side_of};
+ghost use Rattle.run_entries.specs.Entries.{Walked, Listed, Tells};
+ghost use Rattle.run_entries.specs.Stopping.{IsTooLongWalk, StopsListing, stop_by};
+ghost use Rattle.run_entries.specs.Tells.{IsAccount};
+
+use crate::accounts::{Account, Entries};
+use crate::reading::read_list;
+use circle_run::Options;
+use outside::Ground;
+use path_text::Path;
+use run_report::Stop;
+use std::alloc::Global;
+use std::sync::Wait;
+use std::thread::Threads;
+use tool_words::{Common, Start};
+use tree_walk::{WalkError, roots_of, walk};
+
+/// The entries of the roots, which are walked, or of the list file; and what is told of the walk.
+pub(crate) fn list_from<T: Threads + Wait + Sync, G: Ground>(
+    rt: &T,
+    alloc: Global,
+    common: &Common,
+    start: Start,
+    files: &mut G,
+) -> Result<Entries, Stop>
+where
+    G::Reader: Send,
+    requires within { CommonWithin common.now }
+    ensures listed { IfOk result (λ entries. Listed (start_in start) entries.list (side_of (G.tree files.old) (G.count files.old)) (side_of (G.tree files.new) (G.count files.new))) }
+    ensures told { IfOk result (λ entries. (listed : Listed (start_in start) entries.list (side_of (G.tree files.old) (G.count files.old)) (side_of (G.tree files.new) (G.count files.new)))
+        × Tells common.now (start_in start) entries.list (side_of (G.tree files.old) (G.count files.old)) (side_of (G.tree files.new) (G.count files.new)) listed entries.account) }
+    ensures few { IfOk result (λ entries. length entries.list ≤ 4194304) }
+    ensures ascend { IfOk result (λ entries. IsStrictlySortedBy path_cmp (paths entries.list)) }
+    ensures shaped { IfOk result (λ entries. All (λ e. is_shaped e ≡ true) entries.list) }
+    ensures stopped { IfErr result (StopsListing (start_in start) (side_of (G.tree files.old) (G.count files.old)) (side_of (G.tree files.new) (G.count files.new))) }
+    ensures same { G.tree files.new ≡ G.tree files.old }
+    ensures area { G.area files.new ≡ G.area files.old }
+    ensures count { RoseBy 0 (G.count files.old) (G.count files.new) }
+{
+    match start {
+        Start::Roots(paths) => match walked(rt, alloc, common, paths, files) {
+            Ok(entries) => Ok(entries),
+            Err(why) => Err(stop_by(why)),
+        },
+        Start::Input(path) => Ok(Entries {
+            list: read_list(alloc, files, path)?,
+            account: Account::of_nothing(alloc),
+        }),
+    }
+}
+
+// Why a walk gave no list.
+fn stop_by(why: WalkError) -> Stop
+    ensures { result ≡ stop_by why }
+{
+    match why {
+        WalkError::OutOfMemory => Stop::OutOfMemory,
+        WalkError::TooMany(_) => Stop::TooMany,
+    }
+}
+
+// Walks the roots of the given paths.
+fn walked<T: Threads + Wait + Sync, G: Ground>(
+    rt: &T,
+    alloc: Global,
+    common: &Common,
+    given: Vec<Path>,
+    files: &mut G,
+) -> Result<Entries, WalkError>
+where
+    G::Reader: Send,
+    requires within { CommonWithin common.now }
+    ensures walked { IfOk result (λ entries. Walked given.items entries.list (side_of (G.tree files.old) (G.count files.old)) (side_of (G.tree files.new) (G.count files.new))) }
+    ensures told { IfOk result (λ entries. (walked : Walked given.items entries.list (side_of (G.tree files.old) (G.count files.old)) (side_of (G.tree files.new) (G.count files.new)))
+        × IsAccount common.now (G.tree files.old) walked.roots entries.list entries.account) }
+    ensures few { IfOk result (λ entries. length entries.list ≤ 4194304) }
+    ensures ascend { IfOk result (λ entries. IsStrictlySortedBy path_cmp (paths entries.list)) }
+    ensures shaped { IfOk result (λ entries. All (λ e. is_shaped e ≡ true) entries.list) }
+    ensures too_many { IfErr result (λ e. IfTooMany e (λ n. IsTooLongWalk given.items (side_of (G.tree files.old) (G.count files.old)) (side_of (G.tree files.new) (G.count files.new)))) }
+    ensures same { G.tree files.new ≡ G.tree files.old }
+    ensures area { G.area files.new ≡ G.area files.old }
+    ensures count { RoseBy 0 (G.count files.old) (G.count files.new) }
+{
+    let roots = roots_of(given)?;
+    walked_from(rt, alloc, common, roots, files)
+}
+
+// Walks these roots, with as many ranks as are asked for.
+fn walked_from<T: Threads + Wait + Sync, G: Ground>(
+    rt: &T,
+    alloc: Global,
+    common: &Common,
+    roots: Vec<Path>,
+    files: &mut G,
+) -> Result<Entries, WalkError>
+where
+    G::Reader: Send,
+    requires within { CommonWithin common.now }
+    requires apart { Apart roots.items }
+    ensures found { IfOk result (λ entries. IsFound (G.tree files.old) roots.items (G.count files.old) (G.count files.new) entries.list) }
+    ensures account { IfOk result (λ entries. IsAccount common.now (G.tree files.old) roots.items entries.list entries.account) }
+    ensures few { IfOk result (λ entries. length entries.list ≤ 4194304) }
+    ensures too_many { IfErr result (λ e. IfTooMany e (IsTooMuch (G.tree files.old) roots.items (G.count files.old) (G.count files.new))) }
+    ensures same { G.tree files.new ≡ G.tree files.old }
+    ensures area { G.area files.new ≡ G.area files.old }
+    ensures count { RoseBy 0 (G.count files.old) (G.count files.new) }
+{
+    // The count of faults is a number of 64 bits.
+    let _faults = files.faults();
+    let options = Options {
+        ranks: common.ranks,
+        hosts: common.hosts,
+        split: common.split,
+        seed: common.seed,
+        width: common.width,
+        trace: common.trace || common.shares,
+        stop_after: None,
+    };
+    let report = walk(rt, alloc, files, roots, &options)?;
+    Ok(Entries {
+        list: report.list,
+        account: Account {
+            events: report.events,
+            shares: report.shares,
+            sums: report.sums,
+        },
+    })
+}
