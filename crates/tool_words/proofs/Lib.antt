@@ -1,5 +1,6 @@
 pub mod Bounds
 pub mod Dashes
+pub mod Groups
 pub mod Numbers
 pub mod Slashes
 pub mod Steps

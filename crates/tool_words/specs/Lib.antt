@@ -1,4 +1,6 @@
+pub mod Asked
 pub mod Limits
+pub mod Refusals
 pub mod Table
 pub mod Value
 pub mod Words

@@ -2,7 +2,8 @@
 use Rattle.std.specs.Prelude.{◌≡◌, ℕ, ◌<◌, ◌≤◌, ◌^◌, List, [], ◌∷◌, All, Ok, None, IfSome}
 use Rattle.path_text.specs.Path.{refusal}
 use Rattle.tool_words.specs.declared.commands.Common.{Common}
-use Rattle.tool_words.specs.Words.{Origin, roots, input, made, Asked, reading}
+use Rattle.tool_words.specs.Asked.{Origin, roots, input, Choice, ListAsked, TestAsked, Asked, list, test}
+use Rattle.tool_words.specs.Words.{reading}
 
 abbrev pub Valid : List ℕ → Type 0
 Valid path = refusal path ≡ None
@@ -11,13 +12,6 @@ Valid path = refusal path ≡ None
 abbrev pub paths_in : Origin → List (List ℕ)
 paths_in (roots paths) = paths
 paths_in (input file) = file ∷ []
-paths_in (made n) = []
-
--- a made-up tree has 1 to 1,000,000 nodes
-abbrev pub IsMakeable : Origin → Type 0
-IsMakeable (roots paths) = Unit {0}
-IsMakeable (input file) = Unit {0}
-IsMakeable (made n) = (1 ≤ n) × (n ≤ 1000000)
 
 pub record CommonWithin (common : Common) : Type 0 where
   pub ranks : (1 ≤ common.ranks) × (common.ranks ≤ 64)
@@ -25,12 +19,24 @@ pub record CommonWithin (common : Common) : Type 0 where
   pub seed : common.seed < 2 ^ 64
   pub width : (2 ≤ common.width) × (common.width ≤ 64)
 
-pub record Within (asked : Asked) : Type 0 where
+abbrev pub ChoiceWithin : Choice → Type 0
+ChoiceWithin choice = All Valid choice.newer
+
+pub record WithinList (asked : ListAsked) : Type 0 where
   pub common : CommonWithin asked.common
   pub start : All Valid (paths_in asked.start)
-  pub nodes : IsMakeable asked.start
-  pub newer : IfSome asked.chosen (λ choice. All Valid choice.newer)
+  pub chosen : IfSome asked.chosen ChoiceWithin
   pub output : IfSome asked.output Valid
+
+-- a made-up tree has 1 to 1,000,000 nodes
+pub record WithinTest (asked : TestAsked) : Type 0 where
+  pub common : CommonWithin asked.common
+  pub nodes : (1 ≤ asked.nodes) × (asked.nodes ≤ 1000000)
+  pub choice : ChoiceWithin asked.choice
+
+abbrev pub Within : Asked → Type 0
+Within (list asked) = WithinList asked
+Within (test asked) = WithinTest asked
 
 abbrev pub WordsAskWithinLimits : Type 0
 WordsAskWithinLimits = (words : List (List ℕ)) (asked : Asked) → reading words ≡ Ok asked → Within asked

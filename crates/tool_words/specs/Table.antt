@@ -1,5 +1,6 @@
 -- The tools and their options: how each option is written, and what its value sets. Names of options are those of mpiFileUtils' dwalk and dfind and of libcircle, as far as these have them.
 use Rattle.std.specs.Prelude.{ℕ, ◌-◌, ◌^◌, Bool, true, List, [], ◌∷◌, ◌++◌, false, if◌then◌else◌, codes, find, Option, Some, None}
+use Rattle.std.specs.List.{flat_map}
 use Rattle.std.specs.Option.{option_map}
 use Rattle.circle_run.specs.declared.settings.Split.TheVariants.{Equal}
 use Rattle.tool_words.specs.declared.commands.Common.{Common}
@@ -8,6 +9,8 @@ use Rattle.find_tests.specs.declared.testing.Test.{Test}
 use Rattle.find_tests.specs.declared.testing.TestName.TheVariants as name
 use Rattle.tool_words.specs.declared.tables.Tool.{Tool}
 use Rattle.tool_words.specs.declared.tables.Tool.TheVariants as tool
+use Rattle.tool_words.specs.declared.tables.Group.{Group}
+use Rattle.tool_words.specs.declared.tables.Group.TheVariants as group
 use Rattle.tool_words.specs.declared.tables.OptionName.{OptionName}
 use Rattle.tool_words.specs.declared.tables.OptionName.TheVariants as option
 use Rattle.tool_words.specs.Value.{is, number_in, split_in, path_in, order_in, test_in}
@@ -40,18 +43,23 @@ text_of (option.Test name.Days) = codes "--mtime"
 text_of (option.Test name.Minutes) = codes "--mmin"
 text_of option.Newer = codes "--newer"
 
--- the options of a tool: how a walk is to go, and what is told of it; then where its list comes from, in which order it is printed, and where it is saved; and the tests
+-- the options of a group: how a walk is to go; what is told of it; where a list comes from, in which order it is printed, and where it is saved; and the tests
+abbrev pub options_in : Group → List OptionName
+options_in group.Common = option.Ranks ∷ option.Hosts ∷ option.Split ∷ option.Seed ∷ option.Width ∷ []
+options_in group.Telling = option.Trace ∷ option.Shares ∷ option.Progress ∷ []
+options_in group.Listing = option.Sort ∷ option.Input ∷ option.Output ∷ []
+options_in group.Testing =
+    option.Test name.Name ∷ option.Test name.Path ∷ option.Test name.Kind ∷ option.Test name.Size ∷ option.Test name.Days ∷ option.Test name.Minutes
+    ∷ option.Newer ∷ []
+
+-- the groups of options that a tool takes
+abbrev pub groups_of : Tool → List Group
+groups_of tool.Walk = group.Common ∷ group.Telling ∷ group.Listing ∷ []
+groups_of tool.Find = group.Common ∷ group.Telling ∷ group.Listing ∷ group.Testing ∷ []
+groups_of tool.Test = group.Common ∷ group.Telling ∷ group.Testing ∷ []
+
 abbrev pub options_of : Tool → List OptionName
-options_of tool.Walk =
-    option.Ranks ∷ option.Hosts ∷ option.Split ∷ option.Seed ∷ option.Width ∷ option.Trace ∷ option.Shares ∷ option.Progress
-    ∷ option.Sort ∷ option.Input ∷ option.Output ∷ []
-options_of tool.Find =
-    option.Ranks ∷ option.Hosts ∷ option.Split ∷ option.Seed ∷ option.Width ∷ option.Trace ∷ option.Shares ∷ option.Progress
-    ∷ option.Sort ∷ option.Input ∷ option.Output
-    ∷ option.Test name.Name ∷ option.Test name.Path ∷ option.Test name.Kind ∷ option.Test name.Size ∷ option.Test name.Days ∷ option.Test name.Minutes ∷ option.Newer ∷ []
-options_of tool.Test =
-    option.Ranks ∷ option.Hosts ∷ option.Split ∷ option.Seed ∷ option.Width ∷ option.Trace ∷ option.Shares ∷ option.Progress
-    ∷ option.Test name.Name ∷ option.Test name.Path ∷ option.Test name.Kind ∷ option.Test name.Size ∷ option.Test name.Days ∷ option.Test name.Minutes ∷ option.Newer ∷ []
+options_of tool = flat_map options_in (groups_of tool)
 
 -- the option of the tool that is written so
 abbrev pub option_named : Tool → List ℕ → Option OptionName

@@ -2,7 +2,37 @@
 use std::alloc::{AllocError, AllocFailed};
 use thiserror::Error;
 
-/// Why words are refused, with the number of the word, the tool being word 0; or that no memory was found.
+/// Why a word is refused.
+#[derive(Clone, Copy, Debug, Drop, PartialEq, Eq)]
+pub enum Cause {
+    /// There is no word.
+    NoTool,
+    /// The first word names no tool.
+    UnknownTool,
+    /// The tool has no such option.
+    UnknownOption,
+    /// No value stands behind the option, which is the last word.
+    NoValue,
+    /// The word, or its part behind `=`, is no value of the option, or is no path or number of nodes.
+    BadValue,
+    /// A path, or the number of nodes, is wanting behind the last word.
+    NoPath,
+    /// The word is the first path, or number of nodes, that is one too many.
+    TooManyPaths,
+    /// The option was given before.
+    Clash,
+}
+
+/// The refusal of a word.
+#[derive(Clone, Copy, Debug, Drop, PartialEq, Eq)]
+pub struct Refusal {
+    /// The number of the word, the tool being word 0.
+    pub word: usize,
+    /// Why it is refused. Of several causes at one word it is the first in their order.
+    pub cause: Cause,
+}
+
+/// Why there is no command: the refusal of a word, with its number, as in [`Refusal`]; or that no memory was found.
 #[derive(Clone, Copy, Debug, Drop, PartialEq, Eq, Error)]
 pub enum WordsError {
     /// There is no word.
@@ -32,6 +62,29 @@ pub enum WordsError {
     /// No memory was found.
     #[error("out of memory")]
     OutOfMemory,
+}
+
+impl WordsError {
+    ghost use Rattle.std.specs.Prelude.{◌≡◌};
+    ghost use Rattle.tool_words.specs.Refusals.{refusal_in};
+
+    /// The refusal, where it is not memory that was wanting.
+    pub fn refusal(self) -> Option<Refusal>
+        ensures { result ≡ refusal_in self }
+    {
+        let (word, cause) = match self {
+            WordsError::NoTool(word) => (word, Cause::NoTool),
+            WordsError::UnknownTool(word) => (word, Cause::UnknownTool),
+            WordsError::UnknownOption(word) => (word, Cause::UnknownOption),
+            WordsError::NoValue(word) => (word, Cause::NoValue),
+            WordsError::BadValue(word) => (word, Cause::BadValue),
+            WordsError::NoPath(word) => (word, Cause::NoPath),
+            WordsError::TooManyPaths(word) => (word, Cause::TooManyPaths),
+            WordsError::Clash(word) => (word, Cause::Clash),
+            WordsError::OutOfMemory => return None,
+        };
+        Some(Refusal { word, cause })
+    }
 }
 
 impl From<AllocError> for WordsError {

@@ -57,6 +57,8 @@
 //! dtest 1000001                         // BadValue(1)
 //! dwalk /t --sort                       // NoValue(2)
 //! dwalk --trace=1 /t                    // BadValue(1)
+//! dwalk --trace --trace=1               // BadValue(2)
+//! dwalk --sort=size --sort              // NoValue(2)
 //! dwalk --sort=size --sort x            // Clash(2)
 //! dwalk --input /l /t                   // TooManyPaths(3)
 //! dtest 10 20                           // TooManyPaths(2)
@@ -64,19 +66,22 @@
 //! ```
 //!
 //! The words are read from left to right, and the first offence is the answer, with the number of its word; that paths or
-//! numbers are wanting or too many is told after the last word.
+//! numbers are wanting or too many is told after the last word. Of several offences at one word the first of [`Cause`] is
+//! told: an offence in the option's own word goes before its standing twice, and a refused value in the next word comes after
+//! that.
 //!
 //! # Parts
 //!
-//! A tool and an option are each one line of a table in `specs/Table.antt` (how it is written, what its value sets), and one
-//! arm in `tables` and in `settings`. `specs/Value.antt` and `values` say which texts are values, `specs/Words.antt` and
-//! `lines` how words are read one by one. What a test's value says is `find_tests`'.
+//! A tool, a group of options and an option are each one line of a table in `specs/Table.antt` (how it is written, which
+//! options the tool takes, what a value sets), and one arm in `tables` and in `settings`. `specs/Value.antt` and `values` say
+//! which texts are values, `specs/Words.antt` and `lines` how words are read one by one, and `specs/Asked.antt` what a command
+//! asks for. What a test's value says is `find_tests`'.
 //!
 //! # What is proved
 //!
 //! The answer is the command or the refusal that the grammar in `specs/Words.antt` gives, for every list of words. Beside
-//! that only memory can be wanting. No word is copied but the paths and the globs that the command keeps. What words ask for
-//! is within the limits that a run takes ([`words_ask_within_limits`]).
+//! that only memory can be wanting, which no refusal of the grammar can be. No word is copied but the paths and the globs that
+//! the command keeps. What words ask for is within the limits that a run takes ([`words_ask_within_limits`]).
 #![tactic(auto)]
 
 mod commands;
@@ -91,9 +96,6 @@ mod turns;
 mod values;
 
 pub use commands::{Command, Common, Start, Tests};
-pub use errors::WordsError;
+pub use errors::{Cause, Refusal, WordsError};
 pub use laws::words_ask_within_limits;
 pub use reading::read_words;
-
-#[cfg(test)]
-mod tests;

@@ -1,8 +1,11 @@
 //! A command line as far as it was read.
 ghost use Rattle.std.specs.Prelude.{◌≡◌, ◌⊎◌, ◌++◌, ◌∷◌, [], Some, None, Ok, Err, OnOk, IfOk, IfErr, IsTrue, Result, Option, List, ℕ, false};
+ghost use Rattle.std.specs.Option.{option_copied};
+ghost use Rattle.tool_words.specs.Asked.{start_in, asked_by};
+ghost use Rattle.tool_words.specs.Refusals.{Tells};
+ghost use Rattle.tool_words.specs.Table.{option_named, Set, set, raise};
 ghost use Rattle.tool_words.specs.Value.{number_in, path_in};
-ghost use Rattle.tool_words.specs.Table.{option_named, Set, set};
-ghost use Rattle.tool_words.specs.Words.{ends_options, is_option, name_in, value_in, nothing, with_path, with_number, with_plain, with_settings, with_value, was_given, is_repeated, with_option, with_word, at_end, start_in, Choice, list_by, made_by, made_from, asked_from, asked_of, asked_by, Given};
+ghost use Rattle.tool_words.specs.Words.{Given, nothing, ends_options, is_option, name_in, value_in, with_path, with_number, with_plain, was_given, is_repeated, with_another, with_own_value, with_next_value, with_flag, with_option, with_word, at_end, start_by, nodes_by, asked_of};
 
 use crate::commands::{Command, Start, Tests};
 use crate::errors::WordsError;
@@ -59,11 +62,11 @@ impl Line {
         place: usize,
     ) -> Result<(), WordsError>
         ensures read { OnOk result (with_word tool self.old.next self.old place word.now ≡ Ok self.new) }
-        ensures refused { IfErr result (λ e. (with_word tool self.old.next self.old place word.now ≡ Err e) ⊎ (e ≡ WordsError.OutOfMemory)) }
+        ensures refused { IfErr result (λ e. Tells (with_word tool self.old.next self.old place word.now) e) }
     {
         match self.next {
             Turn::Any => self.read_any(alloc, tool, word, place),
-            Turn::Value(option, _) => self.read_value(alloc, option, word, place),
+            Turn::Value(option, at) => self.read_next_value(alloc, option, at, word, place),
             Turn::Plain => self.read_plain(alloc, tool, word, place),
         }
     }
@@ -76,7 +79,7 @@ impl Line {
         place: usize,
     ) -> Result<(), WordsError>
         ensures read { OnOk result (with_word tool Turn.Any self.old place word.now ≡ Ok self.new) }
-        ensures refused { IfErr result (λ e. (with_word tool Turn.Any self.old place word.now ≡ Err e) ⊎ (e ≡ WordsError.OutOfMemory)) }
+        ensures refused { IfErr result (λ e. Tells (with_word tool Turn.Any self.old place word.now) e) }
     {
         if ends_options(word) {
             self.next = Turn::Plain;
@@ -96,36 +99,73 @@ impl Line {
         place: usize,
     ) -> Result<(), WordsError>
         ensures read { OnOk result (with_option self.old place (option_named tool (name_in word.now)) (value_in word.now) ≡ Ok self.new) }
-        ensures refused { IfErr result (λ e. (with_option self.old place (option_named tool (name_in word.now)) (value_in word.now) ≡ Err e) ⊎ (e ≡ WordsError.OutOfMemory)) }
+        ensures refused { IfErr result (λ e. Tells (with_option self.old place (option_named tool (name_in word.now)) (value_in word.now)) e) }
     {
-        match word.split_once('=') {
-            Some((name, value)) => {
-                let option = self.new_option(tool, name, place)?;
-                self.read_value(alloc, option, value, place)
-            }
-            None => {
-                let option = self.new_option(tool, word, place)?;
-                if !self.settings.raise(option) {
-                    self.next = Turn::Value(option, place);
-                }
-                Ok(())
-            }
-        }
-    }
-
-    // The option of the tool that is written so, which was not given before or adds up.
-    fn new_option(&mut self, tool: Tool, name: &str, place: usize) -> Result<OptionName, WordsError>
-        ensures new { IfOk result (λ option. (option_named tool name.now ≡ Some option) × (is_repeated option self.old.options ≡ false) × (self.new ≡ record self.old { options = self.old.options ++ option ∷ [] })) }
-        ensures refused { IfErr result (λ e. ((value : Option (List ℕ)) → with_option self.old place (option_named tool name.now) value ≡ Err e) ⊎ (e ≡ WordsError.OutOfMemory)) }
-    {
+        let (name, value) = divided(word);
         let Some(option) = tool.option(name) else {
             return Err(WordsError::UnknownOption(place));
         };
+        match value {
+            Some(text) => self.read_own_value(alloc, option, text, place),
+            None => self.read_flag(option, place),
+        }
+    }
+
+    fn read_own_value(
+        &mut self,
+        alloc: Global,
+        option: OptionName,
+        text: &str,
+        place: usize,
+    ) -> Result<(), WordsError>
+        ensures read { OnOk result (with_own_value self.old place option text.now ≡ Ok self.new) }
+        ensures refused { IfErr result (λ e. Tells (with_own_value self.old place option text.now) e) }
+    {
+        self.settings.set(alloc, option, text, place)?;
+        self.add(option, place)
+    }
+
+    // The option's word has the number `at`, and the value's the number `place`.
+    fn read_next_value(
+        &mut self,
+        alloc: Global,
+        option: OptionName,
+        at: usize,
+        word: &str,
+        place: usize,
+    ) -> Result<(), WordsError>
+        ensures read { OnOk result (with_next_value self.old at option place word.now ≡ Ok self.new) }
+        ensures refused { IfErr result (λ e. Tells (with_next_value self.old at option place word.now) e) }
+    {
+        self.add(option, at)?;
+        self.settings.set(alloc, option, word, place)
+    }
+
+    // A flag, or an option whose value is to be the next word.
+    fn read_flag(&mut self, option: OptionName, place: usize) -> Result<(), WordsError>
+        ensures read { OnOk result (with_flag self.old place option (raise option self.old.settings) ≡ Ok self.new) }
+        ensures refused { IfErr result (λ e. Tells (with_flag self.old place option (raise option self.old.settings)) e) }
+    {
+        if self.settings.raise(option) {
+            self.add(option, place)
+        } else {
+            self.next = Turn::Value(option, place);
+            Ok(())
+        }
+    }
+
+    // Adds an option whose word has this number, unless it may not be given again.
+    fn add(&mut self, option: OptionName, place: usize) -> Result<(), WordsError>
+        ensures added { OnOk result (with_another self.old place option ≡ Ok self.new) }
+        ensures kept { OnOk result (self.new.settings ≡ self.old.settings) }
+        ensures refused { IfErr result (λ e. Tells (with_another self.old place option) e) }
+    {
         if self.is_repeated(option) {
             return Err(WordsError::Clash(place));
         }
         self.options.push(option)?;
-        Ok(option)
+        self.next = Turn::Any;
+        Ok(())
     }
 
     fn is_repeated(&self, option: OptionName) -> bool
@@ -142,21 +182,6 @@ impl Line {
             .any(|other| other.text() == option.text())
     }
 
-    fn read_value(
-        &mut self,
-        alloc: Global,
-        option: OptionName,
-        text: &str,
-        place: usize,
-    ) -> Result<(), WordsError>
-        ensures read { OnOk result (with_settings self.old place (set option text.now self.old.settings) ≡ Ok self.new) }
-        ensures refused { IfErr result (λ e. (with_settings self.old place (set option text.now self.old.settings) ≡ Err e) ⊎ (e ≡ WordsError.OutOfMemory)) }
-    {
-        self.settings.set(alloc, option, text, place)?;
-        self.next = Turn::Any;
-        Ok(())
-    }
-
     fn read_plain(
         &mut self,
         alloc: Global,
@@ -165,7 +190,7 @@ impl Line {
         place: usize,
     ) -> Result<(), WordsError>
         ensures read { OnOk result (with_plain tool self.old place word.now ≡ Ok self.new) }
-        ensures refused { IfErr result (λ e. (with_plain tool self.old place word.now ≡ Err e) ⊎ (e ≡ WordsError.OutOfMemory)) }
+        ensures refused { IfErr result (λ e. Tells (with_plain tool self.old place word.now) e) }
     {
         match tool {
             Tool::Walk | Tool::Find => self.read_path(alloc, word, place),
@@ -175,7 +200,7 @@ impl Line {
 
     fn read_path(&mut self, alloc: Global, word: &str, place: usize) -> Result<(), WordsError>
         ensures read { OnOk result (with_path self.old place (path_in word.now) ≡ Ok self.new) }
-        ensures refused { IfErr result (λ e. (with_path self.old place (path_in word.now) ≡ Err e) ⊎ (e ≡ WordsError.OutOfMemory)) }
+        ensures refused { IfErr result (λ e. Tells (with_path self.old place (path_in word.now)) e) }
     {
         let path = path_in(alloc, word, place)?;
         self.paths.push(path)?;
@@ -185,7 +210,7 @@ impl Line {
 
     fn read_number(&mut self, word: &str, place: usize) -> Result<(), WordsError>
         ensures read { OnOk result (with_number self.old place (number_in 1 1000000 word.now) ≡ Ok self.new) }
-        ensures refused { IfErr result (λ e. (with_number self.old place (number_in 1 1000000 word.now) ≡ Err e) ⊎ (e ≡ WordsError.OutOfMemory)) }
+        ensures refused { IfErr result (λ e. Tells (with_number self.old place (number_in 1 1000000 word.now)) e) }
     {
         let number = number_in(1, MOST_NODES, word).ok_or(WordsError::BadValue(place))?;
         self.numbers.push(number)?;
@@ -196,7 +221,7 @@ impl Line {
     /// Ends the reading.
     pub(crate) fn end(&self) -> Result<(), WordsError>
         ensures read { OnOk result (at_end self.now.next self.now ≡ Ok self.now) }
-        ensures refused { IfErr result (λ e. at_end self.now.next self.now ≡ Err e) }
+        ensures refused { IfErr result (λ e. Tells (at_end self.now.next self.now) e) }
     {
         match self.next {
             Turn::Value(_, place) => Err(WordsError::NoValue(place)),
@@ -207,7 +232,7 @@ impl Line {
     /// What the tool was asked for, where the number is that of the word that is wanting behind the last.
     pub(crate) fn command(self, tool: Tool, wanting: usize) -> Result<Command, WordsError>
         ensures asked { IfOk result (λ command. asked_of wanting tool self ≡ Ok (asked_by command)) }
-        ensures refused { IfErr result (λ e. asked_of wanting tool self ≡ Err e) }
+        ensures refused { IfErr result (λ e. Tells (asked_of wanting tool self) e) }
     {
         match tool {
             Tool::Walk => self.walk(wanting),
@@ -218,7 +243,7 @@ impl Line {
 
     fn walk(self, wanting: usize) -> Result<Command, WordsError>
         ensures asked { IfOk result (λ command. asked_of wanting Tool.Walk self ≡ Ok (asked_by command)) }
-        ensures refused { IfErr result (λ e. asked_of wanting Tool.Walk self ≡ Err e) }
+        ensures refused { IfErr result (λ e. Tells (asked_of wanting Tool.Walk self) e) }
     {
         let Line {
             settings,
@@ -244,7 +269,7 @@ impl Line {
 
     fn find(self, wanting: usize) -> Result<Command, WordsError>
         ensures asked { IfOk result (λ command. asked_of wanting Tool.Find self ≡ Ok (asked_by command)) }
-        ensures refused { IfErr result (λ e. asked_of wanting Tool.Find self ≡ Err e) }
+        ensures refused { IfErr result (λ e. Tells (asked_of wanting Tool.Find self) e) }
     {
         let Line {
             settings,
@@ -272,7 +297,7 @@ impl Line {
 
     fn test(self, wanting: usize) -> Result<Command, WordsError>
         ensures asked { IfOk result (λ command. asked_of wanting Tool.Test self ≡ Ok (asked_by command)) }
-        ensures refused { IfErr result (λ e. asked_of wanting Tool.Test self ≡ Err e) }
+        ensures refused { IfErr result (λ e. Tells (asked_of wanting Tool.Test self) e) }
     {
         let Line {
             settings,
@@ -302,8 +327,8 @@ fn start_of(
     places: &[usize],
     wanting: usize,
 ) -> Result<Start, WordsError>
-    ensures start { IfOk result (λ start. (s : Set) (chosen : Option Choice) → list_by wanting s chosen input paths.items places.now ≡ Ok (asked_from s (start_in start) chosen)) }
-    ensures refused { IfErr result (λ e. (s : Set) (chosen : Option Choice) → list_by wanting s chosen input paths.items places.now ≡ Err e) }
+    ensures start { IfOk result (λ start. start_by wanting input paths.items places.now ≡ Ok (start_in start)) }
+    ensures refused { IfErr result (λ e. Tells (start_by wanting input paths.items places.now) e) }
 {
     match input {
         None if paths.is_empty() => Err(WordsError::NoPath(wanting)),
@@ -317,13 +342,24 @@ fn start_of(
 
 // How many nodes a made-up tree has, where the numbers stand in words of these numbers.
 fn nodes_of(numbers: &[u64], places: &[usize], wanting: usize) -> Result<u64, WordsError>
-    ensures nodes { IfOk result (λ n. (s : Set) (chosen : Option Choice) → made_by wanting s chosen numbers.now places.now ≡ Ok (made_from s n chosen)) }
-    ensures refused { IfErr result (λ e. (s : Set) (chosen : Option Choice) → made_by wanting s chosen numbers.now places.now ≡ Err e) }
+    ensures nodes { IfOk result (λ n. nodes_by wanting numbers.now places.now ≡ Ok n) }
+    ensures refused { IfErr result (λ e. Tells (nodes_by wanting numbers.now places.now) e) }
 {
     match (numbers, places) {
         (_, [_, another, ..]) => Err(WordsError::TooManyPaths(*another)),
         ([nodes, ..], [_]) => Ok(*nodes),
         _ => Err(WordsError::NoPath(wanting)),
+    }
+}
+
+// The name of an option, and its value if it stands in the same word.
+fn divided(word: &str) -> (&str, Option<&str>)
+    ensures name { result.0.now ≡ name_in word.now }
+    ensures value { option_copied result.1 ≡ value_in word.now }
+{
+    match word.split_once('=') {
+        Some((name, value)) => (name, Some(value)),
+        None => (word, None),
     }
 }
 

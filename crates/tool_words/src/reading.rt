@@ -1,6 +1,8 @@
 //! The words from left to right.
-ghost use Rattle.std.specs.Prelude.{◌≡◌, ◌≢◌, ◌⊎◌, map, Ok, Err, IfOk, IfErr, string_bytes};
-ghost use Rattle.tool_words.specs.Words.{nothing, with_words, asked_by, reading};
+ghost use Rattle.std.specs.Prelude.{◌≡◌, map, Some, Ok, Err, IfOk, IfErr, IfSome, string_bytes};
+ghost use Rattle.tool_words.specs.Asked.{asked_by};
+ghost use Rattle.tool_words.specs.Refusals.{refusal_in, Tells};
+ghost use Rattle.tool_words.specs.Words.{nothing, with_words, reading_for, reading};
 
 use crate::commands::Command;
 use crate::errors::WordsError;
@@ -11,10 +13,7 @@ use std::alloc::Global;
 /// The command that the words ask for, or the first offence from the left. Word 0 names the tool.
 pub fn read_words(alloc: Global, words: &[String]) -> Result<Command, WordsError>
     ensures read { IfOk result (λ command. reading (map string_bytes words.now) ≡ Ok (asked_by command)) }
-    ensures refused { IfErr result (λ e. (reading (map string_bytes words.now) ≡ Err e) ⊎ (e ≡ WordsError.OutOfMemory)) }
-
-    // Want of memory is never what the words themselves are refused for.
-    ensures memory { reading (map string_bytes words.now) ≢ Err WordsError.OutOfMemory }
+    ensures refused { IfErr result (λ e. IfSome (refusal_in e) (λ refusal. reading (map string_bytes words.now) ≡ Err refusal)) }
 {
     let Some((tool, behind)) = words.split_first() else {
         return Err(WordsError::NoTool(0));
@@ -22,14 +21,22 @@ pub fn read_words(alloc: Global, words: &[String]) -> Result<Command, WordsError
     let Some(tool) = Tool::named(tool.as_str()) else {
         return Err(WordsError::UnknownTool(0));
     };
-    let line = read_line(alloc, tool, behind)?;
-    line.command(tool, words.len())
+    read_for(alloc, tool, behind)
+}
+
+// What a tool was asked for, by the words behind it.
+fn read_for(alloc: Global, tool: Tool, words: &[String]) -> Result<Command, WordsError>
+    ensures read { IfOk result (λ command. reading_for (Some tool) (map string_bytes words.now) ≡ Ok (asked_by command)) }
+    ensures refused { IfErr result (λ e. Tells (reading_for (Some tool) (map string_bytes words.now)) e) }
+{
+    let line = read_line(alloc, tool, words)?;
+    line.command(tool, words.len() + 1)
 }
 
 // What the words behind the tool give, of which the first is word 1.
 fn read_line(alloc: Global, tool: Tool, words: &[String]) -> Result<Line, WordsError>
     ensures read { IfOk result (λ line. with_words tool 1 (map string_bytes words.now) nothing ≡ Ok line) }
-    ensures refused { IfErr result (λ e. (with_words tool 1 (map string_bytes words.now) nothing ≡ Err e) ⊎ (e ≡ WordsError.OutOfMemory)) }
+    ensures refused { IfErr result (λ e. Tells (with_words tool 1 (map string_bytes words.now) nothing) e) }
 {
     let mut line = Line::nothing(alloc);
     for (index, word) in words.iter().enumerate() {

@@ -1,7 +1,7 @@
 //! The tools and their options, by how they are written.
 ghost use Rattle.std.specs.Prelude.{◌≡◌, find};
 ghost use Rattle.tool_words.specs.Value.{is};
-ghost use Rattle.tool_words.specs.Table.{tool_named, text_of, options_of, option_named, adds_up};
+ghost use Rattle.tool_words.specs.Table.{tool_named, text_of, options_in, groups_of, option_named, adds_up};
 
 use find_tests::TestName;
 
@@ -29,52 +29,69 @@ impl Tool {
         }
     }
 
-    fn options(self) -> &'static [OptionName]
-        ensures { result.now ≡ options_of self }
+    fn groups(self) -> &'static [Group]
+        ensures { result.now ≡ groups_of self }
     {
         match self {
-            Tool::Walk => &[
-                OptionName::Ranks,
-                OptionName::Hosts,
-                OptionName::Split,
-                OptionName::Seed,
-                OptionName::Width,
-                OptionName::Trace,
-                OptionName::Shares,
-                OptionName::Progress,
-                OptionName::Sort,
-                OptionName::Input,
-                OptionName::Output,
-            ],
+            Tool::Walk => &[Group::Common, Group::Telling, Group::Listing],
             Tool::Find => &[
-                OptionName::Ranks,
-                OptionName::Hosts,
-                OptionName::Split,
-                OptionName::Seed,
-                OptionName::Width,
-                OptionName::Trace,
-                OptionName::Shares,
-                OptionName::Progress,
-                OptionName::Sort,
-                OptionName::Input,
-                OptionName::Output,
-                OptionName::Test(TestName::Name),
-                OptionName::Test(TestName::Path),
-                OptionName::Test(TestName::Kind),
-                OptionName::Test(TestName::Size),
-                OptionName::Test(TestName::Days),
-                OptionName::Test(TestName::Minutes),
-                OptionName::Newer,
+                Group::Common,
+                Group::Telling,
+                Group::Listing,
+                Group::Testing,
             ],
-            Tool::Test => &[
+            Tool::Test => &[Group::Common, Group::Telling, Group::Testing],
+        }
+    }
+
+    /// Its option that is written so.
+    pub(crate) fn option(self, text: &str) -> Option<OptionName>
+        ensures { result ≡ option_named self text.now }
+    {
+        for group in self.groups() {
+            let option = option_among(group.options(), text);
+            if option.is_some() {
+                return option;
+            }
+        }
+        None
+    }
+}
+
+fn option_among(options: &[OptionName], text: &str) -> Option<OptionName>
+    ensures { result ≡ find (λ option. is (text_of option) text.now) options.now }
+{
+    options.iter().copied().find(|option| option.text() == text)
+}
+
+/// Options that tools take together.
+#[derive(Clone, Copy, Debug, Drop, PartialEq, Eq)]
+pub(crate) enum Group {
+    /// How a walk is to go.
+    Common,
+    /// What is told of a walk.
+    Telling,
+    /// Where a list comes from, in which order it is printed, and where it is saved.
+    Listing,
+    /// What is chosen.
+    Testing,
+}
+
+impl Group {
+    fn options(self) -> &'static [OptionName]
+        ensures { result.now ≡ options_in self }
+    {
+        match self {
+            Group::Common => &[
                 OptionName::Ranks,
                 OptionName::Hosts,
                 OptionName::Split,
                 OptionName::Seed,
                 OptionName::Width,
-                OptionName::Trace,
-                OptionName::Shares,
-                OptionName::Progress,
+            ],
+            Group::Telling => &[OptionName::Trace, OptionName::Shares, OptionName::Progress],
+            Group::Listing => &[OptionName::Sort, OptionName::Input, OptionName::Output],
+            Group::Testing => &[
                 OptionName::Test(TestName::Name),
                 OptionName::Test(TestName::Path),
                 OptionName::Test(TestName::Kind),
@@ -85,19 +102,6 @@ impl Tool {
             ],
         }
     }
-
-    /// Its option that is written so.
-    pub(crate) fn option(self, text: &str) -> Option<OptionName>
-        ensures { result ≡ option_named self text.now }
-    {
-        option_among(self.options(), text)
-    }
-}
-
-fn option_among(options: &[OptionName], text: &str) -> Option<OptionName>
-    ensures { result ≡ find (λ option. is (text_of option) text.now) options.now }
-{
-    options.iter().copied().find(|option| option.text() == text)
 }
 
 /// An option, whatever the tool.

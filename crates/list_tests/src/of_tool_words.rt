@@ -1,5 +1,4 @@
 //! Command lines and what they are read as.
-use crate::{Command, Common, Start, Tests, WordsError, read_words};
 use circle_run::Split;
 use find_tests::{Bound, Test, glob_match};
 use flat_list::Field;
@@ -7,6 +6,9 @@ use path_text::Path;
 use std::alloc::{AllocError, Global};
 use std::process::Abort;
 use std::test::Fail;
+use tool_words::{
+    Cause, Command, Common, Refusal, Start, Tests, WordsError, read_words, words_ask_within_limits,
+};
 
 fn line_of(alloc: Global, words: &[&str]) -> Result<Vec<String>, AllocError> {
     let mut line = Vec::new(alloc);
@@ -166,7 +168,7 @@ fn refused_options_of_runs(rt: HostRuntime) -> Result<(), Fail> {
             WordsError::BadValue(2),
         ),
         (&["dwalk", "--trace=", "/t"], WordsError::BadValue(1)),
-        (&["dwalk", "--trace", "--trace=x"], WordsError::Clash(2)),
+        (&["dwalk", "--trace", "--trace=x"], WordsError::BadValue(2)),
         (&["dwalk", "--progress", "--ranks"], WordsError::NoValue(2)),
         (&["dwalk", "--shares"], WordsError::NoPath(2)),
     ];

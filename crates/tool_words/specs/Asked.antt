@@ -1,0 +1,51 @@
+-- What a command line asks for: a record a report. Our own.
+use Rattle.std.specs.Prelude.{ℕ, Bool, List, Option, Some, None}
+use Rattle.find_tests.specs.declared.testing.Test.{Test}
+use Rattle.flat_list.specs.declared.ordering.Field.{Field}
+use Rattle.tool_words.specs.declared.commands.Command.{Command}
+use Rattle.tool_words.specs.declared.commands.Command.TheVariants as command
+use Rattle.tool_words.specs.declared.commands.Common.{Common}
+use Rattle.tool_words.specs.declared.commands.Start.{Start}
+use Rattle.tool_words.specs.declared.commands.Start.TheVariants.{Roots, Input}
+use Rattle.tool_words.specs.declared.commands.Tests.{Tests}
+
+-- where a list comes from: a walk of the trees at these paths, or the list in a file
+pub data Origin : Type 0 where
+  roots : List (List ℕ) → Origin
+  input : List ℕ → Origin
+
+-- what is chosen of a list: what meets all tests, and has changed after each of these paths
+pub record Choice : Type 0 where
+  pub tests : List Test
+  pub newer : List (List ℕ)
+
+-- what dwalk and dfind are asked for: how a walk is to go, where the list comes from, what is chosen of it, if not all, in which order it is printed, and where it is saved
+pub record ListAsked : Type 0 where
+  pub common : Common
+  pub start : Origin
+  pub chosen : Option Choice
+  pub sort : Option (Field × Bool)
+  pub output : Option (List ℕ)
+
+-- what dtest is asked for: how a walk is to go, how many nodes the made-up tree has, and what is chosen of them
+pub record TestAsked : Type 0 where
+  pub common : Common
+  pub nodes : ℕ
+  pub choice : Choice
+
+pub data Asked : Type 0 where
+  list : ListAsked → Asked
+  test : TestAsked → Asked
+
+abbrev pub start_in : Start → Origin
+start_in (Roots paths) = roots paths.items
+start_in (Input path) = input path
+
+abbrev pub choice_in : Tests → Choice
+choice_in tests = record { tests = tests.tests.items; newer = tests.newer.items }
+
+-- what a command asks for
+abbrev pub asked_by : Command → Asked
+asked_by (command.Walk common start sort output) = list (record { common = common; start = start_in start; chosen = None; sort = sort; output = output })
+asked_by (command.Find common start tests sort output) = list (record { common = common; start = start_in start; chosen = Some (choice_in tests); sort = sort; output = output })
+asked_by (command.Test common nodes tests) = test (record { common = common; nodes = nodes; choice = choice_in tests })

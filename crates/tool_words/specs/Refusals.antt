@@ -1,0 +1,28 @@
+-- Why words are refused, apart from want of memory, which no words ask for. Our own.
+use Rattle.std.specs.Prelude.{◌≡◌, ◌⊎◌, ℕ, Result, Err, Option, Some, None}
+use Rattle.std.specs.Result.{result_err}
+use Rattle.tool_words.specs.declared.errors.Cause.{Cause}
+use Rattle.tool_words.specs.declared.errors.Cause.TheVariants as cause
+use Rattle.tool_words.specs.declared.errors.Refusal.{Refusal}
+use Rattle.tool_words.specs.declared.errors.WordsError.{WordsError}
+use Rattle.tool_words.specs.declared.errors.WordsError.TheVariants as error
+
+-- the refusal that an error tells, if it tells one
+abbrev pub refusal_in : WordsError → Option Refusal
+refusal_in (error.NoTool word) = Some (record { word = word; cause = cause.NoTool })
+refusal_in (error.UnknownTool word) = Some (record { word = word; cause = cause.UnknownTool })
+refusal_in (error.UnknownOption word) = Some (record { word = word; cause = cause.UnknownOption })
+refusal_in (error.NoValue word) = Some (record { word = word; cause = cause.NoValue })
+refusal_in (error.BadValue word) = Some (record { word = word; cause = cause.BadValue })
+refusal_in (error.NoPath word) = Some (record { word = word; cause = cause.NoPath })
+refusal_in (error.TooManyPaths word) = Some (record { word = word; cause = cause.TooManyPaths })
+refusal_in (error.Clash word) = Some (record { word = word; cause = cause.Clash })
+refusal_in error.OutOfMemory = None
+
+-- the word of this number is refused
+abbrev pub refuse : {X : Type 0} → ℕ → Cause → Result X Refusal
+refuse word cause = Err (record { word = word; cause = cause })
+
+-- For the clauses of the parts: the error tells the refusal of the result, or that memory was wanting.
+abbrev pub Tells : {X : Type 0} → Result X Refusal → WordsError → Type 0
+Tells r e = (result_err r ≡ refusal_in e) ⊎ (e ≡ error.OutOfMemory)
