@@ -12,4 +12,5 @@ pub mod Ranks
 pub mod Held
 pub mod Pushed
 pub mod Rooted
+pub mod Unique
 pub mod Traced

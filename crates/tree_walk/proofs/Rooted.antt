@@ -73,7 +73,7 @@ begins_trans (a ∷ f) [] z e d = absurd (false≢true e)
 begins_trans (a ∷ f) (b ∷ g) [] e d = absurd (false≢true d)
 begins_trans (a ∷ f) (b ∷ g) (c ∷ z) e d = begins_both a b c (begins g z) (begins f g) (begins f z) d e (λ p q. begins_trans f g z q p)
 
-in_trans : (x y p : List ℕ) → is_in x y ≡ true → is_in y p ≡ true → is_in x p ≡ true
+pub in_trans : (x y p : List ℕ) → is_in x y ≡ true → is_in y p ≡ true → is_in x p ≡ true
 in_trans x y p e d = is_in_is x p ∙ begins_trans (front p) (front y) (front x) (sym (is_in_is y p) ∙ d) (sym (is_in_is x y) ∙ e)
 
 or_mono : (a b c d : Bool) → (a ≡ true → b ≡ true) → (c ≡ true → d ≡ true) → (a || c) ≡ true → (b || d) ≡ true

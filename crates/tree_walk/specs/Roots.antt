@@ -1,7 +1,8 @@
 -- The roots of given paths, at which a walk begins. Our own.
-use Rattle.std.specs.Prelude.{ℕ, ◌≤◌, Bool, true, ◌≡◌, List, All, nat_eq}
+use Rattle.std.specs.Prelude.{ℕ, ◌≤◌, Bool, true, ◌≡◌, List, All, None, nat_eq}
 use Rattle.std.specs.List.{starts_with, list_any, count_by, Contains}
 use Rattle.std.specs.List.Sorted.{IsStrictlySortedBy}
+use Rattle.path_text.specs.Path.{refusal}
 use Rattle.path_text.specs.Order.{path_cmp, front}
 
 -- x is the path p, or is under it: what the paths under x begin with begins itself with what those under p begin with
@@ -22,3 +23,7 @@ pub record IsRoots (given roots : List (List ℕ)) : Type 0 where
   pub ascend : IsStrictlySortedBy path_cmp roots
   pub apart : Apart roots
   pub cover : All (λ path. is_in_some roots path ≡ true) given
+
+-- two lists that are both the roots of the same valid paths are the same list
+abbrev pub RootsAreUnique : Type 0
+RootsAreUnique = (given roots others : List (List ℕ)) → All (λ path. refusal path ≡ None) given → IsRoots given roots → IsRoots given others → roots ≡ others

@@ -1,4 +1,5 @@
-//! Laws of the recursive walk, each the contract of a function that does nothing.
+//! Laws of the recursive walk and of roots, each the contract of a function that does nothing.
+ghost use Rattle.tree_walk.specs.Roots.{RootsAreUnique};
 ghost use Rattle.tree_walk.specs.Walk.{WalkIsRecursive, WalkAscends, WalkHasEachPathOnce, WalkFindsAll, WalkWithoutFaultsIsFine};
 
 /// The walk of a path is its entry, and then the walk of each child, names in byte order.
@@ -24,4 +25,9 @@ pub fn walk_finds_all()
 /// Entries of several roots that tell no failed answer are those of the walk in which nothing fails, and each is fine.
 pub fn walk_without_faults_is_fine()
     ensures { WalkWithoutFaultsIsFine }
+{}
+
+/// The roots of given paths are unique: two lists that are roots of the same valid paths are the same.
+pub fn roots_are_unique()
+    ensures { RootsAreUnique }
 {}
