@@ -1,5 +1,5 @@
 -- What is fine names nothing, and stops nothing but for want of memory.
-use Rattle.std.proofs.Common.{◌≡◌, ℕ, ◌<◌, ◌≤◌, true, false, List, [], ◌∷◌, ◌++◌, map, length, Option, Some, None, IfSome, refl, sym, ap, subst, arith, ◌∙◌, ⊎_elim}
+use Rattle.std.proofs.Common.{◌≡◌, ℕ, ◌<◌, ◌≤◌, true, false, List, [], ◌∷◌, ◌++◌, map, length, Option, Some, IfSome, refl, sym, ap, subst, arith, ◌∙◌, ⊎_elim}
 use Rattle.std.specs.Option.{is_some}
 use Rattle.std.specs.List.{All, AllByRecursion, sum_by, flat_map}
 use Rattle.std.specs.FinMap.{get}
@@ -19,17 +19,17 @@ use Rattle.tool_text.specs.declared.noting.Why.TheVariants as why
 use Rattle.tool_text.specs.Notes.{mark_whys, number_whys, whys_of, notes_of}
 use Rattle.tool_text.specs.NoteOrder.{AreInOrder, NothingToOrder}
 use Rattle.tool_words.specs.Limits.{Valid, paths_in}
-use Rattle.tool_words.specs.Words.{Origin, roots, input, made, Choice}
+use Rattle.tool_words.specs.Asked.{Origin, roots, input}
 use Rattle.tree_walk.specs.Walk.{walk, all_told, answers_in, weight_of, WalkWithoutFaultsIsFine}
-use Rattle.tree_walk.specs.Roots.{IsRoots}
+use Rattle.tree_walk.specs.Roots.{RootsAreUnique}
 use Rattle.run_report.specs.declared.stops.Trouble.TheVariants as trouble
 use Rattle.run_report.specs.declared.stops.Stop.{Stop}
 use Rattle.run_report.specs.declared.stops.Stop.TheVariants as stop
 use Rattle.run_report.specs.Sides.{Side, side_of}
 use Rattle.run_entries.specs.Choosing.{newer_in, look_whys, look_notes}
 use Rattle.run_entries.specs.Entries.{Walked, Listed}
-use Rattle.run_entries.specs.Stopping.{IsTooMuch, IsDamagedList, IsAbsent, FailedRead, StopsListing, HasNoPlace, FailedWrite}
-use Rattle.run_entries.specs.Fine.{RootsAreUnique, IsFineWalk, IsFineList, IsFineStart, IsFineSide, FineFindsNameNothing, FineFindsStopForMemory, FinePlacesStopForMemory}
+use Rattle.run_entries.specs.Stopping.{IsTooMuch, IsDamagedList, IsAbsent, StopsListing, HasNoPlace}
+use Rattle.run_entries.specs.Fine.{IsFineWalk, IsFineList, IsFineStart, FineFindsNameNothing, FineFindsStopForMemory, FinePlacesStopForMemory}
 
 -- ---- counts
 
@@ -126,7 +126,6 @@ nothing_named (input path) files entries before after laws one valid told r f st
     let read = of_told (λ files. (bytes : List ℕ) × HoldsFile bytes (get files path) × Spells bytes entries) before.tree files told r.told in
     let same : f.entries ≡ entries = one.one_list read.0 f.entries entries (spelled files path read.0 read.1 f) read.2 in
     no_notes entries (recursion_from_All IsFine entries (subst (λ es. All IsFine es) same f.fine))
-nothing_named (made n) files entries before after laws one valid told r f stood = absurd r
 
 -- looks that told a time name nothing
 look_named : (seen : Seen) → is_at seen ≡ true → look_whys seen ≡ []
@@ -158,7 +157,6 @@ too_much (roots given) files before after laws exact valid told long f stood =
 too_much (input path) files before after laws exact valid told long f stood =
     let read = of_told (λ files. (bytes : List ℕ) × HoldsFile bytes (get files path) × IsTooLong bytes) before.tree files told long in
     absurd (omega (arith, exact.long_list read.0 f.entries (spelled files path read.0 read.1 f) read.2, f.few))
-too_much (made n) files before after laws exact valid told long f stood = absurd long
 
 damaged : (start : Origin) (files : Files) (before : Side) (path : List ℕ) (line : ℕ) → RefusesExactly → before.tree ≡ Some files → IsDamagedList start before path line →
     IsFineStart files start → ⊥

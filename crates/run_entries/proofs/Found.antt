@@ -1,12 +1,11 @@
 -- What was looked at and listed, step by step.
-use Rattle.std.proofs.Common.{◌≡◌, ◌⊎◌, inr, ℕ, ◌≤◌, List, [], Option, subst, arith}
+use Rattle.std.proofs.Common.{◌≡◌, inr, ℕ, ◌≤◌, List, [], Option, subst, arith}
 use Rattle.std.specs.List.Sorted.{IsStrictlySortedBy}
 use Rattle.std.proofs.lemmas.List.Elements.{All-from_recursion}
 use Rattle.outside.specs.Tree.{Files}
-use Rattle.outside.specs.Count.{RoseBy}
 use Rattle.path_looks.specs.declared.looks.Look.{Look}
 use Rattle.path_looks.specs.Looks.{AreLooks}
-use Rattle.tool_words.specs.Words.{Origin, Choice}
+use Rattle.tool_words.specs.Asked.{Origin, Choice}
 use Rattle.run_report.specs.declared.stops.Stop.{Stop}
 use Rattle.run_report.specs.Sides.{Side, side_of}
 use Rattle.run_entries.specs.Choosing.{newer_in}

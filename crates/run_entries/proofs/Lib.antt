@@ -3,4 +3,3 @@ pub mod Fine
 pub mod Found
 pub mod Saved
 pub mod Told
-pub mod Unique

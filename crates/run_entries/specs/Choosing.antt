@@ -12,7 +12,7 @@ use Rattle.tool_text.specs.declared.noting.Note.{Note}
 use Rattle.tool_text.specs.declared.noting.Why.{Why}
 use Rattle.tool_text.specs.declared.noting.Why.TheVariants as why
 use Rattle.tool_text.specs.Notes.{notes_of}
-use Rattle.tool_words.specs.Words.{Choice}
+use Rattle.tool_words.specs.Asked.{Choice}
 
 -- the paths that are looked at
 abbrev pub newer_in : Option Choice → List (List ℕ)

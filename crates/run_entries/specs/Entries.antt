@@ -16,7 +16,7 @@ use Rattle.path_looks.specs.Looks.{AreLooks}
 use Rattle.tool_text.specs.declared.noting.Note.{Note}
 use Rattle.tool_text.specs.Notes.{note_lines}
 use Rattle.tool_text.specs.NoteOrder.{AreInOrder}
-use Rattle.tool_words.specs.Words.{Origin, roots, input, made, Choice}
+use Rattle.tool_words.specs.Asked.{Origin, roots, input, Choice}
 use Rattle.tool_words.specs.declared.commands.Common.{Common}
 use Rattle.tree_walk.specs.Walk.{walk, answers_in, weight_of, paths_of}
 use Rattle.tree_walk.specs.Roots.{IsRoots, is_in_some}
@@ -50,13 +50,11 @@ pub record IsRead (path : List ℕ) (entries : List Entry) (before : Side) : Typ
 abbrev pub Listed : Origin → List Entry → Side → Side → Type 0
 Listed (roots given) entries before after = Walked given entries before after
 Listed (input path) entries before after = IsRead path entries before
-Listed (made n) entries before after = ⊥
 
 -- what is told of how they were found: of a walk the account of it, from the very roots that were walked, and of a list file nothing
 abbrev pub Tells : (common : Common) (start : Origin) (entries : List Entry) (before after : Side) → Listed start entries before after → Account → Type 0
 Tells common (roots given) entries before after walked account = IsAccount common before.tree walked.roots entries account
 Tells common (input path) entries before after read account = told_text common account ≡ []
-Tells common (made n) entries before after read account = ⊥
 
 -- what was looked at and then listed: first the paths of `--newer`, then what is walked or read
 pub record Surveyed (start : Origin) (choice : Option Choice) (before after : Side) (looks : List Look) (entries : List Entry) : Type 0 where

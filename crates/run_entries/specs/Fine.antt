@@ -11,7 +11,7 @@ use Rattle.flat_list.specs.Spelling.{Spells}
 use Rattle.tool_text.specs.declared.noting.Note.{Note}
 use Rattle.tool_words.specs.declared.commands.Common.{Common}
 use Rattle.tool_words.specs.Limits.{Valid, paths_in}
-use Rattle.tool_words.specs.Words.{Origin, roots, input, made, Choice}
+use Rattle.tool_words.specs.Asked.{Origin, roots, input, Choice}
 use Rattle.tree_walk.specs.Walk.{walk, all_told}
 use Rattle.tree_walk.specs.Roots.{IsRoots}
 use Rattle.run_report.specs.declared.stops.Stop.{Stop}
@@ -42,7 +42,6 @@ pub record IsFineList (files : Files) (path : List ℕ) : Type 0 where
 abbrev pub IsFineStart : Files → Origin → Type 0
 IsFineStart files (roots given) = IsFineWalk files given
 IsFineStart files (input path) = IsFineList files path
-IsFineStart files (made n) = ⊥
 
 -- something is at each of the paths that are looked at
 abbrev pub AreThere : Files → Option Choice → Type 0
@@ -56,9 +55,6 @@ pub record IsFineSide (start : Origin) (before after : Side) : Type 0 where
   pub stood : StoodStill before.count after.count
 
 -- the laws
-
-abbrev pub RootsAreUnique : Type 0
-RootsAreUnique = (given roots others : List (List ℕ)) → All Valid given → IsRoots given roots → IsRoots given others → roots ≡ others
 
 -- what is found in a fine side names nothing
 abbrev pub FineFindsNameNothing : Type 0

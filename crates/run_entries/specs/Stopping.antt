@@ -8,7 +8,7 @@ use Rattle.flat_list.specs.declared.entries.Entry.{Entry}
 use Rattle.flat_list.specs.Spelling.{IsRefused, IsTooLong}
 use Rattle.path_looks.specs.declared.looks.Look.{Look}
 use Rattle.path_looks.specs.Looks.{AreLooks}
-use Rattle.tool_words.specs.Words.{Origin, roots, input, made, Choice}
+use Rattle.tool_words.specs.Asked.{Origin, roots, input, Choice}
 use Rattle.tree_walk.specs.declared.errors.WalkError.{WalkError}
 use Rattle.tree_walk.specs.declared.errors.WalkError.TheVariants as walked
 use Rattle.run_report.specs.declared.stops.Trouble.TheVariants as trouble
@@ -43,7 +43,6 @@ pub record IsTooLongWalk (given : List (List ℕ)) (before after : Side) : Type 
 abbrev pub IsTooMuch : Origin → Side → Side → Type 0
 IsTooMuch (roots given) before after = IsTooLongWalk given before after
 IsTooMuch (input path) before after = IfSome before.tree (λ files. (bytes : List ℕ) × HoldsFile bytes (get files path) × IsTooLong bytes)
-IsTooMuch (made n) before after = ⊥
 
 -- the entries were not listed
 abbrev pub StopsListing : Origin → Side → Side → Stop → Type 0

@@ -7,7 +7,7 @@ ghost use Rattle.outside.specs.Count.{RoseBy};
 ghost use Rattle.flat_list.specs.Entries.{is_shaped};
 ghost use Rattle.flat_list.specs.Spelling.{paths};
 ghost use Rattle.tool_words.specs.Limits.{CommonWithin};
-ghost use Rattle.tool_words.specs.Words.{start_in, choice_in};
+ghost use Rattle.tool_words.specs.Asked.{start_in, choice_in};
 ghost use Rattle.run_report.specs.Sides.{side_of};
 ghost use Rattle.run_entries.specs.Entries.{Finds};
 ghost use Rattle.run_entries.specs.Stopping.{StopsFinding};

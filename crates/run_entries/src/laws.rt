@@ -1,10 +1,10 @@
 //! Laws, each the contract of a function that does nothing.
-ghost use Rattle.run_entries.specs.Fine.{RootsAreUnique, FineFindsNameNothing, FineFindsStopForMemory, FinePlacesStopForMemory};
+ghost use Rattle.run_entries.specs.Fine.{FineFindsNameNothing, FineFindsStopForMemory, FinePlacesStopForMemory};
 
 use flat_list::{refusals_are_exact, spelling_is_unique};
 use path_looks::looks_without_faults_are_told;
 use tool_text::nothing_to_order;
-use tree_walk::walk_without_faults_is_fine;
+use tree_walk::{roots_are_unique, walk_without_faults_is_fine};
 
 /// What is found in a side that is fine names nothing.
 pub fn fine_finds_name_nothing()
@@ -29,9 +29,4 @@ pub fn fine_finds_stop_for_memory()
 /// Only want of memory stops a run that saves a list where it has a place, and no fault is counted.
 pub fn fine_places_stop_for_memory()
     ensures { FinePlacesStopForMemory }
-{}
-
-/// TEMP
-pub fn roots_are_unique()
-    ensures { RootsAreUnique }
 {}

@@ -8,7 +8,7 @@ ghost use Rattle.outside.specs.Tree.{is_file};
 ghost use Rattle.outside.specs.Whole.{HoldsFile};
 ghost use Rattle.flat_list.specs.Entries.{is_shaped};
 ghost use Rattle.flat_list.specs.Spelling.{paths};
-ghost use Rattle.tool_words.specs.Words.{input};
+ghost use Rattle.tool_words.specs.Asked.{input};
 ghost use Rattle.run_report.specs.Sides.{side_of};
 ghost use Rattle.run_entries.specs.Entries.{IsRead};
 ghost use Rattle.run_entries.specs.Stopping.{StopsListing};

@@ -6,7 +6,7 @@ ghost use Rattle.outside.specs.Count.{RoseBy};
 ghost use Rattle.flat_list.specs.Entries.{is_shaped};
 ghost use Rattle.flat_list.specs.Spelling.{paths};
 ghost use Rattle.tool_words.specs.Limits.{CommonWithin};
-ghost use Rattle.tool_words.specs.Words.{start_in};
+ghost use Rattle.tool_words.specs.Asked.{start_in};
 ghost use Rattle.tree_walk.specs.Found.{IsFound, IfTooMany, IsTooMuch};
 ghost use Rattle.tree_walk.specs.Roots.{Apart};
 ghost use Rattle.run_report.specs.Sides.{side_of};

@@ -2,26 +2,27 @@
 use Rattle.std.specs.Prelude.{ℕ, List, [], ◌∷◌, ◌++◌, codes}
 use Rattle.std.specs.Fmt.{decimal}
 use Rattle.path_text.specs.Escape.{escape}
-use Rattle.tool_words.specs.declared.errors.WordsError.{WordsError}
-use Rattle.tool_words.specs.declared.errors.WordsError.TheVariants as e
+use Rattle.tool_words.specs.declared.errors.Cause.{Cause}
+use Rattle.tool_words.specs.declared.errors.Cause.TheVariants as cause
+use Rattle.tool_words.specs.declared.errors.Refusal.{Refusal}
 
 abbrev pub memory_line : List ℕ
 memory_line = codes "out of memory" ++ 10 ∷ []
 
--- the line of words that are refused: the number of the word and the reason
-abbrev pub refused_at : ℕ → List ℕ → List ℕ
-refused_at word reason = codes "refused word " ++ decimal word ++ reason ++ 10 ∷ []
+-- why a word is refused
+abbrev pub cause_text : Cause → List ℕ
+cause_text cause.NoTool = codes "no tool"
+cause_text cause.UnknownTool = codes "unknown tool"
+cause_text cause.UnknownOption = codes "unknown option"
+cause_text cause.NoValue = codes "no value"
+cause_text cause.BadValue = codes "bad value"
+cause_text cause.NoPath = codes "no path"
+cause_text cause.TooManyPaths = codes "too many paths"
+cause_text cause.Clash = codes "clash"
 
-abbrev pub refusal_line : WordsError → List ℕ
-refusal_line (e.NoTool word) = refused_at word (codes " no tool")
-refusal_line (e.UnknownTool word) = refused_at word (codes " unknown tool")
-refusal_line (e.UnknownOption word) = refused_at word (codes " unknown option")
-refusal_line (e.NoValue word) = refused_at word (codes " no value")
-refusal_line (e.BadValue word) = refused_at word (codes " bad value")
-refusal_line (e.NoPath word) = refused_at word (codes " no path")
-refusal_line (e.TooManyPaths word) = refused_at word (codes " too many paths")
-refusal_line (e.Clash word) = refused_at word (codes " clash")
-refusal_line e.OutOfMemory = memory_line
+-- the line of words that are refused: the number of the word and the reason
+abbrev pub refusal_line : Refusal → List ℕ
+refusal_line refusal = codes "refused word " ++ decimal refusal.word ++ 32 ∷ cause_text refusal.cause ++ 10 ∷ []
 
 -- the line about a list file that can't be read or written
 abbrev pub list_line : List ℕ → List ℕ → List ℕ

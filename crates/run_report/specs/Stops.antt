@@ -1,7 +1,6 @@
 -- What a run tells that stops before it prints its listing: its status, and its line. Our own.
-use Rattle.std.specs.Prelude.{◌≡◌, ◌≢◌, ◌⊎◌, ℕ, ◌++◌, ◌∷◌, [], List, codes}
-use Rattle.tool_words.specs.declared.errors.WordsError.{WordsError}
-use Rattle.tool_words.specs.declared.errors.WordsError.TheVariants as error
+use Rattle.std.specs.Prelude.{◌≡◌, ◌⊎◌, ℕ, ◌++◌, ◌∷◌, [], List, codes, Option, Some, None}
+use Rattle.tool_words.specs.declared.errors.Refusal.{Refusal}
 use Rattle.run_report.specs.declared.reports.Report.{Report}
 use Rattle.run_report.specs.declared.statuses.Status.{Status}
 use Rattle.run_report.specs.declared.statuses.Status.TheVariants as status
@@ -36,10 +35,11 @@ stop_line (stop.ListFile why path) = list_line (trouble_word why) path
 abbrev pub Told : Stop → Status → Stream → Stream → Type 0
 Told why answer old new = ((answer ≡ status_of why) × GrewByLine (stop_line why) old new) ⊎ ((answer ≡ status.Memory) × GrewByLine memory_line old new)
 
--- what a run tells whose words are refused: the line of the offence; or that no memory was found
-abbrev pub ToldRefusal : WordsError → Status → Stream → Stream → Type 0
-ToldRefusal why answer old new =
-    ((why ≢ error.OutOfMemory) × (answer ≡ status.Words) × GrewByLine (refusal_line why) old new) ⊎ ((answer ≡ status.Memory) × GrewByLine memory_line old new)
+-- what a run tells whose words are refused: the line of the offence; or that no memory was found, where there is no offence too
+abbrev pub ToldRefusal : Option Refusal → Status → Stream → Stream → Type 0
+ToldRefusal (Some refusal) answer old new =
+    ((answer ≡ status.Words) × GrewByLine (refusal_line refusal) old new) ⊎ ((answer ≡ status.Memory) × GrewByLine memory_line old new)
+ToldRefusal None answer old new = (answer ≡ status.Memory) × GrewByLine memory_line old new
 
 -- what a tool owes where nothing stands against it: what it reports names nothing, and it stops for want of memory alone
 pub record Succeeds (Reports : Report → Type 0) (Stops : Stop → Type 0) : Type 0 where

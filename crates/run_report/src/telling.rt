@@ -1,8 +1,9 @@
 //! The one line of a run that prints no listing.
-ghost use Rattle.std.specs.Prelude.{◌≡◌, ◌≢◌, ◌++◌, ◌∷◌, [], codes, IfOk, OnOk, OnErr};
+ghost use Rattle.std.specs.Prelude.{◌≡◌, ◌++◌, ◌∷◌, [], codes, Some, IfOk, OnOk, OnErr};
 ghost use Rattle.outside.specs.Count.{RoseBy};
+ghost use Rattle.tool_words.specs.Refusals.{refusal_in};
 ghost use Rattle.run_report.specs.Ends.{GrewByLine};
-ghost use Rattle.run_report.specs.Lines.{memory_line, refused_at, refusal_line, damaged_line, list_line};
+ghost use Rattle.run_report.specs.Lines.{memory_line, cause_text, refusal_line, damaged_line, list_line};
 ghost use Rattle.run_report.specs.Sides.{stream_of};
 ghost use Rattle.run_report.specs.Stops.{status_of, trouble_word, stop_line, Told, ToldRefusal};
 
@@ -12,7 +13,7 @@ use outside::{Sink, put_all};
 use path_text::{OutOfMemory, Path};
 use std::alloc::Global;
 use tool_text::{Text, put_line, put_path_line};
-use tool_words::WordsError;
+use tool_words::{Cause, Refusal, WordsError};
 
 // Ends with one line. Where no memory was found for it, the line of status 3 stands in its place, which needs none. The
 // status stands also where the sink fails.
@@ -42,37 +43,46 @@ fn put_or_fail<E: Sink>(notes: &mut E, line: &[u8])
     let _ = put_all(notes, line);
 }
 
-/// Ends a run whose words are refused, with the line of the offence; or, where no memory was found, with that line.
+/// Ends a run whose words are refused, with the line of the offence; or, where no memory was found, with the line that says so.
 pub fn end_refused<E: Sink>(alloc: Global, notes: &mut E, why: WordsError) -> Status
-    ensures told { ToldRefusal why result (stream_of (E.text notes.old) (E.count notes.old)) (stream_of (E.text notes.new) (E.count notes.new)) }
+    ensures told { ToldRefusal (refusal_in why) result (stream_of (E.text notes.old) (E.count notes.old)) (stream_of (E.text notes.new) (E.count notes.new)) }
     ensures count { RoseBy 0 (E.count notes.old) (E.count notes.new) }
 {
-    end_with(notes, refusal(alloc, why), Status::Words)
-}
-
-// The line that says which word is refused, and why.
-fn refusal(alloc: Global, e: WordsError) -> Result<Text, OutOfMemory>
-    ensures line { IfOk result (λ text. text ≡ refusal_line e) }
-    ensures words { OnOk result (e ≢ WordsError.OutOfMemory) }
-{
-    match e {
-        WordsError::NoTool(word) => refused_at(alloc, word, " no tool"),
-        WordsError::UnknownTool(word) => refused_at(alloc, word, " unknown tool"),
-        WordsError::UnknownOption(word) => refused_at(alloc, word, " unknown option"),
-        WordsError::NoValue(word) => refused_at(alloc, word, " no value"),
-        WordsError::BadValue(word) => refused_at(alloc, word, " bad value"),
-        WordsError::NoPath(word) => refused_at(alloc, word, " no path"),
-        WordsError::TooManyPaths(word) => refused_at(alloc, word, " too many paths"),
-        WordsError::Clash(word) => refused_at(alloc, word, " clash"),
-        WordsError::OutOfMemory => Err(OutOfMemory),
+    match why.refusal() {
+        Some(refusal) => end_by(alloc, notes, refusal),
+        None => end_with(notes, Err(OutOfMemory), Status::Memory),
     }
 }
 
-fn refused_at(alloc: Global, word: usize, reason: &str) -> Result<Text, OutOfMemory>
-    ensures { IfOk result (λ text. text ≡ refused_at word reason.now) }
+fn end_by<E: Sink>(alloc: Global, notes: &mut E, refusal: Refusal) -> Status
+    ensures told { ToldRefusal (Some refusal) result (stream_of (E.text notes.old) (E.count notes.old)) (stream_of (E.text notes.new) (E.count notes.new)) }
+    ensures count { RoseBy 0 (E.count notes.old) (E.count notes.new) }
 {
-    let line = format!(in alloc; "refused word {word}{reason}")?;
+    end_with(notes, refusal_line(alloc, refusal), Status::Words)
+}
+
+// The line that says which word is refused, and why.
+fn refusal_line(alloc: Global, refusal: Refusal) -> Result<Text, OutOfMemory>
+    ensures { IfOk result (λ text. text ≡ refusal_line refusal) }
+{
+    let Refusal { word, cause } = refusal;
+    let line = format!(in alloc; "refused word {word} {}", cause_text(cause))?;
     text_of(alloc, &line)
+}
+
+fn cause_text(cause: Cause) -> &'static str
+    ensures { result.now ≡ cause_text cause }
+{
+    match cause {
+        Cause::NoTool => "no tool",
+        Cause::UnknownTool => "unknown tool",
+        Cause::UnknownOption => "unknown option",
+        Cause::NoValue => "no value",
+        Cause::BadValue => "bad value",
+        Cause::NoPath => "no path",
+        Cause::TooManyPaths => "too many paths",
+        Cause::Clash => "clash",
+    }
 }
 
 /// Ends a run that stopped, with its line; or, where no memory was found for that, with the line that says so.

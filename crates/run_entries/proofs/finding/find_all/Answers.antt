@@ -1,6 +1,6 @@
 use Rattle.std.proofs.Common.{rules, ◌≤◌, [], None, refl}
 use Rattle.tool_text.specs.NoteOrder.{AreInOrder}
-use Rattle.tool_words.specs.Words.{start_in}
+use Rattle.tool_words.specs.Asked.{start_in}
 use Rattle.run_report.specs.Sides.{side_of}
 use Rattle.run_entries.specs.Choosing.{failures_of}
 use Rattle.run_entries.proofs.Found.{no_looks, stops_after}

@@ -2,7 +2,7 @@ use Rattle.std.proofs.Common.{rules, ◌≡◌, ◌++◌, map, filter, subst, So
 use Rattle.flat_list.specs.Entries.{is_shaped}
 use Rattle.find_tests.specs.Tests.{is_selected}
 use Rattle.tool_text.specs.NoteOrder.{AreInOrder}
-use Rattle.tool_words.specs.Words.{start_in, choice_in}
+use Rattle.tool_words.specs.Asked.{start_in, choice_in}
 use Rattle.run_report.specs.Sides.{side_of}
 use Rattle.run_entries.specs.Choosing.{newer_than, failures_of}
 use Rattle.run_entries.specs.Entries.{Listed, Tells}

@@ -1,5 +1,5 @@
 use Rattle.std.proofs.Common.{subst, sym}
-use Rattle.tool_words.specs.Words.{start_in}
+use Rattle.tool_words.specs.Asked.{start_in}
 use Rattle.run_report.specs.Sides.{side_of}
 use Rattle.run_entries.specs.Entries.{Listed, Tells}
 use Rattle.run_entries.proofs.starting.list_from.Goals as goal
