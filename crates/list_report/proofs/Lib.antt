@@ -1,0 +1,3 @@
+pub mod MadeWalk
+pub mod Steps
+pub mod Succeeds

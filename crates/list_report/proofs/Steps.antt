@@ -1,0 +1,50 @@
+-- What the steps of each tool told, as its own words say it.
+use Rattle.std.proofs.Common.{◌≡◌, inl, inr, ⊎_elim, ℕ, ◌≤◌, List, [], ◌∷◌, Some, subst}
+use Rattle.outside.specs.Tree.{Files}
+use Rattle.flat_list.specs.declared.entries.Entry.{Entry}
+use Rattle.test_tree.specs.Nodes.{test_files}
+use Rattle.tool_text.specs.declared.noting.Note.{Note}
+use Rattle.tool_words.specs.Asked.{ListAsked}
+use Rattle.run_report.specs.declared.stops.Stop.{Stop}
+use Rattle.run_report.specs.Sides.{Side, side_of}
+use Rattle.run_entries.specs.declared.accounts.Account.{Account}
+use Rattle.run_entries.specs.Entries.{Finds}
+use Rattle.run_entries.specs.Stopping.{StopsFinding, StopsSaving}
+use Rattle.list_report.specs.Lists.{StopsList}
+use Rattle.list_report.specs.Tests.{made_root, made_side}
+
+-- ---- dwalk and dfind
+
+-- finding leaves the tree as it was
+pub finds_before : {chosen : List Entry} {notes : List Note} {account : Account} (asked : ListAsked) (now : ℕ) (before found : Side) → found.tree ≡ before.tree →
+    Finds asked.common asked.start asked.chosen now before found chosen notes account →
+    Finds asked.common asked.start asked.chosen now before (side_of before.tree found.count) chosen notes account
+finds_before {chosen = chosen} {notes = notes} {account = account} asked now before found same f =
+    subst (λ t. Finds asked.common asked.start asked.chosen now before (side_of t found.count) chosen notes account) same f
+
+pub stops_finding : (asked : ListAsked) (before after : Side) (why : Stop) → after.tree ≡ before.tree → StopsFinding asked.start asked.chosen before after why →
+    StopsList asked before after why
+stops_finding asked before after why same stops = ⊎_elim (λ is. inl is) (λ s. inr (inl (s, same))) stops
+
+pub stops_saving : {chosen : List Entry} {notes : List Note} {account : Account} (asked : ListAsked) (now : ℕ) (before found after : Side) (why : Stop) →
+    found.tree ≡ before.tree → Finds asked.common asked.start asked.chosen now before found chosen notes account → found.count ≤ after.count → StopsSaving asked.output found after why → StopsList asked before after why
+stops_saving asked now before found after why same f later stops =
+    let finds = finds_before asked now before found same f in
+    inr (inr (record {
+      looks = finds.looks;
+      entries = finds.entries;
+      between = found.count;
+      survey = finds.survey;
+      later = later;
+      stops = subst (λ t. StopsSaving asked.output (side_of t found.count) after why) same stops;
+    }))
+
+-- ---- dtest
+
+-- what is so of a walk of these paths over these files is so of the made-up tree, whose files and root they are
+pub over_made : (P : List (List ℕ) → Side → Side → Type 0) (n : ℕ) (paths : List (List ℕ)) (files after : Files) → paths ≡ made_root ∷ [] → files ≡ test_files n →
+    Some after ≡ Some files → P paths (side_of (Some files) 0) (side_of (Some after) 0) → P (made_root ∷ []) (made_side n) (made_side n)
+over_made P n paths files after root is same h =
+    let rooted = subst (λ ps. P ps (side_of (Some files) 0) (side_of (Some after) 0)) root h in
+    let steady = subst (λ t. P (made_root ∷ []) (side_of (Some files) 0) (side_of t 0)) same rooted in
+    subst (λ f. P (made_root ∷ []) (side_of (Some f) 0) (side_of (Some f) 0)) is steady

@@ -1,0 +1,63 @@
+//! What dwalk and dfind do.
+ghost use Rattle.std.specs.Prelude.{◌≡◌, [], IfOk, IfErr};
+ghost use Rattle.outside.specs.Count.{RoseBy};
+ghost use Rattle.outside.specs.Writes.{all_but};
+ghost use Rattle.tool_words.specs.Limits.{CommonWithin};
+ghost use Rattle.run_report.specs.Sides.{side_of};
+ghost use Rattle.list_report.specs.Lists.{list_asked, ReportsList, StopsList, LeavesList};
+
+use crate::printing::list_report;
+use flat_list::Field;
+use outside::Ground;
+use path_text::Path;
+use run_entries::{find, save_list};
+use run_report::{Report, Stop};
+use std::alloc::Global;
+use std::sync::Wait;
+use std::thread::Threads;
+use tool_words::{Common, Start, Tests};
+
+/// What dwalk or dfind is asked for.
+#[derive(Debug, Drop)]
+pub struct ListTask {
+    /// How the walk is to go.
+    pub common: Common,
+    /// Where it starts.
+    pub start: Start,
+    /// What is chosen. Without it, all is.
+    pub tests: Option<Tests>,
+    /// The field that the list is sorted by, and whether downwards. It stands in path order without one.
+    pub sort: Option<(Field, bool)>,
+    /// The file that what is chosen is written to.
+    pub output: Option<Path>,
+}
+
+/// Finds what is asked for, saves it where that is asked for, and makes the texts. `now` is in seconds since 1970.
+pub fn report_of_list<T: Threads + Wait + Sync, G: Ground>(
+    rt: &T,
+    alloc: Global,
+    task: ListTask,
+    files: &mut G,
+    now: u64,
+) -> Result<Report, Stop>
+where
+    G::Reader: Send,
+    requires lent { G.area files.old ≡ all_but [] }
+    requires within { CommonWithin task.common }
+    ensures reports { IfOk result (ReportsList (list_asked task) now (side_of (G.tree files.old) (G.count files.old)) (side_of (G.tree files.new) (G.count files.new))) }
+    ensures stops { IfErr result (StopsList (list_asked task) (side_of (G.tree files.old) (G.count files.old)) (side_of (G.tree files.new) (G.count files.new))) }
+    ensures leaves { LeavesList (list_asked task) (G.tree files.old) (G.tree files.new) }
+    ensures lent { G.area files.new ≡ all_but [] }
+    ensures count { RoseBy 0 (G.count files.old) (G.count files.new) }
+{
+    let ListTask {
+        common,
+        start,
+        tests,
+        sort,
+        output,
+    } = task;
+    let found = find(rt, alloc, &common, start, tests, now, files)?;
+    save_list(alloc, files, output, &found.chosen)?;
+    Ok(list_report(alloc, found, &common, sort)?)
+}
