@@ -43,7 +43,7 @@ fn main(rt: HostRuntime) -> io::Result<()> {
     eprintln!(rt; "run in {:?}", start.elapsed(&rt)?)?;
     println!(rt;
         "{nodes} nodes, status {}, {} bytes",
-        status as u8,
+        status.number(),
         out.text().len()
     )
 }

@@ -33,10 +33,10 @@ use std::process::ExitCode;
 fn main(rt: HostRuntime) -> ExitCode {
     let words = match given::words(&rt) {
         Ok(words) => words,
-        Err(status) => return ExitCode::from(status as u8),
+        Err(status) => return ExitCode::from(status.number()),
     };
     if let Some(text) = help::asked(&words) {
-        return ExitCode::from(help::print(rt.stdout(), text) as u8);
+        return ExitCode::from(help::print(rt.stdout(), text).number());
     }
     let mut files = RealGround::make(rt);
     let mut out = RealSink::make(rt.stdout());
@@ -51,5 +51,5 @@ fn main(rt: HostRuntime) -> ExitCode {
         &mut notes,
         now,
     );
-    ExitCode::from(status as u8)
+    ExitCode::from(status.number())
 }

@@ -1,6 +1,2 @@
-pub mod Unique
-pub mod Chosen
-pub mod Ready
-pub mod Told
-pub mod MadeWalk
+pub mod Ended
 pub mod Succeeds

@@ -1,4 +1,1 @@
-pub mod Choosing
 pub mod Run
-pub mod Stops
-pub mod Tells

@@ -1,17 +1,12 @@
 //! Laws, each the contract of a function that does nothing.
-ghost use Rattle.mfu_top.specs.Run.{MadeWalkIsFine};
+ghost use Rattle.mfu_top.specs.Run.{FineRunsSucceed};
 
-use test_tree::{first_node_is_there, no_child_is_far, nodes_are_counted, test_files_are_tree};
-use tree_walk::{walk_ascends, walk_finds_all};
+use list_report::{fine_list_succeeds, fine_test_succeeds};
 
-/// Where nothing fails, a walk of a made-up tree finds its root, no child that is too far, and no more than a list may have.
-pub(crate) fn made_walk_is_fine()
-    ensures { MadeWalkIsFine }
+/// Where nothing stands against a run, it names nothing, and stops for want of memory alone.
+pub fn fine_runs_succeed()
+    ensures { FineRunsSucceed }
 {
-    walk_ascends();
-    walk_finds_all();
-    first_node_is_there();
-    test_files_are_tree();
-    no_child_is_far();
-    nodes_are_counted();
+    fine_list_succeeds();
+    fine_test_succeeds();
 }

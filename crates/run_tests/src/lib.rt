@@ -1,5 +1,16 @@
 //! Tests of the run: whole command lines over files in memory, and what is printed.
 //!
 //! They stand here, and not in the crates, so that each of those is proved once: what they call is proved, and they are proved over
-//! its contracts.
+//! its contracts. `rows` has what they share.
 #![tactic(auto)]
+
+#[cfg(test)]
+mod of_dfind;
+#[cfg(test)]
+mod of_dtest;
+#[cfg(test)]
+mod of_dwalk;
+#[cfg(test)]
+mod of_lists;
+#[cfg(test)]
+mod rows;

@@ -1,6 +1,6 @@
 use Rattle.std.proofs.Common.{map}
 use Rattle.std.specs.String.{string_bytes}
-use Rattle.mfu_top.proofs.Ready.{within}
+use Rattle.mfu_top.proofs.Ended.{within}
 use Rattle.mfu_top.proofs.running.read_command.Goals as goal
 
 pub returns-clause-within : goal.returns-clause-within

@@ -1,6 +1,0 @@
-use Rattle.std.proofs.Common.{◌≡◌, ◌++◌, map, take}
-use Rattle.mfu_top.specs.Choosing.{newer_than}
-use Rattle.mfu_top.proofs.choosing.add_tests.Given as goal
-
-abbrev pub invariant-loop-look : goal.invariant-loop-look
-invariant-loop-look l = l.tests.items ≡ l.fn.tests.items ++ map (λ k. newer_than k.seen) (take l.look-index l.looks)

@@ -1,0 +1,5 @@
+use Rattle.mfu_top.proofs.Succeeds.{succeeds}
+use Rattle.mfu_top.proofs.laws.fine_runs_succeed.Goals as goal
+
+pub returns : goal.returns
+returns c = succeeds (record { lists = c.fine_list_succeeds.ensures; tests = c.fine_test_succeeds.ensures })
