@@ -1,5 +1,6 @@
 -- The walk of a made-up tree, in which nothing fails: no child is too far down, and it is no longer than the nodes and `/`.
-use Rattle.std.proofs.Common.{◌≡◌, ℕ, ◌-◌, ◌≤◌, zero, suc, Bool, true, false, ◌||◌, cond, List, [], ◌∷◌, ◌++◌, length, Option, Some, None, refl, ap, ◌∙◌, sym, subst, arith}
+use Rattle.std.proofs.Common.{◌≡◌, ℕ, ◌-◌, ◌≤◌, zero, suc, Bool, true, false, ◌||◌, cond, List}
+use Rattle.std.proofs.Common.{[], ◌∷◌, ◌++◌, length, Option, Some, None, refl, ap, ◌∙◌, sym, subst, arith}
 use Rattle.std.specs.Prelude.{All}
 use Rattle.std.specs.Option.{is_some, IsSome}
 use Rattle.std.specs.List.{AllByRecursion, Contains, flat_map, list_any, count_by}
@@ -40,11 +41,13 @@ all_flat : {X Y : Type 0} (P : Y → Type 0) (f : X → List Y) → ((x : X) →
 all_flat P f h [] = tt
 all_flat P f h (x ∷ xs) = all_append P (f x) (flat_map f xs) (h x) (all_flat P f h xs)
 
-all_down : (P : Entry → Type 0) (files : Files) → ((path : List ℕ) → P (entry_of (told 0) (get files path) path)) → (levels : ℕ) (path : List ℕ) → AllByRecursion P (walk_down levels files all_told path)
+all_down : (P : Entry → Type 0) (files : Files) → ((path : List ℕ) → P (entry_of (told 0) (get files path) path)) → (levels : ℕ) (path : List ℕ) →
+    AllByRecursion P (walk_down levels files all_told path)
 all_down P files h zero path = tt
 all_down P files h (suc levels) path = (h path, all_flat P (walk_down levels files all_told) (all_down P files h levels) (children_of (told 0) files path))
 
-all_walked : (P : Entry → Type 0) (files : Files) → ((path : List ℕ) → P (entry_of (told 0) (get files path) path)) → (path : List ℕ) → AllByRecursion P (walk files all_told path)
+all_walked : (P : Entry → Type 0) (files : Files) → ((path : List ℕ) → P (entry_of (told 0) (get files path) path)) → (path : List ℕ) →
+    AllByRecursion P (walk files all_told path)
 unfolding walk
 all_walked P files h path = all_down P files h (4096 - length path) path
 
@@ -66,20 +69,23 @@ here : (files : Files) (q : List ℕ) (es : List Entry) → AllByRecursion (IsTh
     list_any (eq_by_cmp path_cmp q) (paths_of es) ≡ true → is_some (get files q) ≡ true
 here files q [] h g any = absurd (false≢true any)
 here files q (e ∷ es) h g any =
-    elim (eq_by_cmp path_cmp q e.path) as (λ b. eq_by_cmp path_cmp q e.path ≡ b → (b || list_any (eq_by_cmp path_cmp q) (paths_of es)) ≡ true → is_some (get files q) ≡ true) [
+    elim (eq_by_cmp path_cmp q e.path) as
+    (λ b. eq_by_cmp path_cmp q e.path ≡ b → (b || list_any (eq_by_cmp path_cmp q) (paths_of es)) ≡ true → is_some (get files q) ≡ true) [
       | true ↦ λ tied any. ap (λ p. is_some (get files p)) ((bytes_decides q e.path).0 (path_cmp_ties q e.path ∙ tied)) ∙ h.0 g.0.0
       | false ↦ λ tied any. here files q es h.1 g.1 any
     ] refl any
 
 found : (files : Files) (q : List ℕ) → is_some (get files q) ≡ true → IsSome (lookup (eq_by_cmp path_cmp q) (entries files))
-found files q h = is_found (lookup (eq_by_cmp path_cmp q) (entries files)) (is_some-lookup (eq_by_cmp path_cmp q) (entries files) ∙ sym (contains_key-keys files q) ∙ h)
+found files q h =
+    is_found (lookup (eq_by_cmp path_cmp q) (entries files)) (is_some-lookup (eq_by_cmp path_cmp q) (entries files) ∙ sym (contains_key-keys files q) ∙ h)
   where
     is_found : (o : Option Node) → is_some o ≡ true → IsSome o
     is_found None e = absurd (false≢true e)
     is_found (Some node) e = refl
 
 -- so it is no longer than the tree has paths
-is_short : WalkAscends → WalkFindsAll → (files : Files) (root : List ℕ) → IsTree files → refusal root ≡ None → is_some (get files root) ≡ true → length (walk files all_told root) ≤ len files
+is_short : WalkAscends → WalkFindsAll → (files : Files) (root : List ℕ) → IsTree files → refusal root ≡ None → is_some (get files root) ≡ true →
+    length (walk files all_told root) ≤ len files
 is_short ascends finds files root tree valid there =
     let list = walk files all_told root in
     let fine = recursion_from_All (λ e. (e.mark ≡ mark.Fine) × (e.unnamed ≡ 0)) list (finds files root tree valid there) in
@@ -113,7 +119,8 @@ pub fine : WalkAscends → WalkFindsAll → FirstNodeIsThere → TestFilesAreTre
 fine ascends finds first trees near counted n l h =
     let files = test_files n in
     let there : is_some (get files made_root) ≡ true = subst (λ p. is_some (get files p) ≡ true) first.path (first.there n l h) in
-    let entries_near = All-from_recursion (λ e. e.far ≡ 0) (walk files all_told made_root) (all_walked (λ e. e.far ≡ 0) files (λ path. entry_near (get files path) path (near n l h path)) made_root) in
+    let near_all = all_walked (λ e. e.far ≡ 0) files (λ path. entry_near (get files path) path (near n l h path)) made_root in
+    let entries_near = All-from_recursion (λ e. e.far ≡ 0) (walk files all_told made_root) near_all in
     let short = is_short ascends finds files made_root (trees n l h) refl there in
     record {
       roots = made_root ∷ [];

@@ -16,7 +16,8 @@ use Rattle.list_report.specs.Tests.{made_root, made_side}
 -- ---- dwalk and dfind
 
 -- finding leaves the tree as it was
-pub finds_before : {chosen : List Entry} {notes : List Note} {account : Account} (asked : ListAsked) (now : ℕ) (before found : Side) → found.tree ≡ before.tree →
+pub finds_before : {chosen : List Entry} {notes : List Note} {account : Account} (asked : ListAsked) (now : ℕ) (before found : Side) →
+    found.tree ≡ before.tree →
     Finds asked.common asked.start asked.chosen now before found chosen notes account →
     Finds asked.common asked.start asked.chosen now before (side_of before.tree found.count) chosen notes account
 finds_before {chosen = chosen} {notes = notes} {account = account} asked now before found same f =
@@ -27,7 +28,8 @@ pub stops_finding : (asked : ListAsked) (before after : Side) (why : Stop) → a
 stops_finding asked before after why same stops = ⊎_elim (λ is. inl is) (λ s. inr (inl (s, same))) stops
 
 pub stops_saving : {chosen : List Entry} {notes : List Note} {account : Account} (asked : ListAsked) (now : ℕ) (before found after : Side) (why : Stop) →
-    found.tree ≡ before.tree → Finds asked.common asked.start asked.chosen now before found chosen notes account → found.count ≤ after.count → StopsSaving asked.output found after why → StopsList asked before after why
+    found.tree ≡ before.tree → Finds asked.common asked.start asked.chosen now before found chosen notes account → found.count ≤ after.count →
+    StopsSaving asked.output found after why → StopsList asked before after why
 stops_saving asked now before found after why same f later stops =
     let finds = finds_before asked now before found same f in
     inr (inr (record {
@@ -42,7 +44,8 @@ stops_saving asked now before found after why same f later stops =
 -- ---- dtest
 
 -- what is so of a walk of these paths over these files is so of the made-up tree, whose files and root they are
-pub over_made : (P : List (List ℕ) → Side → Side → Type 0) (n : ℕ) (paths : List (List ℕ)) (files after : Files) → paths ≡ made_root ∷ [] → files ≡ test_files n →
+pub over_made : (P : List (List ℕ) → Side → Side → Type 0) (n : ℕ) (paths : List (List ℕ)) (files after : Files) → paths ≡ made_root ∷ [] →
+    files ≡ test_files n →
     Some after ≡ Some files → P paths (side_of (Some files) 0) (side_of (Some after) 0) → P (made_root ∷ []) (made_side n) (made_side n)
 over_made P n paths files after root is same h =
     let rooted = subst (λ ps. P ps (side_of (Some files) 0) (side_of (Some after) 0)) root h in

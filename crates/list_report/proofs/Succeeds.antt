@@ -25,7 +25,8 @@ stood_after old between new a b stood = record { same = omega (arith, a, b, stoo
 
 -- ---- dwalk and dfind
 
-list_names_nothing : FineFindsNameNothing → (asked : ListAsked) (now : ℕ) (before after : Side) → WithinList asked → FineList asked before after → (report : Report) →
+list_names_nothing : FineFindsNameNothing → (asked : ListAsked) (now : ℕ) (before after : Side) → WithinList asked → FineList asked before after →
+    (report : Report) →
     ReportsList asked now before after report → report.failed ≡ 0
 list_names_nothing law asked now before after within fine report r =
     let survey = r.finds.survey in
@@ -38,7 +39,8 @@ list_names_nothing law asked now before after within fine report r =
     } in
     r.counts ∙ ap length (law asked.common asked.start asked.chosen now before found r.chosen r.notes r.account within.start side fine.there r.finds)
 
-list_stops_for_memory : FineFindsStopForMemory → FinePlacesStopForMemory → (asked : ListAsked) (before after : Side) → WithinList asked → FineList asked before after →
+list_stops_for_memory : FineFindsStopForMemory → FinePlacesStopForMemory → (asked : ListAsked) (before after : Side) → WithinList asked →
+    FineList asked before after →
     (why : Stop) → StopsList asked before after why → why ≡ stop.OutOfMemory
 list_stops_for_memory finds places asked before after within fine why stops =
     ⊎_elim (λ is. is)
@@ -62,7 +64,8 @@ root_valid : All Valid (made_root ∷ [])
 root_valid = All-from_recursion Valid (made_root ∷ []) (refl, tt)
 
 made_is_fine : MadeWalkIsFine → (n : ℕ) → (1 ≤ n) × (n ≤ 1000000) → IsFineSide (roots (made_root ∷ [])) (made_side n) (made_side n)
-made_is_fine law n bounds = record { files = test_files n; told = refl; fine = law n bounds.0 bounds.1; stood = record { same = refl; below_end = omega arith } }
+made_is_fine law n bounds =
+    record { files = test_files n; told = refl; fine = law n bounds.0 bounds.1; stood = record { same = refl; below_end = omega arith } }
 
 pub test_succeeds : MadeWalkIsFine → FineFindsNameNothing → FineTestSucceeds
 unfolding made_is_fine
@@ -78,4 +81,5 @@ test_succeeds walks law asked now within there = record {
 -- where nothing was found in a made-up tree, memory was wanting
 pub made_stops : MadeWalkIsFine → FineFindsStopForMemory → (n : ℕ) → (1 ≤ n) × (n ≤ 1000000) → (choice : Option Choice) (why : Stop) →
     StopsFinding (roots (made_root ∷ [])) choice (made_side n) (made_side n) why → why ≡ stop.OutOfMemory
-made_stops walks law n bounds choice why stops = law (roots (made_root ∷ [])) choice (made_side n) (made_side n) why root_valid (made_is_fine walks n bounds) stops
+made_stops walks law n bounds choice why stops =
+    law (roots (made_root ∷ [])) choice (made_side n) (made_side n) why root_valid (made_is_fine walks n bounds) stops

@@ -37,7 +37,8 @@ of_reading : (words : List (List ℕ)) (asked : Asked) (P : Asked → Type 0) �
 of_reading words asked P e h = subst (λ r. IfOk r P) (sym e) h
 
 -- a run that came to print its report
-pub printed : (words : List (List ℕ)) (asked : Asked) (now : ℕ) (before after : Side) (counts : Counts) (report : Report) (answer : Status) → reading words ≡ Ok asked →
+pub printed : (words : List (List ℕ)) (asked : Asked) (now : ℕ) (before after : Side) (counts : Counts) (report : Report) (answer : Status) →
+    reading words ≡ Ok asked →
     FineRunsSucceed → Within asked → Reports asked now before after report →
     (report.failed ≡ 0 → StoodStill counts.out counts.out' → StoodStill counts.notes counts.notes' → answer ≡ status.Done) →
     IfOk (reading words) (Completes before after counts answer)
@@ -46,7 +47,8 @@ printed words asked now before after counts report answer read law limits is put
     (λ fine out notes. inl (put ((law asked now before after limits fine).names_nothing report is) out notes))
 
 -- a run that stopped
-pub stopped : (words : List (List ℕ)) (asked : Asked) (before after : Side) (counts : Counts) (why : Stop) (answer : Status) (old new : Stream) → reading words ≡ Ok asked →
+pub stopped : (words : List (List ℕ)) (asked : Asked) (before after : Side) (counts : Counts) (why : Stop) (answer : Status) (old new : Stream) →
+    reading words ≡ Ok asked →
     FineRunsSucceed → Within asked → Stops asked before after why → Told why answer old new → IfOk (reading words) (Completes before after counts answer)
 stopped words asked before after counts why answer old new read law limits by told =
     of_reading words asked (Completes before after counts answer) read

@@ -16,7 +16,8 @@ all_kept : (P : Entry → Type 0) (p : Entry → Bool) (es : List Entry) → All
 all_kept P p [] h = tt
 all_kept P p (e ∷ es) h = let rest = all_kept P p es h.1 in one_of (AllByRecursion P) (p e) (e ∷ filter p es) (filter p es) (h.0, rest) rest
 
-less_kept : (x : List ℕ) (p : Entry → Bool) (es : List Entry) → AllByRecursion (λ z. path_cmp x z ≡ Less) (paths es) → AllByRecursion (λ z. path_cmp x z ≡ Less) (paths (filter p es))
+less_kept : (x : List ℕ) (p : Entry → Bool) (es : List Entry) → AllByRecursion (λ z. path_cmp x z ≡ Less) (paths es) →
+    AllByRecursion (λ z. path_cmp x z ≡ Less) (paths (filter p es))
 less_kept x p [] h = tt
 less_kept x p (e ∷ es) h =
     let rest = less_kept x p es h.1 in
@@ -29,7 +30,8 @@ order_kept p (e ∷ es) s =
     let rest = order_kept p es s.1 in
     one_of (λ fs. IsStrictlySortedBy path_cmp (paths fs)) (p e) (e ∷ filter p es) (filter p es) (less_kept e.path p es s.0, rest) rest
 
-pub chosen_ascends : (p : Entry → Bool) (es chosen : List Entry) → chosen ≡ filter p es → IsStrictlySortedBy path_cmp (paths es) → IsStrictlySortedBy path_cmp (paths chosen)
+pub chosen_ascends : (p : Entry → Bool) (es chosen : List Entry) → chosen ≡ filter p es → IsStrictlySortedBy path_cmp (paths es) →
+    IsStrictlySortedBy path_cmp (paths chosen)
 chosen_ascends p es chosen is s = subst (λ fs. IsStrictlySortedBy path_cmp (paths fs)) (sym is) (order_kept p es s)
 
 pub chosen_holds : (P : Entry → Type 0) (p : Entry → Bool) (es chosen : List Entry) → chosen ≡ filter p es → All P es → All P chosen

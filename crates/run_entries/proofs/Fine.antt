@@ -108,7 +108,8 @@ whole given files entries before after laws valid told w f stood =
       same = all.0;
       unnamed = λ near.
           no_notes entries
-          (both entries (recursion_from_All IsAnswered entries all.1) (recursion_from_All (λ e. e.far ≡ 0) entries (subst (λ es. All (λ e. e.far ≡ 0) es) (sym all.0) near)));
+          (both entries (recursion_from_All IsAnswered entries all.1)
+          (recursion_from_All (λ e. e.far ≡ 0) entries (subst (λ es. All (λ e. e.far ≡ 0) es) (sym all.0) near)));
     }
 
 -- ---- a list file
@@ -119,9 +120,11 @@ spelled files path bytes holds f = subst (λ b. Spells b f.entries) (f.holds.sam
 
 -- ---- what was listed names nothing
 
-nothing_named : (start : Origin) (files : Files) (entries : List Entry) (before after : Side) → Laws → SpellsOne → All Valid (paths_in start) → before.tree ≡ Some files →
+nothing_named : (start : Origin) (files : Files) (entries : List Entry) (before after : Side) → Laws → SpellsOne → All Valid (paths_in start) →
+    before.tree ≡ Some files →
     Listed start entries before after → IsFineStart files start → StoodStill before.count after.count → notes_of entries ≡ []
-nothing_named (roots given) files entries before after laws one valid told w f stood = (whole given files entries before after laws valid told w f stood).unnamed f.near
+nothing_named (roots given) files entries before after laws one valid told w f stood =
+    (whole given files entries before after laws valid told w f stood).unnamed f.near
 nothing_named (input path) files entries before after laws one valid told r f stood =
     let read = of_told (λ files. (bytes : List ℕ) × HoldsFile bytes (get files path) × Spells bytes entries) before.tree files told r.told in
     let same : f.entries ≡ entries = one.one_list read.0 f.entries entries (spelled files path read.0 read.1 f) read.2 in
@@ -142,7 +145,8 @@ names_nothing laws one told order common start choice now before after chosen no
     let survey = finds.survey in
     let looked = subst (λ t. AreLooks t (newer_in choice) finds.looks before.count survey.between) f.told survey.looked in
     let stood = in_both before.count survey.between after.count survey.looked.counted survey.later f.stood in
-    let looks = looks_named finds.looks (recursion_from_All _ finds.looks (told f.files (newer_in choice) finds.looks before.count survey.between looked there stood.first)) in
+    let seen = told f.files (newer_in choice) finds.looks before.count survey.between looked there stood.first in
+    let looks = looks_named finds.looks (recursion_from_All _ finds.looks seen) in
     let entries =
     nothing_named start f.files finds.entries (side_of before.tree survey.between) after laws one valid f.told survey.listed f.fine stood.second
     in
@@ -158,7 +162,8 @@ too_much (input path) files before after laws exact valid told long f stood =
     let read = of_told (λ files. (bytes : List ℕ) × HoldsFile bytes (get files path) × IsTooLong bytes) before.tree files told long in
     absurd (omega (arith, exact.long_list read.0 f.entries (spelled files path read.0 read.1 f) read.2, f.few))
 
-damaged : (start : Origin) (files : Files) (before : Side) (path : List ℕ) (line : ℕ) → RefusesExactly → before.tree ≡ Some files → IsDamagedList start before path line →
+damaged : (start : Origin) (files : Files) (before : Side) (path : List ℕ) (line : ℕ) → RefusesExactly → before.tree ≡ Some files →
+    IsDamagedList start before path line →
     IsFineStart files start → ⊥
 damaged start files before path line exact told bad f =
     let list : IsFineList files path = subst (IsFineStart files) bad.named f in
@@ -171,14 +176,19 @@ absent start files before path told none f =
     let here = of_told (λ files. is_file (get files path) ≡ false) before.tree files told none.told in
     false≢true (sym here ∙ list.holds.is_file)
 
-for_memory : (start : Origin) (files : Files) (before after : Side) (reason : Stop) → Laws → RefusesExactly → All Valid (paths_in start) → before.tree ≡ Some files →
+for_memory : (start : Origin) (files : Files) (before after : Side) (reason : Stop) → Laws → RefusesExactly → All Valid (paths_in start) →
+    before.tree ≡ Some files →
     IsFineStart files start → StoodStill before.count after.count → StopsListing start before after reason → reason ≡ stop.OutOfMemory
 for_memory start files before after stop.OutOfMemory laws exact valid told f stood stops = refl
-for_memory start files before after stop.TooMany laws exact valid told f stood stops = absurd (too_much start files before after laws exact valid told stops f stood)
-for_memory start files before after (stop.Damaged path line) laws exact valid told f stood stops = absurd (damaged start files before path line exact told stops f)
-for_memory start files before after (stop.ListFile trouble.Absent path) laws exact valid told f stood stops = absurd (absent start files before path told stops f)
+for_memory start files before after stop.TooMany laws exact valid told f stood stops =
+    absurd (too_much start files before after laws exact valid told stops f stood)
+for_memory start files before after (stop.Damaged path line) laws exact valid told f stood stops =
+    absurd (damaged start files before path line exact told stops f)
+for_memory start files before after (stop.ListFile trouble.Absent path) laws exact valid told f stood stops =
+    absurd (absent start files before path told stops f)
 for_memory start files before after (stop.ListFile trouble.NoPlace path) laws exact valid told f stood stops = absurd stops
-for_memory start files before after (stop.ListFile trouble.Fault path) laws exact valid told f stood stops = absurd (no_fault before.count after.count stops.counted stood)
+for_memory start files before after (stop.ListFile trouble.Fault path) laws exact valid told f stood stops =
+    absurd (no_fault before.count after.count stops.counted stood)
 
 pub stops_for_memory : Laws → RefusesExactly → FineFindsStopForMemory
 stops_for_memory laws exact start choice before after reason valid f stops =
@@ -202,5 +212,7 @@ places_for_memory output files before after stop.OutOfMemory told can stood stop
 places_for_memory output files before after stop.TooMany told can stood stops = absurd stops
 places_for_memory output files before after (stop.Damaged path line) told can stood stops = absurd stops
 places_for_memory output files before after (stop.ListFile trouble.Absent path) told can stood stops = absurd stops
-places_for_memory output files before after (stop.ListFile trouble.NoPlace path) told can stood stops = absurd (no_place output files before path told stops can)
-places_for_memory output files before after (stop.ListFile trouble.Fault path) told can stood stops = absurd (no_fault before.count after.count stops.counted stood)
+places_for_memory output files before after (stop.ListFile trouble.NoPlace path) told can stood stops =
+    absurd (no_place output files before path told stops can)
+places_for_memory output files before after (stop.ListFile trouble.Fault path) told can stood stops =
+    absurd (no_fault before.count after.count stops.counted stood)

@@ -24,7 +24,8 @@ no_looks tree count most = record {
 
 -- the entries were not listed from a side that the looks left as it was
 pub stops_after : (start : Origin) (choice : Option Choice) (before between after : Side) (looks : List Look) (why : Stop) → between.tree ≡ before.tree →
-    AreLooks before.tree (newer_in choice) looks before.count between.count → between.count ≤ after.count → StopsListing start between after why → StopsFinding start choice before after why
+    AreLooks before.tree (newer_in choice) looks before.count between.count → between.count ≤ after.count → StopsListing start between after why →
+    StopsFinding start choice before after why
 stops_after start choice before between after looks why same looked later stops =
     inr (record {
       looks = looks;

@@ -18,7 +18,8 @@ use Rattle.run_entries.specs.Entries.{Walked}
 use Rattle.run_entries.specs.Tells.{IsAccount}
 
 -- starts that stand in path order are walked one after the other
-in_order : (tree : Option Files) (starts : List (List ℕ)) (entries : List Entry) → IsStrictlySortedBy path_cmp starts → IfSome tree (λ files. IsWalkOf files entries starts) →
+in_order : (tree : Option Files) (starts : List (List ℕ)) (entries : List Entry) → IsStrictlySortedBy path_cmp starts →
+    IfSome tree (λ files. IsWalkOf files entries starts) →
     IfSome tree (λ files. entries ≡ flat_map (walk files (answers_in entries)) starts)
 in_order None starts entries ascend told = tt
 in_order (Some files) starts entries ascend told = told starts (IsPermutation-refl starts) ascend
@@ -37,7 +38,8 @@ walked_from before after given starts entries are is = record {
 
 -- a walk of the roots is one of the given paths
 pub told : (common : Common) (before after : Side) (given starts : List (List ℕ)) (r : Result Entries WalkError) → IsRoots given starts →
-    IfOk r (λ entries. IsFound before.tree starts before.count after.count entries.list) → IfOk r (λ entries. IsAccount common before.tree starts entries.list entries.account) →
+    IfOk r (λ entries. IsFound before.tree starts before.count after.count entries.list) →
+    IfOk r (λ entries. IsAccount common before.tree starts entries.list entries.account) →
     IfOk r (λ entries. (walked : Walked given entries.list before after) × IsAccount common before.tree walked.roots entries.list entries.account)
 unfolding walked_from
 told common before after given starts (Ok entries) are is account = (walked_from before after given starts entries.list are is, account)

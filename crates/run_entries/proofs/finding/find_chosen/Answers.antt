@@ -19,7 +19,8 @@ returns-clause-finds g c =
     let after = side_of (g.G.Plot.tree c.list_from.new.files) (g.G.Plot.count c.list_from.new.files) in
     let told =
     subst
-    (λ t. (listed : Listed start found.list (side_of t between) after) × Tells c.args.common.now start found.list (side_of t between) after listed found.account)
+    (λ t. (listed : Listed start found.list (side_of t between) after)
+    × Tells c.args.common.now start found.list (side_of t between) after listed found.account)
     c.look_at_each.ensures.same c.in_ok-list.ensures.told
     in
     let tests = c.args.choice.tests.items ++ map (λ l. newer_than l.seen) looks in

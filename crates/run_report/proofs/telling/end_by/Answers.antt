@@ -11,4 +11,5 @@ returns-clause-told g c =
     let before = stream_of (text c.args.notes.now) (count c.args.notes.now) in
     let after = stream_of (text c.end_with.new.notes) (count c.end_with.new.notes) in
     let told = c.end_with.ensures in
-    told_by c.refusal_line.result (refusal_line c.args.refusal) status.Words c.end_with.result before after c.refusal_line.ensures told.status told.line told.memory
+    told_by c.refusal_line.result (refusal_line c.args.refusal) status.Words c.end_with.result before after
+    c.refusal_line.ensures told.status told.line told.memory
