@@ -8,7 +8,7 @@ use Rattle.std.specs.declared.cmp.Ordering.{Ordering}
 use Rattle.std.specs.declared.cmp.Ordering.TheVariants.{Less, Equal, Greater}
 use Rattle.std.proofs.lemmas.Bool.Decides.{nat_tests}
 use Rattle.path_text.specs.Order.{path_cmp, byte_rank, front}
-use Rattle.path_text.specs.Preorder.{before_all, front-joined}
+use Rattle.path_text.proofs.Preorder.{before_all, front-joined}
 use Rattle.path_text.specs.Path.{is_slash, refusal, joined}
 use Rattle.outside.specs.Tree.{name_below}
 use Rattle.outside.specs.Children.{is_one_name, name_below-front, name_below-off, child_is, one_name_parts}

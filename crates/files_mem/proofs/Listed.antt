@@ -11,7 +11,7 @@ use Rattle.std.specs.declared.cmp.Ordering.TheVariants.{Less, Equal, Greater}
 use Rattle.std.specs.declared.ops.Bound.TheVariants.{Included, Unbounded}
 use Rattle.std.specs.BTreeMap.Range.{entries_between, range_contains}
 use Rattle.path_text.specs.Order.{path_cmp, front}
-use Rattle.path_text.specs.Preorder.{before_all}
+use Rattle.path_text.proofs.Preorder.{before_all}
 use Rattle.path_text.specs.Total.{path_cmp_total}
 use Rattle.path_text.specs.Path.{refusal}
 use Rattle.outside.specs.Tree.{name_below, Node, names_in}

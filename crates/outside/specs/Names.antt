@@ -19,7 +19,7 @@ use Rattle.std.proofs.lemmas.Bool.Decides.{nat_tests}
 use Rattle.path_text.specs.declared.errors.PathError.{PathError}
 use Rattle.path_text.specs.Order.{path_cmp, byte_rank, front}
 use Rattle.path_text.specs.Total.{path_cmp_total}
-use Rattle.path_text.specs.Preorder.{front-joined}
+use Rattle.path_text.proofs.Preorder.{front-joined}
 use Rattle.path_text.specs.Path.{is_slash, name_fault, first_fault, refusal, is_name, joined, parent_of}
 use Rattle.outside.specs.Tree.{Files, Node, IsTree, is_dir, is_root, name_below, AreNames, ChildrenAreNames}
 use Rattle.outside.specs.Children.{child_is, one_name_parts}

@@ -20,7 +20,8 @@ pub split_more : (xs ys : List ℕ) → slice_split is_slash (xs ++ 47 ∷ ys) �
 split_more [] ys = refl
 split_more (x ∷ xs) ys =
     let rest = split_more xs ys in
-    elim (is_slash x) as (λ b. cond b ([] ∷ slice_split is_slash (xs ++ 47 ∷ ys)) (onto_first x (slice_split is_slash (xs ++ 47 ∷ ys))) ≡ cond b ([] ∷ slice_split is_slash xs) (onto_first x (slice_split is_slash xs)) ++ slice_split is_slash ys) [
+    elim (is_slash x) as (λ b. cond b ([] ∷ slice_split is_slash (xs ++ 47 ∷ ys)) (onto_first x (slice_split is_slash (xs ++ 47 ∷ ys)))
+    ≡ cond b ([] ∷ slice_split is_slash xs) (onto_first x (slice_split is_slash xs)) ++ slice_split is_slash ys) [
       | true ↦ ap (λ r. [] ∷ r) rest
       | false ↦ ap (onto_first x) rest ∙ onto_append x _ _ (some_part xs)
     ]
@@ -28,7 +29,8 @@ split_more (x ∷ xs) ys =
 pub split_name : (n : List ℕ) → list_any is_slash n ≡ false → slice_split is_slash n ≡ n ∷ []
 split_name [] h = refl
 split_name (x ∷ n) h =
-    elim (is_slash x) as (λ b. (b || list_any is_slash n) ≡ false → cond b ([] ∷ slice_split is_slash n) (onto_first x (slice_split is_slash n)) ≡ (x ∷ n) ∷ []) [
+    elim (is_slash x) as (λ b. (b || list_any is_slash n) ≡ false → cond b ([] ∷ slice_split is_slash n) (onto_first x (slice_split is_slash n))
+    ≡ (x ∷ n) ∷ []) [
       | true ↦ λ e. cc
       | false ↦ λ e. ap (onto_first x) (split_name n e)
     ] h

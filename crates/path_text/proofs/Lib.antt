@@ -2,7 +2,12 @@ pub mod Compared
 pub mod Split
 pub mod Joined
 pub mod Plain
+pub mod Blocks
+pub mod Told
+pub mod Preorder
 pub mod Preordered
+pub mod Under
+pub mod Moved
 pub mod Words
 pub mod Parts
 pub mod Readable

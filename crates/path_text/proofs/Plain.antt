@@ -16,7 +16,8 @@ plain : (xs : List ℕ) (k : ℕ) → k ≤ position_or_len is_escaped xs → es
 plain xs zero h = refl
 plain [] (suc k) h = refl
 plain (x ∷ xs) (suc k) h =
-    elim (is_escaped x) as (λ b. is_escaped x ≡ b → suc k ≤ cond (not b) (1 + position_or_len is_escaped xs) 0 → escaped x ++ escape xs ≡ x ∷ (take k xs ++ escape (drop k xs))) [
+    elim (is_escaped x) as (λ b. is_escaped x ≡ b → suc k ≤ cond (not b) (1 + position_or_len is_escaped xs) 0 →
+    escaped x ++ escape xs ≡ x ∷ (take k xs ++ escape (drop k xs))) [
       | true ↦ λ e h. absurd (omega arith)
       | false ↦ λ e h. ap (λ l. l ++ escape xs) (as_is x e) ∙ ap (λ r. x ∷ r) (plain xs k (omega arith))
     ] refl h
@@ -27,8 +28,12 @@ Divides xs k = (k < length xs) × (is_escaped (slice_index xs k) ≡ true) × (e
 
 divides_at : (xs : List ℕ) (k : ℕ) → k < length xs → position_or_len is_escaped xs ≡ k → Divides xs k
 divides_at xs k h e =
-    let one : drop k xs ≡ get_or xs k 0 ∷ drop (k + 1) xs = rw (add-one, drop-cons xs k 0) in
-    (h, ap (λ k. is_escaped (get_or xs k 0)) (sym e) ∙ passes_at_first is_escaped xs 0 (omega arith), plain xs k (omega arith) ∙ ap (λ r. take k xs ++ escape r) one)
+    let one : drop k xs ≡ get_or xs k 0 ∷ drop (k + 1) xs = rw (add-one, drop-cons xs k 0) in (
+      h,
+      ap (λ k. is_escaped (get_or xs k 0)) (sym e) ∙ passes_at_first is_escaped xs 0 (omega arith),
+      plain xs k (omega arith)
+          ∙ ap (λ r. take k xs ++ escape r) one,
+    )
 
 -- what the place of the first such byte says of the text
 pub by_escaped : (xs : List ℕ) (r : Option ℕ) → r ≡ position is_escaped xs → IfSome r (Divides xs) × IfNone r (escape xs ≡ xs)

@@ -13,16 +13,16 @@ use Rattle.std.proofs.lemmas.Bool.{false≢true}
 use Rattle.std.proofs.lemmas.List.{take-append-drop}
 use Rattle.path_text.specs.Path.{joined}
 use Rattle.path_text.specs.Order.{path_cmp, byte_rank, front, is_under, is_within, IsPreorder, slash_as_zero, has_zero, ReadsSlashAsZero}
-use Rattle.path_text.specs.Preorder.{precedes, precedes-Less, less_all, prefix_less, sibling_precedes, some_bytes, no_slash}
+use Rattle.path_text.proofs.Preorder.{precedes, precedes-Less, less_all, prefix_less, sibling_precedes, some_bytes, no_slash}
 
 -- what follows the front of a path
-begins : (x f : List ℕ) → starts_with nat_eq x f ≡ true → x ≡ f ++ drop (length f) x
+pub begins : (x f : List ℕ) → starts_with nat_eq x f ≡ true → x ≡ f ++ drop (length f) x
 begins x f e = sym (take-append-drop (length f) x) ∙ ap (λ l. l ++ drop (length f) x) (sym ((bytes_decides f (take (length f) x)).0 e))
 
-longer : (m n : ℕ) → nat_lt m n ≡ true → m < n
+pub longer : (m n : ℕ) → nat_lt m n ≡ true → m < n
 longer m n e = grind (arith, nat_tests)
 
-under_after : (y r : List ℕ) → 0 < length r → path_cmp y (front y ++ r) ≡ Less
+pub under_after : (y r : List ℕ) → 0 < length r → path_cmp y (front y ++ r) ≡ Less
 under_after y r h =
     elim (length y == 1) as (λ b. path_cmp y (cond b y (y ++ 47 ∷ []) ++ r) ≡ Less) [
       | true ↦ prefix_less y r h
@@ -40,7 +40,8 @@ within_less : (x y z : List ℕ) → precedes y z ≡ true → IsTrue (is_within
 within_less x y z p e =
     elim (pointwise nat_eq x y) as (λ b. pointwise nat_eq x y ≡ b → (b || is_under x y) ≡ true → path_cmp x z ≡ Less) [
       | true ↦ λ same h. ap (λ l. path_cmp l z) ((bytes_decides x y).0 same) ∙ precedes-Less y z p
-      | false ↦ λ same h. ap (λ l. path_cmp l z) (begins x (front y) (first_so (starts_with nat_eq x (front y)) _ h)) ∙ less_all (front y) (drop (length (front y)) x) z p
+      | false ↦ λ same h. ap (λ l. path_cmp l z) (begins x (front y) (first_so (starts_with nat_eq x (front y)) _ h))
+          ∙ less_all (front y) (drop (length (front y)) x) z p
     ] refl e
 
 pub preorder : IsPreorder
@@ -53,7 +54,8 @@ either : (a b : Bool) → (a || b) ≡ false → (a ≡ false) × (b ≡ false)
 either true b e = absurd (false≢true (sym e))
 either false b e = (refl, e)
 
-same_rank : (a b : ℕ) (r : Ordering) → (a == 0) ≡ false → (b == 0) ≡ false → ordering_then (nat_cmp (byte_rank a) (byte_rank b)) r ≡ ordering_then (nat_cmp (slash_as_zero a) (slash_as_zero b)) r
+same_rank : (a b : ℕ) (r : Ordering) → (a == 0) ≡ false → (b == 0) ≡ false →
+    ordering_then (nat_cmp (byte_rank a) (byte_rank b)) r ≡ ordering_then (nat_cmp (slash_as_zero a) (slash_as_zero b)) r
 same_rank a b r p q = grind (arith, nat_tests)
 
 pub reads_slash_as_zero : ReadsSlashAsZero

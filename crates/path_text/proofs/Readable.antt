@@ -15,13 +15,13 @@ use Rattle.path_text.specs.declared.errors.EscapeError.TheVariants.{BadEscape}
 use Rattle.path_text.specs.Path.{refusal}
 use Rattle.path_text.specs.Escape.{hex_digit, is_escaped, escaped, escape, hex_value, told_byte, begins_escape, good_len, unescaped, path_of, reading, ReadingUndoesWriting}
 
-as_escape : (b : ℕ) → is_escaped b ≡ true → escaped b ≡ 92 ∷ 120 ∷ hex_digit (b / 16) ∷ hex_digit (b % 16) ∷ []
+pub as_escape : (b : ℕ) → is_escaped b ≡ true → escaped b ≡ 92 ∷ 120 ∷ hex_digit (b / 16) ∷ hex_digit (b % 16) ∷ []
 as_escape b e = ap (λ t. cond t (92 ∷ 120 ∷ hex_digit (b / 16) ∷ hex_digit (b % 16) ∷ []) (b ∷ [])) e
 
-as_itself : (b : ℕ) → is_escaped b ≡ false → escaped b ≡ b ∷ []
+pub as_itself : (b : ℕ) → is_escaped b ≡ false → escaped b ≡ b ∷ []
 as_itself b e = ap (λ t. cond t (92 ∷ 120 ∷ hex_digit (b / 16) ∷ hex_digit (b % 16) ∷ []) (b ∷ [])) e
 
-low : (b : ℕ) → is_escaped b ≡ true → b < 128
+pub low : (b : ℕ) → is_escaped b ≡ true → b < 128
 low b e = grind (arith, nat_tests)
 
 -- a digit is written as a byte that stands for itself, and is read back
@@ -67,7 +67,8 @@ begins behind h =
     let b = told_byte (92 ∷ behind) in
     let e : is_escaped b ≡ true = first_so (is_escaped b) _ h in
     let w = as_escape b e in
-    let s : 92 ∷ behind ≡ escaped b ++ drop (length (escaped b)) (92 ∷ behind) = (starts_is Decides-eqb (92 ∷ behind) (escaped b) _ refl).0 (second_so (is_escaped b) _ h) in
+    let s : 92 ∷ behind ≡ escaped b ++ drop (length (escaped b)) (92 ∷ behind) = (starts_is Decides-eqb (92 ∷ behind) (escaped b) _ refl).0
+    (second_so (is_escaped b) _ h) in
     let t : 92 ∷ behind ≡ escaped b ++ drop 3 behind = s ∙ ap (λ l. escaped b ++ drop (length l) (92 ∷ behind)) w in
     record {
       high = b / 16;
@@ -82,10 +83,14 @@ begins behind h =
 good_le : (s : List ℕ) → good_len s ≤ length s
 good_le [] = omega arith
 good_le (b ∷ s) =
-    elim (is_escaped b && not (begins_escape (b ∷ s))) as (λ t. cond t 0 (good_len s + 1) ≤ length (b ∷ s)) [ true ↦ omega arith | false ↦ omega (arith, good_le s) ]
+    elim (is_escaped b && not (begins_escape (b ∷ s))) as (λ t. cond t 0 (good_len s + 1) ≤ length (b ∷ s)) [
+      | true ↦ omega arith
+      | false ↦ omega
+          (arith, good_le s)
+    ]
 
 -- the first byte of a good text is good, and so is the rest
-good_more : (b : ℕ) (s : List ℕ) → good_len (b ∷ s) ≡ length (b ∷ s) → ((is_escaped b && not (begins_escape (b ∷ s))) ≡ false) × (good_len s ≡ length s)
+pub good_more : (b : ℕ) (s : List ℕ) → good_len (b ∷ s) ≡ length (b ∷ s) → ((is_escaped b && not (begins_escape (b ∷ s))) ≡ false) × (good_len s ≡ length s)
 good_more b s =
     elim (is_escaped b && not (begins_escape (b ∷ s))) as (λ t. cond t 0 (good_len s + 1) ≡ length (b ∷ s) → (t ≡ false) × (good_len s ≡ length s)) [
       | true ↦ λ e. absurd (omega arith)
@@ -113,7 +118,8 @@ past_digits h l s p q = ap (drop 2) (one (hex_digit h) (hex_digit l ∷ s) p.no_
 
 -- an escape is read as the byte that it tells
 told_more : (behind : List ℕ) → Begins behind → unescaped (92 ∷ behind) ≡ told_byte (92 ∷ behind) ∷ unescaped (drop 3 behind)
-told_more behind w = ap (λ r. told_byte (92 ∷ behind) ∷ r) (ap (λ s. drop 3 (unescaped s)) w.digits ∙ past_digits w.high w.low (drop 3 behind) w.is_high w.is_low)
+told_more behind w = ap (λ r. told_byte (92 ∷ behind) ∷ r) (ap (λ s. drop 3 (unescaped s)) w.digits
+    ∙ past_digits w.high w.low (drop 3 behind) w.is_high w.is_low)
 
 plain_more : (xs ys : List ℕ) → ((i : ℕ) → i < length xs → get_or xs i 0 ≢ 92) → unescaped (xs ++ ys) ≡ xs ++ unescaped ys
 plain_more [] ys h = refl
@@ -131,14 +137,16 @@ pub record Step (s plain behind : List ℕ) : Type 0 where
   pub ascii : get_or behind 2 0 < 128
   pub shorter : length (drop 3 behind) < length s
 
-pub step : (s plain behind : List ℕ) → good_len s ≡ length s → s ≡ plain ++ 92 ∷ behind → ((i : ℕ) → i < length plain → get_or plain i 0 ≢ 92) → Step s plain behind
+pub step : (s plain behind : List ℕ) → good_len s ≡ length s → s ≡ plain ++ 92 ∷ behind → ((i : ℕ) → i < length plain → get_or plain i 0 ≢ 92) →
+    Step s plain behind
 step s plain behind h e none =
     let g : good_len (92 ∷ behind) ≡ length (92 ∷ behind) = good_behind plain (92 ∷ behind) (ap good_len (sym e) ∙ h ∙ ap length e) in
     let w = begins behind (backslash behind g) in
     let d : length behind ≡ 3 + length (drop 3 behind) = ap length w.digits ∙ omega arith in
     record {
       escape = backslash behind g;
-      good = good_behind (120 ∷ hex_digit w.high ∷ hex_digit w.low ∷ []) (drop 3 behind) (ap good_len (sym w.digits) ∙ (good_more 92 behind g).1 ∙ ap length w.digits);
+      good = good_behind (120 ∷ hex_digit w.high ∷ hex_digit w.low ∷ []) (drop 3 behind)
+          (ap good_len (sym w.digits) ∙ (good_more 92 behind g).1 ∙ ap length w.digits);
       read = ap unescaped e ∙ plain_more plain (92 ∷ behind) none ∙ ap (λ r. plain ++ r) (told_more behind w);
       long = omega (arith, d);
       ascii = subst (λ n. n < 128) (sym (ap (λ l. get_or l 2 0) w.digits)) w.is_low.ascii;
@@ -158,7 +166,8 @@ pub cut : (s plain behind : List ℕ) → Step s plain behind → s ≡ plain ++
 cut s plain behind w e u = IsCharBoundary-after_ascii behind 2 (utf8_behind s plain behind e u) w.long w.ascii
 
 -- what was read, with one piece and one byte more
-pub read_on : (old mid new s plain behind enc rest whole : List ℕ) → Step s plain behind → old ++ unescaped s ≡ whole → mid ≡ old ++ plain → new ≡ mid ++ enc → enc ≡ told_byte (92 ∷ behind) ∷ [] → rest ≡ drop 3 behind → new ++ unescaped rest ≡ whole
+pub read_on : (old mid new s plain behind enc rest whole : List ℕ) → Step s plain behind → old ++ unescaped s ≡ whole → mid ≡ old ++ plain →
+    new ≡ mid ++ enc → enc ≡ told_byte (92 ∷ behind) ∷ [] → rest ≡ drop 3 behind → new ++ unescaped rest ≡ whole
 read_on old mid new s plain behind enc rest whole w h m n e r =
     (λ i. (n ∙ (λ k. m k ++ e k)) i ++ unescaped (r i)) ∙ append_assoc (old ++ plain) (told_byte (92 ∷ behind) ∷ []) (unescaped (drop 3 behind))
     ∙ append_assoc old plain (told_byte (92 ∷ behind) ∷ unescaped (drop 3 behind)) ∙ ap (λ t. old ++ t) (sym w.read) ∙ h
@@ -175,17 +184,21 @@ pub last_piece : (s : List ℕ) → ((i : ℕ) → i < length s → get_or s i 0
 last_piece = none_past
 
 -- the byte that a place adds
-pub good_at : (s : List ℕ) (at : ℕ) → at < length s → good_len (drop at s) ≡ cond (is_escaped (get_or s at 0) && not (begins_escape (drop at s))) 0 (good_len (drop (at + 1) s) + 1)
+pub good_at : (s : List ℕ) (at : ℕ) → at < length s → good_len (drop at s)
+    ≡ cond (is_escaped (get_or s at 0) && not (begins_escape (drop at s))) 0 (good_len (drop (at + 1) s) + 1)
 good_at s at h = ap good_len d ∙ ap (λ l. cond (is_escaped (get_or s at 0) && not (begins_escape l)) 0 (good_len (drop (at + 1) s) + 1)) (sym d)
   where
     d : drop at s ≡ get_or s at 0 ∷ drop (at + 1) s
     d = rw (add-one, drop-cons s at 0)
 
 -- a good byte more
-pub good_step : (s x : List ℕ) (at : ℕ) (r : Bool) → x ≡ drop at s → at < length s → r ≡ (is_escaped (slice_index x 0) && not (begins_escape x)) → r ≡ false → good_len s ≡ at + good_len (drop at s) → good_len s ≡ at + 1 + good_len (drop (at + 1) s)
+pub good_step : (s x : List ℕ) (at : ℕ) (r : Bool) → x ≡ drop at s → at < length s → r ≡ (is_escaped (slice_index x 0) && not (begins_escape x)) →
+    r ≡ false → good_len s ≡ at + good_len (drop at s) → good_len s ≡ at + 1 + good_len (drop (at + 1) s)
 good_step s x at r e h b f g =
     let head : get_or (drop at s) 0 0 ≡ get_or s at 0 = get_or-drop at s 0 0 ∙ ap (λ k. get_or s k 0) (omega arith) in
-    let good : (is_escaped (get_or s at 0) && not (begins_escape (drop at s))) ≡ false = sym (ap (λ x. is_escaped (get_or x 0 0) && not (begins_escape x)) e ∙ ap (λ v. is_escaped v && not (begins_escape (drop at s))) head) ∙ sym b ∙ f in
+    let good : (is_escaped (get_or s at 0) && not (begins_escape (drop at s)))
+    ≡ false = sym (ap (λ x. is_escaped (get_or x 0 0) && not (begins_escape x)) e
+    ∙ ap (λ v. is_escaped v && not (begins_escape (drop at s))) head) ∙ sym b ∙ f in
     let next : good_len (drop at s) ≡ good_len (drop (at + 1) s) + 1 = good_at s at h ∙ ap (λ t. cond t 0 (good_len (drop (at + 1) s) + 1)) good in
     omega (arith, g, next)
 
@@ -218,7 +231,9 @@ escape_back b p text e w =
     let h = high_digit b (low b e) in
     let l = low_digit b in
     record {
-      good = good_one 92 (120 ∷ hex_digit (b / 16) ∷ hex_digit (b % 16) ∷ text) (ap (λ t. is_escaped 92 && not t) (written_begins b text e)) (good_plain 120 (hex_digit (b / 16) ∷ hex_digit (b % 16) ∷ text) refl (good_plain (hex_digit (b / 16)) (hex_digit (b % 16) ∷ text) h.plain (good_plain (hex_digit (b % 16)) text l.plain w.good)));
+      good = good_one 92 (120 ∷ hex_digit (b / 16) ∷ hex_digit (b % 16) ∷ text) (ap (λ t. is_escaped 92 && not t) (written_begins b text e))
+          (good_plain 120 (hex_digit (b / 16) ∷ hex_digit (b % 16) ∷ text) refl
+          (good_plain (hex_digit (b / 16)) (hex_digit (b % 16) ∷ text) h.plain (good_plain (hex_digit (b % 16)) text l.plain w.good)));
       read = (λ i. told_back b text e i ∷ past_digits (b / 16) (b % 16) text h l i) ∙ ap (λ r. b ∷ r) w.read;
     }
 
@@ -237,26 +252,30 @@ read_back (b ∷ p) =
     ] refl
 
 -- a good text is what is written for the bytes that it is read as
-spelled : (n : ℕ) (s : List ℕ) → length s ≤ n → good_len s ≡ length s → s ≡ escape (unescaped s)
+pub spelled : (n : ℕ) (s : List ℕ) → length s ≤ n → good_len s ≡ length s → s ≡ escape (unescaped s)
 spelled n [] l h = refl
 spelled zero (b ∷ s) l h = absurd (omega arith)
 spelled (suc n) (b ∷ s) l h =
     elim (b == 92) as (λ t. (b == 92) ≡ t → b ∷ s ≡ escape (cond t (told_byte (b ∷ s) ∷ drop 3 (unescaped s)) (b ∷ unescaped s))) [
       | true ↦ λ e. at_backslash n b s (is_it b e) (omega arith) h (spelled n)
-      | false ↦ λ e. ap (λ l. b ∷ l) (spelled n s (omega arith) (good_more b s h).1) ∙ ap (λ l. l ++ escape (unescaped s)) (sym (as_itself b (raw b s e (good_more b s h).0)))
+      | false ↦ λ e. ap (λ l. b ∷ l) (spelled n s (omega arith) (good_more b s h).1)
+          ∙ ap (λ l. l ++ escape (unescaped s)) (sym (as_itself b (raw b s e (good_more b s h).0)))
     ] refl
   where
     is_it : (b : ℕ) → (b == 92) ≡ true → b ≡ 92
     is_it b e = grind (arith, nat_tests)
 
-    at_92 : (n : ℕ) (s : List ℕ) → length s ≤ n → good_len (92 ∷ s) ≡ length (92 ∷ s) → ((s : List ℕ) → length s ≤ n → good_len s ≡ length s → s ≡ escape (unescaped s)) → 92 ∷ s ≡ escape (told_byte (92 ∷ s) ∷ drop 3 (unescaped s))
+    at_92 : (n : ℕ) (s : List ℕ) → length s ≤ n → good_len (92 ∷ s) ≡ length (92 ∷ s) →
+        ((s : List ℕ) → length s ≤ n → good_len s ≡ length s → s ≡ escape (unescaped s)) → 92 ∷ s ≡ escape (told_byte (92 ∷ s) ∷ drop 3 (unescaped s))
     at_92 n s l h rest =
         let w = step (92 ∷ s) [] s h refl (λ i m. absurd (omega arith)) in
         let v = begins s (backslash s h) in
         v.text ∙ ap (λ r. escaped (told_byte (92 ∷ s)) ++ r) (rest (drop 3 s) (omega (arith, w.shorter)) w.good) ∙ ap escape (sym (told_more s v))
 
-    at_backslash : (n b : ℕ) (s : List ℕ) → b ≡ 92 → length s ≤ n → good_len (b ∷ s) ≡ length (b ∷ s) → ((s : List ℕ) → length s ≤ n → good_len s ≡ length s → s ≡ escape (unescaped s)) → b ∷ s ≡ escape (told_byte (b ∷ s) ∷ drop 3 (unescaped s))
-    at_backslash n b s e l h rest = subst (λ b. good_len (b ∷ s) ≡ length (b ∷ s) → b ∷ s ≡ escape (told_byte (b ∷ s) ∷ drop 3 (unescaped s))) (sym e) (λ h. at_92 n s l h rest) h
+    at_backslash : (n b : ℕ) (s : List ℕ) → b ≡ 92 → length s ≤ n → good_len (b ∷ s) ≡ length (b ∷ s) →
+        ((s : List ℕ) → length s ≤ n → good_len s ≡ length s → s ≡ escape (unescaped s)) → b ∷ s ≡ escape (told_byte (b ∷ s) ∷ drop 3 (unescaped s))
+    at_backslash n b s e l h rest = subst (λ b. good_len (b ∷ s) ≡ length (b ∷ s) → b ∷ s ≡ escape (told_byte (b ∷ s) ∷ drop 3 (unescaped s))) (sym e)
+        (λ h. at_92 n s l h rest) h
 
     -- a byte that is no backslash begins no escape
     raw : (b : ℕ) (s : List ℕ) → (b == 92) ≡ false → (is_escaped b && not (begins_escape (b ∷ s))) ≡ false → is_escaped b ≡ false
@@ -273,7 +292,8 @@ spelled (suc n) (b ∷ s) l h =
         begins_other b s e h =
             let t = told_byte (b ∷ s) in
             let f : is_escaped t ≡ true = first_so (is_escaped t) _ h in
-            let d : b ≡ 92 = head b 92 _ _ ((starts_is Decides-eqb (b ∷ s) (escaped t) _ refl).0 (second_so (is_escaped t) _ h) ∙ ap (λ l. l ++ drop (length (escaped t)) (b ∷ s)) (as_escape t f)) in
+            let d : b ≡ 92 = head b 92 _ _ ((starts_is Decides-eqb (b ∷ s) (escaped t) _ refl).0 (second_so (is_escaped t) _ h)
+            ∙ ap (λ l. l ++ drop (length (escaped t)) (b ∷ s)) (as_escape t f)) in
             false≢true (sym e ∙ ap (λ b. b == 92) d)
 
 -- what a text is read as, if no byte of it is bad
@@ -285,7 +305,9 @@ read_good s h = ap (λ t. cond t (Err (BadEscape (good_len s))) (path_of (refusa
 
 read_as : (text path : List ℕ) → reading text ≡ Ok path → (good_len text ≡ length text) × (unescaped text ≡ path)
 read_as text path =
-    elim (nat_lt (good_len text) (length text)) as (λ t. nat_lt (good_len text) (length text) ≡ t → cond t (Err (BadEscape (good_len text))) (path_of (refusal (unescaped text)) (unescaped text)) ≡ Ok path → (good_len text ≡ length text) × (unescaped text ≡ path)) [
+    elim (nat_lt (good_len text) (length text)) as (λ t. nat_lt (good_len text) (length text) ≡ t →
+    cond t (Err (BadEscape (good_len text))) (path_of (refusal (unescaped text)) (unescaped text)) ≡ Ok path →
+    (good_len text ≡ length text) × (unescaped text ≡ path)) [
       | true ↦ λ e h. cc
       | false ↦ λ e h. (all_good (good_len text) (length text) (good_le text) e, unrefused (refusal (unescaped text)) (unescaped text) path h)
     ] refl

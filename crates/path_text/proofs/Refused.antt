@@ -23,7 +23,8 @@ first_never (name ∷ names) e =
       | Some fault ↦ λ p e. name_never name (p ∙ e)
     ] refl e
 
-of_path : (a b c : Bool) (rest : Option PathError) → rest ≢ Some OutOfMemory → cond a (Some NotAbsolute) (cond b (Some TooLong) (cond c None rest)) ≢ Some OutOfMemory
+of_path : (a b c : Bool) (rest : Option PathError) → rest ≢ Some OutOfMemory →
+    cond a (Some NotAbsolute) (cond b (Some TooLong) (cond c None rest)) ≢ Some OutOfMemory
 of_path true b c rest h e = cc
 of_path false true c rest h e = cc
 of_path false false true rest h e = cc
@@ -31,4 +32,5 @@ of_path false false false rest h e = h e
 
 pub never_memory : (text : List ℕ) → refusal text ≢ Some OutOfMemory
 never_memory [] e = cc
-never_memory (b ∷ bytes) e = of_path (not (is_slash b)) (nat_lt 4095 (length bytes + 1)) (length bytes == 0) (first_fault (slice_split is_slash bytes)) (first_never (slice_split is_slash bytes)) e
+never_memory (b ∷ bytes) e = of_path (not (is_slash b)) (nat_lt 4095 (length bytes + 1)) (length bytes == 0)
+    (first_fault (slice_split is_slash bytes)) (first_never (slice_split is_slash bytes)) e

@@ -13,7 +13,8 @@ pub no_place : (q n : ℕ) → cond (ltb q n) (Some q) None ≡ None → n ≤ q
 no_place q n e = grind (arith, nat_tests)
 
 -- the first name, and those behind its slash
-pub slice_split-Some : (xs : List ℕ) (k : ℕ) → position is_slash xs ≡ Some k → (k < length xs) × (slice_split is_slash xs ≡ take k xs ∷ slice_split is_slash (drop (k + 1) xs))
+pub slice_split-Some : (xs : List ℕ) (k : ℕ) → position is_slash xs ≡ Some k →
+    (k < length xs) × (slice_split is_slash xs ≡ take k xs ∷ slice_split is_slash (drop (k + 1) xs))
 slice_split-Some xs k e =
     let at = place (position_or_len is_slash xs) (length xs) k e in
     (omega (arith, at.0, at.1), slice_split_first is_slash xs 0 at.0 ∙ (λ i. take (at.1 i) xs ∷ slice_split is_slash (drop (at.1 i + 1) xs)))
@@ -31,6 +32,7 @@ slice_split-None xs e = split_none xs (no_place (position_or_len is_slash xs) (l
 
 -- what the place of the first slash says of the names
 pub by_place : (xs : List ℕ) (r : Option ℕ) → r ≡ position is_slash xs →
-    IfSome r (λ k. (k < length xs) × (slice_split is_slash xs ≡ take k xs ∷ slice_split is_slash (drop (k + 1) xs))) × IfNone r (slice_split is_slash xs ≡ xs ∷ [])
+    IfSome r (λ k. (k < length xs) × (slice_split is_slash xs ≡ take k xs ∷ slice_split is_slash (drop (k + 1) xs)))
+    × IfNone r (slice_split is_slash xs ≡ xs ∷ [])
 by_place xs (Some k) e = (slice_split-Some xs k (sym e), tt)
 by_place xs None e = (tt, slice_split-None xs (sym e))

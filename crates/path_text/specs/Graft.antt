@@ -1,7 +1,7 @@
 -- A path moved from one top to another. Our own.
-use Rattle.std.specs.Prelude.{◌≡◌, ℕ, List, ◌∷◌, length, drop, if◌then◌else◌, ◌==◌, IsTrue}
-use Rattle.path_text.specs.Path.{joined}
-use Rattle.path_text.specs.Order.{front, is_within}
+use Rattle.std.specs.Prelude.{◌≡◌, ℕ, List, ◌∷◌, length, drop, if◌then◌else◌, ◌==◌, IsTrue, None}
+use Rattle.path_text.specs.Path.{joined, refusal}
+use Rattle.path_text.specs.Order.{path_cmp, front, is_within}
 
 -- the path that x, which is within the top, would be if the top were `/`
 abbrev pub below_of : List ℕ → List ℕ → List ℕ
@@ -14,3 +14,12 @@ grafted top rest = if length rest == 1 then top else joined top (drop 1 rest)
 -- what was taken off a path gives it back
 abbrev pub GraftUndoesBelow : Type 0
 GraftUndoesBelow = (x top : List ℕ) → IsTrue (is_within x top) → grafted top (below_of x top) ≡ x
+
+-- a path that was moved to a top is within it, and taking the top off gives it back
+pub record BelowUndoesGraft : Type 0 where
+  pub within : (top rest : List ℕ) → refusal rest ≡ None → IsTrue (is_within (grafted top rest) top)
+  pub back : (top rest : List ℕ) → refusal rest ≡ None → below_of (grafted top rest) top ≡ rest
+
+-- paths within one top have the order that they have below it
+abbrev pub BelowKeepsOrder : Type 0
+BelowKeepsOrder = (x y top : List ℕ) → IsTrue (is_within x top) → IsTrue (is_within y top) → path_cmp (below_of x top) (below_of y top) ≡ path_cmp x y

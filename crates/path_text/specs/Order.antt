@@ -1,11 +1,11 @@
 -- Path order: the bytes, with `/` before every other byte. Our own.
-use Rattle.std.specs.Prelude.{◌≡◌, ℕ, ◌+◌, Bool, false, ◌&&◌, ◌||◌, List, [], ◌∷◌, ◌++◌, length, map, if◌then◌else◌, ◌==◌, nat_eq, nat_lt, IsTrue}
+use Rattle.std.specs.Prelude.{◌≡◌, ℕ, ◌+◌, Bool, false, ◌&&◌, ◌||◌, List, [], ◌∷◌, ◌++◌, length, map, if◌then◌else◌, ◌==◌, nat_eq, nat_lt, IsTrue, None}
 use Rattle.std.specs.List.{starts_with, list_any}
 use Rattle.std.specs.declared.cmp.Ordering.{Ordering}
 use Rattle.std.specs.declared.cmp.Ordering.TheVariants.{Less}
 use Rattle.std.specs.Cmp.Lexicographic.{slice_cmp, pointwise}
 use Rattle.std.specs.Ordering.{on, nat_cmp}
-use Rattle.path_text.specs.Path.{is_name, joined}
+use Rattle.path_text.specs.Path.{is_name, joined, refusal}
 
 -- the place of a byte in the order: `/` first, and then the bytes as they are
 abbrev pub byte_rank : ℕ → ℕ
@@ -32,7 +32,16 @@ pub record IsPreorder : Type 0 where
   -- a path comes before all that is under it
   pub top_down : (x y : List ℕ) → IsTrue (is_under x y) → path_cmp y x ≡ Less
   -- of two children of a path the one with the lower name comes first, with all that is under it
-  pub siblings : (p m n x : List ℕ) → IsTrue (is_name m) → IsTrue (is_name n) → slice_cmp nat_cmp m n ≡ Less → IsTrue (is_within x (joined p m)) → path_cmp x (joined p n) ≡ Less
+  pub siblings : (p m n x : List ℕ) → IsTrue (is_name m) → IsTrue (is_name n) → slice_cmp nat_cmp m n ≡ Less → IsTrue (is_within x (joined p m)) →
+      path_cmp x (joined p n) ≡ Less
+
+-- in path order the paths under a path stand together, right behind it
+pub record UnderIsContiguous : Type 0 where
+  -- what comes after a path and before one that is under it is under it too
+  pub between : (u x z : List ℕ) → refusal u ≡ None → refusal x ≡ None → path_cmp u x ≡ Less → path_cmp x z ≡ Less → IsTrue (is_under z u) →
+      IsTrue (is_under x u)
+  -- what is under a path that is under another is under that one
+  pub deeper : (x y u : List ℕ) → IsTrue (is_under x y) → IsTrue (is_under y u) → IsTrue (is_under x u)
 
 abbrev pub slash_as_zero : ℕ → ℕ
 slash_as_zero b = if b == 47 then 0 else b

@@ -1,11 +1,14 @@
 //! A path as printable text.
 ghost use Rattle.std.specs.Prelude.{◌≡◌, ◌+◌, ◌++◌, ◌∷◌, [], ◌<◌, ◌≤◌, false, true, length, take, drop, slice_index, IfOk, IfSome, IfNone, OnOk, OnErr, List, ℕ};
-ghost use Rattle.std.specs.List.{list_all, position};
+ghost use Rattle.std.specs.List.{list_any, position, position_or_len};
 ghost use Rattle.path_text.specs.Escape.{hex_digit, is_escaped, escaped, escape};
 
 use crate::errors::OutOfMemory;
 use crate::paths::Path;
 use std::alloc::{AllocError, Global};
+
+// How many bytes are looked at together.
+const BLOCK: usize = 16;
 
 /// The path in printable text: each byte below a space, 0x7F and the backslash is `\x` and two upper-case hexadecimal
 /// digits, and every other byte is itself.
@@ -55,6 +58,43 @@ fn first_escaped(bytes: &[u8]) -> Option<usize>
 }
 
 fn escaped_at(bytes: &[u8]) -> Option<usize>
+    ensures { result ≡ position is_escaped bytes.now }
+{
+    let plain = plain_blocks(bytes);
+    match next_escaped(&bytes[plain..]) {
+        Some(at) => Some(plain + at),
+        None => None,
+    }
+}
+
+// How many bytes at the front, in whole blocks, stand for themselves.
+fn plain_blocks(bytes: &[u8]) -> usize
+    ensures within { result ≤ length bytes.now }
+    ensures plain { result ≤ position_or_len is_escaped bytes.now }
+{
+    let mut at = 0;
+    while bytes.len() - at >= BLOCK {
+        if has_escaped(&bytes[at..at + BLOCK]) {
+            return at;
+        }
+        at += BLOCK;
+    }
+    at
+}
+
+// Whether one of the bytes does not stand for itself. Each is looked at, whatever the others are, so that a processor may
+// look at many at once.
+fn has_escaped(bytes: &[u8]) -> bool
+    ensures { result ≡ list_any is_escaped bytes.now }
+{
+    let mut found = false;
+    for b in bytes {
+        found |= is_escaped(*b);
+    }
+    found
+}
+
+fn next_escaped(bytes: &[u8]) -> Option<usize>
     ensures { result ≡ position is_escaped bytes.now }
 {
     bytes.iter().position(|b| is_escaped(*b))

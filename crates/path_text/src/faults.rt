@@ -43,7 +43,7 @@ pub fn name_fault(name: &[u8]) -> Option<PathError>
     None
 }
 
-fn is_dots(name: &[u8]) -> bool
+pub fn is_dots(name: &[u8]) -> bool
     ensures { result ≡ list_all (λ b. b == 46) name.now }
 {
     name.iter().all(|b| *b == b'.')
@@ -64,8 +64,8 @@ fn first_fault(bytes: &[u8]) -> Option<PathError>
     name_fault(rest)
 }
 
-// Where the first name ends, if another follows.
-fn name_end(bytes: &[u8]) -> Option<usize>
+/// Where the first name ends, if another follows.
+pub fn name_end(bytes: &[u8]) -> Option<usize>
     ensures found { IfSome result (λ k. (k < length bytes.now)
         × (slice_split is_slash bytes.now ≡ take k bytes.now ∷ slice_split is_slash (drop (k + 1) bytes.now))) }
     ensures last { IfNone result (slice_split is_slash bytes.now ≡ bytes.now ∷ []) }

@@ -3,11 +3,12 @@
 //! A [`Path`] is `/`, or one or more names, each after a `/`, with at most 4,095 bytes. A contract sees it as the list of
 //! its bytes. [`Path::parse`] tells why a text is none, and [`Path::join`] makes the path of a child. [`Path::parent`],
 //! [`Path::base`] and [`Path::level`] tell of its names. [`Path::below`] moves a path from a top to `/`, and
-//! [`Path::graft`] moves it on to another top ([`graft_undoes_below`]).
+//! [`Path::graft`] moves it on to another top; each undoes the other ([`graft_undoes_below`], [`below_undoes_graft`]), and
+//! paths keep their order ([`below_keeps_order`]).
 //!
 //! Paths are in *path order*: `/` comes before every other byte, and the other bytes are as they are. It is preorder with
 //! siblings in byte order, so a list of the paths of a tree that is in path order reads as a walk of that tree from the top
-//! down ([`path_order_is_preorder`]).
+//! down ([`path_order_is_preorder`]), in which all that is under a path stands right behind it ([`under_is_contiguous`]).
 //!
 //! [`escape`] writes a path so that it fills one line of printable text, whatever bytes its names hold, and [`unescape`]
 //! reads that text, and no other, as the path ([`reading_undoes_writing`]).
@@ -23,7 +24,7 @@
 //!
 //! Proved: each call meets its clauses for every text, ends, and reads nothing out of bounds. Only memory can fail beside
 //! what the clauses name. Definitions stand in `specs/`: `Path` (what a path is), `Order` (path order and its
-//! laws), `Graft` (moving a path), `Escape` (writing and reading it).
+//! laws), `Graft` (moving a path), `Escape` (writing and reading it). What only private clauses cite stands in `Written`.
 #![tactic(auto)]
 
 mod errors;
@@ -34,15 +35,13 @@ mod names;
 mod ordering;
 mod paths;
 mod reading;
+mod written;
 
 pub use errors::{EscapeError, JoinError, OutOfMemory, PathError};
 pub use escaping::{escape, put_escaped};
 pub use laws::{
-    graft_undoes_below, path_order_is_preorder, path_order_reads_slash_as_zero,
-    reading_undoes_writing,
+    below_keeps_order, below_undoes_graft, graft_undoes_below, path_order_is_preorder,
+    path_order_reads_slash_as_zero, reading_undoes_writing, under_is_contiguous,
 };
 pub use paths::{MAX_PATH, Path, valid_name};
 pub use reading::unescape;
-
-#[cfg(test)]
-mod tests;

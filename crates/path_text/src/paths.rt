@@ -75,6 +75,7 @@ impl Path {
         ensures ok { IfOk result (λ path. path ≡ joined self.now name.now) }
         ensures short { OnOk result (length (joined self.now name.now) ≤ 4095) }
         ensures too_long { IsErrOf result JoinError.TooLong → 4095 < length (joined self.now name.now) }
+        ensures memory { IsErrOf result JoinError.OutOfMemory → length (joined self.now name.now) ≤ 4095 }
     {
         self.extended(name)
     }
@@ -86,6 +87,7 @@ impl Path {
         ensures ok { IfOk result (λ path. path ≡ joined self.now names.now) }
         ensures short { OnOk result (length (joined self.now names.now) ≤ 4095) }
         ensures too_long { IsErrOf result JoinError.TooLong → 4095 < length (joined self.now names.now) }
+        ensures memory { IsErrOf result JoinError.OutOfMemory → length (joined self.now names.now) ≤ 4095 }
     {
         let len = joined_len(self.text.as_str(), names);
         if len > MAX_PATH {
@@ -158,6 +160,7 @@ impl Path {
         ensures ok { IfOk result (λ path. path ≡ grafted top.now rest.now) }
         ensures short { OnOk result (length (grafted top.now rest.now) ≤ 4095) }
         ensures too_long { IsErrOf result JoinError.TooLong → 4095 < length (grafted top.now rest.now) }
+        ensures memory { IsErrOf result JoinError.OutOfMemory → length (grafted top.now rest.now) ≤ 4095 }
     {
         if rest.text.len() == 1 {
             let text = top.text.clone()?;
@@ -167,16 +170,11 @@ impl Path {
     }
 
     // The path that a text is, which is kept and not copied.
-    #[tactic(auto, using(crate::proofs::Refused::never_memory))]
-    pub(crate) fn of_text(text: String) -> Result<Path, PathError>
-        ensures ok { IfOk result (λ path. (path ≡ string_bytes text) × (refusal (string_bytes text) ≡ None)) }
-        ensures refused { IfErr result (λ e. refusal (string_bytes text) ≡ Some e) }
-        ensures fault { IfErr result (λ e. e ≢ PathError.OutOfMemory) }
+    pub(crate) fn of_text(text: String) -> Path
+        requires { refusal (string_bytes text) ≡ None }
+        ensures { result ≡ string_bytes text }
     {
-        match refusal(text.as_bytes()) {
-            Some(fault) => Err(fault),
-            None => Ok(Path { text }),
-        }
+        Path { text }
     }
 }
 

@@ -1,28 +1,32 @@
 //! A path read from printable text.
-ghost use Rattle.std.specs.Prelude.{◌≡◌, ◌≢◌, ◌+◌, ◌*◌, ◌&&◌, not, ◌<◌, ◌≤◌, ◌⊎◌, ◌∷◌, ◌++◌, length, take, drop, slice_index, IfOk, IfErr, Ok, Err, IsTrue, List, ℕ};
+ghost use Rattle.std.specs.Prelude.{◌≡◌, ◌≢◌, ◌+◌, ◌*◌, ◌&&◌, not, ◌<◌, ◌≤◌, ◌⊎◌, ◌∷◌, ◌++◌, length, take, drop, slice_index, IfOk, IfErr, IsErrOf, IsOk, Ok, Err, IsTrue, List, ℕ};
 ghost use Rattle.std.specs.String.{string_bytes};
 ghost use Rattle.path_text.specs.Escape.{hex_value, told_byte, is_escaped, begins_escape, good_len, unescaped, reading};
 
 use crate::errors::{EscapeError, PathError};
 use crate::escaping::{escape_of, is_escaped};
 use crate::paths::Path;
+use crate::written::told_refusal;
 use std::alloc::{AllocError, Global};
 
-/// The path whose printable text this is, as [`escape`](crate::escape) writes it.
+/// The path whose printable text this is, as [`escape`](crate::escape) writes it. The text is looked at before memory is
+/// taken.
+#[tactic(auto, using(crate::proofs::Refused::never_memory))]
 pub fn unescape(alloc: Global, text: &str) -> Result<Path, EscapeError>
     ensures ok { IfOk result (λ path. reading text.now ≡ Ok path) }
     ensures refused { IfErr result (λ e. (reading text.now ≡ Err e) ⊎ (e ≡ EscapeError.OutOfMemory)) }
     ensures fault { IfErr result (λ e. e ≢ EscapeError.Path PathError.OutOfMemory) }
+    ensures memory { IsErrOf result EscapeError.OutOfMemory → IsOk (reading text.now) }
 {
     let good = good_len(text.as_bytes());
     if good < text.len() {
         return Err(EscapeError::BadEscape(good));
     }
-    let bytes = unescaped(alloc, text)?;
-    match Path::of_text(bytes) {
-        Ok(path) => Ok(path),
-        Err(fault) => Err(EscapeError::Path(fault)),
+    if let Some(fault) = told_refusal(text.as_bytes()) {
+        return Err(EscapeError::Path(fault));
     }
+    let bytes = unescaped(alloc, text)?;
+    Ok(Path::of_text(bytes))
 }
 
 // How many bytes stand before the first bad one.

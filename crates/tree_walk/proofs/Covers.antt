@@ -11,7 +11,7 @@ use Rattle.std.specs.declared.cmp.Ordering.{Ordering}
 use Rattle.std.specs.declared.cmp.Ordering.TheVariants.{Less}
 use Rattle.std.specs.List.Sorted.{IsStrictlySortedBy}
 use Rattle.path_text.specs.Order.{path_cmp, byte_rank, front}
-use Rattle.path_text.specs.Preorder.{before_all, precedes}
+use Rattle.path_text.proofs.Preorder.{before_all, precedes}
 use Rattle.path_text.specs.Path.{joined}
 use Rattle.tree_walk.specs.Roots.{is_in, is_in_some, Apart}
 use Rattle.tree_walk.proofs.Lined.{Lined}

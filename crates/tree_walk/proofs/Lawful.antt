@@ -13,7 +13,7 @@ use Rattle.std.proofs.lemmas.List.Sums.{sum_by-cons}
 use Rattle.std.proofs.lemmas.Map.Views.{list_any-from_Contains}
 use Rattle.path_text.specs.Path.{joined}
 use Rattle.path_text.specs.Order.{path_cmp}
-use Rattle.path_text.specs.Preorder.{precedes, precedes-Less, front-joined}
+use Rattle.path_text.proofs.Preorder.{precedes, precedes-Less, front-joined}
 use Rattle.path_text.specs.Total.{path_cmp_total}
 use Rattle.outside.specs.Tree.{Files, Node, IsTree, is_dir_body, name_below}
 use Rattle.outside.specs.Names.{not_long, placed_path}

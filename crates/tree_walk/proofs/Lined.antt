@@ -3,7 +3,7 @@ use Rattle.std.specs.Prelude.{◌≡◌, ℕ, true, ◌<◌, List, [], ◌∷◌
 use Rattle.std.specs.List.{AllByRecursion}
 use Rattle.std.specs.declared.cmp.Ordering.TheVariants.{Less}
 use Rattle.path_text.specs.Order.{path_cmp}
-use Rattle.path_text.specs.Preorder.{precedes}
+use Rattle.path_text.proofs.Preorder.{precedes}
 
 -- each path, with all that is under it, comes before those behind it
 abbrev pub Lined : List (List ℕ) → Type 0

@@ -11,7 +11,7 @@ use Rattle.std.proofs.lemmas.Bool.Decides.{nat_tests}
 use Rattle.std.proofs.lemmas.List.Elements.{recursion_from_All, All-from_recursion}
 use Rattle.path_text.specs.Order.{path_cmp, front}
 use Rattle.path_text.specs.Path.{joined, is_name}
-use Rattle.path_text.specs.Preorder.{precedes, front-joined, child_after, child_precedes, sibling_precedes, some_bytes, no_slash}
+use Rattle.path_text.proofs.Preorder.{precedes, front-joined, child_after, child_precedes, sibling_precedes, some_bytes, no_slash}
 use Rattle.outside.specs.Tree.{AreNames}
 use Rattle.tree_walk.proofs.Lined.{Lined, AreChildren}
 use Rattle.tree_walk.proofs.Lists.{weaker, all_map}

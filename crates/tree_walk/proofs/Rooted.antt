@@ -13,7 +13,7 @@ use Rattle.std.proofs.lemmas.List.Sorted.{IsPermutation-sym, All-permutation, so
 use Rattle.std.proofs.lemmas.List.Elements.{recursion_from_All, All-from_recursion, All-contains_itself}
 use Rattle.path_text.specs.Path.{refusal, is_slash}
 use Rattle.path_text.specs.Order.{path_cmp, byte_rank, front}
-use Rattle.path_text.specs.Preorder.{before_all, precedes, precedes-Less}
+use Rattle.path_text.proofs.Preorder.{before_all, precedes, precedes-Less}
 use Rattle.path_text.specs.Total.{path_cmp_total, path_cmp_same}
 use Rattle.tree_walk.specs.Roots.{is_in, is_in_some, IsRoots}
 use Rattle.tree_walk.proofs.Lined.{Lined}

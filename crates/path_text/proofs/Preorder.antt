@@ -22,7 +22,8 @@ before_all (a ∷ front) (b ∷ y) = nat_lt (byte_rank a) (byte_rank b) || (a ==
 abbrev pub precedes : List ℕ → List ℕ → Bool
 precedes path y = before_all (front path) y
 
-lower : (a b : ℕ) (p : Bool) (rest : Ordering) → (nat_lt (byte_rank a) (byte_rank b) || (a == b && p)) ≡ true → (p ≡ true → rest ≡ Less) → ordering_then (nat_cmp (byte_rank a) (byte_rank b)) rest ≡ Less
+lower : (a b : ℕ) (p : Bool) (rest : Ordering) → (nat_lt (byte_rank a) (byte_rank b) || (a == b && p)) ≡ true → (p ≡ true → rest ≡ Less) →
+    ordering_then (nat_cmp (byte_rank a) (byte_rank b)) rest ≡ Less
 lower a b p rest e h = grind (arith, nat_tests)
 
 -- all that begins with the front is lower
@@ -68,7 +69,8 @@ before_all-behind (a ∷ f) g y e = same_byte a (nat_lt (byte_rank a) (byte_rank
 slash_first : (b : ℕ) (p : Bool) → is_slash b ≡ false → (nat_lt (byte_rank 47) (byte_rank b) || p) ≡ true
 slash_first b p e = grind (arith, nat_tests)
 
-higher_name : (a b : ℕ) (p : Bool) (rest : Ordering) → is_slash a ≡ false → is_slash b ≡ false → ordering_then (nat_cmp a b) rest ≡ Less → (rest ≡ Less → p ≡ true) → (nat_lt (byte_rank a) (byte_rank b) || (a == b && p)) ≡ true
+higher_name : (a b : ℕ) (p : Bool) (rest : Ordering) → is_slash a ≡ false → is_slash b ≡ false → ordering_then (nat_cmp a b) rest ≡ Less →
+    (rest ≡ Less → p ≡ true) → (nat_lt (byte_rank a) (byte_rank b) || (a == b && p)) ≡ true
 higher_name a b p rest s t e h = grind (arith, nat_tests)
 
 neither : (a b : Bool) → (a || b) ≡ false → (a ≡ false) × (b ≡ false)
@@ -100,7 +102,8 @@ front-joined p name =
 -- a path comes before its children
 pub child_after : (p name : List ℕ) → 0 < length name → path_cmp p (joined p name) ≡ Less
 child_after p name h =
-    elim (length p == 1) as (λ b. path_cmp p (cond b (p ++ name) (p ++ 47 ∷ name)) ≡ Less) [ true ↦ prefix_less p name h | false ↦ prefix_less p (47 ∷ name) (omega arith) ]
+    elim (length p == 1) as (λ b. path_cmp p (cond b (p ++ name) (p ++ 47 ∷ name))
+    ≡ Less) [ true ↦ prefix_less p name h | false ↦ prefix_less p (47 ∷ name) (omega arith) ]
 
 some_front : (p : List ℕ) → 0 < length (front p)
 some_front [] = omega arith
@@ -120,7 +123,8 @@ pub child_precedes : (p name y : List ℕ) → 0 < length name → precedes p y 
 child_precedes p name y h e = ap (λ f. before_all f y) (front_of_child p name h) ∙ before_all-longer (front p) (name ++ 47 ∷ []) y e
 
 -- siblings come in the order of their names, each with all that is under it
-pub sibling_precedes : (p m n : List ℕ) → 0 < length m → list_any is_slash m ≡ false → list_any is_slash n ≡ false → slice_cmp nat_cmp m n ≡ Less → precedes (joined p m) (joined p n) ≡ true
+pub sibling_precedes : (p m n : List ℕ) → 0 < length m → list_any is_slash m ≡ false → list_any is_slash n ≡ false → slice_cmp nat_cmp m n ≡ Less →
+    precedes (joined p m) (joined p n) ≡ true
 sibling_precedes p m n h s t e =
     (λ i. before_all (front_of_child p m h i) (sym (front-joined p n) i)) ∙ before_all-behind (front p) (m ++ 47 ∷ []) n (names_before m n s t e)
 

@@ -1,6 +1,5 @@
 //! Texts and paths with what is known of them.
-use crate::{EscapeError, JoinError, Path, PathError, escape, unescape, valid_name};
-use std::alloc::Global;
+use path_text::{EscapeError, JoinError, Path, PathError, escape, unescape, valid_name};
 use std::cmp::Ordering;
 use std::process::Abort;
 use std::test::Fail;
@@ -107,6 +106,14 @@ fn paths_in_printable_text(rt: HostRuntime) -> Result<(), Fail> {
         ("/v/x\ny", "/v/x\\x0Ay"),
         ("/\x01\x1f\x7f~", "/\\x01\\x1F\\x7F~"),
         ("/\u{e9} ", "/\u{e9} "),
+        (
+            "/a_long_name_of_more/than_two_blocks",
+            "/a_long_name_of_more/than_two_blocks",
+        ),
+        (
+            "/a_long_name_of_\nmore/than_two_block\x7f",
+            "/a_long_name_of_\\x0Amore/than_two_block\\x7F",
+        ),
     ] {
         let told = escape(rt.alloc(), &parsed(&rt, text))?;
         assert_eq!(rt; told.as_slice(), printed.as_bytes());
@@ -199,6 +206,25 @@ fn paths_read_from_printable_text(rt: HostRuntime) -> Result<(), Fail> {
     ] {
         assert_eq!(rt; unescape(rt.alloc(), text)?.text(), path);
     }
+    Ok(())
+}
+
+// A path of `/` and so many line feeds, printed.
+fn printed(rt: &(impl Abort + AllocGlobal), feeds: u32) -> String {
+    let mut text = String::from_str(rt.alloc(), "/").expect(rt, "memory");
+    for _ in 0..feeds {
+        text.push_str("\\x0A").expect(rt, "memory");
+    }
+    text
+}
+
+#[test]
+fn printed_text_counts_the_bytes_that_it_tells(rt: HostRuntime) -> Result<(), Fail> {
+    let path = unescape(rt.alloc(), &printed(&rt, 4094))?;
+    assert!(rt; path.text().len() == 4095);
+    assert!(rt; escape(rt.alloc(), &path)?.len() == 1 + 4 * 4094);
+    let told = unescape(rt.alloc(), &printed(&rt, 4095)).err();
+    assert!(rt; told == Some(EscapeError::Path(PathError::TooLong)));
     Ok(())
 }
 
