@@ -2,6 +2,8 @@ pub mod Tree
 pub mod Codes
 pub mod Count
 pub mod Sinks
+pub mod Asked
+pub mod Answered
 pub mod Children
 pub mod Names
 pub mod Parents
