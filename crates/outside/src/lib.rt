@@ -46,6 +46,3 @@ pub use plots::{Plot, WriteError};
 pub use saving::{SaveError, save};
 pub use sinks::{MemSink, Sink, put_all};
 pub use trees::{Kind, ListError, ReadError, Stat, Tree};
-
-#[cfg(test)]
-mod tests;

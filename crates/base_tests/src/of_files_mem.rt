@@ -1,5 +1,5 @@
 //! Trees that are put, read, written and planned to fail.
-use super::*;
+use files_mem::{Call, MemGround, MemReader, PutError};
 use outside::{
     Failed, Ground, Kind, ListError, LoadError, Plot, SaveError, Stat, Tree, WriteError, load, save,
 };

@@ -1,5 +1,5 @@
 //! A sink in memory, a sink that takes little at a time, a listing, and a reader that gives little at a time.
-use crate::{
+use outside::{
     Failed, Kind, ListError, Listing, LoadError, MemSink, ReadError, Sink, Stat, Tree, load,
     put_all,
 };
@@ -87,11 +87,13 @@ fn a_listing_gives_its_names_back(rt: HostRuntime) -> Result<(), Fail> {
     Ok(())
 }
 
-/// A reader of one file, two bytes at a time, which tells some size of it and fails at one of its calls.
+/// A reader of one file that others change: it tells some size of it, gives two bytes at a time, fails at one of its calls, and
+/// finds no file from another one on.
 #[derive(Drop)]
 struct Drip {
     told: u64,
     fails_at: u64,
+    gone_at: u64,
     calls: u64,
     count: u64,
 }
@@ -125,6 +127,9 @@ impl Tree for Drip {
             self.count = self.count.saturating_add(1);
             return Err(ReadError::Failed);
         }
+        if self.calls >= self.gone_at {
+            return Err(ReadError::NotFile);
+        }
         let rest: &[u8] = match at {
             0 => b"drops",
             2 => b"ops",
@@ -138,18 +143,22 @@ impl Tree for Drip {
 }
 
 #[test]
-fn a_file_is_loaded_in_pieces_up_to_its_end_or_a_fault(rt: HostRuntime) -> Result<(), Fail> {
+fn a_file_that_changes_is_loaded_up_to_its_end_or_a_fault(rt: HostRuntime) -> Result<(), Fail> {
     let path = Path::parse(rt.alloc(), "/f")?;
-    for (told, fails_at, want, faults) in [
-        (5, 0, Ok("drops"), 0),
-        (9, 0, Ok("drops"), 0),
-        (3, 0, Ok("dro"), 0),
-        (5, 1, Err(LoadError::Failed), 1),
-        (5, 3, Err(LoadError::Failed), 1),
+    for (told, fails_at, gone_at, want, faults) in [
+        (5, 0, 9, Ok("drops"), 0),
+        (9, 0, 9, Ok("drops"), 0),
+        (3, 0, 9, Ok("dro"), 0),
+        (0, 1, 1, Ok(""), 0),
+        (5, 1, 9, Err(LoadError::Failed), 1),
+        (5, 3, 9, Err(LoadError::Failed), 1),
+        (5, 0, 1, Err(LoadError::NoFile), 0),
+        (5, 0, 3, Err(LoadError::NoFile), 0),
     ] {
         let mut reader = Drip {
             told,
             fails_at,
+            gone_at,
             calls: 0,
             count: 0,
         };
