@@ -14,8 +14,8 @@ use Rattle.path_text.specs.Order.{path_cmp, front}
 use Rattle.path_text.specs.Preorder.{before_all}
 use Rattle.path_text.specs.Total.{path_cmp_total}
 use Rattle.path_text.specs.Path.{refusal}
-use Rattle.outside.specs.Tree.{name_below, Node, names_in}
-use Rattle.outside.specs.Children.{is_one_name, name_below-front}
+use Rattle.outside.specs.Tree.{is_one_name, name_below, Node, names_in}
+use Rattle.outside.proofs.Children.{name_below-front}
 use Rattle.std.specs.FinMap.{entries, put, entries-insert, len-entries, len-empty}
 use Rattle.std.specs.FinMap.Entries.{by_order}
 use Rattle.std.specs.Ordering.{ordering_reverse}

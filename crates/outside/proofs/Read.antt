@@ -1,5 +1,5 @@
 -- A file is read piece by piece.
-use Rattle.std.proofs.Common.{◌≡◌, ℕ, ◌+◌, List, ◌++◌, length, take, drop, Option, Some, None, IfSome, ap, ◌∙◌, sym, subst}
+use Rattle.std.proofs.Common.{◌≡◌, ℕ, ◌+◌, List, ◌++◌, take, drop, Option, Some, None, IfSome, ◌∙◌, sym, subst}
 use Rattle.std.proofs.Math.Seq.{take-add}
 use Rattle.std.specs.FinMap.{get}
 use Rattle.outside.specs.Tree.{Files, content}

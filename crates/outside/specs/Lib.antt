@@ -4,8 +4,5 @@ pub mod Count
 pub mod Sinks
 pub mod Asked
 pub mod Answered
-pub mod Children
-pub mod Names
-pub mod Parents
 pub mod Writes
 pub mod Whole

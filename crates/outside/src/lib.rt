@@ -39,7 +39,7 @@ mod trees;
 
 pub use failures::Failed;
 pub use grounds::Ground;
-pub use laws::children_have_names;
+pub use laws::{children_have_names, children_have_parents, nodes_have_paths};
 pub use listings::Listing;
 pub use loading::{LoadError, load};
 pub use plots::{Plot, WriteError};

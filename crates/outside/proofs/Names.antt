@@ -22,7 +22,7 @@ use Rattle.path_text.specs.Total.{path_cmp_total}
 use Rattle.path_text.specs.Preorder.{front-joined}
 use Rattle.path_text.specs.Path.{is_slash, name_fault, first_fault, refusal, is_name, joined, parent_of}
 use Rattle.outside.specs.Tree.{Files, Node, IsTree, is_dir, is_root, name_below, AreNames, ChildrenAreNames}
-use Rattle.outside.specs.Children.{child_is, one_name_parts}
+use Rattle.outside.proofs.Children.{child_is, one_name_parts}
 
 -- each path of a tree is one
 

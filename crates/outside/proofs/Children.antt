@@ -1,23 +1,18 @@
 -- The name of a child, from the path of the child.
-use Rattle.std.proofs.Common.{◌≡◌, ℕ, ◌<◌, Bool, true, false, not, ◌&&◌, List, ◌++◌, length, drop, take, refl, ap, ◌∙◌, sym, subst, arith, cond, eqb, Some, None}
-use Rattle.std.specs.Prelude.{◌==◌}
+use Rattle.std.proofs.Common.{◌≡◌, ℕ, ◌<◌, Bool, true, false, ◌&&◌, List, ◌++◌, length, drop, take, refl, ap, ◌∙◌, sym, subst, arith, cond, eqb, Some, None}
 use Rattle.std.specs.List.{list_any, starts_with}
 use Rattle.std.specs.Cmp.Lexicographic.{bytes_decides}
 use Rattle.std.proofs.lemmas.Bool.Decides.{nat_tests}
 use Rattle.std.proofs.lemmas.List.{take_at, take-append-drop, drop_at}
 use Rattle.path_text.specs.Order.{front}
 use Rattle.path_text.specs.Path.{is_slash}
-use Rattle.outside.specs.Tree.{name_below}
+use Rattle.outside.specs.Tree.{is_one_name, name_below}
 
 begins : (f text rest : List ℕ) → text ≡ f ++ rest → starts_with eqb text f ≡ true
 begins f text rest e = (bytes_decides f (take (length f) text)).1 (sym (ap (take (length f)) e ∙ take_at f rest (length f) refl))
 
 pub goes_on : (f text : List ℕ) → starts_with eqb text f ≡ true → text ≡ f ++ drop (length f) text
 goes_on f text e = sym (take-append-drop (length f) text) ∙ ap (λ g. g ++ drop (length f) text) (sym ((bytes_decides f (take (length f) text)).0 e))
-
--- some bytes, and no slash among them
-abbrev pub is_one_name : List ℕ → Bool
-is_one_name name = not (length name == 0) && not (list_any is_slash name)
 
 -- of a text that begins as the children do
 pub name_below-front : (p x rest : List ℕ) → x ≡ front p ++ rest → name_below p x ≡ cond (is_one_name rest) (Some rest) None

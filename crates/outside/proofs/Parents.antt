@@ -14,9 +14,9 @@ use Rattle.std.specs.Cmp.Lexicographic.{bytes_decides}
 use Rattle.path_text.specs.Order.{path_cmp, front}
 use Rattle.path_text.specs.Total.{path_cmp_ties}
 use Rattle.path_text.specs.Path.{is_slash, refusal, first_fault, name_fault, parent_of}
-use Rattle.outside.specs.Tree.{Files, is_root, name_below, names_in}
-use Rattle.outside.specs.Children.{is_one_name, name_below-front}
-use Rattle.outside.specs.Names.{split_more, last_fine, after_slash}
+use Rattle.outside.specs.Tree.{Files, is_root, is_one_name, name_below, names_in, ChildrenHaveParents}
+use Rattle.outside.proofs.Children.{name_below-front}
+use Rattle.outside.proofs.Names.{split_more, last_fine, after_slash}
 
 -- a text that has a slash, cut at its last one
 record Cut (x : List ℕ) : Type 0 where
@@ -132,7 +132,7 @@ root_is (b ∷ []) h l = grind (arith, nat_tests)
 root_is (b ∷ c ∷ q) h l = absurd (omega arith)
 
 -- a path other than `/` is a child of its parent
-pub child_of_parent : (q : List ℕ) → refusal q ≡ None → is_root q ≡ false → is_some (name_below (parent_of q) q) ≡ true
+pub child_of_parent : ChildrenHaveParents
 child_of_parent q fine off =
     let c = last_slash q (has_slash q fine) in
     ap is_some (child_at q c.before c.base c.whole c.bare fine (λ l. false≢true (sym off ∙ root_is q fine l)))
