@@ -200,24 +200,32 @@ from_short : (at : List ℕ) (es : Entries) → length (from at es) ≤ length e
 from_short at [] = omega arith
 from_short at (e ∷ es) = let more = from_short at es in elim (reach at e.0) as (λ b. length (cond b (e ∷ from at es) (from at es)) ≤ suc (length es)) [ true ↦ omega arith | false ↦ omega arith ]
 
+-- the entries whose names are listed: those of a map of paths, from the least path that a child of p can have on
+pub record Listable (p least : List ℕ) (all : Entries) : Type 0 where
+  pub low : least ≡ front p ++ 1 ∷ []
+  pub sorted : IsSorted all
+  pub valid : AllValid all
+
 -- how far the loop over all the entries has come: the names that are listed, and the entries that are left
 pub record Reading (p least : List ℕ) (all left : Entries) (listed : List (List ℕ)) : Type 0 where
   pub so_far : listed ++ names p left ≡ names p all
   pub end : IsEnd all left
   pub ready : AllReady least left
 
-pub reading_begins : (p least : List ℕ) (all : Entries) → least ≡ front p ++ 1 ∷ [] → IsSorted all → AllValid all → Reading p least all (from least all) []
-reading_begins p least all is s v = record {
-  so_far = ap (λ l. names p (from l all)) is ∙ names_from_least p all v;
-  end = from_end least all s;
+pub reading_begins : {p least : List ℕ} {all : Entries} → Listable p least all → Reading p least all (from least all) []
+reading_begins {p} {least} {all} given = record {
+  so_far = ap (λ l. names p (from l all)) given.low ∙ names_from_least p all given.valid;
+  end = from_end least all given.sorted;
   ready = ready_from least all;
 }
 
 -- the next entry is behind the front, and no child
-pub reading_other : (p least : List ℕ) (all left : Entries) (listed : List (List ℕ)) (k n : List ℕ) (node : stored.Node) (rest : Entries) → Reading p least all left listed → left ≡ (k, node) ∷ rest →
-    k ≡ front p ++ n → is_one_name n ≡ false → Reading p least all rest listed
-reading_other p least all left listed k n node rest r next is other = record {
-  so_far = ap (λ o. listed ++ cons_option o (names p rest)) (sym (name_below-front p k n is ∙ ap (λ b. cond b (Some n) None) other)) ∙ ap (λ es. listed ++ names p es) (sym next) ∙ r.so_far;
+pub reading_other : (n : List ℕ) {p least k : List ℕ} {all left rest : Entries} {listed : List (List ℕ)} {node : stored.Node} →
+    Reading p least all left listed → left ≡ (k, node) ∷ rest → k ≡ front p ++ n → is_one_name n ≡ false → Reading p least all rest listed
+reading_other n {p} {least} {k} {all} {left} {rest} {listed} {node} r next is other = record {
+  so_far =
+      ap (λ o. listed ++ cons_option o (names p rest)) (sym (name_below-front p k n is ∙ ap (λ b. cond b (Some n) None) other))
+      ∙ ap (λ es. listed ++ names p es) (sym next) ∙ r.so_far;
   end = one_less all r.end.0 left (k, node) rest r.end.1 next;
   ready = (subst (AllReady least) next r.ready).1;
 }
@@ -226,20 +234,26 @@ reading_other p least all left listed k n node rest r next is other = record {
 abbrev pub IsBehind : Entries → List ℕ → Entries → Entries → Type 0
 IsBehind all k rest left = (left ≡ rest) ⊎ (left ≡ from (k ++ 1 ∷ []) all)
 
-behind_short : (all left rest next : Entries) (k : List ℕ) (node : stored.Node) → IsEnd all left → left ≡ (k, node) ∷ rest → IsSorted all → IsBehind all k rest next → length next < length left
-behind_short all left rest next k node end is s (inl e) = omega (arith, ap length e, ap length is)
-behind_short all left rest next k node end is s (inr e) =
-    omega (arith, ap length (e ∙ skip_is all end.0 left (k, node) rest (k ++ 1 ∷ []) end.1 is s refl), from_short (k ++ 1 ∷ []) rest, ap length is)
+behind_short : {all left rest next : Entries} {k : List ℕ} {node : stored.Node} → IsEnd all left → left ≡ (k, node) ∷ rest → IsSorted all →
+    IsBehind all k rest next → length next < length left
+behind_short end is s (inl e) = omega (arith, ap length e, ap length is)
+behind_short {all} {left} {rest} {next} {k} {node} end is s (inr e) =
+    let skipped = ap length (e ∙ skip_is all end.0 left (k, node) rest (k ++ 1 ∷ []) end.1 is s refl) in
+    omega (arith, skipped, from_short (k ++ 1 ∷ []) rest, ap length is)
 
-pub reading_shorter : (p least : List ℕ) (all left : Entries) (listed : List (List ℕ)) (k : List ℕ) (node : stored.Node) (rest next : Entries) → Reading p least all left listed → left ≡ (k, node) ∷ rest →
-    IsSorted all → IsBehind all k rest next → length next < length left
-reading_shorter p least all left listed k node rest next r is s b = behind_short all left rest next k node r.end is s b
+pub reading_shorter : {p least k : List ℕ} {all left rest next : Entries} {listed : List (List ℕ)} {node : stored.Node} →
+    Reading p least all left listed → left ≡ (k, node) ∷ rest → IsSorted all → IsBehind all k rest next → length next < length left
+reading_shorter r is s b = behind_short r.end is s b
 
 -- the next entry is a child
-pub reading_child : (p least : List ℕ) (all left : Entries) (listed : List (List ℕ)) (k n : List ℕ) (node : stored.Node) (rest next : Entries) → Reading p least all left listed → left ≡ (k, node) ∷ rest →
-    k ≡ front p ++ n → is_one_name n ≡ true → IsSorted all → AllValid all → IsBehind all k rest next → Reading p least all next (listed ++ n ∷ [])
-reading_child p least all left listed k n node rest next r is at one s v b = by b
+pub reading_child : (n : List ℕ) {p least k : List ℕ} {all left rest next : Entries} {listed : List (List ℕ)} {node : stored.Node} → Listable p least all →
+    Reading p least all left listed → left ≡ (k, node) ∷ rest → k ≡ front p ++ n → is_one_name n ≡ true → IsBehind all k rest next →
+    Reading p least all next (listed ++ n ∷ [])
+reading_child n {p} {least} {k} {all} {left} {rest} {next} {listed} {node} given r is at one b = by b
   where
+    past : List ℕ
+    past = k ++ 1 ∷ []
+
     so_far : (listed ++ n ∷ []) ++ names p rest ≡ names p all
     so_far =
         append_assoc listed (n ∷ []) (names p rest)
@@ -249,6 +263,12 @@ reading_child p least all left listed k n node rest next r is at one s v b = by 
     ready : AllReady least rest
     ready = (subst (AllReady least) is r.ready).1
 
+    same_names : names p (from past all) ≡ names p rest
+    same_names = skip_names p n all r.end.0 left (k, node) rest past r.end.1 is given.sorted given.valid refl at
+
+    same_rest : from past all ≡ from past rest
+    same_rest = skip_is all r.end.0 left (k, node) rest past r.end.1 is given.sorted refl
+
     by : IsBehind all k rest next → Reading p least all next (listed ++ n ∷ [])
     by (inl e) = record {
       so_far = ap (λ es. (listed ++ n ∷ []) ++ names p es) e ∙ so_far;
@@ -256,20 +276,24 @@ reading_child p least all left listed k n node rest next r is at one s v b = by 
       ready = subst (AllReady least) (sym e) ready;
     }
     by (inr e) = record {
-      so_far = ap (λ es. (listed ++ n ∷ []) ++ names p es) e ∙ ap (λ ns. (listed ++ n ∷ []) ++ ns) (skip_names p n all r.end.0 left (k, node) rest (k ++ 1 ∷ []) r.end.1 is s v refl at) ∙ so_far;
-      end = subst (IsEnd all) (sym e) (from_end (k ++ 1 ∷ []) all s);
-      ready = subst (AllReady least) (sym (e ∙ skip_is all r.end.0 left (k, node) rest (k ++ 1 ∷ []) r.end.1 is s refl)) (still_ready least (k ++ 1 ∷ []) rest ready);
+      so_far = ap (λ es. (listed ++ n ∷ []) ++ names p es) e ∙ ap (λ ns. (listed ++ n ∷ []) ++ ns) same_names ∙ so_far;
+      end = subst (IsEnd all) (sym e) (from_end past all given.sorted);
+      ready = subst (AllReady least) (sym (e ∙ same_rest)) (still_ready least past rest ready);
     }
 
 -- the next entry is past the front
-pub reading_stops : (p least : List ℕ) (all left : Entries) (listed : List (List ℕ)) (k : List ℕ) (node : stored.Node) (rest : Entries) → Reading p least all left listed → left ≡ (k, node) ∷ rest →
-    least ≡ front p ++ 1 ∷ [] → starts_with eqb k (front p) ≡ false → IsSorted all → listed ≡ names p all
-reading_stops p least all left listed k node rest r is low off s =
-    let past : before_all (front p) k ≡ true = past_front (front p) (1 ∷ []) k (ap (λ l. is_le (path_cmp l k)) (sym low) ∙ (subst (AllReady least) is r.ready).0) off in
+pub reading_stops : {p least k : List ℕ} {all left rest : Entries} {listed : List (List ℕ)} {node : stored.Node} → Listable p least all →
+    Reading p least all left listed → left ≡ (k, node) ∷ rest → starts_with eqb k (front p) ≡ false → listed ≡ names p all
+reading_stops {p} {least} {k} {all} {left} {rest} {listed} {node} given r is off =
+    let from_least : is_le (path_cmp (front p ++ 1 ∷ []) k) ≡ true = ap (λ l. is_le (path_cmp l k)) (sym given.low) ∙ (subst (AllReady least) is r.ready).0 in
+    let past : before_all (front p) k ≡ true = past_front (front p) (1 ∷ []) k from_least off in
+    let later = after_this all r.end.0 left (k, node) rest r.end.1 is given.sorted in
     sym (append-nil listed)
-    ∙ ap (λ ns. listed ++ ns) (sym (ap (λ o. cons_option o (names p rest)) (none_past p k past) ∙ names_stop p k rest past (after_this all r.end.0 left (k, node) rest r.end.1 is s)))
+    ∙ ap (λ ns. listed ++ ns) (sym (ap (λ o. cons_option o (names p rest)) (none_past p k past) ∙ names_stop p k rest past later))
     ∙ ap (λ es. listed ++ names p es) (sym is) ∙ r.so_far
 
 -- no entry is left
-pub reading_ends : (p least : List ℕ) (all left : Entries) (listed : List (List ℕ)) → Reading p least all left listed → left ≡ [] → listed ≡ names p all
-reading_ends p least all left listed r none = sym (append-nil listed) ∙ ap (λ es. listed ++ names p es) (sym none) ∙ r.so_far
+pub reading_ends : {p least : List ℕ} {all left : Entries} {listed : List (List ℕ)} → Reading p least all left listed → left ≡ [] →
+    listed ≡ names p all
+reading_ends {p} {least} {all} {left} {listed} r none =
+    sym (append-nil listed) ∙ ap (λ es. listed ++ names p es) (sym none) ∙ r.so_far

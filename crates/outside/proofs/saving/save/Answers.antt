@@ -11,7 +11,9 @@ returns-clause-told g c =
     let clear = c.in_ok-clear.ensures in
     let made = c.in_ok-make_empty.ensures in
     let write = c.write_all.ensures in
-    saved _ _ _ _ _ _ _ _ _ c.in_ok-old.ensures.same clear.tells made.tells write.tells (can_long _ _ _ _ over.0 over.1 c.in_ok-old.ensures.told) clear.told made.told write.told write.no_place write.rest
+    let old = c.in_ok-old.ensures in
+    saved _ _ _ _ _ _ _ _ _ old.same clear.tells made.tells write.tells (can_long _ _ _ _ over.0 over.1 old.told)
+    clear.told made.told write.told write.no_place write.rest
 
 pub returns-clause-ended : goal.returns-clause-ended
 returns-clause-ended g c =

@@ -9,7 +9,8 @@ loop-at-preserved g c =
     let inside = c.loop-at.invariant in
     record {
       inside = grind arith;
-      written = wrote_more _ _ _ _ _ _ _ _ c.min.result (grind arith) (ap (λ n. take n (drop c.loop-at.at c.args.bytes.now)) (omega arith)) inside.tells inside.written write.told;
+      written = wrote_more _ _ _ _ _ _ _ _ c.min.result (grind arith) (ap (λ n. take n (drop c.loop-at.at c.args.bytes.now)) (omega arith))
+          inside.tells inside.written write.told;
       front = wrote_on _ _ _ _ _ c.min.result _ _ _ (ap (λ n. take n (drop c.loop-at.at c.args.bytes.now)) (omega arith)) inside.front write.given;
       tells = write.tells ∙ inside.tells;
       area = write.area ∙ inside.area;
