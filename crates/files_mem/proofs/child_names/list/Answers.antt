@@ -38,7 +38,7 @@ returns-in_default-strip c =
     let p = c.args.path.now in
     let text = c.deref.ensures ∙ c.in_ok-front.ensures in
     let off_front : starts_with nat_eq c.in-Some-next.key.now (front p) ≡ false =
-        (λ i. starts_with nat_eq (sym c.text.ensures.text i) (sym text i)) ∙ off in (
+    (λ i. starts_with nat_eq (sym c.text.ensures.text i) (sym text i)) ∙ off in (
       reading_stops inv.given inv.reading c.in-Some-next.ensures.steps off_front ∙ sym (names_are p c.args.map.now.entries c.len.ensures.ordered),
       inv.unnamed,
       inv.far,
@@ -55,7 +55,7 @@ loop-key-preserved-then-is_one_name c =
     let name = c.in-Some-strip.name.now in
     let text = c.deref.ensures ∙ c.in_ok-front.ensures in
     let is : c.in-Some-next.key.now ≡ front c.args.path.now ++ name =
-        sym c.text.ensures.text ∙ c.in-Some-strip.ensures.on ∙ ap (λ f. f ++ name) text in
+    sym c.text.ensures.text ∙ c.in-Some-strip.ensures.on ∙ ap (λ f. f ++ name) text in
     let one : is_one_name name ≡ true = sym c.is_one_name.ensures ∙ c.if-is_one_name.true in
     let added = c.in_ok-add.ensures.ok in
     let before = c.loop-key.listing.0 in
@@ -73,7 +73,7 @@ loop-key-preserved c =
     let name = c.in-Some-strip.name.now in
     let text = c.deref.ensures ∙ c.in_ok-front.ensures in
     let is : c.in-Some-next.key.now ≡ front c.args.path.now ++ name =
-        sym c.text.ensures.text ∙ c.in-Some-strip.ensures.on ∙ ap (λ f. f ++ name) text in
+    sym c.text.ensures.text ∙ c.in-Some-strip.ensures.on ∙ ap (λ f. f ++ name) text in
     let other : is_one_name name ≡ false = sym c.is_one_name.ensures ∙ c.if-is_one_name.false in
     record {
       given = inv.given;
