@@ -6,3 +6,6 @@
 
 #[cfg(test)]
 mod of_path_text;
+mod of_files_mem;
+#[cfg(test)]
+mod of_outside;

@@ -10,9 +10,9 @@ use Rattle.std.proofs.lemmas.Bool.Decides.{nat_tests}
 use Rattle.path_text.specs.Order.{path_cmp, byte_rank, front}
 use Rattle.path_text.proofs.Preorder.{before_all, front-joined}
 use Rattle.path_text.specs.Path.{is_slash, refusal, joined}
-use Rattle.outside.specs.Tree.{name_below}
-use Rattle.outside.specs.Children.{is_one_name, name_below-front, name_below-off, child_is, one_name_parts}
-use Rattle.outside.specs.Names.{not_long}
+use Rattle.outside.specs.Tree.{is_one_name, name_below}
+use Rattle.outside.proofs.Children.{name_below-front, name_below-off, child_is, one_name_parts}
+use Rattle.outside.proofs.Names.{not_long}
 use Rattle.files_mem.proofs.Nul.{is_nul, no_nul}
 
 pub joined_front : (p m : List ℕ) → joined p m ≡ front p ++ m

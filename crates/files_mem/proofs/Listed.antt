@@ -14,8 +14,8 @@ use Rattle.path_text.specs.Order.{path_cmp, front}
 use Rattle.path_text.proofs.Preorder.{before_all}
 use Rattle.path_text.specs.Total.{path_cmp_total}
 use Rattle.path_text.specs.Path.{refusal}
-use Rattle.outside.specs.Tree.{name_below, Node, names_in}
-use Rattle.outside.specs.Children.{is_one_name, name_below-front}
+use Rattle.outside.specs.Tree.{is_one_name, name_below, Node, names_in}
+use Rattle.outside.proofs.Children.{name_below-front}
 use Rattle.std.specs.FinMap.{entries, put, entries-insert, len-entries, len-empty}
 use Rattle.std.specs.FinMap.Entries.{by_order}
 use Rattle.std.specs.Ordering.{ordering_reverse}
@@ -79,7 +79,9 @@ AllReady least es = AllByRecursion (λ e. is_le (path_cmp least e.0) ≡ true) e
 
 all_reach : (at k : List ℕ) (es : Entries) → is_le (path_cmp at k) ≡ true → AllAfter k es → from at es ≡ es
 all_reach at k [] h a = refl
-all_reach at k (e ∷ es) h a = ap (λ b. cond b (e ∷ from at es) (from at es)) (reach_is at e.0 ∙ le_less at k e.0 h a.0) ∙ ap (λ r. e ∷ r) (all_reach at k es h a.1)
+all_reach at k (e ∷ es) h a =
+    ap (λ b. cond b (e ∷ from at es) (from at es)) (reach_is at e.0 ∙ le_less at k e.0 h a.0)
+    ∙ ap (λ r. e ∷ r) (all_reach at k es h a.1)
 
 -- the entries from `at` on are an end
 from_end : (at : List ℕ) (all : Entries) → IsSorted all → IsEnd all (from at all)
@@ -106,10 +108,12 @@ off : (at : List ℕ) (e : List ℕ × stored.Node) (es : Entries) → path_cmp 
 off at e es l = ap (λ b. cond b (e ∷ from at es) (from at es)) (less_not e.0 at l)
 
 -- from a place past an entry on: what stands before it does not matter
-from_behind : (at : List ℕ) (before : Entries) (e : List ℕ × stored.Node) (rest : Entries) → IsSorted (before ++ e ∷ rest) → path_cmp e.0 at ≡ Less → from at (before ++ e ∷ rest) ≡ from at rest
+from_behind : (at : List ℕ) (before : Entries) (e : List ℕ × stored.Node) (rest : Entries) → IsSorted (before ++ e ∷ rest) →
+    path_cmp e.0 at ≡ Less → from at (before ++ e ∷ rest) ≡ from at rest
 from_behind at [] e rest s l = off at e rest l
 from_behind at (b ∷ before) e rest s l =
-    off at b (before ++ e ∷ rest) (path_cmp_total.trans b.0 e.0 at (all_mid (λ y. path_cmp b.0 y ≡ Less) before e rest (sorted_head path_cmp b.0 (keys_of (before ++ e ∷ rest)) s)) l)
+    let later = all_mid (λ y. path_cmp b.0 y ≡ Less) before e rest (sorted_head path_cmp b.0 (keys_of (before ++ e ∷ rest)) s) in
+    off at b (before ++ e ∷ rest) (path_cmp_total.trans b.0 e.0 at later l)
     ∙ from_behind at before e rest (sorted_tail path_cmp b.0 (keys_of (before ++ e ∷ rest)) s) l
 
 -- what is passed over holds no child
@@ -117,18 +121,22 @@ names_past : (p k m : List ℕ) (rest : Entries) → k ≡ front p ++ m → AllA
 names_past p k m [] e a v = refl
 names_past p k m (x ∷ rest) e a v =
     let more = names_past p k m rest e a.1 v.1 in
-    elim (reach (k ++ 1 ∷ []) x.0) as (λ b. reach (k ++ 1 ∷ []) x.0 ≡ b → names p (cond b (x ∷ from (k ++ 1 ∷ []) rest) (from (k ++ 1 ∷ []) rest)) ≡ names p (x ∷ rest)) [
+    let past : List ℕ = k ++ 1 ∷ [] in
+    elim (reach past x.0) as (λ b. reach past x.0 ≡ b → names p (cond b (x ∷ from past rest) (from past rest)) ≡ names p (x ∷ rest)) [
       | true ↦ λ is. ap (λ r. cons_option (name_below p x.0) r) more
-      | false ↦ λ is. more ∙ ap (λ o. cons_option o (names p rest)) (sym (none_between p k m x.0 e a.0 (not_le (path_cmp (k ++ 1 ∷ []) x.0) (sym (reach_is (k ++ 1 ∷ []) x.0) ∙ is)) v.0))
+      | false ↦ λ is.
+          let after = not_le (path_cmp past x.0) (sym (reach_is past x.0) ∙ is) in
+          more ∙ ap (λ o. cons_option o (names p rest)) (sym (none_between p k m x.0 e a.0 after v.0))
     ] refl
 
 names_from_least : (p : List ℕ) (es : Entries) → AllValid es → names p (from (front p ++ 1 ∷ []) es) ≡ names p es
 names_from_least p [] v = refl
 names_from_least p (x ∷ es) v =
     let more = names_from_least p es v.1 in
-    elim (reach (front p ++ 1 ∷ []) x.0) as (λ b. reach (front p ++ 1 ∷ []) x.0 ≡ b → names p (cond b (x ∷ from (front p ++ 1 ∷ []) es) (from (front p ++ 1 ∷ []) es)) ≡ names p (x ∷ es)) [
+    let least : List ℕ = front p ++ 1 ∷ [] in
+    elim (reach least x.0) as (λ b. reach least x.0 ≡ b → names p (cond b (x ∷ from least es) (from least es)) ≡ names p (x ∷ es)) [
       | true ↦ λ is. ap (λ r. cons_option (name_below p x.0) r) more
-      | false ↦ λ is. more ∙ ap (λ o. cons_option o (names p es)) (sym (none_before (sym (reach_is (front p ++ 1 ∷ []) x.0) ∙ is)))
+      | false ↦ λ is. more ∙ ap (λ o. cons_option o (names p es)) (sym (none_before (sym (reach_is least x.0) ∙ is)))
     ] refl
   where
     none_before : is_le (path_cmp (front p ++ 1 ∷ []) x.0) ≡ false → name_below p x.0 ≡ None
@@ -149,7 +157,10 @@ ready_from at (x ∷ es) =
 still_ready : (least at : List ℕ) (es : Entries) → AllReady least es → AllReady least (from at es)
 still_ready least at [] a = tt
 still_ready least at (x ∷ es) a =
-    elim (reach at x.0) as (λ b. AllReady least (cond b (x ∷ from at es) (from at es))) [ true ↦ (a.0, still_ready least at es a.1) | false ↦ still_ready least at es a.1 ]
+    elim (reach at x.0) as (λ b. AllReady least (cond b (x ∷ from at es) (from at es))) [
+      | true ↦ (a.0, still_ready least at es a.1)
+      | false ↦ still_ready least at es a.1
+    ]
 
 names_stop : (p k : List ℕ) (es : Entries) → before_all (front p) k ≡ true → AllAfter k es → names p es ≡ []
 names_stop p k [] e a = refl
@@ -169,7 +180,10 @@ entries_of [] s = no_entries
   where
     no_entries : entries (files_of []) ≡ []
     no_entries = nothing (entries (files_of [])) (sym (len-entries (files_of [])) ∙ len-empty path_cmp Node)
-entries_of (e ∷ es) s = entries-insert path_cmp_total (files_of es) e.0 (node_of e.1) ∙ ap (put path_cmp e.0 (node_of e.1)) (entries_of es (sorted_tail path_cmp e.0 (keys_of es) s)) ∙ put_first e.0 (node_of e.1) es (sorted_head path_cmp e.0 (keys_of es) s)
+entries_of (e ∷ es) s =
+    entries-insert path_cmp_total (files_of es) e.0 (node_of e.1)
+    ∙ ap (put path_cmp e.0 (node_of e.1)) (entries_of es (sorted_tail path_cmp e.0 (keys_of es) s))
+    ∙ put_first e.0 (node_of e.1) es (sorted_head path_cmp e.0 (keys_of es) s)
 
 names_told : (p : List ℕ) (es : Entries) → filter_map (name_below p) (map (λ e. e.0) (map told es)) ≡ names p es
 names_told p [] = refl
@@ -186,19 +200,32 @@ after_this : (all before es : Entries) (e : List ℕ × stored.Node) (rest : Ent
 after_this all before es e rest h g s = sorted_head path_cmp e.0 (keys_of rest) (sorted_end before (e ∷ rest) (subst IsSorted (h ∙ ap (λ r. before ++ r) g) s))
 
 -- past what is under a child
-skip_is : (all before es : Entries) (e : List ℕ × stored.Node) (rest : Entries) (past : List ℕ) → all ≡ before ++ es → es ≡ e ∷ rest → IsSorted all → past ≡ e.0 ++ 1 ∷ [] → from past all ≡ from past rest
+skip_is : (all before es : Entries) (e : List ℕ × stored.Node) (rest : Entries) (past : List ℕ) → all ≡ before ++ es →
+    es ≡ e ∷ rest → IsSorted all → past ≡ e.0 ++ 1 ∷ [] → from past all ≡ from past rest
 skip_is all before es e rest past h g s q =
     let whole = h ∙ ap (λ r. before ++ r) g in
     ap (from past) whole ∙ from_behind past before e rest (subst IsSorted whole s) (ap (path_cmp e.0) q ∙ below_past e.0)
 
-skip_names : (p n : List ℕ) (all before es : Entries) (e : List ℕ × stored.Node) (rest : Entries) (past : List ℕ) → all ≡ before ++ es → es ≡ e ∷ rest → IsSorted all → AllValid all → past ≡ e.0 ++ 1 ∷ [] → e.0 ≡ front p ++ n → names p (from past all) ≡ names p rest
+skip_names : (p n : List ℕ) (all before es : Entries) (e : List ℕ × stored.Node) (rest : Entries) (past : List ℕ) → all ≡ before ++ es →
+    es ≡ e ∷ rest → IsSorted all → AllValid all → past ≡ e.0 ++ 1 ∷ [] → e.0 ≡ front p ++ n → names p (from past all) ≡ names p rest
 skip_names p n all before es e rest past h g s v q k =
     ap (names p) (skip_is all before es e rest past h g s q) ∙ ap (λ a. names p (from a rest)) q
-    ∙ names_past p e.0 n rest k (after_this all before es e rest h g s) (all_end (λ e. refusal e.0 ≡ None) before (e ∷ rest) (subst AllValid (h ∙ ap (λ r. before ++ r) g) v)).1
+    ∙ names_past p e.0 n rest k (after_this all before es e rest h g s) valid.1
+  where
+    valid : AllValid (e ∷ rest)
+    valid = all_end (λ e. refusal e.0 ≡ None) before (e ∷ rest) (subst AllValid (h ∙ ap (λ r. before ++ r) g) v)
 
 from_short : (at : List ℕ) (es : Entries) → length (from at es) ≤ length es
 from_short at [] = omega arith
-from_short at (e ∷ es) = let more = from_short at es in elim (reach at e.0) as (λ b. length (cond b (e ∷ from at es) (from at es)) ≤ suc (length es)) [ true ↦ omega arith | false ↦ omega arith ]
+from_short at (e ∷ es) =
+    let more = from_short at es in
+    elim (reach at e.0) as (λ b. length (cond b (e ∷ from at es) (from at es)) ≤ suc (length es)) [ true ↦ omega arith | false ↦ omega arith ]
+
+-- the entries whose names are listed: those of a map of paths, from the least path that a child of p can have on
+pub record Listable (p least : List ℕ) (all : Entries) : Type 0 where
+  pub low : least ≡ front p ++ 1 ∷ []
+  pub sorted : IsSorted all
+  pub valid : AllValid all
 
 -- how far the loop over all the entries has come: the names that are listed, and the entries that are left
 pub record Reading (p least : List ℕ) (all left : Entries) (listed : List (List ℕ)) : Type 0 where
@@ -206,18 +233,20 @@ pub record Reading (p least : List ℕ) (all left : Entries) (listed : List (Lis
   pub end : IsEnd all left
   pub ready : AllReady least left
 
-pub reading_begins : (p least : List ℕ) (all : Entries) → least ≡ front p ++ 1 ∷ [] → IsSorted all → AllValid all → Reading p least all (from least all) []
-reading_begins p least all is s v = record {
-  so_far = ap (λ l. names p (from l all)) is ∙ names_from_least p all v;
-  end = from_end least all s;
+pub reading_begins : {p least : List ℕ} {all : Entries} → Listable p least all → Reading p least all (from least all) []
+reading_begins {p} {least} {all} given = record {
+  so_far = ap (λ l. names p (from l all)) given.low ∙ names_from_least p all given.valid;
+  end = from_end least all given.sorted;
   ready = ready_from least all;
 }
 
 -- the next entry is behind the front, and no child
-pub reading_other : (p least : List ℕ) (all left : Entries) (listed : List (List ℕ)) (k n : List ℕ) (node : stored.Node) (rest : Entries) → Reading p least all left listed → left ≡ (k, node) ∷ rest →
-    k ≡ front p ++ n → is_one_name n ≡ false → Reading p least all rest listed
-reading_other p least all left listed k n node rest r next is other = record {
-  so_far = ap (λ o. listed ++ cons_option o (names p rest)) (sym (name_below-front p k n is ∙ ap (λ b. cond b (Some n) None) other)) ∙ ap (λ es. listed ++ names p es) (sym next) ∙ r.so_far;
+pub reading_other : (n : List ℕ) {p least k : List ℕ} {all left rest : Entries} {listed : List (List ℕ)} {node : stored.Node} →
+    Reading p least all left listed → left ≡ (k, node) ∷ rest → k ≡ front p ++ n → is_one_name n ≡ false → Reading p least all rest listed
+reading_other n {p} {least} {k} {all} {left} {rest} {listed} {node} r next is other = record {
+  so_far =
+      ap (λ o. listed ++ cons_option o (names p rest)) (sym (name_below-front p k n is ∙ ap (λ b. cond b (Some n) None) other))
+      ∙ ap (λ es. listed ++ names p es) (sym next) ∙ r.so_far;
   end = one_less all r.end.0 left (k, node) rest r.end.1 next;
   ready = (subst (AllReady least) next r.ready).1;
 }
@@ -226,20 +255,26 @@ reading_other p least all left listed k n node rest r next is other = record {
 abbrev pub IsBehind : Entries → List ℕ → Entries → Entries → Type 0
 IsBehind all k rest left = (left ≡ rest) ⊎ (left ≡ from (k ++ 1 ∷ []) all)
 
-behind_short : (all left rest next : Entries) (k : List ℕ) (node : stored.Node) → IsEnd all left → left ≡ (k, node) ∷ rest → IsSorted all → IsBehind all k rest next → length next < length left
-behind_short all left rest next k node end is s (inl e) = omega (arith, ap length e, ap length is)
-behind_short all left rest next k node end is s (inr e) =
-    omega (arith, ap length (e ∙ skip_is all end.0 left (k, node) rest (k ++ 1 ∷ []) end.1 is s refl), from_short (k ++ 1 ∷ []) rest, ap length is)
+behind_short : {all left rest next : Entries} {k : List ℕ} {node : stored.Node} → IsEnd all left → left ≡ (k, node) ∷ rest → IsSorted all →
+    IsBehind all k rest next → length next < length left
+behind_short end is s (inl e) = omega (arith, ap length e, ap length is)
+behind_short {all} {left} {rest} {next} {k} {node} end is s (inr e) =
+    let skipped = ap length (e ∙ skip_is all end.0 left (k, node) rest (k ++ 1 ∷ []) end.1 is s refl) in
+    omega (arith, skipped, from_short (k ++ 1 ∷ []) rest, ap length is)
 
-pub reading_shorter : (p least : List ℕ) (all left : Entries) (listed : List (List ℕ)) (k : List ℕ) (node : stored.Node) (rest next : Entries) → Reading p least all left listed → left ≡ (k, node) ∷ rest →
-    IsSorted all → IsBehind all k rest next → length next < length left
-reading_shorter p least all left listed k node rest next r is s b = behind_short all left rest next k node r.end is s b
+pub reading_shorter : {p least k : List ℕ} {all left rest next : Entries} {listed : List (List ℕ)} {node : stored.Node} →
+    Reading p least all left listed → left ≡ (k, node) ∷ rest → IsSorted all → IsBehind all k rest next → length next < length left
+reading_shorter r is s b = behind_short r.end is s b
 
 -- the next entry is a child
-pub reading_child : (p least : List ℕ) (all left : Entries) (listed : List (List ℕ)) (k n : List ℕ) (node : stored.Node) (rest next : Entries) → Reading p least all left listed → left ≡ (k, node) ∷ rest →
-    k ≡ front p ++ n → is_one_name n ≡ true → IsSorted all → AllValid all → IsBehind all k rest next → Reading p least all next (listed ++ n ∷ [])
-reading_child p least all left listed k n node rest next r is at one s v b = by b
+pub reading_child : (n : List ℕ) {p least k : List ℕ} {all left rest next : Entries} {listed : List (List ℕ)} {node : stored.Node} → Listable p least all →
+    Reading p least all left listed → left ≡ (k, node) ∷ rest → k ≡ front p ++ n → is_one_name n ≡ true → IsBehind all k rest next →
+    Reading p least all next (listed ++ n ∷ [])
+reading_child n {p} {least} {k} {all} {left} {rest} {next} {listed} {node} given r is at one b = by b
   where
+    past : List ℕ
+    past = k ++ 1 ∷ []
+
     so_far : (listed ++ n ∷ []) ++ names p rest ≡ names p all
     so_far =
         append_assoc listed (n ∷ []) (names p rest)
@@ -249,6 +284,12 @@ reading_child p least all left listed k n node rest next r is at one s v b = by 
     ready : AllReady least rest
     ready = (subst (AllReady least) is r.ready).1
 
+    same_names : names p (from past all) ≡ names p rest
+    same_names = skip_names p n all r.end.0 left (k, node) rest past r.end.1 is given.sorted given.valid refl at
+
+    same_rest : from past all ≡ from past rest
+    same_rest = skip_is all r.end.0 left (k, node) rest past r.end.1 is given.sorted refl
+
     by : IsBehind all k rest next → Reading p least all next (listed ++ n ∷ [])
     by (inl e) = record {
       so_far = ap (λ es. (listed ++ n ∷ []) ++ names p es) e ∙ so_far;
@@ -256,20 +297,24 @@ reading_child p least all left listed k n node rest next r is at one s v b = by 
       ready = subst (AllReady least) (sym e) ready;
     }
     by (inr e) = record {
-      so_far = ap (λ es. (listed ++ n ∷ []) ++ names p es) e ∙ ap (λ ns. (listed ++ n ∷ []) ++ ns) (skip_names p n all r.end.0 left (k, node) rest (k ++ 1 ∷ []) r.end.1 is s v refl at) ∙ so_far;
-      end = subst (IsEnd all) (sym e) (from_end (k ++ 1 ∷ []) all s);
-      ready = subst (AllReady least) (sym (e ∙ skip_is all r.end.0 left (k, node) rest (k ++ 1 ∷ []) r.end.1 is s refl)) (still_ready least (k ++ 1 ∷ []) rest ready);
+      so_far = ap (λ es. (listed ++ n ∷ []) ++ names p es) e ∙ ap (λ ns. (listed ++ n ∷ []) ++ ns) same_names ∙ so_far;
+      end = subst (IsEnd all) (sym e) (from_end past all given.sorted);
+      ready = subst (AllReady least) (sym (e ∙ same_rest)) (still_ready least past rest ready);
     }
 
 -- the next entry is past the front
-pub reading_stops : (p least : List ℕ) (all left : Entries) (listed : List (List ℕ)) (k : List ℕ) (node : stored.Node) (rest : Entries) → Reading p least all left listed → left ≡ (k, node) ∷ rest →
-    least ≡ front p ++ 1 ∷ [] → starts_with eqb k (front p) ≡ false → IsSorted all → listed ≡ names p all
-reading_stops p least all left listed k node rest r is low off s =
-    let past : before_all (front p) k ≡ true = past_front (front p) (1 ∷ []) k (ap (λ l. is_le (path_cmp l k)) (sym low) ∙ (subst (AllReady least) is r.ready).0) off in
+pub reading_stops : {p least k : List ℕ} {all left rest : Entries} {listed : List (List ℕ)} {node : stored.Node} → Listable p least all →
+    Reading p least all left listed → left ≡ (k, node) ∷ rest → starts_with eqb k (front p) ≡ false → listed ≡ names p all
+reading_stops {p} {least} {k} {all} {left} {rest} {listed} {node} given r is off =
+    let from_least : is_le (path_cmp (front p ++ 1 ∷ []) k) ≡ true = ap (λ l. is_le (path_cmp l k)) (sym given.low) ∙ (subst (AllReady least) is r.ready).0 in
+    let past : before_all (front p) k ≡ true = past_front (front p) (1 ∷ []) k from_least off in
+    let later = after_this all r.end.0 left (k, node) rest r.end.1 is given.sorted in
     sym (append-nil listed)
-    ∙ ap (λ ns. listed ++ ns) (sym (ap (λ o. cons_option o (names p rest)) (none_past p k past) ∙ names_stop p k rest past (after_this all r.end.0 left (k, node) rest r.end.1 is s)))
+    ∙ ap (λ ns. listed ++ ns) (sym (ap (λ o. cons_option o (names p rest)) (none_past p k past) ∙ names_stop p k rest past later))
     ∙ ap (λ es. listed ++ names p es) (sym is) ∙ r.so_far
 
 -- no entry is left
-pub reading_ends : (p least : List ℕ) (all left : Entries) (listed : List (List ℕ)) → Reading p least all left listed → left ≡ [] → listed ≡ names p all
-reading_ends p least all left listed r none = sym (append-nil listed) ∙ ap (λ es. listed ++ names p es) (sym none) ∙ r.so_far
+pub reading_ends : {p least : List ℕ} {all left : Entries} {listed : List (List ℕ)} → Reading p least all left listed → left ≡ [] →
+    listed ≡ names p all
+reading_ends {p} {least} {all} {left} {listed} r none =
+    sym (append-nil listed) ∙ ap (λ es. listed ++ names p es) (sym none) ∙ r.so_far

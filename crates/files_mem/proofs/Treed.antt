@@ -11,7 +11,7 @@ use Rattle.path_text.specs.Path.{refusal, parent_of}
 use Rattle.path_text.specs.Total.{path_cmp_total, path_cmp_ties}
 use Rattle.outside.specs.Tree.{Files, Node, Body, dir, file, link, other, is_dir, is_dir_body, is_file, is_file_body, is_root, names_in, IsTree}
 use Rattle.outside.specs.Writes.{written, write_refusal, remove_file_refusal, remove_dir_refusal, is_open, all_but}
-use Rattle.outside.specs.Parents.{no_child}
+use Rattle.outside.proofs.Parents.{no_child}
 use Rattle.outside.specs.declared.plots.WriteError.TheVariants as write
 use Rattle.std.specs.Bool.{IsTrue}
 use Rattle.std.proofs.lemmas.Bool.Decides.{nat_tests}

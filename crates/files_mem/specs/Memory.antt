@@ -64,11 +64,11 @@ abbrev pub dir_far : Option Node → Option ℕ
 dir_far None = None
 dir_far (Some n) = body_far n.body
 
--- a buffer's front holds the file's bytes from a place on, as many as there are and as fit
-pub record FillsFrom (node : Option Node) (at : ℕ) (buffer : List ℕ) (n : ℕ) : Type 0 where
+-- a buffer's front takes the file's bytes from a place on, as many as there are and as fit, and behind them it is as before
+pub record FillsFrom (node : Option Node) (at : ℕ) (old new : List ℕ) (n : ℕ) : Type 0 where
   pub is_file : is_file node ≡ true
-  pub many : n ≡ min (length buffer) (length (content node) - at)
-  pub same : take n buffer ≡ take n (drop at (content node))
+  pub many : n ≡ min (length old) (length (content node) - at)
+  pub whole : new ≡ take n (drop at (content node)) ++ drop n old
 
 -- what a call that writes answers and leaves, where it is refused as `refusal` says, and else makes `after` of the files: it
 -- fails exactly where that is planned, and counts that; else only want of memory may stand in place of an answer

@@ -7,8 +7,7 @@ ghost use Rattle.std.specs.BTreeMap.Range.{entries_between};
 ghost use Rattle.std.specs.declared.ops.Bound.TheVariants.{Included, Unbounded};
 ghost use Rattle.path_text.specs.Order.{path_cmp, front};
 ghost use Rattle.path_text.specs.Path.{is_slash, refusal, joined};
-ghost use Rattle.outside.specs.Tree.{names_in};
-ghost use Rattle.outside.specs.Children.{is_one_name};
+ghost use Rattle.outside.specs.Tree.{is_one_name, names_in};
 ghost use Rattle.files_mem.specs.Stored.{files_of, AllValid};
 
 use crate::nodes::Node;

@@ -325,7 +325,8 @@ impl Ground for MemGround {
     }
 
     fn take_reader(&mut self, reader: MemReader)
-        ensures { self.new ≡ record self.old { count = capped self.old.count reader.count } }
+        ensures counted { self.new ≡ record self.old { count = capped self.old.count reader.count } }
+        ensures rises { self.old.count ≤ self.new.count }
     {
         self.count = self.count.saturating_add(reader.faults());
     }

@@ -33,8 +33,6 @@ mod nodes;
 mod plans;
 mod readers;
 mod stores;
-#[cfg(test)]
-mod tests;
 
 pub use errors::PutError;
 pub use grounds::MemGround;

@@ -121,12 +121,14 @@ impl Tree for MemReader {
         Ok(listing)
     }
 
-    /// Reads as much as is there and fits. It fails exactly where that is planned, before any other refusal.
+    /// Reads as much as is there and fits. It fails exactly where that is planned, before any other refusal. What `into` holds
+    /// behind the bytes read, and all of it after a refusal, is as before.
     fn read(&mut self, path: &Path, at: u64, into: &mut [u8]) -> Result<usize, ReadError>
         ensures valid { IsTree self.old.files }
         ensures planned { IsErrOf result ReadError.Failed ↔ IsTrue (is_planned Call.Read path.now self.old.planned) }
         ensures not_file { IsErrOf result ReadError.NotFile ↔ ((is_planned Call.Read path.now self.old.planned ≡ false) × (is_file (map.get self.old.files path.now) ≡ false)) }
-        ensures fills { IfOk result (λ n. FillsFrom (map.get self.old.files path.now) at into.new n) }
+        ensures fills { IfOk result (λ n. FillsFrom (map.get self.old.files path.now) at into.old into.new n) }
+        ensures kept { OnErr result (into.new ≡ into.old) }
         ensures counted { self.new ≡ answered (is_planned Call.Read path.now self.old.planned) self.old }
         ensures most { IfOk result (λ n. n ≤ length into.new) }
         ensures told { IfOk result (λ n. Reads self.old.files path.now at into.new n) }

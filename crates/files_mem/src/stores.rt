@@ -1,5 +1,5 @@
 //! Nodes by their paths.
-ghost use Rattle.std.specs.Prelude.{◌≡◌, ◌≤◌, ◌-◌, true, false, length, take, drop, min, OnOk, OnErr, IfOk, IfSome, IfNone};
+ghost use Rattle.std.specs.Prelude.{◌≡◌, ◌≤◌, ◌-◌, ◌++◌, true, false, length, take, drop, min, OnOk, OnErr, IfOk, IfSome, IfNone};
 ghost use Rattle.std.specs.Option.{option_copied, option_map};
 ghost use Rattle.std.specs.FinMap as map;
 ghost use Rattle.outside.specs.Tree.{names_in, is_dir, is_file, content, stat_of};
@@ -188,10 +188,12 @@ impl Store {
         }
     }
 
-    /// Reads the file at the path from a place on, as much as there is room for and bytes are there; `None` of all else.
+    /// Reads the file at the path from a place on, as much as there is room for and bytes are there; `None` of all else, and
+    /// then the buffer is as before.
     pub fn read(&self, path: &Path, at: u64, into: &mut [u8]) -> Option<usize>
-        ensures file { IfSome result (λ n. FillsFrom (map.get self.now path.now) at into.new n) }
+        ensures file { IfSome result (λ n. FillsFrom (map.get self.now path.now) at into.old into.new n) }
         ensures other { IfNone result (is_file (map.get self.now path.now) ≡ false) }
+        ensures untouched { IfNone result (into.new ≡ into.old) }
     {
         match self.node_at(path) {
             None => None,
@@ -244,8 +246,8 @@ fn parent_text(path: &Path) -> &str
 
 // Fills the front of a buffer with the bytes from a place on, and answers how many.
 fn fill(bytes: &[u8], at: u64, into: &mut [u8]) -> usize
-    ensures many { result ≡ min (length into.new) (length bytes.now - at) }
-    ensures same { take result into.new ≡ take result (drop at bytes.now) }
+    ensures many { result ≡ min (length into.old) (length bytes.now - at) }
+    ensures whole { into.new ≡ take result (drop at bytes.now) ++ drop result into.old }
 {
     if at >= bytes.len() as u64 {
         return 0;

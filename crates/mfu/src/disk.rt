@@ -1,5 +1,5 @@
 //! The files of the system, looked at.
-ghost use Rattle.std.specs.Prelude.{◌≡◌, ◌≢◌, ◌≤◌, length, IfOk, IfSome, None};
+ghost use Rattle.std.specs.Prelude.{◌≡◌, ◌≢◌, ◌≤◌, length, IfOk, IfSome, IsErrOf, None};
 ghost use Rattle.outside.specs.Count.{RoseBy};
 ghost use Rattle.outside.specs.Tree.{AreNames};
 
@@ -70,6 +70,7 @@ where
     fn read_open(&mut self, path: &Path, at: u64, into: &mut [u8]) -> Result<usize, ReadError>
         ensures same { self.new ≡ self.old }
         ensures most { IfOk result (λ n. n ≤ length into.new) }
+        ensures untouched { IsErrOf result ReadError.NotFile → into.new ≡ into.old }
     {
         if let Some(handle) = &self.read {
             if let Some(file) = handle.of(path) {

@@ -2,8 +2,7 @@ pub mod Tree
 pub mod Codes
 pub mod Count
 pub mod Sinks
-pub mod Children
-pub mod Names
-pub mod Parents
+pub mod Asked
+pub mod Answered
 pub mod Writes
 pub mod Whole

@@ -1,5 +1,5 @@
 -- A tree of files: a finite map from paths to nodes. Our own, after the tree of a file system.
-use Rattle.std.specs.Prelude.{◌≡◌, ℕ, ◌-◌, ◌<◌, ◌≤◌, Bool, true, false, not, ◌&&◌, ◌||◌, List, [], ◌∷◌, length, take, drop, if◌then◌else◌, ◌==◌, Option, Some, None, IsTrue, nat_eq, is_none}
+use Rattle.std.specs.Prelude.{◌≡◌, ℕ, ◌-◌, ◌<◌, ◌≤◌, Bool, true, false, not, ◌&&◌, ◌||◌, List, [], ◌∷◌, length, take, drop, if◌then◌else◌, ◌==◌, Option, Some, None, IsTrue, nat_eq, is_none, is_some}
 use Rattle.std.specs.List.{starts_with, list_any, filter_map, All}
 use Rattle.std.specs.FinMap.{FinMap, get, keys}
 use Rattle.std.specs.List.Sorted.{IsStrictlySortedBy}
@@ -38,11 +38,15 @@ abbrev pub is_dir : Option Node → Bool
 is_dir None = false
 is_dir (Some n) = is_dir_body n.body
 
+-- some bytes, and no slash among them
+abbrev pub is_one_name : List ℕ → Bool
+is_one_name name = not (length name == 0) && not (list_any is_slash name)
+
 -- the name of q, where q is a child of the path
 abbrev pub name_below : List ℕ → List ℕ → Option (List ℕ)
 name_below path q =
     let name = drop (length (front path)) q in
-    if starts_with nat_eq q (front path) && (not (length name == 0) && not (list_any is_slash name)) then Some name else None
+    if starts_with nat_eq q (front path) && is_one_name name then Some name else None
 
 -- the names of the children of a directory, in byte order
 abbrev pub names_in : Files → List ℕ → List (List ℕ)
@@ -130,6 +134,14 @@ IsTree files = (path : List ℕ) → IsTrue (is_placed files path)
 pub IsTree-prop : (files : Files) → IsProp (IsTree files)
 unfolding IsTree
 IsTree-prop files = hlevel (Bool-set)
+
+-- in every tree a path that has a node is one
+abbrev pub NodesHavePaths : Type 0
+NodesHavePaths = (files : Files) (path : List ℕ) → IsTree files → is_none (get files path) ≡ false → refusal path ≡ None
+
+-- a path other than `/` is a child of its parent
+abbrev pub ChildrenHaveParents : Type 0
+ChildrenHaveParents = (path : List ℕ) → refusal path ≡ None → is_root path ≡ false → is_some (name_below (parent_of path) path) ≡ true
 
 -- in every tree the names of the children of a path are valid and ascend, and each gives a path that is not too long
 abbrev pub ChildrenAreNames : Type 0

@@ -13,18 +13,27 @@
 //! contract still says which answers it has and when each may come. The ghost member `area` says where an object may be
 //! written; it is made for parts that are lent out, and of a ground today it is every path.
 //!
+//! Each reader, and all files, have a relation `gives` too: which answer a call may have, and what it leaves. An implementation may
+//! choose any. What is written for all of them knows nothing of it, so its contract can name an answer only where a call gave it.
+//! In this way [`load`] and [`save`] tell the cause of each answer also over files that tell no tree.
+//!
 //! Everything outside may fail. Each object counts its *faults* in a number that never falls and stops at 2^64 - 1; an
 //! answer that blames the outside comes only where that count rose, or stands at its end.
 //!
 //! Proved: [`put_all`], [`load`] and [`save`] end, over every object. [`put_all`] appends exactly its bytes, or a front of
 //! them where the sink failed. [`load`] gives exactly the bytes of the file, and `NoFile` where no file is there, and [`save`]
 //! leaves a file with exactly the bytes and all else as before, or says `NoPlace` exactly where no file can be, both where the
-//! files tell their tree. [`MemSink`] and [`Listing`] meet their clauses. The traits' clauses are what each implementation is
-//! proved to meet. A law says what the names in every tree are like ([`children_have_names`]). Not claimed: what stands at the
+//! files tell their tree. Over all files [`load`] gives as many bytes as `stat` told, or as came before a read gave none, and
+//! says `NoFile` only where `stat` or a read answered that; and [`save`] wrote all its bytes piece behind piece, or says
+//! `NoPlace` only where a look or a write answered that. Memory for a whole file is taken before any of it is read.
+//! [`MemSink`] and [`Listing`] meet their clauses. The traits' clauses are what each implementation is
+//! proved to meet. Laws say what the names in every tree are like ([`children_have_names`]), that nodes stand at paths
+//! ([`nodes_have_paths`]), and that a path is under its parent ([`children_have_parents`]). Not claimed: what stands at the
 //! path of a [`save`] that failed or found no memory.
 //!
 //! Definitions stand in `specs/`: `Tree` (files, nodes, listings, bytes that are read), `Writes` (areas, refusals, what a call
-//! answers and leaves), `Whole` (whole files), `Count` (counts of faults), `Sinks`.
+//! answers and leaves), `Whole` (whole files), `Asked` (calls with their answers), `Answered` (whole files by what was
+//! answered), `Count` (counts of faults), `Sinks`; `Codes` is for proofs alone.
 #![tactic(auto)]
 
 mod failures;
@@ -39,13 +48,10 @@ mod trees;
 
 pub use failures::Failed;
 pub use grounds::Ground;
-pub use laws::children_have_names;
+pub use laws::{children_have_names, children_have_parents, nodes_have_paths};
 pub use listings::Listing;
 pub use loading::{LoadError, load};
 pub use plots::{Plot, WriteError};
 pub use saving::{SaveError, save};
 pub use sinks::{MemSink, Sink, put_all};
 pub use trees::{Kind, ListError, ReadError, Stat, Tree};
-
-#[cfg(test)]
-mod tests;

@@ -1,12 +1,14 @@
 //! Whole files, read.
-ghost use Rattle.std.specs.Prelude.{◌≡◌, ◌+◌, ◌^◌, ◌<◌, ◌≤◌, ◌++◌, true, false, length, take, drop, IfOk, IfSome, IsErrOf};
+ghost use Rattle.std.specs.Prelude.{◌≡◌, ◌+◌, ◌<◌, ◌≤◌, ◌++◌, ℕ, true, false, length, take, drop, IfOk, IfErr, IfSome, IsErrOf};
 ghost use Rattle.std.specs.FinMap.{get};
 ghost use Rattle.outside.specs.Count.{RoseBy};
 ghost use Rattle.outside.specs.Tree.{is_file, content};
 ghost use Rattle.outside.specs.Whole.{HoldsFile};
+ghost use Rattle.outside.specs.Asked as asked;
+ghost use Rattle.outside.specs.Answered.{size_told, StatMeans, LastRead, LoadEnded, LoadStopped};
 
 use crate::failures::Failed;
-use crate::trees::{Kind, ReadError, Tree};
+use crate::trees::{Kind, ReadError, Stat, Tree};
 use path_text::Path;
 use std::alloc::{AllocError, Global};
 use thiserror::Error;
@@ -65,22 +67,22 @@ impl From<AllocError> for LoadError {
 }
 
 /// The bytes of the file at the path, up to the size that `stat` tells, and fewer where reading comes to an end before. It
-/// ends by itself: each turn reads one byte at least, or is the last.
+/// ends by itself: each turn reads one byte at least, or is the last. Room for all the bytes is taken before any is read.
 pub fn load<R: Tree>(alloc: Global, reader: &mut R, path: &Path) -> Result<Vec<u8>, LoadError>
     ensures whole { IfOk result (λ bytes. IfSome (R.tree reader.old) (λ files. HoldsFile bytes.items (get files path.now))) }
     ensures no_file { IsErrOf result LoadError.NoFile → IfSome (R.tree reader.old) (λ files. is_file (get files path.now) ≡ false) }
     ensures same { R.tree reader.new ≡ R.tree reader.old }
     ensures count { RoseBy 0 (R.count reader.old) (R.count reader.new) }
     ensures cause { IsErrOf result LoadError.Failed → RoseBy 1 (R.count reader.old) (R.count reader.new) }
+
+    // Over all files, also those that tell no tree, by what the reader answered.
+    ensures ended { IfOk result (λ bytes. LoadEnded R.gives path.now bytes.items reader.old reader.new) }
+    ensures stopped { IfErr result (LoadStopped R.gives path.now reader.old reader.new) }
 {
     let size = size_of(reader, path)?;
-    let mut bytes = Vec::new(alloc);
-    while bytes.len() < size {
-        let room = (size - bytes.len()).min(PIECE);
-        if read_on(reader, path, &mut bytes, room)? == 0 {
-            return Ok(bytes);
-        }
-    }
+    let mut bytes = vec![in alloc; 0u8; size]?;
+    let n = fill(reader, path, bytes.as_mut_slice())?;
+    bytes.truncate(n);
     Ok(bytes)
 }
 
@@ -91,39 +93,65 @@ fn size_of<R: Tree>(reader: &mut R, path: &Path) -> Result<usize, LoadError>
     ensures same { R.tree reader.new ≡ R.tree reader.old }
     ensures count { RoseBy 0 (R.count reader.old) (R.count reader.new) }
     ensures cause { IsErrOf result LoadError.Failed → RoseBy 1 (R.count reader.old) (R.count reader.new) }
+    ensures means { StatMeans R.gives path.now size_told result reader.old reader.new }
 {
-    let Some(stat) = reader.stat(path)? else {
+    by_stat(reader.stat(path))
+}
+
+// What the answer of `stat` says of the size of a file that is to be loaded.
+fn by_stat(told: Result<Option<Stat>, Failed>) -> Result<usize, LoadError>
+    ensures { result ≡ size_told told }
+{
+    let Some(stat) = told? else {
         return Err(LoadError::NoFile);
     };
     if stat.kind != Kind::File {
         return Err(LoadError::NoFile);
     }
-    let Ok(size) = usize::try_from(stat.size) else {
-        return Err(LoadError::OutOfMemory);
-    };
-    Ok(size)
+    Ok(stat.size as usize)
 }
 
-// Reads on behind the bytes, so many at most, and answers how many.
-fn read_on<R: Tree>(
-    reader: &mut R,
-    path: &Path,
-    bytes: &mut Vec<u8>,
-    room: usize,
-) -> Result<usize, LoadError>
-    requires some { 0 < room }
-    requires fits { length bytes.old.items + room < 2 ^ 64 }
-    ensures len { IfOk result (λ n. (n ≤ room) × (length bytes.new.items ≡ length bytes.old.items + n)) }
-    ensures told { IfOk result (λ n. IfSome (R.tree reader.old) (λ files. bytes.new.items ≡ bytes.old.items ++ take n (drop (length bytes.old.items) (content (get files path.now))))) }
-    ensures goes_on { IfOk result (λ n. IfSome (R.tree reader.old) (λ files. length bytes.old.items < length (content (get files path.now)) → 0 < n)) }
-    ensures no_file { IsErrOf result LoadError.NoFile → IfSome (R.tree reader.old) (λ files. is_file (get files path.now) ≡ false) }
+// Reads the file from its front on, until the buffer is full or a read gives nothing, and answers how many bytes.
+fn fill<R: Tree>(reader: &mut R, path: &Path, bytes: &mut [u8]) -> Result<usize, ReadError>
+    ensures most { IfOk result (λ n. n ≤ length bytes.new) }
+    ensures told { IfOk result (λ n. IfSome (R.tree reader.old) (λ files. take n bytes.new ≡ take n (content (get files path.now)))) }
+    ensures all { IfOk result (λ n. IfSome (R.tree reader.old) (λ files. length bytes.new ≤ length (content (get files path.now)) → n ≡ length bytes.new)) }
+    ensures no_file { IsErrOf result ReadError.NotFile → IfSome (R.tree reader.old) (λ files. is_file (get files path.now) ≡ false) }
     ensures same { R.tree reader.new ≡ R.tree reader.old }
     ensures count { RoseBy 0 (R.count reader.old) (R.count reader.new) }
-    ensures cause { IsErrOf result LoadError.Failed → RoseBy 1 (R.count reader.old) (R.count reader.new) }
+    ensures cause { IsErrOf result ReadError.Failed → RoseBy 1 (R.count reader.old) (R.count reader.new) }
+    ensures ended { IfOk result (λ n. n < length bytes.new → LastRead R.gives path.now n (Ok 0) reader.new) }
+    ensures stopped { IfErr result (λ e. (at : ℕ) × LastRead R.gives path.now at (Err e) reader.new) }
 {
-    let at = bytes.len();
-    bytes.resize(at + room, 0)?;
-    let n = reader.read(path, at as u64, &mut bytes[at..])?;
-    bytes.truncate(at + n);
-    Ok(n)
+    let mut at = 0;
+    while at < bytes.len() {
+        let n = read_piece(reader, path, bytes, at)?;
+        if n == 0 {
+            return Ok(at);
+        }
+        at += n;
+    }
+    Ok(at)
+}
+
+// Reads the file from a place on, into the buffer at the same place.
+fn read_piece<R: Tree>(
+    reader: &mut R,
+    path: &Path,
+    bytes: &mut [u8],
+    at: usize,
+) -> Result<usize, ReadError>
+    requires { at < length bytes.old }
+    ensures most { IfOk result (λ n. at + n ≤ length bytes.new) }
+    ensures kept { take at bytes.new ≡ take at bytes.old }
+    ensures told { IfOk result (λ n. IfSome (R.tree reader.old) (λ files. take n (drop at bytes.new) ≡ take n (drop at (content (get files path.now))))) }
+    ensures goes_on { IfOk result (λ n. IfSome (R.tree reader.old) (λ files. at < length (content (get files path.now)) → 0 < n)) }
+    ensures no_file { IsErrOf result ReadError.NotFile → IfSome (R.tree reader.old) (λ files. is_file (get files path.now) ≡ false) }
+    ensures same { R.tree reader.new ≡ R.tree reader.old }
+    ensures count { RoseBy 0 (R.count reader.old) (R.count reader.new) }
+    ensures cause { IsErrOf result ReadError.Failed → RoseBy 1 (R.count reader.old) (R.count reader.new) }
+    ensures given { R.gives reader.old (asked.read path.now at result) reader.new }
+{
+    let end = at + (bytes.len() - at).min(PIECE);
+    reader.read(path, at as u64, &mut bytes[at..end])
 }

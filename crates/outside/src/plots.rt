@@ -61,7 +61,10 @@ pub trait Plot {
     ghost use Rattle.outside.specs.Tree.{Files};
     ghost use Rattle.outside.specs.Writes.{Area, is_open, make_refusal, write_refusal, remove_file_refusal, remove_dir_refusal, empty_dir, new_file, written, HasPlace, Answers, may_make, may_change, may_empty};
     ghost use Rattle.std.specs.FinMap as map;
-    ghost use Rattle.std.specs.Prelude.{[]};
+    ghost use Rattle.outside.specs.Asked.{Write};
+    ghost use Rattle.outside.specs.Asked as asked;
+    ghost use Rattle.std.specs.Prelude.{[], List, Result};
+    ghost use Rattle.outside.specs.declared.plots.WriteError as refused;
 
     /// The nodes by their paths, where the object tells them.
     ghost tree: { Self → Option Files };
@@ -71,6 +74,10 @@ pub trait Plot {
 
     /// Where it may write.
     ghost area: { Self → Area };
+
+    /// Which answer a write at a path may have, and what it leaves: a relation of the implementation's own. What is written for
+    /// all files knows nothing of it, so it can tell of an answer only where a call gave it.
+    ghost gives: { Self → List ℕ → Write → Result (Unit {0}) refused.WriteError → Self → Type 0 } = { λ _ _ _ _ _. Unit {0} };
 
     /// How often it, and what it took back, have failed.
     fn faults(&self) -> u64
@@ -84,7 +91,8 @@ pub trait Plot {
         ensures tells { is_some (tree self.new) ≡ is_some (tree self.old) }
         ensures area { area self.new ≡ area self.old }
         ensures count { RoseBy 0 (count self.old) (count self.new) }
-        ensures cause { IsErrOf result WriteError.Failed → RoseBy 1 (count self.old) (count self.new) };
+        ensures cause { IsErrOf result WriteError.Failed → RoseBy 1 (count self.old) (count self.new) }
+        ensures given { gives self.old path.now asked.make_dir result self.new };
 
     /// Makes an empty file without a time.
     fn make_file(&mut self, alloc: Global, path: &Path) -> Result<(), WriteError>
@@ -94,7 +102,8 @@ pub trait Plot {
         ensures tells { is_some (tree self.new) ≡ is_some (tree self.old) }
         ensures area { area self.new ≡ area self.old }
         ensures count { RoseBy 0 (count self.old) (count self.new) }
-        ensures cause { IsErrOf result WriteError.Failed → RoseBy 1 (count self.old) (count self.new) };
+        ensures cause { IsErrOf result WriteError.Failed → RoseBy 1 (count self.old) (count self.new) }
+        ensures given { gives self.old path.now asked.make_file result self.new };
 
     /// Writes bytes over those of a file from a place on, and past its end.
     fn write_at(
@@ -111,7 +120,8 @@ pub trait Plot {
         ensures tells { is_some (tree self.new) ≡ is_some (tree self.old) }
         ensures area { area self.new ≡ area self.old }
         ensures count { RoseBy 0 (count self.old) (count self.new) }
-        ensures cause { IsErrOf result WriteError.Failed → RoseBy 1 (count self.old) (count self.new) };
+        ensures cause { IsErrOf result WriteError.Failed → RoseBy 1 (count self.old) (count self.new) }
+        ensures given { gives self.old path.now (asked.write_at at bytes.now) result self.new };
 
     /// Removes what is no directory.
     fn remove_file(&mut self, alloc: Global, path: &Path) -> Result<(), WriteError>
@@ -121,7 +131,8 @@ pub trait Plot {
         ensures tells { is_some (tree self.new) ≡ is_some (tree self.old) }
         ensures area { area self.new ≡ area self.old }
         ensures count { RoseBy 0 (count self.old) (count self.new) }
-        ensures cause { IsErrOf result WriteError.Failed → RoseBy 1 (count self.old) (count self.new) };
+        ensures cause { IsErrOf result WriteError.Failed → RoseBy 1 (count self.old) (count self.new) }
+        ensures given { gives self.old path.now asked.remove_file result self.new };
 
     /// Removes an empty directory.
     fn remove_dir(&mut self, alloc: Global, path: &Path) -> Result<(), WriteError>
@@ -131,5 +142,6 @@ pub trait Plot {
         ensures tells { is_some (tree self.new) ≡ is_some (tree self.old) }
         ensures area { area self.new ≡ area self.old }
         ensures count { RoseBy 0 (count self.old) (count self.new) }
-        ensures cause { IsErrOf result WriteError.Failed → RoseBy 1 (count self.old) (count self.new) };
+        ensures cause { IsErrOf result WriteError.Failed → RoseBy 1 (count self.old) (count self.new) }
+        ensures given { gives self.old path.now asked.remove_dir result self.new };
 }

@@ -1,15 +1,17 @@
 //! Whole files, written.
-ghost use Rattle.std.specs.Prelude.{◌≡◌, true, false, [], Some, None, OnOk, OnErr, IfOk, IfErr, IfSome, IsErrOf, IsTrue, is_some};
+ghost use Rattle.std.specs.Prelude.{◌≡◌, ◌≢◌, ◌⊎◌, true, false, [], length, Some, None, Ok, Err, OnOk, OnErr, IfOk, IfErr, IfSome, IsErrOf, IsTrue, is_some};
 ghost use Rattle.std.specs.FinMap as map;
 ghost use Rattle.outside.specs.Count.{RoseBy};
 ghost use Rattle.outside.specs.Tree.{is_file, is_dir};
 ghost use Rattle.outside.specs.Writes.{all_but, is_open, make_refusal, new_file, SameBut};
 ghost use Rattle.outside.specs.Whole.{can_put, Saves, Holds, IsOld};
+ghost use Rattle.outside.specs.Asked as asked;
+ghost use Rattle.outside.specs.Answered.{over_told, place_told, LookFound, LookStopped, LastWrite, Cleared, WroteFront, SaveEnded, SaveStopped};
 
 use crate::failures::Failed;
 use crate::grounds::Ground;
 use crate::plots::{Plot, WriteError};
-use crate::trees::{Kind, Tree};
+use crate::trees::{Kind, Stat, Tree};
 use path_text::{OutOfMemory, Path};
 use std::alloc::Global;
 use thiserror::Error;
@@ -82,6 +84,10 @@ pub fn save<G: Ground>(
     ensures area { G.area ground.new ≡ G.area ground.old }
     ensures count { RoseBy 0 (G.count ground.old) (G.count ground.new) }
     ensures cause { IsErrOf result SaveError.Failed → RoseBy 1 (G.count ground.old) (G.count ground.new) }
+
+    // Over all files, also those that tell no tree, by what was answered.
+    ensures ended { OnOk result (SaveEnded G.Reader.gives G.gives path.now bytes.now ground.new) }
+    ensures stopped { IfErr result (SaveStopped G.Reader.gives G.gives path.now ground.old ground.new) }
 {
     let _ = path.text(); // tells that it is a path
     let Some(parent) = path.parent()? else {
@@ -106,6 +112,9 @@ fn find_old<G: Ground>(
     ensures area { G.area ground.new ≡ G.area ground.old }
     ensures count { RoseBy 0 (G.count ground.old) (G.count ground.new) }
     ensures cause { IsErrOf result SaveError.Failed → RoseBy 1 (G.count ground.old) (G.count ground.new) }
+    ensures found { IfOk result (LookFound G.Reader.gives parent.now path.now) }
+    ensures stopped { IfErr result (λ e. LookStopped G.Reader.gives parent.now path.now e ⊎ ((e ≡ SaveError.OutOfMemory) × (ground.new ≡ ground.old))) }
+    ensures memory { IsErrOf result SaveError.OutOfMemory → ground.new ≡ ground.old }
 {
     let _ = ground.faults(); // tells that the count is a number of 64 bits
     let mut reader = ground.reader(alloc)?;
@@ -120,14 +129,34 @@ fn look<R: Tree>(reader: &mut R, path: &Path, parent: &Path) -> Result<bool, Sav
     ensures same { R.tree reader.new ≡ R.tree reader.old }
     ensures count { RoseBy 0 (R.count reader.old) (R.count reader.new) }
     ensures cause { IsErrOf result SaveError.Failed → RoseBy 1 (R.count reader.old) (R.count reader.new) }
+    ensures found { IfOk result (LookFound R.gives parent.now path.now) }
+    ensures stopped { IfErr result (LookStopped R.gives parent.now path.now) }
+    ensures memory { result ≢ Err SaveError.OutOfMemory }
 {
-    let Some(over) = reader.stat(parent)? else {
+    match by_over(reader.stat(parent)) {
+        Ok(()) => by_place(reader.stat(path)),
+        Err(refused) => Err(refused),
+    }
+}
+
+// What the answer of `stat` at the path over a file says of saving the file.
+fn by_over(told: Result<Option<Stat>, Failed>) -> Result<(), SaveError>
+    ensures { result ≡ over_told told }
+{
+    let Some(over) = told? else {
         return Err(SaveError::NoPlace);
     };
     if over.kind != Kind::Dir {
         return Err(SaveError::NoPlace);
     }
-    let Some(here) = reader.stat(path)? else {
+    Ok(())
+}
+
+// Whether there is an old file, by the answer of `stat` at the path of a file that is to be saved.
+fn by_place(told: Result<Option<Stat>, Failed>) -> Result<bool, SaveError>
+    ensures { result ≡ place_told told }
+{
+    let Some(here) = told? else {
         return Ok(false);
     };
     if here.kind != Kind::File {
@@ -147,6 +176,8 @@ fn clear<G: Ground>(alloc: Global, ground: &mut G, path: &Path, old: bool) -> Re
     ensures area { G.area ground.new ≡ G.area ground.old }
     ensures count { RoseBy 0 (G.count ground.old) (G.count ground.new) }
     ensures cause { IsErrOf result SaveError.Failed → RoseBy 1 (G.count ground.old) (G.count ground.new) }
+    ensures done { OnOk result (Cleared G.gives path.now old ground.old ground.new) }
+    ensures stopped { IfErr result (λ e. LastWrite G.gives path.now e ground.new) }
 {
     if old {
         ground.remove_file(alloc, path)?;
@@ -166,6 +197,8 @@ fn make_empty<G: Ground>(alloc: Global, ground: &mut G, path: &Path) -> Result<(
     ensures area { G.area ground.new ≡ G.area ground.old }
     ensures count { RoseBy 0 (G.count ground.old) (G.count ground.new) }
     ensures cause { IsErrOf result SaveError.Failed → RoseBy 1 (G.count ground.old) (G.count ground.new) }
+    ensures done { OnOk result (G.gives ground.old path.now asked.make_file (Ok tt) ground.new) }
+    ensures stopped { IfErr result (λ e. LastWrite G.gives path.now e ground.new) }
 {
     ground.make_file(alloc, path)?;
     Ok(())
@@ -187,6 +220,8 @@ fn write_all<G: Ground>(
     ensures area { G.area ground.new ≡ G.area ground.old }
     ensures count { RoseBy 0 (G.count ground.old) (G.count ground.new) }
     ensures cause { IsErrOf result SaveError.Failed → RoseBy 1 (G.count ground.old) (G.count ground.new) }
+    ensures done { OnOk result (WroteFront G.gives path.now bytes.now (length bytes.now) ground.old ground.new) }
+    ensures stopped { IfErr result (λ e. LastWrite G.gives path.now e ground.new) }
 {
     let mut at = 0;
     while at < bytes.len() {

@@ -62,12 +62,18 @@ pub trait Tree {
     ghost use Rattle.outside.specs.Tree.{Files, is_dir, is_file, stat_of, Lists, AreNames, IsTree, Reads};
     ghost use Rattle.std.specs.FinMap as map;
     ghost use Rattle.std.specs.Option.{option_map};
+    ghost use Rattle.outside.specs.Asked.{Asked};
+    ghost use Rattle.outside.specs.Asked as asked;
 
     /// The nodes by their paths, where the object tells them.
     ghost tree: { Self → Option Files };
 
     /// How often it has failed.
     ghost count: { Self → ℕ };
+
+    /// Which answer a call may have, and what it leaves: a relation of the implementation's own. What is written for every
+    /// tree knows nothing of it, so it can tell of an answer only where a call gave it.
+    ghost gives: { Self → Asked → Self → Type 0 } = { λ _ _ _. Unit {0} };
 
     /// How often it has failed.
     fn faults(&self) -> u64
@@ -80,7 +86,8 @@ pub trait Tree {
         ensures told { IfOk result (λ answer. IfSome (tree self.old) (λ files. answer ≡ option_map stat_of (map.get files path.now))) }
         ensures size { IfOk result (λ answer. IfSome answer (λ stat. stat.kind ≢ Kind.File → stat.size ≡ 0)) }
         ensures ok { OnOk result (RoseBy 0 (count self.old) (count self.new)) }
-        ensures cause { OnErr result (RoseBy 1 (count self.old) (count self.new)) };
+        ensures cause { OnErr result (RoseBy 1 (count self.old) (count self.new)) }
+        ensures given { gives self.old (asked.stat path.now result) self.new };
 
     /// The names in the directory at the path. Names that are no text are counted as `unnamed`, and as so many faults.
     fn list(&mut self, alloc: Global, path: &Path) -> Result<Listing, ListError>
@@ -91,10 +98,12 @@ pub trait Tree {
         ensures names { IfOk result (λ listing. AreNames path.now listing.0) }
         ensures unnamed { IfOk result (λ listing. RoseBy listing.1 (count self.old) (count self.new)) }
         ensures cause { IsErrOf result ListError.Failed → RoseBy 1 (count self.old) (count self.new) }
-        ensures err { OnErr result (RoseBy 0 (count self.old) (count self.new)) };
+        ensures err { OnErr result (RoseBy 0 (count self.old) (count self.new)) }
+        ensures given { gives self.old (asked.list path.now result) self.new };
 
     /// Reads the file at the path from a place on, into the front of `into`, and answers how many bytes: one at least where
-    /// neither is at its end. What `into` holds behind them, and after a refusal, is not said.
+    /// neither is at its end. Where no file is there, nothing is put into `into`. What it holds behind the bytes read, and
+    /// after `Failed`, is not said, since no system says it.
     fn read(&mut self, path: &Path, at: u64, into: &mut [u8]) -> Result<usize, ReadError>
         ensures valid { IfSome (tree self.old) IsTree }
         ensures same { tree self.new ≡ tree self.old }
@@ -102,5 +111,8 @@ pub trait Tree {
         ensures told { IfOk result (λ n. IfSome (tree self.old) (λ files. Reads files path.now at into.new n)) }
         ensures not_file { IsErrOf result ReadError.NotFile → IfSome (tree self.old) (λ files. is_file (map.get files path.now) ≡ false) }
         ensures cause { IsErrOf result ReadError.Failed → RoseBy 1 (count self.old) (count self.new) }
-        ensures count { RoseBy 0 (count self.old) (count self.new) };
+        ensures count { RoseBy 0 (count self.old) (count self.new) }
+        ensures size { length into.new ≡ length into.old }
+        ensures untouched { IsErrOf result ReadError.NotFile → into.new ≡ into.old }
+        ensures given { gives self.old (asked.read path.now at result) self.new };
 }

@@ -6,7 +6,7 @@ use Rattle.std.specs.List.{slice_split, list_any}
 use Rattle.std.proofs.lemmas.Bool.Decides.{nat_tests}
 use Rattle.path_text.specs.declared.errors.PathError.{PathError}
 use Rattle.path_text.specs.Path.{is_slash, name_fault, first_fault, refusal, is_name, joined}
-use Rattle.outside.specs.Names.{split_more, split_name, after_slash}
+use Rattle.outside.proofs.Names.{split_more, split_name, after_slash}
 use Rattle.test_tree.specs.Nodes.{name_of, path_of}
 use Rattle.test_tree.proofs.Numbered.{name_fine}
 use Rattle.test_tree.proofs.Placed.{path_of-zero, path_of-suc, path_fits}

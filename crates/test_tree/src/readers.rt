@@ -1,5 +1,5 @@
 //! A reader of the made-up tree.
-ghost use Rattle.std.specs.Prelude.{◌≡◌, ◌≢◌, ◌≤◌, ◌↔◌, length, Some, true, false, Err, IfOk, IfSome, IsErrOf, IsOk};
+ghost use Rattle.std.specs.Prelude.{◌≡◌, ◌≢◌, ◌≤◌, ◌↔◌, length, Some, true, false, Err, OnErr, IfOk, IfSome, IsErrOf, IsOk};
 ghost use Rattle.std.specs.Option.{option_map};
 ghost use Rattle.std.specs.FinMap as map;
 ghost use Rattle.outside.specs.Count.{RoseBy};
@@ -83,6 +83,8 @@ impl Tree for TestReader {
         ensures not_file { IsErrOf result ReadError.NotFile ↔ (is_file (map.get self.old path.now) ≡ false) }
         ensures most { IfOk result (λ n. n ≤ length into.new) }
         ensures told { IfOk result (λ n. Reads self.old path.now at into.new n) }
+        ensures size { length into.new ≡ length into.old }
+        ensures kept { OnErr result (into.new ≡ into.old) }
         ensures same { self.new ≡ self.old }
     {
         self.reader.read(path, at, into)

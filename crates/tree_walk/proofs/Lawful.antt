@@ -16,8 +16,8 @@ use Rattle.path_text.specs.Order.{path_cmp}
 use Rattle.path_text.proofs.Preorder.{precedes, precedes-Less, front-joined}
 use Rattle.path_text.specs.Total.{path_cmp_total}
 use Rattle.outside.specs.Tree.{Files, Node, IsTree, is_dir_body, name_below}
-use Rattle.outside.specs.Names.{not_long, placed_path}
-use Rattle.outside.specs.Children.{child_is}
+use Rattle.outside.proofs.Names.{not_long, placed_path}
+use Rattle.outside.proofs.Children.{child_is}
 use Rattle.flat_list.specs.declared.entries.Entry.{Entry}
 use Rattle.flat_list.specs.declared.entries.Mark.TheVariants as mark
 use Rattle.tree_walk.proofs.Lined.{Lined}

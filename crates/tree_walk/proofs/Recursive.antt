@@ -4,7 +4,7 @@ use Rattle.std.specs.List.{AllByRecursion, flat_map}
 use Rattle.std.specs.FinMap.{get}
 use Rattle.path_text.specs.Path.{joined}
 use Rattle.outside.specs.Tree.{Files, IsTree, names_in, is_dir}
-use Rattle.outside.specs.Names.{children_are_names}
+use Rattle.outside.proofs.Names.{children_are_names}
 use Rattle.tree_walk.specs.Walk.{Answer, told, stat_failed, list_failed, Answers, entry_of, children_of, walk_down, walk}
 use Rattle.tree_walk.proofs.Lined.{AreChildren}
 use Rattle.tree_walk.proofs.Lists.{flat_same, weaker, both}

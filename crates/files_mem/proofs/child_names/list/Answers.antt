@@ -1,8 +1,8 @@
 use Rattle.std.proofs.Common.{◌≡◌, ◌++◌, ◌∷◌, [], false, true, nat_eq, ap, ◌∙◌, sym}
 use Rattle.std.specs.List.{starts_with}
 use Rattle.path_text.specs.Order.{front}
-use Rattle.outside.specs.Children.{is_one_name}
-use Rattle.files_mem.proofs.Listed.{names_are, names_long, reading_begins, reading_other, reading_child, reading_shorter, reading_stops, reading_ends}
+use Rattle.outside.specs.Tree.{is_one_name}
+use Rattle.files_mem.proofs.Listed.{Listable, names_are, names_long, reading_begins, reading_other, reading_child, reading_shorter, reading_stops, reading_ends}
 use Rattle.files_mem.proofs.child_names.list.Goals as goal
 
 pub returns-in_default : goal.returns-in_default
@@ -10,17 +10,23 @@ returns-in_default c =
     let long = rw c.in_default.is at c.in_ok-least.ensures.long in
     let made = c.make-listing.ensures in
     let p = c.args.path.now in
-    let all = c.args.map.now.entries in
-    (ap (λ l. l.0) made ∙ sym (names_long p all long c.requires.valid) ∙ sym (names_are p all c.len.ensures.ordered), ap (λ l. l.1) made, ap (λ l. l.2) made)
+    let all = c.args.map.now.entries in (
+      ap (λ l. l.0) made ∙ sym (names_long p all long c.requires.valid) ∙ sym (names_are p all c.len.ensures.ordered),
+      ap (λ l. l.1) made,
+      ap (λ l. l.2) made,
+    )
 
 pub loop-key-init : goal.loop-key-init
 loop-key-init c =
-    let low = rw c.in-Some.is at c.in_ok-least.ensures.found in
+    let given : Listable c.args.path.now c.in-Some.least c.args.map.now.entries = record {
+      low = rw c.in-Some.is at c.in_ok-least.ensures.found;
+      sorted = c.from-entries.ensures.ordered;
+      valid = c.requires.valid;
+    } in
     let made = c.make-listing.ensures in
-    let p = c.args.path.now in
-    let all = c.args.map.now.entries in
     record {
-      reading = rw (c.from-entries.ensures.rest, ap (λ l. l.0) made) (reading_begins p c.in-Some.least all low c.from-entries.ensures.ordered c.requires.valid);
+      given = given;
+      reading = rw (c.from-entries.ensures.rest, ap (λ l. l.0) made) (reading_begins given);
       unnamed = ap (λ l. l.1) made;
       far = ap (λ l. l.2) made;
     }
@@ -28,36 +34,35 @@ loop-key-init c =
 pub returns-in_default-strip : goal.returns-in_default-strip
 returns-in_default-strip c =
     let inv = c.loop-key.invariant in
-    let low = rw c.in-Some.is at c.in_ok-least.ensures.found in
     let off = rw c.in_default-strip.is at c.strip.ensures.off in
     let p = c.args.path.now in
-    let all = c.args.map.now.entries in
-    let key = c.in-Some-next.key.now in
-    let off_front : starts_with nat_eq key (front p) ≡ false = (λ i. starts_with nat_eq (sym c.text.ensures.text i) (sym (c.deref.ensures ∙ c.in_ok-front.ensures) i)) ∙ off in (
-      reading_stops p c.in-Some.least all c.loop-key.entries c.loop-key.listing.0 key c.in-Some-next.node.now c.next.new.self inv.reading c.in-Some-next.ensures.steps low off_front c.from-entries.ensures.ordered
-          ∙ sym (names_are p all c.len.ensures.ordered),
+    let text = c.deref.ensures ∙ c.in_ok-front.ensures in
+    let off_front : starts_with nat_eq c.in-Some-next.key.now (front p) ≡ false =
+    (λ i. starts_with nat_eq (sym c.text.ensures.text i) (sym text i)) ∙ off in (
+      reading_stops inv.given inv.reading c.in-Some-next.ensures.steps off_front ∙ sym (names_are p c.args.map.now.entries c.len.ensures.ordered),
       inv.unnamed,
       inv.far,
     )
 
 pub loop-key-smaller-then-is_one_name : goal.loop-key-smaller-then-is_one_name
 loop-key-smaller-then-is_one_name c =
-    reading_shorter c.args.path.now c.in-Some.least c.args.map.now.entries c.loop-key.entries c.loop-key.listing.0 c.in-Some-next.key.now c.in-Some-next.node.now c.next.new.self c.in_ok-entries.entries
-    c.loop-key.invariant.reading c.in-Some-next.ensures.steps c.from-entries.ensures.ordered c.in_ok-entries.ensures
+    let inv = c.loop-key.invariant in
+    reading_shorter inv.reading c.in-Some-next.ensures.steps inv.given.sorted c.in_ok-entries.ensures
 
 pub loop-key-preserved-then-is_one_name : goal.loop-key-preserved-then-is_one_name
 loop-key-preserved-then-is_one_name c =
     let inv = c.loop-key.invariant in
-    let p = c.args.path.now in
-    let key = c.in-Some-next.key.now in
     let name = c.in-Some-strip.name.now in
-    let is : key ≡ front p ++ name = sym c.text.ensures.text ∙ c.in-Some-strip.ensures.on ∙ ap (λ f. f ++ name) (c.deref.ensures ∙ c.in_ok-front.ensures) in
+    let text = c.deref.ensures ∙ c.in_ok-front.ensures in
+    let is : c.in-Some-next.key.now ≡ front c.args.path.now ++ name =
+    sym c.text.ensures.text ∙ c.in-Some-strip.ensures.on ∙ ap (λ f. f ++ name) text in
     let one : is_one_name name ≡ true = sym c.is_one_name.ensures ∙ c.if-is_one_name.true in
     let added = c.in_ok-add.ensures.ok in
-    let listed : c.add.new.self.0 ≡ c.loop-key.listing.0 ++ name ∷ [] = ap (λ l. l.0) added ∙ ap (λ n. c.loop-key.listing.0 ++ n ∷ []) c.in_ok-from_str.ensures.ok in
+    let before = c.loop-key.listing.0 in
+    let listed : c.add.new.self.0 ≡ before ++ name ∷ [] = ap (λ l. l.0) added ∙ ap (λ n. before ++ n ∷ []) c.in_ok-from_str.ensures.ok in
     record {
-      reading = rw listed (reading_child p c.in-Some.least c.args.map.now.entries c.loop-key.entries c.loop-key.listing.0 key name c.in-Some-next.node.now c.next.new.self c.in_ok-entries.entries
-          inv.reading c.in-Some-next.ensures.steps is one c.from-entries.ensures.ordered c.requires.valid c.in_ok-entries.ensures);
+      given = inv.given;
+      reading = rw listed (reading_child name inv.given inv.reading c.in-Some-next.ensures.steps is one c.in_ok-entries.ensures);
       unnamed = ap (λ l. l.1) added ∙ inv.unnamed;
       far = ap (λ l. l.2) added ∙ inv.far;
     }
@@ -65,20 +70,22 @@ loop-key-preserved-then-is_one_name c =
 pub loop-key-preserved : goal.loop-key-preserved
 loop-key-preserved c =
     let inv = c.loop-key.invariant in
-    let p = c.args.path.now in
-    let key = c.in-Some-next.key.now in
     let name = c.in-Some-strip.name.now in
-    let is : key ≡ front p ++ name = sym c.text.ensures.text ∙ c.in-Some-strip.ensures.on ∙ ap (λ f. f ++ name) (c.deref.ensures ∙ c.in_ok-front.ensures) in
+    let text = c.deref.ensures ∙ c.in_ok-front.ensures in
+    let is : c.in-Some-next.key.now ≡ front c.args.path.now ++ name =
+    sym c.text.ensures.text ∙ c.in-Some-strip.ensures.on ∙ ap (λ f. f ++ name) text in
     let other : is_one_name name ≡ false = sym c.is_one_name.ensures ∙ c.if-is_one_name.false in
     record {
-      reading = reading_other p c.in-Some.least c.args.map.now.entries c.loop-key.entries c.loop-key.listing.0 key name c.in-Some-next.node.now c.next.new.self inv.reading c.in-Some-next.ensures.steps is other;
+      given = inv.given;
+      reading = reading_other name inv.reading c.in-Some-next.ensures.steps is other;
       unnamed = inv.unnamed;
       far = inv.far;
     }
 
 pub returns : goal.returns
 returns c =
-    let inv = c.loop-key.invariant in
-    let p = c.args.path.now in
-    let all = c.args.map.now.entries in
-    (reading_ends p c.in-Some.least all c.loop-key.entries c.loop-key.listing.0 inv.reading c.in_default-next.ensures.steps.0 ∙ sym (names_are p all c.len.ensures.ordered), inv.unnamed, inv.far)
+    let inv = c.loop-key.invariant in (
+      reading_ends inv.reading c.in_default-next.ensures.steps.0 ∙ sym (names_are c.args.path.now c.args.map.now.entries c.len.ensures.ordered),
+      inv.unnamed,
+      inv.far,
+    )

@@ -1,4 +1,5 @@
 use Rattle.outside.proofs.Saved.{saved, can_long, never_root, no_parent, has_parent}
+use Rattle.outside.proofs.Told.{saved_so}
 use Rattle.outside.proofs.saving.save.Goals as goal
 
 pub returns-in_default-clause-told : goal.returns-in_default-clause-told
@@ -10,4 +11,13 @@ returns-clause-told g c =
     let clear = c.in_ok-clear.ensures in
     let made = c.in_ok-make_empty.ensures in
     let write = c.write_all.ensures in
-    saved _ _ _ _ _ _ _ _ _ c.in_ok-old.ensures.same clear.tells made.tells write.tells (can_long _ _ _ _ over.0 over.1 c.in_ok-old.ensures.told) clear.told made.told write.told write.no_place write.rest
+    let old = c.in_ok-old.ensures in
+    saved _ _ _ _ _ _ _ _ _ old.same clear.tells made.tells write.tells (can_long _ _ _ _ over.0 over.1 old.told)
+    clear.told made.told write.told write.no_place write.rest
+
+pub returns-clause-ended : goal.returns-clause-ended
+returns-clause-ended g c =
+    let over = has_parent _ _ _ _ c.in_ok-parent.ensures c.in-Some.is in
+    let cleared = c.in_ok-clear.ensures in
+    let made = c.in_ok-make_empty.ensures in
+    saved_so _ _ _ _ _ _ _ _ _ _ _ over.1 c.in_ok-old.ensures.found cleared.done made.done c.write_all.ensures.done

@@ -3,6 +3,7 @@ use Rattle.std.specs.Option.{is_some}
 use Rattle.outside.specs.Count.{RoseBy}
 use Rattle.outside.specs.Writes.{new_file}
 use Rattle.outside.specs.Whole.{Holds}
+use Rattle.outside.specs.Answered.{WroteFront}
 use Rattle.outside.proofs.saving.write_all.Given as goal
 
 abbrev pub invariant-loop-at : goal.invariant-loop-at
@@ -14,6 +15,7 @@ invariant-loop-at g l =
       tells : is_some (plot.tree l.ground) ≡ is_some (plot.tree l.fn.ground);
       area : plot.area l.ground ≡ plot.area l.fn.ground;
       count : RoseBy 0 (plot.count l.fn.ground) (plot.count l.ground);
+      front : WroteFront plot.gives l.path l.bytes l.at l.fn.ground l.ground;
     }
 
 abbrev pub decreases-loop-at : goal.decreases-loop-at

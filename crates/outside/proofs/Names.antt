@@ -1,0 +1,202 @@
+-- The names of the children of a directory are names, and ascend in byte order.
+use Rattle.std.proofs.Common.{◌≡◌, ℕ, ◌<◌, ◌≤◌, Bool, true, false, not, cond, ◌&&◌, ◌||◌, List, [], ◌∷◌, ◌++◌, map, length, Option, Some, None, refl, ap, ◌∙◌, sym, subst, arith, length-append, append_assoc}
+use Rattle.std.proofs.lemmas.Bool.{false≢true}
+use Rattle.std.specs.Prelude.{IsTrue, T}
+use Rattle.std.specs.Option.{is_none, is_some}
+use Rattle.std.specs.List.{slice_split, onto_first, list_any, AllByRecursion, filter_map, cons_option, Contains}
+use Rattle.std.specs.List.Sorted.{IsStrictlySortedBy}
+use Rattle.std.specs.Ordering.{nat_cmp, ordering_then, is_lt}
+use Rattle.std.specs.Cmp.{eq_by_cmp_equiv, first_so}
+use Rattle.std.specs.Cmp.Lexicographic.{slice_cmp, bytes_decides}
+use Rattle.std.specs.declared.cmp.Ordering.{Ordering}
+use Rattle.std.specs.declared.cmp.Ordering.TheVariants.{Less, Equal, Greater}
+use Rattle.std.specs.FinMap.{get, keys, entries, entries_sorted, contains_key-keys, is_sorted}
+use Rattle.std.specs.FinMap.Entries.{below_all}
+use Rattle.std.proofs.lemmas.List.Splits.{length-slice_split}
+use Rattle.std.proofs.lemmas.List.Elements.{All-from_recursion, recursion_from_All, All-contains_itself}
+use Rattle.std.proofs.lemmas.Map.Views.{list_any-from_Contains}
+use Rattle.std.proofs.lemmas.Bool.Decides.{nat_tests}
+use Rattle.path_text.specs.declared.errors.PathError.{PathError}
+use Rattle.path_text.specs.Order.{path_cmp, byte_rank, front}
+use Rattle.path_text.specs.Total.{path_cmp_total}
+use Rattle.path_text.proofs.Preorder.{front-joined}
+use Rattle.path_text.specs.Path.{is_slash, name_fault, first_fault, refusal, is_name, joined, parent_of}
+use Rattle.outside.specs.Tree.{Files, Node, IsTree, is_dir, is_root, name_below, AreNames, ChildrenAreNames}
+use Rattle.outside.proofs.Children.{child_is, one_name_parts}
+
+-- each path of a tree is one
+
+none_is : (o : Option PathError) → is_none o ≡ true → o ≡ None
+none_is None e = refl
+none_is (Some x) e = cc
+
+-- a path that has a node is one
+pub placed_path : (files : Files) (q : List ℕ) → IsTree files → is_none (get files q) ≡ false → refusal q ≡ None
+unfolding IsTree
+placed_path files q t some =
+    elim (is_root q) as (λ b. is_root q ≡ b → cond b (is_dir (get files q)) (is_none (get files q) || (is_none (refusal q) && is_dir (get files (parent_of q)))) ≡ true → refusal q ≡ None) [
+      | true ↦ λ e h. ap refusal ((bytes_decides q (47 ∷ [])).0 e)
+      | false ↦ λ e h. none_is (refusal q) (first_so (is_none (refusal q)) _ (ap (λ b. b || (is_none (refusal q) && is_dir (get files (parent_of q)))) (sym some) ∙ h))
+    ] refl (t q)
+
+not_none : (o : Option Node) → is_some o ≡ true → is_none o ≡ false
+not_none None e = absurd (false≢true e)
+not_none (Some x) e = refl
+
+pub all_weaker : {X : Type 0} (P Q : X → Type 0) → ((x : X) → P x → Q x) → (xs : List X) → AllByRecursion P xs → AllByRecursion Q xs
+all_weaker P Q t [] h = h
+all_weaker P Q t (x ∷ xs) h = (t x h.0, all_weaker P Q t xs h.1)
+
+abbrev pub AllPaths : List (List ℕ) → Type 0
+AllPaths qs = AllByRecursion (λ q. refusal q ≡ None) qs
+
+pub all_paths : (files : Files) → IsTree files → AllPaths (keys files)
+all_paths files t =
+    all_weaker (Contains (keys files)) (λ q. refusal q ≡ None)
+    (λ q c. placed_path files q t (not_none (get files q) (contains_key-keys files q ∙ list_any-from_Contains (eq_by_cmp_equiv path_cmp_total) q (keys files) c)))
+    (keys files) (recursion_from_All (Contains (keys files)) (keys files) (All-contains_itself (keys files)))
+
+-- the paths of a tree ascend
+
+both_so : (a b : Bool) → T (a && b) → T a × T b
+both_so true b h = (tt, h)
+both_so false b h = absurd h
+
+less_so : (o : Ordering) → T (is_lt o) → o ≡ Less
+less_so Less h = refl
+less_so Equal h = absurd h
+less_so Greater h = absurd h
+
+below_ascend : (x : List ℕ) (es : List (List ℕ × Node)) → T (below_all path_cmp x es) → AllByRecursion (λ y. path_cmp x y ≡ Less) (map (λ e. e.0) es)
+below_ascend x [] h = tt
+below_ascend x (e ∷ es) h = let b = both_so (is_lt (path_cmp x e.0)) (below_all path_cmp x es) h in (less_so (path_cmp x e.0) b.0, below_ascend x es b.1)
+
+sorted_ascend : (es : List (List ℕ × Node)) → T (is_sorted path_cmp es) → IsStrictlySortedBy path_cmp (map (λ e. e.0) es)
+unfolding IsStrictlySortedBy
+sorted_ascend [] h = tt
+sorted_ascend (e ∷ es) h = let b = both_so (below_all path_cmp e.0 es) (is_sorted path_cmp es) h in (below_ascend e.0 es b.0, sorted_ascend es b.1)
+
+pub keys_ascend : (files : Files) → IsStrictlySortedBy path_cmp (keys files)
+keys_ascend files = sorted_ascend (entries files) (entries_sorted files)
+
+-- a name behind a front is one, where all of it is a path
+
+some_part : (xs : List ℕ) → 0 < length (slice_split is_slash xs)
+some_part xs = omega (arith, length-slice_split is_slash xs)
+
+onto_append : (x : ℕ) (ps qs : List (List ℕ)) → 0 < length ps → onto_first x (ps ++ qs) ≡ onto_first x ps ++ qs
+onto_append x [] qs h = absurd (omega arith)
+onto_append x (p ∷ ps) qs h = refl
+
+pub split_more : (xs ys : List ℕ) → slice_split is_slash (xs ++ 47 ∷ ys) ≡ slice_split is_slash xs ++ slice_split is_slash ys
+split_more [] ys = refl
+split_more (x ∷ xs) ys =
+    let rest = split_more xs ys in
+    elim (is_slash x) as (λ b. cond b ([] ∷ slice_split is_slash (xs ++ 47 ∷ ys)) (onto_first x (slice_split is_slash (xs ++ 47 ∷ ys))) ≡ cond b ([] ∷ slice_split is_slash xs) (onto_first x (slice_split is_slash xs)) ++ slice_split is_slash ys) [
+      | true ↦ ap (λ r. [] ∷ r) rest
+      | false ↦ ap (onto_first x) rest ∙ onto_append x _ _ (some_part xs)
+    ]
+
+pub split_name : (n : List ℕ) → list_any is_slash n ≡ false → slice_split is_slash n ≡ n ∷ []
+split_name [] h = refl
+split_name (x ∷ n) h =
+    elim (is_slash x) as (λ b. (b || list_any is_slash n) ≡ false → cond b ([] ∷ slice_split is_slash n) (onto_first x (slice_split is_slash n)) ≡ (x ∷ n) ∷ []) [
+      | true ↦ λ e. cc
+      | false ↦ λ e. ap (onto_first x) (split_name n e)
+    ] h
+
+pub last_fine : (parts : List (List ℕ)) (m : List ℕ) → first_fault (parts ++ m ∷ []) ≡ None → name_fault m ≡ None
+last_fine [] m h = elim (name_fault m) as (λ f. cond (is_none f) None f ≡ None → f ≡ None) [ None ↦ λ e. refl | Some x ↦ λ e. e ] h
+last_fine (p ∷ parts) m h = last_fine parts m (elim (name_fault p) as (λ f. cond (is_none f) (first_fault (parts ++ m ∷ [])) f ≡ None → first_fault (parts ++ m ∷ []) ≡ None) [ None ↦ λ e. e | Some x ↦ λ e. cc ] h)
+
+pub after_slash : (b : ℕ) (bytes : List ℕ) → refusal (b ∷ bytes) ≡ None → 0 < length bytes → first_fault (slice_split is_slash bytes) ≡ None
+after_slash b bytes h l = grind (arith, nat_tests)
+
+name_fine : (p m : List ℕ) → refusal (front p ++ m) ≡ None → 0 < length m → list_any is_slash m ≡ false → name_fault m ≡ None
+name_fine [] m h l s = last_fine [] m (ap first_fault (sym (split_name m s)) ∙ after_slash 47 m h l)
+name_fine (a ∷ []) m h l s = last_fine [] m (ap first_fault (sym (split_name m s)) ∙ after_slash a m h l)
+name_fine (a ∷ b ∷ p) m h l s =
+    let whole : front (a ∷ b ∷ p) ++ m ≡ a ∷ ((b ∷ p) ++ 47 ∷ m) = grind (arith, nat_tests, append_assoc {A = ℕ}) in
+    last_fine (slice_split is_slash (b ∷ p)) m (ap (λ r. first_fault (slice_split is_slash (b ∷ p) ++ r)) (sym (split_name m s)) ∙ ap first_fault (sym (split_more (b ∷ p) m))
+    ∙ after_slash a ((b ∷ p) ++ 47 ∷ m) (ap refusal (sym whole) ∙ h) (omega (arith, length-append {A = ℕ})))
+
+name_by_parts : (m : List ℕ) → list_any is_slash m ≡ false → name_fault m ≡ None → is_name m ≡ true
+name_by_parts m s f = ap (λ b. not b && is_none (name_fault m)) s ∙ ap is_none f
+
+pub not_long : (x : List ℕ) → refusal x ≡ None → length x ≤ 4095
+not_long [] h = omega arith
+not_long (b ∷ bytes) h = grind (arith, nat_tests)
+
+-- the names of the children among some paths
+abbrev pub names_among : List ℕ → List (List ℕ) → List (List ℕ)
+names_among p qs = filter_map (name_below p) qs
+
+abbrev IsFine : List ℕ → List ℕ → Type 0
+IsFine p m = (is_name m ≡ true) × (length (joined p m) ≤ 4095)
+
+fine_names : (p : List ℕ) (qs : List (List ℕ)) → AllPaths qs → AllByRecursion (IsFine p) (names_among p qs)
+fine_names p [] v = tt
+fine_names p (q ∷ qs) v =
+    elim (name_below p q) as (λ o. name_below p q ≡ o → AllByRecursion (IsFine p) (cons_option o (names_among p qs))) [
+      | None ↦ λ is. fine_names p qs v.1
+      | Some m ↦ λ is.
+          let c = child_is p q m is in let o = one_name_parts m c.1 in
+          ((name_by_parts m o.1 (name_fine p m (ap refusal (sym c.0) ∙ v.0) o.0 o.1), subst (λ x. length x ≤ 4095) (c.0 ∙ front-joined p m) (not_long q v.0)), fine_names p qs v.1)
+    ] refl
+
+-- behind the same front path order is the order of the names
+
+self_equal : (a : ℕ) (rest : Ordering) → ordering_then (nat_cmp (byte_rank a) (byte_rank a)) rest ≡ rest
+self_equal a rest = grind (arith, nat_tests)
+
+behind : (f m n : List ℕ) → path_cmp (f ++ m) (f ++ n) ≡ path_cmp m n
+behind [] m n = refl
+behind (a ∷ f) m n = self_equal a (path_cmp (f ++ m) (f ++ n)) ∙ behind f m n
+
+neither : (a b : Bool) → (a || b) ≡ false → (a ≡ false) × (b ≡ false)
+neither true b e = absurd (false≢true (sym e))
+neither false b e = (refl, e)
+
+one_byte : (a b : ℕ) (r s : Ordering) → is_slash a ≡ false → is_slash b ≡ false → ordering_then (nat_cmp (byte_rank a) (byte_rank b)) r ≡ Less → (r ≡ Less → s ≡ Less) → ordering_then (nat_cmp a b) s ≡ Less
+one_byte a b r s p q e h = grind (arith, nat_tests)
+
+by_bytes : (m n : List ℕ) → list_any is_slash m ≡ false → list_any is_slash n ≡ false → path_cmp m n ≡ Less → slice_cmp nat_cmp m n ≡ Less
+by_bytes [] [] s t e = e
+by_bytes [] (b ∷ n) s t e = refl
+by_bytes (a ∷ m) [] s t e = e
+by_bytes (a ∷ m) (b ∷ n) s t e =
+    let l = neither (is_slash a) (list_any is_slash m) s in let r = neither (is_slash b) (list_any is_slash n) t in
+    one_byte a b (path_cmp m n) (slice_cmp nat_cmp m n) l.0 r.0 e (by_bytes m n l.1 r.1)
+
+later_names : (p m k : List ℕ) (qs : List (List ℕ)) → k ≡ front p ++ m → list_any is_slash m ≡ false → AllByRecursion (λ y. path_cmp k y ≡ Less) qs → AllByRecursion (λ n. slice_cmp nat_cmp m n ≡ Less) (names_among p qs)
+later_names p m k [] e s a = tt
+later_names p m k (x ∷ qs) e s a =
+    elim (name_below p x) as (λ o. name_below p x ≡ o → AllByRecursion (λ n. slice_cmp nat_cmp m n ≡ Less) (cons_option o (names_among p qs))) [
+      | None ↦ λ is. later_names p m k qs e s a.1
+      | Some n ↦ λ is.
+          let c = child_is p x n is in let o = one_name_parts n c.1 in
+          (by_bytes m n s o.1 (sym (behind (front p) m n) ∙ sym (λ i. path_cmp (e i) (c.0 i)) ∙ a.0), later_names p m k qs e s a.1)
+    ] refl
+
+names_ascend : (p : List ℕ) (qs : List (List ℕ)) → IsStrictlySortedBy path_cmp qs → IsStrictlySortedBy (slice_cmp nat_cmp) (names_among p qs)
+unfolding IsStrictlySortedBy
+names_ascend p [] s = tt
+names_ascend p (q ∷ qs) s =
+    let rest = names_ascend p qs s.1 in
+    elim (name_below p q) as (λ o. name_below p q ≡ o → IsStrictlySortedBy (slice_cmp nat_cmp) (cons_option o (names_among p qs))) [
+      | None ↦ λ is. rest
+      | Some m ↦ λ is.
+          let c = child_is p q m is in let o = one_name_parts m c.1 in
+          (later_names p m q qs c.0 o.1 s.0, rest)
+    ] refl
+
+-- among paths in path order
+pub are_names : (p : List ℕ) (qs : List (List ℕ)) → AllPaths qs → IsStrictlySortedBy path_cmp qs → AreNames p (names_among p qs)
+are_names p qs v s = record {
+  valid = All-from_recursion (λ m. IsTrue (is_name m)) (names_among p qs) (all_weaker (IsFine p) (λ m. IsTrue (is_name m)) (λ m h. h.0) (names_among p qs) (fine_names p qs v));
+  short = All-from_recursion (λ m. length (joined p m) ≤ 4095) (names_among p qs) (all_weaker (IsFine p) (λ m. length (joined p m) ≤ 4095) (λ m h. h.1) (names_among p qs) (fine_names p qs v));
+  ascend = names_ascend p qs s;
+}
+
+pub children_are_names : ChildrenAreNames
+children_are_names files path t = are_names path (keys files) (all_paths files t) (keys_ascend files)

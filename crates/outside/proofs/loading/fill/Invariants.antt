@@ -1,0 +1,18 @@
+use Rattle.std.proofs.Common.{◌≡◌, ◌-◌, ◌≤◌, length, take, IfSome}
+use Rattle.std.specs.FinMap.{get}
+use Rattle.outside.specs.Count.{RoseBy}
+use Rattle.outside.specs.Tree.{content}
+use Rattle.outside.proofs.loading.fill.Given as goal
+
+abbrev pub invariant-loop-at : goal.invariant-loop-at
+invariant-loop-at g l =
+    let reader = g.R.Tree in
+    record {
+      inside : l.at ≤ length l.bytes;
+      loaded : IfSome (reader.tree l.fn.reader) (λ files. take l.at l.bytes ≡ take l.at (content (get files l.path)));
+      same : reader.tree l.reader ≡ reader.tree l.fn.reader;
+      count : RoseBy 0 (reader.count l.fn.reader) (reader.count l.reader);
+    }
+
+abbrev pub decreases-loop-at : goal.decreases-loop-at
+decreases-loop-at g l = length l.bytes - l.at
