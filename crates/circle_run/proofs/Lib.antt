@@ -2,6 +2,7 @@ pub mod Weighed
 pub mod Counted
 pub mod Stepped
 pub mod Asked
+pub mod Choosing
 pub mod Requests
 pub mod Answering
 pub mod Services

@@ -51,7 +51,7 @@ module _ {J S T P : Type 0} (log : J → Log) (shows : S → Shown) (tells : P �
   serving_none r p asks lot count knows mine awaits asked fits =
       let all : count ≡ count - 0 = omega arith in
       record {
-        on = record { knows = knows; mine = mine; others = λ o ne s. s; me = refl; options = refl; sums_seat = refl; sums = refl; job = refl; ended = refl; asked = refl; here = refl; lost = λ l. l; awaits = awaits };
+        on = record { knows = knows; mine = mine; others = λ o ne s. s; me = refl; options = refl; sums_seat = refl; sums = refl; job = refl; ended = refl; asked = refl; tried = refl; here = refl; lost = λ l. l; awaits = awaits };
         left = asked;
         went = λ found. subst (λ (m : ℕ). SoFar log shows tells seats r p r p [] lot lot count m) all (record {
           had = found;
@@ -140,6 +140,7 @@ module _ {J S T P : Type 0} (log : J → Log) (shows : S → Shown) (tells : P �
           job = a.job ∙ b.job;
           ended = a.ended ∙ b.ended;
           asked = a.asked ∙ b.asked;
+          tried = a.tried ∙ b.tried;
           here = a.here ∙ b.here;
           lost = λ l. a.lost (b.lost l);
           awaits = a.awaits;

@@ -90,11 +90,11 @@ module _ {J S T P D : Type 0} (log : J → Log) (plain : J → D) (shows : S →
     went = λ found. (let w = turned.went found in record {
       had = w.had;
       turn = w.moves;
-      last = turn_last r.ended turn w.moves w.are;
+      last = turn_last r.ended turn w.moves w.are.kind;
       does = w.does;
       kept = w.kept;
       share = w.share;
-      idle = idles turn r.ended r p r' p' w.moves refl agrees knows w.are w.does waits;
+      idle = idles turn r.ended r p r' p' w.moves refl agrees knows w.are.kind w.does waits;
     });
   }
 

@@ -6,6 +6,7 @@ pub mod Stages
 pub mod Books
 pub mod Ranks
 pub mod Turns
+pub mod Choices
 pub mod Services
 pub mod Progress
 pub mod Ready
@@ -16,3 +17,4 @@ pub mod Fair
 pub mod Hosts
 pub mod Traced
 pub mod Outcomes
+pub mod Private

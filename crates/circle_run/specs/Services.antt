@@ -86,6 +86,7 @@ module _ {J S T P : Type 0} (log : J → Log) (shows : S → Shown) (tells : P �
     pub job : r'.job ≡ r.job
     pub ended : r'.ended ≡ r.ended
     pub asked : r'.asked ≡ r.asked
+    pub tried : r'.tried ≡ r.tried
     pub here : (shows r'.seat).here ≡ (shows r.seat).here
     pub lost : r.book.lost ≡ true → r'.book.lost ≡ true
     pub awaits : Awaits (shows r'.seat) (tells p')

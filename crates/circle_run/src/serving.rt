@@ -26,6 +26,8 @@ impl<J: Job, S, T> Rank<J, S, T> {
         ensures unasked { NobodyAsks self.old.me (P.tells post.new) }
         ensures job { self.new.job ≡ self.old.job }
         ensures ended { self.new.ended ≡ false }
+        ensures asked { self.new.asked ≡ self.old.asked }
+        ensures tried { self.new.tried ≡ self.old.tried }
         ensures here { (P.shows self.new.seat).here ≡ (P.shows self.old.seat).here }
     {
         let mut asks = [0; 64];

@@ -4,7 +4,8 @@ ghost use Rattle.sum_tree.specs.Shown.{IsLeaf, refreshed};
 ghost use Rattle.sum_tree.specs.Told.{Finishes};
 ghost use Rattle.circle_run.specs.Progress.{newest};
 ghost use Rattle.circle_run.specs.Ranks.{Knows, ServesNone, Came};
-ghost use Rattle.circle_run.specs.Turns.{Worked, Waits, AddsUp, with_service, turn_of, tallied};
+ghost use Rattle.circle_run.specs.Private.Steps.{Works};
+ghost use Rattle.circle_run.specs.Turns.{Waits, AddsUp, with_service, turn_of, tallied};
 ghost use Rattle.circle_run.specs.Ready.{IsNew, Ready, SumsReady, Turned};
 ghost use Rattle.circle_run.specs.declared.steps.Did.TheVariants.{Handled as DidHandle, Waited as DidWait};
 ghost use Rattle.circle_run.specs.declared.ranks.Turn.TheVariants.{Went as TurnWent, Waited as TurnWaited, Ended as TurnEnded};
@@ -85,7 +86,7 @@ impl<J: Job, S, T> Rank<J, S, T> {
         requires knows { Knows P.shows self.old }
         requires none { ServesNone P.shows self.old }
         requires live { self.old.ended ≡ false }
-        ensures came { Came J.log J.plain P.shows P.tells P.seats (Worked result) self.old post.old self.new post.new }
+        ensures came { Came J.log J.plain P.shows P.tells P.seats (Works P.shows P.tells result self.old post.old self.new) self.old post.old self.new post.new }
         ensures waits { result ≡ DidWait → Waits self.old.me (P.tells post.new) }
         ensures handled { result ≡ DidHandle → self.new.book.lost ≡ false → length (J.log self.new.job) ≡ length (J.log self.old.job) + 1 }
         ensures other { result ≢ DidHandle → J.log self.new.job ≡ J.log self.old.job }

@@ -1,0 +1,2 @@
+-- Definitions that the contracts of the crate's own steps alone cite: no clause of a public function rests on them, so no reader has to believe them.
+pub mod Steps
