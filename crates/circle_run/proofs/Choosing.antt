@@ -1,5 +1,5 @@
 -- The moves of a turn are a service and then the first that applies.
-use Rattle.std.proofs.Common.{◌≡◌, ◌≢◌, ℕ, zero, suc, ◌+◌, ◌<◌, ◌⊎◌, refl, sym, subst, inl, inr, ap, ◌∙◌, arith, eq-eqb, Bool, true, false, List, [], ◌∷◌, ◌++◌, length, Option, Some, None}
+use Rattle.std.proofs.Common.{◌≡◌, ◌≢◌, ℕ, zero, suc, ◌+◌, ◌-◌, ◌<◌, ◌⊎◌, refl, sym, subst, inl, inr, ap, ◌∙◌, arith, eq-eqb, Bool, true, false, List, [], ◌∷◌, ◌++◌, length, Option, Some, None}
 use Rattle.std.specs.Prelude.{if◌then◌else◌}
 use Rattle.std.specs.List.{flat_map}
 use Rattle.ring_core.specs.World.{darker, is_over}
@@ -18,7 +18,7 @@ use Rattle.circle_run.specs.Balance.{Log}
 use Rattle.circle_run.specs.Moves.{Move, handled, served, did, Side, Serves}
 use Rattle.circle_run.specs.Ranks.{DoesAll, side, Came}
 use Rattle.circle_run.specs.Turns.{Heard, Served, Acts, Worked, with_service}
-use Rattle.circle_run.specs.Choices.{Standing, Choice, to_handle, to_look, to_move, to_ask, token_or_ask, look_or_on, choice, moved_on, Chosen, ring_of, IsRing, held_after, standing, Chooses}
+use Rattle.circle_run.specs.Choices.{Standing, Choice, to_handle, to_look, to_move, to_ask, token_or_ask, look_or_on, choice, moved_on, Chosen, ring_of, IsRing, held_after, heard_after, standing, Chooses}
 use Rattle.circle_run.specs.Private.Steps.{Follows, Works}
 use Rattle.circle_run.specs.declared.steps.Did.{Did}
 use Rattle.circle_run.specs.declared.steps.Did.TheVariants.{Handled, Acted, Waited}
@@ -117,7 +117,7 @@ together some done before after me c a b s f =
       chosen = f.chosen;
     }
 
-module _ {J S T P : Type 0} (shows : S → Shown) (tells : P → Option Told) where
+module _ {J S T P : Type 0} (heard : J → Option (List ℕ)) (shows : S → Shown) (tells : P → Option Told) where
   -- what was read, and what the steps behind it leave as it was
   pub record Between (ring : Ring) (r : Rank J S T) (p : P) (r1 r2 : Rank J S T) (queue : Strings) (r3 : Rank J S T) : Type 0 where
     pub more : ring ≢ HeardOver
@@ -127,7 +127,10 @@ module _ {J S T P : Type 0} (shows : S → Shown) (tells : P → Option Told) wh
     pub tried : r2.tried ≡ r.tried
     pub lost : r2.book.lost ≡ true → queue ≡ []
     pub kept : r2.book.lost ≡ false → queue ≡ r2.queue
+    pub job : r2.job ≡ r.job
     pub held : (shows r3.seat).here ≡ held_after (choice r2.options.ranks (standing ring (record r2 { queue = queue }))) ring
+    pub heard_is : r3.book.lost ≡ false
+        → heard r3.job ≡ heard_after (choice r2.options.ranks (standing ring (record r2 { queue = queue }))) (length queue - 1) (heard r2.job)
 
 module _ {J S T P Q : Type 0} (log : J → Log) (plain : J → Q) (shows : S → Shown) (tells : P → Option Told) (seats : P → S → Type 0) where
   -- the service that followed the reading of the ring
@@ -151,16 +154,17 @@ module _ {J S T P Q : Type 0} (log : J → Log) (plain : J → Q) (shows : S →
         oldest = sym same ∙ one.1.oldest ∙ ap (λ (z : Side). flat_map (λ a. a.1) s.0 ++ z.queue) (sym one.2);
       }) b)
 
+module _ {J S T P Q : Type 0} (log : J → Log) (heard : J → Option (List ℕ)) (plain : J → Q) (shows : S → Shown) (tells : P → Option Told) (seats : P → S → Type 0) where
   -- the ring, the service and what was done after it
   pub came_worked : (ring : Ring) (some : Bool) (done : Did) (r : Rank J S T) (p : P) (r1 : Rank J S T) (p1 : P) (r2 : Rank J S T) (p2 : P) (queue : Strings) (r3 : Rank J S T) (p3 : P)
-      → Between shows tells ring r p r1 r2 queue r3 → Came log plain shows tells seats (Heard ring) r p r1 p1 → Came log plain shows tells seats (Served some) r1 p1 r2 p2
+      → Between heard shows tells ring r p r1 r2 queue r3 → Came log plain shows tells seats (Heard ring) r p r1 p1 → Came log plain shows tells seats (Served some) r1 p1 r2 p2
       → Came log plain shows tells seats (Follows done r2.me (choice r2.options.ranks (standing ring (record r2 { queue = queue })))) (record r2 { queue = queue }) p2 r3 p3
-      → Came log plain shows tells seats (Works shows tells (with_service some done) r p r3) r p r3 p3
+      → Came log plain shows tells seats (Works heard shows tells (with_service some done) r p r3) r p r3 p3
   came_worked ring some done r p r1 p1 r2 p2 queue r3 p3 between a b d =
       let c : Choice = choice r2.options.ranks (standing ring (record r2 { queue = queue })) in
       let K : List Move → Type 0 = Together some done r.queue r2.queue r2.me c in
-      let service = came_first ring some r p r1 p1 r2 p2 between.more between.queue_is a b in
-      came_as log plain shows tells seats K (Works shows tells (with_service some done) r p r3) r p r3 p3
+      let service = came_first log plain shows tells seats ring some r p r1 p1 r2 p2 between.more between.queue_is a b in
+      came_as log plain shows tells seats K (Works heard shows tells (with_service some done) r p r3) r p r3 p3
       (λ moves found k does.
       let had : r2.book.lost ≡ false = not_true r2.book.lost (λ l. true_not_false r3.book.lost (d.lost l) found) in
       let settled : queue ≡ r2.queue = between.kept had in
@@ -180,7 +184,8 @@ module _ {J S T P Q : Type 0} (log : J → Log) (plain : J → Q) (shows : S →
             left = queue;
             oldest = k.oldest ∙ ap (λ (q : Strings). flat_map (λ a. a.1) k.answers ++ q) (sym settled);
             chosen = subst (λ (x : Choice). Chosen r.me x k.next) same (subst (λ (i : ℕ). Chosen i c k.next) service.me k.chosen);
-            held = between.held ∙ ap (λ (x : Choice). held_after x ring) same;
+            held_is = between.held ∙ ap (λ (x : Choice). held_after x ring) same;
+            heard_is = between.heard_is found ∙ ap (heard_after c (length queue - 1)) (ap heard between.job) ∙ ap (λ (x : Choice). heard_after x (length queue - 1) (heard r.job)) same;
           };
         };
       })
@@ -190,22 +195,22 @@ module _ {J S T P Q : Type 0} (log : J → Log) (plain : J → Q) (shows : S →
       d)
 
   -- the end was seen
-  pub came_over : (r : Rank J S T) (p : P) (r1 : Rank J S T) (p1 : P) → IsRing r.me (tells p) HeardOver → r1.ended ≡ true
-      → Came log plain shows tells seats (Heard HeardOver) r p r1 p1 → Came log plain shows tells seats (Works shows tells Acted r p r1) r p r1 p1
-  came_over r p r1 p1 read ended a =
-      came_as log plain shows tells seats (Heard HeardOver) (Works shows tells Acted r p r1) r p r1 p1
+  pub came_over : (r : Rank J S T) (p : P) (r1 : Rank J S T) (p1 : P) → IsRing r.me (tells p) HeardOver → r1.ended ≡ true → r1.job ≡ r.job
+      → Came log plain shows tells seats (Heard HeardOver) r p r1 p1 → Came log plain shows tells seats (Works heard shows tells Acted r p r1) r p r1 p1
+  came_over r p r1 p1 read ended job a =
+      came_as log plain shows tells seats (Heard HeardOver) (Works heard shows tells Acted r p r1) r p r1 p1
       (λ moves found h does. record {
         worked = inl h;
-        chosen = record { ring = HeardOver; is = read; over = λ e. (h, ended); goes = λ more. absurd (more refl) };
+        chosen = record { ring = HeardOver; is = read; over = λ e. (h, ended, ap heard job); goes = λ more. absurd (more refl) };
       }) a
 
   -- a rank that has the same seat, and has ended where the other has
-  pub chooses_as : (r : Rank J S T) (p : P) (r1 r2 : Rank J S T) (moves : List Move) → r2.seat ≡ r1.seat → r2.ended ≡ r1.ended
-      → Chooses shows tells r p r1 moves → Chooses shows tells r p r2 moves
-  chooses_as r p r1 r2 moves seat ended c = record {
+  pub chooses_as : (r : Rank J S T) (p : P) (r1 r2 : Rank J S T) (moves : List Move) → r2.seat ≡ r1.seat → r2.ended ≡ r1.ended → r2.job ≡ r1.job
+      → Chooses heard shows tells r p r1 moves → Chooses heard shows tells r p r2 moves
+  chooses_as r p r1 r2 moves seat ended job c = record {
     ring = c.ring;
     is = c.is;
-    over = λ e. ((c.over e).0, ended ∙ (c.over e).1);
+    over = λ e. (let o = c.over e in (o.0, ended ∙ o.1, ap heard job ∙ o.2));
     goes = λ more.
         let g = c.goes more in
         record {
@@ -215,6 +220,7 @@ module _ {J S T P Q : Type 0} (log : J → Log) (plain : J → Q) (shows : S →
           left = g.left;
           oldest = g.oldest;
           chosen = g.chosen;
-          held = ap (λ (s : S). (shows s).here) seat ∙ g.held;
+          held_is = ap (λ (s : S). (shows s).here) seat ∙ g.held_is;
+          heard_is = ap heard job ∙ g.heard_is;
         };
   }

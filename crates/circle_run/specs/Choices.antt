@@ -88,8 +88,13 @@ abbrev pub held_after : Choice → Ring → Option Colour
 held_after (to_move held) ring = None
 held_after _ ring = held_of ring
 
+-- the numbers that the job heard, where it keeps them: with a string it is told how many others wait
+abbrev pub heard_after : Choice → ℕ → Option (List ℕ) → Option (List ℕ)
+heard_after to_handle waiting heard = option_map (λ numbers. numbers ++ waiting ∷ []) heard
+heard_after _ waiting heard = heard
+
 -- a service of all that ask, and then the first that applies
-pub record Goes (n me : ℕ) (x : Standing) (held' : Option Colour) (moves : List Move) : Type 0 where
+pub record Goes (n me : ℕ) (x : Standing) (held' : Option Colour) (heard heard' : Option (List ℕ)) (moves : List Move) : Type 0 where
   pub answers : List (ℕ × Strings)
   pub next : List Move
   pub are : moves ≡ served answers ∷ next
@@ -97,17 +102,18 @@ pub record Goes (n me : ℕ) (x : Standing) (held' : Option Colour) (moves : Lis
   pub left : Strings
   pub oldest : x.queue ≡ flat_map (λ a. a.1) answers ++ left
   pub chosen : Chosen me (choice n (record x { queue = left })) next
-  pub held : held' ≡ held_after (choice n (record x { queue = left })) x.ring
+  pub held_is : held' ≡ held_after (choice n (record x { queue = left })) x.ring
+  pub heard_is : heard' ≡ heard_after (choice n (record x { queue = left })) (length left - 1) heard
 
 module _ {J S T : Type 0} where
   abbrev pub standing : Ring → Rank J S T → Standing
   standing ring r = record { queue = r.queue; asked = r.asked; tried = r.tried; ring = ring }
 
-module _ {J S T P : Type 0} (shows : S → Shown) (tells : P → Option Told) where
+module _ {J S T P : Type 0} (heard : J → Option (List ℕ)) (shows : S → Shown) (tells : P → Option Told) where
   -- which moves a rank makes in a turn before the end, by what it reads of the ring: where all is over it sees that, and does nothing else.
   -- What it read is told, or else it is what the seat shows of the token afterwards
   pub record Chooses (r : Rank J S T) (p : P) (r' : Rank J S T) (moves : List Move) : Type 0 where
     pub ring : Ring
     pub is : IsRing r.me (tells p) ring
-    pub over : ring ≡ HeardOver → (moves ≡ did see_over ∷ []) × (r'.ended ≡ true)
-    pub goes : ring ≢ HeardOver → Goes r.options.ranks r.me (standing ring r) (shows r'.seat).here moves
+    pub over : ring ≡ HeardOver → (moves ≡ did see_over ∷ []) × (r'.ended ≡ true) × (heard r'.job ≡ heard r.job)
+    pub goes : ring ≢ HeardOver → Goes r.options.ranks r.me (standing ring r) (shows r'.seat).here (heard r.job) (heard r'.job) moves

@@ -44,11 +44,11 @@ module _ {J S T P Q : Type 0} (log : J → Log) (shows : S → Shown) (seats : P
     pub lost : r.book.lost ≡ true → r.queue ≡ []
     pub sums : SumsReady sums_shows sums_seats (length (log r.job)) r q
 
-module _ {J S T P D : Type 0} (log : J → Log) (plain : J → D) (shows : S → Shown) (tells : P → Option Told) (seats : P → S → Type 0) where
+module _ {J S T P D : Type 0} (log : J → Log) (heard : J → Option (List ℕ)) (plain : J → D) (shows : S → Shown) (tells : P → Option Told) (seats : P → S → Type 0) where
   -- the moves of a turn: what came of it says which there are, and before the end each is the first that applies
   pub record TurnMoves (turn : Turn) (r : Rank J S T) (p : P) (r' : Rank J S T) (moves : List Move) : Type 0 where
     pub kind : IsTurn r.ended turn moves
-    pub chosen : r.ended ≡ false → Chooses shows tells r p r' moves
+    pub chosen : r.ended ≡ false → Chooses heard shows tells r p r' moves
 
   -- what a turn comes to. Unless the rank found no memory, it is moves of a turn, which were counted and, with a trace, kept
   pub record Turned (turn : Turn) (r : Rank J S T) (p : P) (r' : Rank J S T) (p' : P) : Type 0 where

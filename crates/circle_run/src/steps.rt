@@ -1,8 +1,8 @@
 //! The steps of a turn by which a rank goes on.
-ghost use Rattle.std.specs.Prelude.{◌≡◌, ◌≢◌, ◌+◌, ◌<◌, ◌⊎◌, [], length, true, false, Some, None};
+ghost use Rattle.std.specs.Prelude.{◌≡◌, ◌≢◌, ◌+◌, ◌-◌, ◌<◌, ◌⊎◌, [], length, true, false, Some, None};
 ghost use Rattle.post_board.specs.Shown.{is_here};
 ghost use Rattle.post_board.specs.declared.answers.Ring.TheVariants.{Over as HeardOver, Elsewhere as HeardElsewhere};
-ghost use Rattle.circle_run.specs.Choices.{to_look, to_move, to_ask, choice, standing, IsRing, held_of, held_after};
+ghost use Rattle.circle_run.specs.Choices.{to_handle, to_look, to_move, to_ask, choice, standing, IsRing, held_of, held_after, heard_after};
 ghost use Rattle.circle_run.specs.Moves.{NobodyAsks};
 ghost use Rattle.circle_run.specs.Ranks.{Knows, ServesNone, Came, HandledNewest};
 ghost use Rattle.circle_run.specs.Turns.{Heard, Waits};
@@ -55,7 +55,8 @@ impl<J: Job, S, T> Rank<J, S, T> {
     fn handle_newest(&mut self)
         requires some { 0 < length self.old.queue }
         requires fresh { self.old.fresh ≡ [] }
-        ensures { HandledNewest J.log J.plain self.old self.new }
+        ensures newest { HandledNewest J.log J.plain self.old self.new }
+        ensures heard { self.new.book.lost ≡ false → J.heard self.new.job ≡ heard_after to_handle (length self.old.queue - 1) (J.heard self.old.job) }
     {
         let Some(path) = self.queue.take() else {
             unreachable!()
@@ -187,6 +188,7 @@ impl<J: Job, S, T> Rank<J, S, T> {
         requires held { (P.shows self.old.seat).here ≡ held_of ring }
         ensures came { Came J.log J.plain P.shows P.tells P.seats (Follows result self.old.me (choice self.old.options.ranks (standing ring self.old))) self.old post.old self.new post.new }
         ensures held { (P.shows self.new.seat).here ≡ held_after (choice self.old.options.ranks (standing ring self.old)) ring }
+        ensures heard { self.new.book.lost ≡ false → J.heard self.new.job ≡ heard_after (choice self.old.options.ranks (standing ring self.old)) (length self.old.queue - 1) (J.heard self.old.job) }
         ensures waits { result ≡ DidWait → Waits self.new.me (P.tells post.new) }
         ensures handled { result ≡ DidHandle → self.new.book.lost ≡ false → length (J.log self.new.job) ≡ length (J.log self.old.job) + 1 }
         ensures other { result ≢ DidHandle → J.log self.new.job ≡ J.log self.old.job }

@@ -86,7 +86,7 @@ impl<J: Job, S, T> Rank<J, S, T> {
         requires knows { Knows P.shows self.old }
         requires none { ServesNone P.shows self.old }
         requires live { self.old.ended ≡ false }
-        ensures came { Came J.log J.plain P.shows P.tells P.seats (Works P.shows P.tells result self.old post.old self.new) self.old post.old self.new post.new }
+        ensures came { Came J.log J.plain P.shows P.tells P.seats (Works J.heard P.shows P.tells result self.old post.old self.new) self.old post.old self.new post.new }
         ensures waits { result ≡ DidWait → Waits self.old.me (P.tells post.new) }
         ensures handled { result ≡ DidHandle → self.new.book.lost ≡ false → length (J.log self.new.job) ≡ length (J.log self.old.job) + 1 }
         ensures other { result ≢ DidHandle → J.log self.new.job ≡ J.log self.old.job }
@@ -106,7 +106,7 @@ impl<J: Job, S, T> Rank<J, S, T> {
         requires ready { Ready J.log P.shows P.seats Q.shows Q.seats self.old post.old sums.old }
         requires unfinished { (Q.shows self.old.sums_seat).answer ≡ None }
         ensures ready { Ready J.log P.shows P.seats Q.shows Q.seats self.new post.new sums.new }
-        ensures turned { Turned J.log J.plain P.shows P.tells P.seats result self.old post.old self.new post.new }
+        ensures turned { Turned J.log J.heard J.plain P.shows P.tells P.seats result self.old post.old self.new post.new }
         ensures others { (other : S) → (P.shows other).number ≢ self.old.me → P.seats post.old other → P.seats post.new other }
         ensures sums_others { (other : T) → (Q.shows other).number ≢ self.old.me → Q.seats sums.old other → Q.seats sums.new other }
 

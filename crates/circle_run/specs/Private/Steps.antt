@@ -13,8 +13,8 @@ pub record Follows (done : Did) (me : ℕ) (c : Choice) (moves : List Move) : Ty
   pub acts : Acts done moves
   pub chosen : Chosen me c moves
 
-module _ {J S T P : Type 0} (shows : S → Shown) (tells : P → Option Told) where
+module _ {J S T P : Type 0} (heard : J → Option (List ℕ)) (shows : S → Shown) (tells : P → Option Told) where
   -- what was done at the board in a turn before the end
   pub record Works (done : Did) (r : Rank J S T) (p : P) (r' : Rank J S T) (moves : List Move) : Type 0 where
     pub worked : Worked done moves
-    pub chosen : Chooses shows tells r p r' moves
+    pub chosen : Chooses heard shows tells r p r' moves

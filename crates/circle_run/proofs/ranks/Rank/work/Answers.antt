@@ -17,8 +17,8 @@ returns g c =
     let log : g.J.Job.log c.serve-some.new.self.job ≡ g.J.Job.log r.job = ap g.J.Job.log (served.job ∙ heard.job) in
     record {
       came = subst (λ (d : Did). Came g.J.Job.log g.J.Job.plain g.P.Post.shows g.P.Post.tells g.P.Post.seats
-          (Works g.P.Post.shows g.P.Post.tells d r c.args.post.now c.go_on-did.new.self) r c.args.post.now c.go_on-did.new.self c.go_on-did.new.post) (sym same)
-          (came_worked g.J.Job.log g.J.Job.plain g.P.Post.shows g.P.Post.tells g.P.Post.seats c.hear-ring.result c.serve-some.result c.go_on-did.result
+          (Works g.J.Job.heard g.P.Post.shows g.P.Post.tells d r c.args.post.now c.go_on-did.new.self) r c.args.post.now c.go_on-did.new.self c.go_on-did.new.post) (sym same)
+          (came_worked g.J.Job.log g.J.Job.heard g.J.Job.plain g.P.Post.shows g.P.Post.tells g.P.Post.seats c.hear-ring.result c.serve-some.result c.go_on-did.result
           r c.args.post.now c.hear-ring.new.self c.hear-ring.new.post c.serve-some.new.self c.serve-some.new.post c.settle.new.queue c.go_on-did.new.self c.go_on-did.new.post
           (record {
             more = c.in_default.not-Over;
@@ -28,7 +28,9 @@ returns g c =
             tried = served.tried ∙ ap (λ (x : _). x.tried) heard.same;
             lost = c.settle.ensures.lost;
             kept = c.settle.ensures.kept;
+            job = served.job ∙ heard.job;
             held = went.held;
+            heard_is = went.heard;
           }) heard.came served.came went.came);
       waits = λ e. subst (λ (k : ℕ). Waits k (g.P.Post.tells c.go_on-did.new.post)) (went.came.me ∙ served.came.me ∙ heard.came.me)
           (went.waits (waited_alone c.serve-some.result c.go_on-did.result (sym same ∙ e)));
