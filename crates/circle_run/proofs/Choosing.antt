@@ -16,8 +16,10 @@ use Rattle.post_board.specs.declared.answers.Ring.{Ring}
 use Rattle.post_board.specs.declared.answers.Ring.TheVariants.{Elsewhere, Here, Over as HeardOver}
 use Rattle.circle_run.specs.Balance.{Log}
 use Rattle.circle_run.specs.Moves.{Move, handled, served, did, Side, Serves}
-use Rattle.circle_run.specs.Ranks.{DoesAll, side, Came}
-use Rattle.circle_run.specs.Turns.{Heard, Served, Acts, Worked, with_service}
+use Rattle.circle_run.specs.Ranks.{DoesAll, side}
+use Rattle.circle_run.specs.Private.Steps.{Came}
+use Rattle.circle_run.specs.Turns.{Worked}
+use Rattle.circle_run.specs.Private.Steps.{Heard, Served, Acts, with_service}
 use Rattle.circle_run.specs.Choices.{Standing, Choice, to_handle, to_look, to_move, to_ask, token_or_ask, look_or_on, choice, moved_on, Chosen, ring_of, IsRing, held_after, heard_after, standing, Chooses}
 use Rattle.circle_run.specs.Private.Steps.{Follows, Works}
 use Rattle.circle_run.specs.declared.steps.Did.{Did}

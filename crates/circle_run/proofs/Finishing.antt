@@ -27,7 +27,7 @@ use Rattle.circle_run.specs.Books.{counted}
 use Rattle.circle_run.specs.Progress.{Rises, Thousands, newest, KeptOf, KeptAll}
 use Rattle.circle_run.specs.Hosts.{events_by, NoneWrote, AreAll, Same, AllEnded, rank_of, stage_of, Ran, KeptInOrder}
 use Rattle.circle_run.specs.Traced.{IsTraced, WasRun, share_in, IsProgress}
-use Rattle.circle_run.specs.Outcomes.{AreNew, ArePartsOf, IsOutcome}
+use Rattle.circle_run.specs.Private.Outcomes.{AreNew, ArePartsOf, IsOutcome}
 use Rattle.circle_run.specs.declared.outcomes.Share.{Share}
 use Rattle.circle_run.specs.declared.outcomes.Finished.{Finished}
 use Rattle.circle_run.specs.declared.settings.Options.{Options}

@@ -13,9 +13,10 @@ use Rattle.post_board.specs.Deeds.{Deed, event_of, Tells}
 use Rattle.circle_run.specs.Balance.{Log}
 use Rattle.circle_run.specs.Moves.{Move, served, Side, answer_of, amounts, events_of, AreAskers, TellsAll, batches_after, batches_after_all}
 use Rattle.circle_run.specs.Books.{counted}
-use Rattle.circle_run.specs.Ranks.{DoesAll, Knows, side, Went, Came}
-use Rattle.circle_run.specs.Turns.{Served}
-use Rattle.circle_run.specs.Services.{amounts_of, Fits, AsksOf, Awaits, Taken, Gave, Answered, SoFar, Serving}
+use Rattle.circle_run.specs.Ranks.{DoesAll, Knows, side, Went}
+use Rattle.circle_run.specs.Private.Steps.{Came}
+use Rattle.circle_run.specs.Private.Steps.{Served}
+use Rattle.circle_run.specs.Private.Services.{amounts_of, Fits, AsksOf, Awaits, Taken, Gave, Answered, SoFar, Serving}
 use Rattle.circle_run.specs.declared.lots.Lot.{Lot}
 use Rattle.circle_run.specs.declared.lots.Lot.TheVariants.{Same, ByLot}
 use Rattle.circle_run.specs.declared.books.Book.{Book}

@@ -9,15 +9,18 @@ use Rattle.ring_core.specs.declared.states.Colour.TheVariants.{Black}
 use Rattle.ring_core.specs.declared.events.Event.{Event}
 use Rattle.post_board.specs.Shown.{Shown, is_served, mixed, token_of, victim_of}
 use Rattle.post_board.specs.Told.{Told, place, asked}
-use Rattle.circle_run.specs.Turns.{Waits, with_service}
+use Rattle.circle_run.specs.Turns.{Waits}
+use Rattle.circle_run.specs.Private.Steps.{with_service}
 use Rattle.circle_run.specs.declared.steps.Did.{Did}
 use Rattle.circle_run.specs.declared.steps.Did.TheVariants.{Handled, Acted, Waited}
 use Rattle.post_board.specs.Deeds.{Deed, event_of, Tells, Stays}
 use Rattle.post_board.specs.Calls.{AgreesIfTold}
 use Rattle.circle_run.specs.Balance.{Log}
 use Rattle.circle_run.specs.Moves.{Move, handled, served, did, Side, DoesDeed, events_of, IsLive, NobodyAsks}
-use Rattle.circle_run.specs.Books.{counted, counted_one, Writes}
-use Rattle.circle_run.specs.Ranks.{DoesAll, Knows, ServesNone, side, Went, Came, HandledNewest}
+use Rattle.circle_run.specs.Books.{counted, counted_one}
+use Rattle.circle_run.specs.Private.Books.{Writes}
+use Rattle.circle_run.specs.Ranks.{DoesAll, Knows, ServesNone, side, Went}
+use Rattle.circle_run.specs.Private.Steps.{Came, HandledNewest}
 use Rattle.circle_run.specs.declared.settings.Options.{Options}
 use Rattle.circle_run.specs.declared.outcomes.Share.{Share}
 use Rattle.circle_run.specs.declared.ranks.Rank.{Rank}

@@ -8,9 +8,11 @@ use Rattle.sum_tree.specs.Shown.{SumShown, IsLeaf}
 use Rattle.circle_run.specs.Balance.{Log}
 use Rattle.circle_run.specs.Moves.{Move}
 use Rattle.circle_run.specs.Progress.{Rises, Thousands, newest, Keeps, KeptOf, Progress, Counts}
-use Rattle.circle_run.specs.Ranks.{DoesAll, side, Came}
+use Rattle.circle_run.specs.Ranks.{DoesAll, side}
+use Rattle.circle_run.specs.Private.Steps.{Came}
 use Rattle.circle_run.specs.Ready.{SumsReady, Turned}
-use Rattle.circle_run.specs.Turns.{Worked, IsTurn, turn_of, tallied}
+use Rattle.circle_run.specs.Turns.{Worked, IsTurn}
+use Rattle.circle_run.specs.Private.Steps.{turn_of, tallied}
 use Rattle.circle_run.specs.Private.Steps.{Works}
 use Rattle.circle_run.specs.declared.steps.Did.{Did}
 use Rattle.circle_run.specs.declared.steps.Did.TheVariants.{Handled, Acted, Waited}

@@ -7,7 +7,6 @@ pub mod Books
 pub mod Ranks
 pub mod Turns
 pub mod Choices
-pub mod Services
 pub mod Progress
 pub mod Ready
 pub mod Worlds
@@ -16,5 +15,4 @@ pub mod Shares
 pub mod Fair
 pub mod Hosts
 pub mod Traced
-pub mod Outcomes
 pub mod Private

@@ -6,7 +6,7 @@ ghost use Rattle.sum_tree.specs.Plain.{fresh};
 ghost use Rattle.circle_run.specs.Balance.{Balanced};
 ghost use Rattle.circle_run.specs.Left.{all_left};
 ghost use Rattle.circle_run.specs.Traced.{IsTraced, WasRun, share_in, IsProgress};
-ghost use Rattle.circle_run.specs.Outcomes.{IsOutcome};
+ghost use Rattle.circle_run.specs.Private.Outcomes.{IsOutcome};
 
 use crate::errors::CircleError;
 use crate::hosts::Host;

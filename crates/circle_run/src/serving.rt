@@ -3,9 +3,10 @@ ghost use Rattle.std.specs.Prelude.{◌≡◌, ◌≢◌, ◌<◌, ◌≤◌, �
 ghost use Rattle.ring_core.specs.declared.states.Colour.TheVariants.{Black};
 ghost use Rattle.post_board.specs.Shown.{is_served};
 ghost use Rattle.circle_run.specs.Moves.{AreAskers, NobodyAsks};
-ghost use Rattle.circle_run.specs.Ranks.{Knows, ServesNone, Came};
-ghost use Rattle.circle_run.specs.Turns.{Served};
-ghost use Rattle.circle_run.specs.Services.{Taken, Awaits, Answered};
+ghost use Rattle.circle_run.specs.Ranks.{Knows, ServesNone};
+ghost use Rattle.circle_run.specs.Private.Steps.{Came};
+ghost use Rattle.circle_run.specs.Private.Steps.{Served};
+ghost use Rattle.circle_run.specs.Private.Services.{Taken, Awaits, Answered};
 
 use crate::books::Book;
 use crate::jobs::Job;

@@ -4,8 +4,10 @@ ghost use Rattle.post_board.specs.Shown.{is_here};
 ghost use Rattle.post_board.specs.declared.answers.Ring.TheVariants.{Over as HeardOver, Elsewhere as HeardElsewhere};
 ghost use Rattle.circle_run.specs.Choices.{to_handle, to_look, to_move, to_ask, choice, standing, IsRing, held_of, held_after, heard_after};
 ghost use Rattle.circle_run.specs.Moves.{NobodyAsks};
-ghost use Rattle.circle_run.specs.Ranks.{Knows, ServesNone, Came, HandledNewest};
-ghost use Rattle.circle_run.specs.Turns.{Heard, Waits};
+ghost use Rattle.circle_run.specs.Ranks.{Knows, ServesNone};
+ghost use Rattle.circle_run.specs.Private.Steps.{Came, HandledNewest};
+ghost use Rattle.circle_run.specs.Turns.{Waits};
+ghost use Rattle.circle_run.specs.Private.Steps.{Heard};
 ghost use Rattle.circle_run.specs.Private.Steps.{Follows};
 ghost use Rattle.circle_run.specs.declared.steps.Did.TheVariants.{Handled as DidHandle, Acted as DidAct, Waited as DidWait};
 

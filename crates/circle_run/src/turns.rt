@@ -3,9 +3,11 @@ ghost use Rattle.std.specs.Prelude.{◌≡◌, ◌≢◌, ℕ, ◌+◌, ◌++◌
 ghost use Rattle.sum_tree.specs.Shown.{IsLeaf, refreshed};
 ghost use Rattle.sum_tree.specs.Told.{Finishes};
 ghost use Rattle.circle_run.specs.Progress.{newest};
-ghost use Rattle.circle_run.specs.Ranks.{Knows, ServesNone, Came};
+ghost use Rattle.circle_run.specs.Ranks.{Knows, ServesNone};
+ghost use Rattle.circle_run.specs.Private.Steps.{Came};
 ghost use Rattle.circle_run.specs.Private.Steps.{Works};
-ghost use Rattle.circle_run.specs.Turns.{Waits, AddsUp, with_service, turn_of, tallied};
+ghost use Rattle.circle_run.specs.Turns.{Waits, AddsUp};
+ghost use Rattle.circle_run.specs.Private.Steps.{with_service, turn_of, tallied};
 ghost use Rattle.circle_run.specs.Ready.{IsNew, Ready, SumsReady, Turned};
 ghost use Rattle.circle_run.specs.declared.steps.Did.TheVariants.{Handled as DidHandle, Waited as DidWait};
 ghost use Rattle.circle_run.specs.declared.ranks.Turn.TheVariants.{Went as TurnWent, Waited as TurnWaited, Ended as TurnEnded};

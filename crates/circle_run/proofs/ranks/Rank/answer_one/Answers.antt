@@ -3,7 +3,7 @@ use Rattle.ring_core.specs.declared.events.Event.TheVariants.{Give}
 use Rattle.post_board.specs.Shown.{Shown}
 use Rattle.post_board.specs.Deeds.{Deed, give, refuse, event_of}
 use Rattle.circle_run.specs.Moves.{answer_of, batches_after}
-use Rattle.circle_run.specs.Books.{Writes}
+use Rattle.circle_run.specs.Private.Books.{Writes}
 use Rattle.circle_run.specs.declared.books.Book.{Book}
 use Rattle.circle_run.proofs.Stepped.{tells_as}
 use Rattle.circle_run.proofs.Asked.{awaits_given, awaits_refused}

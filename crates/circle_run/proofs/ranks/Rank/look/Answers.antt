@@ -2,7 +2,7 @@ use Rattle.std.proofs.Common.{◌≡◌, ℕ, ap, ◌∙◌, refl, inl, inr, sub
 use Rattle.post_board.specs.Shown.{Shown, is_served, victim_of, with_taken}
 use Rattle.post_board.specs.Deeds.{take, take_none}
 use Rattle.ring_core.specs.declared.events.Event.TheVariants.{Take}
-use Rattle.circle_run.specs.Books.{Writes}
+use Rattle.circle_run.specs.Private.Books.{Writes}
 use Rattle.circle_run.specs.Choices.{to_look}
 use Rattle.circle_run.specs.Private.Steps.{Follows}
 use Rattle.circle_run.specs.declared.steps.Did.TheVariants.{Acted as DidAct}

@@ -1,5 +1,5 @@
 use Rattle.std.proofs.Common.{◌≡◌, ℕ, ◌+◌, ap, sym, ◌∙◌, subst, length}
-use Rattle.circle_run.specs.Ranks.{Came}
+use Rattle.circle_run.specs.Private.Steps.{Came}
 use Rattle.circle_run.specs.Turns.{Waits}
 use Rattle.circle_run.specs.Private.Steps.{Works}
 use Rattle.circle_run.specs.declared.steps.Did.{Did}
