@@ -9,3 +9,4 @@ mod of_path_text;
 mod of_files_mem;
 #[cfg(test)]
 mod of_outside;
+mod of_rank_queue;

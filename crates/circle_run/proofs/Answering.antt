@@ -8,7 +8,8 @@ use Rattle.post_board.specs.Shown.{Strings, Shown}
 use Rattle.post_board.specs.Deeds.{give, refuse}
 use Rattle.post_board.specs.Calls.{given, served}
 use Rattle.circle_run.specs.Moves.{answer_of}
-use Rattle.circle_run.specs.Books.{counted, Writes}
+use Rattle.circle_run.specs.Books.{counted}
+use Rattle.circle_run.specs.Private.Books.{Writes}
 use Rattle.circle_run.specs.Ranks.{Knows}
 use Rattle.circle_run.specs.declared.books.Book.{Book}
 use Rattle.circle_run.specs.declared.ranks.Rank.{Rank}

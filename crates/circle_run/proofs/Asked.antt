@@ -11,7 +11,7 @@ use Rattle.post_board.specs.Told.{Mail, vacant, asked, full, empty, Place, Told,
 use Rattle.post_board.specs.Deeds.{give, refuse, told_after, blackened, Tells, Stays}
 use Rattle.post_board.specs.Calls.{given, served, NoneAsks, LookedFor, AgreesIfTold}
 use Rattle.circle_run.specs.Moves.{asks, askers, NobodyAsks, AreAskers}
-use Rattle.circle_run.specs.Services.{unserved, AsksOf, Awaits, is_asker, askers_below, InOrder, InOrderIfTold}
+use Rattle.circle_run.specs.Private.Services.{unserved, AsksOf, Awaits, is_asker, askers_below, InOrder, InOrderIfTold}
 
 pub not_true : (b : Bool) → (b ≡ true → ⊥) → b ≡ false
 not_true true f = absurd (f refl)

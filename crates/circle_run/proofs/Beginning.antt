@@ -13,7 +13,7 @@ use Rattle.circle_run.specs.Balance.{Log}
 use Rattle.circle_run.specs.Stages.{RankSide, Stage, dealt_to, begun}
 use Rattle.circle_run.specs.Ready.{IsNew}
 use Rattle.circle_run.specs.Hosts.{IsAscending, NoneWrote, AreAll, AllReady, rank_of, stage_of}
-use Rattle.circle_run.specs.Outcomes.{AreNew}
+use Rattle.circle_run.specs.Private.Outcomes.{AreNew}
 use Rattle.circle_run.specs.declared.settings.Options.{Options}
 use Rattle.circle_run.specs.declared.ranks.Rank.{Rank}
 use Rattle.circle_run.proofs.Asked.{true_not_false}

@@ -2,10 +2,13 @@ pub mod Weighed
 pub mod Counted
 pub mod Stepped
 pub mod Asked
+pub mod Choosing
 pub mod Requests
 pub mod Answering
 pub mod Services
 pub mod Numbers
+pub mod Maps
+pub mod Adding
 pub mod Tallied
 pub mod Sums
 pub mod Begun
@@ -31,6 +34,5 @@ pub mod Playing
 pub mod Dealt
 pub mod Counting
 pub mod Sounding
-pub mod Maps
 pub mod Beginning
 pub mod Finishing

@@ -7,7 +7,7 @@ use Rattle.post_board.specs.Deeds.{Stays}
 use Rattle.post_board.specs.Calls.{serving, Found, LookedFor, AgreesIfTold}
 use Rattle.circle_run.specs.Balance.{Log}
 use Rattle.circle_run.specs.Ranks.{Knows, ServesNone}
-use Rattle.circle_run.specs.Services.{unserved, InOrderIfTold, Taken}
+use Rattle.circle_run.specs.Private.Services.{unserved, InOrderIfTold, Taken}
 use Rattle.circle_run.specs.declared.ranks.Rank.{Rank}
 use Rattle.circle_run.proofs.Stepped.{stays_same}
 use Rattle.circle_run.proofs.Asked.{unserved_set, unserved_all, asks_more, asks_none, ordered_none, ordered_more}

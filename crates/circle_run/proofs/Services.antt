@@ -13,9 +13,10 @@ use Rattle.post_board.specs.Deeds.{Deed, event_of, Tells}
 use Rattle.circle_run.specs.Balance.{Log}
 use Rattle.circle_run.specs.Moves.{Move, served, Side, answer_of, amounts, events_of, AreAskers, TellsAll, batches_after, batches_after_all}
 use Rattle.circle_run.specs.Books.{counted}
-use Rattle.circle_run.specs.Ranks.{DoesAll, Knows, side, Went, Came}
-use Rattle.circle_run.specs.Turns.{Served}
-use Rattle.circle_run.specs.Services.{amounts_of, Fits, AsksOf, Awaits, Taken, Gave, Answered, SoFar, Serving}
+use Rattle.circle_run.specs.Ranks.{DoesAll, Knows, side, Went}
+use Rattle.circle_run.specs.Private.Steps.{Came}
+use Rattle.circle_run.specs.Private.Steps.{Served}
+use Rattle.circle_run.specs.Private.Services.{amounts_of, Fits, AsksOf, Awaits, Taken, Gave, Answered, SoFar, Serving}
 use Rattle.circle_run.specs.declared.lots.Lot.{Lot}
 use Rattle.circle_run.specs.declared.lots.Lot.TheVariants.{Same, ByLot}
 use Rattle.circle_run.specs.declared.books.Book.{Book}
@@ -51,7 +52,7 @@ module _ {J S T P : Type 0} (log : J → Log) (shows : S → Shown) (tells : P �
   serving_none r p asks lot count knows mine awaits asked fits =
       let all : count ≡ count - 0 = omega arith in
       record {
-        on = record { knows = knows; mine = mine; others = λ o ne s. s; me = refl; options = refl; sums_seat = refl; sums = refl; job = refl; ended = refl; asked = refl; here = refl; lost = λ l. l; awaits = awaits };
+        on = record { knows = knows; mine = mine; others = λ o ne s. s; me = refl; options = refl; sums_seat = refl; sums = refl; job = refl; ended = refl; asked = refl; tried = refl; here = refl; lost = λ l. l; awaits = awaits };
         left = asked;
         went = λ found. subst (λ (m : ℕ). SoFar log shows tells seats r p r p [] lot lot count m) all (record {
           had = found;
@@ -140,6 +141,7 @@ module _ {J S T P : Type 0} (log : J → Log) (shows : S → Shown) (tells : P �
           job = a.job ∙ b.job;
           ended = a.ended ∙ b.ended;
           asked = a.asked ∙ b.asked;
+          tried = a.tried ∙ b.tried;
           here = a.here ∙ b.here;
           lost = λ l. a.lost (b.lost l);
           awaits = a.awaits;

@@ -9,17 +9,18 @@ use Rattle.ring_core.specs.declared.states.Colour.TheVariants.{Black}
 use Rattle.ring_core.specs.declared.events.Event.{Event}
 use Rattle.post_board.specs.Shown.{Shown, is_served, mixed, token_of, victim_of}
 use Rattle.post_board.specs.Told.{Told, place, asked}
-use Rattle.circle_run.specs.Turns.{Waits, Heard, Served, Acts, Worked, with_service}
+use Rattle.circle_run.specs.Turns.{Waits}
+use Rattle.circle_run.specs.Private.Steps.{with_service}
 use Rattle.circle_run.specs.declared.steps.Did.{Did}
 use Rattle.circle_run.specs.declared.steps.Did.TheVariants.{Handled, Acted, Waited}
-use Rattle.post_board.specs.declared.answers.Ring.{Ring}
-use Rattle.post_board.specs.declared.answers.Ring.TheVariants.{Over as HeardOver, Elsewhere as HeardElsewhere, Here as HeardHere}
 use Rattle.post_board.specs.Deeds.{Deed, event_of, Tells, Stays}
 use Rattle.post_board.specs.Calls.{AgreesIfTold}
 use Rattle.circle_run.specs.Balance.{Log}
 use Rattle.circle_run.specs.Moves.{Move, handled, served, did, Side, DoesDeed, events_of, IsLive, NobodyAsks}
-use Rattle.circle_run.specs.Books.{counted, counted_one, Writes}
-use Rattle.circle_run.specs.Ranks.{DoesAll, Knows, ServesNone, side, Went, Came, HandledNewest}
+use Rattle.circle_run.specs.Books.{counted, counted_one}
+use Rattle.circle_run.specs.Private.Books.{Writes}
+use Rattle.circle_run.specs.Ranks.{DoesAll, Knows, ServesNone, side, Went}
+use Rattle.circle_run.specs.Private.Steps.{Came, HandledNewest}
 use Rattle.circle_run.specs.declared.settings.Options.{Options}
 use Rattle.circle_run.specs.declared.outcomes.Share.{Share}
 use Rattle.circle_run.specs.declared.ranks.Rank.{Rank}
@@ -36,7 +37,7 @@ pub kept_then : (trace : Bool) (xs ys : List Event) → (if trace then (xs ++ ys
 kept_then true xs ys = refl
 kept_then false xs ys = refl
 
-kept_none : (trace : Bool) (xs : List Event) → xs ≡ xs ++ (if trace then [] else [])
+pub kept_none : (trace : Bool) (xs : List Event) → xs ≡ xs ++ (if trace then [] else [])
 kept_none true xs = sym (append-nil xs)
 kept_none false xs = sym (append-nil xs)
 
@@ -106,6 +107,34 @@ module _ {J S T P Q : Type 0} (log : J → Log) (plain : J → Q) (shows : S →
     facts = b.facts ∙ a.facts;
     lost = λ l. b.lost (a.lost l);
     went = λ found. (let w = b.went found in went_then A B C r p r1 p1 r2 p2 both a.me a.options (a.went w.had) w);
+  }
+
+  -- moves of a kind are moves of another, where what they do shows it
+  pub came_as : (A B : List Move → Type 0) (r : Rank J S T) (p : P) (r1 : Rank J S T) (p1 : P)
+      → ((moves : List Move) → r1.book.lost ≡ false → A moves
+      → DoesAll r.options r.me moves (side log plain shows tells seats r p) (side log plain shows tells seats r1 p1) → B moves)
+      → Came log plain shows tells seats A r p r1 p1 → Came log plain shows tells seats B r p r1 p1
+  came_as A B r p r1 p1 turn a = record {
+    knows = a.knows;
+    mine = a.mine;
+    none = a.none;
+    others = a.others;
+    me = a.me;
+    options = a.options;
+    sums_seat = a.sums_seat;
+    sums = a.sums;
+    facts = a.facts;
+    lost = a.lost;
+    went = λ found.
+        let w = a.went found in
+        record {
+          had = w.had;
+          moves = w.moves;
+          are = turn w.moves found w.are w.does;
+          does = w.does;
+          kept = w.kept;
+          share = w.share;
+        };
   }
 
   -- nothing was done
@@ -244,32 +273,6 @@ module _ {J S T P Q : Type 0} (log : J → Log) (plain : J → Q) (shows : S →
           share = w.share;
         });
       }
-
-heard_nothing : (ring : Ring) (moves : List Move) → ring ≢ HeardOver → Heard ring moves → moves ≡ []
-heard_nothing HeardOver moves more h = absurd (more refl)
-heard_nothing HeardElsewhere moves more h = h
-heard_nothing (HeardHere colour) moves more h = h
-
-heard_served : (some : Bool) (a b : List Move) → a ≡ [] → Served some b → Served some (a ++ b)
-heard_served some a b e s = subst (λ (m : List Move). Served some (m ++ b)) (sym e) s
-
--- a service, and then what was done
-pub service_then : (some : Bool) (done : Did) (a b : List Move) → Served some a → Acts done b → Worked (with_service some done) (a ++ b)
-service_then some Handled a b s d = (s.0, d.0, d.1, ap (λ (m : List Move). m ++ b) s.1 ∙ ap (λ (m : List Move). served s.0 ∷ m) d.2)
-service_then some Acted a b s d = inr (inl (s.0, d.0, ap (λ (m : List Move). m ++ b) s.1 ∙ ap (λ (m : List Move). served s.0 ∷ m) d.1))
-service_then true Waited a b s d = inr (inr (s.0, s.3 refl, ap (λ (m : List Move). m ++ b) s.1 ∙ ap (λ (m : List Move). served s.0 ∷ m) d))
-service_then false Waited a b s d = ap (λ (m : List Move). m ++ b) s.1 ∙ ap (λ (m : List Move). served s.0 ∷ m) d ∙ ap (λ (x : List (ℕ × List (List ℕ))). served x ∷ []) (s.2 refl)
-
-module _ {J S T P Q : Type 0} (log : J → Log) (plain : J → Q) (shows : S → Shown) (tells : P → Option Told) (seats : P → S → Type 0) where
-  -- the ring, the service and what was done after it
-  pub came_worked : (ring : Ring) (some : Bool) (done : Did) (r : Rank J S T) (p : P) (r1 : Rank J S T) (p1 : P) (r2 : Rank J S T) (p2 : P) (queue : List (List ℕ)) (r3 : Rank J S T) (p3 : P) → (ring ≢ HeardOver)
-      → Came log plain shows tells seats (Heard ring) r p r1 p1 → Came log plain shows tells seats (Served some) r1 p1 r2 p2 → (r2.book.lost ≡ true → queue ≡ []) → (r2.book.lost ≡ false → queue ≡ r2.queue)
-      → Came log plain shows tells seats (Acts done) (record r2 { queue = queue }) p2 r3 p3 → Came log plain shows tells seats (Worked (with_service some done)) r p r3 p3
-  came_worked ring some done r p r1 p1 r2 p2 queue r3 p3 more a b lost kept d =
-      came_then log plain shows tells seats (Served some) (Acts done) (Worked (with_service some done)) r p (record r2 { queue = queue }) p2 r3 p3 (service_then some done)
-      (came_settled log plain shows tells seats (Served some) r p r2 p2 queue lost kept
-      (came_then log plain shows tells seats (Heard ring) (Served some) (Served some) r p r1 p1 r2 p2 (λ x y h s. heard_served some x y (heard_nothing ring x more h) s) a b))
-      d
 
 pub waited_alone : (some : Bool) (done : Did) → with_service some done ≡ Waited → done ≡ Waited
 waited_alone some Handled e = e

@@ -8,9 +8,12 @@ use Rattle.sum_tree.specs.Shown.{SumShown, IsLeaf}
 use Rattle.circle_run.specs.Balance.{Log}
 use Rattle.circle_run.specs.Moves.{Move}
 use Rattle.circle_run.specs.Progress.{Rises, Thousands, newest, Keeps, KeptOf, Progress, Counts}
-use Rattle.circle_run.specs.Ranks.{DoesAll, side, Came}
+use Rattle.circle_run.specs.Ranks.{DoesAll, side}
+use Rattle.circle_run.specs.Private.Steps.{Came}
 use Rattle.circle_run.specs.Ready.{SumsReady, Turned}
-use Rattle.circle_run.specs.Turns.{Worked, IsTurn, turn_of, tallied}
+use Rattle.circle_run.specs.Turns.{Worked, IsTurn}
+use Rattle.circle_run.specs.Private.Steps.{turn_of, tallied}
+use Rattle.circle_run.specs.Private.Steps.{Works}
 use Rattle.circle_run.specs.declared.steps.Did.{Did}
 use Rattle.circle_run.specs.declared.steps.Did.TheVariants.{Handled, Acted, Waited}
 use Rattle.circle_run.specs.declared.books.Book.{Book}
@@ -19,6 +22,8 @@ use Rattle.circle_run.specs.declared.ranks.Turn.{Turn}
 use Rattle.circle_run.specs.declared.ranks.Rank.{Rank}
 use Rattle.circle_run.proofs.Numbers.{newest_push, rises_push, thousands_push}
 use Rattle.circle_run.proofs.Asked.{not_true, true_not_false}
+use Rattle.circle_run.proofs.Stepped.{kept_none, side_as}
+use Rattle.circle_run.proofs.Choosing.{chooses_as}
 
 -- a word that rose is kept where it is far enough above the last number
 pub keeps_more : (numbers numbers' : List ℕ) (s s' : SumShown) → s'.n ≡ s.n → Keeps numbers s.word s → s.word ≤ s'.word → (s.n ≡ 1 → s'.word ≡ s'.count) → s'.count ≤ s.count + 1
@@ -105,11 +110,11 @@ none_tallied Waited strings ne = refl
 as_turn : (ended : Bool) (done : Did) (moves : List Move) → ended ≡ false → Worked done moves → IsTurn ended (turn_of done) moves
 as_turn ended done moves live w = subst (λ (b : Bool). IsTurn b (turn_of done) moves) (sym live) (by_did done moves w)
 
-module _ {J S T P D : Type 0} (log : J → Log) (plain : J → D) (shows : S → Shown) (tells : P → Option Told) (seats : P → S → Type 0) where
+module _ {J S T P D : Type 0} (log : J → Log) (heard : J → Option (List ℕ)) (plain : J → D) (shows : S → Shown) (tells : P → Option Told) (seats : P → S → Type 0) where
   -- a turn before the end
-  pub turned : (done : Did) (turn : Turn) (r : Rank J S T) (p : P) (r1 : Rank J S T) (p1 : P) (r2 : Rank J S T) (queue : List (List ℕ)) → turn ≡ turn_of done → r.ended ≡ false → Came log plain shows tells seats (Worked done) r p r1 p1
+  pub turned : (done : Did) (turn : Turn) (r : Rank J S T) (p : P) (r1 : Rank J S T) (p1 : P) (r2 : Rank J S T) (queue : List (List ℕ)) → turn ≡ turn_of done → r.ended ≡ false → Came log plain shows tells seats (Works heard shows tells done r p r1) r p r1 p1
       → r2 ≡ record r1 { sums_seat = r2.sums_seat; book = r2.book } → r2.book ≡ record r1.book { sums = r2.book.sums; lost = r2.book.lost } → (r1.book.lost ≡ true → r2.book.lost ≡ true) → (r2.book.lost ≡ false → queue ≡ r2.queue)
-      → Turned log plain shows tells seats turn r p (record r2 { queue = queue }) p1
+      → Turned log heard plain shows tells seats turn r p (record r2 { queue = queue }) p1
   turned done turn r p r1 p1 r2 queue is live came same book lost kept =
       record {
         me = ap (λ (x : Rank J S T). x.me) same ∙ came.me;
@@ -126,9 +131,38 @@ module _ {J S T P D : Type 0} (log : J → Log) (plain : J → D) (shows : S →
             record {
               had = w.had;
               moves = w.moves;
-              are = subst (λ (t : Turn). IsTurn r.ended t w.moves) (sym is) (as_turn r.ended done w.moves live w.are);
+              are = record {
+                kind = subst (λ (t : Turn). IsTurn r.ended t w.moves) (sym is) (as_turn r.ended done w.moves live w.are.worked);
+                chosen = λ going.
+                    chooses_as log heard plain shows tells seats r p r1 (record r2 { queue = queue }) w.moves s (ap (λ (x : Rank J S T). x.ended) same) j w.are.chosen;
+              };
               does = subst (DoesAll r.options r.me w.moves (side log plain shows tells seats r p)) (sym sides) w.does;
               kept = ap (λ (b : Book). b.events.items) book ∙ w.kept;
               share = ap (λ (b : Book). b.share) book ∙ w.share;
             };
+      }
+
+  -- a turn after the end
+  pub turned_after : (turn : Turn) (r : Rank J S T) (p : P) (r' : Rank J S T) → r.ended ≡ true → r' ≡ record r { sums_seat = r'.sums_seat; book = r'.book }
+      → r'.book ≡ record r.book { sums = r'.book.sums; lost = r'.book.lost } → (r.book.lost ≡ true → r'.book.lost ≡ true) → Turned log heard plain shows tells seats turn r p r' p
+  turned_after turn r p r' ended same book lost =
+      let job : r'.job ≡ r.job = ap (λ (x : Rank J S T). x.job) same in
+      let seat : r'.seat ≡ r.seat = ap (λ (x : Rank J S T). x.seat) same in
+      record {
+        me = ap (λ (x : Rank J S T). x.me) same;
+        options = ap (λ (x : Rank J S T). x.options) same;
+        facts = ap plain job;
+        lost = lost;
+        went = λ found. record {
+          had = not_true r.book.lost (λ l. true_not_false r'.book.lost (lost l) found);
+          moves = [];
+          are = record {
+            kind = subst (λ (b : Bool). IsTurn b turn []) (sym ended) refl;
+            chosen = λ going. absurd (true_not_false r.ended ended going);
+          };
+          does = side_as log plain shows tells seats r p r' p (ap (λ (x : Rank J S T). x.queue) same) (ap log job) (ap (λ (x : Rank J S T). x.draws) same)
+              (ap (λ (s : S). (shows s).batches) seat) refl;
+          kept = ap (λ (b : Book). b.events.items) book ∙ kept_none r.options.trace r.book.events.items;
+          share = ap (λ (b : Book). b.share) book;
+        };
       }

@@ -80,9 +80,9 @@ module _ {J S T P D : Type 0} (log : J → Log) (plain : J → D) (shows : S →
   idles turn false r p r' p' moves ended agrees knows is does waits none =
       live_idles turn r.options r.me moves (side log plain shows tells seats r p) (side log plain shows tells seats r' p') is does (λ w. waits w refl) none
 
-  pub took : (turn : Turn) (r : Rank J S T) (p : P) (r' : Rank J S T) (p' : P) → AgreesIfTold (tells p) (shows r.seat) → Knows shows r → Turned log plain shows tells seats turn r p r' p'
+  pub took : (heard : J → Option (List ℕ)) (turn : Turn) (r : Rank J S T) (p : P) (r' : Rank J S T) (p' : P) → AgreesIfTold (tells p) (shows r.seat) → Knows shows r → Turned log heard plain shows tells seats turn r p r' p'
       → (turn ≡ TurnWaited → r.ended ≡ false → Waits r.me (tells p')) → Took log plain shows tells seats r p r' p'
-  took turn r p r' p' agrees knows turned waits = record {
+  took heard turn r p r' p' agrees knows turned waits = record {
     me = turned.me;
     options = turned.options;
     facts = turned.facts;
@@ -90,11 +90,11 @@ module _ {J S T P D : Type 0} (log : J → Log) (plain : J → D) (shows : S →
     went = λ found. (let w = turned.went found in record {
       had = w.had;
       turn = w.moves;
-      last = turn_last r.ended turn w.moves w.are;
+      last = turn_last r.ended turn w.moves w.are.kind;
       does = w.does;
       kept = w.kept;
       share = w.share;
-      idle = idles turn r.ended r p r' p' w.moves refl agrees knows w.are w.does waits;
+      idle = idles turn r.ended r p r' p' w.moves refl agrees knows w.are.kind w.does waits;
     });
   }
 

@@ -15,11 +15,3 @@ counted_one _ s = s
 abbrev pub counted : List Event → Share → Share
 counted [] s = s
 counted (event ∷ events) s = counted events (counted_one event s)
-
--- unless memory was not found, these events were counted, and kept where that is wanted
-pub record Writes (trace : Bool) (events : List Event) (b b' : Book) : Type 0 where
-  pub sums : b'.sums ≡ b.sums
-  pub lost : b.lost ≡ true → b'.lost ≡ true
-  pub had : b'.lost ≡ false → b.lost ≡ false
-  pub kept : b'.lost ≡ false → b'.events.items ≡ b.events.items ++ (if trace then events else [])
-  pub share : b'.lost ≡ false → b'.share ≡ counted events b.share

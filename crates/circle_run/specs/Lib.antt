@@ -6,7 +6,7 @@ pub mod Stages
 pub mod Books
 pub mod Ranks
 pub mod Turns
-pub mod Services
+pub mod Choices
 pub mod Progress
 pub mod Ready
 pub mod Worlds
@@ -15,4 +15,4 @@ pub mod Shares
 pub mod Fair
 pub mod Hosts
 pub mod Traced
-pub mod Outcomes
+pub mod Private

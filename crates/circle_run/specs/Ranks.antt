@@ -6,7 +6,8 @@ use Rattle.post_board.specs.Told.{Told}
 use Rattle.circle_run.specs.Balance.{Log}
 use Rattle.circle_run.specs.Moves.{Move, Side, Does, events_of}
 use Rattle.ring_core.specs.declared.events.Event.TheVariants.{Handle}
-use Rattle.circle_run.specs.Books.{counted, Writes}
+use Rattle.circle_run.specs.Books.{counted}
+use Rattle.circle_run.specs.Private.Books.{Writes}
 use Rattle.circle_run.specs.declared.settings.Options.{Options}
 use Rattle.circle_run.specs.declared.ranks.Rank.{Rank}
 
@@ -48,37 +49,3 @@ module _ {J S T P Q : Type 0} (log : J → Log) (plain : J → Q) (shows : S →
     pub does : DoesAll r.options r.me moves (side r p) (side r' p')
     pub kept : r'.book.events.items ≡ r.book.events.items ++ (if r.options.trace then flat_map (events_of r.me) moves else [])
     pub share : r'.book.share ≡ counted (flat_map (events_of r.me) moves) r.book.share
-
-  -- what a step of a rank comes to. Unless the rank found no memory, it is moves of this kind
-  pub record Came (kind : List Move → Type 0) (r : Rank J S T) (p : P) (r' : Rank J S T) (p' : P) : Type 0 where
-    pub knows : Knows shows r'
-    pub mine : seats p' r'.seat
-    pub none : ServesNone shows r'
-    pub others : (other : S) → (shows other).number ≢ r.me → seats p other → seats p' other
-    pub me : r'.me ≡ r.me
-    pub options : r'.options ≡ r.options
-    pub sums_seat : r'.sums_seat ≡ r.sums_seat
-    pub sums : r'.book.sums ≡ r.book.sums
-    pub facts : plain r'.job ≡ plain r.job
-    pub lost : r.book.lost ≡ true → r'.book.lost ≡ true
-    pub went : r'.book.lost ≡ false → Went kind r p r' p'
-
-module _ {J S T Q : Type 0} (log : J → Log) (plain : J → Q) where
-  -- the newest string was handled, and what was pushed for it was queued
-  pub record Newest (r r' : Rank J S T) : Type 0 where
-    pub path : List ℕ
-    pub kids : List (List ℕ)
-    pub rest : List (List ℕ)
-    pub newest : r.queue ≡ rest ++ path ∷ []
-    pub pushed : r'.queue ≡ rest ++ kids
-    pub few : length (rest ++ kids) < 2 ^ 64
-    pub logged : log r'.job ≡ log r.job ++ (path, kids) ∷ []
-    pub writes : Writes r.options.trace (Handle r.me path (length kids) ∷ []) r.book r'.book
-
-  pub record HandledNewest (r r' : Rank J S T) : Type 0 where
-    pub same : r' ≡ record r { job = r'.job; queue = r'.queue; fresh = r'.fresh; book = r'.book }
-    pub empty : r'.fresh ≡ []
-    pub facts : plain r'.job ≡ plain r.job
-    pub sums : r'.book.sums ≡ r.book.sums
-    pub lost : r.book.lost ≡ true → r'.book.lost ≡ true
-    pub done : r'.book.lost ≡ false → Newest r r'

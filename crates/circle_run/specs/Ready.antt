@@ -1,5 +1,5 @@
 -- A rank between two turns, and what a turn comes to. Our own.
-use Rattle.std.specs.Prelude.{◌≡◌, ℕ, ◌≤◌, true, false, length, [], Option, None}
+use Rattle.std.specs.Prelude.{◌≡◌, ℕ, ◌≤◌, true, false, List, length, [], Option, None}
 use Rattle.rank_queue.specs.Shares.{generator_of}
 use Rattle.ring_core.specs.declared.states.Colour.TheVariants.{White}
 use Rattle.post_board.specs.Shown.{Shown}
@@ -9,7 +9,9 @@ use Rattle.sum_tree.specs.Shown.{SumShown}
 use Rattle.circle_run.specs.Balance.{Log}
 use Rattle.circle_run.specs.Progress.{Progress, Counts}
 use Rattle.circle_run.specs.Ranks.{Knows, ServesNone, Went}
+use Rattle.circle_run.specs.Moves.{Move}
 use Rattle.circle_run.specs.Turns.{IsTurn}
+use Rattle.circle_run.specs.Choices.{Chooses}
 use Rattle.circle_run.specs.declared.settings.Options.{Options}
 use Rattle.circle_run.specs.declared.ranks.Rank.{Rank}
 use Rattle.circle_run.specs.declared.ranks.Turn.{Turn}
@@ -42,11 +44,16 @@ module _ {J S T P Q : Type 0} (log : J → Log) (shows : S → Shown) (seats : P
     pub lost : r.book.lost ≡ true → r.queue ≡ []
     pub sums : SumsReady sums_shows sums_seats (length (log r.job)) r q
 
-module _ {J S T P D : Type 0} (log : J → Log) (plain : J → D) (shows : S → Shown) (tells : P → Option Told) (seats : P → S → Type 0) where
+module _ {J S T P D : Type 0} (log : J → Log) (heard : J → Option (List ℕ)) (plain : J → D) (shows : S → Shown) (tells : P → Option Told) (seats : P → S → Type 0) where
+  -- the moves of a turn: what came of it says which there are, and before the end each is the first that applies
+  pub record TurnMoves (turn : Turn) (r : Rank J S T) (p : P) (r' : Rank J S T) (moves : List Move) : Type 0 where
+    pub kind : IsTurn r.ended turn moves
+    pub chosen : r.ended ≡ false → Chooses heard shows tells r p r' moves
+
   -- what a turn comes to. Unless the rank found no memory, it is moves of a turn, which were counted and, with a trace, kept
   pub record Turned (turn : Turn) (r : Rank J S T) (p : P) (r' : Rank J S T) (p' : P) : Type 0 where
     pub me : r'.me ≡ r.me
     pub options : r'.options ≡ r.options
     pub facts : plain r'.job ≡ plain r.job
     pub lost : r.book.lost ≡ true → r'.book.lost ≡ true
-    pub went : r'.book.lost ≡ false → Went log plain shows tells seats (IsTurn r.ended turn) r p r' p'
+    pub went : r'.book.lost ≡ false → Went log plain shows tells seats (TurnMoves turn r p r') r p r' p'

@@ -1,6 +1,7 @@
 //! What a rank writes down of what it did.
 ghost use Rattle.std.specs.Prelude.{◌≡◌, ◌<◌, ◌≤◌, ◌+◌, ◌++◌, ◌∷◌, [], true, false};
-ghost use Rattle.circle_run.specs.Books.{Writes, counted_one};
+ghost use Rattle.circle_run.specs.Books.{counted_one};
+ghost use Rattle.circle_run.specs.Private.Books.{Writes};
 ghost use Rattle.circle_run.specs.Progress.{newest};
 
 use crate::outcomes::Share;

@@ -1,5 +1,6 @@
 //! What a rank does with each string.
-ghost use Rattle.std.specs.Prelude.{◌≡◌, ◌++◌, ◌∷◌, [], OnOk, OnErr};
+ghost use Rattle.std.specs.Prelude.{◌≡◌, ◌++◌, ◌∷◌, ℕ, List, Option, [], OnOk, OnErr};
+ghost use Rattle.std.specs.Option.{option_map};
 
 use path_text::{OutOfMemory, Path};
 use rank_queue::Batch;
@@ -11,17 +12,22 @@ pub trait Job {
     // The strings that it handled, in order, each with the strings pushed for it.
     ghost log: { Self → Log };
 
+    // How many others waited at each string that it handled, in order, where the job keeps these numbers.
+    ghost heard: { Self → Option (List ℕ) };
+
     // What no handling changes, also where it is refused.
     ghost Plain: { Type 0 };
 
     ghost plain: { Self → Plain };
 
-    /// Handles a string while `waiting` others wait at this rank, and pushes the strings that follow from it to `fresh`. Of
+    /// Handles a string while `waiting` others wait at the rank, and pushes the strings that follow from it to `fresh`. Of
     /// a string that it refuses it keeps nothing.
     fn handle(&mut self, item: &Path, waiting: u64, fresh: &mut Batch) -> Result<(), OutOfMemory>
         requires { fresh.old ≡ [] }
         ensures handled { OnOk result (log self.new ≡ log self.old ++ (item.now, fresh.new) ∷ []) }
+        ensures heard { OnOk result (heard self.new ≡ option_map (λ numbers. numbers ++ waiting ∷ []) (heard self.old)) }
         ensures refused { OnErr result (log self.new ≡ log self.old) }
+        ensures unheard { OnErr result (heard self.new ≡ heard self.old) }
         ensures emptied { OnErr result (fresh.new ≡ []) }
         ensures plain { plain self.new ≡ plain self.old };
 }

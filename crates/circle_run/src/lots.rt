@@ -2,7 +2,7 @@
 ghost use Rattle.std.specs.Prelude.{◌≡◌, ◌<◌, ◌≤◌, ◌+◌, ◌-◌, ◌∷◌, ◌⊎◌, ℕ, suc};
 ghost use Rattle.rand_pcg.specs.Lcg.{Lcg};
 ghost use Rattle.circle_run.specs.Moves.{amounts};
-ghost use Rattle.circle_run.specs.Services.{amounts_of, Fits};
+ghost use Rattle.circle_run.specs.Private.Services.{amounts_of, Fits};
 
 use crate::settings::Split;
 use rand_pcg::Pcg32;

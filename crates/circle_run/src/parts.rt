@@ -2,7 +2,7 @@
 ghost use Rattle.std.specs.Prelude.{◌≡◌, ◌<◌, ◌≤◌, [], map, length, replicate, All, IfOk};
 ghost use Rattle.std.specs.List.{range_with_len};
 ghost use Rattle.circle_run.specs.Stages.{dealt_to};
-ghost use Rattle.circle_run.specs.Outcomes.{AreNew, ArePartsOf};
+ghost use Rattle.circle_run.specs.Private.Outcomes.{AreNew, ArePartsOf};
 
 use crate::books::Book;
 use crate::jobs::Job;

@@ -3,9 +3,10 @@ ghost use Rattle.std.specs.Prelude.{◌≡◌, ◌≢◌, ◌<◌, ◌≤◌, �
 ghost use Rattle.ring_core.specs.declared.states.Colour.TheVariants.{Black};
 ghost use Rattle.post_board.specs.Shown.{is_served};
 ghost use Rattle.circle_run.specs.Moves.{AreAskers, NobodyAsks};
-ghost use Rattle.circle_run.specs.Ranks.{Knows, ServesNone, Came};
-ghost use Rattle.circle_run.specs.Turns.{Served};
-ghost use Rattle.circle_run.specs.Services.{Taken, Awaits, Answered};
+ghost use Rattle.circle_run.specs.Ranks.{Knows, ServesNone};
+ghost use Rattle.circle_run.specs.Private.Steps.{Came};
+ghost use Rattle.circle_run.specs.Private.Steps.{Served};
+ghost use Rattle.circle_run.specs.Private.Services.{Taken, Awaits, Answered};
 
 use crate::books::Book;
 use crate::jobs::Job;
@@ -26,6 +27,8 @@ impl<J: Job, S, T> Rank<J, S, T> {
         ensures unasked { NobodyAsks self.old.me (P.tells post.new) }
         ensures job { self.new.job ≡ self.old.job }
         ensures ended { self.new.ended ≡ false }
+        ensures asked { self.new.asked ≡ self.old.asked }
+        ensures tried { self.new.tried ≡ self.old.tried }
         ensures here { (P.shows self.new.seat).here ≡ (P.shows self.old.seat).here }
     {
         let mut asks = [0; 64];

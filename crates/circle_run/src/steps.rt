@@ -1,11 +1,14 @@
 //! The steps of a turn by which a rank goes on.
-ghost use Rattle.std.specs.Prelude.{◌≡◌, ◌≢◌, ◌+◌, ◌<◌, ◌⊎◌, [], length, true, false, Some, None};
-ghost use Rattle.ring_core.specs.declared.states.Colour.{Colour};
+ghost use Rattle.std.specs.Prelude.{◌≡◌, ◌≢◌, ◌+◌, ◌-◌, ◌<◌, ◌⊎◌, [], length, true, false, Some, None};
 ghost use Rattle.post_board.specs.Shown.{is_here};
-ghost use Rattle.post_board.specs.declared.answers.Ring.TheVariants.{Over as HeardOver, Here as HeardHere, Elsewhere as HeardElsewhere};
+ghost use Rattle.post_board.specs.declared.answers.Ring.TheVariants.{Over as HeardOver, Elsewhere as HeardElsewhere};
+ghost use Rattle.circle_run.specs.Choices.{to_handle, to_look, to_move, to_ask, choice, standing, IsRing, held_of, held_after, heard_after};
 ghost use Rattle.circle_run.specs.Moves.{NobodyAsks};
-ghost use Rattle.circle_run.specs.Ranks.{Knows, ServesNone, Came, HandledNewest};
-ghost use Rattle.circle_run.specs.Turns.{Heard, Acts, Waits};
+ghost use Rattle.circle_run.specs.Ranks.{Knows, ServesNone};
+ghost use Rattle.circle_run.specs.Private.Steps.{Came, HandledNewest};
+ghost use Rattle.circle_run.specs.Turns.{Waits};
+ghost use Rattle.circle_run.specs.Private.Steps.{Heard};
+ghost use Rattle.circle_run.specs.Private.Steps.{Follows};
 ghost use Rattle.circle_run.specs.declared.steps.Did.TheVariants.{Handled as DidHandle, Acted as DidAct, Waited as DidWait};
 
 use crate::jobs::Job;
@@ -37,7 +40,9 @@ impl<J: Job, S, T> Rank<J, S, T> {
         ensures more { result ≢ HeardOver → self.new.ended ≡ false }
         ensures job { self.new.job ≡ self.old.job }
         ensures elsewhere { result ≡ HeardElsewhere → 1 < self.new.options.ranks }
-        ensures here { (c : Colour) → result ≡ HeardHere c → (P.shows self.new.seat).here ≡ Some c }
+        ensures read { IsRing self.old.me (P.tells post.old) result }
+        ensures held { (P.shows self.new.seat).here ≡ held_of result }
+        ensures same { self.new ≡ record self.old { seat = self.new.seat; ended = self.new.ended; book = self.new.book } }
     {
         let ring = post.ring(&mut self.seat);
         if let Ring::Over = ring {
@@ -52,7 +57,8 @@ impl<J: Job, S, T> Rank<J, S, T> {
     fn handle_newest(&mut self)
         requires some { 0 < length self.old.queue }
         requires fresh { self.old.fresh ≡ [] }
-        ensures { HandledNewest J.log J.plain self.old self.new }
+        ensures newest { HandledNewest J.log J.plain self.old self.new }
+        ensures heard { self.new.book.lost ≡ false → J.heard self.new.job ≡ heard_after to_handle (length self.old.queue - 1) (J.heard self.old.job) }
     {
         let Some(path) = self.queue.take() else {
             unreachable!()
@@ -81,7 +87,8 @@ impl<J: Job, S, T> Rank<J, S, T> {
         requires live { self.old.ended ≡ false }
         requires empty { self.old.queue ≡ [] }
         requires open { self.old.asked ≡ Some victim }
-        ensures came { Came J.log J.plain P.shows P.tells P.seats (Acts result) self.old post.old self.new post.new }
+        ensures came { Came J.log J.plain P.shows P.tells P.seats (Follows result self.old.me (to_look victim)) self.old post.old self.new post.new }
+        ensures held { (P.shows self.new.seat).here ≡ (P.shows self.old.seat).here }
         ensures waits { result ≡ DidWait → Waits self.new.me (P.tells post.new) }
         ensures job { self.new.job ≡ self.old.job }
         ensures other { result ≢ DidHandle }
@@ -123,7 +130,8 @@ impl<J: Job, S, T> Rank<J, S, T> {
         requires rest { self.old.asked ≡ None }
         requires here { (P.shows self.old.seat).here ≡ Some held }
         requires tried { (self.old.options.ranks ≡ 1) ⊎ (self.old.tried ≡ true) }
-        ensures came { Came J.log J.plain P.shows P.tells P.seats (Acts DidAct) self.old post.old self.new post.new }
+        ensures came { Came J.log J.plain P.shows P.tells P.seats (Follows DidAct self.old.me (to_move held)) self.old post.old self.new post.new }
+        ensures gone { (P.shows self.new.seat).here ≡ None }
         ensures job { self.new.job ≡ self.old.job }
     {
         let rank = self.me;
@@ -158,7 +166,8 @@ impl<J: Job, S, T> Rank<J, S, T> {
         requires empty { self.old.queue ≡ [] }
         requires rest { self.old.asked ≡ None }
         requires many { 1 < self.old.options.ranks }
-        ensures came { Came J.log J.plain P.shows P.tells P.seats (Acts DidAct) self.old post.old self.new post.new }
+        ensures came { Came J.log J.plain P.shows P.tells P.seats (Follows DidAct self.old.me to_ask) self.old post.old self.new post.new }
+        ensures held { (P.shows self.new.seat).here ≡ (P.shows self.old.seat).here }
         ensures job { self.new.job ≡ self.old.job }
     {
         let rank = self.me;
@@ -178,8 +187,10 @@ impl<J: Job, S, T> Rank<J, S, T> {
         requires unasked { NobodyAsks self.old.me (P.tells post.old) }
         requires over { ring ≢ HeardOver }
         requires elsewhere { ring ≡ HeardElsewhere → 1 < self.old.options.ranks }
-        requires here { (c : Colour) → ring ≡ HeardHere c → (P.shows self.old.seat).here ≡ Some c }
-        ensures came { Came J.log J.plain P.shows P.tells P.seats (Acts result) self.old post.old self.new post.new }
+        requires held { (P.shows self.old.seat).here ≡ held_of ring }
+        ensures came { Came J.log J.plain P.shows P.tells P.seats (Follows result self.old.me (choice self.old.options.ranks (standing ring self.old))) self.old post.old self.new post.new }
+        ensures held { (P.shows self.new.seat).here ≡ held_after (choice self.old.options.ranks (standing ring self.old)) ring }
+        ensures heard { self.new.book.lost ≡ false → J.heard self.new.job ≡ heard_after (choice self.old.options.ranks (standing ring self.old)) (length self.old.queue - 1) (J.heard self.old.job) }
         ensures waits { result ≡ DidWait → Waits self.new.me (P.tells post.new) }
         ensures handled { result ≡ DidHandle → self.new.book.lost ≡ false → length (J.log self.new.job) ≡ length (J.log self.old.job) + 1 }
         ensures other { result ≢ DidHandle → J.log self.new.job ≡ J.log self.old.job }

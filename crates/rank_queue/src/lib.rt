@@ -30,6 +30,3 @@ mod queues;
 pub use batches::Batch;
 pub use drawing::{equal_share, generator, random_share, victim};
 pub use queues::RankQueue;
-
-#[cfg(test)]
-mod tests;

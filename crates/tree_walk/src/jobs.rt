@@ -63,11 +63,14 @@ impl<R: Tree> WalkJob<R> {
 }
 
 impl<R: Tree> Job for WalkJob<R> {
-    ghost use Rattle.std.specs.Prelude.{Option};
+    ghost use Rattle.std.specs.Prelude.{Option, None};
     ghost use Rattle.outside.specs.Tree.{Files};
     ghost use Rattle.tree_walk.specs.Held.{log_of};
 
     ghost log = { λ w. log_of w.1 };
+
+    // The walk does not ask how many paths wait.
+    ghost heard = { λ w. None };
 
     ghost Plain = { Option Files };
 

@@ -4,7 +4,7 @@ use Rattle.std.proofs.lemmas.List.FromFn.{length-map-range_with_len}
 use Rattle.std.specs.List.{sum_by}
 use Rattle.sum_tree.specs.Plain.{fresh as fresh_sums}
 use Rattle.circle_run.specs.Stages.{dealt_to}
-use Rattle.circle_run.specs.Outcomes.{AreNew}
+use Rattle.circle_run.specs.Private.Outcomes.{AreNew}
 use Rattle.circle_run.proofs.Maps.{sum_by-map}
 use Rattle.circle_run.proofs.Beginning.{begins}
 use Rattle.circle_run.proofs.Rounds.{same_all}

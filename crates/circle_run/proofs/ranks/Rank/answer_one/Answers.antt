@@ -3,7 +3,7 @@ use Rattle.ring_core.specs.declared.events.Event.TheVariants.{Give}
 use Rattle.post_board.specs.Shown.{Shown}
 use Rattle.post_board.specs.Deeds.{Deed, give, refuse, event_of}
 use Rattle.circle_run.specs.Moves.{answer_of, batches_after}
-use Rattle.circle_run.specs.Books.{Writes}
+use Rattle.circle_run.specs.Private.Books.{Writes}
 use Rattle.circle_run.specs.declared.books.Book.{Book}
 use Rattle.circle_run.proofs.Stepped.{tells_as}
 use Rattle.circle_run.proofs.Asked.{awaits_given, awaits_refused}
@@ -28,6 +28,7 @@ returns-in-Some g c =
         job = refl;
         ended = refl;
         asked = refl;
+        tried = refl;
         here = ap (λ (s : Shown). s.here) shown;
         lost = λ l. c.note.ensures.lost (ap (λ (b : Book). b.lost) had ∙ l);
         awaits = awaits_given (g.P.Post.shows c.args.self.now.seat) (g.P.Post.shows c.give.new.seat) (g.P.Post.tells c.args.post.now) (g.P.Post.tells c.give.new.self) c.args.to c.in-Some.batch shown c.give.ensures.told c.requires.awaits;
@@ -62,6 +63,7 @@ returns-in-None g c =
         job = refl;
         ended = refl;
         asked = refl;
+        tried = refl;
         here = ap (λ (s : Shown). s.here) shown;
         lost = writes.lost;
         awaits = awaits_refused (g.P.Post.shows c.args.self.now.seat) (g.P.Post.shows c.refuse.new.seat) (g.P.Post.tells c.args.post.now) (g.P.Post.tells c.refuse.new.self) c.args.to shown c.refuse.ensures.told c.requires.awaits;

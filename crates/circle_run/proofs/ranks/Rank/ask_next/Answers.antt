@@ -1,7 +1,8 @@
 use Rattle.std.proofs.Common.{◌≡◌, ap, ◌∙◌, refl, arith, rules, length}
 use Rattle.post_board.specs.Shown.{Shown, is_served}
 use Rattle.post_board.specs.Deeds.{ask}
-use Rattle.circle_run.specs.Turns.{Acts}
+use Rattle.circle_run.specs.Choices.{to_ask}
+use Rattle.circle_run.specs.Private.Steps.{Follows}
 use Rattle.circle_run.specs.declared.steps.Did.TheVariants.{Acted as DidAct}
 use Rattle.circle_run.proofs.Stepped.{tells_as, went_did}
 use Rattle.circle_run.proofs.ranks.Rank.ask_next.Goals as goal
@@ -18,7 +19,8 @@ returns-clause-came g c = record {
   sums = c.note.ensures.sums;
   facts = refl;
   lost = c.note.ensures.lost;
-  went = went_did g.J.Job.log g.J.Job.plain g.P.Post.shows g.P.Post.tells g.P.Post.seats (Acts DidAct) _ _ _ _ (ask c.victim-victim.result) (ask c.victim-victim.result, refl) c.note.ensures (record {
+  went = went_did g.J.Job.log g.J.Job.plain g.P.Post.shows g.P.Post.tells g.P.Post.seats (Follows DidAct c.args.self.now.me to_ask) _ _ _ _ (ask c.victim-victim.result)
+      (record { acts = (ask c.victim-victim.result, refl); chosen = (c.victim-victim.result, refl) }) c.note.ensures (record {
     queue = (c.requires.empty, c.requires.empty);
     few = (let q = c.requires.empty in let n : length c.args.self.now.queue ≡ 0 = ap length q in omega arith);
     drawn = (c.victim-victim.ensures.chosen, c.victim-victim.ensures.drawn);

@@ -3,7 +3,7 @@ use Rattle.post_board.specs.Shown.{Shown, is_served}
 use Rattle.post_board.specs.Deeds.{see_over}
 use Rattle.post_board.specs.declared.answers.Ring.{Ring}
 use Rattle.circle_run.specs.Moves.{did}
-use Rattle.circle_run.specs.Turns.{Heard}
+use Rattle.circle_run.specs.Private.Steps.{Heard}
 use Rattle.circle_run.proofs.Stepped.{tells_as, went_did}
 use Rattle.circle_run.proofs.ranks.Rank.hear.Goals as goal
 

@@ -1,9 +1,10 @@
-use Rattle.std.proofs.Common.{◌≡◌, ℕ, ap, ◌∙◌, refl, subst, arith, rules, List, [], ◌∷◌, ◌++◌, length}
+use Rattle.std.proofs.Common.{◌≡◌, ℕ, ap, ◌∙◌, refl, inl, inr, subst, arith, rules, List, [], ◌∷◌, ◌++◌, length}
 use Rattle.post_board.specs.Shown.{Shown, is_served, victim_of, with_taken}
 use Rattle.post_board.specs.Deeds.{take, take_none}
 use Rattle.ring_core.specs.declared.events.Event.TheVariants.{Take}
-use Rattle.circle_run.specs.Books.{Writes}
-use Rattle.circle_run.specs.Turns.{Acts}
+use Rattle.circle_run.specs.Private.Books.{Writes}
+use Rattle.circle_run.specs.Choices.{to_look}
+use Rattle.circle_run.specs.Private.Steps.{Follows}
 use Rattle.circle_run.specs.declared.steps.Did.TheVariants.{Acted as DidAct}
 use Rattle.circle_run.proofs.Stepped.{tells_as, went_did, victim_is, waiting_told}
 use Rattle.circle_run.proofs.ranks.Rank.look.Goals as goal
@@ -23,7 +24,8 @@ returns-in-Nothing-clause-came g c = record {
   sums = c.note.ensures.sums;
   facts = refl;
   lost = c.note.ensures.lost;
-  went = went_did g.J.Job.log g.J.Job.plain g.P.Post.shows g.P.Post.tells g.P.Post.seats (Acts DidAct) _ _ _ _ (take_none c.args.victim) (take_none c.args.victim, refl) c.note.ensures (record {
+  went = went_did g.J.Job.log g.J.Job.plain g.P.Post.shows g.P.Post.tells g.P.Post.seats (Follows DidAct c.args.self.now.me (to_look c.args.victim)) _ _ _ _ (take_none c.args.victim)
+      (record { acts = (take_none c.args.victim, refl); chosen = inr (inl refl) }) c.note.ensures (record {
     queue = refl;
     few = (let q = c.requires.empty in let n : length c.args.self.now.queue ≡ 0 = ap length q in omega arith);
     drawn = refl;
@@ -45,7 +47,8 @@ returns-in-Ok-clause-came g c = record {
   sums = c.note-in-Work.ensures.sums;
   facts = refl;
   lost = c.note-in-Work.ensures.lost;
-  went = went_did g.J.Job.log g.J.Job.plain g.P.Post.shows g.P.Post.tells g.P.Post.seats (Acts DidAct) _ _ _ _ (take c.args.victim c.in-Work.batch) (take c.args.victim c.in-Work.batch, refl) (subst (λ (k : ℕ). Writes c.args.self.now.options.trace (Take c.args.self.now.me c.args.victim k ∷ []) c.args.self.now.book c.note-in-Work.new.self) c.len-count.ensures c.note-in-Work.ensures) (record {
+  went = went_did g.J.Job.log g.J.Job.plain g.P.Post.shows g.P.Post.tells g.P.Post.seats (Follows DidAct c.args.self.now.me (to_look c.args.victim)) _ _ _ _ (take c.args.victim c.in-Work.batch)
+      (record { acts = (take c.args.victim c.in-Work.batch, refl); chosen = inr (inr (c.in-Work.batch, refl)) }) (subst (λ (k : ℕ). Writes c.args.self.now.options.trace (Take c.args.self.now.me c.args.victim k ∷ []) c.args.self.now.book c.note-in-Work.new.self) c.len-count.ensures c.note-in-Work.ensures) (record {
     queue = c.in-Ok.ensures.added;
     few = (let l : length c.push_all.new.self ≡ length c.in-Work.batch = ap length c.in-Ok.ensures.added ∙ ap (λ (q : List (List ℕ)). length (q ++ c.in-Work.batch)) c.requires.empty in omega (arith, l, c.len-count.ensures));
     drawn = refl;

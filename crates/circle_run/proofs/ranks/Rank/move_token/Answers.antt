@@ -2,9 +2,11 @@ use Rattle.std.proofs.Common.{◌≡◌, ap, sym, ◌∙◌, refl, arith, rules,
 use Rattle.ring_core.specs.declared.states.Colour.{Colour}
 use Rattle.post_board.specs.Shown.{Shown, is_served, mixed}
 use Rattle.post_board.specs.Deeds.{pass, restart, conclude}
-use Rattle.circle_run.specs.Turns.{Acts}
+use Rattle.circle_run.specs.Choices.{to_move}
+use Rattle.circle_run.specs.Private.Steps.{Follows}
 use Rattle.circle_run.specs.declared.steps.Did.TheVariants.{Acted as DidAct}
 use Rattle.circle_run.proofs.Stepped.{tells_as, went_did, mixed_is}
+use Rattle.circle_run.proofs.Choosing.{moved_above, moved_black, moved_white, follows_moved}
 use Rattle.circle_run.proofs.ranks.Rank.move_token.Goals as goal
 
 pub returns-then-rank-gt0-clause-came : goal.returns-then-rank-gt0-clause-came
@@ -19,7 +21,9 @@ returns-then-rank-gt0-clause-came g c = record {
   sums = c.note.ensures.sums;
   facts = refl;
   lost = c.note.ensures.lost;
-  went = went_did g.J.Job.log g.J.Job.plain g.P.Post.shows g.P.Post.tells g.P.Post.seats (Acts DidAct) _ _ _ _ (pass c.darker-colour.result) ((pass c.darker-colour.result), refl) c.note.ensures (record {
+  went = went_did g.J.Job.log g.J.Job.plain g.P.Post.shows g.P.Post.tells g.P.Post.seats (Follows DidAct c.args.self.now.me (to_move c.args.held)) _ _ _ _ (pass c.darker-colour.result)
+      (follows_moved c.args.self.now.me c.args.self.now.colour c.args.held c.darker-colour.result (pass c.darker-colour.result) c.darker-colour.ensures
+      (moved_above c.args.self.now.me c.darker-colour.result (omega (arith, c.if-rank-gt0.true)))) c.note.ensures (record {
     queue = (c.requires.empty, c.requires.empty);
     few = (let q = c.requires.empty in let n : length c.args.self.now.queue ≡ 0 = ap length q in omega arith);
     drawn = refl;
@@ -41,7 +45,9 @@ returns-in-Black-clause-came g c = record {
   sums = c.note-in-Black.ensures.sums;
   facts = refl;
   lost = c.note-in-Black.ensures.lost;
-  went = went_did g.J.Job.log g.J.Job.plain g.P.Post.shows g.P.Post.tells g.P.Post.seats (Acts DidAct) _ _ _ _ restart (restart, refl) c.note-in-Black.ensures (record {
+  went = went_did g.J.Job.log g.J.Job.plain g.P.Post.shows g.P.Post.tells g.P.Post.seats (Follows DidAct c.args.self.now.me (to_move c.args.held)) _ _ _ _ restart
+      (follows_moved c.args.self.now.me c.args.self.now.colour c.args.held c.darker-colour.result restart c.darker-colour.ensures
+      (moved_black c.args.self.now.me c.darker-colour.result (omega (arith, c.if-rank-gt0.false)) c.in-Black.is)) c.note-in-Black.ensures (record {
     queue = (c.requires.empty, c.requires.empty);
     few = (let q = c.requires.empty in let n : length c.args.self.now.queue ≡ 0 = ap length q in omega arith);
     drawn = refl;
@@ -63,7 +69,9 @@ returns-in-White-clause-came g c = record {
   sums = c.note-in-White.ensures.sums;
   facts = refl;
   lost = c.note-in-White.ensures.lost;
-  went = went_did g.J.Job.log g.J.Job.plain g.P.Post.shows g.P.Post.tells g.P.Post.seats (Acts DidAct) _ _ _ _ conclude (conclude, refl) c.note-in-White.ensures (record {
+  went = went_did g.J.Job.log g.J.Job.plain g.P.Post.shows g.P.Post.tells g.P.Post.seats (Follows DidAct c.args.self.now.me (to_move c.args.held)) _ _ _ _ conclude
+      (follows_moved c.args.self.now.me c.args.self.now.colour c.args.held c.darker-colour.result conclude c.darker-colour.ensures
+      (moved_white c.args.self.now.me c.darker-colour.result (omega (arith, c.if-rank-gt0.false)) c.in-White.is)) c.note-in-White.ensures (record {
     queue = (c.requires.empty, c.requires.empty);
     few = (let q = c.requires.empty in let n : length c.args.self.now.queue ≡ 0 = ap length q in omega arith);
     drawn = refl;

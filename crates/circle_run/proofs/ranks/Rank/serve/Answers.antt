@@ -1,7 +1,7 @@
 use Rattle.std.proofs.Common.{ℕ, ap, ◌∙◌, subst, arith}
 use Rattle.std.proofs.lemmas.Bool.{ltb-true, ltb-false}
 use Rattle.circle_run.specs.Moves.{amounts}
-use Rattle.circle_run.specs.Services.{Fits}
+use Rattle.circle_run.specs.Private.Services.{Fits}
 use Rattle.circle_run.proofs.Asked.{nobody, none_left}
 use Rattle.circle_run.proofs.Services.{serving_none, serving_more, came_served}
 use Rattle.circle_run.proofs.ranks.Rank.serve.Goals as goal

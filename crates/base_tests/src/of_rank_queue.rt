@@ -1,7 +1,7 @@
 //! Queues, amounts and words with what is known of them.
-use crate::{Batch, RankQueue, equal_share, generator, random_share, victim};
 use path_text::Path;
 use rand_core::utils::NextWord;
+use rank_queue::{Batch, RankQueue, equal_share, generator, random_share, victim};
 use std::process::Abort;
 use std::test::Fail;
 

@@ -8,7 +8,8 @@ use Rattle.post_board.specs.Deeds.{event_of, Tells}
 use Rattle.post_board.specs.Calls.{NoneAsks}
 use Rattle.circle_run.specs.Balance.{Log}
 use Rattle.circle_run.specs.Moves.{answer_of, events_of, served, lots, asks, TellsAll, batches_after, batches_after_all}
-use Rattle.circle_run.specs.Books.{counted, Writes}
+use Rattle.circle_run.specs.Books.{counted}
+use Rattle.circle_run.specs.Private.Books.{Writes}
 use Rattle.circle_run.specs.Ranks.{Knows}
 use Rattle.circle_run.specs.declared.lots.Lot.{Lot}
 use Rattle.circle_run.specs.declared.lots.Lot.TheVariants.{Same, ByLot}
@@ -86,6 +87,7 @@ module _ {J S T P : Type 0} (log : J → Log) (shows : S → Shown) (tells : P �
     pub job : r'.job ≡ r.job
     pub ended : r'.ended ≡ r.ended
     pub asked : r'.asked ≡ r.asked
+    pub tried : r'.tried ≡ r.tried
     pub here : (shows r'.seat).here ≡ (shows r.seat).here
     pub lost : r.book.lost ≡ true → r'.book.lost ≡ true
     pub awaits : Awaits (shows r'.seat) (tells p')

@@ -1,0 +1,119 @@
+-- Which move a rank makes once all that ask it have their answers.
+-- That a rank works on its own strings and asks another once it has none is from LaFon, Misra and Bringhurst, On Distributed File Tree Walk of Parallel File Systems (SC 2012); that only an idle rank moves the token is EWD840's. The order of these, and that a rank was refused once before it moves the token, are our own.
+use Rattle.std.specs.Prelude.{◌≡◌, ◌≢◌, ℕ, zero, suc, ◌-◌, ◌==◌, ◌||◌, ◌⊎◌, Bool, true, if◌then◌else◌, List, length, [], ◌∷◌, ◌++◌, Option, Some, None}
+use Rattle.std.specs.List.{flat_map}
+use Rattle.std.specs.Option.{option_map}
+use Rattle.ring_core.specs.World.{darker}
+use Rattle.ring_core.specs.declared.states.Colour.{Colour}
+use Rattle.ring_core.specs.declared.states.Colour.TheVariants.{White, Black}
+use Rattle.ring_core.specs.declared.states.Token.{Token}
+use Rattle.ring_core.specs.declared.states.Token.TheVariants.{At, Over}
+use Rattle.post_board.specs.Shown.{Strings, Shown}
+use Rattle.post_board.specs.Told.{Told}
+use Rattle.post_board.specs.Deeds.{Deed, ask, take, take_none, pass, restart, conclude, see_over}
+use Rattle.post_board.specs.declared.answers.Ring.{Ring}
+use Rattle.post_board.specs.declared.answers.Ring.TheVariants.{Elsewhere, Here, Over as HeardOver}
+use Rattle.circle_run.specs.Moves.{Move, handled, served, did}
+use Rattle.circle_run.specs.declared.ranks.Rank.{Rank}
+
+-- what a rank goes by
+pub record Standing : Type 0 where
+  -- what waits at it, oldest first
+  pub queue : Strings
+  -- whom it asked, where it has not taken the answer yet
+  pub asked : Option ℕ
+  -- its last request was refused
+  pub tried : Bool
+  -- what it read of the ring
+  pub ring : Ring
+
+pub data Choice : Type 0 where
+  -- to handle the newest string
+  to_handle : Choice
+  -- to look for the answer of this rank
+  to_look : ℕ → Choice
+  -- to move the token on, which is here with this colour
+  to_move : Colour → Choice
+  -- to ask another rank
+  to_ask : Choice
+
+-- an idle rank of n moves the token that is here once it was refused, or where it is the only one; else it asks
+abbrev pub token_or_ask : ℕ → Bool → Ring → Choice
+token_or_ask n tried (Here held) = if tried || n == 1 then to_move held else to_ask
+token_or_ask n tried _ = to_ask
+
+-- without a string it looks for the answer to its open request first
+abbrev pub look_or_on : ℕ → Option ℕ → Bool → Ring → Choice
+look_or_on n (Some victim) tried ring = to_look victim
+look_or_on n None tried ring = token_or_ask n tried ring
+
+-- the first that applies: a string that waits is handled before all else
+abbrev pub handle_or_on : Strings → Choice → Choice
+handle_or_on [] idle = idle
+handle_or_on (s ∷ queue) idle = to_handle
+
+abbrev pub choice : ℕ → Standing → Choice
+choice n x = handle_or_on x.queue (look_or_on n x.asked x.tried x.ring)
+
+-- the rank me moves the token on with this colour. Rank 0 ends the run where it is white, and else sends it round once more
+abbrev pub moved_on : ℕ → Colour → Deed
+moved_on zero White = conclude
+moved_on zero Black = restart
+moved_on (suc r) colour = pass colour
+
+-- the moves of a choice. Where the answer has not come there is none
+abbrev pub Chosen : ℕ → Choice → List Move → Type 0
+Chosen me to_handle moves = (path : List ℕ) × (kids : Strings) × (moves ≡ handled path kids ∷ [])
+Chosen me (to_look victim) moves = (moves ≡ []) ⊎ ((moves ≡ did (take_none victim) ∷ []) ⊎ ((batch : Strings) × (moves ≡ did (take victim batch) ∷ [])))
+Chosen me (to_move held) moves = (own : Colour) × (moves ≡ did (moved_on me (darker own held)) ∷ [])
+Chosen me to_ask moves = (victim : ℕ) × (moves ≡ did (ask victim) ∷ [])
+
+-- what the rank me reads of the ring while the token is so
+abbrev pub ring_of : ℕ → Token → Ring
+ring_of me (At place colour) = if place == me then Here colour else Elsewhere
+ring_of me Over = HeardOver
+
+-- where the token is told, this is what the rank me reads of the ring
+abbrev pub IsRing : ℕ → Option Told → Ring → Type 0
+IsRing me None ring = Unit {0}
+IsRing me (Some t) ring = ring ≡ ring_of me t.token
+
+-- the colour of the token, where it was read here
+abbrev pub held_of : Ring → Option Colour
+held_of (Here colour) = Some colour
+held_of _ = None
+
+-- the same once the choice was made: who moves the token on has it no more
+abbrev pub held_after : Choice → Ring → Option Colour
+held_after (to_move held) ring = None
+held_after _ ring = held_of ring
+
+-- the numbers that the job heard, where it keeps them: with a string it is told how many others wait
+abbrev pub heard_after : Choice → ℕ → Option (List ℕ) → Option (List ℕ)
+heard_after to_handle waiting heard = option_map (λ numbers. numbers ++ waiting ∷ []) heard
+heard_after _ waiting heard = heard
+
+-- a service of all that ask, and then the first that applies
+pub record Goes (n me : ℕ) (x : Standing) (held' : Option Colour) (heard heard' : Option (List ℕ)) (moves : List Move) : Type 0 where
+  pub answers : List (ℕ × Strings)
+  pub next : List Move
+  pub are : moves ≡ served answers ∷ next
+  -- what waits after the service
+  pub left : Strings
+  pub oldest : x.queue ≡ flat_map (λ a. a.1) answers ++ left
+  pub chosen : Chosen me (choice n (record x { queue = left })) next
+  pub held_is : held' ≡ held_after (choice n (record x { queue = left })) x.ring
+  pub heard_is : heard' ≡ heard_after (choice n (record x { queue = left })) (length left - 1) heard
+
+module _ {J S T : Type 0} where
+  abbrev pub standing : Ring → Rank J S T → Standing
+  standing ring r = record { queue = r.queue; asked = r.asked; tried = r.tried; ring = ring }
+
+module _ {J S T P : Type 0} (heard : J → Option (List ℕ)) (shows : S → Shown) (tells : P → Option Told) where
+  -- which moves a rank makes in a turn before the end, by what it reads of the ring: where all is over it sees that, and does nothing else.
+  -- What it read is told, or else it is what the seat shows of the token afterwards
+  pub record Chooses (r : Rank J S T) (p : P) (r' : Rank J S T) (moves : List Move) : Type 0 where
+    pub ring : Ring
+    pub is : IsRing r.me (tells p) ring
+    pub over : ring ≡ HeardOver → (moves ≡ did see_over ∷ []) × (r'.ended ≡ true) × (heard r'.job ≡ heard r.job)
+    pub goes : ring ≢ HeardOver → Goes r.options.ranks r.me (standing ring r) (shows r'.seat).here (heard r.job) (heard r'.job) moves
