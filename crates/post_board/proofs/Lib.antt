@@ -3,3 +3,17 @@ pub mod WordLemmas
 pub mod PlainFrames
 pub mod PlainDeeds
 pub mod PlainStart
+pub mod Puts
+pub mod Sheets
+pub mod FactLemmas
+pub mod TurnLemmas
+pub mod HaltLemmas
+pub mod Frames
+pub mod RingSteps
+pub mod DeskLemmas
+pub mod HaltSteps
+pub mod DeskSteps
+pub mod MomentLemmas
+pub mod SeatSteps
+pub mod CallLemmas
+pub mod GatherLemmas
