@@ -1,8 +1,10 @@
 pub mod DeedLemmas
 pub mod WordLemmas
+pub mod BitLemmas
 pub mod PlainFrames
 pub mod PlainDeeds
 pub mod PlainStart
+pub mod AskerLemmas
 pub mod Puts
 pub mod Sheets
 pub mod FactLemmas

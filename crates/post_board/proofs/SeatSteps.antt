@@ -18,9 +18,9 @@ use Rattle.ring_core.specs.declared.states.Token.{Token}
 use Rattle.ring_core.specs.declared.states.Token.TheVariants.{At, Over}
 use Rattle.post_board.specs.Shown.{Strings}
 use Rattle.post_board.specs.Told.{Told, Place, place, no_place, vacant, Sane, Sound}
-use Rattle.post_board.specs.Words.{Sign, resting, sign, word_of, token_read, word_of_token, full}
+use Rattle.post_board.specs.Words.{has_bit, Sign, resting, sign, word_of, token_read, word_of_token, full}
 use Rattle.post_board.proofs.WordLemmas.{sign_of_word, token_of_word}
-use Rattle.post_board.specs.BoardRule.{Parcel, TableState, MailboxFacts, RingFacts, HaltFacts, Moment, Rule, KeptIn, serves, given, taken, on_way, signs_in, slots_in, token_in, halt_in, stops_in, stop_read, OwnFits, SlotFits, sheet, told_of, fresh, opened, dealing, dealt_out, both, spent}
+use Rattle.post_board.specs.BoardRule.{Parcel, TableState, MailboxFacts, RingFacts, HaltFacts, Moment, Rule, KeptIn, serves, given, taken, on_way, signs_in, slots_in, token_in, halt_in, stops_in, OwnFits, SlotFits, sheet, told_of, fresh, opened, dealing, dealt_out, both, spent}
 use Rattle.post_board.specs.BoardSteps.{SeatState, noted, knows, Squares, LastLookTells}
 use Rattle.post_board.specs.declared.board_views.Known.{Known}
 use Rattle.post_board.specs.declared.board_views.View.{View}
@@ -69,7 +69,9 @@ deals n id v first room live s o here =
           (omega arith, ap o.known at ∙ o.unmade v.made (omega (arith, long.1)) ∙ ap (λ (m : ℕ). fresh m v.made) (sym size) ∙ ap (λ (x : View). x.own) new.1)))
         (at_end vs (dealt_out v) k u e);
       kept = λ k u e. ⊎_elim
-        (λ old. λ i d h. (let p = ⊎_elim {C = All (KeptIn n o.known s.views) u.kept} (λ t. subst (λ (x : View). All (KeptIn n o.known s.views) x.kept) t.1 (o.kept id v here)) (λ t. o.kept k u t.1) (at_set s.views id k (dealing v) u old) i d h in
+        (λ old. λ i d h. (let p = ⊎_elim {C = All (KeptIn n o.known s.views) u.kept}
+            (λ t. subst (λ (x : View). All (KeptIn n o.known s.views) x.kept) t.1 (o.kept id v here)) (λ t. o.kept k u t.1)
+            (at_set s.views id k (dealing v) u old) i d h in
           let y : Known = get_or u.kept i d in
           let ne : y.number ≢ id = elsewhere s.views y.number id v p.2.0 here live p.2.1 p.2.2 in
           (p.0, p.1, (p.2.0, at_longer vs (dealt_out v ∷ []) y.number p.2.0 (set_else s.views id y.number (dealing v) ne ∙ p.2.1), p.2.2))))
@@ -100,7 +102,8 @@ joins n id other v w live lives s o here apart there =
     let all_moved : (ks : List Known) → All (KeptIn n o.known s.views) ks → All (KeptIn n o.known vs) ks = λ ks all i d h. moved (get_or ks i d) (all i d h) in
     let was = o.seated other w there2 lives in
     let number : other ≡ w.own.number = sym (o.moment.mailboxes.named other was.0).0 ∙ ap (λ (x : Known). x.number) was.1 in
-    let taken_in : KeptIn n o.known vs w.own = (subst (λ (j : ℕ). j < n) number was.0, ap o.known (sym number) ∙ was.1, (spent, ap (get_elem? vs) (sym number) ∙ set_here us other spent other_in, refl)) in
+    let taken_in : KeptIn n o.known vs w.own = (subst (λ (j : ℕ). j < n) number was.0, ap o.known (sym number)
+        ∙ was.1, (spent, ap (get_elem? vs) (sym number) ∙ set_here us other spent other_in, refl)) in
     record {
       known = o.known;
       few = o.few;
@@ -115,13 +118,16 @@ joins n id other v w live lives s o here apart there =
       kept = λ k u e. ⊎_elim
         (λ t. subst (λ (x : View). All (KeptIn n o.known vs) x.kept) t.1 (All-nil (KeptIn n o.known vs)))
         (λ t. ⊎_elim
-          (λ q. subst (λ (x : View). All (KeptIn n o.known vs) x.kept) q.1 (All-append (KeptIn n o.known vs) v.kept (w.own ∷ w.kept) (all_moved v.kept (o.kept id v here)) (All-cons (KeptIn n o.known vs) w.own w.kept taken_in (all_moved w.kept (o.kept other w there2)))))
+          (λ q. subst (λ (x : View). All (KeptIn n o.known vs) x.kept) q.1
+              (All-append (KeptIn n o.known vs) v.kept (w.own ∷ w.kept) (all_moved v.kept (o.kept id v here))
+              (All-cons (KeptIn n o.known vs) w.own w.kept taken_in (all_moved w.kept (o.kept other w there2)))))
           (λ q. all_moved u.kept (o.kept k u q.1)) (at_set s.views id k (both v w) u t.1))
         (at_set us other k spent u e);
       dealt = λ k u e. subst (λ (l : ℕ). (u.made ≡ 0) ⊎ ((k ≡ 0) × (u.made ≡ l))) (sym same) (⊎_elim
         (λ t. inl (ap (λ (x : View). x.made) (sym t.1)))
         (λ t. ⊎_elim
-          (λ q. subst (λ (x : View). (x.made ≡ 0) ⊎ ((k ≡ 0) × (x.made ≡ length s.views))) q.1 (subst (λ (j : ℕ). (v.made ≡ 0) ⊎ ((j ≡ 0) × (v.made ≡ length s.views))) (sym q.0) (o.dealt id v here)))
+          (λ q. subst (λ (x : View). (x.made ≡ 0) ⊎ ((k ≡ 0) × (x.made ≡ length s.views))) q.1
+              (subst (λ (j : ℕ). (v.made ≡ 0) ⊎ ((j ≡ 0) × (v.made ≡ length s.views))) (sym q.0) (o.dealt id v here)))
           (λ q. o.dealt k u q.1) (at_set s.views id k (both v w) u t.1))
         (at_set us other k spent u e));
       unmade = λ r beyond. o.unmade r (omega arith);
@@ -132,15 +138,18 @@ abbrev Kept2 : ℕ → (ℕ → Known) → Known → Type 0
 Kept2 n known x = (x.number < n) × (known x.number ≡ x)
 
 -- the mailbox of a rank that has ended or stopped holds no batch
-no_batch : (n : ℕ) (s : TableState) (o : Rule n s) (y : Known) → y.number < n → o.known y.number ≡ y → (y.ended ≡ true) ⊎ (y.stopped ≡ true) → (k : ℕ) → signs_in n s.words y.number ≢ full k
+no_batch : (n : ℕ) (s : TableState) (o : Rule n s) (y : Known) → y.number < n → o.known y.number ≡ y → (y.ended ≡ true) ⊎ (y.stopped ≡ true) → (k : ℕ)
+    → signs_in n s.words y.number ≢ full k
 no_batch n s o y h same fate k = ⊎_elim
     (λ e. (over_quiet n o.known (signs_in n s.words) (token_in s.words) o.moment.ring
       (ended_over n s o y.number h (ap (λ (x : Known). x.ended) same ∙ e)) y.number h).1 k)
     (λ e f. (let gone = o.moment.halt.gone y.number h (ap (λ (x : Known). x.stopped) same ∙ e) in
-      let calm : signs_in n s.words y.number ≡ resting = subst (λ (x : OwnMailbox). OwnFits x (signs_in n s.words y.number)) gone.0 (o.moment.mailboxes.own y.number h) in cc)) fate
+      let calm : signs_in n s.words y.number ≡ resting = subst (λ (x : OwnMailbox). OwnFits x (signs_in n s.words y.number)) gone.0
+          (o.moment.mailboxes.own y.number h) in cc)) fate
 
 -- the last look: what the kept seats took from one another is what they gave
-pub settles : (n slots id i : ℕ) (m : SeatState) → m.0.live ≡ true → (m.0.own.ended ≡ true) ⊎ (m.0.own.stopped ≡ true) → Allows (Rule n) slots id m i (λ r. r) (LastLookTells (step slots i 0 0 none) m)
+pub settles : (n slots id i : ℕ) (m : SeatState) → m.0.live ≡ true → (m.0.own.ended ≡ true) ⊎ (m.0.own.stopped ≡ true)
+    → Allows (Rule n) slots id m i (λ r. r) (LastLookTells (step slots i 0 0 none) m)
 settles n slots id i m live fate s o wide here small =
     let was = o.seated id m.0 here live in
     let r : ℕ = get_or s.words i 0 in
@@ -153,7 +162,8 @@ settles n slots id i m live fate s o wide here small =
     (knows m.0 (W m.0.own), keeps, tt,
      frame n s o id m.0 W (set s.words i r) s.homes here live (length-set s.words i r) refl
        (at_none n (put o.known id (W k)) s.words s.homes o.wide i
-         (unmoved n o.known (signs_in n s.words) (slots_in s.homes) id (W k) was.0 o.moment.mailboxes refl refl refl refl refl (o.moment.mailboxes.own id was.0) (o.moment.mailboxes.away id was.0))
+         (unmoved n o.known (signs_in n s.words) (slots_in s.homes) id (W k) was.0 o.moment.mailboxes refl refl refl refl refl
+             (o.moment.mailboxes.own id was.0) (o.moment.mailboxes.away id was.0))
          (calm_all n o.known (signs_in n s.words) (token_in s.words) o.moment.ring id was.0 (W k) refl (o.moment.ring.here id was.0))
          (halt_moved n o.known (halt_in n s.words) (stops_in n s.words) id (W k) (halt_in n s.words) (stops_in n s.words) o.moment.halt record {
            up = λ e. e;
@@ -169,14 +179,16 @@ settles n slots id i m live fate s o wide here small =
       let x : Known = get_or ks j d in let y : Known = get_or ks l e in
       let kx = all j d h in let ky = all l e g in
       ap (λ (v : Known). taken v x.number) (sym ky.1) ∙ sym (append-nil (taken (o.known y.number) x.number))
-      ∙ ap (λ xs. taken (o.known y.number) x.number ++ xs) (sym (not_full (signs_in n s.words y.number) x.number (slots_in s.homes y.number) (no_batch n s o y ky.0 ky.1 (done l e g))))
+      ∙ ap (λ xs. taken (o.known y.number) x.number ++ xs) (sym
+          (not_full (signs_in n s.words y.number) x.number (slots_in s.homes y.number) (no_batch n s o y ky.0 ky.1 (done l e g))))
       ∙ o.moment.mailboxes.paired x.number y.number kx.0 ky.0 ∙ ap (λ (v : Known). given v y.number) kx.1,
      λ j d h e.
       let x : Known = get_or ks j d in
       let kx = all j d h in
       let p = o.moment.halt.by_one (o.moment.halt.knows x.number kx.0 (ap (λ (v : Known). v.knows_halt) kx.1 ∙ e)) in
       (p.0, subst (λ (q : ℕ). p.0 < q) (sym (o.moment.mailboxes.named id was.0).1 ∙ ap (λ (v : Known). v.n) was.1) p.1,
-       λ l f g same. (let y : Known = get_or ks l f in let ky = all l f g in ap (λ (v : Known). v.halted) (sym ky.1) ∙ ap (λ (q : ℕ). (o.known q).halted) same ∙ p.2))))
+       λ l f g same. (let y : Known = get_or ks l f in let ky = all l f g in ap (λ (v : Known). v.halted) (sym ky.1)
+           ∙ ap (λ (q : ℕ). (o.known q).halted) same ∙ p.2))))
 
 -- the words of a new table: the token lies black at rank 0
 pub record FirstWords (n : ℕ) (ws : List ℕ) : Type 0 where
@@ -190,7 +202,8 @@ first_words n zeros ws z e =
     record {
       long = ap length e ∙ length-set zeros 0 2 ∙ long;
       first = ap (λ xs. get_or xs 0 0) e ∙ get_or-set_same zeros 0 2 0 (omega arith);
-      others = λ k some. ap (λ xs. get_or xs k 0) e ∙ get_or-set_other zeros 0 k 2 0 (λ q. omega arith) ∙ ap (λ xs. get_or xs k 0) z ∙ read_of_copies (λ (x : ℕ). x ≡ 0) (n + 3) k 0 0 refl refl;
+      others = λ k some. ap (λ xs. get_or xs k 0) e ∙ get_or-set_other zeros 0 k 2 0 (λ q. omega arith) ∙ ap (λ xs. get_or xs k 0) z
+          ∙ read_of_copies (λ (x : ℕ). x ≡ 0) (n + 3) k 0 0 refl refl;
     }
 
 only : (n k : ℕ) (v : View) → 0 < n → get_elem? (opened n ∷ []) k ≡ some v → (k < n) × (fresh n k ≡ v.own)
@@ -217,14 +230,18 @@ never (suc n) (suc r) = never n r
 -- the table at the start
 pub starts : (n : ℕ) (ws : List ℕ) → 0 < n → n ≤ 64 → FirstWords n ws → Rule n (opening ws (replicate n None) (opened n))
 starts n ws some_rank few W =
-    let calm : (r : ℕ) → signs_in n ws r ≡ resting = λ r. ap sign (if_zero (nat_lt r n) (get_or ws (r + 1) 0) (W.others (r + 1) (omega arith))) ∙ sign_of_word resting in
-    let empty : (r : ℕ) → r < n → slots_in (map some (replicate n None)) r ≡ some None = λ r h. (let long : length (replicate {A = Parcel} n None) ≡ n = length-replicate n None in
+    let calm : (r : ℕ) → signs_in n ws r ≡ resting = λ r. ap sign (if_zero (nat_lt r n) (get_or ws (r + 1) 0) (W.others (r + 1) (omega arith)))
+        ∙ sign_of_word resting in
+    let empty : (r : ℕ) → r < n → slots_in (map some (replicate n None)) r ≡ some None =
+        λ r h. (let long : length (replicate {A = Parcel} n None) ≡ n = length-replicate n None in
         get_or-map some (replicate n None) r None none (omega arith)) ∙ ap some (get_or-replicate n r None None h) in
     let token : token_in ws ≡ At 0 Black = ap token_read W.first ∙ token_of_word (At 0 Black) in
-    let same : map (places (fresh n) (signs_in n ws)) (range_with_len 0 n) ≡ replicate n fresh_place = ext_get_or no_place (map (places (fresh n) (signs_in n ws)) (range_with_len 0 n)) (replicate n fresh_place)
+    let same : map (places (fresh n) (signs_in n ws)) (range_with_len 0 n) ≡ replicate n fresh_place =
+        ext_get_or no_place (map (places (fresh n) (signs_in n ws)) (range_with_len 0 n)) (replicate n fresh_place)
         (sheet_size n (places (fresh n) (signs_in n ws)) ∙ sym (length-replicate n fresh_place))
         (λ i h. let below : i < n = (let e = sheet_size n (places (fresh n) (signs_in n ws)) in omega arith) in
-          get_or-map-range_with_len (places (fresh n) (signs_in n ws)) 0 n i i no_place below (omega arith) ∙ ap (Rattle.post_board.specs.BoardRule.place_of (fresh n i)) (calm i) ∙ sym (get_or-replicate n i fresh_place no_place below)) in
+          get_or-map-range_with_len (places (fresh n) (signs_in n ws)) 0 n i i no_place below (omega arith)
+              ∙ ap (Rattle.post_board.specs.BoardRule.place_of (fresh n i)) (calm i) ∙ sym (get_or-replicate n i fresh_place no_place below)) in
     record {
       known = fresh n;
       few = few;
@@ -243,17 +260,20 @@ starts n ws some_rank few W =
           held = λ r h. subst (λ (d : Sign). SlotFits d (slots_in (map some (replicate n None)) r)) (sym (calm r)) (empty r h);
           served = λ r k h hk e. (let a = calm r in cc);
           serving_is = λ r k h hk e. (let a = never n r in absurd (cc));
-          paired = λ i j hi hj. ap (λ (d : Sign). taken (fresh n j) i ++ on_way d i (slots_in (map some (replicate n None)) j)) (calm j) ∙ append-nil (taken (fresh n j) i) ∙ get_or-replicate n i [] [] hi ∙ sym (get_or-replicate n j [] [] hj);
+          paired = λ i j hi hj. ap (λ (d : Sign). taken (fresh n j) i ++ on_way d i (slots_in (map some (replicate n None)) j)) (calm j)
+              ∙ append-nil (taken (fresh n j) i) ∙ get_or-replicate n i [] [] hi ∙ sym (get_or-replicate n j [] [] hj);
         };
         ring = subst (RingFacts n (fresh n) (signs_in n ws)) (sym token) record {
-          reached = subst (λ (ps : List Place). Reached n (record { places = ps; token = At 0 Black; halt = false; stops = replicate n false })) (sym same) begun;
+          reached = subst (λ (ps : List Place). Reached n (record { places = ps; token = At 0 Black; halt = false; stops = replicate n false }))
+              (sym same) begun;
           here = λ r h. tt;
         };
         halt = record {
           halted = λ r h e. cc;
           knows = λ r h e. cc;
-          by_one = λ e. absurd (let z : get_or ws (n + 1) 0 ≡ 0 = W.others (n + 1) (omega arith) in let f : (0 == 1) ≡ true = ap (λ (x : ℕ). x == 1) (sym z) ∙ e in cc);
-          bits = λ r h. sym (ap (λ (x : ℕ). stop_read x r) (W.others (n + 2) (omega arith)) ∙ ap (λ (x : ℕ). x == 1) (bit_at-zero r));
+          by_one = λ e. absurd (let z : get_or ws (n + 1) 0 ≡ 0 = W.others (n + 1) (omega arith) in
+              let f : (0 == 1) ≡ true = ap (λ (x : ℕ). x == 1) (sym z) ∙ e in cc);
+          bits = λ r h. sym (ap (λ (x : ℕ). has_bit x r) (W.others (n + 2) (omega arith)) ∙ ap (λ (x : ℕ). x == 1) (bit_at-zero r));
           left = λ r v h e. cc;
           gone = λ r h e. cc;
         };

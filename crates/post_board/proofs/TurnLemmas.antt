@@ -37,7 +37,8 @@ elsewhere (Some d) k id c t u ne at h = absurd (let e : At k d ≡ At id c = sym
 
 module _ (n : ℕ) (known : ℕ → Known) (signs : ℕ → Sign) (token : Token) (T : RingFacts n known signs token) (id : ℕ) (me : id < n) (w : Known) where
   -- nothing that the picture shows changes
-  pub calm : (r : ℕ) (d : Sign) → place_of w resting ≡ place_of (known id) resting → mail_of d ≡ mail_of (signs r) → HereFits w.here id token → RingFacts n (put known id w) (put signs r d) token
+  pub calm : (r : ℕ) (d : Sign) → place_of w resting ≡ place_of (known id) resting → mail_of d ≡ mail_of (signs r) → HereFits w.here id token
+      → RingFacts n (put known id w) (put signs r d) token
   calm r d face mail here = record {
     reached = subst (λ (f : ℕ → Place). Reached n (sheet n f token)) (sym (seen_same known signs id w r d face mail)) T.reached;
     here = λ k h. put_all (λ j v. HereFits v.here j token) known id w k here (λ ne. T.here k h);
@@ -57,17 +58,21 @@ module _ (n : ℕ) (known : ℕ → Known) (signs : ℕ → Sign) (token : Token
   others r h ne = (subst (λ (m : ℕ). r < m) (sym (sheet_size n (places known signs))) h, ne)
 
   -- a deed that changes the own place, and the token
-  pub by_own : (deed : Deed) (d : Sign) (token' : Token) → Legal id deed (told_of n known signs token) → told_after id deed (told_of n known signs token) ≡ record (put_place (told_of n known signs token) id (place_of w d)) { token = token' }
+  pub by_own : (deed : Deed) (d : Sign) (token' : Token) → Legal id deed (told_of n known signs token)
+      → told_after id deed (told_of n known signs token) ≡ record (put_place (told_of n known signs token) id (place_of w d)) { token = token' }
       → HereFits w.here id token' → ((k : ℕ) → k < n → k ≢ id → HereFits (known k).here k token') → RingFacts n (put known id w) (put signs id d) token'
   by_own deed d token' legal left here theirs = record {
     reached = done n (places known signs) (places (put known id w) (put signs id d)) token id me deed token' legal
-        (left ∙ put_one n (places known signs) (places (put known id w) (put signs id d)) token id me id (place_of w d) token' me (seen_own known signs id w d)) T.reached;
+        (left ∙ put_one n (places known signs) (places (put known id w) (put signs id d)) token id me id (place_of w d) token' me
+            (seen_own known signs id w d)) T.reached;
     here = λ k h. dite (ℕ_discrete k id)
-        (λ e. subst (λ (j : ℕ). HereFits (put known id w j).here j token') (sym e) (subst (λ (v : Known). HereFits v.here id token') (sym (put_here known id w)) here))
+        (λ e. subst (λ (j : ℕ). HereFits (put known id w j).here j token') (sym e)
+            (subst (λ (v : Known). HereFits v.here id token') (sym (put_here known id w)) here))
         (λ ne. subst (λ (v : Known). HereFits v.here k token') (sym (put_elsewhere known id w k ne)) (theirs k h ne));
   }
 
-  pub asks : (victim : ℕ) → victim < n → id ≢ victim → (known id).ended ≡ false → signs id ≡ resting → place_of w resting ≡ record (place_of (known id) resting) { busy = false } → w.here ≡ (known id).here
+  pub asks : (victim : ℕ) → victim < n → id ≢ victim → (known id).ended ≡ false → signs id ≡ resting
+      → place_of w resting ≡ record (place_of (known id) resting) { busy = false } → w.here ≡ (known id).here
       → RingFacts n (put known id w) (put signs id (asking victim)) token
   asks victim h ne live rests face here =
       by_own (ask victim) (asking victim) token (acts live, others victim h ne, ap (λ (x : Place). x.mail) at ∙ ap mail_of rests)
@@ -75,7 +80,8 @@ module _ (n : ℕ) (known : ℕ → Known) (signs : ℕ → Sign) (token : Token
        ∙ ap (λ (x : Place). put_place (told_of n known signs token) id (record x { mail = asked victim })) (sym face))
       (subst (λ (x : Option Colour). HereFits x id token) (sym here) (T.here id me)) (λ k h2 ne2. T.here k h2)
 
-  pub fetches : (from : ℕ) → from < n → id ≢ from → (known id).ended ≡ false → signs id ≡ full from → place_of w resting ≡ record (place_of (known id) resting) { busy = true; tried = false } → w.here ≡ (known id).here
+  pub fetches : (from : ℕ) → from < n → id ≢ from → (known id).ended ≡ false → signs id ≡ full from
+      → place_of w resting ≡ record (place_of (known id) resting) { busy = true; tried = false } → w.here ≡ (known id).here
       → RingFacts n (put known id w) (put signs id (fetching from)) token
   fetches from h ne live was face here =
       by_own (take from []) (fetching from) token (acts live, others from h ne, ap (λ (x : Place). x.mail) at ∙ ap mail_of was)
@@ -83,7 +89,8 @@ module _ (n : ℕ) (known : ℕ → Known) (signs : ℕ → Sign) (token : Token
        ∙ ap (λ (x : Place). put_place (told_of n known signs token) id (record x { mail = vacant })) (sym face))
       (subst (λ (x : Option Colour). HereFits x id token) (sym here) (T.here id me)) (λ k h2 ne2. T.here k h2)
 
-  pub empties : (from : ℕ) → from < n → id ≢ from → (known id).ended ≡ false → signs id ≡ emptied from → place_of w resting ≡ record (place_of (known id) resting) { tried = true } → w.here ≡ (known id).here
+  pub empties : (from : ℕ) → from < n → id ≢ from → (known id).ended ≡ false → signs id ≡ emptied from
+      → place_of w resting ≡ record (place_of (known id) resting) { tried = true } → w.here ≡ (known id).here
       → RingFacts n (put known id w) (put signs id resting) token
   empties from h ne live was face here =
       by_own (take_none from) resting token (acts live, others from h ne, ap (λ (x : Place). x.mail) at ∙ ap mail_of was)
@@ -101,16 +108,20 @@ module _ (n : ℕ) (known : ℕ → Known) (signs : ℕ → Sign) (token : Token
       record {
         reached = done n (places known signs) (places (put known id w) (put signs r (full id))) token id me (give r []) token
             (acts live, others r h ne, ap (λ (x : Place). x.busy) at ∙ busy, ap (λ (x : Place). x.mail) at_r ∙ was)
-            (ap (λ (x : Place). put_place (put_place t id (record x { colour = cond (nat_lt id r) Black x.colour })) r (record (place t r) { mail = filled id [] })) at
+            (ap (λ (x : Place). put_place (put_place t id (record x { colour = cond (nat_lt id r) Black x.colour })) r
+                (record (place t r) { mail = filled id [] })) at
              ∙ ap (λ (x : Place). put_place (put_place t id (record x { mail = mail_of (signs id) })) r (record (place t r) { mail = filled id [] })) (sym face)
              ∙ ap (λ (x : Place). put_place (put_place t id (place_of w (signs id))) r (record x { mail = filled id [] })) at_r
-             ∙ put_two n (places known signs) (places (put known id w) (put signs r (full id))) token id me r (place_of w (signs id)) (place_of (known r) (full id)) h (seen_two known signs id w r (full id) ne))
+             ∙ put_two n (places known signs) (places (put known id w) (put signs r (full id))) token id me r (place_of w (signs id))
+                 (place_of (known r) (full id)) h (seen_two known signs id w r (full id) ne))
             T.reached;
-        here = λ k h2. put_all (λ j v. HereFits v.here j token) known id w k (subst (λ (x : Option Colour). HereFits x id token) (sym here) (T.here id me)) (λ ne2. T.here k h2);
+        here = λ k h2. put_all (λ j v. HereFits v.here j token) known id w k (subst (λ (x : Option Colour). HereFits x id token) (sym here) (T.here id me))
+            (λ ne2. T.here k h2);
       }
 
   -- the mailbox of r, which asks this rank, comes to hold a refusal
-  pub refuses : (r : ℕ) → r < n → id ≢ r → (known id).ended ≡ false → mail_of (signs r) ≡ asked id → place_of w resting ≡ place_of (known id) resting → w.here ≡ (known id).here
+  pub refuses : (r : ℕ) → r < n → id ≢ r → (known id).ended ≡ false → mail_of (signs r) ≡ asked id → place_of w resting ≡ place_of (known id) resting
+      → w.here ≡ (known id).here
       → RingFacts n (put known id w) (put signs r (emptied id)) token
   refuses r h ne live was face here =
       let t : Told = told_of n known signs token in
@@ -124,15 +135,19 @@ module _ (n : ℕ) (known : ℕ → Known) (signs : ℕ → Sign) (token : Token
                (seen_two known signs id w r (emptied id) ne ∙ ap (λ (x : Place). put (put (places known signs) id x) r (place_of (known r) (emptied id))) same
                 ∙ ap (λ (f : ℕ → Place). put f r (place_of (known r) (emptied id))) (put_self (places known signs) id)))
             T.reached;
-        here = λ k h2. put_all (λ j v. HereFits v.here j token) known id w k (subst (λ (x : Option Colour). HereFits x id token) (sym here) (T.here id me)) (λ ne2. T.here k h2);
+        here = λ k h2. put_all (λ j v. HereFits v.here j token) known id w k (subst (λ (x : Option Colour). HereFits x id token) (sym here) (T.here id me))
+            (λ ne2. T.here k h2);
       }
 
   -- the own mailbox stays as it is
-  by_self : (deed : Deed) (token' : Token) → Legal id deed (told_of n known signs token) → told_after id deed (told_of n known signs token) ≡ record (put_place (told_of n known signs token) id (place_of w (signs id))) { token = token' }
+  by_self : (deed : Deed) (token' : Token) → Legal id deed (told_of n known signs token) → told_after id deed (told_of n known signs token) ≡ record
+      (put_place (told_of n known signs token) id (place_of w (signs id))) { token = token' }
       → HereFits w.here id token' → ((k : ℕ) → k < n → k ≢ id → HereFits (known k).here k token') → RingFacts n (put known id w) signs token'
-  by_self deed token' legal left here theirs = subst (λ (f : ℕ → Sign). RingFacts n (put known id w) f token') (put_self signs id) (by_own deed (signs id) token' legal left here theirs)
+  by_self deed token' legal left here theirs = subst (λ (f : ℕ → Sign). RingFacts n (put known id w) f token') (put_self signs id)
+      (by_own deed (signs id) token' legal left here theirs)
 
-  pub sees_over : (known id).ended ≡ false → token ≡ Over → place_of w resting ≡ record (place_of (known id) resting) { ended = true } → w.here ≡ None → RingFacts n (put known id w) signs token
+  pub sees_over : (known id).ended ≡ false → token ≡ Over → place_of w resting ≡ record (place_of (known id) resting) { ended = true } → w.here ≡ None
+      → RingFacts n (put known id w) signs token
   sees_over live over face here =
       by_self see_over token (acts live, over)
       (ap (λ (x : Place). put_place (told_of n known signs token) id (record x { ended = true })) at
@@ -143,18 +158,23 @@ module _ (n : ℕ) (known : ℕ → Known) (signs : ℕ → Sign) (token : Token
   pub idle : (known id).tried ≡ true → (known id).busy ≡ false
   idle tried = ap (λ (x : Place). x.busy) (sym at) ∙ (sound_now n known signs token T (omega arith)).sane.tried id (ap (λ (x : Place). x.tried) at ∙ tried)
 
-  pub passes : (c : Colour) → 0 < id → (known id).ended ≡ false → (known id).tried ≡ true → signs id ≡ resting → token ≡ At id c → place_of w resting ≡ record (place_of (known id) resting) { colour = White } → w.here ≡ None
+  pub passes : (c : Colour) → 0 < id → (known id).ended ≡ false → (known id).tried ≡ true → signs id ≡ resting → token ≡ At id c
+      → place_of w resting ≡ record (place_of (known id) resting) { colour = White } → w.here ≡ None
       → RingFacts n (put known id w) signs (At (id - 1) (darker (known id).colour c))
   passes c above live tried rests there face here =
       by_self (pass (darker (known id).colour c)) (At (id - 1) (darker (known id).colour c))
-      (acts live, above, ap (λ (x : Place). x.busy) at ∙ idle tried, ap (λ (x : Place). x.mail) at ∙ ap mail_of rests, (c, there, ap (λ (x : Place). darker x.colour c) (sym at)), ap (λ (x : Place). x.tried) at ∙ tried)
-      (ap (λ (x : Place). record (put_place (told_of n known signs token) id (record x { colour = White })) { token = At (id - 1) (darker (known id).colour c) }) at
-       ∙ ap (λ (x : Place). record (put_place (told_of n known signs token) id (record x { mail = mail_of (signs id) })) { token = At (id - 1) (darker (known id).colour c) }) (sym face))
+      (acts live, above, ap (λ (x : Place). x.busy) at ∙ idle tried, ap (λ (x : Place). x.mail) at
+          ∙ ap mail_of rests, (c, there, ap (λ (x : Place). darker x.colour c) (sym at)), ap (λ (x : Place). x.tried) at ∙ tried)
+      (ap (λ (x : Place). record (put_place (told_of n known signs token) id (record x { colour = White })) { token =
+          At (id - 1) (darker (known id).colour c) }) at
+       ∙ ap (λ (x : Place). record (put_place (told_of n known signs token) id (record x { mail = mail_of (signs id) })) { token =
+           At (id - 1) (darker (known id).colour c) }) (sym face))
       (subst (λ (x : Option Colour). HereFits x id (At (id - 1) (darker (known id).colour c))) (sym here) tt)
       (λ k h2 ne2. elsewhere (known k).here k id c token (At (id - 1) (darker (known id).colour c)) ne2 there (T.here k h2))
 
   -- with one rank it may be busy
-  pub restarts : (c : Colour) → id ≡ 0 → (known id).ended ≡ false → (n ≡ 1) ⊎ ((known id).tried ≡ true) → signs id ≡ resting → token ≡ At id c → darker (known id).colour c ≡ Black
+  pub restarts : (c : Colour) → id ≡ 0 → (known id).ended ≡ false → (n ≡ 1) ⊎ ((known id).tried ≡ true) → signs id ≡ resting → token ≡ At id c
+      → darker (known id).colour c ≡ Black
       → place_of w resting ≡ record (place_of (known id) resting) { colour = White; busy = false } → w.here ≡ None
       → RingFacts n (put known id w) signs (At (n - 1) White)
   restarts c first live tried rests there black face here =
@@ -175,7 +195,8 @@ module _ (n : ℕ) (known : ℕ → Known) (signs : ℕ → Sign) (token : Token
   concludes first live tried rests there white face here =
       let t : Told = told_of n known signs token in
       let size : length t.places ≡ n = sheet_size n (places known signs) in
-      let busy : (known id).busy ≡ false = ⊎_elim (λ e. ap (λ (x : Place). x.busy) (sym at) ∙ ap (λ (k : ℕ). (place t k).busy) first ∙ (sound_now n known signs token T (omega arith)).sane.alone (size ∙ e) (there ∙ ap (λ (k : ℕ). At k White) first)) idle tried in
+      let busy : (known id).busy ≡ false = ⊎_elim (λ e. ap (λ (x : Place). x.busy) (sym at) ∙ ap (λ (k : ℕ). (place t k).busy) first
+          ∙ (sound_now n known signs token T (omega arith)).sane.alone (size ∙ e) (there ∙ ap (λ (k : ℕ). At k White) first)) idle tried in
       by_self conclude Over
       (acts live, first, ap (λ (x : Place). x.busy) at ∙ busy, ap (λ (x : Place). x.mail) at ∙ ap mail_of rests, there, ap (λ (x : Place). x.colour) at ∙ white,
        ⊎_elim (λ e. inl (size ∙ e)) (λ e. inr (ap (λ (x : Place). x.tried) at ∙ e)) tried)
@@ -193,8 +214,10 @@ put_again f i x y = λ t k. at k t
         (λ ne. put_elsewhere (put f i x) i y k ne ∙ put_elsewhere f i x k ne ∙ sym (put_elsewhere f i y k ne))
 
 -- withdrawing is as if the rank that was asked, which has stopped, had refused, and that had been taken
-pub withdraws : (n : ℕ) (known : ℕ → Known) (signs : ℕ → Sign) (token : Token) → RingFacts n known signs token → (id : ℕ) → id < n → (w : Known) (v : ℕ) → v < n → id ≢ v
-    → (known id).ended ≡ false → (known v).ended ≡ false → signs id ≡ asking v → place_of w resting ≡ record (place_of (known id) resting) { tried = true } → w.here ≡ (known id).here
+pub withdraws : (n : ℕ) (known : ℕ → Known) (signs : ℕ → Sign) (token : Token) → RingFacts n known signs token → (id : ℕ) → id < n → (w : Known) (v : ℕ)
+    → v < n → id ≢ v
+    → (known id).ended ≡ false → (known v).ended ≡ false → signs id ≡ asking v → place_of w resting ≡ record (place_of (known id) resting) { tried = true }
+        → w.here ≡ (known id).here
     → RingFacts n (put known id w) (put signs id resting) token
 withdraws n known signs token T id me w v h ne live theirs was face here =
     let desk1 : ℕ → Sign = put signs id (emptied v) in
@@ -208,17 +231,20 @@ not_true true never = absurd (never refl)
 not_true false never = refl
 
 -- when all is over, no rank is busy and no mailbox holds a batch
-pub over_quiet : (n : ℕ) (known : ℕ → Known) (signs : ℕ → Sign) (token : Token) → RingFacts n known signs token → token ≡ Over → (r : ℕ) → r < n → ((known r).busy ≡ false) × ((i : ℕ) → signs r ≢ full i)
+pub over_quiet : (n : ℕ) (known : ℕ → Known) (signs : ℕ → Sign) (token : Token) → RingFacts n known signs token → token ≡ Over → (r : ℕ) → r < n
+    → ((known r).busy ≡ false) × ((i : ℕ) → signs r ≢ full i)
 over_quiet n known signs token T over r h =
     let t : Told = told_of n known signs token in
     let at_r : place t r ≡ place_of (known r) (signs r) = place_at n (places known signs) token r h in
-    let quiet : PictureInvariant (length t.places) (picture t) Over = subst (PictureInvariant (length t.places) (picture t)) over (sound_now n known signs token T (omega arith)).token in
+    let quiet : PictureInvariant (length t.places) (picture t) Over = subst (PictureInvariant (length t.places) (picture t)) over
+        (sound_now n known signs token T (omega arith)).token in
     let inside : r < length t.places = subst (λ (m : ℕ). r < m) (sym (sheet_size n (places known signs))) h in
     (not_true (known r).busy (λ b. quiet r (inside, inl (ap (λ (x : Place). x.busy) at_r ∙ b))),
      λ i e. quiet r (inside, inr (ap (λ (x : Place). is_filled (mailbox x.mail)) at_r ∙ ap (λ (d : Sign). is_filled (mailbox (mail_of d))) e)))
 
 -- a token that is elsewhere is at another rank
-pub many : (n : ℕ) (known : ℕ → Known) (signs : ℕ → Sign) (token : Token) → RingFacts n known signs token → (r : ℕ) → r < n → is_at token r ≡ false → is_over token ≡ false → 1 < n
+pub many : (n : ℕ) (known : ℕ → Known) (signs : ℕ → Sign) (token : Token) → RingFacts n known signs token → (r : ℕ) → r < n → is_at token r ≡ false
+    → is_over token ≡ false → 1 < n
 many n known signs token T r h away going =
     let t : Told = told_of n known signs token in
     other token refl

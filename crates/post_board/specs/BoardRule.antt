@@ -2,7 +2,7 @@
 -- A board has the words 0 (the ring, where the token lies), r + 1 (the mailbox of rank r), n + 1 (the halt) and n + 2 (the stops, one bit a rank), and the slot r, in which a batch for rank r waits.
 -- Of each rank the rule speaks by what its seat knows (`Known`), which changes only at a step of that seat. The token, busy and colour are EWD840's (Dijkstra, Feijen, van Gasteren); mailboxes, slots, halt and stops are our own.
 -- The rule has three parts: `MailboxFacts` (the words and slots of mailboxes, and the history of batches), `RingFacts` (the picture with the token) and `HaltFacts` (halt and stops, which no call sets yet).
-use Rattle.std.specs.Prelude.{All, ◌≡◌, ◌≢◌, ℕ, ◌+◌, ◌^◌, ◌/◌, ◌%◌, ◌<◌, ◌≤◌, ◌⊎◌, ◌==◌, nat_lt, Bool, true, false, if◌then◌else◌, List, [], ◌∷◌, ◌++◌, length, map, slice_index, slice_index_or, replicate, Option, Some, None}
+use Rattle.std.specs.Prelude.{All, ◌≡◌, ◌≢◌, ℕ, ◌+◌, ◌<◌, ◌≤◌, ◌⊎◌, ◌==◌, nat_lt, Bool, true, false, if◌then◌else◌, List, [], ◌∷◌, ◌++◌, length, map, slice_index, slice_index_or, replicate, Option, Some, None}
 use Rattle.std.specs.List.{range_with_len}
 use mathlib.Core.Option.{none, some}
 use mathlib.Core.Option as Core
@@ -16,7 +16,7 @@ use Rattle.post_board.specs.Shown.{Strings}
 use Rattle.post_board.specs.Told.{Mail, vacant, asked, full as filled, empty, Place, Told}
 use Rattle.post_board.specs.Reached.{Reached}
 use Rattle.post_board.specs.Plain.{HereFits}
-use Rattle.post_board.specs.Words.{Sign, resting, asking, serving, full, fetching, emptied, sign, token_read}
+use Rattle.post_board.specs.Words.{Sign, resting, asking, serving, full, fetching, emptied, sign, token_read, has_bit}
 use Rattle.post_board.specs.declared.board_views.Known.{Known}
 use Rattle.post_board.specs.declared.board_views.View.{View}
 use Rattle.post_board.specs.declared.board_views.OwnMailbox.{OwnMailbox}
@@ -147,12 +147,8 @@ token_in ws = token_read (slice_index ws 0)
 abbrev pub halt_in : ℕ → List ℕ → Bool
 halt_in n ws = slice_index ws (n + 1) == 1
 
--- the bit r of a word
-abbrev pub stop_read : ℕ → ℕ → Bool
-stop_read w r = w / 2 ^ r % 2 == 1
-
 abbrev pub stops_in : ℕ → List ℕ → ℕ → Bool
-stops_in n ws r = stop_read (slice_index ws (n + 2)) r
+stops_in n ws r = has_bit (slice_index ws (n + 2)) r
 
 -- all facts of the words, the slots at home, and what the seats know
 pub record Moment (n : ℕ) (known : ℕ → Known) (ws : List ℕ) (hs : List (Core.Option Parcel)) : Type 0 where

@@ -9,7 +9,7 @@ use Rattle.ring_core.specs.declared.states.Token.TheVariants.{At, Over}
 use Rattle.post_board.specs.declared.answers.Ring.{Ring}
 use Rattle.post_board.specs.declared.answers.Ring.TheVariants.{Elsewhere, Here, Over as HeardOver}
 use Rattle.post_board.specs.BoardRule.{Parcel, asked_of, serves}
-use Rattle.post_board.specs.BoardSteps.{SeatState}
+use Rattle.post_board.specs.BoardSteps.{SeatState, Going}
 use Rattle.post_board.specs.declared.board_views.Known.{Known}
 use Rattle.post_board.specs.declared.board_views.OwnMailbox.{OwnMailbox}
 use Rattle.post_board.specs.declared.board_views.OwnMailbox.TheVariants.{Resting, Open, Left}
@@ -22,9 +22,7 @@ pub record Mine (b : Board) (id : TableId) (m : SeatState) (me : ℕ) : Type 0 w
   pub number : m.0.own.number ≡ me
   pub sized : m.0.own.n ≡ b.n
   pub inside : me < b.n
-  pub live : m.0.live ≡ true
-  pub runs : m.0.own.ended ≡ false
-  pub goes : m.0.own.stopped ≡ false
+  pub going : Going m
 
 abbrev pub is_left : OwnMailbox → Bool
 is_left (Left v) = true

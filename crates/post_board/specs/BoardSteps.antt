@@ -10,7 +10,7 @@ use Rattle.ring_core.specs.declared.states.Token.TheVariants.{At, Over}
 use Rattle.post_board.specs.Shown.{Strings}
 use Rattle.post_board.specs.Words.{Sign, resting, asking, serving, full, fetching, emptied, sign, word_of, token_read, word_of_token}
 use Rattle.post_board.specs.declared.answers.Reading.{Reading}
-use Rattle.post_board.specs.BoardRule.{Parcel, given, taken, serves, OwnFits, stop_read}
+use Rattle.post_board.specs.BoardRule.{Parcel, given, taken, serves, OwnFits}
 use Rattle.post_board.specs.declared.board_views.Known.{Known}
 use Rattle.post_board.specs.declared.board_views.View.{View}
 use Rattle.post_board.specs.declared.board_views.OwnMailbox.{OwnMailbox}

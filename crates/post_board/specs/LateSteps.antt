@@ -3,8 +3,8 @@ use Rattle.std.specs.Prelude.{◌≡◌, ◌≢◌, ℕ, ◌+◌, ◌^◌, ◌�
 use prog.Atomic.{either}
 use mathlib.Core.Option.{none}
 use Rattle.atomic_table.specs.Table.{Allows, step}
-use Rattle.post_board.specs.Words.{resting, asking, full, emptied, sign, word_of}
-use Rattle.post_board.specs.BoardRule.{Rule, serves, stop_read}
+use Rattle.post_board.specs.Words.{has_bit, resting, asking, full, emptied, sign, word_of}
+use Rattle.post_board.specs.BoardRule.{Rule, serves}
 use Rattle.post_board.specs.BoardSteps.{SeatState, Telling, Going, noted, knowing, after_look, after_rest}
 use Rattle.post_board.specs.declared.board_views.Known.{Known}
 use Rattle.post_board.specs.declared.board_views.OwnMailbox.{OwnMailbox}
@@ -28,7 +28,7 @@ StopTells st m r n = n ≡ knowing m (record (noted m.0.own st.word r (bit_or r 
 
 -- load stops
 abbrev pub stop_seen : OwnMailbox → ℕ → OwnMailbox
-stop_seen (Open v) found = if stop_read found v then Left v else Open v
+stop_seen (Open v) found = if has_bit found v then Left v else Open v
 stop_seen o found = o
 
 abbrev pub LoadStopsTells : Telling

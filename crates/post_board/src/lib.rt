@@ -45,6 +45,7 @@
 #![tactic(auto)]
 
 mod answers;
+mod askers;
 mod board_batches;
 mod board_gathers;
 mod board_makes;

@@ -45,7 +45,8 @@ loop-other-preserved c =
       board = inv.board;
       live = ap (λ (m : SeatState). m.0.live) c.join_step.ensures.both ∙ inv.live;
       together = went_on c.args.self.now.now c.args.all.items c.requires.all c.loop-other.all.items c.pop-in-loop-other.new.self.items c.in-Some-pop.other c.loop-other.first.me.0 c.loop-other.over c.apart-theirs.result.1 inv.together e
-          c.apart-theirs.result.0.me c.join_step.new.seat.me.0 (ap (λ s. s.me) c.apart-theirs.ensures.0) c.apart-theirs.ensures.1 (ap (λ (m : SeatState). m.0) c.join_step.ensures.both);
+          c.apart-theirs.result.0.me c.join_step.new.seat.me.0 (ap (λ s. s.me) c.apart-theirs.ensures.0) c.apart-theirs.ensures.1
+              (ap (λ (m : SeatState). m.0) c.join_step.ensures.both);
     }
 
 pub returns-clause-batches : goal.returns-clause-batches

@@ -19,6 +19,7 @@ use Rattle.post_board.specs.BoardSteps.{knows, after_post, front, after_refusing
 use Rattle.post_board.specs.BoardSeats.{own_by}
 use Rattle.post_board.proofs.CallLemmas.{answered_one}
 use Rattle.post_board.specs.declared.board_views.View.{View}
+use Rattle.post_board.specs.declared.board_views.Known.{Known}
 use Rattle.post_board.proofs.board_posts.RefBoardPost.give.Goals as goal
 
 pub returns-then-to-seat-clause-reads : goal.returns-then-to-seat-clause-reads
@@ -51,11 +52,25 @@ returns-then-to-seat-clause-mine c =
     let fill = c.fill_slot.ensures.filled in
     let same : c.fill_slot.new.seat.me.0 ≡ c.args.seat.now.seat.me.0 = ap (λ (m : SeatState). m.0) fill ∙ F.view in
     let u = c.fill_slot.new.seat.me.0.own in
-    answered_one _ c.args.seat.now c.front_slot.new.seat _ (after_post u c.args.to (c.args.to + 1) f.0 (front c.fill_slot.new.seat.me.1)) c.args.to S c.requires.served F
-    (c.post_step.ensures.table ∙ c.fill_slot.ensures.table) (ap (λ (m : SeatState). m.0) f.2 ∙ ap (λ (x : View). knows x (after_post u c.args.to (c.args.to + 1) f.0 (front c.fill_slot.new.seat.me.1))) (ap (λ (m : SeatState). m.0) fill))
-    (ap (λ (m : SeatState). m.1) f.2 ∙ ap (λ (m : SeatState). rest m.1) fill)
-    refl refl refl (ap (λ (x : View). x.own.number) same) (ap (λ (x : View). x.own.n) same) (ap (λ (x : View). set x.own.serves c.args.to false) same)
-    (ap (λ (t : Bool). cond t Black u.colour) (lt-ltb u.number c.args.to (let e : u.number ≡ c.front_slot.new.seat.number = ap (λ (x : View). x.own.number) same ∙ S.number ∙ sym F.number in let t = c.if-to-seat.true in omega arith))) (ap (λ (x : View). x.own.here) same ∙ S.here ∙ sym F.here) (ap (λ (x : View). x.own.own) same ∙ S.own ∙ ap own_by (sym F.asked)) (ap (λ (x : View). x.own.ended) same ∙ S.ended ∙ sym F.ended)
+    let k : Known = after_post u c.args.to (c.args.to + 1) f.0 (front c.fill_slot.new.seat.me.1) in
+    answered_one _ c.args.seat.now c.front_slot.new.seat _ k c.args.to S c.requires.served record {
+      fronted = F;
+      table = c.post_step.ensures.table ∙ c.fill_slot.ensures.table;
+      view = ap (λ (m : SeatState). m.0) f.2 ∙ ap (λ (x : View). knows x k) (ap (λ (m : SeatState). m.0) fill);
+      slots = ap (λ (m : SeatState). m.1) f.2 ∙ ap (λ (m : SeatState). rest m.1) fill;
+      number = refl;
+      size = refl;
+      held = refl;
+      same_number = ap (λ (x : View). x.own.number) same;
+      same_size = ap (λ (x : View). x.own.n) same;
+      serves_less = ap (λ (x : View). set x.own.serves c.args.to false) same;
+      colour = ap (λ (t : Bool). cond t Black u.colour) (lt-ltb u.number c.args.to
+          (let e : u.number ≡ c.front_slot.new.seat.number = ap (λ (x : View). x.own.number) same ∙ S.number ∙ sym F.number in
+           let t = c.if-to-seat.true in omega arith));
+      here = ap (λ (x : View). x.own.here) same ∙ S.here ∙ sym F.here;
+      own = ap (λ (x : View). x.own.own) same ∙ S.own ∙ ap own_by (sym F.asked);
+      ended = ap (λ (x : View). x.own.ended) same ∙ S.ended ∙ sym F.ended;
+    }
 
 pub returns-else-to-seat-clause-mine : goal.returns-else-to-seat-clause-mine
 returns-else-to-seat-clause-mine c =
@@ -65,8 +80,23 @@ returns-else-to-seat-clause-mine c =
     let fill = c.fill_slot.ensures.filled in
     let same : c.fill_slot.new.seat.me.0 ≡ c.args.seat.now.seat.me.0 = ap (λ (m : SeatState). m.0) fill ∙ F.view in
     let u = c.fill_slot.new.seat.me.0.own in
-    answered_one _ c.args.seat.now c.front_slot.new.seat _ (after_post u c.args.to (c.args.to + 1) f.0 (front c.fill_slot.new.seat.me.1)) c.args.to S c.requires.served F
-    (c.post_step.ensures.table ∙ c.fill_slot.ensures.table) (ap (λ (m : SeatState). m.0) f.2 ∙ ap (λ (x : View). knows x (after_post u c.args.to (c.args.to + 1) f.0 (front c.fill_slot.new.seat.me.1))) (ap (λ (m : SeatState). m.0) fill))
-    (ap (λ (m : SeatState). m.1) f.2 ∙ ap (λ (m : SeatState). rest m.1) fill)
-    refl refl refl (ap (λ (x : View). x.own.number) same) (ap (λ (x : View). x.own.n) same) (ap (λ (x : View). set x.own.serves c.args.to false) same)
-    (ap (λ (t : Bool). cond t Black u.colour) (not_true (nat_lt u.number c.args.to) (λ q. (let e : u.number ≡ c.front_slot.new.seat.number = ap (λ (x : View). x.own.number) same ∙ S.number ∙ sym F.number in let h = ltb-true u.number c.args.to q in let t = c.if-to-seat.false in absurd (omega arith)))) ∙ ap (λ (x : View). x.own.colour) same ∙ S.colour ∙ sym F.colour) (ap (λ (x : View). x.own.here) same ∙ S.here ∙ sym F.here) (ap (λ (x : View). x.own.own) same ∙ S.own ∙ ap own_by (sym F.asked)) (ap (λ (x : View). x.own.ended) same ∙ S.ended ∙ sym F.ended)
+    let k : Known = after_post u c.args.to (c.args.to + 1) f.0 (front c.fill_slot.new.seat.me.1) in
+    answered_one _ c.args.seat.now c.front_slot.new.seat _ k c.args.to S c.requires.served record {
+      fronted = F;
+      table = c.post_step.ensures.table ∙ c.fill_slot.ensures.table;
+      view = ap (λ (m : SeatState). m.0) f.2 ∙ ap (λ (x : View). knows x k) (ap (λ (m : SeatState). m.0) fill);
+      slots = ap (λ (m : SeatState). m.1) f.2 ∙ ap (λ (m : SeatState). rest m.1) fill;
+      number = refl;
+      size = refl;
+      held = refl;
+      same_number = ap (λ (x : View). x.own.number) same;
+      same_size = ap (λ (x : View). x.own.n) same;
+      serves_less = ap (λ (x : View). set x.own.serves c.args.to false) same;
+      colour = ap (λ (t : Bool). cond t Black u.colour) (not_true (nat_lt u.number c.args.to)
+          (λ q. (let e : u.number ≡ c.front_slot.new.seat.number = ap (λ (x : View). x.own.number) same ∙ S.number ∙ sym F.number in
+            let h = ltb-true u.number c.args.to q in let t = c.if-to-seat.false in absurd (omega arith))))
+          ∙ ap (λ (x : View). x.own.colour) same ∙ S.colour ∙ sym F.colour;
+      here = ap (λ (x : View). x.own.here) same ∙ S.here ∙ sym F.here;
+      own = ap (λ (x : View). x.own.own) same ∙ S.own ∙ ap own_by (sym F.asked);
+      ended = ap (λ (x : View). x.own.ended) same ∙ S.ended ∙ sym F.ended;
+    }

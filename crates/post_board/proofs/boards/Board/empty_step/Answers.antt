@@ -8,4 +8,5 @@ use Rattle.post_board.proofs.DeskSteps.{allows_empty}
 use Rattle.post_board.proofs.boards.Board.empty_step.Goals as goal
 
 pub swap-requires : goal.swap-requires
-swap-requires c = (c.requires.mine.table, (let a = c.args.self.now.sized.0 in let b = c.requires.mine.inside in omega arith), allows_empty _ _ _ _ c.args.from _ c.requires.mine.live c.requires.mine.runs c.requires.mine.goes c.requires.mine.number c.requires.empty)
+swap-requires c = (c.requires.mine.table, (let a = c.args.self.now.sized.0 in let b = c.requires.mine.inside in omega arith),
+    allows_empty _ _ _ _ c.args.from _ c.requires.mine.going c.requires.mine.number c.requires.empty)

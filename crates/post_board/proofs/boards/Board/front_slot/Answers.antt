@@ -20,7 +20,8 @@ turns (x ∷ xs) = sym (map-append empty_slot xs (x ∷ []))
 back_one : (xs : List ℕ) (i : ℕ) → 0 < i → i < length xs → get_or (drop 1 xs ++ take 1 xs) (i - 1) 0 ≡ get_or xs i 0
 back_one [] i some h = absurd (omega arith)
 back_one (x ∷ xs) zero some h = absurd (omega arith)
-back_one (x ∷ xs) (suc j) some h = let e : suc j - 1 ≡ j = omega arith in ap (λ k. get_or (xs ++ x ∷ []) k 0) e ∙ get_or_append_left xs (x ∷ []) 0 j (omega arith)
+back_one (x ∷ xs) (suc j) some h = let e : suc j - 1 ≡ j = omega arith in ap (λ k. get_or (xs ++ x ∷ []) k 0) e
+    ∙ get_or_append_left xs (x ∷ []) 0 j (omega arith)
 
 as_long : (xs : List ℕ) → length (drop 1 xs ++ take 1 xs) ≡ length xs
 as_long [] = refl
@@ -75,7 +76,10 @@ returns c =
         n = inv.n;
         colour = inv.colour;
         here = inv.here;
-        asked = inv.asked; ended = inv.ended; room = c.pop_front.ensures.capacity ∙ inv.room; count = (let a = inv.long in let b : length xs ≡ suc (length (drop 1 xs)) = ap length head in let d : length c.pop_front.new.self.items ≡ length (drop 1 xs) = ap length rest in omega arith);
-        others = λ r ne e. subst (λ ys. Contains ys r) (sym rest) (behind c.args.to (drop 1 xs) r ne (subst (λ ys. Contains ys r) head (inv.has r (c.requires.seat.holds r e))));
+        asked = inv.asked; ended = inv.ended; room = c.pop_front.ensures.capacity ∙ inv.room;
+            count = (let a = inv.long in let b : length xs ≡ suc (length (drop 1 xs)) = ap length head in
+            let d : length c.pop_front.new.self.items ≡ length (drop 1 xs) = ap length rest in omega arith);
+        others = λ r ne e. subst (λ ys. Contains ys r) (sym rest)
+            (behind c.args.to (drop 1 xs) r ne (subst (λ ys. Contains ys r) head (inv.has r (c.requires.seat.holds r e))));
       };
     }

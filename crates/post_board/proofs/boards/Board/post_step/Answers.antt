@@ -8,4 +8,6 @@ use Rattle.post_board.proofs.DeskSteps.{allows_post}
 use Rattle.post_board.proofs.boards.Board.post_step.Goals as goal
 
 pub swap-requires : goal.swap-requires
-swap-requires c = (c.requires.mine.table, (let a = c.args.self.now.sized.0 in let b = c.requires.to.0 in omega arith), allows_post _ _ _ _ _ _ c.requires.slot.0 c.requires.mine.live c.requires.mine.runs c.requires.mine.goes c.requires.mine.number (let e = c.requires.mine.sized in let h = c.requires.to.0 in omega arith) c.requires.to.1 c.requires.busy c.requires.slot.1)
+swap-requires c = (c.requires.mine.table, (let a = c.args.self.now.sized.0 in let b = c.requires.to.0 in omega arith),
+    allows_post _ _ _ _ _ _ c.requires.slot.0 c.requires.mine.going c.requires.mine.number
+    (let e = c.requires.mine.sized in let h = c.requires.to.0 in omega arith) c.requires.to.1 c.requires.busy c.requires.slot.1)
