@@ -41,7 +41,7 @@ mail_is : (ranks : List PlainRank) (token : Token) (s : PlainSeat) (x : PlainRan
     → (place (told_of ranks token) s.number).mail ≡ mail_of d
 mail_is ranks token s x d e lies = ap (λ (y : Place). y.mail) (mine ranks token s x e) ∙ ap mail_of lies
 
-own_rest : (a : Option ℕ) (d : PlainMailbox) → a ≡ None → OwnFits a d → d ≡ Rest
+pub own_rest : (a : Option ℕ) (d : PlainMailbox) → a ≡ None → OwnFits a d → d ≡ Rest
 own_rest a d e fits = (let P : Option ℕ → Type 0 = λ z. OwnFits z d in subst P e fits)
 
 own_holds : (a : Option ℕ) (r : ℕ) (b : Strings) → OwnFits a (Holds r b) → a ≡ Some r
@@ -401,7 +401,7 @@ give_deed ranks token s s' c x y to b ex ec ey seat live serves busy same =
           );
     }
 
-wants_is : (d : PlainMailbox) (r : ℕ) → wants d r ≡ true → d ≡ Wants r
+pub wants_is : (d : PlainMailbox) (r : ℕ) → wants d r ≡ true → d ≡ Wants r
 wants_is Rest r e = cc
 wants_is (Wants k) r e = ap Wants (grind (arith, nat_tests))
 wants_is (Served k) r e = cc
@@ -466,7 +466,7 @@ none_left ranks token s x r f free e lies seat live =
 asked_same : (k me : ℕ) → asked k ≡ asked me → k ≡ me
 asked_same k me e = cc
 
-serving_mail : (d : PlainMailbox) (me : ℕ) → mail_of d ≡ asked me → wants d me ≡ false → d ≡ Served me
+pub serving_mail : (d : PlainMailbox) (me : ℕ) → mail_of d ≡ asked me → wants d me ≡ false → d ≡ Served me
 serving_mail Rest me t w = cc
 serving_mail (Wants k) me t w = (let e : k ≡ me = asked_same k me t in absurd (grind (arith, nat_tests)))
 serving_mail (Served k) me t w = ap Served (asked_same k me t)

@@ -16,7 +16,7 @@ use Rattle.post_board.specs.declared.plain_seats.PlainSeat.{PlainSeat}
 
 module _ {A : Type 0} where
   -- what holds of x and of the default holds of each element that is read
-  read_of_copies : (P : A → Type 0) (n i : ℕ) (x d : A) → P x → P d → P (get_or (replicate n x) i d)
+  pub read_of_copies : (P : A → Type 0) (n i : ℕ) (x d : A) → P x → P d → P (get_or (replicate n x) i d)
   read_of_copies P n i x d here past = dite (dec_le n i)
       (λ h. subst P (sym (get_or_past (replicate n x) i d (subst (λ (k : ℕ). k ≤ i) (sym (length-replicate n x)) h))) past)
       (λ h. subst P (sym (get_or-replicate n i x d (omega arith))) here)
@@ -38,7 +38,7 @@ not_white e = cc
 stands_at_0 : (p : ℕ) (c : Colour) → At 0 Black ≡ At p c → p ≡ 0
 stands_at_0 p c e = cc
 
-sound_at_first : (n : ℕ) → 0 < n → Sound (fresh_told n)
+pub sound_at_first : (n : ℕ) → 0 < n → Sound (fresh_told n)
 sound_at_first n some = record {
   token = inr (inr refl);
   sane = record {

@@ -7,3 +7,9 @@ pub mod Readings
 pub mod Fresh
 pub mod Plain
 pub mod Agreed
+pub mod Reached
+pub mod BoardRule
+pub mod BoardMoments
+pub mod BoardSteps
+pub mod LateSteps
+pub mod BoardSeats

@@ -1,11 +1,12 @@
 -- A plain board: what it tells, what its seats show, and which seats are its own. Our own.
-use Rattle.std.specs.Prelude.{◌≡◌, ◌≢◌, ℕ, ◌<◌, ◌==◌, Bool, true, false, List, length, map, slice_index_or, replicate, Option, Some, None}
+use Rattle.std.specs.Prelude.{◌≡◌, ◌≢◌, ℕ, ◌<◌, ◌≤◌, ◌==◌, Bool, true, false, List, length, map, slice_index_or, replicate, Option, Some, None}
 use Rattle.ring_core.specs.declared.states.Colour.{Colour}
 use Rattle.ring_core.specs.declared.states.Colour.TheVariants.{White, Black}
 use Rattle.ring_core.specs.declared.states.Token.{Token}
 use Rattle.ring_core.specs.declared.states.Token.TheVariants.{At, Over}
 use Rattle.post_board.specs.Shown.{Shown}
 use Rattle.post_board.specs.Told.{Mail, vacant, asked, full, empty, Place, Told, Sound}
+use Rattle.post_board.specs.Words.{has_bit}
 use Rattle.post_board.specs.declared.plain_ranks.PlainMailbox.{PlainMailbox}
 use Rattle.post_board.specs.declared.plain_ranks.PlainMailbox.TheVariants.{Rest, Wants, Served, Holds, Refused}
 use Rattle.post_board.specs.declared.plain_ranks.PlainRank.{PlainRank}
@@ -96,9 +97,15 @@ pub record Fits (ranks : List PlainRank) (token : Token) (s : PlainSeat) : Type 
   pub served : (r : ℕ) → (plain ranks r).mailbox ≡ Served s.number → slice_index_or s.serves.items r false ≡ true
   pub here : HereFits s.here s.number token
 
+-- the masks tell which mailboxes ask which rank
+pub record Noted (ranks : List PlainRank) (masks : List ℕ) : Type 0 where
+  pub count : length masks ≡ length ranks
+  pub few : length ranks ≤ 64
+  pub asks : (r of : ℕ) → of < length ranks → wants (plain ranks r).mailbox of ≡ has_bit (slice_index_or masks of 0) r
+
 -- a board that has a seat is sound
 abbrev pub IsSeat : List PlainRank → Token → PlainSeat → Type 0
 IsSeat ranks token s = Fits ranks token s × Sound (told_of ranks token)
 
 abbrev pub Seats : PlainBoard → PlainSeat → Type 0
-Seats b s = IsSeat b.ranks.items b.token s
+Seats b s = IsSeat b.ranks.items b.token s × Noted b.ranks.items b.askers.masks.items

@@ -1,5 +1,5 @@
 -- What the words of a board read. Word 0 is the ring, and word r + 1 the mailbox of rank r. Our own.
-use Rattle.std.specs.Prelude.{ℕ, ◌+◌, ◌-◌, ◌*◌, ◌/◌, ◌%◌, ◌==◌, if◌then◌else◌}
+use Rattle.std.specs.Prelude.{ℕ, ◌+◌, ◌-◌, ◌*◌, ◌/◌, ◌%◌, ◌^◌, ◌==◌, Bool, if◌then◌else◌}
 use Rattle.ring_core.specs.declared.states.Colour.TheVariants.{White, Black}
 use Rattle.ring_core.specs.declared.states.Token.{Token}
 use Rattle.ring_core.specs.declared.states.Token.TheVariants.{At, Over}
@@ -38,3 +38,7 @@ word_of_token (At place Black) = 2 * place + 2
 -- what the ring word reads
 unfoldable pub token_read : ℕ → Token
 token_read word = if word == 0 then Over else At ((word - 1) / 2) (if (word - 1) % 2 == 0 then White else Black)
+
+-- whether the bit r of a word is set
+abbrev pub has_bit : ℕ → ℕ → Bool
+has_bit word r = word / 2 ^ r % 2 == 1

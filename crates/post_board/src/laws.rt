@@ -1,10 +1,15 @@
-//! What is proved of every board that tells its picture, of the words, and of plain boards.
-ghost use Rattle.std.specs.Prelude.{◌≡◌};
+//! What is proved of every board that tells its picture, of the words, of plain boards, and of boards that threads share.
+ghost use Rattle.std.specs.Prelude.{◌≡◌, ℕ, ◌<◌, ◌++◌, true};
+ghost use Rattle.ring_core.specs.Picture.{PictureInvariant};
 ghost use Rattle.ring_core.specs.declared.states.Token.{Token};
-ghost use Rattle.post_board.specs.Told.{Sound};
+ghost use Rattle.post_board.specs.Told.{Sound, picture};
 ghost use Rattle.post_board.specs.Deeds.{DeedsAreEvents, DeedsKeepSound};
 ghost use Rattle.post_board.specs.Words.{Sign, sign, word_of, token_read, word_of_token};
 ghost use Rattle.post_board.specs.Plain.{told_by, Seats};
+ghost use Rattle.post_board.specs.Reached.{Reached};
+ghost use Rattle.post_board.specs.BoardRule.{TableState, Rule, taken, given, token_in};
+ghost use Rattle.post_board.specs.BoardMoments.{told_at, on_way_at, NothingLeft};
+ghost use Rattle.post_board.specs.LateSteps.{SetHaltKeeps, LoadHaltKeeps, StopKeeps, LoadStopsKeeps, WithdrawKeeps};
 ghost use Rattle.post_board.specs.declared.plain_boards.PlainBoard.{PlainBoard};
 ghost use Rattle.post_board.specs.declared.plain_seats.PlainSeat.{PlainSeat};
 
@@ -27,4 +32,25 @@ pub fn words_are_read_back()
 /// A plain board that has a seat tells a sound picture: the token invariant holds of it, and what goes with it.
 pub fn told_is_sound()
     ensures { (b : PlainBoard) (s : PlainSeat) → Seats b s → Sound (told_by b) }
+{}
+
+/// Between any two steps on the words of a [`Board`](crate::Board), whatever its threads do: its picture came about by legal deeds
+/// alone, one after the other, from the start; the token invariant holds of it; what each rank took from each other one, followed
+/// by what is on the way, is what that one gave, in order; and where a rank's seat has seen the end, nothing is left.
+pub fn board_is_sound_at_every_moment()
+    ensures reached { (n : ℕ) (s : TableState) (o : Rule n s) → Reached n (told_at n s o) }
+    ensures token { (n : ℕ) (s : TableState) (o : Rule n s) → 0 < n → PictureInvariant n (picture (told_at n s o)) (token_in s.words) }
+    ensures pairs { (n : ℕ) (s : TableState) (o : Rule n s) (i j : ℕ) → i < n → j < n
+        → taken (o.known j) i ++ on_way_at n s o i j ≡ given (o.known i) j }
+    ensures end { (n : ℕ) (s : TableState) (o : Rule n s) (r : ℕ) → r < n → (o.known r).ended ≡ true → NothingLeft n s o }
+{}
+
+/// The rule of a [`Board`](crate::Board) keeps the steps too by which ranks halt, stop, and take back a request to a rank that has
+/// stopped. No call makes them yet.
+pub fn late_steps_keep_the_rule()
+    ensures set_halt { SetHaltKeeps }
+    ensures load_halt { LoadHaltKeeps }
+    ensures stop { StopKeeps }
+    ensures load_stops { LoadStopsKeeps }
+    ensures withdraw { WithdrawKeeps }
 {}

@@ -45,18 +45,29 @@
 #![tactic(auto)]
 
 mod answers;
+mod askers;
+mod board_batches;
+mod board_gathers;
+mod board_makes;
+mod board_posts;
+mod board_rules;
+mod board_steps;
+mod board_views;
+mod boards;
 mod laws;
 mod plain_boards;
 mod plain_posts;
 mod plain_ranks;
 mod plain_seats;
 mod posts;
+mod ring_words;
 
 pub use answers::{Answer, Gathered, Reading, Ring};
-pub use laws::{deeds_are_events, deeds_keep_sound, told_is_sound, words_are_read_back};
+pub use boards::{Board, BoardSeat};
+pub use laws::{
+    board_is_sound_at_every_moment, deeds_are_events, deeds_keep_sound, late_steps_keep_the_rule,
+    told_is_sound, words_are_read_back,
+};
 pub use plain_boards::PlainBoard;
 pub use plain_seats::PlainSeat;
 pub use posts::Post;
-
-#[cfg(test)]
-mod tests;

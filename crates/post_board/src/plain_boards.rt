@@ -6,6 +6,7 @@ ghost use Rattle.post_board.specs.Fresh.{fresh_told, AllFresh};
 ghost use Rattle.post_board.specs.Plain.{plain, wants, token_colour, shown_by, told_by, Seats};
 ghost use Rattle.post_board.specs.declared.plain_seats.PlainSeat.{PlainSeat};
 
+use crate::askers::Askers;
 use crate::plain_ranks::{PlainMailbox, PlainRank};
 use crate::plain_seats::PlainSeat;
 use path_text::OutOfMemory;
@@ -17,6 +18,7 @@ use std::alloc::Global;
 pub struct PlainBoard {
     pub(crate) ranks: Vec<PlainRank>,
     pub(crate) token: Token,
+    pub(crate) askers: Askers,
 }
 
 impl PlainBoard {
@@ -33,8 +35,14 @@ impl PlainBoard {
             ranks.push(PlainRank::fresh())?;
             seats.push(PlainSeat::fresh(alloc, n, number)?)?;
         }
+        let askers = Askers::none(alloc, n)?;
         let token = Token::At(0, Colour::Black);
-        Ok((PlainBoard { ranks, token }, seats))
+        let board = PlainBoard {
+            ranks,
+            token,
+            askers,
+        };
+        Ok((board, seats))
     }
 
     /// Whether the mailbox of the rank `r` asks the rank `of`, which has not taken it up.
@@ -57,6 +65,7 @@ impl PlainBoard {
         ensures mine { Seats self.new seat.new }
         ensures others { (other : PlainSeat) → other.number ≢ seat.old.number → Seats self.old other → Seats self.new other }
     {
+        self.askers.take_away(seat.number, r);
         self.ranks[r as usize].mailbox = PlainMailbox::Served(seat.number);
         seat.serves[r as usize] = true;
     }

@@ -27,6 +27,7 @@ impl Post for PlainBoard {
     ghost seats = { Seats };
 
     fn ask(&mut self, seat: &mut PlainSeat, victim: u32) {
+        self.askers.add(victim, seat.number);
         let rank = &mut self.ranks[seat.number as usize];
         rank.busy = false;
         rank.mailbox = PlainMailbox::Wants(victim);
@@ -59,6 +60,9 @@ impl Post for PlainBoard {
     }
 
     fn next_request(&mut self, seat: &mut PlainSeat) -> Option<u32> {
+        if self.askers.nobody_asks(seat.number) {
+            return None;
+        }
         for r in 0..seat.n {
             if r != seat.number && self.asks(r, seat.number) {
                 self.take_up(seat, r);

@@ -1,8 +1,10 @@
-use Rattle.std.proofs.Common.{◌≡◌, refl, true}
+use Rattle.std.proofs.Common.{◌≡◌, refl, true, sym, subst, set}
 use Rattle.std.proofs.lemmas.List.{get_or_read}
 use Rattle.std.specs.Vec.{with_item}
-use Rattle.post_board.specs.Plain.{no_rank, plain}
-use Rattle.post_board.proofs.PlainDeeds.{take_up_deed}
+use Rattle.post_board.specs.Plain.{no_rank, plain, Noted}
+use Rattle.post_board.proofs.PlainDeeds.{take_up_deed, wants_is}
+use Rattle.post_board.proofs.AskerLemmas.{noted_taken}
+use Rattle.post_board.specs.declared.plain_ranks.PlainMailbox.TheVariants.{Served}
 use Rattle.post_board.proofs.plain_boards.PlainBoard.take_up.Goals as goal
 
 pub returns : goal.returns
@@ -12,6 +14,13 @@ returns c =
     let r = c.args.r in
     let rank = c.index_mut.result.now in
     let read : rank ≡ plain ranks r = get_or_read ranks r rank c.requires.asks.0 c.index_mut.ensures.value no_rank in
-    let done = take_up_deed ranks c.args.self.now.token seat (record seat { serves = with_item seat.serves r true }) rank r read c.requires.asks.2 c.requires.asks.1 c.requires.asks.0 c.requires.seat
-    (refl, refl, refl, refl, refl, refl, refl, refl, refl) in
-    record { shown = refl; told = done.0; mine = done.1; others = done.2 }
+    let fits = c.requires.seat.0.0 in
+    let masks = c.args.self.now.askers.masks.items in
+    let done = take_up_deed ranks c.args.self.now.token seat
+        (record seat { serves = with_item seat.serves r true }) rank r read c.requires.asks.2 c.requires.asks.1 c.requires.asks.0
+    c.requires.seat.0 (refl, refl, refl, refl, refl, refl, refl, refl, refl) in
+    let noted : Noted (set ranks r (record rank { mailbox = Served seat.number })) c.take_away.new.self.masks.items =
+        subst (Noted _) (sym c.take_away.ensures)
+        (noted_taken ranks masks c.requires.seat.1 r c.requires.asks.0 (record rank { mailbox = Served seat.number }) seat.number fits.inside
+          (wants_is (plain ranks r).mailbox seat.number c.requires.asks.2) refl) in
+    record { shown = refl; told = done.0; mine = (done.1, noted); others = λ o ne b. (done.2 o ne b.0, noted) }

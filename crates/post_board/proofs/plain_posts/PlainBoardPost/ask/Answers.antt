@@ -1,14 +1,26 @@
-use Rattle.std.proofs.Common.{◌≡◌, ap, refl, Some}
+use Rattle.std.proofs.Common.{◌≡◌, ap, refl, Some, sym, subst, ℕ, ◌<◌, false}
 use Rattle.std.proofs.lemmas.List.{get_or_read}
 use Rattle.post_board.specs.Plain.{no_rank, plain}
 use Rattle.post_board.proofs.PlainDeeds.{ask_deed}
+use Rattle.post_board.specs.Plain.{Noted}
+use Rattle.post_board.specs.declared.plain_ranks.PlainMailbox.{PlainMailbox}
+use Rattle.post_board.specs.declared.plain_ranks.PlainMailbox.TheVariants.{Wants, Served}
+use Rattle.post_board.specs.declared.plain_ranks.PlainRank.{PlainRank}
+use Rattle.post_board.proofs.AskerLemmas.{noted_asks, with_masks, rests}
 use Rattle.post_board.proofs.plain_posts.PlainBoardPost.ask.Goals as goal
 
 pub returns : goal.returns
 returns c =
     let ranks = c.args.self.now.ranks.items in
     let seat = c.args.seat.now in
+    let fits = c.requires.seat.0.0 in
+    let masks = c.args.self.now.askers.masks.items in
+    let N = c.requires.seat.1 in
     let rank = c.index_mut-rank.result.now in
-    let read : rank ≡ plain ranks seat.number = get_or_read ranks seat.number rank c.requires.seat.0.inside c.index_mut-rank.ensures.value no_rank in
-    let done = ask_deed ranks c.args.self.now.token seat rank c.args.victim read c.requires.seat c.requires.live.0 c.requires.free.0 c.requires.victim.0 c.requires.victim.1 in
+    let read : rank ≡ plain ranks seat.number = get_or_read ranks seat.number rank fits.inside c.index_mut-rank.ensures.value no_rank in
+    let done = with_masks
+    (ask_deed ranks c.args.self.now.token seat rank c.args.victim read c.requires.seat.0 c.requires.live.0 c.requires.free.0 c.requires.victim.0 c.requires.victim.1)
+    (subst (Noted _) (sym c.add.ensures) (noted_asks ranks masks N seat.number fits.inside
+        (record rank { busy = false; mailbox = Wants c.args.victim }) c.args.victim (subst (λ (n : ℕ). c.args.victim < n) fits.sized c.requires.victim.0)
+        (rests ranks c.args.self.now.token seat fits c.requires.free.0) refl)) in
     record { shown = refl; told = (done.legal, ap Some done.told); reads = refl; mine = done.mine; others = done.others }

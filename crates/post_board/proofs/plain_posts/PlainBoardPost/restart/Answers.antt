@@ -2,13 +2,23 @@ use Rattle.std.proofs.Common.{◌≡◌, ap, refl, Some}
 use Rattle.std.proofs.lemmas.List.{get_or_read}
 use Rattle.post_board.specs.Plain.{no_rank, plain}
 use Rattle.post_board.proofs.PlainDeeds.{restart_deed}
+use Rattle.post_board.specs.Plain.{wants}
+use Rattle.post_board.specs.declared.plain_ranks.PlainMailbox.{PlainMailbox}
+use Rattle.post_board.specs.declared.plain_ranks.PlainMailbox.TheVariants.{Wants, Served}
+use Rattle.post_board.specs.declared.plain_ranks.PlainRank.{PlainRank}
+use Rattle.post_board.proofs.AskerLemmas.{noted_same, with_masks}
 use Rattle.post_board.proofs.plain_posts.PlainBoardPost.restart.Goals as goal
 
 pub returns : goal.returns
 returns c =
     let ranks = c.args.self.now.ranks.items in
     let seat = c.args.seat.now in
+    let fits = c.requires.seat.0.0 in
+    let masks = c.args.self.now.askers.masks.items in
+    let N = c.requires.seat.1 in
     let rank = c.index_mut-rank.result.now in
-    let read : rank ≡ plain ranks seat.number = get_or_read ranks seat.number rank c.requires.seat.0.inside c.index_mut-rank.ensures.value no_rank in
-    let done = restart_deed ranks c.args.self.now.token seat rank read c.requires.seat c.requires.live.0 c.requires.free.0 c.requires.here c.requires.tried c.requires.first c.requires.black in
+    let read : rank ≡ plain ranks seat.number = get_or_read ranks seat.number rank fits.inside c.index_mut-rank.ensures.value no_rank in
+    let done = with_masks
+    (restart_deed ranks c.args.self.now.token seat rank read c.requires.seat.0 c.requires.live.0 c.requires.free.0 c.requires.here c.requires.tried c.requires.first c.requires.black)
+    (noted_same ranks masks N seat.number fits.inside _ (λ v. ap (λ (y : PlainRank). wants y.mailbox v) read)) in
     record { shown = refl; told = (done.legal, ap Some done.told); reads = refl; mine = done.mine; others = done.others }

@@ -1,0 +1,104 @@
+-- Which seats are a board's own, and what they show.
+use Rattle.std.specs.Prelude.{◌≡◌, ◌≢◌, ℕ, ◌+◌, ◌<◌, ◌≤◌, ◌==◌, if◌then◌else◌, List, [], ◌∷◌, replicate, map, length, sum_by, true, false, Bool, slice_index_or, Option, Some, None}
+use Rattle.std.specs.List.{Contains}
+use Rattle.std.proofs.Common.{deque_capacity}
+use Rattle.atomic_table.specs.Seated.{TableId}
+use Rattle.post_board.specs.Shown.{Batches, Shown}
+use Rattle.ring_core.specs.declared.states.Token.{Token}
+use Rattle.ring_core.specs.declared.states.Token.TheVariants.{At, Over}
+use Rattle.post_board.specs.declared.answers.Ring.{Ring}
+use Rattle.post_board.specs.declared.answers.Ring.TheVariants.{Elsewhere, Here, Over as HeardOver}
+use Rattle.post_board.specs.BoardRule.{Parcel, asked_of, serves}
+use Rattle.post_board.specs.BoardSteps.{SeatState, Going}
+use Rattle.post_board.specs.declared.board_views.Known.{Known}
+use Rattle.post_board.specs.declared.board_views.OwnMailbox.{OwnMailbox}
+use Rattle.post_board.specs.declared.board_views.OwnMailbox.TheVariants.{Resting, Open, Left}
+use Rattle.post_board.specs.declared.boards.Board.{Board}
+use Rattle.post_board.specs.declared.boards.BoardSeat.{BoardSeat}
+
+-- the seat of the rank me, which neither ended nor stopped
+pub record Mine (b : Board) (id : TableId) (m : SeatState) (me : ℕ) : Type 0 where
+  pub table : id ≡ b.table.shared.table_id
+  pub number : m.0.own.number ≡ me
+  pub sized : m.0.own.n ≡ b.n
+  pub inside : me < b.n
+  pub going : Going m
+
+abbrev pub is_left : OwnMailbox → Bool
+is_left (Left v) = true
+is_left _ = false
+
+abbrev pub shown_known : Known → Shown
+shown_known v =
+    record {
+      number = v.number;
+      n = v.n;
+      busy = v.busy;
+      colour = v.colour;
+      tried = v.tried;
+      asked = asked_of v.own;
+      serves = v.serves;
+      here = v.here;
+      ended = v.ended;
+      halted = v.halted;
+      knows_halt = v.knows_halt;
+      knows_stop = is_left v.own;
+      stopped = v.stopped;
+      batches = Some (record { given = v.given; taken = v.taken });
+    }
+
+abbrev pub shown_by : BoardSeat → Shown
+shown_by s = shown_known s.seat.me.0.own
+
+-- what the token in the ring word says to the rank me
+abbrev pub ring_read : Token → ℕ → Ring
+ring_read Over me = HeardOver
+ring_read (At p c) me = if p == me then Here c else Elsewhere
+
+abbrev pub one_if : Bool → ℕ
+one_if true = 1
+one_if false = 0
+
+-- what a seat knows of its own mailbox between two calls
+abbrev pub own_by : Option ℕ → OwnMailbox
+own_by None = Resting
+own_by (Some v) = Open v
+
+pub record IsSeat (b : Board) (s : BoardSeat) : Type 0 where
+  pub table : s.seat.table_id ≡ b.table.shared.table_id
+  pub number : s.seat.me.0.own.number ≡ s.number
+  pub sized : s.seat.me.0.own.n ≡ b.n
+  pub n : s.n ≡ b.n
+  pub inside : s.number < b.n
+  pub live : s.seat.me.0.live ≡ true
+  pub alone : s.seat.me.0.kept ≡ []
+  pub wide : length s.seat.me.0.own.serves ≡ b.n
+  pub colour : s.seat.me.0.own.colour ≡ s.colour
+  pub here : s.seat.me.0.own.here ≡ s.here
+  pub own : s.seat.me.0.own.own ≡ own_by s.asked
+  pub ended : s.seat.me.0.own.ended ≡ s.ended
+  -- it has room for a number of each rank, and has one for each rank that it serves
+  pub room : b.n ≤ deque_capacity s.held
+  pub count : length s.held.items ≡ sum_by one_if s.seat.me.0.own.serves
+  -- the slots that it holds, all empty, are those of the ranks that it serves
+  pub held : s.seat.me.1 ≡ map (λ r. (r, None)) s.held.items
+  pub holds : (r : ℕ) → serves s.seat.me.0.own r ≡ true → Contains s.held.items r
+
+-- the slot of a rank that is served is in front, and no more in the list
+pub record Fronted (s : BoardSeat) (to : ℕ) (s' : BoardSeat) : Type 0 where
+  pub table : s'.seat.table_id ≡ s.seat.table_id
+  pub view : s'.seat.me.0 ≡ s.seat.me.0
+  pub slots : s'.seat.me.1 ≡ (to, None) ∷ map (λ r. (r, None)) s'.held.items
+  pub number : s'.number ≡ s.number
+  pub n : s'.n ≡ s.n
+  pub colour : s'.colour ≡ s.colour
+  pub here : s'.here ≡ s.here
+  pub asked : s'.asked ≡ s.asked
+  pub ended : s'.ended ≡ s.ended
+  pub room : deque_capacity s'.held ≡ deque_capacity s.held
+  pub count : length s'.held.items + 1 ≡ length s.held.items
+  pub others : (r : ℕ) → r ≢ to → serves s.seat.me.0.own r ≡ true → Contains s'.held.items r
+
+-- the lists of a seat that gave nothing and took nothing
+abbrev pub unused : ℕ → Batches
+unused n = record { given = replicate n []; taken = replicate n [] }

@@ -1,0 +1,44 @@
+//! Seats come together.
+ghost use Rattle.std.specs.Prelude.{◌≡◌, ◌⊎◌, ◌+◌, ◌<◌, [], ◌∷◌, All, true};
+ghost use Rattle.post_board.specs.BoardRule.{both};
+ghost use Rattle.post_board.specs.BoardSteps.{Squares, Halters};
+
+use crate::boards::{Board, BoardSeat};
+use crate::board_rules::{Gather, Settle};
+use crate::board_views::View;
+use atomic_table::Seat;
+use rank_queue::Batch;
+
+impl BoardSeat {
+    pub(crate) fn apart(self) -> (Seat<Option<Batch>, View>, bool)
+        ensures { (result.0 ≡ self.seat) × (result.1 ≡ self.ended) }
+    {
+        let BoardSeat { seat, ended, number: _, n: _, colour: _, here: _, asked: _, held: _ } = self;
+        (seat, ended)
+    }
+}
+
+impl Board {
+    /// Takes another seat in.
+    pub(crate) fn join_step(&self, seat: &mut Seat<Option<Batch>, View>, other: Seat<Option<Batch>, View>)
+        requires fits { (seat.old.table_id ≡ self.now.table.shared.table_id) × (other.table_id ≡ self.now.table.shared.table_id) }
+        requires live { (seat.old.me.0.live ≡ true) × (other.me.0.live ≡ true) }
+        requires empty { other.me.1 ≡ [] }
+        ensures table { seat.new.table_id ≡ seat.old.table_id }
+        ensures both { seat.new.me ≡ (both seat.old.me.0 other.me.0, seat.old.me.1) }
+    {
+        self.table.shared.join_seat::<Gather>(seat, other);
+    }
+
+    /// What the seats that were taken in took from one another is what they gave.
+    pub(crate) fn settle_step(&self, seat: &mut Seat<Option<Batch>, View>)
+        requires fits { seat.old.table_id ≡ self.now.table.shared.table_id }
+        requires live { seat.old.me.0.live ≡ true }
+        requires done { All (λ x. (x.ended ≡ true) ⊎ (x.stopped ≡ true)) (seat.old.me.0.own ∷ seat.old.me.0.kept) }
+        ensures table { seat.new.table_id ≡ seat.old.table_id }
+        ensures squares { Squares seat.old.me.0 }
+        ensures halters { Halters seat.old.me.0 }
+    {
+        self.table.shared.load::<Settle>(seat, 1);
+    }
+}

@@ -1,0 +1,211 @@
+//! One step on a word each.
+ghost use Rattle.std.specs.Prelude.{◌≡◌, ◌≢◌, ℕ, ◌+◌, ◌-◌, ◌^◌, ◌<◌, ◌≤◌, ◌⊎◌, ◌∷◌, ◌==◌, true, false, Some, None, bit_or, length};
+ghost use Rattle.atomic_table.specs.Table.{rest};
+ghost use Rattle.ring_core.specs.World.{darker, is_over};
+ghost use Rattle.ring_core.specs.Step.{is_at};
+ghost use Rattle.ring_core.specs.declared.states.Colour.{Colour};
+ghost use Rattle.ring_core.specs.declared.states.Colour.TheVariants.{White, Black};
+ghost use Rattle.ring_core.specs.declared.states.Token.TheVariants.{At, Over};
+ghost use Rattle.post_board.specs.Shown.{Strings};
+ghost use Rattle.post_board.specs.Words.{sign, resting, asking, serving, full, fetching, emptied, word_of, token_read, word_of_token};
+ghost use Rattle.post_board.specs.BoardRule.{serves, OwnFits};
+ghost use Rattle.post_board.specs.BoardSteps.{SeatState, noted, knows, knowing, after_ask, after_look, after_taking, front, after_post, after_refusing, after_fetch, after_rest, heard_at, after_pass, after_restart, after_conclude};
+ghost use Rattle.post_board.specs.BoardSeats.{Mine};
+ghost use Rattle.post_board.specs.declared.board_views.OwnMailbox.TheVariants.{Resting, Open, Left, Filled, Emptied, Getting};
+
+use crate::boards::Board;
+use crate::board_rules::{
+    Ask, Conclude, Fetch, LoadRing, Look, Pass, PostBatch, PostNone, Rest, RestEmpty, Restart, Scan,
+    TakeUp,
+};
+use crate::board_views::View;
+use atomic_table::Seat;
+use rank_queue::Batch;
+
+impl Board {
+    pub(crate) fn ask_step(&self, seat: &mut Seat<Option<Batch>, View>, me: u32, victim: u32)
+        requires mine { Mine self.now seat.old.table_id seat.old.me me }
+        requires rests { seat.old.me.0.own.own ≡ Resting }
+        requires victim { (victim < self.now.n) × (victim ≢ me) }
+        ensures table { seat.new.table_id ≡ seat.old.table_id }
+        ensures after { (found : ℕ) × (sign found ≡ resting) × (seat.new.me ≡ knowing seat.old.me (after_ask seat.old.me.0.own victim (me + 1) found)) }
+    {
+        let word = me as usize + 1;
+        self.table.shared.swap::<Ask>(seat, word, 8 * (victim as u64) + 1);
+    }
+
+    pub(crate) fn look_step(&self, seat: &mut Seat<Option<Batch>, View>, me: u32) -> u64
+        requires mine { Mine self.now seat.old.table_id seat.old.me me }
+        requires open { (v : ℕ) × (seat.old.me.0.own.own ≡ Open v) }
+        ensures table { seat.new.table_id ≡ seat.old.table_id }
+        ensures fits { OwnFits seat.old.me.0.own.own (sign result) }
+        ensures after { seat.new.me ≡ knowing seat.old.me (after_look seat.old.me.0.own (me + 1) result) }
+    {
+        let word = me as usize + 1;
+        self.table.shared.load::<Look>(seat, word)
+    }
+
+    pub(crate) fn take_step(&self, seat: &mut Seat<Option<Batch>, View>, me: u32, r: u32) -> bool
+        requires mine { Mine self.now seat.old.table_id seat.old.me me }
+        requires other { (r < self.now.n) × (r ≢ me) }
+        ensures table { seat.new.table_id ≡ seat.old.table_id }
+        ensures hit { result ≡ true → (serves seat.old.me.0.own r ≡ false) × (seat.new.me ≡ (knows seat.old.me.0 (after_taking seat.old.me.0.own r (r + 1) (word_of (asking me))), (r, None) ∷ seat.old.me.1)) }
+        ensures miss { result ≡ false → (found : ℕ) × (found ≢ word_of (asking me)) × (seat.new.me ≡ knowing seat.old.me (noted seat.old.me.0.own (r + 1) found found)) }
+    {
+        let asks = 8 * (me as u64) + 1;
+        let word = r as usize + 1;
+        let found = self.table.shared.compare_exchange::<TakeUp>(seat, word, asks, 8 * (me as u64) + 2);
+        found == asks
+    }
+
+    pub(crate) fn scan_step(&self, seat: &mut Seat<Option<Batch>, View>, me: u32, r: u32) -> u64
+        requires mine { Mine self.now seat.old.table_id seat.old.me me }
+        requires other { r < self.now.n }
+        ensures table { seat.new.table_id ≡ seat.old.table_id }
+        ensures hit { result ≡ word_of (asking me) → seat.new.me ≡ seat.old.me }
+        ensures miss { result ≢ word_of (asking me) → seat.new.me ≡ knowing seat.old.me (noted seat.old.me.0.own (r + 1) result result) }
+    {
+        let word = r as usize + 1;
+        self.table.shared.load::<Scan>(seat, word)
+    }
+
+    /// One load, and where it reads a request to this rank, one compare_exchange.
+    pub(crate) fn look_at(&self, seat: &mut Seat<Option<Batch>, View>, me: u32, r: u32) -> bool
+        requires mine { Mine self.now seat.old.table_id seat.old.me me }
+        requires other { (r < self.now.n) × (r ≢ me) }
+        ensures table { seat.new.table_id ≡ seat.old.table_id }
+        ensures hit { result ≡ true → (serves seat.old.me.0.own r ≡ false) × (seat.new.me ≡ (knows seat.old.me.0 (after_taking seat.old.me.0.own r (r + 1) (word_of (asking me))), (r, None) ∷ seat.old.me.1)) }
+        ensures miss { result ≡ false → (found : ℕ) × (found ≢ word_of (asking me)) × (seat.new.me ≡ knowing seat.old.me (noted seat.old.me.0.own (r + 1) found found)) }
+    {
+        let found = self.scan_step(seat, me, r);
+        if found != 8 * (me as u64) + 1 {
+            return false;
+        }
+        self.take_step(seat, me, r)
+    }
+
+    pub(crate) fn fill_slot(&self, seat: &mut Seat<Option<Batch>, View>, to: u32, batch: Batch)
+        requires table { seat.old.table_id ≡ self.now.table.shared.table_id }
+        requires slot { seat.old.me.1 ≡ (to, None) ∷ rest seat.old.me.1 }
+        ensures table { seat.new.table_id ≡ seat.old.table_id }
+        ensures filled { seat.new.me ≡ (seat.old.me.0, (to, Some batch) ∷ rest seat.old.me.1) }
+    {
+        let _ = self.table.shared.exchange(seat, to as usize, Some(batch));
+    }
+
+    pub(crate) fn post_step(&self, seat: &mut Seat<Option<Batch>, View>, me: u32, to: u32)
+        requires mine { Mine self.now seat.old.table_id seat.old.me me }
+        requires to { (to < self.now.n) × (serves seat.old.me.0.own to ≡ true) }
+        requires busy { seat.old.me.0.own.busy ≡ true }
+        requires slot { (b : Strings) × (seat.old.me.1 ≡ (to, Some b) ∷ rest seat.old.me.1) }
+        ensures table { seat.new.table_id ≡ seat.old.table_id }
+        ensures after { (found : ℕ) × (sign found ≡ serving me) × (seat.new.me ≡ (knows seat.old.me.0 (after_post seat.old.me.0.own to (to + 1) found (front seat.old.me.1)), rest seat.old.me.1)) }
+    {
+        let word = to as usize + 1;
+        self.table.shared.swap::<PostBatch>(seat, word, 8 * (me as u64) + 3);
+    }
+
+    pub(crate) fn refuse_step(&self, seat: &mut Seat<Option<Batch>, View>, me: u32, to: u32)
+        requires mine { Mine self.now seat.old.table_id seat.old.me me }
+        requires to { (to < self.now.n) × (serves seat.old.me.0.own to ≡ true) }
+        requires slot { seat.old.me.1 ≡ (to, None) ∷ rest seat.old.me.1 }
+        ensures table { seat.new.table_id ≡ seat.old.table_id }
+        ensures after { (found : ℕ) × (sign found ≡ serving me) × (seat.new.me ≡ (knows seat.old.me.0 (after_refusing seat.old.me.0.own to (to + 1) found), rest seat.old.me.1)) }
+    {
+        let word = to as usize + 1;
+        self.table.shared.swap::<PostNone>(seat, word, 8 * (me as u64) + 5);
+    }
+
+    pub(crate) fn fetch_step(&self, seat: &mut Seat<Option<Batch>, View>, me: u32, from: u32)
+        requires mine { Mine self.now seat.old.table_id seat.old.me me }
+        requires full { seat.old.me.0.own.own ≡ Filled from }
+        ensures table { seat.new.table_id ≡ seat.old.table_id }
+        ensures after { (found : ℕ) × (b : Strings) × (sign found ≡ full from) × (seat.new.me ≡ (knows seat.old.me.0 (after_fetch seat.old.me.0.own from (me + 1) found b), (me, Some b) ∷ seat.old.me.1)) }
+    {
+        let word = me as usize + 1;
+        self.table.shared.swap::<Fetch>(seat, word, 8 * (from as u64) + 4);
+    }
+
+    pub(crate) fn empty_slot(&self, seat: &mut Seat<Option<Batch>, View>, me: u32) -> Batch
+        requires table { seat.old.table_id ≡ self.now.table.shared.table_id }
+        requires full { (b : Strings) × (seat.old.me.1 ≡ (me, Some b) ∷ rest seat.old.me.1) }
+        ensures table { seat.new.table_id ≡ seat.old.table_id }
+        ensures was { seat.old.me.1 ≡ (me, Some result) ∷ rest seat.old.me.1 }
+        ensures emptied { seat.new.me ≡ (seat.old.me.0, (me, None) ∷ rest seat.old.me.1) }
+    {
+        let slot = me as usize;
+        let Some(batch) = self.table.shared.exchange(seat, slot, None) else {
+            unreachable!()
+        };
+        batch
+    }
+
+    pub(crate) fn rest_step(&self, seat: &mut Seat<Option<Batch>, View>, me: u32, from: u32)
+        requires mine { Mine self.now seat.old.table_id seat.old.me me }
+        requires gets { seat.old.me.0.own.own ≡ Getting from }
+        requires slot { seat.old.me.1 ≡ (me, None) ∷ rest seat.old.me.1 }
+        ensures table { seat.new.table_id ≡ seat.old.table_id }
+        ensures after { (found : ℕ) × (sign found ≡ fetching from) × (seat.new.me ≡ (knows seat.old.me.0 (after_rest seat.old.me.0.own (me + 1) found seat.old.me.0.own.tried), rest seat.old.me.1)) }
+    {
+        let word = me as usize + 1;
+        self.table.shared.swap::<Rest>(seat, word, 0);
+    }
+
+    pub(crate) fn empty_step(&self, seat: &mut Seat<Option<Batch>, View>, me: u32, from: u32)
+        requires mine { Mine self.now seat.old.table_id seat.old.me me }
+        requires empty { seat.old.me.0.own.own ≡ Emptied from }
+        ensures table { seat.new.table_id ≡ seat.old.table_id }
+        ensures after { (found : ℕ) × (sign found ≡ emptied from) × (seat.new.me ≡ knowing seat.old.me (after_rest seat.old.me.0.own (me + 1) found true)) }
+    {
+        let word = me as usize + 1;
+        self.table.shared.swap::<RestEmpty>(seat, word, 0);
+    }
+
+    pub(crate) fn ring_step(&self, seat: &mut Seat<Option<Batch>, View>, me: u32) -> u64
+        requires mine { Mine self.now seat.old.table_id seat.old.me me }
+        ensures table { seat.new.table_id ≡ seat.old.table_id }
+        ensures after { seat.new.me ≡ knowing seat.old.me (heard_at (noted seat.old.me.0.own 0 result result) (token_read result)) }
+        ensures over { token_read result ≡ Over → seat.old.me.0.own.busy ≡ false }
+        ensures elsewhere { is_at (token_read result) me ≡ false → is_over (token_read result) ≡ false → 1 < self.now.n }
+    {
+        self.table.shared.load::<LoadRing>(seat, 0)
+    }
+
+    pub(crate) fn pass_step(&self, seat: &mut Seat<Option<Batch>, View>, me: u32, token: ring_core::Colour, new: u64)
+        requires mine { Mine self.now seat.old.table_id seat.old.me me }
+        requires rests { seat.old.me.0.own.own ≡ Resting }
+        requires tried { seat.old.me.0.own.tried ≡ true }
+        requires here { seat.old.me.0.own.here ≡ Some token }
+        requires above { 0 < me }
+        requires word { new ≡ word_of_token (At (me - 1) (darker seat.old.me.0.own.colour token)) }
+        ensures table { seat.new.table_id ≡ seat.old.table_id }
+        ensures after { (found : ℕ) × (token_read found ≡ At me token) × (seat.new.me ≡ knowing seat.old.me (after_pass seat.old.me.0.own found new)) }
+    {
+        self.table.shared.swap::<Pass>(seat, 0, new);
+    }
+
+    pub(crate) fn restart_step(&self, seat: &mut Seat<Option<Batch>, View>, token: ring_core::Colour, new: u64)
+        requires mine { Mine self.now seat.old.table_id seat.old.me 0 }
+        requires rests { seat.old.me.0.own.own ≡ Resting }
+        requires tried { (self.now.n ≡ 1) ⊎ (seat.old.me.0.own.tried ≡ true) }
+        requires here { seat.old.me.0.own.here ≡ Some token }
+        requires black { darker seat.old.me.0.own.colour token ≡ Black }
+        requires word { new ≡ word_of_token (At (self.now.n - 1) White) }
+        ensures table { seat.new.table_id ≡ seat.old.table_id }
+        ensures after { (found : ℕ) × (token_read found ≡ At 0 token) × (seat.new.me ≡ knowing seat.old.me (after_restart seat.old.me.0.own found new)) }
+    {
+        self.table.shared.swap::<Restart>(seat, 0, new);
+    }
+
+    pub(crate) fn conclude_step(&self, seat: &mut Seat<Option<Batch>, View>)
+        requires mine { Mine self.now seat.old.table_id seat.old.me 0 }
+        requires rests { seat.old.me.0.own.own ≡ Resting }
+        requires tried { (self.now.n ≡ 1) ⊎ (seat.old.me.0.own.tried ≡ true) }
+        requires here { seat.old.me.0.own.here ≡ Some White }
+        requires white { seat.old.me.0.own.colour ≡ White }
+        ensures table { seat.new.table_id ≡ seat.old.table_id }
+        ensures after { (found : ℕ) × (token_read found ≡ At 0 White) × (seat.new.me ≡ knowing seat.old.me (after_conclude seat.old.me.0.own found 0)) }
+    {
+        self.table.shared.swap::<Conclude>(seat, 0, 0);
+    }
+}
