@@ -7,7 +7,7 @@ use Rattle.find_tests.specs.declared.pieces.Class.{Class}
 use Rattle.find_tests.specs.declared.pieces.Piece.{Piece}
 use Rattle.find_tests.specs.declared.pieces.Piece.TheVariants.{AnyText, OneOf}
 use Rattle.find_tests.specs.Matching.{some_rest, matches}
-use Rattle.find_tests.specs.Front.{takes_first}
+use Rattle.find_tests.specs.Private.Front.{takes_first}
 
 -- an answer that leads to a false one is false
 false_before : (a b : Bool) → (a ≡ true → b ≡ true) → b ≡ false → a ≡ false
