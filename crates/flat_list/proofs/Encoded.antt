@@ -8,6 +8,7 @@ use Rattle.std.proofs.lemmas.List.{take_more, take_all, map-append}
 use Rattle.path_text.specs.Order.{path_cmp}
 use Rattle.flat_list.specs.declared.entries.Entry.{Entry}
 use Rattle.flat_list.specs.Spelling.{text_of, line, header_text, end_text, entry_lines, IsEntry, paths, Spells}
+use Rattle.flat_list.proofs.Ascending.{all_more}
 use Rattle.flat_list.proofs.Files.{flat_end}
 
 pub one_digit : (old : List ℕ) (n : ℕ) → n < 10 → old ++ (48 + n) ∷ [] ≡ old ++ decimal n
@@ -25,10 +26,6 @@ lines_more xs i e lt is =
     ap (λ l. flat_map (λ l. l) (entry_lines l)) more
     ∙ ap (flat_map (λ l. l)) (map-append (λ e. line (text_of e)) (take i xs) (e ∷ []))
     ∙ flat_end (entry_lines (take i xs)) (line (text_of e))
-
-all_more : (P : Entry → Type 0) (xs : List Entry) (y : Entry) → AllByRecursion P xs → P y → AllByRecursion P (xs ++ y ∷ [])
-all_more P [] y h p = (p, tt)
-all_more P (x ∷ xs) y h p = (h.0, all_more P xs y h.1 p)
 
 pub each_more : (xs : List Entry) (i : ℕ) (e : Entry) → i < length xs → e ≡ get_or xs i e → AllByRecursion IsEntry (take i xs) → IsEntry e → AllByRecursion IsEntry (take (i + 1) xs)
 each_more xs i e lt is each one =

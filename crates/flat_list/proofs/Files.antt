@@ -7,9 +7,7 @@ use Rattle.flat_list.specs.Spelling.{text_of, line, header_text, end_text, entry
 use Rattle.flat_list.specs.Reading.{cut, onto_word}
 use Rattle.flat_list.proofs.Words.{IsFree, eqb_is}
 use Rattle.flat_list.proofs.Lines.{text_free, end_free}
-
-pub cons_parts : {A : Type 0} (x y : A) (xs ys : List A) → x ∷ xs ≡ y ∷ ys → (x ≡ y) × (xs ≡ ys)
-cons_parts x y xs ys e = (cc, cc)
+use Rattle.flat_list.proofs.WholeLines.{cons_parts}
 
 -- ---- lines
 

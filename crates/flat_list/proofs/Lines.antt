@@ -11,11 +11,10 @@ use Rattle.std.proofs.lemmas.Str.Parse.{digit_at}
 use Rattle.std.proofs.lemmas.List.Elements.{recursion_from_All}
 use Rattle.std.proofs.lemmas.Grind.{get_or_default_zero}
 use Rattle.path_text.specs.Path.{refusal}
-use Rattle.path_text.specs.Escape.{escape, reading, good_len, unescaped, path_of}
+use Rattle.path_text.specs.Escape.{escape, reading, good_len, unescaped, path_of, ReadingUndoesWriting}
 use Rattle.path_text.specs.declared.errors.PathError.{PathError}
 use Rattle.path_text.specs.declared.errors.EscapeError.TheVariants.{BadEscape}
 use Rattle.flat_list.proofs.Escapes.{utf8_escape, escape_free, free-append}
-use Rattle.path_text.proofs.Readable.{reading_undoes_writing}
 use Rattle.outside.specs.declared.trees.Kind.{Kind}
 use Rattle.outside.specs.declared.trees.Kind.TheVariants as kind
 use Rattle.outside.specs.declared.trees.Stat.{Stat}
@@ -330,44 +329,44 @@ is_path word path e = by_len (ltb (good_len word) (length word)) e
     by_len true e = absurd cc
     by_len false e = by_refusal (refusal (unescaped word)) refl e
 
-path_takes : (word path : List ℕ) → path_from word ≡ Some path → (word ≡ escape path) × (refusal path ≡ None)
+path_takes : ReadingUndoesWriting → (word path : List ℕ) → path_from word ≡ Some path → (word ≡ escape path) × (refusal path ≡ None)
 unfolding path_from
-path_takes word path e = by_test (is_utf8 word) e
+path_takes undoes word path e = by_test (is_utf8 word) e
   where
     by_test : (t : Bool) → cond t (ok_of (reading word)) None ≡ Some path → (word ≡ escape path) × (refusal path ≡ None)
-    by_test true e = let read = path_of_reading word path e in (reading_undoes_writing.one_spelling word path read, is_path word path read)
+    by_test true e = let read = path_of_reading word path e in (undoes.one_spelling word path read, is_path word path read)
     by_test false e = absurd cc
 
-path_again : (path : List ℕ) → refusal path ≡ None → IsUtf8 path → path_from (escape path) ≡ Some path
-path_again path is u = text_path (escape path) (utf8_escape path u) ∙ ap ok_of (reading_undoes_writing.back path is)
+path_again : ReadingUndoesWriting → (path : List ℕ) → refusal path ≡ None → IsUtf8 path → path_from (escape path) ≡ Some path
+path_again undoes path is u = text_path (escape path) (utf8_escape path u) ∙ ap ok_of (undoes.back path is)
 
 abbrev with_path : Told → List ℕ → Option Entry
 with_path t path = Some (record { path = path; stat = t.stat; mark = t.mark; unnamed = t.unnamed; far = t.far })
 
-pub entry_takes : (text : List ℕ) (e : Entry) → entry_at text ≡ Some e → IsUtf8 e.path → (text ≡ text_of e) × IsEntry e
+pub entry_takes : ReadingUndoesWriting → (text : List ℕ) (e : Entry) → entry_at text ≡ Some e → IsUtf8 e.path → (text ≡ text_of e) × IsEntry e
 unfolding entry_at
-entry_takes text e is u =
+entry_takes undoes text e is u =
     let t = bind_some (told_at text) (λ t. path_from t.1 >>= λ path. with_path t.0 path) e is in
     let p = bind_some (path_from t.0.1) (λ path. with_path t.0.0 path) e t.2 in
     let entry : Entry = record { path = p.0; stat = t.0.0.stat; mark = t.0.0.mark; unnamed = t.0.0.unnamed; far = t.0.0.far } in
     let same : entry ≡ e = cc in
     let told = told_takes text t.0.0 t.0.1 t.1 in
-    let path = path_takes t.0.1 p.0 p.1 in
+    let path = path_takes undoes t.0.1 p.0 p.1 in
     let utf8 : IsUtf8 entry.path = subst (λ (e : Entry). IsUtf8 e.path) (sym same) u in
     let entry_is : IsEntry entry = record { path = path.1; utf8 = utf8; shape = told.1.fits; size = told.1.size; time = told.1.time; unnamed = told.1.unnamed; far = told.1.far } in
     let whole : text ≡ text_of entry = told.0 ∙ ap (λ w. told_text t.0.0 w) path.0 in
     subst (λ (e : Entry). (text ≡ text_of e) × IsEntry e) same (whole, entry_is)
 
-pub entry_again : (e : Entry) → IsEntry e → entry_at (text_of e) ≡ Some e
+pub entry_again : ReadingUndoesWriting → (e : Entry) → IsEntry e → entry_at (text_of e) ≡ Some e
 unfolding entry_at
-entry_again e is =
+entry_again undoes e is =
     let t : Told = record { stat = e.stat; mark = e.mark; unnamed = e.unnamed; far = e.far } in
     ap (λ o. o >>= λ t. path_from t.1 >>= λ path. with_path t.0 path) (told_again t (escape e.path) (record { fits = is.shape; size = is.size; time = is.time; unnamed = is.unnamed; far = is.far }))
-    ∙ ap (λ o. o >>= λ path. with_path t path) (path_again e.path is.path is.utf8)
+    ∙ ap (λ o. o >>= λ path. with_path t path) (path_again undoes e.path is.path is.utf8)
 
-pub one_text : (d e : Entry) → IsEntry d → IsEntry e → text_of d ≡ text_of e → d ≡ e
-one_text d e dis eis same =
-    let both : Some d ≡ Some e = sym (entry_again d dis) ∙ ap entry_at same ∙ entry_again e eis in
+pub one_text : ReadingUndoesWriting → (d e : Entry) → IsEntry d → IsEntry e → text_of d ≡ text_of e → d ≡ e
+one_text undoes d e dis eis same =
+    let both : Some d ≡ Some e = sym (entry_again undoes d dis) ∙ ap entry_at same ∙ entry_again undoes e eis in
     cc
 
 -- ---- the end

@@ -8,7 +8,7 @@ ghost use Rattle.flat_list.specs.Reading.{cut, entry_at, end_at, Adds, NoneFollo
 use crate::errors::CacheError;
 use crate::lists::FlatList;
 use crate::reading::{cut, end_at, entry_at};
-use path_text::OutOfMemory;
+use path_text::{OutOfMemory, reading_undoes_writing};
 use std::alloc::Global;
 
 const MAX_ENTRIES: usize = 4_194_304;
@@ -19,6 +19,8 @@ pub(crate) fn decode(alloc: Global, bytes: &[u8]) -> Result<FlatList, CacheError
     ensures few { IfOk result (λ list. length list ≤ max_entries) }
     ensures refused { IfErr result (IsCause bytes.now) }
 {
+    // That no other text tells the same entry rests on this law.
+    reading_undoes_writing();
     let Some(rest) = behind_header(bytes) else {
         return Err(CacheError::Damaged(1));
     };

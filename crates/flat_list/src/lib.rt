@@ -47,6 +47,7 @@ mod entries;
 mod errors;
 mod laws;
 mod lists;
+mod merging;
 mod ordering;
 mod reading;
 mod summaries;
