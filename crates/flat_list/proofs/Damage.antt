@@ -1,12 +1,14 @@
 -- Where the lines of a text stop to be those of a list file: what holds of all files of whole lines, for entries.
-use Rattle.std.proofs.Common.{◌≡◌, ℕ, zero, suc, ◌+◌, ◌-◌, ◌<◌, ◌≤◌, ◌^◌, List, [], ◌∷◌, ◌++◌, length, take, refl, ap, sym, ◌∙◌, subst, arith, append_assoc, length-append}
+use Rattle.std.proofs.Common.{◌≡◌, ℕ, zero, suc, ◌+◌, ◌-◌, ◌<◌, ◌≤◌, ◌^◌, List, [], ◌∷◌, ◌++◌, length, take, refl, ap, sym, ◌∙◌, subst, arith}
+use Rattle.std.proofs.Common.{append_assoc, length-append}
 use Rattle.std.specs.List.{AllByRecursion, flat_map}
 use Rattle.std.specs.List.Sorted.{IsStrictlySortedBy}
 use Rattle.std.proofs.lemmas.List.{map-append, length-map}
 use Rattle.path_text.specs.Escape.{ReadingUndoesWriting}
 use Rattle.path_text.specs.Order.{path_cmp}
 use Rattle.flat_list.specs.declared.entries.Entry.{Entry}
-use Rattle.flat_list.specs.Spelling.{text_of, line, header_text, end_text, entry_lines, lines_for, IsEntry, paths, IsList, Follows, Spells, lines_of, Begins, max_entries, IsTooLong, IsRefused}
+use Rattle.flat_list.specs.Spelling.{text_of, line, header_text, end_text, entry_lines, lines_for, IsEntry, paths, IsList, Follows, Spells, lines_of}
+use Rattle.flat_list.specs.Spelling.{Begins, max_entries, IsTooLong, IsRefused}
 use Rattle.flat_list.proofs.Ascending.{all_more, sorted_front}
 use Rattle.flat_list.proofs.Lines.{one_text, end_apart}
 use Rattle.flat_list.proofs.Files.{line_same, joined_lines}
@@ -29,7 +31,8 @@ follows_in es e rest is =
 
 -- ---- list files as files of whole lines: one line an entry
 
-pub one_entry : ReadingUndoesWriting → (d e : Entry) (rest more : List (List ℕ)) → IsEntry d → IsEntry e → line (text_of d) ∷ rest ≡ line (text_of e) ∷ more → d ≡ e
+pub one_entry : ReadingUndoesWriting → (d e : Entry) (rest more : List (List ℕ)) → IsEntry d → IsEntry e →
+    line (text_of d) ∷ rest ≡ line (text_of e) ∷ more → d ≡ e
 one_entry undoes d e rest more is one same = one_text undoes d e is one (line_same (text_of d) (text_of e) (cons_parts _ _ _ _ same).0)
 
 pub no_end : (e : Entry) (es : List Entry) → line (text_of e) ≡ line (end_text (length es)) → ⊥
@@ -83,20 +86,23 @@ module _ (undoes : ReadingUndoesWriting) where
   same_lines (e ∷ es) = ap (λ ls. line (text_of e) ∷ ls) (same_lines es)
 
   -- the lines behind the header, as the form has them
-  behind : (bytes : List ℕ) (es : List Entry) (more : List (List ℕ)) → Stands bytes es more → lines_of bytes ≡ line header_text ∷ (whole.lines_for (entries undoes) es ++ more)
+  behind : (bytes : List ℕ) (es : List Entry) (more : List (List ℕ)) → Stands bytes es more →
+      lines_of bytes ≡ line header_text ∷ (whole.lines_for (entries undoes) es ++ more)
   behind bytes es more s = s.text ∙ ap (λ ls. line header_text ∷ (ls ++ more)) (sym (same_lines es))
 
   lines_of_list : (es : List Entry) → lines_for es ≡ line header_text ∷ (whole.lines_for (entries undoes) es ++ line (end_text (length es)) ∷ [])
   lines_of_list es = ap (λ ls. line header_text ∷ (ls ++ line (end_text (length es)) ∷ [])) (sym (same_lines es))
 
-  behind_header : (n : ℕ) (bytes : List ℕ) (ls : List (List ℕ)) → lines_of bytes ≡ line header_text ∷ ls → Begins (suc n) bytes → whole.Begins (entries undoes) n ls
+  behind_header : (n : ℕ) (bytes : List ℕ) (ls : List (List ℕ)) → lines_of bytes ≡ line header_text ∷ ls → Begins (suc n) bytes →
+      whole.Begins (entries undoes) n ls
   behind_header n bytes ls is b = record {
     items = b.entries;
     file = b.list;
     same = (cons_parts _ _ _ _ (ap (take (suc n)) (sym is) ∙ b.same ∙ ap (take (suc n)) (lines_of_list b.entries))).1;
   }
 
-  with_header : (n : ℕ) (bytes : List ℕ) (ls : List (List ℕ)) → lines_of bytes ≡ line header_text ∷ ls → whole.Begins (entries undoes) n ls → Begins (suc n) bytes
+  with_header : (n : ℕ) (bytes : List ℕ) (ls : List (List ℕ)) → lines_of bytes ≡ line header_text ∷ ls → whole.Begins (entries undoes) n ls →
+      Begins (suc n) bytes
   with_header n bytes ls is b = record {
     entries = b.items;
     list = b.file;
@@ -108,7 +114,8 @@ module _ (undoes : ReadingUndoesWriting) where
 
   -- ---- the first line with which no list file goes on
 
-  pub refused_here : (bytes : List ℕ) (es : List Entry) (more : List (List ℕ)) → Stands bytes es more → whole.IsBad (entries undoes) es [] more → length es ≤ max_entries → IsRefused bytes (length es + 2)
+  pub refused_here : (bytes : List ℕ) (es : List Entry) (more : List (List ℕ)) → Stands bytes es more → whole.IsBad (entries undoes) es [] more →
+      length es ≤ max_entries → IsRefused bytes (length es + 2)
   refused_here bytes es more s bad few =
       let is = behind bytes es more s in
       let count = count_is es in
@@ -126,7 +133,8 @@ module _ (undoes : ReadingUndoesWriting) where
       tails : {ls : List (List ℕ)} → lines_of bytes ≡ line header_text ∷ ls → (t : IsTooLong bytes) → ls ≡ whole.lines_for (entries undoes) t.entries ++ t.rest
       tails is t = (cons_parts _ _ _ _ (sym is ∙ t.text)).1 ∙ ap (λ ls. ls ++ t.rest) (sym (same_lines t.entries))
 
-  pub refused_after : (bytes : List ℕ) (es : List Entry) (m : List ℕ) (ms : List (List ℕ)) → Stands bytes es (line (end_text (length es)) ∷ m ∷ ms) → length es ≤ max_entries → IsRefused bytes (length es + 3)
+  pub refused_after : (bytes : List ℕ) (es : List Entry) (m : List ℕ) (ms : List (List ℕ)) → Stands bytes es (line (end_text (length es)) ∷ m ∷ ms) →
+      length es ≤ max_entries → IsRefused bytes (length es + 3)
   refused_after bytes es m ms s few =
       let is = behind bytes es _ s in
       let count = count_is es in

@@ -1,5 +1,6 @@
 -- The steps of reading a list file.
-use Rattle.std.proofs.Common.{◌≡◌, ℕ, suc, ◌+◌, ◌-◌, ◌<◌, ◌≤◌, ◌^◌, Bool, true, false, eqb, List, [], ◌∷◌, ◌++◌, length, take, map, Option, Some, None, Result, Ok, Err, length-append, refl, ap, sym, ◌∙◌, subst, arith, append_assoc}
+use Rattle.std.proofs.Common.{◌≡◌, ℕ, suc, ◌+◌, ◌-◌, ◌<◌, ◌≤◌, ◌^◌, Bool, true, false, eqb, List, [], ◌∷◌, ◌++◌, length, take, map, Option, Some}
+use Rattle.std.proofs.Common.{None, Result, Ok, Err, length-append, refl, ap, sym, ◌∙◌, subst, arith, append_assoc}
 use Rattle.std.specs.List.Sorted.{IsStrictlySortedBy}
 use Rattle.std.specs.Ordering.{is_lt}
 use Rattle.std.specs.declared.cmp.Ordering.{Ordering}
@@ -12,8 +13,9 @@ use Rattle.path_text.specs.Escape.{ReadingUndoesWriting}
 use Rattle.path_text.specs.Order.{path_cmp}
 use Rattle.path_text.specs.Total.{path_cmp_total}
 use Rattle.flat_list.specs.declared.entries.Entry.{Entry}
-use Rattle.flat_list.specs.Spelling.{text_of, line, header_text, end_text, entry_lines, paths, IsList, Follows, Spells, lines_of, max_entries, IsTooLong, IsRefused}
-use Rattle.flat_list.specs.Reading.{cut, entry_at, end_at, Adds, NoneFollows}
+use Rattle.flat_list.specs.Spelling.{text_of, line, header_text, end_text, entry_lines, paths, IsList, Follows, Spells, lines_of, max_entries}
+use Rattle.flat_list.specs.Spelling.{IsTooLong, IsRefused}
+use Rattle.flat_list.specs.Private.Reading.{cut, entry_at, end_at, Adds, NoneFollows}
 use Rattle.flat_list.proofs.Words.{cut_takes}
 use Rattle.flat_list.proofs.Lines.{entry_takes, entry_again, end_takes, end_again}
 use Rattle.flat_list.proofs.Files.{line_same, line_first, free_uncut, torn, no_lines}
@@ -47,13 +49,16 @@ none_empty (x ∷ y ∷ es) is =
 paths_last : (front : List Entry) (e : Entry) (es : List Entry) → es ≡ front ++ e ∷ [] → paths es ≡ paths front ++ e.path ∷ []
 paths_last front e es is = ap paths is ∙ map-append (λ e. e.path) front (e ∷ [])
 
-pub precedes_yes : (es : List Entry) (e : Entry) (path : List ℕ) → slice_get es (length es - 1) ≡ Some e → IsStrictlySortedBy path_cmp (paths es) → is_lt (path_cmp e.path path) ≡ true → IsStrictlySortedBy path_cmp (paths es ++ path ∷ [])
+pub precedes_yes : (es : List Entry) (e : Entry) (path : List ℕ) → slice_get es (length es - 1) ≡ Some e → IsStrictlySortedBy path_cmp (paths es) →
+    is_lt (path_cmp e.path path) ≡ true → IsStrictlySortedBy path_cmp (paths es ++ path ∷ [])
 precedes_yes es e path is sorted lt =
     let f = with_last es e is in
     let same = paths_last f.0 e es f.1 in
-    subst (λ ps. IsStrictlySortedBy path_cmp (ps ++ path ∷ [])) (sym same) (sorted_more path_cmp path_cmp_total.trans (paths f.0) e.path path (subst (IsStrictlySortedBy path_cmp) same sorted) (lt_is _ lt))
+    subst (λ ps. IsStrictlySortedBy path_cmp (ps ++ path ∷ [])) (sym same)
+    (sorted_more path_cmp path_cmp_total.trans (paths f.0) e.path path (subst (IsStrictlySortedBy path_cmp) same sorted) (lt_is _ lt))
 
-pub precedes_no : (es : List Entry) (e : Entry) (path : List ℕ) → slice_get es (length es - 1) ≡ Some e → is_lt (path_cmp e.path path) ≡ false → IsStrictlySortedBy path_cmp (paths es ++ path ∷ []) → ⊥
+pub precedes_no : (es : List Entry) (e : Entry) (path : List ℕ) → slice_get es (length es - 1) ≡ Some e → is_lt (path_cmp e.path path) ≡ false →
+    IsStrictlySortedBy path_cmp (paths es ++ path ∷ []) → ⊥
 precedes_no es e path is off sorted =
     let f = with_last es e is in
     let same = paths_last f.0 e es f.1 in
@@ -89,7 +94,8 @@ pub header_none : (bytes : List ℕ) → cut 10 bytes ≡ None → IsRefused byt
 header_none bytes e = refused_first bytes (torn bytes header_text (free_uncut 10 bytes e))
 
 pub header_other : (bytes text rest : List ℕ) → cut 10 bytes ≡ Some (text, rest) → (text ≡ header_text → ⊥) → IsRefused bytes 1
-header_other bytes text rest e off = refused_first bytes (λ one. off (line_same text header_text (cons_parts (line text) (line header_text) [] [] (ap (take 1) (sym (first_line text rest bytes e)) ∙ one)).0))
+header_other bytes text rest e off = refused_first bytes
+    (λ one. off (line_same text header_text (cons_parts (line text) (line header_text) [] [] (ap (take 1) (sym (first_line text rest bytes e)) ∙ one)).0))
 
 pub starts : (bytes rest : List ℕ) → cut 10 bytes ≡ Some (header_text, rest) → Stands bytes [] (lines_of rest)
 starts bytes rest e = record { list = no_list; text = first_line header_text rest bytes e }

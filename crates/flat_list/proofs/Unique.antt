@@ -1,10 +1,12 @@
 -- A list has one text, a text is one list's, and of the answers about a text one alone is true.
-use Rattle.std.proofs.Common.{◌≡◌, ℕ, zero, suc, ◌+◌, ◌-◌, ◌<◌, inl, inr, List, [], ◌∷◌, ◌++◌, length, take, refl, ap, sym, ◌∙◌, subst, arith, append-nil}
+use Rattle.std.proofs.Common.{◌≡◌, ℕ, zero, suc, ◌+◌, ◌-◌, ◌<◌, inl, inr, List, [], ◌∷◌, ◌++◌, length, take, refl, ap, sym, ◌∙◌, subst, arith}
+use Rattle.std.proofs.Common.{append-nil}
 use Rattle.std.proofs.lemmas.Bool.{cases_lt}
 use Rattle.std.proofs.lemmas.List.{append_cancel_left}
 use Rattle.path_text.specs.Escape.{ReadingUndoesWriting}
 use Rattle.flat_list.specs.declared.entries.Entry.{Entry}
-use Rattle.flat_list.specs.Spelling.{line, header_text, end_text, entry_lines, lines_for, Spells, lines_of, Begins, IsDamaged, max_entries, IsTooLong, SpellsOne, RefusesExactly}
+use Rattle.flat_list.specs.Spelling.{line, header_text, end_text, entry_lines, lines_for, Spells, lines_of, Begins, IsDamaged, max_entries, IsTooLong}
+use Rattle.flat_list.specs.Spelling.{SpellsOne, RefusesExactly}
 use Rattle.flat_list.proofs.Files.{list_lines, no_lines}
 use Rattle.flat_list.proofs.Damage.{entries, is_final, same_lines, begins_less}
 use Rattle.flat_list.proofs.WholeLines as whole
@@ -36,7 +38,8 @@ module _ (undoes : ReadingUndoesWriting) where
   same a more es fs s t =
       let end = line (end_text (length es)) in
       let both : line header_text ∷ (entry_lines es ++ end ∷ lines_of more) ≡ lines_for fs = sym (list_lines a more es s) ∙ own_lines (a ++ more) fs t in
-      let list : fs ≡ es = whole.same_items (entries undoes) es fs end (line (end_text (length fs))) (lines_of more) [] (is_final undoes es) (is_final undoes fs) s.list.each t.list.each (tails es fs _ _ both) in
+      let list : fs ≡ es = whole.same_items (entries undoes) es fs end (line (end_text (length fs))) (lines_of more) [] (is_final undoes es)
+      (is_final undoes fs) s.list.each t.list.each (tails es fs _ _ both) in
       let ends : end ∷ lines_of more ≡ end ∷ [] =
       append_cancel_left (entry_lines es) _ _ ((cons_parts _ _ _ _ both).1 ∙ ap (λ (l : List Entry). entry_lines l ++ line (end_text (length l)) ∷ []) list) in
       (list, no_lines more (cons_parts _ _ _ _ ends).1)

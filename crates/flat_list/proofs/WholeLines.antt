@@ -1,7 +1,8 @@
 -- Files of whole lines: the lines of some items, one item behind the other, and an end line. A form says how many lines an item
 -- has, what they are, which item may follow which, and the end line. The lines of such a file tell its items, and a text is
 -- damaged from the first line on with which no file goes on. Our own.
-use Rattle.std.proofs.Common.{◌≡◌, ℕ, zero, suc, ◌+◌, ◌<◌, List, [], ◌∷◌, ◌++◌, length, take, drop, refl, ap, sym, ◌∙◌, subst, arith, append_assoc, length-append}
+use Rattle.std.proofs.Common.{◌≡◌, ℕ, zero, suc, ◌+◌, ◌<◌, List, [], ◌∷◌, ◌++◌, length, take, drop, refl, ap, sym, ◌∙◌, subst, arith, append_assoc}
+use Rattle.std.proofs.Common.{length-append}
 use Rattle.std.specs.List.{AllByRecursion, flat_map}
 use Rattle.std.proofs.lemmas.List.{take_at, take-append-drop, append_cancel_left}
 use Rattle.std.proofs.Math.Seq.{take-append-add}
@@ -52,10 +53,12 @@ module _ {Item : Type 0} (form : Form Item) where
   -- ---- what stands behind the lines of some items, where others' lines and a last one begin alike
 
   pub data Next (items others : List Item) (k : ℕ) (more : List (List ℕ)) (last : List ℕ) : Type 0 where
-    goes_on : (item : Item) (rest : List Item) (behind : List (List ℕ)) → others ≡ items ++ item ∷ rest → take k more ≡ take k (item_lines item ++ behind) → Next items others k more last
+    goes_on : (item : Item) (rest : List Item) (behind : List (List ℕ)) → others ≡ items ++ item ∷ rest → take k more ≡ take k (item_lines item ++ behind) →
+        Next items others k more last
     ends : others ≡ items → take k more ≡ take k (last ∷ []) → Next items others k more last
 
-  next_under : (d f : Item) (items others : List Item) (k : ℕ) (more : List (List ℕ)) (last : List ℕ) → d ≡ f → Next items others k more last → Next (d ∷ items) (f ∷ others) k more last
+  next_under : (d f : Item) (items others : List Item) (k : ℕ) (more : List (List ℕ)) (last : List ℕ) → d ≡ f → Next items others k more last →
+      Next (d ∷ items) (f ∷ others) k more last
   next_under d f items others k more last same (goes_on item rest behind is one) =
       goes_on item rest behind (ap (λ l. f ∷ l) is ∙ ap (λ e. e ∷ (items ++ item ∷ rest)) (sym same)) one
   next_under d f items others k more last same (ends is one) = ends (ap (λ l. f ∷ l) is ∙ ap (λ e. e ∷ items) (sym same)) one
@@ -66,7 +69,8 @@ module _ {Item : Type 0} (form : Form Item) where
     pub then : take n more ≡ take n behind
 
   alike : (item other : Item) (n : ℕ) (more behind : List (List ℕ)) → form.IsItem item → form.IsItem other →
-      take (length (item_lines item) + n) (item_lines item ++ more) ≡ take (length (item_lines item) + n) (item_lines other ++ behind) → Alike item other n more behind
+      take (length (item_lines item) + n) (item_lines item ++ more) ≡ take (length (item_lines item) + n) (item_lines other ++ behind) →
+      Alike item other n more behind
   alike item other n more behind is other_is same =
       let long = length (item_lines item) + n in
       let front : item_lines item ++ take n more ≡ take long (item_lines other ++ behind) = sym (take-append-add (item_lines item) more n) ∙ same in
@@ -79,7 +83,8 @@ module _ {Item : Type 0} (form : Form Item) where
       front ∙ ap (λ i. take long (item_lines i ++ behind)) (sym item_is) ∙ take-append-add (item_lines item) behind n in
       record { item_is = item_is; then = append_cancel_left (item_lines item) (take n more) (take n behind) back }
 
-  pub next : (k n : ℕ) (last : List ℕ) (items others : List Item) (more : List (List ℕ)) → IsFinal last → AllByRecursion form.IsItem items → AllByRecursion form.IsItem others →
+  pub next : (k n : ℕ) (last : List ℕ) (items others : List Item) (more : List (List ℕ)) → IsFinal last → AllByRecursion form.IsItem items →
+      AllByRecursion form.IsItem others →
       n ≡ length (lines_for items) + suc k → take n (lines_for items ++ more) ≡ take n (lines_for others ++ last ∷ []) → Next items others (suc k) more last
   next k n last [] [] more off each all is e =
       let same : n ≡ suc k = omega arith in
@@ -87,7 +92,8 @@ module _ {Item : Type 0} (form : Form Item) where
   next k n last [] (f ∷ others) more off each all is e =
       let same : n ≡ suc k = omega arith in
       let there = append_assoc (item_lines f) (lines_for others) (last ∷ []) in
-      goes_on f others (lines_for others ++ last ∷ []) refl (subst (λ m. take m more ≡ take m (item_lines f ++ (lines_for others ++ last ∷ []))) same (e ∙ ap (take n) there))
+      goes_on f others (lines_for others ++ last ∷ []) refl
+      (subst (λ m. take m more ≡ take m (item_lines f ++ (lines_for others ++ last ∷ []))) same (e ∙ ap (take n) there))
   next k zero last (d ∷ items) [] more off each all is e = absurd (omega arith)
   next k (suc n) last (d ∷ items) [] more off each all is e = absurd (off d each.0 (cons_parts _ _ _ _ e).0)
   next k n last (d ∷ items) (f ∷ others) more off each all is e =
@@ -106,10 +112,12 @@ module _ {Item : Type 0} (form : Form Item) where
     pub parts : others ≡ items ++ item ∷ rest
     pub text : more ≡ item_lines item ++ (lines_for rest ++ behind)
 
-  pub longer : (items others : List Item) (more behind : List (List ℕ)) → AllByRecursion form.IsItem items → AllByRecursion form.IsItem others → length items < length others →
+  pub longer : (items others : List Item) (more behind : List (List ℕ)) → AllByRecursion form.IsItem items → AllByRecursion form.IsItem others →
+      length items < length others →
       lines_for items ++ more ≡ lines_for others ++ behind → Longer items others more behind
   longer [] [] more behind each all lt e = absurd (omega arith)
-  longer [] (f ∷ others) more behind each all lt e = record { item = f; rest = others; parts = refl; text = e ∙ append_assoc (item_lines f) (lines_for others) behind }
+  longer [] (f ∷ others) more behind each all lt e =
+      record { item = f; rest = others; parts = refl; text = e ∙ append_assoc (item_lines f) (lines_for others) behind }
   longer (d ∷ items) [] more behind each all lt e = absurd (omega arith)
   longer (d ∷ items) (f ∷ others) more behind each all lt e =
       let parts : item_lines d ++ (lines_for items ++ more) ≡ item_lines f ++ (lines_for others ++ behind) =
@@ -145,7 +153,8 @@ module _ {Item : Type 0} (form : Form Item) where
 
   -- with part of an item read behind whole ones, no item that may follow goes on as the text does, nor does the end
   pub record IsBad (items : List Item) (part more : List (List ℕ)) : Type 0 where
-    pub item : (item : Item) (behind : List (List ℕ)) → form.IsItem item → form.Follows items item → take (suc (length part)) (part ++ more) ≡ take (suc (length part)) (item_lines item ++ behind) → ⊥
+    pub item : (item : Item) (behind : List (List ℕ)) → form.IsItem item → form.Follows items item →
+        take (suc (length part)) (part ++ more) ≡ take (suc (length part)) (item_lines item ++ behind) → ⊥
     pub end : take (suc (length part)) (part ++ more) ≡ take (suc (length part)) (form.final items ∷ []) → ⊥
 
   none_next : (items : List Item) (part more : List (List ℕ)) → IsBad items part more → (others : List Item) → form.IsFile others →
@@ -170,24 +179,29 @@ module _ {Item : Type 0} (form : Form Item) where
 
   -- ---- the end
 
-  pub ended : (items : List Item) (more : List (List ℕ)) → form.IsFile items → Begins (suc (length (lines_for items))) (lines_for items ++ form.final items ∷ more)
+  pub ended : (items : List Item) (more : List (List ℕ)) → form.IsFile items →
+      Begins (suc (length (lines_for items))) (lines_for items ++ form.final items ∷ more)
   ended items more file = record {
     items = items;
     file = file;
     same = with_end more ∙ sym (with_end []);
   }
     where
-      with_end : (more : List (List ℕ)) → take (suc (length (lines_for items))) (lines_for items ++ form.final items ∷ more) ≡ lines_for items ++ form.final items ∷ []
+      with_end : (more : List (List ℕ)) →
+          take (suc (length (lines_for items))) (lines_for items ++ form.final items ∷ more) ≡ lines_for items ++ form.final items ∷ []
       with_end more =
-          let long : length (lines_for items ++ form.final items ∷ []) ≡ suc (length (lines_for items)) = omega (arith, length-append (lines_for items) (form.final items ∷ [])) in
-          ap (take (suc (length (lines_for items)))) (sym (append_assoc (lines_for items) (form.final items ∷ []) more)) ∙ take_at (lines_for items ++ form.final items ∷ []) more _ long
+          let long : length (lines_for items ++ form.final items ∷ []) ≡ suc (length (lines_for items)) =
+          omega (arith, length-append (lines_for items) (form.final items ∷ [])) in
+          ap (take (suc (length (lines_for items)))) (sym (append_assoc (lines_for items) (form.final items ∷ []) more))
+          ∙ take_at (lines_for items ++ form.final items ∷ []) more _ long
 
   -- nothing stands behind it
   pub line_behind : (items : List Item) (line : List ℕ) (more : List (List ℕ)) → form.IsFile items →
       Begins (suc (suc (length (lines_for items)))) (lines_for items ++ form.final items ∷ line ∷ more) → ⊥
   line_behind items line more file b =
       let long : suc (suc (length (lines_for items))) ≡ length (lines_for items) + suc 1 = omega arith in
-      none (next 1 _ (form.final b.items) items b.items (form.final items ∷ line ∷ more) (final_is b.items) (form.each items file) (form.each b.items b.file) long b.same)
+      none (next 1 _ (form.final b.items) items b.items (form.final items ∷ line ∷ more) (final_is b.items) (form.each items file)
+      (form.each b.items b.file) long b.same)
     where
       none : Next items b.items (suc 1) (form.final items ∷ line ∷ more) (form.final b.items) → ⊥
       none (goes_on item rest behind is one) =

@@ -3,7 +3,7 @@ ghost use Rattle.std.specs.Prelude.{◌≡◌, ◌≢◌, ◌+◌, ◌<◌, ◌�
 ghost use Rattle.std.specs.List.Sorted.{IsStrictlySortedBy};
 ghost use Rattle.path_text.specs.Order.{path_cmp};
 ghost use Rattle.flat_list.specs.Spelling.{header_text, end_text, line, lines_of, paths, Spells, max_entries, IsCause, IsRefused};
-ghost use Rattle.flat_list.specs.Reading.{cut, entry_at, end_at, Adds, NoneFollows};
+ghost use Rattle.flat_list.specs.Private.Reading.{cut, entry_at, end_at, Adds, NoneFollows};
 
 use crate::errors::CacheError;
 use crate::lists::FlatList;

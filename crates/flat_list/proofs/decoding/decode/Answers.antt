@@ -1,9 +1,10 @@
 use Rattle.std.proofs.Common.{rules, arith, ◌≡◌, ◌≤◌, ◌+◌, length, ◌∙◌, sym, ap, subst, true, false, List, None}
 use Rattle.flat_list.specs.declared.entries.Entry.{Entry}
 use Rattle.flat_list.specs.Spelling.{lines_of, Spells, max_entries, IsCause, IsRefused}
-use Rattle.flat_list.specs.Reading.{cut, entry_at}
+use Rattle.flat_list.specs.Private.Reading.{cut, entry_at}
 use Rattle.flat_list.proofs.Damage.{Stands}
-use Rattle.flat_list.proofs.Decoded.{Reads, starts, goes_on, bad_torn, bad_text, at_end, past_end, too_long, if_ok_then, if_err_then, nots, adds_one, cut_shorter}
+use Rattle.flat_list.proofs.Decoded.{Reads, starts, goes_on, bad_torn, bad_text, at_end, past_end, too_long, if_ok_then, if_err_then, nots, adds_one}
+use Rattle.flat_list.proofs.Decoded.{cut_shorter}
 use Rattle.flat_list.proofs.decoding.decode.Goals as goal
 
 pub loop-text-init : goal.loop-text-init
