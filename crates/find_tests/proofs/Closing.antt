@@ -1,5 +1,5 @@
 -- Where a bracket is not closed, none behind it is.
-use Rattle.std.proofs.Common.{◌≡◌, ℕ, Bool, true, false, cond, List, [], ◌∷◌, drop, refl, sym, ◌∙◌, subst}
+use Rattle.std.proofs.Common.{◌≡◌, Bool, true, false, cond, List, [], ◌∷◌, drop, refl, sym, subst}
 use Rattle.std.proofs.lemmas.Bool.{false≢true}
 use Rattle.find_tests.specs.declared.signs.Sign.{Sign}
 use Rattle.find_tests.specs.Signs.{is_sign}

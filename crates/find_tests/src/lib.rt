@@ -14,9 +14,9 @@
 //!
 //! In a glob `*` stands for any text, `?` for any character, and brackets for one of their members, or behind `[!` for one
 //! that is none. `/` is a character as any other. A backslash makes the next character literal. A `[` that is not closed is
-//! literal. Patterns are read once, when a glob is made, in time in proportion to them. A match goes on from the last `*` that it reached and tries no
-//! division of the text twice: with one `*` it costs as many steps as the text is long, times the pieces up to a difference,
-//! and never more than pattern times text.
+//! literal. Patterns are read once, when a glob is made, in time in proportion to them. A match goes on from the last `*` that
+//! it reached and tries no division of the text twice: with one `*` it costs as many steps as the text is long, times the
+//! pieces up to a difference, and never more than pattern times text.
 //!
 //! Proved: [`glob_match`] answers true exactly where the glob relation holds, in which `*` stands for *some* division of the
 //! text; a law says the relation case by case over the characters of a pattern ([`glob_by_cases`]). The test or the refusal

@@ -1,7 +1,7 @@
 -- Where the lines of a text stop to be those of a list file: what holds of all files of whole lines, for entries.
 use Rattle.std.proofs.Common.{◌≡◌, ℕ, zero, suc, ◌+◌, ◌-◌, ◌<◌, ◌≤◌, ◌^◌, List, [], ◌∷◌, ◌++◌, length, take, refl, ap, sym, ◌∙◌, subst, arith}
 use Rattle.std.proofs.Common.{append_assoc, length-append}
-use Rattle.std.specs.List.{AllByRecursion, flat_map}
+use Rattle.std.specs.List.{flat_map}
 use Rattle.std.specs.List.Sorted.{IsStrictlySortedBy}
 use Rattle.std.proofs.lemmas.List.{map-append, length-map}
 use Rattle.path_text.specs.Escape.{ReadingUndoesWriting}
@@ -112,6 +112,11 @@ module _ (undoes : ReadingUndoesWriting) where
   count_is : (es : List Entry) → length (whole.lines_for (entries undoes) es) ≡ length es
   count_is es = ap length (same_lines es) ∙ lines_len es
 
+  -- the lines of too many entries, behind the header
+  too_many : {bytes : List ℕ} {ls : List (List ℕ)} → lines_of bytes ≡ line header_text ∷ ls → (t : IsTooLong bytes) →
+      ls ≡ whole.lines_for (entries undoes) t.entries ++ t.rest
+  too_many is t = (cons_parts _ _ _ _ (sym is ∙ t.text)).1 ∙ ap (λ ls. ls ++ t.rest) (sym (same_lines t.entries))
+
   -- ---- the first line with which no list file goes on
 
   pub refused_here : (bytes : List ℕ) (es : List Entry) (more : List (List ℕ)) → Stands bytes es more → whole.IsBad (entries undoes) es [] more →
@@ -127,11 +132,8 @@ module _ (undoes : ReadingUndoesWriting) where
           before = subst (λ n. Begins n bytes) (sym before) (with_header _ bytes _ is (whole.begun (entries undoes) es more s.list));
           through = λ b. whole.bad_line (entries undoes) es [] more s.list bad (behind_header _ bytes _ is (subst (λ n. Begins n bytes) here b));
         };
-        short = λ t. whole.bad_is_short (entries undoes) es t.entries [] more t.rest s.list t.list bad (omega (arith, t.many)) (tails is t);
+        short = λ t. whole.bad_is_short (entries undoes) es t.entries [] more t.rest s.list t.list bad (omega (arith, t.many)) (too_many is t);
       }
-    where
-      tails : {ls : List (List ℕ)} → lines_of bytes ≡ line header_text ∷ ls → (t : IsTooLong bytes) → ls ≡ whole.lines_for (entries undoes) t.entries ++ t.rest
-      tails is t = (cons_parts _ _ _ _ (sym is ∙ t.text)).1 ∙ ap (λ ls. ls ++ t.rest) (sym (same_lines t.entries))
 
   pub refused_after : (bytes : List ℕ) (es : List Entry) (m : List ℕ) (ms : List (List ℕ)) → Stands bytes es (line (end_text (length es)) ∷ m ∷ ms) →
       length es ≤ max_entries → IsRefused bytes (length es + 3)
@@ -146,8 +148,5 @@ module _ (undoes : ReadingUndoesWriting) where
           before = subst (λ n. Begins n bytes) (sym before) (with_header _ bytes _ is (whole.ended (entries undoes) es (m ∷ ms) s.list));
           through = λ b. whole.line_behind (entries undoes) es m ms s.list (behind_header _ bytes _ is (subst (λ n. Begins n bytes) here b));
         };
-        short = λ t. whole.end_is_short (entries undoes) es t.entries (m ∷ ms) t.rest s.list t.list (omega (arith, t.many)) (tails is t);
+        short = λ t. whole.end_is_short (entries undoes) es t.entries (m ∷ ms) t.rest s.list t.list (omega (arith, t.many)) (too_many is t);
       }
-    where
-      tails : {ls : List (List ℕ)} → lines_of bytes ≡ line header_text ∷ ls → (t : IsTooLong bytes) → ls ≡ whole.lines_for (entries undoes) t.entries ++ t.rest
-      tails is t = (cons_parts _ _ _ _ (sym is ∙ t.text)).1 ∙ ap (λ ls. ls ++ t.rest) (sym (same_lines t.entries))

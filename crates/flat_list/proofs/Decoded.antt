@@ -1,5 +1,5 @@
 -- The steps of reading a list file.
-use Rattle.std.proofs.Common.{◌≡◌, ℕ, suc, ◌+◌, ◌-◌, ◌<◌, ◌≤◌, ◌^◌, Bool, true, false, eqb, List, [], ◌∷◌, ◌++◌, length, take, map, Option, Some}
+use Rattle.std.proofs.Common.{◌≡◌, ℕ, suc, ◌+◌, ◌-◌, ◌<◌, ◌≤◌, Bool, true, false, eqb, List, [], ◌∷◌, ◌++◌, length, take, Option, Some}
 use Rattle.std.proofs.Common.{None, Result, Ok, Err, length-append, refl, ap, sym, ◌∙◌, subst, arith, append_assoc}
 use Rattle.std.specs.List.Sorted.{IsStrictlySortedBy}
 use Rattle.std.specs.Ordering.{is_lt}
@@ -20,7 +20,7 @@ use Rattle.flat_list.proofs.Words.{cut_takes}
 use Rattle.flat_list.proofs.Lines.{entry_takes, entry_again, end_takes, end_again}
 use Rattle.flat_list.proofs.Files.{line_same, line_first, free_uncut, torn, no_lines}
 use Rattle.flat_list.proofs.Ascending.{sorted_none, sorted_one, sorted_last, sorted_more}
-use Rattle.flat_list.proofs.Damage.{entries, list_more, Stands, refused_here, refused_after, spelled}
+use Rattle.flat_list.proofs.Damage.{list_more, Stands, refused_here, refused_after, spelled}
 use Rattle.flat_list.proofs.WholeLines.{cons_parts}
 
 -- ---- a path behind the others

@@ -1,9 +1,11 @@
-//! The log of a walk, brought close to path order before it is sorted.
+//! The logs of a walk, brought close to path order before they are sorted.
 //!
 //! A rank handles its newest string first, so its log has each directory before what is below it, and siblings in falling
 //! order. In such a list the place of an entry in path order follows from where what is below it ends: behind the entries that
-//! stand above it, and behind all that come after that end. So it is reached without comparing paths. Whatever the list is,
-//! entries only change places here; the sort that follows answers for the order, in one pass where the places were right.
+//! stand above it, and behind all that come after that end. So it is reached without comparing paths. Of several ranks each
+//! log is placed by itself; what a rank was given on the way begins anew there, so that ascending runs are left, which are
+//! merged. Whatever the list is, entries only change places here, once; the sort that follows answers for the order, in one
+//! pass where the places were right.
 ghost use Rattle.std.specs.Prelude.{◌<◌, length, IfSome, IsSome};
 ghost use Rattle.std.specs.List.Sorted.{IsPermutation};
 

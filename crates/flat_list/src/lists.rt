@@ -89,8 +89,8 @@ impl FlatList {
         }
     }
 
-    /// All entries of the logs, in path order. They are moved, and memory for them is
-    /// taken once.
+    /// All entries of the logs, in path order. They are moved, and memory for them is taken once. Logs that ranks of a walk
+    /// made are soonest in order; to merge several takes room for three numbers an entry.
     pub fn from_jobs(alloc: Global, logs: Vec<Vec<Entry>>) -> Result<FlatList, OutOfMemory>
         ensures all { IfOk result (λ list. IsPermutation (flat_map (λ log. log.items) logs.items) list) }
         ensures sorted { IfOk result (λ list. IsSortedByKey (λ e. e.path) path_cmp list) }
