@@ -34,7 +34,8 @@ any_text rest text = (
   λ d. subst (λ t. matches (AnyText ∷ rest) t ≡ true) (sym d.parts) (some_rest_behind (λ t. matches rest t) d.front d.back d.back_passes),
 )
 
-one_of : (class : Class) (rest : List Piece) (text : List ℕ) → (matches (OneOf class ∷ rest) text ≡ true) ↔ FirstAndRest (takes class) (λ t. matches rest t) text
+one_of : (class : Class) (rest : List Piece) (text : List ℕ) →
+    (matches (OneOf class ∷ rest) text ≡ true) ↔ FirstAndRest (takes class) (λ t. matches rest t) text
 one_of class rest [] = (λ h. absurd (cc h), λ f. absurd (cc (f.parts)))
 one_of class rest (c ∷ text) = (
   λ h.
@@ -45,16 +46,21 @@ one_of class rest (c ∷ text) = (
 )
 
 -- what stands at the front of a pattern is a piece of one character
-one_first : (s : Sign) (class : Class) (signs behind : List Sign) (text : List ℕ) → piece_at s signs ≡ OneOf class → behind_piece s signs ≡ behind → (matches (pieces_of (s ∷ signs)) text ≡ true) ↔ FirstAndRest (takes class) (λ t. matches (pieces_of behind) t) text
+one_first : (s : Sign) (class : Class) (signs behind : List Sign) (text : List ℕ) → piece_at s signs ≡ OneOf class → behind_piece s signs ≡ behind →
+    (matches (pieces_of (s ∷ signs)) text ≡ true) ↔ FirstAndRest (takes class) (λ t. matches (pieces_of behind) t) text
 one_first s class signs behind text is_class is_behind =
-    let step : pieces_of (s ∷ signs) ≡ OneOf class ∷ pieces_of behind = pieces_of-cons s signs ∙ ap (λ p. p ∷ pieces_of (behind_piece s signs)) is_class ∙ ap (λ b. OneOf class ∷ pieces_of b) is_behind in
-    subst (λ ps. (matches ps text ≡ true) ↔ FirstAndRest (takes class) (λ t. matches (pieces_of behind) t) text) (sym step) (one_of class (pieces_of behind) text)
+    let step : pieces_of (s ∷ signs) ≡ OneOf class ∷ pieces_of behind = pieces_of-cons s signs
+    ∙ ap (λ p. p ∷ pieces_of (behind_piece s signs)) is_class ∙ ap (λ b. OneOf class ∷ pieces_of b) is_behind in
+    subst (λ ps. (matches ps text ≡ true) ↔ FirstAndRest (takes class) (λ t. matches (pieces_of behind) t) text) (sym step)
+    (one_of class (pieces_of behind) text)
 
 star_first : (rest text : List ℕ) → (chars_match (42 ∷ rest) text ≡ true) ↔ HasDivision (λ t. chars_match rest t) text
 star_first rest text =
-    subst (λ ps. (matches ps text ≡ true) ↔ HasDivision (λ t. chars_match rest t) text) (sym (pieces_of-cons (Plain 42) (signs_of rest))) (any_text (pieces_of (signs_of rest)) text)
+    subst (λ ps. (matches ps text ≡ true) ↔ HasDivision (λ t. chars_match rest t) text) (sym (pieces_of-cons (Plain 42) (signs_of rest)))
+    (any_text (pieces_of (signs_of rest)) text)
 
-literal_first : (c : ℕ) (rest text : List ℕ) → is_special c ≡ false → (chars_match (c ∷ rest) text ≡ true) ↔ FirstAndRest (λ d. d == c) (λ t. chars_match rest t) text
+literal_first : (c : ℕ) (rest text : List ℕ) → is_special c ≡ false →
+    (chars_match (c ∷ rest) text ≡ true) ↔ FirstAndRest (λ d. d == c) (λ t. chars_match rest t) text
 literal_first c rest text plain =
     let no_backslash = or_parts (c == 42 || c == 63 || c == 91) (c == 92) plain in
     let no_bracket = or_parts (c == 42 || c == 63) (c == 91) (no_backslash.0) in
@@ -71,6 +77,7 @@ glob_by_cases = record {
   literal = literal_first;
   escaped = λ c rest text. one_first (Literal c) (Only c) (signs_of rest) (signs_of rest) text refl refl;
   last_backslash = λ text. one_first (Literal 92) (Only 92) [] [] text refl refl;
-  closed = λ rest text closed. one_first (Plain 91) (bracket (signs_of rest)) (signs_of rest) (behind_members (behind_negation (signs_of rest))) text (rw closed refl) (rw closed refl);
+  closed = λ rest text closed. one_first (Plain 91) (bracket (signs_of rest)) (signs_of rest) (behind_members (behind_negation (signs_of rest))) text
+      (rw closed refl) (rw closed refl);
   not_closed = λ rest text open_end. one_first (Plain 91) (Only 91) (signs_of rest) (signs_of rest) text (rw open_end refl) (rw open_end refl);
 }

@@ -1,3 +1,4 @@
 pub mod Matched
 pub mod Parsed
+pub mod Closing
 pub mod ByCases

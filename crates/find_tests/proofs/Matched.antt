@@ -1,5 +1,6 @@
 -- From the front of a pattern's pieces to the whole: a later `*` makes up for a longer front of an earlier one.
-use Rattle.std.proofs.Common.{◌≡◌, ℕ, zero, suc, ◌+◌, Bool, true, false, ◌&&◌, inl, inr, List, [], ◌∷◌, length, drop, refl, sym, ap, ◌∙◌, subst, arith}
+use Rattle.std.proofs.Common.{◌≡◌, ℕ, zero, suc, ◌+◌, Bool, true, false, ◌&&◌, inl, inr, List, [], ◌∷◌, length, drop, refl, sym, ap, ◌∙◌, subst}
+use Rattle.std.proofs.Common.{arith}
 use Rattle.std.specs.Cmp.{both_ways}
 use Rattle.std.proofs.lemmas.Bool.{or_right, or_cases, and_parts}
 use Rattle.std.proofs.lemmas.List.{nil_from_length, drop-drop}
@@ -7,7 +8,7 @@ use Rattle.find_tests.specs.declared.pieces.Class.{Class}
 use Rattle.find_tests.specs.declared.pieces.Piece.{Piece}
 use Rattle.find_tests.specs.declared.pieces.Piece.TheVariants.{AnyText, OneOf}
 use Rattle.find_tests.specs.Matching.{some_rest, matches}
-use Rattle.find_tests.specs.Front.{takes_first}
+use Rattle.find_tests.specs.Private.Front.{takes_first}
 
 -- an answer that leads to a false one is false
 false_before : (a b : Bool) → (a ≡ true → b ≡ true) → b ≡ false → a ≡ false
@@ -34,7 +35,8 @@ some_rest_found test (c ∷ text) h =
     ]
 
 -- a piece of one character and a rest, in terms of the first character
-matches_one : (class : Class) (behind : List Piece) (text : List ℕ) → matches (OneOf class ∷ behind) text ≡ (takes_first class text && matches behind (drop 1 text))
+matches_one : (class : Class) (behind : List Piece) (text : List ℕ) →
+    matches (OneOf class ∷ behind) text ≡ (takes_first class text && matches behind (drop 1 text))
 matches_one class behind [] = refl
 matches_one class behind (c ∷ text) = refl
 
@@ -46,7 +48,8 @@ pub record Follows (pieces left : List Piece) (text rest : List ℕ) : Type 0 wh
 pub follows_start : (pieces : List Piece) (text : List ℕ) → Follows pieces pieces text text
 follows_start pieces text = record { onward = λ k h. h; back = λ h. h }
 
-pub follows_one : (pieces : List Piece) (class : Class) (behind : List Piece) (text rest : List ℕ) → Follows pieces (OneOf class ∷ behind) text rest → takes_first class rest ≡ true → Follows pieces behind text (drop 1 rest)
+pub follows_one : (pieces : List Piece) (class : Class) (behind : List Piece) (text rest : List ℕ) → Follows pieces (OneOf class ∷ behind) text rest →
+    takes_first class rest ≡ true → Follows pieces behind text (drop 1 rest)
 follows_one pieces class behind text rest f taken = record {
   onward = λ k h.
       let whole = rw (matches_one class behind (drop k rest)) at (f.onward k h) in
@@ -57,18 +60,23 @@ follows_one pieces class behind text rest f taken = record {
 pub fails_from : (pieces left : List Piece) (text rest : List ℕ) → Follows pieces left text rest → matches left rest ≡ false → matches pieces text ≡ false
 fails_from pieces left text rest f e = false_before (matches pieces text) (matches left rest) (f.onward 0) e
 
-pub fails_at : (pieces : List Piece) (class : Class) (behind : List Piece) (text rest : List ℕ) → Follows pieces (OneOf class ∷ behind) text rest → takes_first class rest ≡ false → matches pieces text ≡ false
+pub fails_at : (pieces : List Piece) (class : Class) (behind : List Piece) (text rest : List ℕ) → Follows pieces (OneOf class ∷ behind) text rest →
+    takes_first class rest ≡ false → matches pieces text ≡ false
 fails_at pieces class behind text rest f e = fails_from pieces (OneOf class ∷ behind) text rest f (rw (matches_one class behind rest, e) refl)
 
-pub fails_with_more : (pieces left : List Piece) (text rest behind : List ℕ) (c : ℕ) → Follows pieces left text rest → length left ≡ 0 → rest ≡ c ∷ behind → matches pieces text ≡ false
-fails_with_more pieces left text rest behind c f none more = fails_from pieces left text rest f (ap (λ t. matches left t) more ∙ ap (λ ps. matches ps (c ∷ behind)) (nil_from_length left none))
+pub fails_with_more : (pieces left : List Piece) (text rest behind : List ℕ) (c : ℕ) → Follows pieces left text rest → length left ≡ 0 → rest ≡ c ∷ behind →
+    matches pieces text ≡ false
+fails_with_more pieces left text rest behind c f none more =
+    fails_from pieces left text rest f (ap (λ t. matches left t) more ∙ ap (λ ps. matches ps (c ∷ behind)) (nil_from_length left none))
 
 -- up to a `*`
-pub alone_at_star : (pieces behind : List Piece) (text rest : List ℕ) → Follows pieces (AnyText ∷ behind) text rest → matches pieces text ≡ matches (AnyText ∷ behind) rest
+pub alone_at_star : (pieces behind : List Piece) (text rest : List ℕ) → Follows pieces (AnyText ∷ behind) text rest →
+    matches pieces text ≡ matches (AnyText ∷ behind) rest
 alone_at_star pieces behind text rest f = both_ways (matches pieces text) (matches (AnyText ∷ behind) rest) (f.onward 0) f.back
 
 -- what an earlier `*` takes more, the later one can take
-pub starred_at_star : (pieces behind : List Piece) (text rest : List ℕ) → Follows pieces (AnyText ∷ behind) text rest → matches (AnyText ∷ pieces) text ≡ matches (AnyText ∷ behind) rest
+pub starred_at_star : (pieces behind : List Piece) (text rest : List ℕ) → Follows pieces (AnyText ∷ behind) text rest →
+    matches (AnyText ∷ pieces) text ≡ matches (AnyText ∷ behind) rest
 starred_at_star pieces behind text rest f =
     both_ways (matches (AnyText ∷ pieces) text) (matches (AnyText ∷ behind) rest)
     (λ h.
@@ -78,7 +86,8 @@ starred_at_star pieces behind text rest f =
     (λ h. some_rest_at (λ t. matches pieces t) 0 text (f.back h))
 
 -- where a front fails, the `*` takes one character more
-pub star_takes_one : (pieces : List Piece) (text rest : List ℕ) (c : ℕ) → text ≡ c ∷ rest → matches pieces text ≡ false → matches (AnyText ∷ pieces) text ≡ matches (AnyText ∷ pieces) rest
+pub star_takes_one : (pieces : List Piece) (text rest : List ℕ) (c : ℕ) → text ≡ c ∷ rest → matches pieces text ≡ false →
+    matches (AnyText ∷ pieces) text ≡ matches (AnyText ∷ pieces) rest
 star_takes_one pieces text rest c e fails =
     let fails' : matches pieces (c ∷ rest) ≡ false = subst (λ t. matches pieces t ≡ false) e fails in
     subst (λ t. matches (AnyText ∷ pieces) t ≡ matches (AnyText ∷ pieces) rest) (sym e) (rw fails' refl)

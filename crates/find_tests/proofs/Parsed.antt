@@ -1,5 +1,6 @@
 -- How the pieces of a pattern follow one another, and the members of a bracket.
-use Rattle.std.proofs.Common.{◌≡◌, ℕ, zero, suc, ◌≤◌, true, false, cond, List, [], ◌∷◌, ◌++◌, append_assoc, append-nil, length, refl, sym, ap, ◌∙◌, arith}
+use Rattle.std.proofs.Common.{◌≡◌, ℕ, zero, suc, ◌≤◌, true, false, cond, List, [], ◌∷◌, ◌++◌, append_assoc, append-nil, length, refl, sym, ap, ◌∙◌}
+use Rattle.std.proofs.Common.{arith}
 use Rattle.find_tests.specs.declared.signs.Sign.{Sign}
 use Rattle.find_tests.specs.declared.pieces.Piece.{Piece}
 use Rattle.find_tests.specs.Signs.{is_sign}
@@ -42,10 +43,12 @@ pieces_of-nil = refl
 pub pieces_of-cons : (s : Sign) (rest : List Sign) → pieces_of (s ∷ rest) ≡ piece_at s rest ∷ pieces_of (behind_piece s rest)
 unfolding pieces_of
 pieces_of-cons s rest =
-    ap (λ pieces. piece_at s rest ∷ pieces) (enough (length rest) (length (behind_piece s rest)) (behind_piece s rest) (length-behind_piece s rest) (omega arith))
+    ap (λ pieces. piece_at s rest ∷ pieces)
+    (enough (length rest) (length (behind_piece s rest)) (behind_piece s rest) (length-behind_piece s rest) (omega arith))
 
 -- one piece more is read
-pub pieces_step : (before after : List Piece) (all : List Piece) (piece : Piece) (s : Sign) (old signs new : List Sign) → before ++ pieces_of old ≡ all → old ≡ s ∷ signs → piece ≡ piece_at s signs → new ≡ behind_piece s signs → after ≡ before ++ piece ∷ [] → after ++ pieces_of new ≡ all
+pub pieces_step : (before after : List Piece) (all : List Piece) (piece : Piece) (s : Sign) (old signs new : List Sign) → before ++ pieces_of old ≡ all →
+    old ≡ s ∷ signs → piece ≡ piece_at s signs → new ≡ behind_piece s signs → after ≡ before ++ piece ∷ [] → after ++ pieces_of new ≡ all
 pieces_step before after all piece s old signs new so_far here is_piece is_new pushed =
     let step = pieces_of-cons s signs in
     let next : piece ∷ pieces_of new ≡ pieces_of old = cc in

@@ -14,16 +14,17 @@
 //!
 //! In a glob `*` stands for any text, `?` for any character, and brackets for one of their members, or behind `[!` for one
 //! that is none. `/` is a character as any other. A backslash makes the next character literal. A `[` that is not closed is
-//! literal. Patterns are read once, when a glob is made. A match goes on from the last `*` that it reached and tries no
-//! division of the text twice: with one `*` it costs as many steps as the text is long, times the pieces up to a difference,
-//! and never more than pattern times text.
+//! literal. Patterns are read once, when a glob is made, in time in proportion to them. A match goes on from the last `*` that
+//! it reached and tries no division of the text twice: with one `*` it costs as many steps as the text is long, times the
+//! pieces up to a difference, and never more than pattern times text.
 //!
 //! Proved: [`glob_match`] answers true exactly where the glob relation holds, in which `*` stands for *some* division of the
 //! text; a law says the relation case by case over the characters of a pattern ([`glob_by_cases`]). The test or the refusal
 //! that a text gives is the one that its definition says, in the order of the rules. A selection is the list filtered by the
 //! tests. No call but [`parse_test`] and [`select`] takes memory. Definitions stand in `specs/`: `Signs` (characters and
 //! backslashes), `Glob` (pieces and brackets), `Matching` (the relation), `Cases` (the law), `Bounds` (numbers and units),
-//! `Tests` (when a test holds, and what is selected). Only tested: that a call with ample memory does not ask for more.
+//! `Tests` (when a test holds, and what is selected); `Private` has what only private clauses cite. Only tested: that a call
+//! with ample memory does not ask for more.
 #![tactic(auto)]
 
 mod bounds;
@@ -43,6 +44,3 @@ pub use globs::{Glob, glob_match};
 pub use laws::glob_by_cases;
 pub use selecting::select;
 pub use testing::{Test, TestName, parse_test};
-
-#[cfg(test)]
-mod tests;

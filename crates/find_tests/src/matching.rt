@@ -2,7 +2,7 @@
 ghost use Rattle.std.specs.Prelude.{◌≡◌, ◌∷◌, ◌<◌, true, false, length, drop, MatchOption};
 ghost use Rattle.std.specs.Str.{chars};
 ghost use Rattle.find_tests.specs.Matching.{matches};
-ghost use Rattle.find_tests.specs.Front.{IsFront, takes_first};
+ghost use Rattle.find_tests.specs.Private.Front.{IsFront, takes_first};
 ghost use Rattle.find_tests.specs.declared.pieces.Piece.TheVariants.{AnyText};
 
 use crate::characters::next_char;

@@ -4,7 +4,7 @@ ghost use Rattle.std.specs.List.{list_any};
 ghost use Rattle.std.specs.Str.{chars};
 ghost use Rattle.find_tests.specs.Signs.{signs_of, is_sign};
 ghost use Rattle.find_tests.specs.Glob.{before_close, behind_close, has_close, ranges_of, members, behind_members, is_closed, bracket, is_negated, behind_negation, piece_at, behind_piece, pieces_of};
-ghost use Rattle.find_tests.specs.Brackets.{IsBracket, IsMembers, IsRangeEnd};
+ghost use Rattle.find_tests.specs.Private.Brackets.{IsBracket, NoneCloses, IsMembers, IsRangeEnd};
 ghost use Rattle.find_tests.specs.Matching.{is_in, takes};
 
 use crate::signs::{Sign, Signs};
@@ -94,23 +94,33 @@ pub(crate) enum Piece {
     OneOf(Class),
 }
 
-// The pieces of a pattern.
+// The pieces of a pattern. Once a bracket is not closed, none behind it is, so at most one is read in vain.
 pub(crate) fn pieces_of(alloc: Global, pattern: &str) -> Result<Vec<Piece>, OutOfMemory>
     ensures { IfOk result (λ pieces. pieces.items ≡ pieces_of (signs_of (chars pattern.now))) }
 {
     let mut signs = Signs::of(pattern);
     let mut pieces = Vec::new(alloc);
+    let mut may_close = true;
     while let Some(sign) = signs.pass() {
-        let piece = piece_at(alloc, sign, &mut signs)?;
+        let piece = piece_at(alloc, sign, &mut signs, &mut may_close)?;
         pieces.push(piece)?;
     }
     Ok(pieces)
 }
 
-// The piece that a sign begins, and passes what belongs to it.
-fn piece_at(alloc: Global, sign: Sign, signs: &mut Signs) -> Result<Piece, OutOfMemory>
+// The piece that a sign begins, and passes what belongs to it. Where no bracket may close any more, none is tried, and a
+// bracket that is not closed tells that none may.
+#[tactic(auto, using(crate::proofs::Closing::closings))]
+fn piece_at(
+    alloc: Global,
+    sign: Sign,
+    signs: &mut Signs,
+    may_close: &mut bool,
+) -> Result<Piece, OutOfMemory>
+    requires { NoneCloses may_close.old 1 signs.old }
     ensures piece { IfOk result (λ piece. piece ≡ piece_at sign signs.old) }
     ensures behind { OnOk result (signs.new ≡ behind_piece sign signs.old) }
+    ensures closing { OnOk result (NoneCloses may_close.new 2 signs.new) }
 {
     if sign.is('*') {
         return Ok(Piece::AnyText);
@@ -118,10 +128,11 @@ fn piece_at(alloc: Global, sign: Sign, signs: &mut Signs) -> Result<Piece, OutOf
     if sign.is('?') {
         return Ok(Piece::OneOf(Class::Any));
     }
-    if sign.is('[') {
+    if sign.is('[') && *may_close {
         if let Some(class) = bracket(alloc, signs)? {
             return Ok(Piece::OneOf(class));
         }
+        *may_close = false;
     }
     Ok(Piece::OneOf(Class::Only(sign.char())))
 }

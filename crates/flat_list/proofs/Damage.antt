@@ -1,178 +1,70 @@
--- Where the lines of a text stop to be those of a list file.
-use Rattle.std.proofs.Common.{◌≡◌, ℕ, zero, suc, ◌+◌, ◌-◌, ◌<◌, ◌≤◌, ◌^◌, List, [], ◌∷◌, ◌++◌, length, take, refl, ap, sym, ◌∙◌, subst, arith, append_assoc, length-append}
-use Rattle.std.specs.List.{AllByRecursion, flat_map}
+-- Where the lines of a text stop to be those of a list file: what holds of all files of whole lines, for entries.
+use Rattle.std.proofs.Common.{◌≡◌, ℕ, zero, suc, ◌+◌, ◌-◌, ◌<◌, ◌≤◌, ◌^◌, List, [], ◌∷◌, ◌++◌, length, take, refl, ap, sym, ◌∙◌, subst, arith}
+use Rattle.std.proofs.Common.{append_assoc, length-append}
+use Rattle.std.specs.List.{flat_map}
 use Rattle.std.specs.List.Sorted.{IsStrictlySortedBy}
-use Rattle.std.specs.declared.cmp.Ordering.{Ordering}
-use Rattle.std.specs.declared.cmp.Ordering.TheVariants.{Less}
-use Rattle.std.proofs.lemmas.List.{take_at, map-append, length-map, length-take}
+use Rattle.std.proofs.lemmas.List.{map-append, length-map}
+use Rattle.path_text.specs.Escape.{ReadingUndoesWriting}
 use Rattle.path_text.specs.Order.{path_cmp}
 use Rattle.flat_list.specs.declared.entries.Entry.{Entry}
-use Rattle.flat_list.specs.Spelling.{text_of, line, header_text, end_text, entry_lines, lines_for, IsEntry, paths, IsList, Follows, Spells, lines_of, Begins, max_entries, IsTooLong, IsRefused}
+use Rattle.flat_list.specs.Spelling.{text_of, line, header_text, end_text, entry_lines, lines_for, IsEntry, paths, IsList, Follows, Spells, lines_of}
+use Rattle.flat_list.specs.Spelling.{Begins, max_entries, IsTooLong, IsRefused}
+use Rattle.flat_list.proofs.Ascending.{all_more, sorted_front}
 use Rattle.flat_list.proofs.Lines.{one_text, end_apart}
-use Rattle.flat_list.proofs.Files.{cons_parts, line_same, joined_lines}
-
--- ---- paths that ascend
-
-module _ {K : Type 0} (cmp : K → K → Ordering) where
-  all_front : (P : K → Type 0) (xs ys : List K) → AllByRecursion P (xs ++ ys) → AllByRecursion P xs
-  all_front P [] ys h = tt
-  all_front P (x ∷ xs) ys h = (h.0, all_front P xs ys h.1)
-
-  pub sorted_front : (xs ys : List K) → IsStrictlySortedBy cmp (xs ++ ys) → IsStrictlySortedBy cmp xs
-  unfolding IsStrictlySortedBy
-  sorted_front [] ys h = tt
-  sorted_front (x ∷ xs) ys h = (all_front (λ y. cmp x y ≡ Less) xs ys h.0, sorted_front xs ys h.1)
-
-  pub sorted_one : (x : K) → IsStrictlySortedBy cmp (x ∷ [])
-  unfolding IsStrictlySortedBy
-  sorted_one x = (tt, tt)
-
-  pub sorted_none : IsStrictlySortedBy cmp []
-  unfolding IsStrictlySortedBy
-  sorted_none = tt
-
-  all_at : (P : K → Type 0) (xs : List K) (y : K) → AllByRecursion P (xs ++ y ∷ []) → P y
-  all_at P [] y h = h.0
-  all_at P (x ∷ xs) y h = all_at P xs y h.1
-
-  all_more : (P : K → Type 0) (xs : List K) (y : K) → AllByRecursion P xs → P y → AllByRecursion P (xs ++ y ∷ [])
-  all_more P [] y h p = (p, tt)
-  all_more P (x ∷ xs) y h p = (h.0, all_more P xs y h.1 p)
-
-  -- the last of them and one behind it
-  pub sorted_last : (xs : List K) (x y : K) → IsStrictlySortedBy cmp ((xs ++ x ∷ []) ++ y ∷ []) → cmp x y ≡ Less
-  unfolding IsStrictlySortedBy
-  sorted_last [] x y h = h.0.0
-  sorted_last (w ∷ xs) x y h = sorted_last xs x y h.1
-
-  pub sorted_more : ((x y z : K) → cmp x y ≡ Less → cmp y z ≡ Less → cmp x z ≡ Less) → (xs : List K) (x y : K) → IsStrictlySortedBy cmp (xs ++ x ∷ []) → cmp x y ≡ Less → IsStrictlySortedBy cmp ((xs ++ x ∷ []) ++ y ∷ [])
-  unfolding IsStrictlySortedBy
-  sorted_more trans [] x y h lt = ((lt, tt), (tt, tt))
-  sorted_more trans (w ∷ xs) x y h lt =
-      (all_more (λ y. cmp w y ≡ Less) (xs ++ x ∷ []) y h.0 (trans w x y (all_at (λ y. cmp w y ≡ Less) xs x h.0) lt), sorted_more trans xs x y h.1 lt)
-
-paths_more : (es : List Entry) (e : Entry) → paths (es ++ e ∷ []) ≡ paths es ++ e.path ∷ []
-paths_more es e = map-append (λ e. e.path) es (e ∷ [])
-
-entries_more : (P : Entry → Type 0) (es : List Entry) (e : Entry) → AllByRecursion P es → P e → AllByRecursion P (es ++ e ∷ [])
-entries_more P [] e h p = (p, tt)
-entries_more P (d ∷ es) e h p = (h.0, entries_more P es e h.1 p)
-
-entries_at : (P : Entry → Type 0) (es : List Entry) (e : Entry) (rest : List Entry) → AllByRecursion P (es ++ e ∷ rest) → P e
-entries_at P [] e rest h = h.0
-entries_at P (d ∷ es) e rest h = entries_at P es e rest h.1
+use Rattle.flat_list.proofs.Files.{line_same, joined_lines}
+use Rattle.flat_list.proofs.WholeLines as whole
+use Rattle.flat_list.proofs.WholeLines.{Form, cons_parts}
 
 pub list_more : (es : List Entry) (e : Entry) → IsList es → IsEntry e → Follows es e → length es + 1 < 2 ^ 64 → IsList (es ++ e ∷ [])
 list_more es e is one follows few = record {
   count = subst (λ n. n < 2 ^ 64) (sym (length-append es (e ∷ []))) few;
-  each = entries_more IsEntry es e is.each one;
+  each = all_more IsEntry es e is.each one;
   ascend = follows;
 }
 
 -- an entry of a list follows those before it
-follows_in : (es : List Entry) (e : Entry) (rest : List Entry) → IsList (es ++ e ∷ rest) → Follows es e
+pub follows_in : (es : List Entry) (e : Entry) (rest : List Entry) → IsList (es ++ e ∷ rest) → Follows es e
 follows_in es e rest is =
     let parts : es ++ e ∷ rest ≡ (es ++ e ∷ []) ++ rest = sym (append_assoc es (e ∷ []) rest) in
-    let whole : paths (es ++ e ∷ rest) ≡ paths (es ++ e ∷ []) ++ paths rest = ap paths parts ∙ map-append (λ e. e.path) (es ++ e ∷ []) rest in
-    sorted_front path_cmp (paths (es ++ e ∷ [])) (paths rest) (subst (IsStrictlySortedBy path_cmp) whole is.ascend)
+    let parted : paths (es ++ e ∷ rest) ≡ paths (es ++ e ∷ []) ++ paths rest = ap paths parts ∙ map-append (λ e. e.path) (es ++ e ∷ []) rest in
+    sorted_front path_cmp (paths (es ++ e ∷ [])) (paths rest) (subst (IsStrictlySortedBy path_cmp) parted is.ascend)
 
--- ---- the line behind those of some entries
+-- ---- list files as files of whole lines: one line an entry
 
--- fs goes on with an entry, whose line comes next, or ends, and its end line comes next
-pub data Next (es fs : List Entry) (more : List (List ℕ)) (n : ℕ) : Type 0 where
-  goes_on : (e : Entry) (rest : List Entry) → fs ≡ es ++ e ∷ rest → take 1 more ≡ line (text_of e) ∷ [] → Next es fs more n
-  ends : fs ≡ es → take 1 more ≡ line (end_text n) ∷ [] → Next es fs more n
+pub one_entry : ReadingUndoesWriting → (d e : Entry) (rest more : List (List ℕ)) → IsEntry d → IsEntry e →
+    line (text_of d) ∷ rest ≡ line (text_of e) ∷ more → d ≡ e
+one_entry undoes d e rest more is one same = one_text undoes d e is one (line_same (text_of d) (text_of e) (cons_parts _ _ _ _ same).0)
 
-same_line : (d e : Entry) → IsEntry d → IsEntry e → line (text_of d) ≡ line (text_of e) → d ≡ e
-same_line d e dis eis same = one_text d e dis eis (line_same (text_of d) (text_of e) same)
+pub no_end : (e : Entry) (es : List Entry) → line (text_of e) ≡ line (end_text (length es)) → ⊥
+no_end e es same = end_apart e (length es) (line_same (text_of e) (end_text (length es)) same)
 
-no_end : (e : Entry) (n : ℕ) → line (text_of e) ≡ line (end_text n) → ⊥
-no_end e n same = end_apart e n (line_same (text_of e) (end_text n) same)
+abbrev pub entries : ReadingUndoesWriting → Form Entry
+entries undoes = record {
+  first = λ e. line (text_of e);
+  others = λ e. [];
+  final = λ es. line (end_text (length es));
+  IsItem = IsEntry;
+  IsFile = IsList;
+  Follows = Follows;
+  each = λ es is. is.each;
+  follows = follows_in;
+  one = one_entry undoes;
+  apart = λ e es is same. no_end e es same;
+}
 
-next_under : (e f : Entry) (es fs : List Entry) (more : List (List ℕ)) (n : ℕ) → e ≡ f → Next es fs more n → Next (e ∷ es) (f ∷ fs) more n
-next_under e f es fs more n same (goes_on d rest is one) = goes_on d rest (ap (λ l. f ∷ l) is ∙ ap (λ e. e ∷ (es ++ d ∷ rest)) (sym same)) one
-next_under e f es fs more n same (ends is one) = ends (ap (λ l. f ∷ l) is ∙ ap (λ e. e ∷ es) (sym same)) one
-
-pub next : (n : ℕ) (es fs : List Entry) (more : List (List ℕ)) → AllByRecursion IsEntry es → AllByRecursion IsEntry fs → take (suc (length es)) (entry_lines es ++ more) ≡ take (suc (length es)) (entry_lines fs ++ line (end_text n) ∷ []) → Next es fs more n
-next n [] [] more each all e = ends refl e
-next n [] (f ∷ fs) more each all e = goes_on f fs refl e
-next n (d ∷ es) [] more each all e = absurd (no_end d n (cons_parts _ _ _ _ e).0)
-next n (d ∷ es) (f ∷ fs) more each all e =
-    let parts = cons_parts (line (text_of d)) (line (text_of f)) (take (suc (length es)) (entry_lines es ++ more)) (take (suc (length es)) (entry_lines fs ++ line (end_text n) ∷ [])) e in
-    next_under d f es fs more n (same_line d f each.0 all.0 parts.0) (next n es fs more each.1 all.1 parts.1)
-
--- where more entries come, the next line is one's
-pub longer : (n : ℕ) (es fs : List Entry) (more rest : List (List ℕ)) → AllByRecursion IsEntry es → AllByRecursion IsEntry fs → entry_lines es ++ more ≡ entry_lines fs ++ rest → length es < length fs → Next es fs more n
-longer n [] [] more rest each all e lt = absurd (omega arith)
-longer n [] (f ∷ fs) more rest each all e lt = goes_on f fs refl (ap (take 1) e)
-longer n (d ∷ es) [] more rest each all e lt = absurd (omega arith)
-longer n (d ∷ es) (f ∷ fs) more rest each all e lt =
-    let parts = cons_parts (line (text_of d)) (line (text_of f)) (entry_lines es ++ more) (entry_lines fs ++ rest) e in
-    next_under d f es fs more n (same_line d f each.0 all.0 parts.0) (longer n es fs more rest each.1 all.1 parts.1 (omega arith))
-
--- ---- what was read so far
-
--- the header and the lines of a list's entries stand first
-pub record Stands (bytes : List ℕ) (es : List Entry) (more : List (List ℕ)) : Type 0 where
-  pub list : IsList es
-  pub text : lines_of bytes ≡ line header_text ∷ (entry_lines es ++ more)
+pub is_final : (undoes : ReadingUndoesWriting) (es : List Entry) → whole.IsFinal (entries undoes) (line (end_text (length es)))
+is_final undoes es e is same = no_end e es same
 
 lines_len : (es : List Entry) → length (entry_lines es) ≡ length es
 lines_len es = length-map es (λ e. line (text_of e))
 
-take_lines : (es : List Entry) (more : List (List ℕ)) → take (length es) (entry_lines es ++ more) ≡ entry_lines es
-take_lines es more = take_at (entry_lines es) more (length es) (lines_len es)
+-- what was read so far: the header and the lines of a list's entries stand first
+pub record Stands (bytes : List ℕ) (es : List Entry) (more : List (List ℕ)) : Type 0 where
+  pub list : IsList es
+  pub text : lines_of bytes ≡ line header_text ∷ (entry_lines es ++ more)
 
-begun : (bytes : List ℕ) (es : List Entry) (more : List (List ℕ)) → Stands bytes es more → Begins (suc (length es)) bytes
-begun bytes es more s = record {
-  entries = es;
-  list = s.list;
-  same = ap (take (suc (length es))) s.text ∙ ap (λ ls. line header_text ∷ ls) (take_lines es more ∙ sym (take_lines es (line (end_text (length es)) ∷ [])));
-}
-
-pub record Found (es : List Entry) (more : List (List ℕ)) : Type 0 where
-  pub fs : List Entry
-  pub list : IsList fs
-  pub next : Next es fs more (length fs)
-
-found : (bytes : List ℕ) (es : List Entry) (more : List (List ℕ)) → Stands bytes es more → Begins (suc (suc (length es))) bytes → Found es more
-found bytes es more s b =
-    let same : take (suc (suc (length es))) (line header_text ∷ (entry_lines es ++ more)) ≡ take (suc (suc (length es))) (lines_for b.entries) = ap (take (suc (suc (length es)))) (sym s.text) ∙ b.same in
-    record { fs = b.entries; list = b.list; next = next (length b.entries) es b.entries more s.list.each b.list.each (cons_parts (line header_text) (line header_text) _ _ same).1 }
-
--- no entry that follows has the next line, nor has the end
-pub record IsBad (es : List Entry) (more : List (List ℕ)) : Type 0 where
-  pub entry : (e : Entry) → IsEntry e → Follows es e → take 1 more ≡ line (text_of e) ∷ [] → ⊥
-  pub end : take 1 more ≡ line (end_text (length es)) ∷ [] → ⊥
-
-none_next : (es : List Entry) (more : List (List ℕ)) → IsBad es more → (fs : List Entry) → IsList fs → Next es fs more (length fs) → ⊥
-none_next es more bad fs list (goes_on e rest is one) =
-    let whole : IsList (es ++ e ∷ rest) = subst IsList is list in
-    bad.entry e (entries_at IsEntry es e rest whole.each) (follows_in es e rest whole) one
-none_next es more bad fs list (ends is one) = bad.end (one ∙ ap (λ (l : List Entry). line (end_text (length l)) ∷ []) is)
-
-long_next : (bytes : List ℕ) (es : List Entry) (more : List (List ℕ)) → Stands bytes es more → length es ≤ max_entries → (t : IsTooLong bytes) → Next es t.entries more (length t.entries)
-long_next bytes es more s few t =
-    let same = cons_parts (line header_text) (line header_text) (entry_lines es ++ more) (entry_lines t.entries ++ t.rest) (sym s.text ∙ t.text) in
-    longer (length t.entries) es t.entries more t.rest s.list.each t.list.each same.1 (omega (arith, t.many))
-
-pub refused_here : (bytes : List ℕ) (es : List Entry) (more : List (List ℕ)) → Stands bytes es more → IsBad es more → length es ≤ max_entries → IsRefused bytes (length es + 2)
-refused_here bytes es more s bad few =
-    let two : length es + 2 ≡ suc (suc (length es)) = omega arith in
-    let one : length es + 2 - 1 ≡ suc (length es) = omega arith in
-    record {
-      damaged = record {
-        first = omega arith;
-        before = subst (λ n. Begins n bytes) (sym one) (begun bytes es more s);
-        through = λ b. let f = found bytes es more s (subst (λ n. Begins n bytes) two b) in none_next es more bad f.fs f.list f.next;
-      };
-      short = λ t. none_next es more bad t.entries t.list (long_next bytes es more s few t);
-    }
-
--- behind the end
-pub not_on : (es fs : List Entry) (more : List (List ℕ)) (n : ℕ) → take 1 more ≡ line (end_text n) ∷ [] → (m : ℕ) → Next es fs more m → fs ≡ es
-not_on es fs more n end m (goes_on e rest is one) = absurd (no_end e n (cons_parts (line (text_of e)) (line (end_text n)) [] [] (sym one ∙ end)).0)
-not_on es fs more n end m (ends is one) = is
+pub spelled : (bytes : List ℕ) (es : List Entry) → Stands bytes es (line (end_text (length es)) ∷ []) → Spells bytes es
+spelled bytes es s = record { list = s.list; text = sym (joined_lines bytes) ∙ ap (flat_map (λ l. l)) s.text }
 
 shorter : (n : ℕ) (xs ys : List (List ℕ)) → take (suc n) xs ≡ take (suc n) ys → take n xs ≡ take n ys
 shorter zero xs ys e = refl
@@ -188,44 +80,73 @@ shorter (suc n) (x ∷ xs) (y ∷ ys) e =
 pub begins_less : (n : ℕ) (bytes : List ℕ) → Begins (suc n) bytes → Begins n bytes
 begins_less n bytes b = record { entries = b.entries; list = b.list; same = shorter n (lines_of bytes) (lines_for b.entries) b.same }
 
-whole : (bytes : List ℕ) (es : List Entry) (ms : List (List ℕ)) → Stands bytes es (line (end_text (length es)) ∷ ms) → Begins (suc (suc (length es))) bytes
-whole bytes es ms s =
-    let end = line (end_text (length es)) in
-    let with_end : (ms : List (List ℕ)) → take (suc (length es)) (entry_lines es ++ end ∷ ms) ≡ entry_lines es ++ end ∷ [] = λ ms.
-    ap (take (suc (length es))) (sym (append_assoc (entry_lines es) (end ∷ []) ms)) ∙ take_at (entry_lines es ++ end ∷ []) ms (suc (length es)) (length-append (entry_lines es) (end ∷ []) ∙ ap (λ n. n + 1) (lines_len es) ∙ omega arith) in
-    record {
-      entries = es;
-      list = s.list;
-      same = ap (take (suc (suc (length es)))) s.text ∙ ap (λ ls. line header_text ∷ ls) (with_end ms ∙ sym (with_end []));
-    }
+module _ (undoes : ReadingUndoesWriting) where
+  pub same_lines : (es : List Entry) → whole.lines_for (entries undoes) es ≡ entry_lines es
+  same_lines [] = refl
+  same_lines (e ∷ es) = ap (λ ls. line (text_of e) ∷ ls) (same_lines es)
 
-pub refused_after : (bytes : List ℕ) (es : List Entry) (m : List ℕ) (ms : List (List ℕ)) → Stands bytes es (line (end_text (length es)) ∷ m ∷ ms) → length es ≤ max_entries → IsRefused bytes (length es + 3)
-unfolding found begins_less
-refused_after bytes es m ms s few =
-    let end = line (end_text (length es)) in
-    let more = end ∷ m ∷ ms in
-    let three : length es + 3 ≡ suc (suc (suc (length es))) = omega arith in
-    let two : length es + 3 - 1 ≡ suc (suc (length es)) = omega arith in
-    let over : (fs : List Entry) → fs ≡ es → take (suc (suc (suc (length es)))) (lines_of bytes) ≡ take (suc (suc (suc (length es)))) (lines_for fs) → ⊥ = λ fs is same.
-    let at_es : take (suc (suc (suc (length es)))) (line header_text ∷ (entry_lines es ++ more)) ≡ take (suc (suc (suc (length es)))) (lines_for es) = ap (take (suc (suc (suc (length es))))) (sym s.text) ∙ same ∙ ap (λ l. take (suc (suc (suc (length es)))) (lines_for l)) is in
-    let tails = (cons_parts (line header_text) (line header_text) (take (suc (suc (length es))) (entry_lines es ++ more)) (take (suc (suc (length es))) (entry_lines es ++ end ∷ [])) at_es).1 in
-    let lens = ap length tails in
-    omega (arith, lens, length-take (suc (suc (length es))) (entry_lines es ++ more), length-take (suc (suc (length es))) (entry_lines es ++ end ∷ []), length-append (entry_lines es) more, length-append (entry_lines es) (end ∷ []), lines_len es) in
-    record {
-      damaged = record {
-        first = omega arith;
-        before = subst (λ n. Begins n bytes) (sym two) (whole bytes es (m ∷ ms) s);
-        through = λ b.
-            let b3 : Begins (suc (suc (suc (length es)))) bytes = subst (λ n. Begins n bytes) three b in
-            let b2 = begins_less (suc (suc (length es))) bytes b3 in
-            let f = found bytes es more s b2 in
-            over b3.entries (not_on es f.fs more (length es) refl (length f.fs) f.next) b3.same;
-      };
-      short = λ t.
-          let is : t.entries ≡ es = not_on es t.entries more (length es) refl (length t.entries) (long_next bytes es more s few t) in
-          let len : length t.entries ≡ length es = ap length is in
-          omega (arith, t.many);
-    }
+  -- the lines behind the header, as the form has them
+  behind : (bytes : List ℕ) (es : List Entry) (more : List (List ℕ)) → Stands bytes es more →
+      lines_of bytes ≡ line header_text ∷ (whole.lines_for (entries undoes) es ++ more)
+  behind bytes es more s = s.text ∙ ap (λ ls. line header_text ∷ (ls ++ more)) (sym (same_lines es))
 
-pub spelled : (bytes : List ℕ) (es : List Entry) → Stands bytes es (line (end_text (length es)) ∷ []) → Spells bytes es
-spelled bytes es s = record { list = s.list; text = sym (joined_lines bytes) ∙ ap (flat_map (λ l. l)) s.text }
+  lines_of_list : (es : List Entry) → lines_for es ≡ line header_text ∷ (whole.lines_for (entries undoes) es ++ line (end_text (length es)) ∷ [])
+  lines_of_list es = ap (λ ls. line header_text ∷ (ls ++ line (end_text (length es)) ∷ [])) (sym (same_lines es))
+
+  behind_header : (n : ℕ) (bytes : List ℕ) (ls : List (List ℕ)) → lines_of bytes ≡ line header_text ∷ ls → Begins (suc n) bytes →
+      whole.Begins (entries undoes) n ls
+  behind_header n bytes ls is b = record {
+    items = b.entries;
+    file = b.list;
+    same = (cons_parts _ _ _ _ (ap (take (suc n)) (sym is) ∙ b.same ∙ ap (take (suc n)) (lines_of_list b.entries))).1;
+  }
+
+  with_header : (n : ℕ) (bytes : List ℕ) (ls : List (List ℕ)) → lines_of bytes ≡ line header_text ∷ ls → whole.Begins (entries undoes) n ls →
+      Begins (suc n) bytes
+  with_header n bytes ls is b = record {
+    entries = b.items;
+    list = b.file;
+    same = ap (take (suc n)) is ∙ ap (λ l. line header_text ∷ l) b.same ∙ ap (take (suc n)) (sym (lines_of_list b.items));
+  }
+
+  count_is : (es : List Entry) → length (whole.lines_for (entries undoes) es) ≡ length es
+  count_is es = ap length (same_lines es) ∙ lines_len es
+
+  -- the lines of too many entries, behind the header
+  too_many : {bytes : List ℕ} {ls : List (List ℕ)} → lines_of bytes ≡ line header_text ∷ ls → (t : IsTooLong bytes) →
+      ls ≡ whole.lines_for (entries undoes) t.entries ++ t.rest
+  too_many is t = (cons_parts _ _ _ _ (sym is ∙ t.text)).1 ∙ ap (λ ls. ls ++ t.rest) (sym (same_lines t.entries))
+
+  -- ---- the first line with which no list file goes on
+
+  pub refused_here : (bytes : List ℕ) (es : List Entry) (more : List (List ℕ)) → Stands bytes es more → whole.IsBad (entries undoes) es [] more →
+      length es ≤ max_entries → IsRefused bytes (length es + 2)
+  refused_here bytes es more s bad few =
+      let is = behind bytes es more s in
+      let count = count_is es in
+      let here : length es + 2 ≡ suc (suc (length (whole.lines_for (entries undoes) es) + 0)) = omega arith in
+      let before : length es + 2 - 1 ≡ suc (length (whole.lines_for (entries undoes) es)) = omega arith in
+      record {
+        damaged = record {
+          first = omega arith;
+          before = subst (λ n. Begins n bytes) (sym before) (with_header _ bytes _ is (whole.begun (entries undoes) es more s.list));
+          through = λ b. whole.bad_line (entries undoes) es [] more s.list bad (behind_header _ bytes _ is (subst (λ n. Begins n bytes) here b));
+        };
+        short = λ t. whole.bad_is_short (entries undoes) es t.entries [] more t.rest s.list t.list bad (omega (arith, t.many)) (too_many is t);
+      }
+
+  pub refused_after : (bytes : List ℕ) (es : List Entry) (m : List ℕ) (ms : List (List ℕ)) → Stands bytes es (line (end_text (length es)) ∷ m ∷ ms) →
+      length es ≤ max_entries → IsRefused bytes (length es + 3)
+  refused_after bytes es m ms s few =
+      let is = behind bytes es _ s in
+      let count = count_is es in
+      let here : length es + 3 ≡ suc (suc (suc (length (whole.lines_for (entries undoes) es)))) = omega arith in
+      let before : length es + 3 - 1 ≡ suc (suc (length (whole.lines_for (entries undoes) es))) = omega arith in
+      record {
+        damaged = record {
+          first = omega arith;
+          before = subst (λ n. Begins n bytes) (sym before) (with_header _ bytes _ is (whole.ended (entries undoes) es (m ∷ ms) s.list));
+          through = λ b. whole.line_behind (entries undoes) es m ms s.list (behind_header _ bytes _ is (subst (λ n. Begins n bytes) here b));
+        };
+        short = λ t. whole.end_is_short (entries undoes) es t.entries (m ∷ ms) t.rest s.list t.list (omega (arith, t.many)) (too_many is t);
+      }

@@ -1,5 +1,6 @@
 -- The steps of reading a list file.
-use Rattle.std.proofs.Common.{◌≡◌, ℕ, suc, ◌+◌, ◌-◌, ◌<◌, ◌≤◌, ◌^◌, Bool, true, false, eqb, List, [], ◌∷◌, ◌++◌, length, take, map, Option, Some, None, Result, Ok, Err, length-append, refl, ap, sym, ◌∙◌, subst, arith, append_assoc}
+use Rattle.std.proofs.Common.{◌≡◌, ℕ, suc, ◌+◌, ◌-◌, ◌<◌, ◌≤◌, Bool, true, false, eqb, List, [], ◌∷◌, ◌++◌, length, take, Option, Some}
+use Rattle.std.proofs.Common.{None, Result, Ok, Err, length-append, refl, ap, sym, ◌∙◌, subst, arith, append_assoc}
 use Rattle.std.specs.List.Sorted.{IsStrictlySortedBy}
 use Rattle.std.specs.Ordering.{is_lt}
 use Rattle.std.specs.declared.cmp.Ordering.{Ordering}
@@ -7,16 +8,20 @@ use Rattle.std.specs.declared.cmp.Ordering.TheVariants.{Less, Equal, Greater}
 use Rattle.std.specs.Prelude.{slice_get, not, IfOk, IfErr}
 use Rattle.std.specs.Cmp.Lexicographic.{pointwise, bytes_decides}
 use Rattle.std.proofs.lemmas.Bool.{false≢true}
-use Rattle.std.proofs.lemmas.List.{map-append}
+use Rattle.std.proofs.lemmas.List.{map-append, nil_from_length}
+use Rattle.path_text.specs.Escape.{ReadingUndoesWriting}
 use Rattle.path_text.specs.Order.{path_cmp}
 use Rattle.path_text.specs.Total.{path_cmp_total}
 use Rattle.flat_list.specs.declared.entries.Entry.{Entry}
-use Rattle.flat_list.specs.Spelling.{text_of, line, header_text, end_text, paths, IsList, Follows, Spells, lines_of, max_entries, IsTooLong, IsRefused}
-use Rattle.flat_list.specs.Reading.{cut, entry_at, end_at, Adds, NoneFollows}
+use Rattle.flat_list.specs.Spelling.{text_of, line, header_text, end_text, entry_lines, paths, IsList, Follows, Spells, lines_of, max_entries}
+use Rattle.flat_list.specs.Spelling.{IsTooLong, IsRefused}
+use Rattle.flat_list.specs.Private.Reading.{cut, entry_at, end_at, Adds, NoneFollows}
 use Rattle.flat_list.proofs.Words.{cut_takes}
 use Rattle.flat_list.proofs.Lines.{entry_takes, entry_again, end_takes, end_again}
-use Rattle.flat_list.proofs.Files.{cons_parts, line_same, line_first, free_uncut, torn, no_lines}
-use Rattle.flat_list.proofs.Damage.{sorted_none, sorted_one, sorted_last, sorted_more, list_more, Stands, refused_here, refused_after, spelled}
+use Rattle.flat_list.proofs.Files.{line_same, line_first, free_uncut, torn, no_lines}
+use Rattle.flat_list.proofs.Ascending.{sorted_none, sorted_one, sorted_last, sorted_more}
+use Rattle.flat_list.proofs.Damage.{list_more, Stands, refused_here, refused_after, spelled}
+use Rattle.flat_list.proofs.WholeLines.{cons_parts}
 
 -- ---- a path behind the others
 
@@ -44,13 +49,16 @@ none_empty (x ∷ y ∷ es) is =
 paths_last : (front : List Entry) (e : Entry) (es : List Entry) → es ≡ front ++ e ∷ [] → paths es ≡ paths front ++ e.path ∷ []
 paths_last front e es is = ap paths is ∙ map-append (λ e. e.path) front (e ∷ [])
 
-pub precedes_yes : (es : List Entry) (e : Entry) (path : List ℕ) → slice_get es (length es - 1) ≡ Some e → IsStrictlySortedBy path_cmp (paths es) → is_lt (path_cmp e.path path) ≡ true → IsStrictlySortedBy path_cmp (paths es ++ path ∷ [])
+pub precedes_yes : (es : List Entry) (e : Entry) (path : List ℕ) → slice_get es (length es - 1) ≡ Some e → IsStrictlySortedBy path_cmp (paths es) →
+    is_lt (path_cmp e.path path) ≡ true → IsStrictlySortedBy path_cmp (paths es ++ path ∷ [])
 precedes_yes es e path is sorted lt =
     let f = with_last es e is in
     let same = paths_last f.0 e es f.1 in
-    subst (λ ps. IsStrictlySortedBy path_cmp (ps ++ path ∷ [])) (sym same) (sorted_more path_cmp path_cmp_total.trans (paths f.0) e.path path (subst (IsStrictlySortedBy path_cmp) same sorted) (lt_is _ lt))
+    subst (λ ps. IsStrictlySortedBy path_cmp (ps ++ path ∷ [])) (sym same)
+    (sorted_more path_cmp path_cmp_total.trans (paths f.0) e.path path (subst (IsStrictlySortedBy path_cmp) same sorted) (lt_is _ lt))
 
-pub precedes_no : (es : List Entry) (e : Entry) (path : List ℕ) → slice_get es (length es - 1) ≡ Some e → is_lt (path_cmp e.path path) ≡ false → IsStrictlySortedBy path_cmp (paths es ++ path ∷ []) → ⊥
+pub precedes_no : (es : List Entry) (e : Entry) (path : List ℕ) → slice_get es (length es - 1) ≡ Some e → is_lt (path_cmp e.path path) ≡ false →
+    IsStrictlySortedBy path_cmp (paths es ++ path ∷ []) → ⊥
 precedes_no es e path is off sorted =
     let f = with_last es e is in
     let same = paths_last f.0 e es f.1 in
@@ -86,40 +94,61 @@ pub header_none : (bytes : List ℕ) → cut 10 bytes ≡ None → IsRefused byt
 header_none bytes e = refused_first bytes (torn bytes header_text (free_uncut 10 bytes e))
 
 pub header_other : (bytes text rest : List ℕ) → cut 10 bytes ≡ Some (text, rest) → (text ≡ header_text → ⊥) → IsRefused bytes 1
-header_other bytes text rest e off = refused_first bytes (λ one. off (line_same text header_text (cons_parts (line text) (line header_text) [] [] (ap (take 1) (sym (first_line text rest bytes e)) ∙ one)).0))
+header_other bytes text rest e off = refused_first bytes
+    (λ one. off (line_same text header_text (cons_parts (line text) (line header_text) [] [] (ap (take 1) (sym (first_line text rest bytes e)) ∙ one)).0))
 
 pub starts : (bytes rest : List ℕ) → cut 10 bytes ≡ Some (header_text, rest) → Stands bytes [] (lines_of rest)
 starts bytes rest e = record { list = no_list; text = first_line header_text rest bytes e }
 
 -- ---- a line
 
-pub goes_on : (bytes rest text behind : List ℕ) (es fs : List Entry) → Stands bytes es (lines_of rest) → cut 10 rest ≡ Some (text, behind) → Adds (entry_at text) es fs → length es + 1 < 2 ^ 64 → Stands bytes fs (lines_of behind)
-goes_on bytes rest text behind es fs s e adds few = by_entry (entry_at text) refl adds
+-- what was read before a line, the line's text, and what stands behind it
+pub record Reads (bytes rest text behind : List ℕ) (es : List Entry) : Type 0 where
+  pub stands : Stands bytes es (lines_of rest)
+  pub few : length es ≤ max_entries
+  pub first : cut 10 rest ≡ Some (text, behind)
+
+pub goes_on : {bytes rest text behind : List ℕ} {es : List Entry} → ReadingUndoesWriting → Reads bytes rest text behind es →
+    (fs : List Entry) → Adds (entry_at text) es fs → Stands bytes fs (lines_of behind)
+goes_on {bytes} {rest} {text} {behind} {es} undoes r fs adds = by_entry (entry_at text) refl adds
   where
     by_entry : (o : Option Entry) → entry_at text ≡ o → Adds o es fs → Stands bytes fs (lines_of behind)
     by_entry None is adds = absurd adds
     by_entry (Some d) is adds =
-        let taken = entry_takes text d is adds.0 in
-        let list = list_more es d s.list taken.1 adds.1.0 few in
-        let entry_first : lines_of rest ≡ line (text_of d) ∷ lines_of behind = first_line text behind rest e ∙ ap (λ t. line t ∷ lines_of behind) taken.0 in
-        let grown : map (λ e. line (text_of e)) (es ++ d ∷ []) ++ lines_of behind ≡ map (λ e. line (text_of e)) es ++ line (text_of d) ∷ lines_of behind =
-        ap (λ l. l ++ lines_of behind) (map-append (λ e. line (text_of e)) es (d ∷ [])) ∙ append_assoc (map (λ e. line (text_of e)) es) (line (text_of d) ∷ []) (lines_of behind) in
-        subst (λ l. Stands bytes l (lines_of behind)) (sym adds.1.1) (record { list = list; text = s.text ∙ ap (λ l. line header_text ∷ (map (λ e. line (text_of e)) es ++ l)) entry_first ∙ ap (λ l. line header_text ∷ l) (sym grown) })
+        let taken = entry_takes undoes text d is adds.0 in
+        let few = r.few in
+        let list = list_more es d r.stands.list taken.1 adds.1.0 (omega arith) in
+        let entry_first : lines_of rest ≡ line (text_of d) ∷ lines_of behind =
+        first_line text behind rest r.first ∙ ap (λ t. line t ∷ lines_of behind) taken.0 in
+        let grown : entry_lines (es ++ d ∷ []) ++ lines_of behind ≡ entry_lines es ++ line (text_of d) ∷ lines_of behind =
+        ap (λ l. l ++ lines_of behind) (map-append (λ e. line (text_of e)) es (d ∷ []))
+        ∙ append_assoc (entry_lines es) (line (text_of d) ∷ []) (lines_of behind) in
+        let text_is : lines_of bytes ≡ line header_text ∷ (entry_lines (es ++ d ∷ []) ++ lines_of behind) =
+        r.stands.text ∙ ap (λ l. line header_text ∷ (entry_lines es ++ l)) entry_first ∙ ap (λ l. line header_text ∷ l) (sym grown) in
+        subst (λ l. Stands bytes l (lines_of behind)) (sym adds.1.1) (record { list = list; text = text_is })
 
-pub bad_torn : (bytes rest : List ℕ) (es : List Entry) → Stands bytes es (lines_of rest) → cut 10 rest ≡ None → length es ≤ max_entries → IsRefused bytes (length es + 2)
-bad_torn bytes rest es s e few =
+pub bad_torn : (bytes rest : List ℕ) (es : List Entry) → ReadingUndoesWriting → Stands bytes es (lines_of rest) → cut 10 rest ≡ None →
+    length es ≤ max_entries → IsRefused bytes (length es + 2)
+bad_torn bytes rest es undoes s e few =
     let free = free_uncut 10 rest e in
-    refused_here bytes es (lines_of rest) s (record { entry = λ d is f. torn rest (text_of d) free; end = torn rest (end_text (length es)) free }) few
-
-pub bad_text : (bytes rest text behind : List ℕ) (es : List Entry) → Stands bytes es (lines_of rest) → cut 10 rest ≡ Some (text, behind) → (end_at text ≡ Some (length es) → ⊥) → NoneFollows (entry_at text) es → length es ≤ max_entries → IsRefused bytes (length es + 2)
-bad_text bytes rest text behind es s e no_end none few =
-    let first = ap (take 1) (first_line text behind rest e) in
-    let is : (word : List ℕ) → take 1 (lines_of rest) ≡ line word ∷ [] → text ≡ word = λ word one. line_same text word (cons_parts (line text) (line word) [] [] (sym first ∙ one)).0 in
-    refused_here bytes es (lines_of rest) s (record {
-      entry = λ d entry follows one. follows_none d (ap entry_at (is (text_of d) one) ∙ entry_again d entry) follows;
-      end = λ one. no_end (ap end_at (is (end_text (length es)) one) ∙ end_again (length es) s.list.count);
+    refused_here undoes bytes es (lines_of rest) s (record {
+      item = λ d behind is f. torn rest (text_of d) free;
+      end = torn rest (end_text (length es)) free;
     }) few
+
+pub bad_text : {bytes rest text behind : List ℕ} {es : List Entry} → ReadingUndoesWriting → Reads bytes rest text behind es →
+    (end_at text ≡ Some (length es) → ⊥) → NoneFollows (entry_at text) es → IsRefused bytes (length es + 2)
+bad_text {bytes} {rest} {text} {behind} {es} undoes r no_end none =
+    refused_here undoes bytes es (lines_of rest) r.stands (record {
+      item = λ d behind entry follows one. follows_none d (ap entry_at (text_is (text_of d) one) ∙ entry_again undoes d entry) follows;
+      end = λ one. no_end (ap end_at (text_is (end_text (length es)) one) ∙ end_again (length es) r.stands.list.count);
+    }) r.few
   where
+    text_is : (word : List ℕ) → take 1 (lines_of rest) ≡ line word ∷ [] → text ≡ word
+    text_is word one =
+        let first = ap (take 1) (first_line text behind rest r.first) in
+        line_same text word (cons_parts (line text) (line word) [] [] (sym first ∙ one)).0
+
     follows_none : (d : Entry) → entry_at text ≡ Some d → Follows es d → ⊥
     follows_none d at follows = let h = subst (λ o. NoneFollows o es) at none in h follows
 
@@ -128,23 +157,22 @@ bad_text bytes rest text behind es s e no_end none few =
 end_first : (rest text behind : List ℕ) (n : ℕ) → cut 10 rest ≡ Some (text, behind) → end_at text ≡ Some n → lines_of rest ≡ line (end_text n) ∷ lines_of behind
 end_first rest text behind n e end = first_line text behind rest e ∙ ap (λ t. line t ∷ lines_of behind) (end_takes text n end).0
 
-pub at_end : (bytes rest text behind : List ℕ) (es : List Entry) → Stands bytes es (lines_of rest) → cut 10 rest ≡ Some (text, behind) → end_at text ≡ Some (length es) → length behind ≡ 0 → Spells bytes es
-at_end bytes rest text [] es s e end none = spelled bytes es (subst (Stands bytes es) (end_first rest text [] (length es) e end) s)
-at_end bytes rest text (b ∷ behind) es s e end none = absurd (omega arith)
+pub at_end : {bytes rest text behind : List ℕ} {es : List Entry} → Reads bytes rest text behind es →
+    end_at text ≡ Some (length es) → length behind ≡ 0 → Spells bytes es
+at_end {bytes} {rest} {text} {behind} {es} r end none =
+    let empty : behind ≡ [] = nil_from_length behind none in
+    let is = end_first rest text behind (length es) r.first end ∙ ap (λ b. line (end_text (length es)) ∷ lines_of b) empty in
+    spelled bytes es (subst (Stands bytes es) is r.stands)
 
-pub past_end : (bytes rest text behind : List ℕ) (es : List Entry) → Stands bytes es (lines_of rest) → cut 10 rest ≡ Some (text, behind) → end_at text ≡ Some (length es) → 0 < length behind → length es ≤ max_entries → IsRefused bytes (length es + 3)
-past_end bytes rest text behind es s e end some few = by_lines (lines_of behind) refl
+pub past_end : {bytes rest text behind : List ℕ} {es : List Entry} → ReadingUndoesWriting → Reads bytes rest text behind es →
+    end_at text ≡ Some (length es) → 0 < length behind → IsRefused bytes (length es + 3)
+past_end {bytes} {rest} {text} {behind} {es} undoes r end some = by_lines (lines_of behind) refl
   where
-    none : (b : ℕ) (bs : List ℕ) → lines_of (b ∷ bs) ≡ [] → ⊥
-    none b bs e = let h = ap length (no_lines (b ∷ bs) e) in omega arith
-
-    empty : (behind : List ℕ) → 0 < length behind → lines_of behind ≡ [] → ⊥
-    empty [] some e = omega arith
-    empty (b ∷ bs) some e = none b bs e
-
     by_lines : (ls : List (List ℕ)) → lines_of behind ≡ ls → IsRefused bytes (length es + 3)
-    by_lines [] is = absurd (empty behind some is)
-    by_lines (m ∷ ms) is = refused_after bytes es m ms (subst (Stands bytes es) (end_first rest text behind (length es) e end ∙ ap (λ ls. line (end_text (length es)) ∷ ls) is) s) few
+    by_lines [] is = let none = ap length (no_lines behind is) in absurd (omega arith)
+    by_lines (m ∷ ms) is =
+        let lines = end_first rest text behind (length es) r.first end ∙ ap (λ ls. line (end_text (length es)) ∷ ls) is in
+        refused_after undoes bytes es m ms (subst (Stands bytes es) lines r.stands) r.few
 
 pub too_long : (bytes : List ℕ) (es : List Entry) (more : List (List ℕ)) → Stands bytes es more → length es ≡ max_entries + 1 → IsTooLong bytes
 too_long bytes es more s many = record { entries = es; list = s.list; many = many; rest = more; text = s.text }

@@ -1,13 +1,15 @@
 -- The steps of writing a list file.
-use Rattle.std.proofs.Common.{◌≡◌, ℕ, ◌+◌, ◌<◌, ◌≤◌, ◌^◌, ◌/◌, ◌%◌, List, [], ◌∷◌, ◌++◌, length, get_or, take, ap, sym, ◌∙◌, subst, append_assoc}
+use Rattle.std.proofs.Common.{◌≡◌, ℕ, ◌+◌, ◌<◌, ◌≤◌, ◌^◌, ◌/◌, ◌%◌, List, [], ◌∷◌, ◌++◌, length, take, ap, sym, ◌∙◌, subst, append_assoc, append-nil}
 use Rattle.std.specs.List.{AllByRecursion, flat_map}
 use Rattle.std.specs.List.Sorted.{IsStrictlySortedBy}
 use Rattle.std.specs.Fmt.{decimal}
 use Rattle.std.proofs.lemmas.Fmt.{decimal_digit, decimal_step}
-use Rattle.std.proofs.lemmas.List.{take_more, take_all, map-append}
+use Rattle.std.proofs.lemmas.List.{take_all, map-append}
 use Rattle.path_text.specs.Order.{path_cmp}
 use Rattle.flat_list.specs.declared.entries.Entry.{Entry}
 use Rattle.flat_list.specs.Spelling.{text_of, line, header_text, end_text, entry_lines, IsEntry, paths, Spells}
+use Rattle.flat_list.proofs.Ascending.{all_more}
+use Rattle.flat_list.proofs.Dealt.{Turn, taken}
 use Rattle.flat_list.proofs.Files.{flat_end}
 
 pub one_digit : (old : List ℕ) (n : ℕ) → n < 10 → old ++ (48 + n) ∷ [] ≡ old ++ decimal n
@@ -18,47 +20,51 @@ more_digits old n le lt = append_assoc old (decimal (n / 10)) ((48 + n % 10) ∷
 
 pub ruleset decimal_steps = (one_digit, more_digits)
 
+-- what is written of so many entries: the header and their lines
+pub record Written (text : List ℕ) (es : List Entry) (i : ℕ) : Type 0 where
+  pub lines : text ≡ line header_text ++ flat_map (λ l. l) (entry_lines (take i es))
+  pub each : AllByRecursion IsEntry (take i es)
+
+pub header_written : {text : List ℕ} {es : List Entry} → text ≡ line header_text → Written text es 0
+header_written {text} {es} is = record { lines = is ∙ sym (append-nil (line header_text)); each = tt }
+
 -- the lines of one entry more
-pub lines_more : (xs : List Entry) (i : ℕ) (e : Entry) → i < length xs → e ≡ get_or xs i e → flat_map (λ l. l) (entry_lines (take (i + 1) xs)) ≡ flat_map (λ l. l) (entry_lines (take i xs)) ++ line (text_of e)
-lines_more xs i e lt is =
-    let more : take (i + 1) xs ≡ take i xs ++ e ∷ [] = take_more xs i e lt ∙ ap (λ e. take i xs ++ e ∷ []) (sym is) in
-    ap (λ l. flat_map (λ l. l) (entry_lines l)) more
-    ∙ ap (flat_map (λ l. l)) (map-append (λ e. line (text_of e)) (take i xs) (e ∷ []))
-    ∙ flat_end (entry_lines (take i xs)) (line (text_of e))
+lines_more : (es : List Entry) (e : Entry) →
+    flat_map (λ l. l) (entry_lines (es ++ e ∷ [])) ≡ flat_map (λ l. l) (entry_lines es) ++ line (text_of e)
+lines_more es e = ap (flat_map (λ l. l)) (map-append (λ e. line (text_of e)) es (e ∷ [])) ∙ flat_end (entry_lines es) (line (text_of e))
 
-all_more : (P : Entry → Type 0) (xs : List Entry) (y : Entry) → AllByRecursion P xs → P y → AllByRecursion P (xs ++ y ∷ [])
-all_more P [] y h p = (p, tt)
-all_more P (x ∷ xs) y h p = (h.0, all_more P xs y h.1 p)
-
-pub each_more : (xs : List Entry) (i : ℕ) (e : Entry) → i < length xs → e ≡ get_or xs i e → AllByRecursion IsEntry (take i xs) → IsEntry e → AllByRecursion IsEntry (take (i + 1) xs)
-each_more xs i e lt is each one =
-    let more : take (i + 1) xs ≡ take i xs ++ e ∷ [] = take_more xs i e lt ∙ ap (λ e. take i xs ++ e ∷ []) (sym is) in
-    subst (AllByRecursion IsEntry) (sym more) (all_more IsEntry (take i xs) e each one)
+pub one_written : {before after : List ℕ} {es : List Entry} {i : ℕ} {e : Entry} → Turn es i e → Written before es i →
+    after ≡ before ++ line (text_of e) → IsEntry e → Written after es (i + 1)
+one_written {before} {after} {es} {i} {e} t w one is =
+    let more = taken es i e t in
+    let joined = λ (l : List Entry). line header_text ++ flat_map (λ l. l) (entry_lines l) in
+    record {
+      lines = one
+          ∙ ap (λ b. b ++ line (text_of e)) w.lines
+          ∙ append_assoc (line header_text) (flat_map (λ l. l) (entry_lines (take i es))) (line (text_of e))
+          ∙ ap (λ t. line header_text ++ t) (sym (lines_more (take i es) e))
+          ∙ ap joined (sym more);
+      each = subst (AllByRecursion IsEntry) (sym more) (all_more IsEntry (take i es) e w.each is);
+    }
 
 -- the whole text
-pub spells : (bytes before : List ℕ) (es : List Entry) (i : ℕ) → length es ≤ i → length es < 2 ^ 64 → before ≡ line header_text ++ flat_map (λ l. l) (entry_lines (take i es)) → bytes ≡ before ++ line (end_text (length es)) → AllByRecursion IsEntry (take i es) → IsStrictlySortedBy path_cmp (paths es) → Spells bytes es
-spells bytes before es i le few text end each ascend =
+pub spells : {before bytes : List ℕ} {es : List Entry} {i : ℕ} → Written before es i → length es ≤ i → length es < 2 ^ 64 →
+    bytes ≡ before ++ line (end_text (length es)) → IsStrictlySortedBy path_cmp (paths es) → Spells bytes es
+spells {before} {bytes} {es} {i} w le few end ascend =
     let all : take i es ≡ es = take_all i es le in
     record {
-      list = record { count = few; each = subst (AllByRecursion IsEntry) all each; ascend = ascend };
+      list = record { count = few; each = subst (AllByRecursion IsEntry) all w.each; ascend = ascend };
       text = end
-          ∙ ap (λ b. b ++ line (end_text (length es))) (text ∙ ap (λ l. line header_text ++ flat_map (λ l. l) (entry_lines l)) all)
+          ∙ ap (λ b. b ++ line (end_text (length es))) (w.lines ∙ ap (λ l. line header_text ++ flat_map (λ l. l) (entry_lines l)) all)
           ∙ append_assoc (line header_text) (flat_map (λ l. l) (entry_lines es)) (line (end_text (length es)))
           ∙ ap (λ t. line header_text ++ t) (sym (flat_end (entry_lines es) (line (end_text (length es)))));
     }
 
 -- the words of an entry, one after the other
 pub words_joined : (a b c d e f g old : List ℕ) →
-    (((((old ++ (a ++ 32 ∷ (b ++ 32 ∷ (c ++ 32 ∷ [])))) ++ (d ++ 32 ∷ [])) ++ (e ++ 32 ∷ [])) ++ (f ++ 32 ∷ [])) ++ g) ++ 10 ∷ [] ≡ old ++ line (a ++ 32 ∷ (b ++ 32 ∷ (c ++ 32 ∷ (d ++ 32 ∷ (e ++ 32 ∷ (f ++ 32 ∷ g))))))
+    (((((old ++ (a ++ 32 ∷ (b ++ 32 ∷ (c ++ 32 ∷ [])))) ++ (d ++ 32 ∷ [])) ++ (e ++ 32 ∷ [])) ++ (f ++ 32 ∷ [])) ++ g) ++ 10 ∷ [] ≡
+    old ++ line (a ++ 32 ∷ (b ++ 32 ∷ (c ++ 32 ∷ (d ++ 32 ∷ (e ++ 32 ∷ (f ++ 32 ∷ g))))))
 words_joined a b c d e f g old = simp append_assoc
-
--- one entry more behind the header
-pub text_more : (before after : List ℕ) (xs : List Entry) (i : ℕ) (e : Entry) → i < length xs → e ≡ get_or xs i e → before ≡ line header_text ++ flat_map (λ l. l) (entry_lines (take i xs)) → after ≡ before ++ line (text_of e) → after ≡ line header_text ++ flat_map (λ l. l) (entry_lines (take (i + 1) xs))
-text_more before after xs i e lt is text one =
-    one
-    ∙ ap (λ b. b ++ line (text_of e)) text
-    ∙ append_assoc (line header_text) (flat_map (λ l. l) (entry_lines (take i xs))) (line (text_of e))
-    ∙ ap (λ t. line header_text ++ t) (sym (lines_more xs i e lt is))
 
 -- the words of a stat
 pub told_joined : (a b c old : List ℕ) → ((old ++ (a ++ 32 ∷ [])) ++ (b ++ 32 ∷ [])) ++ (c ++ 32 ∷ []) ≡ old ++ (a ++ 32 ∷ (b ++ 32 ∷ (c ++ 32 ∷ [])))

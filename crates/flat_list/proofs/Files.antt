@@ -1,15 +1,14 @@
 -- The lines of a list file, and those that begin none.
-use Rattle.std.proofs.Common.{◌≡◌, ℕ, true, false, cond, eqb, List, [], ◌∷◌, ◌++◌, length, take, Option, Some, None, refl, ap, sym, ◌∙◌, subst, append_assoc, append-nil}
+use Rattle.std.proofs.Common.{◌≡◌, ℕ, true, false, cond, eqb, List, [], ◌∷◌, ◌++◌, length, take, Option, Some, None, refl, ap, sym, ◌∙◌, subst}
+use Rattle.std.proofs.Common.{append_assoc, append-nil}
 use Rattle.std.specs.List.{AllByRecursion, flat_map}
 use Rattle.std.proofs.lemmas.Bool.{false≢true}
 use Rattle.flat_list.specs.declared.entries.Entry.{Entry}
 use Rattle.flat_list.specs.Spelling.{text_of, line, header_text, end_text, entry_lines, lines_for, IsEntry, Spells, onto_line, lines_of}
-use Rattle.flat_list.specs.Reading.{cut, onto_word}
+use Rattle.flat_list.specs.Private.Reading.{cut, onto_word}
 use Rattle.flat_list.proofs.Words.{IsFree, eqb_is}
 use Rattle.flat_list.proofs.Lines.{text_free, end_free}
-
-pub cons_parts : {A : Type 0} (x y : A) (xs ys : List A) → x ∷ xs ≡ y ∷ ys → (x ≡ y) × (xs ≡ ys)
-cons_parts x y xs ys e = (cc, cc)
+use Rattle.flat_list.proofs.WholeLines.{cons_parts}
 
 -- ---- lines
 
@@ -70,10 +69,11 @@ torn (b ∷ text) word free e =
 -- lines, joined, are the text
 pub joined_lines : (bytes : List ℕ) → flat_map (λ l. l) (lines_of bytes) ≡ bytes
 joined_lines [] = refl
-joined_lines (b ∷ bytes) = elim (eqb b 10) as (λ t. eqb b 10 ≡ t → flat_map (λ l. l) (cond t ((10 ∷ []) ∷ lines_of bytes) (onto_line b (lines_of bytes))) ≡ b ∷ bytes) [
-  | true ↦ λ is. ap (λ l. 10 ∷ l) (joined_lines bytes) ∙ ap (λ b. b ∷ bytes) (sym (eqb_is b 10 is))
-  | false ↦ λ is. onto b (lines_of bytes) ∙ ap (λ l. b ∷ l) (joined_lines bytes)
-] refl
+joined_lines (b ∷ bytes) = elim (eqb b 10) as
+    (λ t. eqb b 10 ≡ t → flat_map (λ l. l) (cond t ((10 ∷ []) ∷ lines_of bytes) (onto_line b (lines_of bytes))) ≡ b ∷ bytes) [
+      | true ↦ λ is. ap (λ l. 10 ∷ l) (joined_lines bytes) ∙ ap (λ b. b ∷ bytes) (sym (eqb_is b 10 is))
+      | false ↦ λ is. onto b (lines_of bytes) ∙ ap (λ l. b ∷ l) (joined_lines bytes)
+    ] refl
   where
     onto : (b : ℕ) (ls : List (List ℕ)) → flat_map (λ l. l) (onto_line b ls) ≡ b ∷ flat_map (λ l. l) ls
     onto b [] = refl
@@ -84,7 +84,8 @@ no_lines bytes e = sym (joined_lines bytes) ∙ ap (flat_map (λ l. l)) e
 
 -- ---- the lines of a list's text
 
-entries_first : (es : List Entry) (rest : List ℕ) → AllByRecursion IsEntry es → lines_of (flat_map (λ l. l) (entry_lines es) ++ rest) ≡ entry_lines es ++ lines_of rest
+entries_first : (es : List Entry) (rest : List ℕ) → AllByRecursion IsEntry es →
+    lines_of (flat_map (λ l. l) (entry_lines es) ++ rest) ≡ entry_lines es ++ lines_of rest
 entries_first [] rest each = refl
 entries_first (e ∷ es) rest each =
     let text = text_of e in
@@ -97,16 +98,19 @@ pub flat_end : (xs : List (List ℕ)) (l : List ℕ) → flat_map (λ l. l) (xs 
 flat_end [] l = append-nil l
 flat_end (x ∷ xs) l = ap (λ t. x ++ t) (flat_end xs l) ∙ sym (append_assoc x (flat_map (λ l. l) xs) l)
 
-pub list_lines : (bytes rest : List ℕ) (es : List Entry) → Spells bytes es → lines_of (bytes ++ rest) ≡ line header_text ∷ (entry_lines es ++ line (end_text (length es)) ∷ lines_of rest)
+pub list_lines : (bytes rest : List ℕ) (es : List Entry) → Spells bytes es →
+    lines_of (bytes ++ rest) ≡ line header_text ∷ (entry_lines es ++ line (end_text (length es)) ∷ lines_of rest)
 list_lines bytes rest es is =
     let end = end_text (length es) in
-    let flat : flat_map (λ l. l) (lines_for es) ≡ header_text ++ 10 ∷ (flat_map (λ l. l) (entry_lines es) ++ line end) = ap (λ t. line header_text ++ t) (flat_end (entry_lines es) (line end)) in
+    let flat : flat_map (λ l. l) (lines_for es) ≡ header_text ++ 10 ∷ (flat_map (λ l. l) (entry_lines es) ++ line end) =
+    ap (λ t. line header_text ++ t) (flat_end (entry_lines es) (line end)) in
     let body : (flat_map (λ l. l) (entry_lines es) ++ line end) ++ rest ≡ flat_map (λ l. l) (entry_lines es) ++ (end ++ 10 ∷ rest) =
     append_assoc (flat_map (λ l. l) (entry_lines es)) (line end) rest ∙ ap (λ t. flat_map (λ l. l) (entry_lines es) ++ t) (append_assoc end (10 ∷ []) rest) in
     ap (λ t. lines_of (t ++ rest)) (is.text ∙ flat)
     ∙ ap (λ t. lines_of (header_text ++ 10 ∷ t)) body
     ∙ line_first header_text (flat_map (λ l. l) (entry_lines es) ++ (end ++ 10 ∷ rest)) header_free
-    ∙ ap (λ ls. line header_text ∷ ls) (entries_first es (end ++ 10 ∷ rest) is.list.each ∙ ap (λ ls. entry_lines es ++ ls) (line_first end rest (end_free (length es) is.list.count)))
+    ∙ ap (λ ls. line header_text ∷ ls)
+    (entries_first es (end ++ 10 ∷ rest) is.list.each ∙ ap (λ ls. entry_lines es ++ ls) (line_first end rest (end_free (length es) is.list.count)))
   where
     header_free : IsFree 10 header_text
     header_free = (refl, (refl, (refl, (refl, (refl, (refl, (refl, (refl, (refl, (refl, tt))))))))))

@@ -4,7 +4,9 @@ pub mod Words
 pub mod Numbers
 pub mod Escapes
 pub mod Lines
+pub mod WholeLines
 pub mod Files
+pub mod Ascending
 pub mod Damage
 pub mod Decoded
 pub mod Encoded

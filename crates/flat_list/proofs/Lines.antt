@@ -1,5 +1,6 @@
 -- The text of a line is read as what was written, and no other text is.
-use Rattle.std.proofs.Common.{◌≡◌, ℕ, ◌<◌, ◌≤◌, ◌^◌, ◌⊎◌, inl, inr, Bool, true, false, cond, ltb, eqb, ◌&&◌, List, ◌∷◌, ◌++◌, length, get_or, Option, Some, None, Result, Ok, Err, refl, ap, sym, ◌∙◌, subst, arith}
+use Rattle.std.proofs.Common.{◌≡◌, ℕ, ◌<◌, ◌≤◌, ◌^◌, ◌⊎◌, inl, inr, Bool, true, false, cond, ltb, eqb, ◌&&◌, List, ◌∷◌, ◌++◌, length, get_or, Option}
+use Rattle.std.proofs.Common.{Some, None, Result, Ok, Err, refl, ap, sym, ◌∙◌, subst, arith}
 use Rattle.std.specs.Prelude.{IfSome, is_none, codes}
 use Rattle.std.specs.Str.{IsUtf8, is_utf8, bytes_eq}
 use Rattle.std.specs.Fmt.{decimal}
@@ -11,11 +12,10 @@ use Rattle.std.proofs.lemmas.Str.Parse.{digit_at}
 use Rattle.std.proofs.lemmas.List.Elements.{recursion_from_All}
 use Rattle.std.proofs.lemmas.Grind.{get_or_default_zero}
 use Rattle.path_text.specs.Path.{refusal}
-use Rattle.path_text.specs.Escape.{escape, reading, good_len, unescaped, path_of}
+use Rattle.path_text.specs.Escape.{escape, reading, good_len, unescaped, path_of, ReadingUndoesWriting}
 use Rattle.path_text.specs.declared.errors.PathError.{PathError}
 use Rattle.path_text.specs.declared.errors.EscapeError.TheVariants.{BadEscape}
 use Rattle.flat_list.proofs.Escapes.{utf8_escape, escape_free, free-append}
-use Rattle.path_text.proofs.Readable.{reading_undoes_writing}
 use Rattle.outside.specs.declared.trees.Kind.{Kind}
 use Rattle.outside.specs.declared.trees.Kind.TheVariants as kind
 use Rattle.outside.specs.declared.trees.Stat.{Stat}
@@ -26,7 +26,8 @@ use Rattle.flat_list.specs.declared.reading.Told.{Told}
 use Rattle.flat_list.specs.Entries.{size_by}
 use Rattle.flat_list.specs.Orders.{time_of}
 use Rattle.flat_list.specs.Spelling.{kind_by, kind_word, time_word, mark_word, text_of, end_text, IsEntry}
-use Rattle.flat_list.specs.Reading.{◌>>=◌, cut, number_of, time_from, kind_from, mark_from, word_at, stat_from, is_told, told_if, told_at, ok_of, path_from, entry_at, end_at}
+use Rattle.flat_list.specs.Private.Reading.{◌>>=◌, cut, number_of, time_from, kind_from, mark_from, word_at, stat_from, is_told, told_if, told_at}
+use Rattle.flat_list.specs.Private.Reading.{ok_of, path_from, entry_at, end_at}
 use Rattle.flat_list.proofs.Words.{IsFree, cut_again, cut_takes}
 use Rattle.flat_list.proofs.Numbers.{number_again, number_takes, text_path}
 
@@ -75,14 +76,16 @@ time_takes word time e = by_test (bytes_eq word (codes "-")) refl e
 time_again : (time : Option ℕ) → IfSome time (λ seconds. seconds < 2 ^ 64) → time_from (time_word time) ≡ Some time
 unfolding time_from
 time_again None small = refl
-time_again (Some n) small = ap (λ t. cond t (Some None) (number_of (decimal n) >>= λ n. Some (Some n))) off ∙ ap (λ o. o >>= λ n. Some (Some n)) (number_again n small)
+time_again (Some n) small = ap (λ t. cond t (Some None) (number_of (decimal n) >>= λ n. Some (Some n))) off
+    ∙ ap (λ o. o >>= λ n. Some (Some n)) (number_again n small)
   where
     off : bytes_eq (decimal n) (codes "-") ≡ false
     off = by_test (bytes_eq (decimal n) (codes "-")) refl
       where
         by_test : (t : Bool) → bytes_eq (decimal n) (codes "-") ≡ t → t ≡ false
         by_test false is = refl
-        by_test true is = let free = subst (IsFree 45) ((bytes_decides (decimal n) (codes "-")).0 is) (decimal_free 45 n (omega arith) small) in absurd (false≢true (sym free.0))
+        by_test true is = let free = subst (IsFree 45) ((bytes_decides (decimal n) (codes "-")).0 is) (decimal_free 45 n (omega arith) small) in
+            absurd (false≢true (sym free.0))
 
 time_free : (c : ℕ) (time : Option ℕ) → c < 45 → IfSome time (λ seconds. seconds < 2 ^ 64) → IsFree c (time_word time)
 time_free c None low small = (apart, tt)
@@ -92,7 +95,8 @@ time_free c None low small = (apart, tt)
 time_free c (Some n) low small = decimal_free c n (omega arith) small
 
 -- a choice by a word
-chosen : {A : Type 0} (word this : List ℕ) (x y : A) (other : Option A) → cond (bytes_eq word this) (Some x) other ≡ Some y → ((word ≡ this) × (x ≡ y)) ⊎ (other ≡ Some y)
+chosen : {A : Type 0} (word this : List ℕ) (x y : A) (other : Option A) → cond (bytes_eq word this) (Some x) other ≡ Some y →
+    ((word ≡ this) × (x ≡ y)) ⊎ (other ≡ Some y)
 chosen word this x y other e = by_test (bytes_eq word this) refl e
   where
     by_test : (t : Bool) → bytes_eq word this ≡ t → cond t (Some x) other ≡ Some y → ((word ≡ this) × (x ≡ y)) ⊎ (other ≡ Some y)
@@ -184,7 +188,8 @@ word_takes {A} read text x rest e =
     let parts = cut_takes 32 text w.0.0 w.0.1 w.1 in
     record { word = w.0.0; parts = parts.parts ∙ ap (λ r. w.0.0 ++ 32 ∷ r) same.1; value = v.1 ∙ ap Some same.0 }
 
-word_again : {A : Type 0} (read : List ℕ → Option A) (word rest : List ℕ) (x : A) → IsFree 32 word → read word ≡ Some x → word_at read (word ++ 32 ∷ rest) ≡ Some (x, rest)
+word_again : {A : Type 0} (read : List ℕ → Option A) (word rest : List ℕ) (x : A) → IsFree 32 word → read word ≡ Some x →
+    word_at read (word ++ 32 ∷ rest) ≡ Some (x, rest)
 unfolding word_at
 word_again read word rest x free is =
     ap (λ o. o >>= λ w. read w.0 >>= λ v. Some (v, w.1)) (cut_again 32 word rest free)
@@ -220,7 +225,9 @@ stat_again (Some stat) = refl
 -- the text of all beside the path, and the path's word
 abbrev pub told_text : Told → List ℕ → List ℕ
 told_text t word =
-    kind_word (kind_by t.stat) ++ 32 ∷ (decimal (size_by t.stat) ++ 32 ∷ (time_word (time_of t.stat) ++ 32 ∷ (mark_word t.mark ++ 32 ∷ (decimal t.unnamed ++ 32 ∷ (decimal t.far ++ 32 ∷ word)))))
+    kind_word (kind_by t.stat) ++ 32 ∷
+    (decimal (size_by t.stat) ++ 32 ∷
+    (time_word (time_of t.stat) ++ 32 ∷ (mark_word t.mark ++ 32 ∷ (decimal t.unnamed ++ 32 ∷ (decimal t.far ++ 32 ∷ word)))))
 
 pub record IsTold (t : Told) : Type 0 where
   pub fits : is_told t ≡ true
@@ -232,7 +239,8 @@ pub record IsTold (t : Told) : Type 0 where
 fits_takes : (t u : Told) (word rest : List ℕ) → told_if t word ≡ Some (u, rest) → (is_told t ≡ true) × (t ≡ u) × (word ≡ rest)
 fits_takes t u word rest e = by_test (is_told t) refl e
   where
-    by_test : (b : Bool) → is_told t ≡ b → cond {A = Option (Told × List ℕ)} b (Some (t, word)) None ≡ Some (u, rest) → (is_told t ≡ true) × (t ≡ u) × (word ≡ rest)
+    by_test : (b : Bool) → is_told t ≡ b → cond {A = Option (Told × List ℕ)} b (Some (t, word)) None ≡ Some (u, rest) →
+        (is_told t ≡ true) × (t ≡ u) × (word ≡ rest)
     by_test true is e = let same = pair_is t u word rest e in (is, same.0, same.1)
     by_test false is e = absurd cc
 
@@ -305,8 +313,10 @@ told_again t word is =
     ∙ ap (λ o. o >>= λ s. after_size k s) (word_again number_of (decimal s) _ s (decimal_free 32 s (omega arith) is.size) (number_again s is.size))
     ∙ ap (λ o. o >>= λ m. after_time k s m) (word_again time_from (time_word m) _ m (time_free 32 m (omega arith) is.time) (time_again m is.time))
     ∙ ap (λ o. o >>= λ r. after_mark k s m r) (word_again mark_from (mark_word t.mark) _ t.mark (mark_free_space t.mark) (mark_again t.mark))
-    ∙ ap (λ o. o >>= λ u. after_unnamed k s m t.mark u) (word_again number_of (decimal t.unnamed) _ t.unnamed (decimal_free 32 t.unnamed (omega arith) is.unnamed) (number_again t.unnamed is.unnamed))
-    ∙ ap (λ o. o >>= λ f. after_far k s m t.mark t.unnamed f) (word_again number_of (decimal t.far) word t.far (decimal_free 32 t.far (omega arith) is.far) (number_again t.far is.far))
+    ∙ ap (λ o. o >>= λ u. after_unnamed k s m t.mark u)
+    (word_again number_of (decimal t.unnamed) _ t.unnamed (decimal_free 32 t.unnamed (omega arith) is.unnamed) (number_again t.unnamed is.unnamed))
+    ∙ ap (λ o. o >>= λ f. after_far k s m t.mark t.unnamed f)
+    (word_again number_of (decimal t.far) word t.far (decimal_free 32 t.far (omega arith) is.far) (number_again t.far is.far))
     ∙ ap (λ o. o >>= λ st. told_if (record { stat = st; mark = t.mark; unnamed = t.unnamed; far = t.far }) word) (stat_again t.stat)
     ∙ ap (λ b. cond {A = Option (Told × List ℕ)} b (Some (t, word)) None) is.fits
 
@@ -330,44 +340,46 @@ is_path word path e = by_len (ltb (good_len word) (length word)) e
     by_len true e = absurd cc
     by_len false e = by_refusal (refusal (unescaped word)) refl e
 
-path_takes : (word path : List ℕ) → path_from word ≡ Some path → (word ≡ escape path) × (refusal path ≡ None)
+path_takes : ReadingUndoesWriting → (word path : List ℕ) → path_from word ≡ Some path → (word ≡ escape path) × (refusal path ≡ None)
 unfolding path_from
-path_takes word path e = by_test (is_utf8 word) e
+path_takes undoes word path e = by_test (is_utf8 word) e
   where
     by_test : (t : Bool) → cond t (ok_of (reading word)) None ≡ Some path → (word ≡ escape path) × (refusal path ≡ None)
-    by_test true e = let read = path_of_reading word path e in (reading_undoes_writing.one_spelling word path read, is_path word path read)
+    by_test true e = let read = path_of_reading word path e in (undoes.one_spelling word path read, is_path word path read)
     by_test false e = absurd cc
 
-path_again : (path : List ℕ) → refusal path ≡ None → IsUtf8 path → path_from (escape path) ≡ Some path
-path_again path is u = text_path (escape path) (utf8_escape path u) ∙ ap ok_of (reading_undoes_writing.back path is)
+path_again : ReadingUndoesWriting → (path : List ℕ) → refusal path ≡ None → IsUtf8 path → path_from (escape path) ≡ Some path
+path_again undoes path is u = text_path (escape path) (utf8_escape path u) ∙ ap ok_of (undoes.back path is)
 
 abbrev with_path : Told → List ℕ → Option Entry
 with_path t path = Some (record { path = path; stat = t.stat; mark = t.mark; unnamed = t.unnamed; far = t.far })
 
-pub entry_takes : (text : List ℕ) (e : Entry) → entry_at text ≡ Some e → IsUtf8 e.path → (text ≡ text_of e) × IsEntry e
+pub entry_takes : ReadingUndoesWriting → (text : List ℕ) (e : Entry) → entry_at text ≡ Some e → IsUtf8 e.path → (text ≡ text_of e) × IsEntry e
 unfolding entry_at
-entry_takes text e is u =
+entry_takes undoes text e is u =
     let t = bind_some (told_at text) (λ t. path_from t.1 >>= λ path. with_path t.0 path) e is in
     let p = bind_some (path_from t.0.1) (λ path. with_path t.0.0 path) e t.2 in
     let entry : Entry = record { path = p.0; stat = t.0.0.stat; mark = t.0.0.mark; unnamed = t.0.0.unnamed; far = t.0.0.far } in
     let same : entry ≡ e = cc in
     let told = told_takes text t.0.0 t.0.1 t.1 in
-    let path = path_takes t.0.1 p.0 p.1 in
+    let path = path_takes undoes t.0.1 p.0 p.1 in
     let utf8 : IsUtf8 entry.path = subst (λ (e : Entry). IsUtf8 e.path) (sym same) u in
-    let entry_is : IsEntry entry = record { path = path.1; utf8 = utf8; shape = told.1.fits; size = told.1.size; time = told.1.time; unnamed = told.1.unnamed; far = told.1.far } in
+    let entry_is : IsEntry entry =
+    record { path = path.1; utf8 = utf8; shape = told.1.fits; size = told.1.size; time = told.1.time; unnamed = told.1.unnamed; far = told.1.far } in
     let whole : text ≡ text_of entry = told.0 ∙ ap (λ w. told_text t.0.0 w) path.0 in
     subst (λ (e : Entry). (text ≡ text_of e) × IsEntry e) same (whole, entry_is)
 
-pub entry_again : (e : Entry) → IsEntry e → entry_at (text_of e) ≡ Some e
+pub entry_again : ReadingUndoesWriting → (e : Entry) → IsEntry e → entry_at (text_of e) ≡ Some e
 unfolding entry_at
-entry_again e is =
+entry_again undoes e is =
     let t : Told = record { stat = e.stat; mark = e.mark; unnamed = e.unnamed; far = e.far } in
-    ap (λ o. o >>= λ t. path_from t.1 >>= λ path. with_path t.0 path) (told_again t (escape e.path) (record { fits = is.shape; size = is.size; time = is.time; unnamed = is.unnamed; far = is.far }))
-    ∙ ap (λ o. o >>= λ path. with_path t path) (path_again e.path is.path is.utf8)
+    ap (λ o. o >>= λ t. path_from t.1 >>= λ path. with_path t.0 path)
+    (told_again t (escape e.path) (record { fits = is.shape; size = is.size; time = is.time; unnamed = is.unnamed; far = is.far }))
+    ∙ ap (λ o. o >>= λ path. with_path t path) (path_again undoes e.path is.path is.utf8)
 
-pub one_text : (d e : Entry) → IsEntry d → IsEntry e → text_of d ≡ text_of e → d ≡ e
-one_text d e dis eis same =
-    let both : Some d ≡ Some e = sym (entry_again d dis) ∙ ap entry_at same ∙ entry_again e eis in
+pub one_text : ReadingUndoesWriting → (d e : Entry) → IsEntry d → IsEntry e → text_of d ≡ text_of e → d ≡ e
+one_text undoes d e dis eis same =
+    let both : Some d ≡ Some e = sym (entry_again undoes d dis) ∙ ap entry_at same ∙ entry_again undoes e eis in
     cc
 
 -- ---- the end
@@ -379,7 +391,8 @@ end_takes text n e =
     let parts = cut_takes 32 text w.0.0 w.0.1 w.1 in
     by_test w.0.0 w.0.1 parts.parts (bytes_eq w.0.0 (codes "end")) refl w.2
   where
-    by_test : (word rest : List ℕ) → text ≡ word ++ 32 ∷ rest → (t : Bool) → bytes_eq word (codes "end") ≡ t → cond t (number_of rest) None ≡ Some n → (text ≡ end_text n) × (n < 2 ^ 64)
+    by_test : (word rest : List ℕ) → text ≡ word ++ 32 ∷ rest → (t : Bool) → bytes_eq word (codes "end") ≡ t → cond t (number_of rest) None ≡ Some n →
+        (text ≡ end_text n) × (n < 2 ^ 64)
     by_test word rest parts true is e =
         let number = number_takes rest n e in
         (parts ∙ ap (λ w. w ++ 32 ∷ rest) ((bytes_decides word (codes "end")).0 is) ∙ ap (λ r. codes "end" ++ 32 ∷ r) number.text, number.small)
@@ -387,7 +400,8 @@ end_takes text n e =
 
 pub end_again : (n : ℕ) → n < 2 ^ 64 → end_at (end_text n) ≡ Some n
 unfolding end_at
-end_again n small = ap (λ o. o >>= λ w. cond (bytes_eq w.0 (codes "end")) (number_of w.1) None) (cut_again 32 (codes "end") (decimal n) (refl, (refl, (refl, tt)))) ∙ number_again n small
+end_again n small = ap (λ o. o >>= λ w. cond (bytes_eq w.0 (codes "end")) (number_of w.1) None)
+    (cut_again 32 (codes "end") (decimal n) (refl, (refl, (refl, tt)))) ∙ number_again n small
 
 -- an end line is no line of an entry, since it begins with no kind's letter
 first_byte : Option Kind → ℕ

@@ -1,5 +1,6 @@
 -- A number's word and its reading, and a path's.
-use Rattle.std.proofs.Common.{◌≡◌, ℕ, zero, suc, ◌<◌, ◌≤◌, ◌^◌, Bool, true, false, cond, ltb, ◌&&◌, List, length, get_or, Option, Some, None, Result, Ok, Err, refl, ap, sym, ◌∙◌, subst, arith}
+use Rattle.std.proofs.Common.{◌≡◌, ℕ, zero, suc, ◌<◌, ◌≤◌, ◌^◌, Bool, true, false, cond, ltb, ◌&&◌, List, length, get_or, Option, Some, None, Result}
+use Rattle.std.proofs.Common.{Ok, Err, refl, ap, sym, ◌∙◌, subst, arith}
 use Rattle.std.specs.Str.{IsUtf8, is_utf8, bytes_eq}
 use Rattle.std.specs.Str.Parse.{digits_value, ParsesUnsigned, AllDigits}
 use Rattle.std.specs.Fmt.{decimal}
@@ -10,13 +11,14 @@ use Rattle.std.proofs.lemmas.Str.{IsUtf8-from_ascii, is_utf8-from_IsUtf8, IsUtf8
 use Rattle.std.proofs.lemmas.Str.Parse.{IsNumeralModel, digit_at, parse_plain}
 use Rattle.std.specs.Result.{result_ok, OkIff}
 use Rattle.path_text.specs.Escape.{reading}
-use Rattle.flat_list.specs.Reading.{number_of, LeadsNumber, path_from, ok_of}
+use Rattle.flat_list.specs.Private.Reading.{number_of, LeadsNumber, path_from, ok_of}
 
 pub number_again : (n : ℕ) → n < 2 ^ 64 → number_of (decimal n) ≡ Some n
 unfolding number_of
 number_again n lt =
     let value : digits_value 10 (decimal n) ≡ n = (decimal_is_IsNumeral n lt).1 in
-    let same : bytes_eq (decimal n) (decimal (digits_value 10 (decimal n))) ≡ true = (bytes_decides (decimal n) (decimal (digits_value 10 (decimal n)))).1 (ap decimal (sym value)) in
+    let same : bytes_eq (decimal n) (decimal (digits_value 10 (decimal n))) ≡ true =
+    (bytes_decides (decimal n) (decimal (digits_value 10 (decimal n)))).1 (ap decimal (sym value)) in
     let small : ltb (digits_value 10 (decimal n)) (2 ^ 64) ≡ true = lt-ltb _ _ (rw value lt) in
     ap (λ b. cond (b && ltb (digits_value 10 (decimal n)) (2 ^ 64)) (Some (digits_value 10 (decimal n))) None) same
     ∙ ap (λ b. cond b (Some (digits_value 10 (decimal n))) None) small
@@ -55,14 +57,16 @@ pub none_empty : (word : List ℕ) → length word ≡ 0 → number_of word ≡ 
 none_empty word e = number_none word (λ n lt is. let some = decimal_nonempty n lt in let len : length word ≡ length (decimal n) = ap length is in omega arith)
 
 pub none_plus : (word : List ℕ) → get_or word 0 0 ≡ 43 → number_of word ≡ None
-none_plus word e = number_none word (λ n lt is. let d = first_digit n lt in let same : get_or word 0 0 ≡ get_or (decimal n) 0 0 = ap (λ w. get_or w 0 0) is in omega arith)
+none_plus word e = number_none word
+    (λ n lt is. let d = first_digit n lt in let same : get_or word 0 0 ≡ get_or (decimal n) 0 0 = ap (λ w. get_or w 0 0) is in omega arith)
 
 pub none_zero : (word : List ℕ) → get_or word 0 0 ≡ 48 → (length word ≡ 1 → ⊥) → number_of word ≡ None
 none_zero word e long = number_none word (λ n lt is. by_size n lt is)
   where
     by_size : (n : ℕ) → n < 2 ^ 64 → word ≡ decimal n → ⊥
     by_size zero lt is = long (ap length is ∙ ap length (decimal_digit 0 (omega arith)))
-    by_size (suc n) lt is = let big = first_decimal (suc n) (omega arith) lt in let same : get_or word 0 0 ≡ get_or (decimal (suc n)) 0 0 = ap (λ w. get_or w 0 0) is in omega arith
+    by_size (suc n) lt is = let big = first_decimal (suc n) (omega arith) lt in
+        let same : get_or word 0 0 ≡ get_or (decimal (suc n)) 0 0 = ap (λ w. get_or w 0 0) is in omega arith
 
 pub ruleset no_lead = (none_empty, none_plus, none_zero)
 
@@ -91,8 +95,12 @@ pub ruleset path_texts = (text_path, no_path)
 pub parsed_is : {E : Type 0} (word : List ℕ) (r : Result ℕ E) → LeadsNumber word → ParsesUnsigned 64 10 word r → result_ok r ≡ number_of word
 parsed_is {E} word r leads parses = by_result r parses (parse_plain own 64 word r parses leads.plain)
   where
-    by_result : (r : Result ℕ E) → ParsesUnsigned 64 10 word r → OkIff r (AllDigits 10 word × (0 < length word) × (digits_value 10 word < 2 ^ 64)) (digits_value 10 word) → result_ok r ≡ number_of word
+    by_result : (r : Result ℕ E) → ParsesUnsigned 64 10 word r →
+        OkIff r (AllDigits 10 word × (0 < length word) × (digits_value 10 word < 2 ^ 64)) (digits_value 10 word) → result_ok r ≡ number_of word
     by_result (Ok n) parses h =
         let text : decimal (digits_value 10 word) ≡ word = decimal-digits_value own word h.0.0 leads.some leads.zero h.0.2 in
         ap Some h.1 ∙ sym (number_again (digits_value 10 word) h.0.2) ∙ ap number_of text
-    by_result (Err e) parses h = sym (number_none word (λ n lt is. let numeral = decimal_is_IsNumeral n lt in h (subst (λ w. AllDigits 10 w × (0 < length w) × (digits_value 10 w < 2 ^ 64)) (sym is) (numeral.0.1, numeral.0.0, subst (λ m. m < 2 ^ 64) (sym numeral.1) lt))))
+    by_result (Err e) parses h = sym
+        (number_none word (λ n lt is. let numeral = decimal_is_IsNumeral n lt in
+        h (subst (λ w. AllDigits 10 w × (0 < length w) × (digits_value 10 w < 2 ^ 64)) (sym is)
+        (numeral.0.1, numeral.0.0, subst (λ m. m < 2 ^ 64) (sym numeral.1) lt))))

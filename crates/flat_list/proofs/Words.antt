@@ -1,5 +1,6 @@
 -- A word and its reading.
-use Rattle.std.proofs.Common.{◌≡◌, ℕ, suc, ◌+◌, ◌<◌, Bool, true, false, not, cond, ltb, eqb, List, [], ◌∷◌, ◌++◌, length, get_or, take, drop, Option, Some, None, refl, ap, sym, ◌∙◌, subst, arith, add-one}
+use Rattle.std.proofs.Common.{◌≡◌, ℕ, suc, ◌+◌, ◌<◌, Bool, true, false, not, cond, ltb, eqb, List, [], ◌∷◌, ◌++◌, length, get_or, take, drop, Option}
+use Rattle.std.proofs.Common.{Some, None, refl, ap, sym, ◌∙◌, subst, arith, add-one}
 use Rattle.std.specs.List.{position, position_or_len, AllByRecursion}
 use Rattle.std.proofs.lemmas.Bool.{ltb-false, le-ltb}
 use Rattle.std.proofs.lemmas.Bool.Decides.{nat_tests}
@@ -8,7 +9,7 @@ use Rattle.std.proofs.lemmas.List.Quantifiers.{position-Some}
 use Rattle.std.proofs.lemmas.List.Elements.{recursion_from_All}
 use Rattle.std.proofs.lemmas.Grind.{get_or_default_zero}
 use Rattle.std.proofs.Math.Seq.{drop-cons}
-use Rattle.flat_list.specs.Reading.{cut, onto_word}
+use Rattle.flat_list.specs.Private.Reading.{cut, onto_word}
 
 -- the byte is not among them
 abbrev pub IsFree : ℕ → List ℕ → Type 0
@@ -35,27 +36,33 @@ pub record IsCut (c : ℕ) (text word rest : List ℕ) : Type 0 where
 pair_parts : {A B : Type 0} (p q : A × B) → Some p ≡ Some q → (p.0 ≡ q.0) × (p.1 ≡ q.1)
 pair_parts p q e = let same : p ≡ q = cc in (ap (λ r. r.0) same, ap (λ r. r.1) same)
 
-onto_some : (b : ℕ) (o : Option (List ℕ × List ℕ)) (word rest : List ℕ) → onto_word b o ≡ Some (word, rest) → (front : List ℕ) × (o ≡ Some (front, rest)) × (word ≡ b ∷ front)
+onto_some : (b : ℕ) (o : Option (List ℕ × List ℕ)) (word rest : List ℕ) → onto_word b o ≡ Some (word, rest) →
+    (front : List ℕ) × (o ≡ Some (front, rest)) × (word ≡ b ∷ front)
 onto_some b None word rest e = absurd cc
 onto_some b (Some p) word rest e =
     let same = pair_parts (b ∷ p.0, p.1) (word, rest) e in
     (p.0, ap (λ r. Some (p.0, r)) same.1, sym same.0)
 
-cut_here : (c b : ℕ) (text word rest : List ℕ) → eqb b c ≡ true → ◌≡◌ {A = Option (List ℕ × List ℕ)} (Some ([], text)) (Some (word, rest)) → IsCut c (b ∷ text) word rest
+cut_here : (c b : ℕ) (text word rest : List ℕ) → eqb b c ≡ true → ◌≡◌ {A = Option (List ℕ × List ℕ)} (Some ([], text)) (Some (word, rest)) →
+    IsCut c (b ∷ text) word rest
 cut_here c b text word rest is e =
     let same = pair_parts ([], text) (word, rest) e in
     record { parts = ap (λ b. b ∷ text) (eqb_is b c is) ∙ ap (λ t. c ∷ t) same.1 ∙ ap (λ w. w ++ c ∷ rest) same.0; free = subst (IsFree c) same.0 tt }
 
 cut_later : (c b : ℕ) (text word rest front : List ℕ) → eqb b c ≡ false → IsCut c text front rest → word ≡ b ∷ front → IsCut c (b ∷ text) word rest
-cut_later c b text word rest front is before e = record { parts = ap (λ t. b ∷ t) before.parts ∙ ap (λ w. w ++ c ∷ rest) (sym e); free = subst (IsFree c) (sym e) (is, before.free) }
+cut_later c b text word rest front is before e =
+    record { parts = ap (λ t. b ∷ t) before.parts ∙ ap (λ w. w ++ c ∷ rest) (sym e); free = subst (IsFree c) (sym e) (is, before.free) }
 
 pub cut_takes : (c : ℕ) (text word rest : List ℕ) → cut c text ≡ Some (word, rest) → IsCut c text word rest
 unfolding cut
 cut_takes c [] word rest e = absurd cc
-cut_takes c (b ∷ text) word rest e = elim (eqb b c) as (λ t. eqb b c ≡ t → cond t (Some ([], text)) (onto_word b (cut c text)) ≡ Some (word, rest) → IsCut c (b ∷ text) word rest) [
-  | true ↦ λ is e. cut_here c b text word rest is e
-  | false ↦ λ is e. let found = onto_some b (cut c text) word rest e in cut_later c b text word rest found.0 is (cut_takes c text found.0 rest found.1) found.2
-] refl e
+cut_takes c (b ∷ text) word rest e =
+    elim (eqb b c) as (λ t. eqb b c ≡ t → cond t (Some ([], text)) (onto_word b (cut c text)) ≡ Some (word, rest) → IsCut c (b ∷ text) word rest) [
+      | true ↦ λ is e. cut_here c b text word rest is e
+      | false ↦ λ is e.
+          let found = onto_some b (cut c text) word rest e in
+          cut_later c b text word rest found.0 is (cut_takes c text found.0 rest found.1) found.2
+    ] refl e
 
 pub cut_none : (c : ℕ) (text word rest : List ℕ) → cut c text ≡ None → IsFree c word → text ≡ word ++ c ∷ rest → ⊥
 cut_none c text word rest e free is =
@@ -63,25 +70,31 @@ cut_none c text word rest e free is =
     cc
 
 -- the place of the byte, as the code finds it
-pub placed_some : (c : ℕ) (text : List ℕ) (k : ℕ) → position (λ b. eqb b c) text ≡ Some k → (k < length text) × (cut c text ≡ Some (take k text, drop (k + 1) text))
+pub placed_some : (c : ℕ) (text : List ℕ) (k : ℕ) → position (λ b. eqb b c) text ≡ Some k →
+    (k < length text) × (cut c text ≡ Some (take k text, drop (k + 1) text))
 placed_some c text k e =
     let at = position-Some (λ b. eqb b c) text k 0 e in
     let lt : k < length text = at.0 in
     let byte : get_or text k 0 ≡ c = eqb_is (get_or text k 0) c at.1 in
-    let free : IsFree c (take k text) = recursion_from_All (λ b. eqb b c ≡ false) (take k text) (λ j d below. before j d (omega (arith, length-take k text)) at.2) in
-    let parts : text ≡ take k text ++ c ∷ drop (k + 1) text = sym (take-append-drop k text) ∙ ap (λ l. take k text ++ l) (rw (add-one) (drop-cons text k 0 lt) ∙ ap (λ b. b ∷ drop (k + 1) text) byte) in
+    let free : IsFree c (take k text) =
+    recursion_from_All (λ b. eqb b c ≡ false) (take k text) (λ j d below. before j d (omega (arith, length-take k text)) at.2) in
+    let parts : text ≡ take k text ++ c ∷ drop (k + 1) text = sym (take-append-drop k text)
+    ∙ ap (λ l. take k text ++ l) (rw (add-one) (drop-cons text k 0 lt) ∙ ap (λ b. b ∷ drop (k + 1) text) byte) in
     (lt, ap (cut c) parts ∙ cut_again c (take k text) (drop (k + 1) text) free)
   where
     before : (j d : ℕ) → j < k → ((j : ℕ) → j < k → eqb (get_or text j 0) c ≡ false) → eqb (get_or (take k text) j d) c ≡ false
-    before j d lt all = ap (λ b. eqb b c) (get_or-take k text j d lt ∙ get_or_default_zero text j d (omega (arith, position-Some (λ b. eqb b c) text k 0 e))) ∙ all j lt
+    before j d lt all = ap (λ b. eqb b c)
+        (get_or-take k text j d lt ∙ get_or_default_zero text j d (omega (arith, position-Some (λ b. eqb b c) text k 0 e))) ∙ all j lt
 
 no_place : (c : ℕ) (text : List ℕ) → ltb (position_or_len (λ b. eqb b c) text) (length text) ≡ false → cut c text ≡ None
 unfolding cut
 no_place c [] e = refl
-no_place c (b ∷ text) e = elim (eqb b c) as (λ t. eqb b c ≡ t → ltb (cond (not t) (1 + position_or_len (λ b. eqb b c) text) 0) (suc (length text)) ≡ false → cond t (Some ([], text)) (onto_word b (cut c text)) ≡ None) [
-  | true ↦ λ is f. absurd (none_below f)
-  | false ↦ λ is f. ap (onto_word b) (no_place c text (one_less (position_or_len (λ b. eqb b c) text) (length text) f))
-] refl e
+no_place c (b ∷ text) e = elim (eqb b c) as
+    (λ t. eqb b c ≡ t → ltb (cond (not t) (1 + position_or_len (λ b. eqb b c) text) 0) (suc (length text)) ≡ false →
+    cond t (Some ([], text)) (onto_word b (cut c text)) ≡ None) [
+      | true ↦ λ is f. absurd (none_below f)
+      | false ↦ λ is f. ap (onto_word b) (no_place c text (one_less (position_or_len (λ b. eqb b c) text) (length text) f))
+    ] refl e
   where
     none_below : ltb 0 (suc (length text)) ≡ false → ⊥
     none_below f = let g = ltb-false 0 (suc (length text)) f in omega arith
@@ -92,7 +105,8 @@ no_place c (b ∷ text) e = elim (eqb b c) as (λ t. eqb b c ≡ t → ltb (cond
 pub placed_none : (c : ℕ) (text : List ℕ) → position (λ b. eqb b c) text ≡ None → cut c text ≡ None
 placed_none c text e = no_place c text (by_test (ltb (position_or_len (λ b. eqb b c) text) (length text)) refl e)
   where
-    by_test : (t : Bool) → ltb (position_or_len (λ b. eqb b c) text) (length text) ≡ t → cond t (Some (position_or_len (λ b. eqb b c) text)) None ≡ None → ltb (position_or_len (λ b. eqb b c) text) (length text) ≡ false
+    by_test : (t : Bool) → ltb (position_or_len (λ b. eqb b c) text) (length text) ≡ t → cond t (Some (position_or_len (λ b. eqb b c) text)) None ≡ None →
+        ltb (position_or_len (λ b. eqb b c) text) (length text) ≡ false
     by_test true is e = absurd cc
     by_test false is e = is
 

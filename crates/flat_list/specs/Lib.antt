@@ -1,4 +1,4 @@
 pub mod Entries
 pub mod Orders
 pub mod Spelling
-pub mod Reading
+pub mod Private

@@ -1,22 +1,42 @@
-//! The log of a walk, brought close to path order before it is sorted.
+//! The logs of a walk, brought close to path order before they are sorted.
 //!
 //! A rank handles its newest string first, so its log has each directory before what is below it, and siblings in falling
 //! order. In such a list the place of an entry in path order follows from where what is below it ends: behind the entries that
-//! stand above it, and behind all that come after that end. So it is reached without comparing paths. Whatever the list is,
-//! entries only change places here; the sort that follows answers for the order, in one pass where the places were right.
+//! stand above it, and behind all that come after that end. So it is reached without comparing paths. Of several ranks each
+//! log is placed by itself; what a rank was given on the way begins anew there, so that ascending runs are left, which are
+//! merged. Whatever the list is, entries only change places here, once; the sort that follows answers for the order, in one
+//! pass where the places were right.
 ghost use Rattle.std.specs.Prelude.{◌<◌, length, IfSome, IsSome};
 ghost use Rattle.std.specs.List.Sorted.{IsPermutation};
 
 use crate::entries::Entry;
+use crate::merging::merged;
 use std::alloc::AllocError;
 
-/// Moves the entries of a log of a walk to their places in path order; any other list is left in some order.
-pub fn arrange(entries: &mut Vec<Entry>) -> Result<(), AllocError>
+/// Moves the entries of some logs of a walk, joined, to their places in path order; any other list is left in some order.
+/// Each log ends where `ends` says.
+pub(crate) fn arrange(entries: &mut Vec<Entry>, ends: &[usize]) -> Result<(), AllocError>
     ensures { IsPermutation entries.old.items entries.new.items }
 {
-    let mut places = places_of(entries)?;
+    let mut places = places_of(entries, ends)?;
+    if ends.len() > 1 {
+        let order = merged(*entries.allocator(), entries, turned(&places)?)?;
+        places = turned(&order)?;
+    }
     settle_all(entries, &mut places);
     Ok(())
+}
+
+// Of places by entry, the entries by place; and the other way round.
+fn turned(places: &Vec<usize>) -> Result<Vec<usize>, AllocError> {
+    let mut turned = Vec::with_capacity(*places.allocator(), places.len())?;
+    turned.resize(places.len(), 0)?;
+    for (at, place) in places.iter().enumerate() {
+        if let Some(slot) = turned.get_mut(*place) {
+            *slot = at;
+        }
+    }
+    Ok(turned)
 }
 
 fn settle_all(entries: &mut [Entry], places: &mut [usize])
@@ -62,14 +82,22 @@ struct Above {
     level: u32,
 }
 
-// Where each entry of a log belongs.
-fn places_of(entries: &Vec<Entry>) -> Result<Vec<usize>, AllocError> {
+// Where each entry belongs, with each log by itself and the last log first.
+fn places_of(entries: &Vec<Entry>, ends: &[usize]) -> Result<Vec<usize>, AllocError> {
     let alloc = *entries.allocator();
     let mut places = Vec::with_capacity(alloc, entries.len())?;
     let mut above = Vec::new(alloc);
+    let mut ends = ends;
     for (at, entry) in entries.iter().enumerate() {
+        let to_come = entries.len() - at;
+        if let [end, later @ ..] = ends
+            && *end <= at
+        {
+            close(&mut places, &mut above, 0, to_come);
+            ends = later;
+        }
         let level = entry.path.level();
-        close(&mut places, &mut above, level, entries.len() - at);
+        close(&mut places, &mut above, level, to_come);
         places.push(at)?;
         above.push(Above { at, level })?;
     }

@@ -3,12 +3,12 @@ ghost use Rattle.std.specs.Prelude.{◌≡◌, ◌≢◌, ◌+◌, ◌<◌, ◌�
 ghost use Rattle.std.specs.List.Sorted.{IsStrictlySortedBy};
 ghost use Rattle.path_text.specs.Order.{path_cmp};
 ghost use Rattle.flat_list.specs.Spelling.{header_text, end_text, line, lines_of, paths, Spells, max_entries, IsCause, IsRefused};
-ghost use Rattle.flat_list.specs.Reading.{cut, entry_at, end_at, Adds, NoneFollows};
+ghost use Rattle.flat_list.specs.Private.Reading.{cut, entry_at, end_at, Adds, NoneFollows};
 
 use crate::errors::CacheError;
 use crate::lists::FlatList;
 use crate::reading::{cut, end_at, entry_at};
-use path_text::OutOfMemory;
+use path_text::{OutOfMemory, reading_undoes_writing};
 use std::alloc::Global;
 
 const MAX_ENTRIES: usize = 4_194_304;
@@ -19,6 +19,8 @@ pub(crate) fn decode(alloc: Global, bytes: &[u8]) -> Result<FlatList, CacheError
     ensures few { IfOk result (λ list. length list ≤ max_entries) }
     ensures refused { IfErr result (IsCause bytes.now) }
 {
+    // That no other text tells the same entry rests on this law.
+    reading_undoes_writing();
     let Some(rest) = behind_header(bytes) else {
         return Err(CacheError::Damaged(1));
     };

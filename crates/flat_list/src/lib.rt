@@ -34,9 +34,10 @@
 //! ([`spelling_is_unique`]), and of two answers about a text one alone is true ([`refusals_are_exact`]).
 //!
 //! Definitions stand in `specs/`: `Entries` (the shape of an entry, its notes, the summary), `Orders` (fields, places, levels,
-//! pieces), `Spelling` (list files), `Reading` (how the words of a line are read). Limits: a list file of more than 4,194,304
+//! pieces), `Spelling` (list files); `Private` has what only private clauses cite. The argument on the lines of a text stands
+//! in `proofs/WholeLines` for items of any kind, each with one line or more. Limits: a list file of more than 4,194,304
 //! entries is refused; `place_of` looks at the entries one by one. That want of memory comes only where it was refused is
-//! not claimed.
+//! not claimed, nor is how soon a list stands in order.
 #![tactic(auto)]
 
 mod arranging;
@@ -47,6 +48,7 @@ mod entries;
 mod errors;
 mod laws;
 mod lists;
+mod merging;
 mod ordering;
 mod reading;
 mod summaries;
@@ -57,6 +59,3 @@ pub use laws::{refusals_are_exact, spelling_is_unique};
 pub use lists::{Cursor, FlatList};
 pub use ordering::Field;
 pub use summaries::Summary;
-
-#[cfg(test)]
-mod tests;

@@ -89,13 +89,15 @@ impl FlatList {
         }
     }
 
-    /// All entries of the logs, in path order. They are moved, and memory is taken for them once.
+    /// All entries of the logs, in path order. They are moved, and memory for them is taken once. Logs that ranks of a walk
+    /// made are soonest in order; to merge several takes room for three numbers an entry.
     pub fn from_jobs(alloc: Global, logs: Vec<Vec<Entry>>) -> Result<FlatList, OutOfMemory>
         ensures all { IfOk result (λ list. IsPermutation (flat_map (λ log. log.items) logs.items) list) }
         ensures sorted { IfOk result (λ list. IsSortedByKey (λ e. e.path) path_cmp list) }
     {
+        let ends = ends_of(alloc, &logs)?;
         let mut entries = joined(alloc, logs)?;
-        arrange(&mut entries)?;
+        arrange(&mut entries, &ends)?;
         let mut list = FlatList { entries };
         list.sort_path()?;
         Ok(list)
@@ -207,6 +209,19 @@ fn joined(alloc: Global, logs: Vec<Vec<Entry>>) -> Result<Vec<Entry>, OutOfMemor
         all.append(&mut log)?;
     }
     Ok(all)
+}
+
+// Where each log that has entries ends when they are joined.
+fn ends_of(alloc: Global, logs: &[Vec<Entry>]) -> Result<Vec<usize>, OutOfMemory> {
+    let mut ends = Vec::with_capacity(alloc, logs.len())?;
+    let mut end = 0usize;
+    for log in logs {
+        if !log.is_empty() {
+            end = end.saturating_add(log.len());
+            ends.push(end)?;
+        }
+    }
+    Ok(ends)
 }
 
 // How many entries the logs have.

@@ -5,7 +5,7 @@ ghost use Rattle.std.specs.List.{position};
 ghost use Rattle.std.specs.Option.{option_map};
 ghost use Rattle.std.specs.Str.{IsUtf8};
 ghost use Rattle.flat_list.specs.Entries.{is_sized, is_kind, is_of, shape_by};
-ghost use Rattle.flat_list.specs.Reading.{cut, number_of, LeadsNumber, ok_of, time_from, kind_from, mark_from, word_at, stat_from, is_told, told_at, path_from, entry_at, end_at};
+ghost use Rattle.flat_list.specs.Private.Reading.{cut, number_of, LeadsNumber, ok_of, time_from, kind_from, mark_from, word_at, stat_from, is_told, told_at, path_from, entry_at, end_at};
 
 use crate::entries::{Entry, Mark};
 use outside::{Kind, Stat};
@@ -81,7 +81,7 @@ fn parsed(text: &str) -> Option<u64>
     text.parse::<u64>().ok()
 }
 
-#[tactic(auto, unfolding(crate::specs::Reading::time_from))]
+#[tactic(auto, unfolding(crate::specs::Private::Reading::time_from))]
 fn time_from(word: &[u8]) -> Option<Option<u64>>
     ensures { result ≡ time_from word.now }
 {
@@ -91,7 +91,7 @@ fn time_from(word: &[u8]) -> Option<Option<u64>>
     Some(Some(number_of(word)?))
 }
 
-#[tactic(auto, unfolding(crate::specs::Reading::kind_from))]
+#[tactic(auto, unfolding(crate::specs::Private::Reading::kind_from))]
 fn kind_from(word: &[u8]) -> Option<Option<Kind>>
     ensures { result ≡ kind_from word.now }
 {
@@ -110,7 +110,7 @@ fn kind_from(word: &[u8]) -> Option<Option<Kind>>
     }
 }
 
-#[tactic(auto, unfolding(crate::specs::Reading::mark_from))]
+#[tactic(auto, unfolding(crate::specs::Private::Reading::mark_from))]
 fn mark_from(word: &[u8]) -> Option<Mark>
     ensures { result ≡ mark_from word.now }
 {
@@ -130,7 +130,7 @@ fn mark_from(word: &[u8]) -> Option<Mark>
 }
 
 // The number before a space, and what is behind it.
-#[tactic(auto, unfolding(crate::specs::Reading::word_at))]
+#[tactic(auto, unfolding(crate::specs::Private::Reading::word_at))]
 fn number_at(text: &[u8]) -> Option<(u64, &[u8])>
     ensures { option_map (λ found. (found.0, found.1.now)) result ≡ word_at number_of text.now }
 {
@@ -138,7 +138,7 @@ fn number_at(text: &[u8]) -> Option<(u64, &[u8])>
     Some((number_of(word)?, rest))
 }
 
-#[tactic(auto, unfolding(crate::specs::Reading::word_at))]
+#[tactic(auto, unfolding(crate::specs::Private::Reading::word_at))]
 fn time_at(text: &[u8]) -> Option<(Option<u64>, &[u8])>
     ensures { option_map (λ found. (found.0, found.1.now)) result ≡ word_at time_from text.now }
 {
@@ -146,7 +146,7 @@ fn time_at(text: &[u8]) -> Option<(Option<u64>, &[u8])>
     Some((time_from(word)?, rest))
 }
 
-#[tactic(auto, unfolding(crate::specs::Reading::word_at))]
+#[tactic(auto, unfolding(crate::specs::Private::Reading::word_at))]
 fn kind_at(text: &[u8]) -> Option<(Option<Kind>, &[u8])>
     ensures { option_map (λ found. (found.0, found.1.now)) result ≡ word_at kind_from text.now }
 {
@@ -154,7 +154,7 @@ fn kind_at(text: &[u8]) -> Option<(Option<Kind>, &[u8])>
     Some((kind_from(word)?, rest))
 }
 
-#[tactic(auto, unfolding(crate::specs::Reading::word_at))]
+#[tactic(auto, unfolding(crate::specs::Private::Reading::word_at))]
 fn mark_at(text: &[u8]) -> Option<(Mark, &[u8])>
     ensures { option_map (λ found. (found.0, found.1.now)) result ≡ word_at mark_from text.now }
 {
@@ -162,7 +162,7 @@ fn mark_at(text: &[u8]) -> Option<(Mark, &[u8])>
     Some((mark_from(word)?, rest))
 }
 
-#[tactic(auto, unfolding(crate::specs::Reading::stat_from))]
+#[tactic(auto, unfolding(crate::specs::Private::Reading::stat_from))]
 fn stat_from(kind: Option<Kind>, size: u64, mtime: Option<u64>) -> Option<Option<Stat>>
     ensures { result ≡ stat_from kind size mtime }
 {
@@ -218,7 +218,7 @@ fn has_shape(mark: Mark, stat: Option<Stat>, none: bool) -> bool
 }
 
 // All that a line tells beside the path, and the word of the path.
-#[tactic(auto, unfolding(crate::specs::Reading::told_at))]
+#[tactic(auto, unfolding(crate::specs::Private::Reading::told_at))]
 fn told_at(text: &[u8]) -> Option<(Told, &[u8])>
     ensures { option_map (λ found. (found.0, found.1.now)) result ≡ told_at text.now }
 {
@@ -269,7 +269,7 @@ fn path_of(alloc: Global, text: &str) -> Result<Option<Path>, OutOfMemory>
 }
 
 /// The entry whose text this is, if there is one.
-#[tactic(auto, unfolding(crate::specs::Reading::entry_at))]
+#[tactic(auto, unfolding(crate::specs::Private::Reading::entry_at))]
 pub(crate) fn entry_at(alloc: Global, text: &[u8]) -> Result<Option<Entry>, OutOfMemory>
     ensures read { IfOk result (λ found. found ≡ entry_at text.now) }
     ensures utf8 { IfOk result (λ found. IfSome found (λ entry. IsUtf8 entry.path)) }
@@ -290,7 +290,7 @@ pub(crate) fn entry_at(alloc: Global, text: &[u8]) -> Result<Option<Entry>, OutO
 }
 
 /// The count that an end line tells, if this is its text.
-#[tactic(auto, unfolding(crate::specs::Reading::end_at))]
+#[tactic(auto, unfolding(crate::specs::Private::Reading::end_at))]
 pub(crate) fn end_at(text: &[u8]) -> Option<u64>
     ensures { result ≡ end_at text.now }
 {

@@ -6,3 +6,6 @@
 
 #[cfg(test)]
 mod of_tool_words;
+mod of_find_tests;
+#[cfg(test)]
+mod of_flat_list;

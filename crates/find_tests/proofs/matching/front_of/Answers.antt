@@ -18,19 +18,22 @@ returns-in_default-piece c =
 
 pub returns-in_default-pass_one : goal.returns-in_default-pass_one
 returns-in_default-pass_one c =
-    let left : c.loop-piece.left.now ≡ OneOf c.in-OneOf.class ∷ c.in-Some.behind.now = c.in-Some.ensures.cases.0 ∙ ap (λ p. p ∷ c.in-Some.behind.now) c.in-OneOf.is in
+    let left : c.loop-piece.left.now ≡ OneOf c.in-OneOf.class ∷ c.in-Some.behind.now = c.in-Some.ensures.cases.0
+    ∙ ap (λ p. p ∷ c.in-Some.behind.now) c.in-OneOf.is in
     let f : Follows c.args.pieces.now (OneOf c.in-OneOf.class ∷ c.in-Some.behind.now) (chars c.args.text.now) (chars c.loop-piece.rest.now) =
     subst (λ xs. Follows c.args.pieces.now xs (chars c.args.text.now) (chars c.loop-piece.rest.now)) left c.loop-piece.invariant.follows in
     fails_at _ _ _ _ _ f c.in_default-pass_one.ensures
 
 pub loop-piece-preserved : goal.loop-piece-preserved
 loop-piece-preserved c =
-    let left : c.loop-piece.left.now ≡ OneOf c.in-OneOf.class ∷ c.in-Some.behind.now = c.in-Some.ensures.cases.0 ∙ ap (λ p. p ∷ c.in-Some.behind.now) c.in-OneOf.is in
+    let left : c.loop-piece.left.now ≡ OneOf c.in-OneOf.class ∷ c.in-Some.behind.now = c.in-Some.ensures.cases.0
+    ∙ ap (λ p. p ∷ c.in-Some.behind.now) c.in-OneOf.is in
     let f : Follows c.args.pieces.now (OneOf c.in-OneOf.class ∷ c.in-Some.behind.now) (chars c.args.text.now) (chars c.loop-piece.rest.now) =
     subst (λ xs. Follows c.args.pieces.now xs (chars c.args.text.now) (chars c.loop-piece.rest.now)) left c.loop-piece.invariant.follows in
     record {
       text = search rules;
-      follows = subst (λ t. Follows c.args.pieces.now c.in-Some.behind.now (chars c.args.text.now) t) (sym c.in-Some-pass_one.ensures.1) (follows_one _ _ _ _ _ f c.in-Some-pass_one.ensures.0);
+      follows = subst (λ t. Follows c.args.pieces.now c.in-Some.behind.now (chars c.args.text.now) t) (sym c.in-Some-pass_one.ensures.1)
+          (follows_one _ _ _ _ _ f c.in-Some-pass_one.ensures.0);
       fewer = omega (arith, ap length left, c.loop-piece.invariant.fewer);
       shorter = omega (arith, c.in-Some-pass_one.ensures.2, c.loop-piece.invariant.shorter);
     }

@@ -16,7 +16,8 @@ returns-clause-text c =
     (c.in_ok-put_number-2.ensures.text ∙ ap (word (decimal e.far))
     (c.in_ok-put_number.ensures.text ∙ ap (word (decimal e.unnamed))
     (c.in_ok-put_word.ensures ∙ ap (λ w. word w c.put_stat.new.text.items) c.mark_word.ensures ∙ ap (word (mark_word e.mark)) c.in_ok-put_stat.ensures.text))))
-    ∙ words_joined (kind_word (kind_by e.stat)) (decimal (size_by e.stat)) (time_word (time_of e.stat)) (mark_word e.mark) (decimal e.unnamed) (decimal e.far) (escape e.path) c.args.text.now.items
+    ∙ words_joined (kind_word (kind_by e.stat)) (decimal (size_by e.stat)) (time_word (time_of e.stat)) (mark_word e.mark) (decimal e.unnamed)
+    (decimal e.far) (escape e.path) c.args.text.now.items
 
 pub returns-clause-entry : goal.returns-clause-entry
 returns-clause-entry c =

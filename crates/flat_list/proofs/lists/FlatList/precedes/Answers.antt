@@ -12,9 +12,11 @@ returns-in-None-clause-yes c is =
 pub returns-in-Some-clause-yes : goal.returns-in-Some-clause-yes
 returns-in-Some-clause-yes c is =
     let same : c.deref.result.now ≡ c.args.self.now = c.deref.ensures.value ∙ c.self.view_is in
-    precedes_yes c.args.self.now c.in-Some.last.now c.args.path.now (subst (λ (l : List Entry). slice_get l (length l - 1) ≡ Some c.in-Some.last.now) same (sym c.in-Some.ensures.value)) c.requires (cc)
+    precedes_yes c.args.self.now c.in-Some.last.now c.args.path.now
+    (subst (λ (l : List Entry). slice_get l (length l - 1) ≡ Some c.in-Some.last.now) same (sym c.in-Some.ensures.value)) c.requires (cc)
 
 pub returns-in-Some-clause-no : goal.returns-in-Some-clause-no
 returns-in-Some-clause-no c is =
     let same : c.deref.result.now ≡ c.args.self.now = c.deref.ensures.value ∙ c.self.view_is in
-    precedes_no c.args.self.now c.in-Some.last.now c.args.path.now (subst (λ (l : List Entry). slice_get l (length l - 1) ≡ Some c.in-Some.last.now) same (sym c.in-Some.ensures.value)) (cc)
+    precedes_no c.args.self.now c.in-Some.last.now c.args.path.now
+    (subst (λ (l : List Entry). slice_get l (length l - 1) ≡ Some c.in-Some.last.now) same (sym c.in-Some.ensures.value)) (cc)

@@ -8,7 +8,10 @@ use Rattle.flat_list.proofs.Ordered.{sort_order_total}
 use Rattle.flat_list.proofs.lists.FlatList.sort_by.Goals as goal
 
 pub returns-clause-sorted : goal.returns-clause-sorted
-returns-clause-sorted c = c.in_ok-sort_by.ensures.sorted (λ (x y : Entry). is_lt (sort_order c.args.field c.args.down x y)) (ranks_by (sort_order_total c.args.field c.args.down) (λ (e : Entry). e)) (always_returns_same _ _ _ (λ a r q k. search rules))
+returns-clause-sorted c = c.in_ok-sort_by.ensures.sorted (λ (x y : Entry). is_lt (sort_order c.args.field c.args.down x y))
+    (ranks_by (sort_order_total c.args.field c.args.down) (λ (e : Entry). e)) (always_returns_same _ _ _ (λ a r q k. search rules))
 
 pub returns-clause-stable : goal.returns-clause-stable
-returns-clause-stable c = rw (← c.self.view_is) (c.sort_by.ensures.stable (λ (x y : Entry). is_lt (sort_order c.args.field c.args.down x y)) (ranks_by (sort_order_total c.args.field c.args.down) (λ (e : Entry). e)) (always_returns_same _ _ _ (λ a r q k. search rules)))
+returns-clause-stable c = rw (← c.self.view_is)
+    (c.sort_by.ensures.stable (λ (x y : Entry). is_lt (sort_order c.args.field c.args.down x y))
+    (ranks_by (sort_order_total c.args.field c.args.down) (λ (e : Entry). e)) (always_returns_same _ _ _ (λ a r q k. search rules)))

@@ -1,5 +1,5 @@
 //! Lists with what is known of them.
-use crate::{CacheError, Entry, Field, FlatList, Mark, Summary};
+use flat_list::{CacheError, Entry, Field, FlatList, Mark, Summary};
 use outside::{Kind, Stat};
 use path_text::Path;
 use std::alloc::Global;
@@ -163,6 +163,34 @@ fn joins_what_two_ranks_found(rt: HostRuntime) -> Result<(), Fail> {
     assert_eq!(rt; first.path.text(), "/a");
     assert!(rt; first.stat == fine(alloc, "/a", Kind::File, 7)?.stat);
     assert!(rt; FlatList::from_jobs(alloc, Vec::new(alloc))?.is_empty());
+    Ok(())
+}
+
+#[test]
+fn merges_what_ranks_found_in_turn(rt: HostRuntime) -> Result<(), Fail> {
+    let alloc = rt.alloc();
+    let mut logs = Vec::new(alloc);
+    for paths in [
+        ["/t", "/t/e", "/t/e/b", "/t/e/a", "/t/a", "/t/a/x"].as_slice(),
+        [].as_slice(),
+        ["/t/d", "/t/d/z", "/t/b", "/t/b/c", "/t/b-x"].as_slice(),
+        ["/t/c", "/t/c/b", "/t/c/a", "/t/a/w"].as_slice(),
+    ] {
+        let mut log = Vec::new(alloc);
+        for path in paths {
+            log.push(fine(alloc, path, Kind::Dir, 0)?)?;
+        }
+        logs.push(log)?;
+    }
+    let list = FlatList::from_jobs(alloc, logs)?;
+    has_paths(
+        &rt,
+        &list,
+        &[
+            "/t", "/t/a", "/t/a/w", "/t/a/x", "/t/b", "/t/b/c", "/t/b-x", "/t/c", "/t/c/a",
+            "/t/c/b", "/t/d", "/t/d/z", "/t/e", "/t/e/a", "/t/e/b",
+        ],
+    );
     Ok(())
 }
 

@@ -1,5 +1,5 @@
 //! Globs, values of tests and selections that are known.
-use crate::{Bound, Test, TestError, TestName, glob_match, parse_test, select};
+use find_tests::{Bound, Test, TestError, TestName, glob_match, parse_test, select};
 use flat_list::{Entry, FlatList, Mark};
 use outside::{Kind, Stat};
 use path_text::Path;
@@ -8,7 +8,7 @@ use std::process::Abort;
 use std::test::Fail;
 
 // Patterns, texts, and whether they match, each worked out by the rule that it stands under.
-static MATCHES: [(&str, &str, bool); 135] = [
+static MATCHES: [(&str, &str, bool); 140] = [
     // The empty pattern.
     ("", "", true),
     ("", "a", false),
@@ -156,6 +156,12 @@ static MATCHES: [(&str, &str, bool); 135] = [
     ("[a\\]", "a", false),
     ("[*", "[abc", true),
     ("[a?", "[ab", true),
+    // Brackets behind one that is not closed, and closed ones before it.
+    ("[[[", "[[[", true),
+    ("[!][", "[!][", true),
+    ("[a][b[c", "a[b[c", true),
+    ("[a][b[c]", "ab", true),
+    ("[a][b[c]", "ab]", false),
 ];
 
 #[test]

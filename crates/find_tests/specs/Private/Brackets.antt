@@ -1,16 +1,21 @@
 -- What the code that reads brackets answers. Our own.
-use Rattle.std.specs.Prelude.{◌≡◌, Bool, true, false, ◌&&◌, not, List, [], ◌∷◌, Option, Some, None}
+use Rattle.std.specs.Prelude.{◌≡◌, ℕ, Bool, true, false, ◌&&◌, not, List, [], ◌∷◌, drop, Option, Some, None}
 use Rattle.find_tests.specs.declared.pieces.Class.{Class}
 use Rattle.find_tests.specs.declared.pieces.Range.{Range}
 use Rattle.find_tests.specs.declared.signs.Sign.{Sign}
 use Rattle.find_tests.specs.declared.signs.Sign.TheVariants.{Plain}
 use Rattle.find_tests.specs.Signs.{is_sign}
-use Rattle.find_tests.specs.Glob.{ranges_of, members, behind_members, is_closed, bracket, behind_negation}
+use Rattle.find_tests.specs.Glob.{has_close, ranges_of, members, behind_members, is_closed, bracket, behind_negation}
 
 -- the class of a closed bracket, whose signs are passed, or nothing of one that is not closed
 abbrev pub IsBracket : List Sign → List Sign → Option Class → Type 0
 IsBracket old new None = (is_closed (behind_negation old) ≡ false) × (new ≡ old)
 IsBracket old new (Some class) = (is_closed (behind_negation old) ≡ true) × (class ≡ bracket old) × (new ≡ behind_members (behind_negation old))
+
+-- where it was told that none closes, no bracket that begins behind so many signs does: no `]` stands there
+abbrev pub NoneCloses : Bool → ℕ → List Sign → Type 0
+NoneCloses true passed signs = Unit {0}
+NoneCloses false passed signs = has_close (drop passed signs) ≡ false
 
 -- the same of its members, but that signs are passed where it is not closed
 abbrev pub IsMembers : List Sign → List Sign → Option (List Range) → Type 0

@@ -1,5 +1,6 @@
 -- How the text of a line of a list file is read, word by word. That this undoes the writing of `Spelling`, and reads no other text, is proved.
-use Rattle.std.specs.Prelude.{◌≡◌, ◌≢◌, ◌<◌, length, slice_index, ℕ, ◌^◌, Bool, ◌&&◌, ◌==◌, nat_lt, List, [], ◌∷◌, ◌++◌, if◌then◌else◌, Option, Some, None, is_none, Result, Ok, Err, codes}
+use Rattle.std.specs.Prelude.{◌≡◌, ◌≢◌, ◌<◌, length, slice_index, ℕ, ◌^◌, Bool, ◌&&◌, ◌==◌, nat_lt, List, [], ◌∷◌, ◌++◌, if◌then◌else◌, Option, Some}
+use Rattle.std.specs.Prelude.{None, is_none, Result, Ok, Err, codes}
 use Rattle.std.specs.Str.{IsUtf8, is_utf8, bytes_eq}
 use Rattle.std.specs.Str.Parse.{digits_value}
 use Rattle.std.specs.Fmt.{decimal}
