@@ -30,8 +30,8 @@
 //! That a walk ends is not proved: the runtime that works it off may wait.
 //!
 //! The recursive walk has laws of its own, each the contract of a function that does nothing: [`walk_is_recursive`],
-//! [`walk_ascends`], [`walk_has_each_path_once`], [`walk_finds_all`], [`walk_without_faults_is_fine`]. So have the roots:
-//! [`roots_are_unique`].
+//! [`walk_ascends`], [`walk_has_each_path_once`], [`walk_finds_all`], [`walk_without_faults_is_fine`],
+//! [`entries_are_told`], [`parents_are_listed`]. So have the roots: [`roots_are_unique`].
 //!
 //! Definitions stand in `specs/`: `Walk` (the recursive walk and failed answers), `Roots`, `Found` (what a walk gives), `Traced`
 //! (what events and progress tell), `Held` (what a job keeps).
@@ -49,8 +49,8 @@ mod walking;
 pub use errors::WalkError;
 pub use jobs::WalkJob;
 pub use laws::{
-    roots_are_unique, walk_ascends, walk_finds_all, walk_has_each_path_once, walk_is_recursive,
-    walk_without_faults_is_fine,
+    entries_are_told, parents_are_listed, roots_are_unique, walk_ascends, walk_finds_all,
+    walk_has_each_path_once, walk_is_recursive, walk_without_faults_is_fine,
 };
 pub use reports::{WalkReport, Walked};
 pub use rooting::roots_of;
