@@ -26,7 +26,7 @@ use Rattle.circle_run.specs.Fair.{PlaysTurns, moves_of_turns, RoundsAreFair, IsF
 use Rattle.circle_run.specs.Books.{counted}
 use Rattle.circle_run.specs.Progress.{Rises, Thousands, newest, KeptOf, KeptAll}
 use Rattle.circle_run.specs.Hosts.{events_by, NoneWrote, AreAll, Same, AllEnded, rank_of, stage_of, Ran, KeptInOrder}
-use Rattle.circle_run.specs.Traced.{IsTraced, share_in, IsProgress}
+use Rattle.circle_run.specs.Traced.{IsTraced, WasRun, share_in, IsProgress}
 use Rattle.circle_run.specs.Outcomes.{AreNew, ArePartsOf, IsOutcome}
 use Rattle.circle_run.specs.declared.outcomes.Share.{Share}
 use Rattle.circle_run.specs.declared.outcomes.Finished.{Finished}
@@ -197,6 +197,23 @@ module _ {J S T P Q D : Type 0} (log : J → Log) (plain : J → D) (shows : S �
               answers = subst (AnswersFirst (started o.ranks (length starts))) (sym are) (moves_answer_first o starts moves last e.plays);
               fair = subst (IsFair (started o.ranks (length starts))) (sym are) e.fair;
             });
+        ran = record {
+          events = events_of_all moves;
+          traced = record {
+            moves = moves;
+            last = last;
+            plays = e.plays;
+            are = refl;
+            legal = moves_are_legal_run o starts moves last e.plays;
+            over = e.over;
+            ended = e.ended;
+            logs_are = logs;
+            answers = moves_answer_first o starts moves last e.plays;
+            fair = e.fair;
+          };
+          counts = shares' ∙ map_is share (share_in (events_of_all moves)) ranks o.ranks all.count s.told;
+          kept = ran.kept;
+        };
         untraced = λ off. kept false off;
         counts = λ on. shares' ∙ map_is share (share_in f.events.items) ranks o.ranks all.count
             (λ k d h. s.told k d h ∙ ap (λ (es : List Event). share_in es k) (sym (kept true on)));

@@ -6,6 +6,8 @@ pub mod Requests
 pub mod Answering
 pub mod Services
 pub mod Numbers
+pub mod Maps
+pub mod Adding
 pub mod Tallied
 pub mod Sums
 pub mod Begun
@@ -31,6 +33,5 @@ pub mod Playing
 pub mod Dealt
 pub mod Counting
 pub mod Sounding
-pub mod Maps
 pub mod Beginning
 pub mod Finishing

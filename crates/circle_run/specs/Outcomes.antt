@@ -5,7 +5,7 @@ use Rattle.post_board.specs.Shown.{Strings}
 use Rattle.circle_run.specs.Balance.{Log, Balanced}
 use Rattle.circle_run.specs.Left.{all_left}
 use Rattle.circle_run.specs.Ready.{IsNew}
-use Rattle.circle_run.specs.Traced.{IsTraced, share_in, IsProgress}
+use Rattle.circle_run.specs.Traced.{IsTraced, WasRun, share_in, IsProgress}
 use Rattle.circle_run.specs.declared.settings.Options.{Options}
 use Rattle.circle_run.specs.declared.outcomes.Finished.{Finished}
 use Rattle.circle_run.specs.declared.parts.Parts.{Parts}
@@ -43,4 +43,5 @@ module _ {J D : Type 0} (log : J → Log) (plain : J → D) where
     pub traced : o.trace ≡ true → IsTraced o starts (map log f.jobs.items) f.events.items
     pub untraced : o.trace ≡ false → f.events.items ≡ []
     pub counts : o.trace ≡ true → f.shares.items ≡ map (share_in f.events.items) (range_with_len 0 o.ranks)
+    pub ran : WasRun o starts (map log f.jobs.items) f.shares.items f.events.items
     pub progress : IsProgress (map (λ job. length (log job)) f.jobs.items) f.sums.items

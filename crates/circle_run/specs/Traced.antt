@@ -1,6 +1,7 @@
 -- A traced run, and what the numbers of progress of a run may be.
 -- A trace is a run of ring_core's world, whose token is EWD840's; who takes which strings and in which order the ranks act are our own, after libcircle (LaFon et al., SC 2012).
 use Rattle.std.specs.Prelude.{◌≡◌, ℕ, ◌+◌, ◌-◌, ◌^◌, ◌<◌, ◌≤◌, ◌==◌, if◌then◌else◌, min, sum, All, true, List, length, [], ◌∷◌, ◌++◌, map, count_by, sum_by}
+use Rattle.std.specs.List.{range_with_len}
 use Rattle.ring_core.specs.declared.states.Token.TheVariants.{Over}
 use Rattle.ring_core.specs.declared.events.Event.{Event}
 use Rattle.ring_core.specs.declared.events.Event.TheVariants.{Give, Take}
@@ -60,3 +61,10 @@ pub record IsProgress (handled : List ℕ) (numbers : List ℕ) : Type 0 where
   pub within : newest 0 front ≤ final
   pub total : All (λ k. k < 2 ^ 56) handled → final ≡ sum handled
   pub alone : length handled ≡ 1 → Thousands 0 front × (final < newest 0 front + 1000)
+
+-- a whole run was made, whose counts the shares are, and whose events are kept with a trace
+pub record WasRun (o : Options) (starts : Strings) (logs : List Log) (shares : List Share) (told : List Event) : Type 0 where
+  pub events : List Event
+  pub traced : IsTraced o starts logs events
+  pub counts : shares ≡ map (share_in events) (range_with_len 0 o.ranks)
+  pub kept : told ≡ (if o.trace then events else [])

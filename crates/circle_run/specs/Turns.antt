@@ -5,6 +5,8 @@ use Rattle.post_board.specs.Told.{Told, asked, place}
 use Rattle.post_board.specs.Deeds.{Deed, see_over}
 use Rattle.post_board.specs.declared.answers.Ring.{Ring}
 use Rattle.post_board.specs.declared.answers.Ring.TheVariants.{Over}
+use Rattle.sum_tree.specs.Shown.{SumShown}
+use Rattle.sum_tree.specs.Told.{SumTold, words_below}
 use Rattle.circle_run.specs.Moves.{Move, handled, served, did}
 use Rattle.circle_run.specs.declared.steps.Did.{Did}
 use Rattle.circle_run.specs.declared.steps.Did.TheVariants.{Handled, Acted, Waited}
@@ -30,6 +32,10 @@ Served some moves = (answers : List (ℕ × Strings)) × (moves ≡ served answe
 abbrev pub Waits : ℕ → Option Told → Type 0
 Waits me None = Unit {0}
 Waits me (Some t) = (victim : ℕ) × ((place t me).mail ≡ asked victim)
+
+-- a word adds up: it is the rank's own count and what the words of the ranks below it hold, as told
+abbrev pub AddsUp : SumShown → SumTold → Type 0
+AddsUp s t = s.word ≡ s.count + words_below t s.number
 
 -- what a rank did in all, where some asked it or none
 abbrev pub with_service : Bool → Did → Did

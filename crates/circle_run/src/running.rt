@@ -5,7 +5,7 @@ ghost use Rattle.post_board.specs.Fresh.{fresh_told, AllFresh};
 ghost use Rattle.sum_tree.specs.Plain.{fresh};
 ghost use Rattle.circle_run.specs.Balance.{Balanced};
 ghost use Rattle.circle_run.specs.Left.{all_left};
-ghost use Rattle.circle_run.specs.Traced.{IsTraced, share_in, IsProgress};
+ghost use Rattle.circle_run.specs.Traced.{IsTraced, WasRun, share_in, IsProgress};
 ghost use Rattle.circle_run.specs.Outcomes.{IsOutcome};
 
 use crate::errors::CircleError;
@@ -56,6 +56,7 @@ pub fn begin<R: Threads + Wait + Sync, J: Job + Send + Drop>(
     ensures traced { IfOk result (λ f. options.now.trace ≡ true → IsTraced options.now starts.items (map J.log f.jobs.items) f.events.items) }
     ensures untraced { IfOk result (λ f. options.now.trace ≡ false → f.events.items ≡ []) }
     ensures counts { IfOk result (λ f. options.now.trace ≡ true → f.shares.items ≡ map (share_in f.events.items) (range_with_len 0 options.now.ranks)) }
+    ensures ran { IfOk result (λ f. WasRun options.now starts.items (map J.log f.jobs.items) f.shares.items f.events.items) }
     ensures progress { IfOk result (λ f. IsProgress (map (λ job. length (J.log job)) f.jobs.items) f.sums.items) }
 {
     let (mut post, seats) = PlainBoard::make(alloc, options.ranks)?;

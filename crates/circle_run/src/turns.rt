@@ -1,9 +1,10 @@
 //! A rank's turns.
-ghost use Rattle.std.specs.Prelude.{◌≡◌, ◌≢◌, ℕ, ◌+◌, ◌++◌, ◌∷◌, ◌<◌, ◌≤◌, [], length, true, false, Some, None};
+ghost use Rattle.std.specs.Prelude.{◌≡◌, ◌≢◌, ℕ, ◌+◌, ◌++◌, ◌∷◌, ◌<◌, ◌≤◌, [], length, true, false, Some, None, IfSome};
 ghost use Rattle.sum_tree.specs.Shown.{IsLeaf, refreshed};
+ghost use Rattle.sum_tree.specs.Told.{Finishes};
 ghost use Rattle.circle_run.specs.Progress.{newest};
 ghost use Rattle.circle_run.specs.Ranks.{Knows, ServesNone, Came};
-ghost use Rattle.circle_run.specs.Turns.{Worked, Waits, with_service, turn_of, tallied};
+ghost use Rattle.circle_run.specs.Turns.{Worked, Waits, AddsUp, with_service, turn_of, tallied};
 ghost use Rattle.circle_run.specs.Ready.{IsNew, Ready, SumsReady, Turned};
 ghost use Rattle.circle_run.specs.declared.steps.Did.TheVariants.{Handled as DidHandle, Waited as DidWait};
 ghost use Rattle.circle_run.specs.declared.ranks.Turn.TheVariants.{Went as TurnWent, Waited as TurnWaited, Ended as TurnEnded};
@@ -112,6 +113,11 @@ impl<J: Job, S, T> Rank<J, S, T> {
         ensures waits { result ≡ TurnWaited → self.old.ended ≡ false → Waits self.old.me (P.tells post.new) }
         ensures ended { result ≡ TurnEnded → (self.new.ended ≡ true) × ((Q.shows self.new.sums_seat).answer ≢ None) }
         ensures unfinished { result ≢ TurnEnded → (Q.shows self.new.sums_seat).answer ≡ None }
+        ensures late { result ≡ TurnWaited → self.old.ended ≡ true → IfSome (Q.tells sums.old) (Finishes (Q.shows self.old.sums_seat).number None) }
+
+        // Before the end a rank with others below it at the sums shows in each turn what it and they counted, and each rank does
+        // where it handled a string.
+        ensures sums { self.old.ended ≡ false → (IsLeaf (Q.shows self.old.sums_seat) → length (J.log self.old.job) < length (J.log self.new.job)) → IfSome (Q.tells sums.old) (AddsUp (Q.shows self.new.sums_seat)) }
         ensures over { self.old.ended ≡ true → (result ≢ TurnWent) × (self.new.ended ≡ true) × (post.new ≡ post.old) }
     {
         if self.ended {
@@ -130,11 +136,14 @@ impl<J: Job, S, T> Rank<J, S, T> {
         requires unfinished { (Q.shows self.old.sums_seat).answer ≡ None }
         requires few { self.old.me < 64 }
         requires narrow { self.old.options.width ≤ 64 }
+        requires ranks { (Q.shows self.old.sums_seat).n ≡ self.old.options.ranks }
+        requires width { (Q.shows self.old.sums_seat).width ≡ self.old.options.width }
         ensures same { self.new ≡ record self.old { sums_seat = self.new.sums_seat; book = self.new.book } }
         ensures book { self.new.book ≡ record self.old.book { sums = self.new.book.sums; lost = self.new.book.lost } }
         ensures lost { self.old.book.lost ≡ true → self.new.book.lost ≡ true }
         ensures unfinished { (Q.shows self.new.sums_seat).answer ≡ None }
         ensures ready { (strings : ℕ) → SumsReady Q.shows Q.seats strings self.old sums.old → SumsReady Q.shows Q.seats (tallied did strings) self.new sums.new }
+        ensures adds_up { (IsLeaf (Q.shows self.old.sums_seat) → did ≡ DidHandle) → IfSome (Q.tells sums.old) (AddsUp (Q.shows self.new.sums_seat)) }
         ensures others { (other : T) → (Q.shows other).number ≢ self.old.me → Q.seats sums.old other → Q.seats sums.new other }
     {
         match did {
@@ -161,6 +170,7 @@ impl<J: Job, S, T> Rank<J, S, T> {
         ensures others { (other : T) → (Q.shows other).number ≢ (Q.shows self.old.sums_seat).number → Q.seats sums.old other → Q.seats sums.new other }
         ensures shown { Q.shows self.new.sums_seat ≡ refreshed (Q.shows self.new.sums_seat).word (Q.shows self.old.sums_seat) }
         ensures rises { (Q.shows self.old.sums_seat).word ≤ (Q.shows self.new.sums_seat).word }
+        ensures adds_up { IfSome (Q.tells sums.old) (AddsUp (Q.shows self.new.sums_seat)) }
         ensures alone { IsLeaf (Q.shows self.old.sums_seat) → (Q.shows self.new.sums_seat).word ≡ (Q.shows self.old.sums_seat).count }
         ensures more { self.old.me ≡ 0 → self.new.book.lost ≡ false → newest 0 self.old.book.sums.items + 1000 ≤ (Q.shows self.new.sums_seat).word → self.new.book.sums.items ≡ self.old.book.sums.items ++ (Q.shows self.new.sums_seat).word ∷ [] }
         ensures few { self.old.me ≡ 0 → self.new.book.lost ≡ false → (Q.shows self.new.sums_seat).word < newest 0 self.old.book.sums.items + 1000 → self.new.book.sums.items ≡ self.old.book.sums.items }
@@ -185,6 +195,7 @@ impl<J: Job, S, T> Rank<J, S, T> {
         ensures others { (other : T) → (Q.shows other).number ≢ (Q.shows self.old.sums_seat).number → Q.seats sums.old other → Q.seats sums.new other }
         ensures ended { result ≡ TurnEnded → (Q.shows self.new.sums_seat).answer ≢ None }
         ensures unfinished { result ≢ TurnEnded → (Q.shows self.new.sums_seat).answer ≡ None }
+        ensures late { result ≡ TurnWaited → IfSome (Q.tells sums.old) (Finishes (Q.shows self.old.sums_seat).number None) }
         ensures over { result ≢ TurnWent }
     {
         match sums.finish(&mut self.sums_seat) {

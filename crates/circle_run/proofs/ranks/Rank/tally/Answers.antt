@@ -2,6 +2,7 @@ use Rattle.std.proofs.Common.{◌≡◌, ℕ, ◌+◌, ◌-◌, ◌^◌, min, ap
 use Rattle.sum_tree.specs.Shown.{SumShown, IsLeaf}
 use Rattle.circle_run.specs.Turns.{tallied}
 use Rattle.circle_run.specs.declared.steps.Did.{Did}
+use Rattle.circle_run.proofs.Adding.{adds_up_raised}
 use Rattle.circle_run.proofs.Tallied.{tallied_more, none_tallied}
 use Rattle.circle_run.proofs.ranks.Rank.tally.Goals as goal
 
@@ -36,3 +37,9 @@ returns-then-self-clause-ready g c = λ strings old.
     s.rises
     (λ leaf. s.alone leaf ∙ sym (ap (λ (x : SumShown). x.count) s.shown))
     s.more s.few s.rest old
+
+pub returns-in-Handled-clause-adds_up : goal.returns-in-Handled-clause-adds_up
+returns-in-Handled-clause-adds_up g c = λ handled.
+    let was = g.Q.Sums.shows c.args.self.now.sums_seat in
+    adds_up_raised 1 (g.Q.Sums.tells c.args.sums.now) (g.Q.Sums.tells c.raise.new.self) was (g.Q.Sums.shows c.show.new.self.sums_seat)
+    (g.met.Q.Sums.agrees c.args.sums.now c.args.self.now.sums_seat c.requires.seat) c.raise.ensures.told c.show.ensures.adds_up
