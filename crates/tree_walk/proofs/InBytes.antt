@@ -1,5 +1,6 @@
 -- What the code asks of the bytes of two paths.
-use Rattle.std.proofs.Common.{◌≡◌, ℕ, ◌<◌, ◌≤◌, Bool, true, false, ◌&&◌, ◌||◌, List, [], ◌∷◌, ◌++◌, length, refl, ap, ◌∙◌, sym, arith, cond, suc, eqb, length-append, None}
+use Rattle.std.proofs.Common.{◌≡◌, ℕ, ◌<◌, ◌≤◌, Bool, true, false, ◌&&◌, ◌||◌, List, [], ◌∷◌, ◌++◌, length, refl, ap, ◌∙◌, sym, arith, cond, suc, eqb}
+use Rattle.std.proofs.Common.{length-append, None}
 use Rattle.std.specs.Prelude.{◌==◌}
 use Rattle.std.specs.List.{starts_with, slice_index_or}
 use Rattle.std.proofs.lemmas.Bool.Decides.{nat_tests}

@@ -1,5 +1,6 @@
 -- The laws of the recursive walk.
-use Rattle.std.proofs.Common.{◌≡◌, ℕ, ◌+◌, ◌-◌, ◌≤◌, true, false, cond, List, [], ◌∷◌, ◌++◌, map, length, Option, Some, None, refl, ap, ◌∙◌, sym, subst, arith, zero, suc, eqb}
+use Rattle.std.proofs.Common.{◌≡◌, ℕ, ◌+◌, ◌-◌, ◌≤◌, true, false, cond, List, [], ◌∷◌, ◌++◌, map, length, Option, Some, None, refl, ap, ◌∙◌, sym, subst}
+use Rattle.std.proofs.Common.{arith, zero, suc, eqb}
 use Rattle.std.specs.Prelude.{is_some, is_none}
 use Rattle.std.specs.List.{AllByRecursion, flat_map, filter_map, cons_option, count_by, sum_by, Contains}
 use Rattle.std.specs.List.Sorted.{IsStrictlySortedBy}
@@ -21,7 +22,8 @@ use Rattle.outside.specs.Children.{child_is}
 use Rattle.flat_list.specs.declared.entries.Entry.{Entry}
 use Rattle.flat_list.specs.declared.entries.Mark.TheVariants as mark
 use Rattle.tree_walk.proofs.Lined.{Lined}
-use Rattle.tree_walk.specs.Walk.{Answer, told, stat_failed, list_failed, Answers, all_told, entry_of, children_of, walk_down, walk, paths_of, weight, weight_of, answer_in, answers_in, WalkIsRecursive, WalkAscends, WalkHasEachPathOnce, WalkFindsAll, WalkWithoutFaultsIsFine}
+use Rattle.tree_walk.specs.Walk.{Answer, told, stat_failed, list_failed, Answers, all_told, entry_of, children_of, walk_down, walk, paths_of, weight}
+use Rattle.tree_walk.specs.Walk.{weight_of, answer_in, answers_in, WalkIsRecursive, WalkAscends, WalkHasEachPathOnce, WalkFindsAll, WalkWithoutFaultsIsFine}
 use Rattle.tree_walk.proofs.Lists.{all_append, all_map, all_flat, weaker, sorted_append, swapped}
 use Rattle.tree_walk.proofs.Same.{unequal}
 use Rattle.tree_walk.proofs.Recursive.{walk_is, children_are, of_children}

@@ -1,5 +1,5 @@
 -- What the events and the numbers of progress of a run tell of the walk.
-use Rattle.std.proofs.Common.{◌≡◌, ℕ, ◌^◌, ◌<◌, List, [], ◌∷◌, ◌++◌, map, length, refl, ap, ◌∙◌, sym, subst, arith, Option, Some, None, IfSome}
+use Rattle.std.proofs.Common.{◌≡◌, ℕ, true, cond, ◌^◌, ◌<◌, List, [], ◌∷◌, ◌++◌, map, length, refl, ap, ◌∙◌, sym, subst, arith, Option, Some, None, IfSome}
 use Rattle.std.specs.List.{AllByRecursion, All, sum_by, flat_map}
 use Rattle.std.specs.List.Sorted.{IsPermutation}
 use Rattle.std.proofs.lemmas.List.Sorted.{IsPermutation-map}
@@ -11,11 +11,12 @@ use Rattle.outside.specs.Tree.{Files}
 use Rattle.ring_core.specs.declared.events.Event.{Event}
 use Rattle.flat_list.specs.declared.entries.Entry.{Entry}
 use Rattle.circle_run.specs.Balance.{Log}
-use Rattle.circle_run.specs.Traced.{IsTraced, IsProgress}
+use Rattle.circle_run.specs.Traced.{IsTraced, WasRun, IsProgress}
+use Rattle.circle_run.specs.declared.outcomes.Share.{Share}
 use Rattle.circle_run.specs.declared.settings.Options.{Options}
 use Rattle.tree_walk.specs.Walk.{answers_in, answer_in, children_of, paths_of}
 use Rattle.tree_walk.specs.Held.{Held, IsDone, log_of, entries_of}
-use Rattle.tree_walk.specs.Traced.{whole_log, IsTracedWalk, IsProgressTo}
+use Rattle.tree_walk.specs.Traced.{whole_log, IsTracedWalk, WasWalked, IsProgressTo}
 use Rattle.tree_walk.proofs.AnyOrder.{tells_each}
 use Rattle.tree_walk.proofs.Once.{list_rises}
 use Rattle.tree_walk.proofs.Ranks.{IsRun, all_logs, all_done, all_handled}
@@ -54,16 +55,35 @@ pushed_children {R = R} tree count files jobs list starts run =
     let told = tells_each ds list run.gathered.moves (list_rises ds list starts run.gathered) in
     subst (All P) (sym (log_is jobs)) (All-from_recursion P (log_of ds) (pushes files list ds (all_done tree count files jobs list starts run) told))
 
--- where the files tell their tree, a traced run makes the walk
-pub traced : {R : Type 0} (tree : R → Option Files) (count : R → ℕ) (told : Option Files) (jobs : List (R × List Held)) (list : List Entry)
-    (starts : List (List ℕ)) (o : Options) (events : List Event) → IsRun tree count told jobs list starts → IsTraced o starts (logs_of jobs) events →
-    IfSome told (λ files. IsTracedWalk files o starts list events)
-traced tree count None jobs list starts o events run t = tt
-traced tree count (Some files) jobs list starts o events run t = record {
+pushed_where : {R : Type 0} (tree : R → Option Files) (count : R → ℕ) (told : Option Files) (jobs : List (R × List Held)) (list : List Entry)
+    (starts : List (List ℕ)) → IsRun tree count told jobs list starts →
+    IfSome told (λ files. All (λ x. x.1 ≡ children_of (answers_in list x.0) files x.0) (whole_log (logs_of jobs)))
+pushed_where tree count None jobs list starts run = tt
+pushed_where tree count (Some files) jobs list starts run = pushed_children tree count files jobs list starts run
+
+-- the whole run that the ranks made is the walk
+pub was_walked : {R : Type 0} (tree : R → Option Files) (count : R → ℕ) (told : Option Files) (jobs : List (R × List Held)) (list : List Entry)
+    (starts : List (List ℕ)) (o : Options) (shares : List Share) (kept : List Event) → IsRun tree count told jobs list starts →
+    WasRun o starts (logs_of jobs) shares kept → WasWalked told o starts list shares kept
+was_walked tree count told jobs list starts o shares kept run was = record {
+  events = was.events;
   logs = logs_of jobs;
-  traced = t;
+  traced = was.traced;
   handled = handled_paths jobs list run.gathered.moves;
-  pushed = pushed_children tree count files jobs list starts run;
+  pushed = pushed_where tree count told jobs list starts run;
+  counts = was.counts;
+  told = was.kept;
+}
+
+-- and with a trace its events are there
+pub traced : (told : Option Files) (o : Options) (starts : List (List ℕ)) (list : List Entry) (shares : List Share) (kept : List Event) →
+    WasWalked told o starts list shares kept → o.trace ≡ true → IfSome told (λ files. IsTracedWalk files o starts list kept)
+traced None o starts list shares kept was on = tt
+traced (Some files) o starts list shares kept was on = record {
+  logs = was.logs;
+  traced = subst (IsTraced o starts was.logs) (sym (was.told ∙ ap (λ b. cond b was.events []) on)) was.traced;
+  handled = was.handled;
+  pushed = was.pushed;
 }
 
 few_each : {X : Type 0} (f : X → ℕ) (xs : List X) → sum_by f xs < 2 ^ 56 → AllByRecursion (λ k. k < 2 ^ 56) (map f xs)

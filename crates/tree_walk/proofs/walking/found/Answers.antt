@@ -3,7 +3,7 @@ use Rattle.std.specs.List.{flat_map}
 use Rattle.std.specs.List.Sorted.{IsPermutation}
 use Rattle.circle_run.specs.Left.{all_left}
 use Rattle.tree_walk.proofs.Ranks.{IsRun, same_plain, all_pushes, all_balanced, found, shared, share_each}
-use Rattle.tree_walk.proofs.Traced.{traced, progress}
+use Rattle.tree_walk.proofs.Traced.{was_walked, traced, progress}
 use Rattle.tree_walk.proofs.walking.found.Goals as goal
 
 pub returns-clause-found : goal.returns-clause-found
@@ -42,8 +42,8 @@ returns-clause-by_rank g c =
     share_each c.in_ok-finished.finished.jobs.items c.in_ok-finished.finished.shares.items c.args.options.now.ranks
     c.in_ok-finished.ensures.shares (c.in_ok-finished.ensures.jobs ∙ c.in_ok-jobs.ensures.number)
 
-pub returns-clause-traced : goal.returns-clause-traced
-returns-clause-traced g c = λ kept.
+pub returns-clause-ran : goal.returns-clause-ran
+returns-clause-ran g c =
     let ran = c.in_ok-finished.ensures in
     let logs = c.in_ok-logs.ensures in
     let tree = g.G.Reader.Tree.tree in
@@ -64,7 +64,12 @@ returns-clause-traced g c = λ kept.
         sorted = c.in_ok-list.ensures.sorted;
       };
     } in
-    traced tree faults told jobs list starts c.args.options.now c.in_ok-finished.finished.events.items run (ran.traced kept)
+    was_walked tree faults told jobs list starts c.args.options.now c.in_ok-finished.finished.shares.items c.in_ok-finished.finished.events.items run ran.ran
+
+pub returns-clause-traced : goal.returns-clause-traced
+returns-clause-traced g c =
+    traced (g.G.Plot.tree c.args.ground.now) c.args.options.now c.args.starts.items c.in_ok-list.list c.in_ok-finished.finished.shares.items
+    c.in_ok-finished.finished.events.items (returns-clause-ran g c)
 
 pub returns-clause-progress : goal.returns-clause-progress
 returns-clause-progress g c = λ few.
