@@ -1,4 +1,4 @@
-use Rattle.std.proofs.Common.{◌∙◌, ap, subst, sym}
+use Rattle.std.proofs.Common.{subst, sym}
 use Rattle.outside.specs.Count.{RoseBy}
 use Rattle.path_looks.specs.Looks.{IsSeen, faults_in}
 use Rattle.path_looks.proofs.Told.{seen_as_told, counted_as_seen}
