@@ -10,3 +10,6 @@ mod of_files_mem;
 #[cfg(test)]
 mod of_outside;
 mod of_rank_queue;
+mod of_path_looks;
+#[cfg(test)]
+mod of_test_tree;

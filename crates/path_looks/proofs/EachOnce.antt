@@ -18,9 +18,11 @@ once sorted each s e = subst (IsStrictlySortedBy path_cmp) (sym e) (IsStrictlySo
 
 pub every : (given sorted each : List (List ℕ)) → IsPermutation given sorted → each ≡ dedup (pointwise eqb) sorted → All (Contains each) given
 every given sorted each p e =
-    let kept : All (Contains (dedup (pointwise eqb) sorted)) sorted = λ k d l. Contains-dedup nat_list_eq_equiv same_path sorted _ (All-contains_itself sorted k d l) in
-    subst (λ ys. All (Contains ys) given) (sym e) (All-permutation (Contains (dedup (pointwise eqb) sorted)) sorted given (IsPermutation-sym given sorted p) kept)
+    let left = dedup (pointwise eqb) sorted in
+    let kept : All (Contains left) sorted = λ k d l. Contains-dedup nat_list_eq_equiv same_path sorted _ (All-contains_itself sorted k d l) in
+    subst (λ ys. All (Contains ys) given) (sym e) (All-permutation (Contains left) sorted given (IsPermutation-sym given sorted p) kept)
 
 pub none_else : (given sorted each : List (List ℕ)) → IsPermutation given sorted → each ≡ dedup (pointwise eqb) sorted → All (Contains given) each
 none_else given sorted each p e =
-    subst (All (Contains given)) (sym e) (All-dedup (pointwise eqb) (Contains given) sorted (All-permutation (Contains given) given sorted p (All-contains_itself given)))
+    let there = All-permutation (Contains given) given sorted p (All-contains_itself given) in
+    subst (All (Contains given)) (sym e) (All-dedup (pointwise eqb) (Contains given) sorted there)

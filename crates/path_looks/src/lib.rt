@@ -29,6 +29,3 @@ mod looks;
 pub use laws::looks_without_faults_are_told;
 pub use looking::look_at_each;
 pub use looks::{Look, Seen};
-
-#[cfg(test)]
-mod tests;

@@ -4,10 +4,11 @@ ghost use Rattle.std.specs.List.{Contains};
 ghost use Rattle.std.specs.List.Sorted.{IsStrictlySortedBy};
 ghost use Rattle.path_text.specs.Order.{path_cmp};
 ghost use Rattle.outside.specs.Count.{RoseBy};
+ghost use Rattle.path_looks.specs.Answers.{by_stat};
 ghost use Rattle.path_looks.specs.Looks.{paths_of, fault_of, IsSeen, AreLooks};
 
 use crate::looks::{Look, Seen};
-use outside::{Ground, Tree};
+use outside::{Failed, Ground, Stat, Tree};
 use path_text::{OutOfMemory, Path};
 use std::alloc::Global;
 
@@ -67,16 +68,25 @@ fn looks_by<T: Tree>(
     Ok(looks)
 }
 
+// Looks at a path by one stat.
 fn look_at<T: Tree>(reader: &mut T, path: Path) -> Look
     ensures path { result.path ≡ path }
     ensures told { IsSeen (T.tree reader.old) path result.seen }
     ensures same { T.tree reader.new ≡ T.tree reader.old }
     ensures counted { RoseBy (fault_of result) (T.count reader.old) (T.count reader.new) }
 {
-    let seen = match reader.stat(&path) {
+    let answer = reader.stat(&path);
+    let seen = by_stat(answer);
+    Look { path, seen }
+}
+
+// What the answer of a stat tells.
+fn by_stat(answer: Result<Option<Stat>, Failed>) -> Seen
+    ensures { result ≡ by_stat answer }
+{
+    match answer {
         Ok(Some(stat)) => Seen::At(stat.mtime),
         Ok(None) => Seen::Absent,
         Err(_) => Seen::Failed,
-    };
-    Look { path, seen }
+    }
 }

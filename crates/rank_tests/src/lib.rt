@@ -3,3 +3,6 @@
 //! They stand here, and not in the crates, so that each of those is proved once: what they call is proved, and they are proved over
 //! its contracts.
 #![tactic(auto)]
+
+#[cfg(test)]
+mod of_tree_walk;

@@ -1,5 +1,6 @@
 -- The laws of the made-up tree.
-use Rattle.std.proofs.Common.{◌≡◌, ◌≢◌, ◌⊎◌, inl, inr, ⊎_elim, ℕ, ◌+◌, ◌*◌, ◌%◌, ◌<◌, ◌≤◌, ◌^◌, zero, suc, Bool, true, false, cond, ◌&&◌, ◌||◌, List, [], ◌∷◌, map, Some, None, refl, ap, ◌∙◌, sym, subst, arith, zero-add, add-one}
+use Rattle.std.proofs.Common.{◌≡◌, ◌≢◌, ◌⊎◌, inl, inr, ⊎_elim, ℕ, ◌+◌, ◌*◌, ◌%◌, ◌<◌, ◌≤◌, ◌^◌, zero, suc, Bool, true, false, cond, ◌&&◌, ◌||◌, List, [], ◌∷◌}
+use Rattle.std.proofs.Common.{map, Some, None, refl, ap, ◌∙◌, sym, subst, arith, zero-add, add-one}
 use Rattle.std.specs.Prelude.{nat_lt, replicate}
 use Rattle.std.specs.Option.{is_some, is_none}
 use Rattle.std.specs.List.{range_with_len}

@@ -1,5 +1,6 @@
 -- The path of a node: its parent, its base and its length.
-use Rattle.std.proofs.Common.{◌≡◌, ◌≢◌, ℕ, ◌+◌, ◌-◌, ◌*◌, ◌/◌, ◌<◌, ◌≤◌, ◌^◌, ◌⊎◌, inl, inr, zero, suc, Bool, true, false, not, cond, ◌||◌, List, [], ◌∷◌, ◌++◌, length, take, drop, get_or, refl, ap, ◌∙◌, sym, subst, arith, length-append, append_assoc}
+use Rattle.std.proofs.Common.{◌≡◌, ◌≢◌, ℕ, ◌+◌, ◌-◌, ◌*◌, ◌/◌, ◌<◌, ◌≤◌, ◌^◌, ◌⊎◌, inl, inr, zero, suc, Bool, true, false, not, cond, ◌||◌, List, [], ◌∷◌}
+use Rattle.std.proofs.Common.{◌++◌, length, take, drop, get_or, refl, ap, ◌∙◌, sym, subst, arith, length-append, append_assoc}
 use Rattle.std.specs.Prelude.{◌==◌}
 use Rattle.std.specs.List.{list_any, before_last, after_last, suffix_len}
 use Rattle.std.proofs.lemmas.Bool.{false≢true}

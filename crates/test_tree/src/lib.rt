@@ -26,8 +26,6 @@ mod grounds;
 mod laws;
 mod making;
 mod readers;
-#[cfg(test)]
-mod tests;
 
 pub use grounds::TestGround;
 pub use laws::{first_node_is_there, no_child_is_far, nodes_are_counted, test_files_are_tree};

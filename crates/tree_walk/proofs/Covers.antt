@@ -1,11 +1,12 @@
 -- Which paths are equal to a path or above it.
-use Rattle.std.proofs.Common.{◌≡◌, ℕ, ◌+◌, ◌<◌, ◌≤◌, Bool, true, false, ◌&&◌, ◌||◌, List, [], ◌∷◌, ◌++◌, map, length, refl, ap, ◌∙◌, sym, subst, arith, cond, append_assoc, append-nil, length-append, eqb}
+use Rattle.std.proofs.Common.{◌≡◌, ℕ, ◌+◌, ◌<◌, ◌≤◌, Bool, true, false, ◌&&◌, ◌||◌, List, [], ◌∷◌, ◌++◌, map, length, refl, ap, ◌∙◌, sym, subst, arith, cond}
+use Rattle.std.proofs.Common.{append-nil, length-append, eqb}
 use Rattle.std.specs.Prelude.{◌==◌, nat_lt}
-use Rattle.std.specs.List.{AllByRecursion, sum_by, count_by, list_any, starts_with}
+use Rattle.std.specs.List.{AllByRecursion, sum_by, count_by}
 use Rattle.std.proofs.lemmas.Bool.{false≢true}
 use Rattle.std.proofs.lemmas.Bool.Decides.{nat_tests}
 use Rattle.std.proofs.lemmas.List.Sums.{sum_by-cons}
-use Rattle.std.specs.Cmp.Lexicographic.{pointwise, bytes_decides, nat_list_eq_equiv}
+use Rattle.std.specs.Cmp.Lexicographic.{pointwise, bytes_decides}
 use Rattle.std.specs.Ordering.{nat_cmp, ordering_then}
 use Rattle.std.specs.declared.cmp.Ordering.{Ordering}
 use Rattle.std.specs.declared.cmp.Ordering.TheVariants.{Less}
@@ -16,25 +17,7 @@ use Rattle.path_text.specs.Path.{joined}
 use Rattle.tree_walk.specs.Roots.{is_in, is_in_some, Apart}
 use Rattle.tree_walk.proofs.Lined.{Lined}
 use Rattle.tree_walk.proofs.Names.{front_of_child}
-
--- whether z begins with f
-abbrev pub begins : List ℕ → List ℕ → Bool
-begins [] z = true
-begins (a ∷ f) [] = false
-begins (a ∷ f) (b ∷ z) = a == b && begins f z
-
-pub begins_is : (f z : List ℕ) → starts_with eqb z f ≡ begins f z
-begins_is [] [] = refl
-begins_is [] (b ∷ z) = refl
-begins_is (a ∷ f) [] = refl
-begins_is (a ∷ f) (b ∷ z) = ap (λ q. a == b && q) (begins_is f z)
-
--- x is the path p or under it
-abbrev pub at_or_under : List ℕ → List ℕ → Bool
-at_or_under x p = begins (front p) (front x)
-
-pub is_in_is : (x p : List ℕ) → is_in x p ≡ at_or_under x p
-is_in_is x p = begins_is (front p) (front x)
+use Rattle.tree_walk.proofs.Inside.{begins, both, begins-itself, begins-less, begins-length, at_or_under, is_in_is}
 
 -- whether x is the path p or under it, as a number
 abbrev pub covers : List ℕ → List ℕ → ℕ
@@ -43,30 +26,8 @@ covers x p = cond (at_or_under x p) 1 0
 abbrev pub one : List ℕ → List ℕ → ℕ
 one x y = cond (pointwise eqb x y) 1 0
 
-both : (a b : Bool) → (a && b) ≡ true → (a ≡ true) × (b ≡ true)
-both true b e = (refl, e)
-both false b e = absurd (false≢true e)
-
-pub begins-itself : (f : List ℕ) → begins f f ≡ true
-begins-itself [] = refl
-begins-itself (a ∷ f) = same a (begins f f) (begins-itself f)
-  where
-    same : (a : ℕ) (p : Bool) → p ≡ true → (a == a && p) ≡ true
-    same a p e = grind (arith, nat_tests)
-
-begins-less : (f g z : List ℕ) → begins (f ++ g) z ≡ true → begins f z ≡ true
-begins-less [] g z e = refl
-begins-less (a ∷ f) g [] e = e
-begins-less (a ∷ f) g (b ∷ z) e =
-    let h = both (a == b) (begins (f ++ g) z) e in
-    ap (λ c. c && begins f z) h.0 ∙ begins-less f g z h.1
-
-pub begins-length : (f z : List ℕ) → begins f z ≡ true → length f ≤ length z
-begins-length [] z e = omega arith
-begins-length (a ∷ f) [] e = absurd (false≢true e)
-begins-length (a ∷ f) (b ∷ z) e = omega (arith, begins-length f z (both (a == b) (begins f z) e).1)
-
-other_byte : (a b c : ℕ) (p q : Bool) → (nat_lt (byte_rank a) (byte_rank b) || (a == b && p)) ≡ true → (b == c) ≡ true → (p ≡ true → q ≡ false) → (a == c && q) ≡ false
+other_byte : (a b c : ℕ) (p q : Bool) → (nat_lt (byte_rank a) (byte_rank b) || (a == b && p)) ≡ true → (b == c) ≡ true → (p ≡ true → q ≡ false) →
+    (a == c && q) ≡ false
 other_byte a b c p q e d h = grind (arith, nat_tests)
 
 -- what comes behind all of f does not begin with f, nor does what is under it
@@ -106,13 +67,16 @@ one_covers x (p ∷ ps) h =
       | false ↦ λ f. let here : covers x p ≡ 0 = ap (λ b. cond b 1 0) f in omega (arith, sum_by-cons (covers x) p ps, here, one_covers x ps h.1)
     ] refl
 
-child_covers : (x p name : List ℕ) → 0 < length name → begins (front (joined p name)) (front x) ≡ true → begins (front p) (front x) ≡ true
+pub child_covers : (x p name : List ℕ) → 0 < length name → begins (front (joined p name)) (front x) ≡ true → begins (front p) (front x) ≡ true
 child_covers x p name s e = begins-less (front p) (name ++ 47 ∷ []) (front x) (sym (ap (λ f. begins f (front x)) (front_of_child p name s)) ∙ e)
 
-child_not_above : (p name : List ℕ) → 0 < length name → begins (front (joined p name)) (front p) ≡ false
+pub child_not_above : (p name : List ℕ) → 0 < length name → begins (front (joined p name)) (front p) ≡ false
 child_not_above p name s =
     elim (begins (front (joined p name)) (front p)) as (λ b. begins (front (joined p name)) (front p) ≡ b → b ≡ false) [
-      | true ↦ λ t. absurd (omega (arith, begins-length (front (joined p name)) (front p) t, ap length (front_of_child p name s), length-append (front p) (name ++ 47 ∷ []), length-append name (47 ∷ [])))
+      | true ↦ λ t.
+          let whole = ap length (front_of_child p name s) in
+          let longer = length-append (front p) (name ++ 47 ∷ []) in
+          absurd (omega (arith, begins-length (front (joined p name)) (front p) t, whole, longer, length-append name (47 ∷ [])))
       | false ↦ λ f. refl
     ] refl
 
@@ -122,7 +86,8 @@ no_child_above p (n ∷ names) h =
     let here : covers p (joined p n) ≡ 0 = ap (λ b. cond b 1 0) (child_not_above p n h.0) in
     omega (arith, sum_by-cons (covers p) (joined p n) (map (joined p) names), here, no_child_above p names h.1)
 
-no_child_covers : (x p : List ℕ) (names : List (List ℕ)) → AllByRecursion (λ n. 0 < length n) names → begins (front p) (front x) ≡ false → sum_by (covers x) (map (joined p) names) ≡ 0
+no_child_covers : (x p : List ℕ) (names : List (List ℕ)) → AllByRecursion (λ n. 0 < length n) names → begins (front p) (front x) ≡ false →
+    sum_by (covers x) (map (joined p) names) ≡ 0
 no_child_covers x p [] h e = refl
 no_child_covers x p (n ∷ names) h e =
     elim (begins (front (joined p n)) (front x)) as (λ b. begins (front (joined p n)) (front x) ≡ b → sum_by (covers x) (map (joined p) (n ∷ names)) ≡ 0) [
@@ -149,7 +114,8 @@ covers_falls x p names h l =
 
 -- ---- paths in order, of which none is under another, stand in line
 
-less_front : (a b : ℕ) (p : Bool) (r : Ordering) (q : Bool) → ordering_then (nat_cmp (byte_rank a) (byte_rank b)) r ≡ Less → (a == b && q) ≡ false → (r ≡ Less → q ≡ false → p ≡ true) → (nat_lt (byte_rank a) (byte_rank b) || (a == b && p)) ≡ true
+less_front : (a b : ℕ) (p : Bool) (r : Ordering) (q : Bool) → ordering_then (nat_cmp (byte_rank a) (byte_rank b)) r ≡ Less → (a == b && q) ≡ false →
+    (r ≡ Less → q ≡ false → p ≡ true) → (nat_lt (byte_rank a) (byte_rank b) || (a == b && p)) ≡ true
 less_front a b p r q e d h = grind (arith, nat_tests)
 
 slash_behind : (b : ℕ) (q : Bool) → (47 == b && true) ≡ false → (nat_lt (byte_rank 47) (byte_rank b) || (47 == b && q)) ≡ true
@@ -181,7 +147,8 @@ covers-itself : (x : List ℕ) → covers x x ≡ 1
 covers-itself x = ap (λ b. cond b 1 0) (begins-itself (front x))
 
 -- the first of them covers no other
-not_under : (p : List ℕ) (qs all : List (List ℕ)) → ((x : List ℕ) → covers x p + sum_by (covers x) all ≤ 1) → AllByRecursion (λ q. (x : List ℕ) → covers x q ≤ sum_by (covers x) all) qs → AllByRecursion (λ q. at_or_under q p ≡ false) qs
+not_under : (p : List ℕ) (qs all : List (List ℕ)) → ((x : List ℕ) → covers x p + sum_by (covers x) all ≤ 1) →
+    AllByRecursion (λ q. (x : List ℕ) → covers x q ≤ sum_by (covers x) all) qs → AllByRecursion (λ q. at_or_under q p ≡ false) qs
 not_under p [] all h g = tt
 not_under p (q ∷ qs) all h g = (
   elim (at_or_under q p) as (λ b. at_or_under q p ≡ b → at_or_under q p ≡ false) [
@@ -191,7 +158,8 @@ not_under p (q ∷ qs) all h g = (
   not_under p qs all h g.1,
 )
 
-weaker_sum : (q : List ℕ) (qs all : List (List ℕ)) → AllByRecursion (λ r. (x : List ℕ) → covers x r ≤ sum_by (covers x) all) qs → AllByRecursion (λ r. (x : List ℕ) → covers x r ≤ sum_by (covers x) (q ∷ all)) qs
+weaker_sum : (q : List ℕ) (qs all : List (List ℕ)) → AllByRecursion (λ r. (x : List ℕ) → covers x r ≤ sum_by (covers x) all) qs →
+    AllByRecursion (λ r. (x : List ℕ) → covers x r ≤ sum_by (covers x) (q ∷ all)) qs
 weaker_sum q [] all h = tt
 weaker_sum q (r ∷ qs) all h = ((λ x. omega (arith, h.0 x, sum_by-cons (covers x) q all)), weaker_sum q qs all h.1)
 
@@ -199,7 +167,8 @@ each_in : (qs : List (List ℕ)) → AllByRecursion (λ q. (x : List ℕ) → co
 each_in [] = tt
 each_in (q ∷ qs) = ((λ x. omega (arith, sum_by-cons (covers x) q qs)), weaker_sum q qs qs (each_in qs))
 
-line : (p : List ℕ) (qs : List (List ℕ)) → AllByRecursion (λ q. path_cmp p q ≡ Less) qs → AllByRecursion (λ q. at_or_under q p ≡ false) qs → AllByRecursion (λ q. precedes p q ≡ true) qs
+line : (p : List ℕ) (qs : List (List ℕ)) → AllByRecursion (λ q. path_cmp p q ≡ Less) qs → AllByRecursion (λ q. at_or_under q p ≡ false) qs →
+    AllByRecursion (λ q. precedes p q ≡ true) qs
 line p [] h g = tt
 line p (q ∷ qs) h g = (in_line p q h.0 g.0, line p qs h.1 g.1)
 

@@ -21,7 +21,8 @@ pub all_map : {X Y : Type 0} (P : Y → Type 0) (f : X → Y) (xs : List X) → 
 all_map P f [] h = h
 all_map P f (x ∷ xs) h = (h.0, all_map P f xs h.1)
 
-pub all_flat : {X Y : Type 0} (P : Y → Type 0) (f : X → List Y) (xs : List X) → AllByRecursion (λ x. AllByRecursion P (f x)) xs → AllByRecursion P (flat_map f xs)
+pub all_flat : {X Y : Type 0} (P : Y → Type 0) (f : X → List Y) (xs : List X) → AllByRecursion (λ x. AllByRecursion P (f x)) xs →
+    AllByRecursion P (flat_map f xs)
 all_flat P f [] h = h
 all_flat P f (x ∷ xs) h = all_append P (f x) (flat_map f xs) h.0 (all_flat P f xs h.1)
 
@@ -29,12 +30,14 @@ pub flat_same : {X Y : Type 0} (f g : X → List Y) (xs : List X) → AllByRecur
 flat_same f g [] h = refl
 flat_same f g (x ∷ xs) h = λ i. h.0 i ++ flat_same f g xs h.1 i
 
-pub sorted_append : {X : Type 0} (cmp : X → X → Ordering) (xs ys : List X) → IsStrictlySortedBy cmp xs → IsStrictlySortedBy cmp ys → AllByRecursion (λ x. AllByRecursion (λ y. cmp x y ≡ Less) ys) xs → IsStrictlySortedBy cmp (xs ++ ys)
+pub sorted_append : {X : Type 0} (cmp : X → X → Ordering) (xs ys : List X) → IsStrictlySortedBy cmp xs → IsStrictlySortedBy cmp ys →
+    AllByRecursion (λ x. AllByRecursion (λ y. cmp x y ≡ Less) ys) xs → IsStrictlySortedBy cmp (xs ++ ys)
 unfolding IsStrictlySortedBy
 sorted_append cmp [] ys s t h = t
 sorted_append cmp (x ∷ xs) ys s t h = (all_append (λ y. cmp x y ≡ Less) xs ys s.0 h.0, sorted_append cmp xs ys s.1 t h.1)
 
-pub swapped : {X Y : Type 0} (R : X → Y → Type 0) (xs : List X) (ys : List Y) → AllByRecursion (λ x. AllByRecursion (R x) ys) xs → AllByRecursion (λ y. AllByRecursion (λ x. R x y) xs) ys
+pub swapped : {X Y : Type 0} (R : X → Y → Type 0) (xs : List X) (ys : List Y) → AllByRecursion (λ x. AllByRecursion (R x) ys) xs →
+    AllByRecursion (λ y. AllByRecursion (λ x. R x y) xs) ys
 swapped R xs [] h = tt
 swapped R xs (y ∷ ys) h = (
   weaker (λ x. AllByRecursion (R x) (y ∷ ys)) (λ x. R x y) (λ x r. r.0) xs h,

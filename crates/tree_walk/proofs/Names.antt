@@ -20,12 +20,16 @@ longer : (p name : List ℕ) → 0 < length name → length p < length (joined p
 longer p name h = omega (arith, sym (ap length (front-joined p name)), length-append (front p) name, front_long)
   where
     front_long : length p ≤ length (front p)
-    front_long = elim (length p == 1) as (λ b. length p ≤ length (cond b p (p ++ 47 ∷ []))) [ true ↦ omega arith | false ↦ omega (arith, length-append p (47 ∷ [])) ]
+    front_long = elim (length p == 1) as (λ b. length p ≤ length (cond b p (p ++ 47 ∷ []))) [
+      | true ↦ omega arith
+      | false ↦ omega (arith, length-append p (47 ∷ []))
+    ]
 
 abbrev Name : List ℕ → Type 0
 Name name = IsTrue (is_name name)
 
-pub lined_names : (path : List ℕ) (names : List (List ℕ)) → AllByRecursion Name names → IsStrictlySortedBy (slice_cmp nat_cmp) names → Lined (map (joined path) names)
+pub lined_names : (path : List ℕ) (names : List (List ℕ)) → AllByRecursion Name names → IsStrictlySortedBy (slice_cmp nat_cmp) names →
+    Lined (map (joined path) names)
 unfolding IsStrictlySortedBy
 lined_names path [] h s = tt
 lined_names path (m ∷ names) h s = (
@@ -33,18 +37,21 @@ lined_names path (m ∷ names) h s = (
   lined_names path names h.1 s.1,
 )
   where
-    siblings : (names : List (List ℕ)) → AllByRecursion Name names → AllByRecursion (λ n. slice_cmp nat_cmp m n ≡ Less) names → AllByRecursion (λ n. precedes (joined path m) (joined path n) ≡ true) names
+    siblings : (names : List (List ℕ)) → AllByRecursion Name names → AllByRecursion (λ n. slice_cmp nat_cmp m n ≡ Less) names →
+        AllByRecursion (λ n. precedes (joined path m) (joined path n) ≡ true) names
     siblings [] g l = tt
     siblings (n ∷ names) g l = (sibling_precedes path m n (some_bytes m h.0) (no_slash m h.0) (no_slash n g.0) l.0, siblings names g.1 l.1)
 
 pub are_children : (path : List ℕ) (names : List (List ℕ)) → AreNames path names → AreChildren path (map (joined path) names)
 are_children path names are =
     let valid = recursion_from_All Name names are.valid in
+    let each = λ (P : List ℕ → Type 0) (of : (n : List ℕ) → Name n → P (joined path n)).
+    all_map P (joined path) names (weaker Name (λ n. P (joined path n)) of names valid) in
     record {
-      longer = all_map (λ c. length path < length c) (joined path) names (weaker Name (λ n. length path < length (joined path n)) (λ n h. longer path n (some_bytes n h)) names valid);
-      after = all_map (λ c. path_cmp path c ≡ Less) (joined path) names (weaker Name (λ n. path_cmp path (joined path n) ≡ Less) (λ n h. child_after path n (some_bytes n h)) names valid);
+      longer = each (λ c. length path < length c) (λ n h. longer path n (some_bytes n h));
+      after = each (λ c. path_cmp path c ≡ Less) (λ n h. child_after path n (some_bytes n h));
       lined = lined_names path names valid are.ascend;
-      before = λ q e. all_map (λ c. precedes c q ≡ true) (joined path) names (weaker Name (λ n. precedes (joined path n) q ≡ true) (λ n h. child_precedes path n q (some_bytes n h) e) names valid);
+      before = λ q e. each (λ c. precedes c q ≡ true) (λ n h. child_precedes path n q (some_bytes n h) e);
     }
 
 pub short_children : (path : List ℕ) (names : List (List ℕ)) → AreNames path names → AllByRecursion (λ c. length c ≤ 4095) (map (joined path) names)
@@ -52,11 +59,17 @@ short_children path names are = all_map (λ c. length c ≤ 4095) (joined path) 
 
 pub no_names : (path : List ℕ) (names : List (List ℕ)) → names ≡ [] → AreNames path names
 unfolding IsStrictlySortedBy
-no_names path names e = subst (AreNames path) (sym e) (record { valid = All-from_recursion Name [] tt; short = All-from_recursion (λ n. length (joined path n) ≤ 4095) [] tt; ascend = tt })
+no_names path names e =
+    subst (AreNames path) (sym e)
+    (record {
+      valid = All-from_recursion Name [] tt;
+      short = All-from_recursion (λ n. length (joined path n) ≤ 4095) [] tt;
+      ascend = tt;
+    })
 
 -- ---- what the paths under a child begin with
 
-some_front : (p : List ℕ) → 0 < length (front p)
+pub some_front : (p : List ℕ) → 0 < length (front p)
 some_front [] = omega arith
 some_front (a ∷ p) = elim (length (a ∷ p) == 1) as (λ b. 0 < length (cond b (a ∷ p) (a ∷ p ++ 47 ∷ []))) [ true ↦ omega arith | false ↦ omega arith ]
 

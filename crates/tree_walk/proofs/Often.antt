@@ -1,18 +1,19 @@
 -- What was handled, and the walks of what is left, are the walks of the starts, as often.
-use Rattle.std.proofs.Common.{◌≡◌, ℕ, ◌+◌, ◌≤◌, List, [], ◌∷◌, ◌++◌, map, length, refl, ap, ◌∙◌, sym, arith}
+use Rattle.std.proofs.Common.{◌≡◌, ℕ, ◌+◌, List, [], ◌∷◌, refl, ap, ◌∙◌, sym, arith}
 use Rattle.std.specs.List.{AllByRecursion, sum_by, flat_map}
 use Rattle.std.specs.FinMap.{get}
 use Rattle.std.proofs.lemmas.List.Sums.{sum_by-cons, sum_by-append}
 use Rattle.outside.specs.Tree.{Files}
 use Rattle.flat_list.specs.declared.entries.Entry.{Entry}
-use Rattle.circle_run.specs.Balance.{Log, handled, pushed, Balanced}
+use Rattle.circle_run.specs.Balance.{handled, pushed, Balanced}
 use Rattle.tree_walk.specs.Walk.{Answers, answer_in, entry_of, children_of, walk}
 use Rattle.tree_walk.specs.Held.{Held, IsDone, log_of}
 use Rattle.tree_walk.proofs.Recursive.{walk_is}
 
 pub sum_by-flat_map : {X Y : Type 0} (k : Y → ℕ) (f : X → List Y) (xs : List X) → sum_by k (flat_map f xs) ≡ sum_by (λ x. sum_by k (f x)) xs
 sum_by-flat_map k f [] = refl
-sum_by-flat_map k f (x ∷ xs) = sum_by-append k (f x) (flat_map f xs) ∙ (λ i. sum_by k (f x) + sum_by-flat_map k f xs i) ∙ sym (sum_by-cons (λ y. sum_by k (f y)) x xs)
+sum_by-flat_map k f (x ∷ xs) =
+    sum_by-append k (f x) (flat_map f xs) ∙ (λ i. sum_by k (f x) + sum_by-flat_map k f xs i) ∙ sym (sum_by-cons (λ y. sum_by k (f y)) x xs)
 
 -- the walk of a path weighs what its entry and the walks of its children weigh
 weighs : (files : Files) (a : Answers) (k : Entry → ℕ) (d : Held) → IsDone files d → a d.0.path ≡ answer_in d.0 →
@@ -25,7 +26,8 @@ weighs files a k d h e =
     ∙ (λ i. k (entry_of (e i) (get files p) p) + sum_by-flat_map k w (children_of (e i) files p) i)
     ∙ (λ i. k (sym h.entry i) + sum_by (λ q. sum_by k (w q)) (sym h.children i))
 
-all_weigh : (files : Files) (a : Answers) (k : Entry → ℕ) (ds : List Held) → AllByRecursion (IsDone files) ds → AllByRecursion (λ d. a d.0.path ≡ answer_in d.0) ds →
+all_weigh : (files : Files) (a : Answers) (k : Entry → ℕ) (ds : List Held) → AllByRecursion (IsDone files) ds →
+    AllByRecursion (λ d. a d.0.path ≡ answer_in d.0) ds →
     handled (λ p. sum_by k (walk files a p)) (log_of ds) ≡ sum_by (λ d. k d.0) ds + pushed (λ p. sum_by k (walk files a p)) (log_of ds)
 all_weigh files a k [] h t = refl
 all_weigh files a k (d ∷ ds) h t =
@@ -44,4 +46,10 @@ pub often : (files : Files) (a : Answers) (k : Entry → ℕ) (ds : List Held) (
     AllByRecursion (IsDone files) ds → AllByRecursion (λ d. a d.0.path ≡ answer_in d.0) ds → Balanced (log_of ds) left starts →
     sum_by (λ d. k d.0) ds + sum_by k (flat_map (walk files a) left) ≡ sum_by k (flat_map (walk files a) starts)
 often files a k ds left starts h t b =
-    omega (arith, b.weighs (λ p. sum_by k (walk files a p)), all_weigh files a k ds h t, sum_by-flat_map k (walk files a) left, sum_by-flat_map k (walk files a) starts)
+    omega (
+      arith,
+      b.weighs (λ p. sum_by k (walk files a p)),
+      all_weigh files a k ds h t,
+      sum_by-flat_map k (walk files a) left,
+      sum_by-flat_map k (walk files a) starts,
+    )

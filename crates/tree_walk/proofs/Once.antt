@@ -1,17 +1,16 @@
 -- Each path is handled once.
-use Rattle.std.proofs.Common.{◌≡◌, ℕ, ◌+◌, ◌<◌, ◌≤◌, true, false, List, [], ◌∷◌, ◌++◌, map, length, refl, ap, ◌∙◌, sym, subst, arith, cond, eqb, get_or}
+use Rattle.std.proofs.Common.{◌≡◌, ℕ, ◌+◌, ◌<◌, ◌≤◌, true, false, List, [], ◌∷◌, map, length, refl, ap, ◌∙◌, sym, arith, cond, get_or}
 use Rattle.std.specs.List.{AllByRecursion, sum_by}
 use Rattle.std.proofs.lemmas.List.Sums.{sum_by-cons, sum_by_more, sum_by_more_le}
 use Rattle.std.proofs.lemmas.Map.Keys.{sorted_from_all_adjacent}
 use Rattle.std.proofs.Math.ListN.{get_or-map}
 use Rattle.std.proofs.lemmas.List.{length-map}
 use Rattle.std.specs.List.Sorted.{IsStrictlySortedBy, IsPermutation, IsSortedByKey}
-use Rattle.std.proofs.lemmas.List.Sorted.{sum_by-IsPermutation, IsPermutation-map}
+use Rattle.std.proofs.lemmas.List.Sorted.{sum_by-IsPermutation}
 use Rattle.std.proofs.lemmas.List.Elements.{recursion_from_All}
-use Rattle.std.specs.Cmp.Lexicographic.{pointwise, slice_cmp, bytes_decides}
-use Rattle.std.specs.Ordering.{nat_cmp, is_lt, ordering_reverse}
+use Rattle.std.specs.Cmp.Lexicographic.{bytes_decides}
+use Rattle.std.specs.Ordering.{is_lt, ordering_reverse}
 use Rattle.std.proofs.lemmas.Bool.{false≢true}
-use Rattle.std.specs.declared.cmp.Ordering.{Ordering}
 use Rattle.std.specs.declared.cmp.Ordering.TheVariants.{Less, Equal, Greater}
 use Rattle.std.specs.Bool.{IsTrue}
 use Rattle.path_text.specs.Order.{path_cmp}
@@ -19,7 +18,7 @@ use Rattle.path_text.specs.Total.{path_cmp_total, path_cmp_same}
 use Rattle.path_text.specs.Path.{is_name}
 use Rattle.path_text.proofs.Preorder.{some_bytes}
 use Rattle.flat_list.specs.declared.entries.Entry.{Entry}
-use Rattle.circle_run.specs.Balance.{Log, handled, pushed, Balanced}
+use Rattle.circle_run.specs.Balance.{handled, pushed, Balanced}
 use Rattle.tree_walk.specs.Held.{Held, IsPush, log_of, entries_of}
 use Rattle.tree_walk.specs.Roots.{is_in_some, Apart}
 use Rattle.tree_walk.proofs.Covers.{covers, one, covers_falls, from_apart, some_covers}
@@ -66,11 +65,13 @@ not_less x y h o = elim (path_cmp x y) as (λ c. path_cmp x y ≡ c → path_cmp
   | Greater ↦ λ e. absurd (false≢true (sym h ∙ ap is_lt (path_cmp_total.antisymm y x ∙ ap ordering_reverse e)))
 ] refl
 
-two_places : (x : List ℕ) (es : List Entry) (k : ℕ) (d : Entry) → k + 1 < length es → one x (get_or es k d).path + one x (get_or es (k + 1) d).path ≤ sum_by (λ e. one x e.path) es
+two_places : (x : List ℕ) (es : List Entry) (k : ℕ) (d : Entry) → k + 1 < length es →
+    one x (get_or es k d).path + one x (get_or es (k + 1) d).path ≤ sum_by (λ e. one x e.path) es
 two_places x es k d h =
     omega (arith, sum_by_more_le (λ (e : Entry). one x e.path) es (k + 1) d h, sum_by_more (λ (e : Entry). one x e.path) es k d (omega arith))
 
-pub rises : (es : List Entry) → IsSortedByKey (λ e. e.path) path_cmp es → ((x : List ℕ) → sum_by (λ e. one x e.path) es ≤ 1) → IsStrictlySortedBy path_cmp (map (λ e. e.path) es)
+pub rises : (es : List Entry) → IsSortedByKey (λ e. e.path) path_cmp es → ((x : List ℕ) → sum_by (λ e. one x e.path) es ≤ 1) →
+    IsStrictlySortedBy path_cmp (map (λ e. e.path) es)
 unfolding IsStrictlySortedBy
 rises [] s o = tt
 rises (e ∷ es) s o = sorted_from_all_adjacent path_cmp_total (map (λ (e : Entry). e.path) (e ∷ es)) e.path (λ k h.
@@ -86,11 +87,24 @@ pub sum_by-map : {X Y : Type 0} (f : Y → ℕ) (g : X → Y) (xs : List X) → 
 sum_by-map f g [] = refl
 sum_by-map f g (x ∷ xs) = sum_by-cons f (g x) (map g xs) ∙ (λ i. f (g x) + sum_by-map f g xs i) ∙ sym (sum_by-cons (λ y. f (g y)) x xs)
 
--- what was handled, put in order, ascends strictly
-pub list_rises : (ds : List Held) (list : List Entry) (left starts : List (List ℕ)) → IsPermutation (entries_of ds) list → IsSortedByKey (λ e. e.path) path_cmp list →
-    AllByRecursion IsPush ds → Apart starts → Balanced (log_of ds) left starts → IsStrictlySortedBy path_cmp (map (λ e. e.path) list)
-list_rises ds list left starts p s h l b = rises list s (λ x.
-    omega (arith, covered x ds left starts h b, from_apart starts l x, sum_by-IsPermutation (λ (e : Entry). one x e.path) (entries_of ds) list p, sum_by-map (λ (e : Entry). one x e.path) (λ (d : Held). d.0) ds))
+-- what was handled from the starts on, which are apart, is balanced; what was pushed are children; and the list is it, put in path order
+pub record IsGathered (ds : List Held) (list : List Entry) (starts : List (List ℕ)) : Type 0 where
+  pub pushes : AllByRecursion IsPush ds
+  pub apart : Apart starts
+  pub balance : Balanced (log_of ds) [] starts
+  pub moves : IsPermutation (entries_of ds) list
+  pub sorted : IsSortedByKey (λ e. e.path) path_cmp list
+
+-- how often a path stands in the list, it was handled
+pub as_often : (k : Entry → ℕ) (ds : List Held) (list : List Entry) → IsPermutation (entries_of ds) list → sum_by k list ≡ sum_by (λ d. k d.0) ds
+as_often k ds list p = sum_by-IsPermutation k (entries_of ds) list p ∙ sum_by-map k (λ (d : Held). d.0) ds
+
+-- so it ascends strictly
+pub list_rises : (ds : List Held) (list : List Entry) (starts : List (List ℕ)) → IsGathered ds list starts →
+    IsStrictlySortedBy path_cmp (map (λ e. e.path) list)
+list_rises ds list starts h =
+    rises list h.sorted
+    (λ x. omega (arith, covered x ds [] starts h.pushes h.balance, from_apart starts h.apart x, as_often (λ e. one x e.path) ds list h.moves))
 
 -- ---- each path is a start or under one
 
@@ -103,15 +117,10 @@ each_here (e ∷ es) =
           (λ d h. omega (arith, h, sum_by-cons (λ (f : Entry). one d.path f.path) e es)) es (each_here es),
     )
 
-pub list_within : (ds : List Held) (list : List Entry) (left starts : List (List ℕ)) → IsPermutation (entries_of ds) list → AllByRecursion IsPush ds → Balanced (log_of ds) left starts →
+pub list_within : (ds : List Held) (list : List Entry) (starts : List (List ℕ)) → IsGathered ds list starts →
     AllByRecursion (λ e. is_in_some starts e.path ≡ true) list
-list_within ds list left starts p h b =
+list_within ds list starts h =
     weaker (λ (e : Entry). 1 ≤ sum_by (λ f. one e.path f.path) list) (λ (e : Entry). is_in_some starts e.path ≡ true)
-    (λ e n. some_covers e.path starts (omega (
-      arith,
-      n,
-      covered e.path ds left starts h b,
-      sum_by-IsPermutation (λ (f : Entry). one e.path f.path) (entries_of ds) list p,
-      sum_by-map (λ (f : Entry). one e.path f.path) (λ (d : Held). d.0) ds,
-    )))
+    (λ e n. some_covers e.path starts
+    (omega (arith, n, covered e.path ds [] starts h.pushes h.balance, as_often (λ f. one e.path f.path) ds list h.moves)))
     list (each_here list)

@@ -1,21 +1,10 @@
 -- The names below a path, and their paths.
-use Rattle.std.proofs.Common.{◌≡◌, ℕ, ◌+◌, ◌-◌, ◌<◌, ◌≤◌, List, [], ◌∷◌, ◌++◌, map, length, get_or, take, Some, refl, ap, ◌∙◌, sym, subst, arith, suc, append_assoc, add-one}
+use Rattle.std.proofs.Common.{◌≡◌, ℕ, ◌+◌, ◌<◌, ◌≤◌, List, [], ◌∷◌, ◌++◌, map, length, get_or, take, Some, ap, ◌∙◌, sym, subst, arith, append_assoc, add-one}
 use Rattle.std.specs.List.{slice_get, All}
-use Rattle.std.specs.Bool.{IsTrue}
 use Rattle.std.proofs.lemmas.Option.{get_or_from_slice_get, slice_get_within}
 use Rattle.std.proofs.lemmas.List.{map-append}
 use Rattle.std.proofs.Math.Seq.{take-suc}
-use Rattle.std.specs.List.Sorted.{IsStrictlySortedBy}
-use Rattle.std.specs.declared.cmp.Ordering.{Ordering}
 use Rattle.path_text.specs.Path.{joined}
-use Rattle.outside.specs.Tree.{AreNames}
-
-none_sorted : {X : Type 0} (c : X → X → Ordering) → IsStrictlySortedBy c []
-unfolding IsStrictlySortedBy
-none_sorted c = tt
-
-pub no_names : (p : List ℕ) (l : List (List ℕ) × ℕ × ℕ) → l ≡ ([], 0, 0) → AreNames p l.0
-no_names p l e = subst (λ l. AreNames p l.0) (sym e) (record { valid = λ k d h. absurd (omega arith); short = λ k d h. absurd (omega arith); ascend = none_sorted _ })
 
 -- one more path is pushed
 pub pushed_more : (path : List ℕ) (names : List (List ℕ)) (at : ℕ) (old now new : List (List ℕ)) (child name : List ℕ) →
@@ -23,7 +12,8 @@ pub pushed_more : (path : List ℕ) (names : List (List ℕ)) (at : ℕ) (old no
     now ≡ old ++ map (joined path) (take at names) → new ≡ old ++ map (joined path) (take (at + 1) names)
 pushed_more path names at old now new child name e c n p =
     let front : take (at + 1) names ≡ take at names ++ name ∷ [] =
-    ap (λ k. take k names) (add-one at) ∙ take-suc names at name (slice_get_within names at name e) ∙ ap (λ x. take at names ++ x ∷ []) (get_or_from_slice_get names at name name e) in
+    ap (λ k. take k names) (add-one at) ∙ take-suc names at name (slice_get_within names at name e)
+    ∙ ap (λ x. take at names ++ x ∷ []) (get_or_from_slice_get names at name name e) in
     n ∙ (λ i. p i ++ c i ∷ []) ∙ append_assoc old (map (joined path) (take at names)) (joined path name ∷ [])
     ∙ ap (λ l. old ++ l) (sym (map-append (joined path) (take at names) (name ∷ []))) ∙ ap (λ l. old ++ map (joined path) l) (sym front)
 

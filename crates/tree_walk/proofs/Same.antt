@@ -1,11 +1,10 @@
 -- Two lists in order that hold the same paths as often are equal.
-use Rattle.std.proofs.Common.{◌≡◌, ℕ, ◌+◌, ◌<◌, ◌≤◌, true, false, List, [], ◌∷◌, ◌++◌, map, length, refl, ap, ◌∙◌, sym, subst, arith, cond, eqb}
+use Rattle.std.proofs.Common.{◌≡◌, ℕ, false, List, [], ◌∷◌, refl, ap, ◌∙◌, sym, arith, cond, eqb}
 use Rattle.std.specs.List.{AllByRecursion, sum_by}
 use Rattle.std.proofs.lemmas.List.Sums.{sum_by-cons}
 use Rattle.std.specs.List.Sorted.{IsStrictlySortedBy}
 use Rattle.std.specs.Cmp.Lexicographic.{pointwise}
 use Rattle.std.specs.Ordering.{is_eq, ordering_reverse}
-use Rattle.std.specs.declared.cmp.Ordering.{Ordering}
 use Rattle.std.specs.declared.cmp.Ordering.TheVariants.{Less, Equal, Greater}
 use Rattle.path_text.specs.Order.{path_cmp}
 use Rattle.path_text.specs.Total.{path_cmp_total, path_cmp_same, path_cmp_ties}
@@ -26,13 +25,15 @@ higher : (x y : List ℕ) (ys : List (List ℕ)) → path_cmp x y ≡ Less → A
 higher x y [] e h = tt
 higher x y (z ∷ ys) e h = (path_cmp_total.trans x y z e h.0, higher x y ys e h.1)
 
-first_less : (x y : List ℕ) (xs ys : List (List ℕ)) → AllByRecursion (λ z. path_cmp y z ≡ Less) ys → ((k : List ℕ → ℕ) → sum_by k (x ∷ xs) ≡ sum_by k (y ∷ ys)) → path_cmp x y ≡ Less → ⊥
+first_less : (x y : List ℕ) (xs ys : List (List ℕ)) → AllByRecursion (λ z. path_cmp y z ≡ Less) ys →
+    ((k : List ℕ → ℕ) → sum_by k (x ∷ xs) ≡ sum_by k (y ∷ ys)) → path_cmp x y ≡ Less → ⊥
 first_less x y xs ys h e l =
     let self : one x x ≡ 1 = one-same x x refl in
     let none : sum_by (one x) (y ∷ ys) ≡ 0 = none_above x (y ∷ ys) (l, higher x y ys l h) in
     omega (arith, sum_by-cons (one x) x xs, self, none, e (one x))
 
-pub same_paths : (xs ys : List (List ℕ)) → IsStrictlySortedBy path_cmp xs → IsStrictlySortedBy path_cmp ys → ((k : List ℕ → ℕ) → sum_by k xs ≡ sum_by k ys) → xs ≡ ys
+pub same_paths : (xs ys : List (List ℕ)) → IsStrictlySortedBy path_cmp xs → IsStrictlySortedBy path_cmp ys →
+    ((k : List ℕ → ℕ) → sum_by k xs ≡ sum_by k ys) → xs ≡ ys
 unfolding IsStrictlySortedBy
 same_paths [] [] s t e = refl
 same_paths [] (y ∷ ys) s t e = absurd (omega (arith, e (λ z. 1), sum_by-cons (λ (z : List ℕ). 1) y ys))

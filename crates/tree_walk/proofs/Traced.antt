@@ -1,25 +1,25 @@
 -- What the events and the numbers of progress of a run tell of the walk.
-use Rattle.std.proofs.Common.{◌≡◌, ℕ, ◌+◌, ◌^◌, ◌<◌, true, List, [], ◌∷◌, ◌++◌, map, length, refl, ap, ◌∙◌, sym, subst, arith, Option, Some, None, IfSome}
+use Rattle.std.proofs.Common.{◌≡◌, ℕ, true, cond, ◌^◌, ◌<◌, List, [], ◌∷◌, ◌++◌, map, length, refl, ap, ◌∙◌, sym, subst, arith, Option, Some, None, IfSome}
 use Rattle.std.specs.List.{AllByRecursion, All, sum_by, flat_map}
-use Rattle.std.specs.List.Sorted.{IsPermutation, IsStrictlySortedBy}
+use Rattle.std.specs.List.Sorted.{IsPermutation}
 use Rattle.std.proofs.lemmas.List.Sorted.{IsPermutation-map}
 use Rattle.std.proofs.lemmas.List.Sums.{sum_by-cons, sum-map}
 use Rattle.std.proofs.lemmas.List.Folds.{flat_map-map}
 use Rattle.std.proofs.lemmas.List.Elements.{All-from_recursion}
 use Rattle.std.proofs.lemmas.List.{length-map}
-use Rattle.path_text.specs.Order.{path_cmp}
 use Rattle.outside.specs.Tree.{Files}
 use Rattle.ring_core.specs.declared.events.Event.{Event}
 use Rattle.flat_list.specs.declared.entries.Entry.{Entry}
 use Rattle.circle_run.specs.Balance.{Log}
-use Rattle.circle_run.specs.Traced.{IsTraced, IsProgress}
+use Rattle.circle_run.specs.Traced.{IsTraced, WasRun, IsProgress}
+use Rattle.circle_run.specs.declared.outcomes.Share.{Share}
 use Rattle.circle_run.specs.declared.settings.Options.{Options}
 use Rattle.tree_walk.specs.Walk.{answers_in, answer_in, children_of, paths_of}
-use Rattle.tree_walk.specs.Held.{Held, IsDone, Holds, log_of, entries_of}
-use Rattle.tree_walk.specs.Traced.{whole_log, IsTracedWalk, IsProgressTo}
-use Rattle.tree_walk.proofs.Lists.{all_flat}
+use Rattle.tree_walk.specs.Held.{Held, IsDone, log_of, entries_of}
+use Rattle.tree_walk.specs.Traced.{whole_log, IsTracedWalk, WasWalked, IsProgressTo}
 use Rattle.tree_walk.proofs.AnyOrder.{tells_each}
-use Rattle.tree_walk.proofs.Ranks.{all_logs, all_done, same_plain, all_handled}
+use Rattle.tree_walk.proofs.Once.{list_rises}
+use Rattle.tree_walk.proofs.Ranks.{IsRun, all_logs, all_done, all_handled}
 
 abbrev pub logs_of : {R : Type 0} → List (R × List Held) → List Log
 logs_of jobs = map (λ job. log_of job.1) jobs
@@ -31,37 +31,67 @@ paths_held : (ds : List Held) → map (λ x. x.0) (log_of ds) ≡ paths_of (entr
 paths_held [] = refl
 paths_held (d ∷ ds) = ap (λ r. d.0.path ∷ r) (paths_held ds)
 
-pushes : (files : Files) (list : List Entry) (ds : List Held) → AllByRecursion (IsDone files) ds → AllByRecursion (λ d. answers_in list d.0.path ≡ answer_in d.0) ds →
+pushes : (files : Files) (list : List Entry) (ds : List Held) → AllByRecursion (IsDone files) ds →
+    AllByRecursion (λ d. answers_in list d.0.path ≡ answer_in d.0) ds →
     AllByRecursion (λ x. x.1 ≡ children_of (answers_in list x.0) files x.0) (log_of ds)
 pushes files list [] h t = tt
 pushes files list (d ∷ ds) h t = (h.0.children ∙ ap (λ a. children_of a files d.0.path) (sym t.0), pushes files list ds h.1 t.1)
 
--- where the files tell their tree, a traced run makes the walk
-pub traced : {R : Type 0} (tree : R → Option Files) (count : R → ℕ) (told : Option Files) (mine jobs : List (R × List Held)) (all list : List Entry) (starts : List (List ℕ)) (o : Options) (events : List Event) →
-    AllByRecursion (λ j. tree j.0 ≡ told) mine → map (λ j. tree j.0) jobs ≡ map (λ j. tree j.0) mine → AllByRecursion (λ j. Holds (tree j.0) (count j.0) j.1) jobs →
-    all ≡ entries_of (flat_map (λ job. job.1) jobs) → IsPermutation all list → IsStrictlySortedBy path_cmp (paths_of list) →
-    IsTraced o starts (logs_of jobs) events → IfSome told (λ files. IsTracedWalk files o starts list events)
-traced tree count None mine jobs all list starts o events t e h logs p rise run = tt
-traced {R = R} tree count (Some files) mine jobs all list starts o events t e h logs p rise run =
+-- the ranks handled the paths of the list
+handled_paths : {R : Type 0} (jobs : List (R × List Held)) (list : List Entry) → IsPermutation (entries_of (flat_map (λ j. j.1) jobs)) list →
+    IsPermutation (map (λ x. x.0) (whole_log (logs_of jobs))) (paths_of list)
+handled_paths {R = R} jobs list moves =
     let ds = flat_map (λ (j : R × List Held). j.1) jobs in
-    let moves = subst (λ es. IsPermutation es list) logs p in
-    let done = all_flat (IsDone files) (λ (j : R × List Held). j.1) jobs (all_done tree count files jobs (same_plain tree (Some files) mine jobs e t) h) in
-    record {
-      logs = logs_of jobs;
-      traced = run;
-      handled =
-          subst (λ log. IsPermutation (map (λ x. x.0) log) (paths_of list)) (sym (log_is jobs))
-          (subst (λ paths. IsPermutation paths (paths_of list)) (sym (paths_held ds)) (IsPermutation-map (λ (e : Entry). e.path) (entries_of ds) list moves));
-      pushed =
-          let P : List ℕ × List (List ℕ) → Type 0 = λ x. x.1 ≡ children_of (answers_in list x.0) files x.0 in
-          subst (All P) (sym (log_is jobs)) (All-from_recursion P (log_of ds) (pushes files list ds done (tells_each ds list moves rise)));
-    }
+    subst (λ log. IsPermutation (map (λ x. x.0) log) (paths_of list)) (sym (log_is jobs))
+    (subst (λ paths. IsPermutation paths (paths_of list)) (sym (paths_held ds)) (IsPermutation-map (λ (e : Entry). e.path) (entries_of ds) list moves))
+
+-- and pushed what the recursive walk goes on with
+pushed_children : {R : Type 0} (tree : R → Option Files) (count : R → ℕ) (files : Files) (jobs : List (R × List Held)) (list : List Entry)
+    (starts : List (List ℕ)) → IsRun tree count (Some files) jobs list starts →
+    All (λ x. x.1 ≡ children_of (answers_in list x.0) files x.0) (whole_log (logs_of jobs))
+pushed_children {R = R} tree count files jobs list starts run =
+    let ds = flat_map (λ (j : R × List Held). j.1) jobs in
+    let P : List ℕ × List (List ℕ) → Type 0 = λ x. x.1 ≡ children_of (answers_in list x.0) files x.0 in
+    let told = tells_each ds list run.gathered.moves (list_rises ds list starts run.gathered) in
+    subst (All P) (sym (log_is jobs)) (All-from_recursion P (log_of ds) (pushes files list ds (all_done tree count files jobs list starts run) told))
+
+pushed_where : {R : Type 0} (tree : R → Option Files) (count : R → ℕ) (told : Option Files) (jobs : List (R × List Held)) (list : List Entry)
+    (starts : List (List ℕ)) → IsRun tree count told jobs list starts →
+    IfSome told (λ files. All (λ x. x.1 ≡ children_of (answers_in list x.0) files x.0) (whole_log (logs_of jobs)))
+pushed_where tree count None jobs list starts run = tt
+pushed_where tree count (Some files) jobs list starts run = pushed_children tree count files jobs list starts run
+
+-- the whole run that the ranks made is the walk
+pub was_walked : {R : Type 0} (tree : R → Option Files) (count : R → ℕ) (told : Option Files) (jobs : List (R × List Held)) (list : List Entry)
+    (starts : List (List ℕ)) (o : Options) (shares : List Share) (kept : List Event) → IsRun tree count told jobs list starts →
+    WasRun o starts (logs_of jobs) shares kept → WasWalked told o starts list shares kept
+was_walked tree count told jobs list starts o shares kept run was = record {
+  events = was.events;
+  logs = logs_of jobs;
+  traced = was.traced;
+  handled = handled_paths jobs list run.gathered.moves;
+  pushed = pushed_where tree count told jobs list starts run;
+  counts = was.counts;
+  told = was.kept;
+}
+
+-- and with a trace its events are there
+pub traced : (told : Option Files) (o : Options) (starts : List (List ℕ)) (list : List Entry) (shares : List Share) (kept : List Event) →
+    WasWalked told o starts list shares kept → o.trace ≡ true → IfSome told (λ files. IsTracedWalk files o starts list kept)
+traced None o starts list shares kept was on = tt
+traced (Some files) o starts list shares kept was on = record {
+  logs = was.logs;
+  traced = subst (IsTraced o starts was.logs) (sym (was.told ∙ ap (λ b. cond b was.events []) on)) was.traced;
+  handled = was.handled;
+  pushed = was.pushed;
+}
 
 few_each : {X : Type 0} (f : X → ℕ) (xs : List X) → sum_by f xs < 2 ^ 56 → AllByRecursion (λ k. k < 2 ^ 56) (map f xs)
 few_each f [] h = tt
 few_each f (x ∷ xs) h = let parts = sum_by-cons f x xs in (omega (arith, h, parts), few_each f xs (omega (arith, h, parts)))
 
-pub progress : {R : Type 0} (jobs : List (R × List Held)) (all list : List Entry) (ranks : ℕ) (numbers : List ℕ) → IsProgress (map (λ j. length (log_of j.1)) jobs) numbers → length jobs ≡ ranks →
+pub progress : {R : Type 0} (jobs : List (R × List Held)) (all list : List Entry) (ranks : ℕ) (numbers : List ℕ) →
+    IsProgress (map (λ j. length (log_of j.1)) jobs) numbers → length jobs ≡ ranks →
     all ≡ entries_of (flat_map (λ job. job.1) jobs) → IsPermutation all list → length list < 2 ^ 56 → IsProgressTo (length list) ranks numbers
 progress {R = R} jobs all list ranks numbers g n logs p few =
     let of = λ (j : R × List Held). length (log_of j.1) in

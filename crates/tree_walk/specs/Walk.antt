@@ -1,5 +1,5 @@
 -- The recursive walk of a tree of files, and the answers of it that failed. After the process step of libcircle's walk (SC 2012); the failed answers are our own.
-use Rattle.std.specs.Prelude.{◌≡◌, ℕ, ◌+◌, ◌-◌, ◌≤◌, List, [], ◌∷◌, zero, suc, map, length, if◌then◌else◌, Option, Some, None, is_some, true, All, nat_eq}
+use Rattle.std.specs.Prelude.{◌≡◌, ℕ, ◌-◌, ◌≤◌, List, [], ◌∷◌, zero, suc, map, length, if◌then◌else◌, Option, Some, None, is_some, true, All, nat_eq}
 use Rattle.std.specs.Cmp.Lexicographic.{pointwise}
 use Rattle.std.specs.List.{flat_map, sum_by, count_by}
 use Rattle.std.specs.List.Sorted.{IsStrictlySortedBy}

@@ -1,5 +1,6 @@
 //! Laws of the recursive walk and of roots, each the contract of a function that does nothing.
 ghost use Rattle.tree_walk.specs.Roots.{RootsAreUnique};
+ghost use Rattle.tree_walk.specs.Told.{EntriesAreTold, ParentsAreListed};
 ghost use Rattle.tree_walk.specs.Walk.{WalkIsRecursive, WalkAscends, WalkHasEachPathOnce, WalkFindsAll, WalkWithoutFaultsIsFine};
 
 /// The walk of a path is its entry, and then the walk of each child, names in byte order.
@@ -25,6 +26,17 @@ pub fn walk_finds_all()
 /// Entries of several roots that tell no failed answer are those of the walk in which nothing fails, and each is fine.
 pub fn walk_without_faults_is_fine()
     ensures { WalkWithoutFaultsIsFine }
+{}
+
+/// Each entry of a walk tells what the tree has at its path: an entry with a stat has that of the node there, one that is fine
+/// or was not listed stands in the tree, and one that is gone does not.
+pub fn entries_are_told()
+    ensures { EntriesAreTold }
+{}
+
+/// In the walks of roots that are apart an entry whose parent has an entry too stands in a directory that was listed.
+pub fn parents_are_listed()
+    ensures { ParentsAreListed }
 {}
 
 /// The roots of given paths are unique: two lists that are roots of the same valid paths are the same.

@@ -22,19 +22,24 @@
 //! the run alone: each path was handled as often as it was a start or was pushed. So the list is the same for every number of
 //! ranks, split and seed.
 //!
-//! Proved of what a report tells beside its list: all that the ranks handled is as much as the list has, what all gave all
-//! took, and the numbers of progress rise to the number of entries, by the thousand where there is one rank. With a trace the
-//! events are those of a traced run by the options in which the ranks handle just the paths of the list and push the children
-//! that the recursive walk goes on with, and the shares are what these events count.
+//! Proved of what a report tells beside its list: some whole run by the options was made in which the ranks handle just the
+//! paths of the list, each once; the shares are its counts, and with a trace the events are its own. Where the files tell their
+//! tree, the ranks push in it the children that the recursive walk goes on with. All that the ranks handled is as much as the
+//! list has, what all gave all took, and the numbers of progress rise to the number of entries, by the thousand where there is
+//! one rank.
+//!
+//! Only tested: that each path is asked for its stat once, and each directory for its names once. Over files that change, what
+//! is no directory any more when it is asked for its names has the mark `Changed`.
 //!
 //! That a walk ends is not proved: the runtime that works it off may wait.
 //!
 //! The recursive walk has laws of its own, each the contract of a function that does nothing: [`walk_is_recursive`],
-//! [`walk_ascends`], [`walk_has_each_path_once`], [`walk_finds_all`], [`walk_without_faults_is_fine`]. So have the roots:
-//! [`roots_are_unique`].
+//! [`walk_ascends`], [`walk_has_each_path_once`], [`walk_finds_all`], [`walk_without_faults_is_fine`],
+//! [`entries_are_told`], [`parents_are_listed`]. So have the roots: [`roots_are_unique`].
 //!
-//! Definitions stand in `specs/`: `Walk` (the recursive walk and failed answers), `Roots`, `Found` (what a walk gives), `Traced`
-//! (what events and progress tell), `Held` (what a job keeps).
+//! Definitions stand in `specs/`: `Walk` (the recursive walk and failed answers), `Roots`, `Told` (what entries tell of the tree),
+//! `Found` (what a walk gives), `Traced` (what events, shares and progress tell), `Held` (what a job keeps), and `Looking` (what the
+//! files' answers make of a path), which no public clause cites.
 #![tactic(auto)]
 
 mod errors;
@@ -49,12 +54,9 @@ mod walking;
 pub use errors::WalkError;
 pub use jobs::WalkJob;
 pub use laws::{
-    roots_are_unique, walk_ascends, walk_finds_all, walk_has_each_path_once, walk_is_recursive,
-    walk_without_faults_is_fine,
+    entries_are_told, parents_are_listed, roots_are_unique, walk_ascends, walk_finds_all,
+    walk_has_each_path_once, walk_is_recursive, walk_without_faults_is_fine,
 };
 pub use reports::{WalkReport, Walked};
 pub use rooting::roots_of;
 pub use walking::{MAX_ENTRIES, walk};
-
-#[cfg(test)]
-mod tests;

@@ -1,77 +1,80 @@
 //! What a job asks of one path.
-ghost use Rattle.std.specs.Prelude.{◌≡◌, ◌++◌, [], true, false, map, OnOk, OnErr, IfOk, IfSome};
+ghost use Rattle.std.specs.Prelude.{◌≡◌, ◌++◌, map, OnOk, IfOk};
 ghost use Rattle.path_text.specs.Path.{joined};
 ghost use Rattle.outside.specs.Count.{RoseBy};
 ghost use Rattle.outside.specs.Tree.{AreNames};
 ghost use Rattle.outside.specs.declared.trees.Kind.TheVariants as kinds;
-ghost use Rattle.flat_list.specs.Entries.{is_kind, is_shaped};
-ghost use Rattle.tree_walk.specs.Walk.{bare, weight_of};
-ghost use Rattle.tree_walk.specs.Held.{IsDone, is_fine, is_listed};
+ghost use Rattle.flat_list.specs.Entries.{is_kind};
+ghost use Rattle.tree_walk.specs.Held.{is_fine, is_listed};
+ghost use Rattle.tree_walk.specs.Looking.{by_stat, by_list, IsLook};
 
 use flat_list::{Entry, Mark};
-use outside::{Kind, ListError, Listing, Tree};
+use outside::{Failed, Kind, ListError, Listing, Stat, Tree};
 use path_text::{JoinError, OutOfMemory, Path};
 use rank_queue::Batch;
 use std::alloc::Global;
 
-// Looks at one path: its entry, and the names below it.
+// Looks at one path, by one stat and for a directory by one listing: its entry, and the names below it.
 pub fn look<R: Tree>(
     alloc: Global,
     reader: &mut R,
     path: Path,
 ) -> Result<(Entry, Listing), OutOfMemory>
-    ensures told { IfOk result (λ r. IfSome (R.tree reader.old) (λ files. IsDone files (r.0, map (joined path) r.1.0))) }
-    ensures path { IfOk result (λ r. r.0.path ≡ path) }
-    ensures shaped { IfOk result (λ r. is_shaped r.0 ≡ true) }
-    ensures names { IfOk result (λ r. AreNames path r.1.0) }
-    ensures alone { IfOk result (λ r. is_listed r.0 ≡ false → r.1.0 ≡ []) }
-    ensures listed { IfOk result (λ r. is_listed r.0 ≡ true → (r.0.unnamed ≡ r.1.1) × (r.0.far ≡ r.1.2)) }
+    ensures look { IfOk result (λ r. IsLook (R.tree reader.old) path (R.count reader.old) (R.count reader.new) r.0 r.1) }
     ensures same { R.tree reader.new ≡ R.tree reader.old }
-    ensures counted { IfOk result (λ r. RoseBy (weight_of r.0) (R.count reader.old) (R.count reader.new)) }
     ensures count { RoseBy 0 (R.count reader.old) (R.count reader.new) }
 {
     let _text = path.text();
-    let none = nothing_below(alloc, &path);
-    let stat = match reader.stat(&path) {
-        Err(_) => return Ok((bare(path, Mark::StatFailed), none)),
-        Ok(None) => return Ok((bare(path, Mark::Gone), none)),
-        Ok(Some(stat)) => stat,
-    };
-    let mut entry = bare(path, Mark::Fine);
-    entry.stat = Some(stat);
-    if let Kind::Dir = stat.kind {
-        match reader.list(alloc, &entry.path) {
-            Err(ListError::OutOfMemory) => return Err(OutOfMemory),
-            Err(ListError::Failed) => entry.mark = Mark::ListFailed,
-            Err(ListError::NotDir) => entry.mark = Mark::Changed,
-            Ok(listing) => {
-                entry.unnamed = listing.unnamed();
-                entry.far = listing.far();
-                return Ok((entry, listing));
-            }
-        }
+    let stat = reader.stat(&path);
+    let entry = by_stat(path, stat);
+    if !is_listed(&entry) {
+        return Ok((entry, Listing::make(alloc)));
     }
-    Ok((entry, none))
+    let names = reader.list(alloc, &entry.path);
+    match by_list(alloc, entry, names) {
+        Some(looked) => Ok(looked),
+        None => Err(OutOfMemory),
+    }
 }
 
-// An entry with no more than a mark.
-fn bare(path: Path, mark: Mark) -> Entry
-    ensures { result ≡ bare path mark }
+// The entry of a path, by the answer of its stat.
+fn by_stat(path: Path, answer: Result<Option<Stat>, Failed>) -> Entry
+    ensures { result ≡ by_stat path answer }
 {
+    let (stat, mark) = match answer {
+        Err(_) => (None, Mark::StatFailed),
+        Ok(None) => (None, Mark::Gone),
+        Ok(Some(stat)) => (Some(stat), Mark::Fine),
+    };
     Entry {
         path,
-        stat: None,
+        stat,
         mark,
         unnamed: 0,
         far: 0,
     }
 }
 
-fn nothing_below(alloc: Global, path: &Path) -> Listing
-    ensures none { result ≡ ([], 0, 0) }
-    ensures names { AreNames path.now result.0 }
+// The entry of a directory and the names below it, by the answer of its listing; none where no memory was found.
+fn by_list(
+    alloc: Global,
+    entry: Entry,
+    answer: Result<Listing, ListError>,
+) -> Option<(Entry, Listing)>
+    ensures { result ≡ by_list entry answer }
 {
-    Listing::make(alloc)
+    let mut entry = entry;
+    match answer {
+        Ok(listing) => {
+            entry.unnamed = listing.unnamed();
+            entry.far = listing.far();
+            return Some((entry, listing));
+        }
+        Err(ListError::Failed) => entry.mark = Mark::ListFailed,
+        Err(ListError::NotDir) => entry.mark = Mark::Changed,
+        Err(ListError::OutOfMemory) => return None,
+    }
+    Some((entry, Listing::make(alloc)))
 }
 
 // Puts the paths of the children behind what is there.

@@ -1,17 +1,19 @@
-//! Roots of paths, and walks of small trees.
+//! Roots of paths, and walks of small trees, also of files that change.
 ghost use Rattle.std.specs.Prelude.{◌≡◌, ◌≤◌, None};
 
-use crate::{WalkReport, Walked, roots_of, walk};
 use circle_run::{Options, Split};
-use files_mem::{Call, MemGround};
+use files_mem::{Call, MemGround, MemReader};
 use flat_list::Mark;
-use outside::{Ground, Kind, Plot};
-use path_text::Path;
+use outside::{
+    Failed, Ground, Kind, ListError, Listing, Plot, ReadError, Stat, Tree, WriteError,
+};
+use path_text::{OutOfMemory, Path};
 use std::alloc::Global;
 use std::process::Abort;
 use std::sync::Wait;
 use std::test::Fail;
 use std::thread::Threads;
+use tree_walk::{WalkReport, Walked, roots_of, walk};
 
 const OPTIONS: Options = Options {
     ranks: 1,
@@ -215,5 +217,146 @@ fn what_fails_is_marked_and_counted(rt: HostRuntime) -> Result<(), Fail> {
     assert_eq!(rt; report.list.len(), 4);
     assert_eq!(rt; report.list.entry(0)?.unnamed, 1);
     assert_eq!(rt; files.faults(), 3);
+    Ok(())
+}
+
+// Files that tell no tree and change: what a stat tells of `/t/a` as a directory has no names when it is asked for them. They
+// count how often they were asked.
+#[derive(Drop)]
+struct Shifting {
+    files: MemGround,
+    stats: u64,
+    lists: u64,
+}
+
+#[derive(Drop)]
+struct ShiftingReader {
+    files: MemReader,
+    stats: u64,
+    lists: u64,
+}
+
+impl Tree for ShiftingReader {
+    ghost use Rattle.std.specs.Prelude.{None};
+
+    ghost tree = { λ _. None };
+
+    ghost count = { λ _. 0 };
+
+    fn faults(&self) -> u64 {
+        0
+    }
+
+    fn stat(&mut self, path: &Path) -> Result<Option<Stat>, Failed> {
+        self.stats = self.stats.saturating_add(1);
+        let kind = match path.text() {
+            "/t" | "/t/a" => Kind::Dir,
+            _ => Kind::Link,
+        };
+        Ok(Some(Stat {
+            kind,
+            size: 0,
+            mtime: None,
+        }))
+    }
+
+    fn list(&mut self, alloc: Global, path: &Path) -> Result<Listing, ListError> {
+        self.lists = self.lists.saturating_add(1);
+        match self.files.list(alloc, path) {
+            Ok(names) if names.unnamed() == 0 => Ok(names),
+            _ => Err(ListError::NotDir),
+        }
+    }
+
+    fn read(&mut self, _path: &Path, _at: u64, _into: &mut [u8]) -> Result<usize, ReadError> {
+        Err(ReadError::NotFile)
+    }
+}
+
+impl Plot for Shifting {
+    ghost use Rattle.std.specs.Prelude.{None, []};
+    ghost use Rattle.outside.specs.Writes.{all_but};
+
+    ghost tree = { λ _. None };
+
+    ghost count = { λ _. 0 };
+
+    ghost area = { λ _. all_but [] };
+
+    fn faults(&self) -> u64 {
+        0
+    }
+
+    fn make_dir(&mut self, _alloc: Global, _path: &Path) -> Result<(), WriteError> {
+        Err(WriteError::OutOfMemory)
+    }
+
+    fn make_file(&mut self, _alloc: Global, _path: &Path) -> Result<(), WriteError> {
+        Err(WriteError::OutOfMemory)
+    }
+
+    fn write_at(
+        &mut self,
+        _alloc: Global,
+        _path: &Path,
+        _at: u64,
+        _bytes: &[u8],
+    ) -> Result<(), WriteError> {
+        Err(WriteError::OutOfMemory)
+    }
+
+    fn remove_file(&mut self, _alloc: Global, _path: &Path) -> Result<(), WriteError> {
+        Err(WriteError::OutOfMemory)
+    }
+
+    fn remove_dir(&mut self, _alloc: Global, _path: &Path) -> Result<(), WriteError> {
+        Err(WriteError::OutOfMemory)
+    }
+}
+
+impl Ground for Shifting {
+    type Reader = ShiftingReader;
+
+    fn reader(&mut self, alloc: Global) -> Result<ShiftingReader, OutOfMemory> {
+        Ok(ShiftingReader {
+            files: self.files.reader(alloc)?,
+            stats: 0,
+            lists: 0,
+        })
+    }
+
+    fn take_reader(&mut self, reader: ShiftingReader) {
+        self.stats = self.stats.saturating_add(reader.stats);
+        self.lists = self.lists.saturating_add(reader.lists);
+    }
+}
+
+// Each path is asked for its stat once, and each directory for its names once, by any number of ranks.
+#[test]
+fn what_changes_between_two_answers_is_marked(rt: HostRuntime) -> Result<(), Fail> {
+    let alloc = rt.alloc();
+    for ranks in 1..4 {
+        let mut files = MemGround::empty(alloc)?;
+        files.put_dir(&Path::parse(alloc, "/t")?, 0, None)?;
+        for path in ["/t/a", "/t/b"] {
+            files.put_link(&Path::parse(alloc, path)?, None)?;
+        }
+        let mut files = Shifting {
+            files,
+            stats: 0,
+            lists: 0,
+        };
+        let options = Options { ranks, ..OPTIONS };
+        let starts = roots_of(paths(alloc, &["/t"])?)?;
+        let report = walk(&rt, alloc, &mut files, starts, &options)?;
+        let found = [
+            ("/t", Mark::Fine),
+            ("/t/a", Mark::Changed),
+            ("/t/b", Mark::Fine),
+        ];
+        has(&rt, &report, &found);
+        assert_eq!(rt; files.stats, 3);
+        assert_eq!(rt; files.lists, 2);
+    }
     Ok(())
 }

@@ -1,8 +1,10 @@
-//! Looks at a small tree.
-use crate::{Look, Seen, look_at_each, looks_without_faults_are_told};
+//! Looks at a small tree, and at files that change.
 use files_mem::{Call, MemGround};
-use outside::Plot;
-use path_text::Path;
+use outside::{
+    Failed, Ground, Kind, ListError, Listing, Plot, ReadError, Stat, Tree, WriteError,
+};
+use path_looks::{Look, Seen, look_at_each, looks_without_faults_are_told};
+use path_text::{OutOfMemory, Path};
 use std::alloc::Global;
 use std::process::Abort;
 use std::test::Fail;
@@ -102,5 +104,113 @@ fn no_path_is_no_look(rt: HostRuntime) -> Result<(), Fail> {
     let looks = looks_at(alloc, &mut files, &[])?;
     assert!(rt; looks.is_empty());
     assert_eq!(rt; files.faults(), 0);
+    Ok(())
+}
+
+// Files that tell no tree and change at each look: what the nth stat is asked of changed last at n.
+#[derive(Drop)]
+struct Restless {
+    stats: u64,
+}
+
+impl Tree for Restless {
+    ghost use Rattle.std.specs.Prelude.{None};
+
+    ghost tree = { λ _. None };
+
+    ghost count = { λ _. 0 };
+
+    fn faults(&self) -> u64 {
+        0
+    }
+
+    fn stat(&mut self, _path: &Path) -> Result<Option<Stat>, Failed> {
+        self.stats = self.stats.saturating_add(1);
+        Ok(Some(Stat {
+            kind: Kind::File,
+            size: 0,
+            mtime: Some(self.stats),
+        }))
+    }
+
+    fn list(&mut self, _alloc: Global, _path: &Path) -> Result<Listing, ListError> {
+        Err(ListError::NotDir)
+    }
+
+    fn read(&mut self, _path: &Path, _at: u64, _into: &mut [u8]) -> Result<usize, ReadError> {
+        Err(ReadError::NotFile)
+    }
+}
+
+impl Plot for Restless {
+    ghost use Rattle.std.specs.Prelude.{None, []};
+    ghost use Rattle.outside.specs.Writes.{all_but};
+
+    ghost tree = { λ _. None };
+
+    ghost count = { λ _. 0 };
+
+    ghost area = { λ _. all_but [] };
+
+    fn faults(&self) -> u64 {
+        0
+    }
+
+    fn make_dir(&mut self, _alloc: Global, _path: &Path) -> Result<(), WriteError> {
+        Err(WriteError::OutOfMemory)
+    }
+
+    fn make_file(&mut self, _alloc: Global, _path: &Path) -> Result<(), WriteError> {
+        Err(WriteError::OutOfMemory)
+    }
+
+    fn write_at(
+        &mut self,
+        _alloc: Global,
+        _path: &Path,
+        _at: u64,
+        _bytes: &[u8],
+    ) -> Result<(), WriteError> {
+        Err(WriteError::OutOfMemory)
+    }
+
+    fn remove_file(&mut self, _alloc: Global, _path: &Path) -> Result<(), WriteError> {
+        Err(WriteError::OutOfMemory)
+    }
+
+    fn remove_dir(&mut self, _alloc: Global, _path: &Path) -> Result<(), WriteError> {
+        Err(WriteError::OutOfMemory)
+    }
+}
+
+impl Ground for Restless {
+    type Reader = Restless;
+
+    fn reader(&mut self, _alloc: Global) -> Result<Restless, OutOfMemory> {
+        Ok(Restless { stats: 0 })
+    }
+
+    fn take_reader(&mut self, reader: Restless) {
+        self.stats = self.stats.saturating_add(reader.stats);
+    }
+}
+
+// A second stat of a path would tell a later time, of it or of the paths behind it.
+#[test]
+fn each_path_is_asked_once(rt: HostRuntime) -> Result<(), Fail> {
+    let alloc = rt.alloc();
+    let mut files = Restless { stats: 0 };
+    let mut paths = Vec::new(alloc);
+    for text in ["/b", "/a", "/c", "/a", "/b"] {
+        paths.push(Path::parse(alloc, text)?)?;
+    }
+    let looks = look_at_each(alloc, &mut files, paths)?;
+    let told = [
+        ("/a", Seen::At(Some(1))),
+        ("/b", Seen::At(Some(2))),
+        ("/c", Seen::At(Some(3))),
+    ];
+    are(&rt, &looks, &told);
+    assert_eq!(rt; files.stats, 3);
     Ok(())
 }

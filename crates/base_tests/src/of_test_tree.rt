@@ -1,9 +1,9 @@
 //! The made-up tree, as it is made, read and written.
-use super::*;
 use outside::{Ground, Kind, ListError, Plot, ReadError, Stat, Tree, WriteError, load};
 use path_text::Path;
 use std::alloc::Global;
 use std::test::Fail;
+use test_tree::{TestGround, TestReader};
 
 const DIR: Option<Stat> = Some(Stat {
     kind: Kind::Dir,

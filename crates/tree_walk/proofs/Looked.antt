@@ -1,0 +1,267 @@
+-- What a look gives, by the answers of the files.
+use Rattle.std.proofs.Common.{◌≡◌, ◌≢◌, ℕ, ◌≤◌, Bool, true, false, ◌&&◌, ◌||◌, List, [], map, length, cond, refl, ap, ◌∙◌, sym, arith, Option, Some, None}
+use Rattle.std.proofs.Common.{IfSome}
+use Rattle.std.specs.Prelude.{◌==◌, Result, Ok, Err, IfOk, OnOk, OnErr, IsErrOf}
+use Rattle.std.specs.Option.{option_map}
+use Rattle.std.specs.FinMap.{get}
+use Rattle.std.proofs.Math.Bool.{or-true}
+use Rattle.std.proofs.lemmas.Bool.{false≢true}
+use Rattle.path_text.specs.Path.{joined}
+use Rattle.outside.specs.Tree.{Files, Node, Body, dir, file, link, other, IsTree, Lists, AreNames, is_dir, stat_of, far_of, names_in}
+use Rattle.outside.specs.Count.{RoseBy}
+use Rattle.outside.specs.declared.failures.Failed.{Failed}
+use Rattle.outside.specs.declared.listings.Listing.{Listing}
+use Rattle.outside.specs.declared.trees.ListError.{ListError}
+use Rattle.outside.specs.declared.trees.ListError.TheVariants as list
+use Rattle.outside.specs.declared.trees.Kind.{Kind}
+use Rattle.outside.specs.declared.trees.Kind.TheVariants as kind
+use Rattle.outside.specs.declared.trees.Stat.{Stat}
+use Rattle.flat_list.specs.declared.entries.Entry.{Entry}
+use Rattle.flat_list.specs.declared.entries.Mark.{Mark}
+use Rattle.flat_list.specs.declared.entries.Mark.TheVariants as mark
+use Rattle.flat_list.specs.Entries.{is_kind}
+use Rattle.tree_walk.specs.Walk.{bare, told, list_failed, entry_of}
+use Rattle.tree_walk.specs.Held.{IsDone, is_listed}
+use Rattle.tree_walk.specs.Looking.{by_stat, by_list, IsLook}
+use Rattle.tree_walk.proofs.Names.{no_names}
+
+-- an answer of a stat at a path, over files that may tell a tree and whose count of faults went from old to new
+pub record IsStat (tree : Option Files) (path : List ℕ) (old new : ℕ) (answer : Result (Option Stat) Failed) : Type 0 where
+  pub valid : IfSome tree IsTree
+  pub short : length path ≤ 4095
+  pub told : IfOk answer (λ found. IfSome tree (λ files. found ≡ option_map stat_of (get files path)))
+  pub size : IfOk answer (λ found. IfSome found (λ stat. stat.kind ≢ kind.File → stat.size ≡ 0))
+  pub ok : OnOk answer (RoseBy 0 old new)
+  pub cause : OnErr answer (RoseBy 1 old new)
+
+-- an answer of a listing
+pub record IsListing (tree : Option Files) (path : List ℕ) (old new : ℕ) (answer : Result Listing ListError) : Type 0 where
+  pub told : IfOk answer (λ names. IfSome tree (λ files. Lists files path names))
+  pub not_dir : IsErrOf answer list.NotDir → IfSome tree (λ files. is_dir (get files path) ≡ false)
+  pub are : IfOk answer (λ names. AreNames path names.0)
+  pub unnamed : IfOk answer (λ names. RoseBy names.1 old new)
+  pub cause : IsErrOf answer list.Failed → RoseBy 1 old new
+  pub err : OnErr answer (RoseBy 0 old new)
+
+-- an entry with a stat
+abbrev with_stat : List ℕ → Stat → Mark → ℕ → ℕ → Entry
+with_stat path stat m unnamed far = record { path = path; stat = Some stat; mark = m; unnamed = unnamed; far = far }
+
+-- ---- the shape
+
+sized : (k : Kind) (n : ℕ) → (k ≢ kind.File → n ≡ 0) → (is_kind kind.File k || n == 0) ≡ true
+sized kind.File n h = refl
+sized kind.Dir n h = ap (λ m. m == 0) (h (λ e. cc))
+sized kind.Link n h = ap (λ m. m == 0) (h (λ e. cc))
+sized kind.Other n h = ap (λ m. m == 0) (h (λ e. cc))
+
+both : (a b : Bool) → a ≡ true → b ≡ true → (a && b) ≡ true
+both a b e d = ap (λ c. c && b) e ∙ d
+
+first : (a b : Bool) → (a && b) ≡ true → a ≡ true
+first true b e = refl
+first false b e = absurd (false≢true e)
+
+and_false : (b : Bool) → (b && false) ≡ false
+and_false true = refl
+and_false false = refl
+
+-- ---- what the tree has
+
+nothing : (found : Option Node) → None ≡ option_map stat_of found → found ≡ None
+nothing None e = refl
+nothing (Some node) e = absurd (cc)
+
+-- what is no directory is as its stat says
+record IsPlain (path : List ℕ) (stat : Stat) (found : Option Node) : Type 0 where
+  entry : with_stat path stat mark.Fine 0 0 ≡ entry_of (told 0) found path
+  none : is_dir found ≡ false
+
+plain_node : (body : Body) (mtime : Option ℕ) (path : List ℕ) (stat : Stat) → stat ≡ stat_of (record { body = body; mtime = mtime }) →
+    is_kind kind.Dir stat.kind ≡ false → IsPlain path stat (Some (record { body = body; mtime = mtime }))
+plain_node (dir far) mtime path stat e l = absurd (false≢true (sym l ∙ ap (λ s. is_kind kind.Dir s.kind) e))
+plain_node (file bytes) mtime path stat e l = record { entry = ap (λ s. with_stat path s mark.Fine 0 0) e; none = refl }
+plain_node link mtime path stat e l = record { entry = ap (λ s. with_stat path s mark.Fine 0 0) e; none = refl }
+plain_node other mtime path stat e l = record { entry = ap (λ s. with_stat path s mark.Fine 0 0) e; none = refl }
+
+plain : (found : Option Node) (path : List ℕ) (stat : Stat) → Some stat ≡ option_map stat_of found → is_kind kind.Dir stat.kind ≡ false →
+    IsPlain path stat found
+plain None path stat e l = absurd (cc)
+plain (Some node) path stat e l = plain_node node.body node.mtime path stat (cc) l
+
+-- a directory
+record IsDirThere (stat : Stat) (found : Option Node) : Type 0 where
+  far : ℕ
+  mtime : Option ℕ
+  there : found ≡ Some (record { body = dir far; mtime = mtime })
+  told : stat ≡ stat_of (record { body = dir far; mtime = mtime })
+
+dir_node : (body : Body) (mtime : Option ℕ) (stat : Stat) → stat ≡ stat_of (record { body = body; mtime = mtime }) →
+    is_kind kind.Dir stat.kind ≡ true → IsDirThere stat (Some (record { body = body; mtime = mtime }))
+dir_node (dir far) mtime stat e l = record { far = far; mtime = mtime; there = refl; told = e }
+dir_node (file bytes) mtime stat e l = absurd (false≢true (sym (ap (λ s. is_kind kind.Dir s.kind) e) ∙ l))
+dir_node link mtime stat e l = absurd (false≢true (sym (ap (λ s. is_kind kind.Dir s.kind) e) ∙ l))
+dir_node other mtime stat e l = absurd (false≢true (sym (ap (λ s. is_kind kind.Dir s.kind) e) ∙ l))
+
+dir_there : (found : Option Node) (stat : Stat) → Some stat ≡ option_map stat_of found → is_kind kind.Dir stat.kind ≡ true → IsDirThere stat found
+dir_there None stat e l = absurd (cc)
+dir_there (Some node) stat e l = dir_node node.body node.mtime stat (cc) l
+
+-- ---- a stat alone
+
+pub stat_at : (path : List ℕ) (answer : Result (Option Stat) Failed) → (by_stat path answer).path ≡ path
+stat_at path (Err failed) = refl
+stat_at path (Ok None) = refl
+stat_at path (Ok (Some stat)) = refl
+
+failed_told : (tree : Option Files) (path : List ℕ) → IfSome tree IsTree → length path ≤ 4095 →
+    IfSome tree (λ files. IsDone files (bare path mark.StatFailed, []))
+failed_told None path t s = tt
+failed_told (Some files) path t s = record { valid = t; short = s; entry = refl; children = refl }
+
+gone_told : (tree : Option Files) (path : List ℕ) → IfSome tree IsTree → length path ≤ 4095 →
+    IfSome tree (λ files. None ≡ option_map stat_of (get files path)) →
+    IfSome tree (λ files. IsDone files (bare path mark.Gone, []))
+gone_told None path t s h = tt
+gone_told (Some files) path t s h =
+    let none = sym (nothing (get files path) h) in
+    record {
+      valid = t;
+      short = s;
+      entry = ap (λ o. entry_of (told 0) o path) none;
+      children = ap (λ o. cond (is_dir o) (map (joined path) (names_in files path)) []) none;
+    }
+
+plain_told : (tree : Option Files) (path : List ℕ) (stat : Stat) → IfSome tree IsTree → length path ≤ 4095 →
+    IfSome tree (λ files. Some stat ≡ option_map stat_of (get files path)) → is_kind kind.Dir stat.kind ≡ false →
+    IfSome tree (λ files. IsDone files (with_stat path stat mark.Fine 0 0, []))
+plain_told None path stat t s h l = tt
+plain_told (Some files) path stat t s h l =
+    let p = plain (get files path) path stat h l in
+    record {
+      valid = t;
+      short = s;
+      entry = p.entry;
+      children = ap (λ b. cond b (map (joined path) (names_in files path)) []) (sym p.none);
+    }
+
+no_dir : (b : Bool) → (b && true) ≡ false → b ≡ false
+no_dir true e = e
+no_dir false e = refl
+
+pub stat_alone : (tree : Option Files) (path : List ℕ) (old new : ℕ) (answer : Result (Option Stat) Failed) → IsStat tree path old new answer →
+    is_listed (by_stat path answer) ≡ false → IsLook tree path old new (by_stat path answer) ([], 0, 0)
+stat_alone tree path old new (Err failed) s l = record {
+  told = failed_told tree path s.valid s.short;
+  at = refl;
+  shaped = refl;
+  are = no_names path [] refl;
+  alone = λ n. refl;
+  listed = λ y. absurd (false≢true y);
+  counted = s.cause;
+}
+stat_alone tree path old new (Ok None) s l = record {
+  told = gone_told tree path s.valid s.short s.told;
+  at = refl;
+  shaped = refl;
+  are = no_names path [] refl;
+  alone = λ n. refl;
+  listed = λ y. absurd (false≢true y);
+  counted = s.ok;
+}
+stat_alone tree path old new (Ok (Some stat)) s l = record {
+  told = plain_told tree path stat s.valid s.short s.told (no_dir (is_kind kind.Dir stat.kind) l);
+  at = refl;
+  shaped = both (is_kind kind.File stat.kind || stat.size == 0) (is_kind kind.Dir stat.kind || true) (sized stat.kind stat.size s.size)
+      (or-true (is_kind kind.Dir stat.kind));
+  are = no_names path [] refl;
+  alone = λ n. refl;
+  listed = λ y. absurd (false≢true (sym l ∙ y));
+  counted = s.ok;
+}
+
+-- ---- a listing behind a stat
+
+listed_told : (tree : Option Files) (path : List ℕ) (stat : Stat) (names : Listing) → IfSome tree IsTree → length path ≤ 4095 →
+    IfSome tree (λ files. Some stat ≡ option_map stat_of (get files path)) → is_kind kind.Dir stat.kind ≡ true → IfSome tree (λ files. Lists files path names) →
+    IfSome tree (λ files. IsDone files (with_stat path stat mark.Fine names.1 names.2, map (joined path) names.0))
+listed_told None path stat names t s h l g = tt
+listed_told (Some files) path stat names t s h l g =
+    let d = dir_there (get files path) stat h l in
+    let same : Some names.2 ≡ Some d.far = g.far ∙ ap (option_map (λ n. far_of n.body)) d.there in
+    let far : names.2 ≡ d.far = cc in
+    record {
+      valid = t;
+      short = s;
+      entry = (λ i. with_stat path (d.told i) mark.Fine names.1 (far i)) ∙ ap (λ o. entry_of (told names.1) o path) (sym d.there);
+      children = ap (map (joined path)) g.names ∙ ap (λ b. cond b (map (joined path) (names_in files path)) []) (sym g.is_dir);
+    }
+
+unlisted_told : (tree : Option Files) (path : List ℕ) (stat : Stat) → IfSome tree IsTree → length path ≤ 4095 →
+    IfSome tree (λ files. Some stat ≡ option_map stat_of (get files path)) → is_kind kind.Dir stat.kind ≡ true →
+    IfSome tree (λ files. IsDone files (with_stat path stat mark.ListFailed 0 0, []))
+unlisted_told None path stat t s h l = tt
+unlisted_told (Some files) path stat t s h l =
+    let d = dir_there (get files path) stat h l in
+    record {
+      valid = t;
+      short = s;
+      entry = ap (λ x. with_stat path x mark.ListFailed 0 0) d.told ∙ ap (λ o. entry_of list_failed o path) (sym d.there);
+      children = refl;
+    }
+
+-- files that tell their tree do not change
+changed_told : (tree : Option Files) (path : List ℕ) (stat : Stat) → IfSome tree (λ files. Some stat ≡ option_map stat_of (get files path)) →
+    is_kind kind.Dir stat.kind ≡ true → IfSome tree (λ files. is_dir (get files path) ≡ false) →
+    IfSome tree (λ files. IsDone files (with_stat path stat mark.Changed 0 0, []))
+changed_told None path stat h l n = tt
+changed_told (Some files) path stat h l n = let d = dir_there (get files path) stat h l in absurd (false≢true (sym n ∙ ap is_dir d.there))
+
+-- faults of two calls
+rose : (k old mid new : ℕ) → RoseBy 0 old mid → RoseBy k mid new → RoseBy k old new
+rose k old mid new f g = record { kept = omega (arith, f.kept, g.kept); rose = omega (arith, f.kept, g.rose) }
+
+pub stat_and_list : (tree : Option Files) (path : List ℕ) (old mid new : ℕ) (answer : Result (Option Stat) Failed) (names : Result Listing ListError) →
+    IsStat tree path old mid answer → IsListing tree path mid new names → is_listed (by_stat path answer) ≡ true →
+    IfSome (by_list (by_stat path answer) names) (λ r. IsLook tree path old new r.0 r.1)
+stat_and_list tree path old mid new (Err failed) names s g l = absurd (false≢true l)
+stat_and_list tree path old mid new (Ok None) names s g l = absurd (false≢true l)
+stat_and_list tree path old mid new (Ok (Some stat)) names s g l = by names g
+  where
+    is : is_kind kind.Dir stat.kind ≡ true
+    is = first (is_kind kind.Dir stat.kind) true l
+
+    size : (is_kind kind.File stat.kind || stat.size == 0) ≡ true
+    size = sized stat.kind stat.size s.size
+
+    by : (names : Result Listing ListError) → IsListing tree path mid new names →
+        IfSome (by_list (by_stat path (Ok (Some stat))) names) (λ r. IsLook tree path old new r.0 r.1)
+    by (Ok names) g = record {
+      told = listed_told tree path stat names s.valid s.short s.told is g.told;
+      at = refl;
+      shaped = both (is_kind kind.File stat.kind || stat.size == 0) (is_kind kind.Dir stat.kind || (names.1 == 0 && names.2 == 0)) size
+          (ap (λ b. b || (names.1 == 0 && names.2 == 0)) is);
+      are = g.are;
+      alone = λ n. absurd (false≢true (sym n ∙ l));
+      listed = λ y. (refl, refl);
+      counted = rose names.1 old mid new s.ok g.unnamed;
+    }
+    by (Err list.Failed) g = record {
+      told = unlisted_told tree path stat s.valid s.short s.told is;
+      at = refl;
+      shaped = both (is_kind kind.File stat.kind || stat.size == 0) (is_kind kind.Dir stat.kind && true) size l;
+      are = no_names path [] refl;
+      alone = λ n. refl;
+      listed = λ y. absurd (false≢true (sym (and_false (is_kind kind.Dir stat.kind)) ∙ y));
+      counted = rose 1 old mid new s.ok (g.cause refl);
+    }
+    by (Err list.NotDir) g = record {
+      told = changed_told tree path stat s.told is (g.not_dir refl);
+      at = refl;
+      shaped = both (is_kind kind.File stat.kind || stat.size == 0) (is_kind kind.Dir stat.kind && true) size l;
+      are = no_names path [] refl;
+      alone = λ n. refl;
+      listed = λ y. absurd (false≢true (sym (and_false (is_kind kind.Dir stat.kind)) ∙ y));
+      counted = rose 0 old mid new s.ok g.err;
+    }
+    by (Err list.OutOfMemory) g = tt
