@@ -5,4 +5,6 @@
 #![tactic(auto)]
 
 #[cfg(test)]
+mod of_tool_text;
+#[cfg(test)]
 mod of_tool_words;
