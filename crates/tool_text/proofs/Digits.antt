@@ -18,7 +18,7 @@ right_more places n h k =
     let front = decimal (n / 10) in
     ap (λ digits. replicate (places - length digits) 32 ++ digits) (decimal_step n h k)
     ∙ ap (λ m. replicate m 32 ++ (front ++ (48 + n % 10) ∷ []))
-      (ap (λ l. places - l) (length-append front ((48 + n % 10) ∷ [])) ∙ shorter places (length front))
+    (ap (λ l. places - l) (length-append front ((48 + n % 10) ∷ [])) ∙ shorter places (length front))
     ∙ sym (append_assoc (replicate (places - 1 - length front) 32) front ((48 + n % 10) ∷ []))
 
 -- after what was there before

@@ -96,8 +96,8 @@ unfolding IsStrictlySortedBy
 joined_ascend path [] notes s behind t = t
 joined_ascend path (w ∷ ws) notes s behind t = (
   all_more (λ n. note_cmp (note_at path w) n ≡ Less) (map (note_at path) ws) notes
-    (below_same path w ws s.0)
-    (all_weaker _ _ (λ n h. other_path (note_at path w) n h) notes behind),
+      (below_same path w ws s.0)
+      (all_weaker _ _ (λ n h. other_path (note_at path w) n h) notes behind),
   joined_ascend path ws notes s.1 behind t,
 )
 
