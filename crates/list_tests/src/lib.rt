@@ -5,6 +5,8 @@
 #![tactic(auto)]
 
 #[cfg(test)]
+mod of_tool_text;
+#[cfg(test)]
 mod of_tool_words;
 mod of_find_tests;
 #[cfg(test)]

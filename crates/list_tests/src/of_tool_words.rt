@@ -6,9 +6,7 @@ use path_text::Path;
 use std::alloc::{AllocError, Global};
 use std::process::Abort;
 use std::test::Fail;
-use tool_words::{
-    Cause, Command, Common, Refusal, Start, Tests, WordsError, read_words, words_ask_within_limits,
-};
+use tool_words::{Cause, Command, Common, Refusal, Start, Tests, WordsError, read_words};
 
 fn line_of(alloc: Global, words: &[&str]) -> Result<Vec<String>, AllocError> {
     let mut line = Vec::new(alloc);
@@ -56,11 +54,23 @@ fn paths_of_command_lines(rt: HostRuntime) -> Result<(), Fail> {
 #[test]
 fn runs_of_command_lines(rt: HostRuntime) -> Result<(), Fail> {
     let standard = Common::standard();
-    let lines: [(&[&str], Common); 6] = [
+    let lines: [(&[&str], Common); 7] = [
         (
             &["dwalk", "--ranks", "64", "/t"],
             Common {
                 ranks: 64,
+                ..standard
+            },
+        ),
+        (
+            &[
+                "dwalk", "--ranks", "2", "--hosts", "1", "--split", "equal", "--trace", "--shares",
+                "/u",
+            ],
+            Common {
+                ranks: 2,
+                trace: true,
+                shares: true,
                 ..standard
             },
         ),
@@ -135,7 +145,7 @@ fn runs_of_command_lines(rt: HostRuntime) -> Result<(), Fail> {
 
 #[test]
 fn refused_options_of_runs(rt: HostRuntime) -> Result<(), Fail> {
-    let lines: [(&[&str], WordsError); 15] = [
+    let lines: [(&[&str], WordsError); 14] = [
         (&["dwalk", "--ranks", "65", "/t"], WordsError::BadValue(2)),
         (&["dwalk", "--hosts", "2", "/t"], WordsError::BadValue(2)),
         (&["dwalk", "--ranks=0", "/t"], WordsError::BadValue(1)),
@@ -168,7 +178,6 @@ fn refused_options_of_runs(rt: HostRuntime) -> Result<(), Fail> {
             WordsError::BadValue(2),
         ),
         (&["dwalk", "--trace=", "/t"], WordsError::BadValue(1)),
-        (&["dwalk", "--trace", "--trace=x"], WordsError::BadValue(2)),
         (&["dwalk", "--progress", "--ranks"], WordsError::NoValue(2)),
         (&["dwalk", "--shares"], WordsError::NoPath(2)),
     ];
@@ -231,7 +240,7 @@ fn lists_of_command_lines(rt: HostRuntime) -> Result<(), Fail> {
 
 #[test]
 fn refused_command_lines(rt: HostRuntime) -> Result<(), Fail> {
-    let lines: [(&[&str], WordsError); 24] = [
+    let lines: [(&[&str], WordsError); 23] = [
         (&[], WordsError::NoTool(0)),
         (&["dwalk"], WordsError::NoPath(1)),
         (&[""], WordsError::UnknownTool(0)),
@@ -264,10 +273,6 @@ fn refused_command_lines(rt: HostRuntime) -> Result<(), Fail> {
             &["dwalk", "/t", "--input", "/l", "/u"],
             WordsError::TooManyPaths(1),
         ),
-        (
-            &["dwalk", "--sort=size", "--sort", "x"],
-            WordsError::Clash(2),
-        ),
     ];
     for (words, refusal) in lines {
         let line = line_of(rt.alloc(), words)?;
@@ -277,6 +282,66 @@ fn refused_command_lines(rt: HostRuntime) -> Result<(), Fail> {
         );
     }
     Ok(())
+}
+
+// An offence in the option's own word goes before its standing twice, and a refused value in the next word comes after that.
+static TWICE: [(&[&str], WordsError); 11] = [
+    (&["dwalk", "--trace", "--trace"], WordsError::Clash(2)),
+    (&["dwalk", "--trace", "--trace=x"], WordsError::BadValue(2)),
+    (
+        &["dwalk", "--sort=size", "--sort=name"],
+        WordsError::Clash(2),
+    ),
+    (
+        &["dwalk", "--sort=size", "--sort=x"],
+        WordsError::BadValue(2),
+    ),
+    (
+        &["dwalk", "--sort=size", "--sort", "x"],
+        WordsError::Clash(2),
+    ),
+    (
+        &["dwalk", "--sort=size", "--sort", "name"],
+        WordsError::Clash(2),
+    ),
+    (&["dwalk", "--sort=size", "--sort"], WordsError::NoValue(2)),
+    (
+        &["dwalk", "--ranks", "2", "--ranks=0"],
+        WordsError::BadValue(3),
+    ),
+    (
+        &["dfind", "--name=a", "--name", "b", "--name"],
+        WordsError::NoValue(4),
+    ),
+    (
+        &["dfind", "--name=a", "--name=b", "--trace=1", "--x"],
+        WordsError::BadValue(3),
+    ),
+    (
+        &["dtest", "--mtime", "1", "--mtime", "1d"],
+        WordsError::BadValue(4),
+    ),
+];
+
+#[test]
+fn which_of_several_offences_is_told(rt: HostRuntime) -> Result<(), Fail> {
+    for (words, refusal) in TWICE.iter() {
+        let line = line_of(rt.alloc(), words)?;
+        assert!(rt;
+            read_words(rt.alloc(), &line).err() == Some(*refusal),
+            "{words:?}"
+        );
+    }
+    Ok(())
+}
+
+#[test]
+fn refusals_of_errors(rt: HostRuntime) {
+    let (word, cause) = (2, Cause::Clash);
+    assert!(rt; WordsError::Clash(2).refusal() == Some(Refusal { word, cause }));
+    let (word, cause) = (0, Cause::NoTool);
+    assert!(rt; WordsError::NoTool(0).refusal() == Some(Refusal { word, cause }));
+    assert!(rt; WordsError::OutOfMemory.refusal().is_none());
 }
 
 #[test]
@@ -326,8 +391,26 @@ fn has_tests(
 }
 
 // Lines of dfind, the tests and the paths of `--newer` that they give.
-static FINDS: [(&[&str], &[(&str, Option<Bound>)], &[&str]); 7] = [
+static FINDS: [(&[&str], &[(&str, Option<Bound>)], &[&str]); 10] = [
     (&["dfind", "/t"], &[], &[]),
+    (
+        &["dfind", "/t", "--size", "+0", "--type", "f"],
+        &[("size", Some(Bound::More(0))), ("kind", None)],
+        &[],
+    ),
+    (
+        &["dfind", "/t", "--mtime", "2", "--mmin", "2880"],
+        &[
+            ("days", Some(Bound::Equal(2))),
+            ("minutes", Some(Bound::Equal(2880))),
+        ],
+        &[],
+    ),
+    (
+        &["dfind", "--name", "*.txt", "--mtime", "-7", "/home/ann"],
+        &[("another name", None), ("days", Some(Bound::Less(7)))],
+        &[],
+    ),
     (
         &[
             "dfind", "--name", "*.log", "--size", "+10M", "--mtime", "+30", "/t",
@@ -416,8 +499,14 @@ fn lists_of_dfind(rt: HostRuntime) -> Result<(), Fail> {
 }
 
 // Lines of dtest, the nodes, the tests and the paths of `--newer` that they give.
-static MADE: [(&[&str], u64, &[(&str, Option<Bound>)], &[&str]); 5] = [
+static MADE: [(&[&str], u64, &[(&str, Option<Bound>)], &[&str]); 6] = [
     (&["dtest", "10"], 10, &[], &[]),
+    (
+        &["dtest", "--ranks", "1", "--progress", "2500"],
+        2500,
+        &[],
+        &[],
+    ),
     (
         &["dtest", "--type", "d", "100000"],
         100000,
@@ -455,7 +544,7 @@ fn trees_of_dtest(rt: HostRuntime) -> Result<(), Fail> {
     Ok(())
 }
 
-static REFUSED: [(&[&str], WordsError); 27] = [
+static REFUSED: [(&[&str], WordsError); 28] = [
     (&["dfind"], WordsError::NoPath(1)),
     (&["dfind", "/t", "--size", "2x"], WordsError::BadValue(3)),
     (&["dfind", "/t", "--size", "k"], WordsError::BadValue(3)),
@@ -490,6 +579,10 @@ static REFUSED: [(&[&str], WordsError); 27] = [
     (&["dtest"], WordsError::NoPath(1)),
     (&["dtest", "--type", "f"], WordsError::NoPath(3)),
     (&["dtest", "0"], WordsError::BadValue(1)),
+    (
+        &["dtest", "--ranks", "8", "--hosts", "4", "--progress", "10"],
+        WordsError::BadValue(4),
+    ),
     (&["dtest", "1000001"], WordsError::BadValue(1)),
     (&["dtest", "/t"], WordsError::BadValue(1)),
     (&["dtest", "10", "20"], WordsError::TooManyPaths(2)),

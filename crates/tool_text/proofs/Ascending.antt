@@ -34,7 +34,8 @@ module _ {K : Type 0} {cmp : K → K → Ordering} (o : IsTotalOrder cmp) where
   below_later : (x : K) (xs : List K) (y : K) → IsStrictlySortedBy cmp (x ∷ xs) → Contains xs y → cmp x y ≡ Less
   below_later x xs y s h = All-contains (λ z. cmp x z ≡ Less) xs y (All-after_first cmp x xs s) h
 
-  one_first : (x : K) (xs : List K) (y : K) (ys : List K) → IsStrictlySortedBy cmp (x ∷ xs) → IsStrictlySortedBy cmp (y ∷ ys) → Contains (y ∷ ys) x → Contains (x ∷ xs) y → x ≡ y
+  one_first : (x : K) (xs : List K) (y : K) (ys : List K) →
+      IsStrictlySortedBy cmp (x ∷ xs) → IsStrictlySortedBy cmp (y ∷ ys) → Contains (y ∷ ys) x → Contains (x ∷ xs) y → x ≡ y
   one_first x xs y ys s t h k = elim (first_or_later y ys x h) [
     | inl same ↦ sym same
     | inr behind ↦ elim (first_or_later x xs y k) [
@@ -43,7 +44,8 @@ module _ {K : Type 0} {cmp : K → K → Ordering} (o : IsTotalOrder cmp) where
     ]
   ]
 
-  rest_in : (x : K) (xs : List K) (y : K) (ys : List K) → x ≡ y → IsStrictlySortedBy cmp (x ∷ xs) → ((z : K) → Contains (x ∷ xs) z → Contains (y ∷ ys) z) → (z : K) → Contains xs z → Contains ys z
+  rest_in : (x : K) (xs : List K) (y : K) (ys : List K) →
+      x ≡ y → IsStrictlySortedBy cmp (x ∷ xs) → ((z : K) → Contains (x ∷ xs) z → Contains (y ∷ ys) z) → (z : K) → Contains xs z → Contains ys z
   rest_in x xs y ys same s f z h = elim (first_or_later y ys z (f z (later_in x xs z h))) [
     | inl first ↦
         let itself : x ≡ z = same ∙ first in
@@ -51,7 +53,8 @@ module _ {K : Type 0} {cmp : K → K → Ordering} (o : IsTotalOrder cmp) where
     | inr later ↦ later
   ]
 
-  pub fixed_by_elements : (xs ys : List K) → IsStrictlySortedBy cmp xs → IsStrictlySortedBy cmp ys → ((z : K) → Contains xs z → Contains ys z) → ((z : K) → Contains ys z → Contains xs z) → xs ≡ ys
+  pub fixed_by_elements : (xs ys : List K) → IsStrictlySortedBy cmp xs → IsStrictlySortedBy cmp ys →
+      ((z : K) → Contains xs z → Contains ys z) → ((z : K) → Contains ys z → Contains xs z) → xs ≡ ys
   fixed_by_elements [] [] s t f g = refl
   fixed_by_elements [] (y ∷ ys) s t f g = absurd (none_in y (g y (first_in y ys)))
   fixed_by_elements (x ∷ xs) [] s t f g = absurd (none_in x (f x (first_in x xs)))

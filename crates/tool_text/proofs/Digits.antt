@@ -1,5 +1,6 @@
 -- The decimal text of a number, one digit at a time from the right, with spaces before it.
-use Rattle.std.proofs.Common.{◌≡◌, ℕ, ◌+◌, ◌-◌, ◌/◌, ◌%◌, ◌^◌, ◌<◌, ◌≤◌, List, [], ◌∷◌, ◌++◌, length, replicate, ap, sym, ◌∙◌, arith, append_assoc, length-append}
+use Rattle.std.proofs.Common.{◌≡◌, ℕ, ◌+◌, ◌-◌, ◌/◌, ◌%◌, ◌^◌, ◌<◌, ◌≤◌, ap, sym, ◌∙◌, arith}
+use Rattle.std.proofs.Common.{List, [], ◌∷◌, ◌++◌, length, replicate, append_assoc, length-append}
 use Rattle.std.specs.Fmt.{decimal}
 use Rattle.std.proofs.lemmas.Fmt.{decimal_digit, decimal_step, decimal_step_wide}
 use Rattle.tool_text.specs.Lines.{right}
@@ -16,7 +17,8 @@ pub right_more : (places n : ℕ) → 10 ≤ n → n < 2 ^ 64 → right places n
 right_more places n h k =
     let front = decimal (n / 10) in
     ap (λ digits. replicate (places - length digits) 32 ++ digits) (decimal_step n h k)
-    ∙ ap (λ m. replicate m 32 ++ (front ++ (48 + n % 10) ∷ [])) (ap (λ l. places - l) (length-append front ((48 + n % 10) ∷ [])) ∙ shorter places (length front))
+    ∙ ap (λ m. replicate m 32 ++ (front ++ (48 + n % 10) ∷ []))
+    (ap (λ l. places - l) (length-append front ((48 + n % 10) ∷ [])) ∙ shorter places (length front))
     ∙ sym (append_assoc (replicate (places - 1 - length front) 32) front ((48 + n % 10) ∷ []))
 
 -- after what was there before

@@ -1,6 +1,6 @@
 -- The order of notes is a total order in which only equal notes tie.
-use Rattle.std.proofs.Common.{◌≡◌, ℕ, Bool, true, false, cond, refl, sym, ◌∙◌}
-use Rattle.std.specs.Prelude.{◌==◌}
+use Rattle.std.proofs.Common.{◌≡◌, ℕ, Bool, true, false, refl, sym, ◌∙◌}
+use Rattle.std.specs.Prelude.{◌==◌, if◌then◌else◌}
 use Rattle.std.specs.Cmp.{IsTotalOrder, Equal-is, bool_cmp_total}
 use Rattle.std.specs.FinMap.{nat_cmp-IsAntisymmetric}
 use Rattle.std.specs.Ordering.{ordering_then, nat_cmp, bool_cmp, eq_by_cmp}
@@ -27,7 +27,14 @@ both_equal Greater s e = absurd (cc e)
 
 -- the reason at a place, with a number
 abbrev why_at : ℕ → ℕ → Why
-why_at place k = cond (place == 0) why.Gone (cond (place == 1) why.FailedStat (cond (place == 2) why.FailedNewer (cond (place == 3) why.FailedList (cond (place == 4) why.Changed (cond (place == 5) (why.Unnamed k) (why.TooLong k))))))
+why_at place k =
+    if place == 0 then why.Gone
+    else if place == 1 then why.FailedStat
+    else if place == 2 then why.FailedNewer
+    else if place == 3 then why.FailedList
+    else if place == 4 then why.Changed
+    else if place == 5 then why.Unnamed k
+    else why.TooLong k
 
 why_again : (w : Why) → why_at (why_place w) (why_number w) ≡ w
 why_again why.Gone = refl

@@ -22,7 +22,8 @@ use Rattle.tool_text.proofs.NotesCompared.{note_total, only_same}
 use Rattle.tool_text.proofs.Ascending.{first_in, none_in, fixed_by_elements}
 
 -- after a sort and without doubles
-pub sorted_once : (given sorted notes : List Note) → IsPermutation given sorted → IsSorted note_cmp sorted → notes ≡ dedup (eq_by_cmp note_cmp) sorted → AreInOrder given notes
+pub sorted_once : (given sorted notes : List Note) →
+    IsPermutation given sorted → IsSorted note_cmp sorted → notes ≡ dedup (eq_by_cmp note_cmp) sorted → AreInOrder given notes
 sorted_once given sorted notes moved up is = rw is record {
   ascend = IsStrictlySortedBy-dedup note_total (λ x y. refl) sorted up;
   same = λ n. (
@@ -51,7 +52,8 @@ told_alone true false k l = (tt, tt)
 told_alone false true k l = (tt, tt)
 told_alone false false k l = ((refl, tt), (tt, tt))
 
-told_behind : (w : Why) (a b : Bool) (k l : ℕ) → why_cmp w (why.Unnamed k) ≡ Less → why_cmp w (why.TooLong l) ≡ Less → IsStrictlySortedBy why_cmp (told a b k l (w ∷ []))
+told_behind : (w : Why) (a b : Bool) (k l : ℕ) →
+    why_cmp w (why.Unnamed k) ≡ Less → why_cmp w (why.TooLong l) ≡ Less → IsStrictlySortedBy why_cmp (told a b k l (w ∷ []))
 unfolding IsStrictlySortedBy
 told_behind w true true k l u f = (tt, tt)
 told_behind w true false k l u f = ((f, tt), (tt, tt))
@@ -81,16 +83,21 @@ other_path m n h = rw h refl
 abbrev AllBehind : List ℕ → List Note → Type 0
 AllBehind path notes = AllByRecursion (λ n. path_cmp path n.path ≡ Less) notes
 
-below_same : (path : List ℕ) (w : Why) (ws : List Why) → AllByRecursion (λ v. why_cmp w v ≡ Less) ws → AllByRecursion (λ n. note_cmp (note_at path w) n ≡ Less) (map (note_at path) ws)
+below_same : (path : List ℕ) (w : Why) (ws : List Why) →
+    AllByRecursion (λ v. why_cmp w v ≡ Less) ws → AllByRecursion (λ n. note_cmp (note_at path w) n ≡ Less) (map (note_at path) ws)
 below_same path w [] h = tt
 below_same path w (v ∷ ws) h = (same_path path w v h.0, below_same path w ws h.1)
 
 -- the notes of one path, with those of later paths behind them
-joined_ascend : (path : List ℕ) (ws : List Why) (notes : List Note) → IsStrictlySortedBy why_cmp ws → AllBehind path notes → IsStrictlySortedBy note_cmp notes → IsStrictlySortedBy note_cmp (map (note_at path) ws ++ notes)
+joined_ascend : (path : List ℕ) (ws : List Why) (notes : List Note) →
+    IsStrictlySortedBy why_cmp ws → AllBehind path notes → IsStrictlySortedBy note_cmp notes →
+    IsStrictlySortedBy note_cmp (map (note_at path) ws ++ notes)
 unfolding IsStrictlySortedBy
 joined_ascend path [] notes s behind t = t
 joined_ascend path (w ∷ ws) notes s behind t = (
-  all_more (λ n. note_cmp (note_at path w) n ≡ Less) (map (note_at path) ws) notes (below_same path w ws s.0) (all_weaker _ _ (λ n h. other_path (note_at path w) n h) notes behind),
+  all_more (λ n. note_cmp (note_at path w) n ≡ Less) (map (note_at path) ws) notes
+      (below_same path w ws s.0)
+      (all_weaker _ _ (λ n h. other_path (note_at path w) n h) notes behind),
   joined_ascend path ws notes s.1 behind t,
 )
 
@@ -98,9 +105,13 @@ notes_of_later : (path later : List ℕ) → path_cmp path later ≡ Less → (w
 notes_of_later path later h [] = tt
 notes_of_later path later h (w ∷ ws) = (h, notes_of_later path later h ws)
 
-notes_behind : (path : List ℕ) (entries : List Entry) → AllByRecursion (λ p. path_cmp path p ≡ Less) (map (λ e. e.path) entries) → AllBehind path (notes_of entries)
+notes_behind : (path : List ℕ) (entries : List Entry) →
+    AllByRecursion (λ p. path_cmp path p ≡ Less) (map (λ e. e.path) entries) → AllBehind path (notes_of entries)
 notes_behind path [] h = tt
-notes_behind path (e ∷ entries) h = all_more (λ n. path_cmp path n.path ≡ Less) (entry_notes e) (notes_of entries) (notes_of_later path e.path h.0 (whys_of e)) (notes_behind path entries h.1)
+notes_behind path (e ∷ entries) h =
+    all_more (λ n. path_cmp path n.path ≡ Less) (entry_notes e) (notes_of entries)
+    (notes_of_later path e.path h.0 (whys_of e))
+    (notes_behind path entries h.1)
 
 notes_ascend : (entries : List Entry) → IsStrictlySortedBy path_cmp (map (λ e. e.path) entries) → IsStrictlySortedBy note_cmp (notes_of entries)
 unfolding IsStrictlySortedBy

@@ -39,6 +39,3 @@ pub use texts::{
     Text, put_line, put_list, put_notes, put_path_line, put_progress, put_shares, put_summary,
     put_trace,
 };
-
-#[cfg(test)]
-mod tests;

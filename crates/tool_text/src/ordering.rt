@@ -1,6 +1,6 @@
 //! Failure notes in their order.
 ghost use Rattle.std.specs.Prelude.{◌≡◌, IfOk};
-ghost use Rattle.std.specs.Ordering.{on, bool_cmp, then_cmp};
+ghost use Rattle.std.specs.Ordering.{on, bool_cmp, then_cmp, eq_by_cmp};
 ghost use Rattle.tool_text.specs.NoteOrder.{why_place, why_number, why_cmp, note_cmp, AreInOrder};
 
 use crate::noting::{Note, Why};
@@ -15,8 +15,15 @@ pub fn in_order(notes: Vec<Note>) -> Result<Vec<Note>, OutOfMemory>
 {
     let mut notes = notes;
     notes.sort_by(|a, b| compare(a, b))?;
-    notes.dedup_by(|a, b| compare(a, b).is_eq());
+    notes.dedup_by(|a, b| are_same(a, b));
     Ok(notes)
+}
+
+// Whether two notes are one.
+fn are_same(a: &Note, b: &Note) -> bool
+    ensures { result ≡ eq_by_cmp note_cmp a.now b.now }
+{
+    compare(a, b).is_eq()
 }
 
 // How two notes stand.

@@ -18,7 +18,9 @@ use Rattle.tool_words.specs.Asked.{Origin, Choice, Asked}
 use Rattle.tool_words.specs.Limits.{Valid, paths_in, CommonWithin, ChoiceWithin, Within}
 use Rattle.tool_words.specs.Table.{tool_named, option_named, Set, set, raise}
 use Rattle.tool_words.specs.Value.{trimmed, number_in, split_in, path_in, order_in, test_in}
-use Rattle.tool_words.specs.Words.{ends_options, is_option, name_in, value_in, Given, nothing, with_path, with_number, with_plain, with_settings, is_repeated, with_another, with_own_value, with_next_value, with_flag, with_option, with_word, at_end, and_then, with_words, start_by, nodes_by, choice_of, list_by, asked_of, reading_for, reading}
+use Rattle.tool_words.specs.Words.{ends_options, is_option, name_in, value_in, Given, nothing, and_then, at_end, with_words}
+use Rattle.tool_words.specs.Words.{with_path, with_number, with_plain, with_settings, is_repeated, with_another, with_own_value, with_next_value}
+use Rattle.tool_words.specs.Words.{with_flag, with_option, with_word, start_by, nodes_by, choice_of, list_by, asked_of, reading_for, reading}
 
 one_of : {X : Type 0} (P : X → Type 0) (b : Bool) (x y : X) → P x → P y → P (cond b x y)
 one_of P true x y h g = h
@@ -90,11 +92,15 @@ seed_fine common n c w = record { ranks = c.ranks; hosts = c.hosts; seed = omega
 width_fine : (common : Common) (n : ℕ) → CommonWithin common → (2 ≤ n) × (n ≤ 64) → CommonWithin (record common { width = n })
 width_fine common n c w = record { ranks = c.ranks; hosts = c.hosts; seed = c.seed; width = w }
 
+-- what else is told of a walk has no limits
+same_limits : (common other : Common) → CommonWithin common →
+    other.ranks ≡ common.ranks → other.hosts ≡ common.hosts → other.seed ≡ common.seed → other.width ≡ common.width → CommonWithin other
+same_limits common other c r h s w = record { ranks = (omega arith, omega arith); hosts = omega arith; seed = omega arith; width = (omega arith, omega arith) }
+
 set_fine : (option : OptionName) (text : List ℕ) (s : Set) → Fine s → IfSome (set option text s) Fine
 set_fine option.Ranks text s f = mapped Fine _ (number_in 1 64 text) (λ n e. with_common s _ f (ranks_fine s.common n f.common (number_within 1 64 text n e)))
 set_fine option.Hosts text s f = mapped Fine _ (number_in 1 1 text) (λ n e. with_common s _ f (hosts_fine s.common n f.common (number_within 1 1 text n e)))
-set_fine option.Split text s f =
-    mapped Fine _ (split_in text) (λ split e. with_common s _ f (record { ranks = f.common.ranks; hosts = f.common.hosts; seed = f.common.seed; width = f.common.width }))
+set_fine option.Split text s f = mapped Fine _ (split_in text) (λ split e. with_common s _ f (same_limits s.common _ f.common refl refl refl refl))
 set_fine option.Seed text s f =
     mapped Fine _ (number_in 0 (2 ^ 64 - 1) text) (λ n e. with_common s _ f (seed_fine s.common n f.common (number_within 0 (2 ^ 64 - 1) text n e)))
 set_fine option.Width text s f = mapped Fine _ (number_in 2 64 text) (λ n e. with_common s _ f (width_fine s.common n f.common (number_within 2 64 text n e)))
@@ -109,9 +115,9 @@ set_fine (option.Test name) text s f =
 set_fine option.Newer text s f = mapped Fine _ (path_in text) (λ path e. with_newer s path f (the_path text path e))
 
 raise_fine : (option : OptionName) (s : Set) → Fine s → IfSome (raise option s) Fine
-raise_fine option.Trace s f = with_common s _ f (record { ranks = f.common.ranks; hosts = f.common.hosts; seed = f.common.seed; width = f.common.width })
-raise_fine option.Shares s f = with_common s _ f (record { ranks = f.common.ranks; hosts = f.common.hosts; seed = f.common.seed; width = f.common.width })
-raise_fine option.Progress s f = with_common s _ f (record { ranks = f.common.ranks; hosts = f.common.hosts; seed = f.common.seed; width = f.common.width })
+raise_fine option.Trace s f = with_common s _ f (same_limits s.common _ f.common refl refl refl refl)
+raise_fine option.Shares s f = with_common s _ f (same_limits s.common _ f.common refl refl refl refl)
+raise_fine option.Progress s f = with_common s _ f (same_limits s.common _ f.common refl refl refl refl)
 raise_fine _ s f = tt
 
 path_fine : (given : Given) (place : ℕ) (path : Option (List ℕ)) → FineSoFar given → IfSome path Valid → IfOk (with_path given place path) FineSoFar
@@ -134,7 +140,8 @@ plain_fine tool.Walk given place word f = path_fine given place (path_in word) f
 plain_fine tool.Find given place word f = path_fine given place (path_in word) f (path_valid word)
 plain_fine tool.Test given place word f = number_fine given place (number_in 1 1000000 word) f (number_fits word)
 
-settings_fine : (given : Given) (place : ℕ) (settings : Option Set) → FineSoFar given → IfSome settings Fine → IfOk (with_settings given place settings) FineSoFar
+settings_fine : (given : Given) (place : ℕ) (settings : Option Set) →
+    FineSoFar given → IfSome settings Fine → IfOk (with_settings given place settings) FineSoFar
 settings_fine given place (Some settings) f h = record { settings = h; paths = f.paths; numbers = f.numbers }
 settings_fine given place None f h = tt
 
@@ -148,7 +155,8 @@ own_fine given place option text f =
     (settings_fine given place (set option text given.settings) f (set_fine option text given.settings f.settings))
     (λ g h. another_fine g place option h)
 
-next_fine : (given : Given) (at : ℕ) (option : OptionName) (place : ℕ) (word : List ℕ) → FineSoFar given → IfOk (with_next_value given at option place word) FineSoFar
+next_fine : (given : Given) (at : ℕ) (option : OptionName) (place : ℕ) (word : List ℕ) →
+    FineSoFar given → IfOk (with_next_value given at option place word) FineSoFar
 next_fine given at option place word f =
     both FineSoFar FineSoFar (with_another given at option) (λ g. with_settings g place (set option word g.settings))
     (another_fine given at option f)

@@ -1,5 +1,5 @@
 -- An option is looked for group by group.
-use Rattle.std.proofs.Common.{◌≡◌, ◌∙◌, ℕ, ◌<◌, true, List, length, drop, get_or, find, refl, ap, sym, arith, Option, Some, None, drop-cons, suc}
+use Rattle.std.proofs.Common.{◌≡◌, ◌∙◌, ℕ, ◌<◌, true, List, length, drop, get_or, find, refl, ap, sym, Option, Some, None, drop-cons, suc}
 use Rattle.std.specs.Prelude.{is_some}
 use Rattle.std.specs.List.{flat_map}
 use Rattle.std.specs.Option.{option_or}

@@ -18,7 +18,8 @@ number_of_text : (least most : ℕ) (text : List ℕ) (n : ℕ) → number_in le
 number_of_text least most text n e = (grind (arith, nat_tests), grind (arith, nat_tests))
 
 -- what does not fit 64 bits is above every limit
-pub not_parsed : {E : Type 0} (least most : ℕ) (text : List ℕ) (e : E) → most < 2 ^ 64 → list_all is_ascii_digit text ≡ true → ParsesUnsigned 64 10 text (Err e) → number_in least most text ≡ None
+pub not_parsed : {E : Type 0} (least most : ℕ) (text : List ℕ) (e : E) →
+    most < 2 ^ 64 → list_all is_ascii_digit text ≡ true → ParsesUnsigned 64 10 text (Err e) → number_in least most text ≡ None
 not_parsed least most text e small all h =
     elim (number_in least most text) as (λ o. number_in least most text ≡ o → o ≡ None) [
       | Some n ↦ λ is.

@@ -1,5 +1,6 @@
 -- The slashes at the end of a text, cut off one by one.
-use Rattle.std.proofs.Common.{◌≡◌, ◌≢◌, ℕ, ◌-◌, true, false, ◌&&◌, List, [], ◌∷◌, ◌++◌, length, take, refl, ap, ◌∙◌, sym, arith, Option, Some, None, cond, take-append-drop, suc}
+use Rattle.std.proofs.Common.{◌≡◌, ◌≢◌, ℕ, suc, ◌-◌, true, false, ◌&&◌, cond, refl, ap, ◌∙◌, sym, arith, Option, Some, None}
+use Rattle.std.proofs.Common.{List, [], ◌∷◌, ◌++◌, length, take, take-append-drop}
 use Rattle.std.proofs.Math.Seq.{drop-length}
 use Rattle.std.specs.Prelude.{◌==◌, IfSome}
 use Rattle.std.specs.Str.Pattern.{FindsCharSuffix, CutsSuffixes, IsTrimEndMatches}
@@ -33,7 +34,9 @@ stays b (c ∷ text) h =
 
 none_more : (text : List ℕ) → ((front : List ℕ) → text ≢ front ++ 47 ∷ []) → before_end_slashes text ≡ text
 none_more [] h = refl
-none_more (b ∷ text) h = ap (λ r. cond (is_slash b && length r == 0) [] (b ∷ r)) (none_more text (λ front e. h (b ∷ front) (ap (λ l. b ∷ l) e))) ∙ stays b text h
+none_more (b ∷ text) h =
+    ap (λ r. cond (is_slash b && length r == 0) [] (b ∷ r)) (none_more text (λ front e. h (b ∷ front) (ap (λ l. b ∷ l) e)))
+    ∙ stays b text h
 
 one_cut : (text : List ℕ) (n : ℕ) → FindsCharSuffix 47 text (Some n) → text ≡ take (length text - n) text ++ 47 ∷ []
 one_cut text n h =

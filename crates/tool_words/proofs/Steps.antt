@@ -1,5 +1,6 @@
 -- Words read one by one from left to right: what was given before a place, and what is left.
-use Rattle.std.proofs.Common.{◌≡◌, ℕ, ◌+◌, ◌<◌, ◌⊎◌, List, [], ◌∷◌, length, drop, map, get_or, refl, ap, subst, ◌∙◌, sym, arith, Option, Some, None, drop-cons, suc, inl, inr}
+use Rattle.std.proofs.Common.{◌≡◌, ℕ, suc, ◌+◌, ◌<◌, inl, inr, refl, ap, subst, ◌∙◌, sym, arith, None}
+use Rattle.std.proofs.Common.{List, [], ◌∷◌, length, drop, map, get_or, drop-cons}
 use Rattle.std.specs.Prelude.{Result, Ok, Err}
 use Rattle.std.specs.List.{drop-map}
 use Rattle.tool_words.specs.declared.errors.Refusal.{Refusal}

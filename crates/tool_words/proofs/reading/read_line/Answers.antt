@@ -5,11 +5,13 @@ use Rattle.tool_words.proofs.reading.read_line.Goals as goal
 
 pub returns-in_err-read-clause-refused : goal.returns-in_err-read-clause-refused
 returns-in_err-read-clause-refused c =
+    let item = c.index-words-index in
+    let here = word_at string_bytes c.args.words.now c.loop-index.index item.result c.as_str.result.now (omega arith) item.is (search rules) in
     let p = err_from_is_err_and c.from_residual.result c.from_residual.ensures.1 in
-    rw (p.1, p.2) (refused c.args.tool _ _ _ c.as_str.result.now _ c.loop-index.invariant
-    (word_at string_bytes c.args.words.now c.loop-index.index c.index-words-index.result _ (omega arith) c.index-words-index.is (search rules)) c.in_err-read.ensures.refused)
+    rw (p.1, p.2) (refused c.args.tool _ _ _ c.as_str.result.now _ c.loop-index.invariant here c.in_err-read.ensures.refused)
 
 pub loop-index-preserved : goal.loop-index-preserved
 loop-index-preserved c =
-    more c.args.tool _ _ _ _ c.as_str.result.now c.loop-index.invariant
-    (word_at string_bytes c.args.words.now c.loop-index.index c.index-words-index.result _ (omega arith) c.index-words-index.is (search rules)) c.in_ok-read.ensures.read
+    let item = c.index-words-index in
+    let here = word_at string_bytes c.args.words.now c.loop-index.index item.result c.as_str.result.now (omega arith) item.is (search rules) in
+    more c.args.tool _ _ _ _ c.as_str.result.now c.loop-index.invariant here c.in_ok-read.ensures.read

@@ -1,8 +1,4 @@
 //! Texts, to the byte.
-use crate::{
-    Note, Text, Why, in_order, notes_of, put_line, put_list, put_notes, put_progress, put_shares,
-    put_summary, put_trace,
-};
 use circle_run::Share;
 use flat_list::{Entry, FlatList, Mark};
 use outside::{Kind, Stat};
@@ -10,6 +6,10 @@ use path_text::Path;
 use ring_core::{Colour, Event};
 use std::alloc::Global;
 use std::test::Fail;
+use tool_text::{
+    Note, Text, Why, in_order, notes_of, put_line, put_list, put_notes, put_progress, put_shares,
+    put_summary, put_trace,
+};
 
 // An entry as it is.
 fn fine(alloc: Global, path: &str, kind: Kind, size: u64) -> Result<Entry, Fail> {
