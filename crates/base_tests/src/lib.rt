@@ -5,11 +5,14 @@
 #![tactic(auto)]
 
 #[cfg(test)]
-mod of_path_text;
 mod of_files_mem;
 #[cfg(test)]
 mod of_outside;
-mod of_rank_queue;
+#[cfg(test)]
 mod of_path_looks;
+#[cfg(test)]
+mod of_path_text;
+#[cfg(test)]
+mod of_rank_queue;
 #[cfg(test)]
 mod of_test_tree;

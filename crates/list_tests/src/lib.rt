@@ -5,9 +5,10 @@
 #![tactic(auto)]
 
 #[cfg(test)]
-mod of_tool_text;
-#[cfg(test)]
-mod of_tool_words;
 mod of_find_tests;
 #[cfg(test)]
 mod of_flat_list;
+#[cfg(test)]
+mod of_tool_text;
+#[cfg(test)]
+mod of_tool_words;
