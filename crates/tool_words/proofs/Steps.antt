@@ -7,7 +7,8 @@ use Rattle.tool_words.specs.declared.errors.Refusal.{Refusal}
 use Rattle.tool_words.specs.declared.errors.WordsError.{WordsError}
 use Rattle.tool_words.specs.declared.errors.WordsError.TheVariants as error
 use Rattle.tool_words.specs.declared.tables.Tool.{Tool}
-use Rattle.tool_words.specs.Refusals.{refusal_in, Tells}
+use Rattle.tool_words.specs.Parts.{Tells}
+use Rattle.tool_words.specs.Refusals.{refusal_in}
 use Rattle.tool_words.specs.Words.{Given, nothing, with_word, at_end, and_then, with_words}
 
 -- the words before a place gave this

@@ -1,5 +1,6 @@
 pub mod Asked
 pub mod Limits
+pub mod Parts
 pub mod Refusals
 pub mod Table
 pub mod Value

@@ -1,6 +1,5 @@
--- Why words are refused, apart from want of memory, which no words ask for. Our own.
-use Rattle.std.specs.Prelude.{◌≡◌, ◌⊎◌, ℕ, Result, Err, Option, Some, None}
-use Rattle.std.specs.Result.{result_err}
+-- Why words are refused, which is never want of memory. Our own.
+use Rattle.std.specs.Prelude.{ℕ, Result, Err, Option, Some, None}
 use Rattle.tool_words.specs.declared.errors.Cause.{Cause}
 use Rattle.tool_words.specs.declared.errors.Cause.TheVariants as cause
 use Rattle.tool_words.specs.declared.errors.Refusal.{Refusal}
@@ -22,7 +21,3 @@ refusal_in error.OutOfMemory = None
 -- the word of this number is refused
 abbrev pub refuse : {X : Type 0} → ℕ → Cause → Result X Refusal
 refuse word cause = Err (record { word = word; cause = cause })
-
--- For the clauses of the parts: the error tells the refusal of the result, or that memory was wanting.
-abbrev pub Tells : {X : Type 0} → Result X Refusal → WordsError → Type 0
-Tells r e = (result_err r ≡ refusal_in e) ⊎ (e ≡ error.OutOfMemory)

@@ -2,7 +2,7 @@
 ghost use Rattle.std.specs.Prelude.{◌≡◌, ◌⊎◌, ◌++◌, ◌∷◌, [], Some, None, Ok, Err, OnOk, IfOk, IfErr, IsTrue, Result, Option, List, ℕ, false};
 ghost use Rattle.std.specs.Option.{option_copied};
 ghost use Rattle.tool_words.specs.Asked.{start_in, asked_by};
-ghost use Rattle.tool_words.specs.Refusals.{Tells};
+ghost use Rattle.tool_words.specs.Parts.{Tells};
 ghost use Rattle.tool_words.specs.Table.{option_named, Set, set, raise};
 ghost use Rattle.tool_words.specs.Value.{number_in, path_in};
 ghost use Rattle.tool_words.specs.Words.{Given, nothing, ends_options, is_option, name_in, value_in, with_path, with_number, with_plain, was_given, is_repeated, with_another, with_own_value, with_next_value, with_flag, with_option, with_word, at_end, start_by, nodes_by, asked_of};

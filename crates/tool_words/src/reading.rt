@@ -1,7 +1,8 @@
 //! The words from left to right.
 ghost use Rattle.std.specs.Prelude.{◌≡◌, map, Some, Ok, Err, IfOk, IfErr, IfSome, string_bytes};
 ghost use Rattle.tool_words.specs.Asked.{asked_by};
-ghost use Rattle.tool_words.specs.Refusals.{refusal_in, Tells};
+ghost use Rattle.tool_words.specs.Parts.{Tells};
+ghost use Rattle.tool_words.specs.Refusals.{refusal_in};
 ghost use Rattle.tool_words.specs.Words.{nothing, with_words, reading_for, reading};
 
 use crate::commands::Command;
