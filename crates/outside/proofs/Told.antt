@@ -4,10 +4,9 @@ use Rattle.std.specs.Prelude.{Option, Result, Ok, Err, IfErr, OnOk}
 use Rattle.path_text.specs.Path.{parent_of}
 use Rattle.outside.specs.Asked.{Asks, Writes}
 use Rattle.outside.specs.Asked as asked
-use Rattle.outside.specs.Answered.{over_told, place_told, LookFound, LookStopped, Cleared, WroteFront, SaveEnded}
+use Rattle.outside.specs.Answered.{over_told, place_told, LookFound, LookStopped, ReadFront, Cleared, WroteFront, SaveEnded}
 use Rattle.outside.specs.declared.failures.Failed.{Failed}
 use Rattle.outside.specs.declared.trees.Stat.{Stat}
-use Rattle.outside.specs.declared.plots.WriteError.{WriteError}
 use Rattle.outside.specs.declared.saving.SaveError.{SaveError}
 
 -- a look at the path over a file stops a save
@@ -28,6 +27,11 @@ place_stops gives parent path answer (Err e) before after is given = record {
   after = after;
   why = inr (record { answer = answer; given = given; is_meant = sym is });
 }
+
+-- one more piece was read
+pub read_on : {S : Type 0} (gives : Asks S) (path : List ℕ) (at n : ℕ) (before mid after : S) → ReadFront gives path at before mid →
+    gives mid (asked.read path at (Ok n)) after → ReadFront gives path (at + n) before after
+read_on gives path at n before mid after front given = record { pieces = n ∷ front.pieces; read = (at, mid, refl, front.read, given) }
 
 -- one more piece was written
 pub wrote_on : {S : Type 0} (gives : Writes S) (path bytes piece : List ℕ) (at n : ℕ)

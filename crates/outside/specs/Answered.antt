@@ -67,12 +67,29 @@ pub record LastRead {S : Type 0} (gives : Asks S) (path : List ℕ) (at : ℕ) (
 
 -- loading
 
--- the bytes are as many as `stat` told, or the last read, behind them, gave none
+-- so many bytes were read from the front on, one piece behind another, in pieces of these lengths, of which the last stands first
+abbrev pub Read : {S : Type 0} → Asks S → List ℕ → List ℕ → ℕ → S → S → Type 0
+Read gives path [] many before after = (many ≡ 0) × (after ≡ before)
+Read {S} gives path (n ∷ pieces) many before after =
+    (at : ℕ) × (mid : S) × (many ≡ at + n) × Read gives path pieces at before mid × gives mid (asked.read path at (Ok n)) after
+
+-- so many bytes were read from the front on, in some pieces
+pub record ReadFront {S : Type 0} (gives : Asks S) (path : List ℕ) (many : ℕ) (before after : S) : Type 0 where
+  pub pieces : List ℕ
+  pub read : Read gives path pieces many before after
+
+-- all bytes up to the size were read, or the read behind those that were gave none
+pub record FillEnded {S : Type 0} (gives : Asks S) (path : List ℕ) (size many : ℕ) (before after : S) : Type 0 where
+  pub last : S
+  pub read : ReadFront gives path many before last
+  pub ended : ((many ≡ size) × (after ≡ last)) ⊎ gives last (asked.read path many (Ok 0)) after
+
+-- the bytes were read one piece behind another: as many as `stat` told, or those in front of a read that gave none
 pub record LoadEnded {S : Type 0} (gives : Asks S) (path : List ℕ) (bytes : List ℕ) (before after : S) : Type 0 where
   pub size : ℕ
-  pub mid : S
-  pub told : StatMeans gives path size_told (Ok size) before mid
-  pub ended : (length bytes ≡ size) ⊎ ((length bytes < size) × LastRead gives path (length bytes) (Ok 0) after)
+  pub opened : S
+  pub told : StatMeans gives path size_told (Ok size) before opened
+  pub read : FillEnded gives path size (length bytes) opened after
 
 -- why a file is not loaded. Memory is taken once `stat` has told a file, and before anything is read
 abbrev pub LoadStopped : {S : Type 0} → Asks S → List ℕ → S → S → LoadError → Type 0

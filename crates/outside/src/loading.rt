@@ -5,7 +5,7 @@ ghost use Rattle.outside.specs.Count.{RoseBy};
 ghost use Rattle.outside.specs.Tree.{is_file, content};
 ghost use Rattle.outside.specs.Whole.{HoldsFile};
 ghost use Rattle.outside.specs.Asked as asked;
-ghost use Rattle.outside.specs.Answered.{size_told, StatMeans, LastRead, LoadEnded, LoadStopped};
+ghost use Rattle.outside.specs.Answered.{size_told, StatMeans, LastRead, FillEnded, LoadEnded, LoadStopped};
 
 use crate::failures::Failed;
 use crate::trees::{Kind, ReadError, Stat, Tree};
@@ -120,7 +120,7 @@ fn fill<R: Tree>(reader: &mut R, path: &Path, bytes: &mut [u8]) -> Result<usize,
     ensures same { R.tree reader.new ≡ R.tree reader.old }
     ensures count { RoseBy 0 (R.count reader.old) (R.count reader.new) }
     ensures cause { IsErrOf result ReadError.Failed → RoseBy 1 (R.count reader.old) (R.count reader.new) }
-    ensures ended { IfOk result (λ n. n < length bytes.new → LastRead R.gives path.now n (Ok 0) reader.new) }
+    ensures ended { IfOk result (λ n. FillEnded R.gives path.now (length bytes.new) n reader.old reader.new) }
     ensures stopped { IfErr result (λ e. (at : ℕ) × LastRead R.gives path.now at (Err e) reader.new) }
 {
     let mut at = 0;

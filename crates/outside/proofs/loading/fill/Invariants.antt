@@ -2,6 +2,7 @@ use Rattle.std.proofs.Common.{◌≡◌, ◌-◌, ◌≤◌, length, take, IfSom
 use Rattle.std.specs.FinMap.{get}
 use Rattle.outside.specs.Count.{RoseBy}
 use Rattle.outside.specs.Tree.{content}
+use Rattle.outside.specs.Answered.{ReadFront}
 use Rattle.outside.proofs.loading.fill.Given as goal
 
 abbrev pub invariant-loop-at : goal.invariant-loop-at
@@ -12,6 +13,7 @@ invariant-loop-at g l =
       loaded : IfSome (reader.tree l.fn.reader) (λ files. take l.at l.bytes ≡ take l.at (content (get files l.path)));
       same : reader.tree l.reader ≡ reader.tree l.fn.reader;
       count : RoseBy 0 (reader.count l.fn.reader) (reader.count l.reader);
+      front : ReadFront reader.gives l.path l.at l.fn.reader l.reader;
     }
 
 abbrev pub decreases-loop-at : goal.decreases-loop-at
