@@ -11,9 +11,9 @@ use Rattle.path_text.specs.Path.{is_slash, is_name, joined, refusal, parent_of}
 use Rattle.path_text.specs.Order.{front}
 use Rattle.path_text.specs.Preorder.{front-joined, some_bytes, no_slash}
 use Rattle.outside.specs.Tree.{Files, Node, Body, dir, file, link, other, IsTree, is_dir, is_dir_body, is_root, name_below, names_in}
-use Rattle.outside.specs.Names.{placed_path, children_are_names}
-use Rattle.outside.specs.Children.{child_is, one_name_parts}
-use Rattle.outside.specs.Parents.{child_of_parent}
+use Rattle.outside.proofs.Names.{placed_path, children_are_names}
+use Rattle.outside.proofs.Children.{child_is, one_name_parts}
+use Rattle.outside.proofs.Parents.{child_of_parent}
 use Rattle.outside.specs.declared.trees.Kind.TheVariants as kind
 use Rattle.flat_list.specs.declared.entries.Entry.{Entry}
 use Rattle.flat_list.specs.declared.entries.Mark.TheVariants as mark

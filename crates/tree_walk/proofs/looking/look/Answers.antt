@@ -1,5 +1,5 @@
 use Rattle.std.proofs.Common.{◌≡◌, ◌∙◌, true, false, ap, sym, subst, Some, IfSome}
-use Rattle.outside.specs.Names.{not_long}
+use Rattle.outside.proofs.Names.{not_long}
 use Rattle.tree_walk.specs.Held.{is_listed}
 use Rattle.tree_walk.specs.Looking.{by_stat, by_list, IsLook}
 use Rattle.tree_walk.proofs.Looked.{IsStat, IsListing, stat_at, stat_alone, stat_and_list}
