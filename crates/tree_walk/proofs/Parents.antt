@@ -9,7 +9,7 @@ use Rattle.std.proofs.lemmas.Bool.{false≢true}
 use Rattle.std.proofs.lemmas.List.Elements.{recursion_from_All, All-from_recursion, All-contains}
 use Rattle.path_text.specs.Path.{is_slash, is_name, joined, refusal, parent_of}
 use Rattle.path_text.specs.Order.{front}
-use Rattle.path_text.specs.Preorder.{front-joined, some_bytes, no_slash}
+use Rattle.path_text.proofs.Preorder.{front-joined, some_bytes, no_slash}
 use Rattle.outside.specs.Tree.{Files, Node, Body, dir, file, link, other, IsTree, is_dir, is_dir_body, is_root, name_below, names_in}
 use Rattle.outside.proofs.Names.{placed_path, children_are_names}
 use Rattle.outside.proofs.Children.{child_is, one_name_parts}
