@@ -170,17 +170,30 @@ fn joins_what_two_ranks_found(rt: HostRuntime) -> Result<(), Fail> {
 fn merges_what_ranks_found_in_turn(rt: HostRuntime) -> Result<(), Fail> {
     let alloc = rt.alloc();
     let mut logs = Vec::new(alloc);
-    for paths in [
-        ["/t", "/t/e", "/t/e/b", "/t/e/a", "/t/a", "/t/a/x"].as_slice(),
-        [].as_slice(),
-        ["/t/d", "/t/d/z", "/t/b", "/t/b/c", "/t/b-x"].as_slice(),
-        ["/t/c", "/t/c/b", "/t/c/a", "/t/a/w"].as_slice(),
+    for _ in 0..4 {
+        logs.push(Vec::new(alloc))?;
+    }
+    for (rank, path) in [
+        (0, "/t"),
+        (0, "/t/e"),
+        (0, "/t/e/b"),
+        (0, "/t/e/a"),
+        (0, "/t/a"),
+        (0, "/t/a/x"),
+        (2, "/t/d"),
+        (2, "/t/d/z"),
+        (2, "/t/b"),
+        (2, "/t/b/c"),
+        (2, "/t/b-x"),
+        (3, "/t/c"),
+        (3, "/t/c/b"),
+        (3, "/t/c/a"),
+        (3, "/t/a/w"),
     ] {
-        let mut log = Vec::new(alloc);
-        for path in paths {
-            log.push(fine(alloc, path, Kind::Dir, 0)?)?;
+        let entry = fine(alloc, path, Kind::Dir, 0)?;
+        if let Some(log) = logs.get_mut(rank) {
+            log.push(entry)?;
         }
-        logs.push(log)?;
     }
     let list = FlatList::from_jobs(alloc, logs)?;
     has_paths(
