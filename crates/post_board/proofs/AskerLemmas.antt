@@ -27,10 +27,10 @@ module _ (ranks : List PlainRank) (masks : List ℕ) (N : Noted ranks masks) (r 
     few = subst (λ (k : ℕ). k ≤ 64) (sym (length-set ranks r x)) N.few;
     asks = λ k v below. dite (ℕ_discrete k r)
         (λ e. subst (λ (j : ℕ). wants (plain (set ranks r x) j).mailbox v ≡ has_bit (get_or masks v 0) j) (sym e)
-          (ap (λ (y : PlainRank). wants y.mailbox v) (get_or-set_same ranks r x no_rank inside) ∙ same v
-            ∙ N.asks r v (subst (λ (m : ℕ). v < m) (length-set ranks r x) below)))
+        (ap (λ (y : PlainRank). wants y.mailbox v) (get_or-set_same ranks r x no_rank inside) ∙ same v
+        ∙ N.asks r v (subst (λ (m : ℕ). v < m) (length-set ranks r x) below)))
         (λ ne. ap (λ (y : PlainRank). wants y.mailbox v) (get_or-set_other ranks r k x no_rank ne)
-          ∙ N.asks k v (subst (λ (m : ℕ). v < m) (length-set ranks r x) below));
+        ∙ N.asks k v (subst (λ (m : ℕ). v < m) (length-set ranks r x) below));
   }
 
   -- of the rank v alone it is another question whether the mailbox of r asks it, and so says its mask
@@ -42,22 +42,22 @@ module _ (ranks : List PlainRank) (masks : List ℕ) (N : Noted ranks masks) (r 
       let else_masks : (w : ℕ) → w ≢ v → get_or (set masks v mask) w 0 ≡ get_or masks w 0 = λ w ne. get_or-set_other masks v w mask 0 ne in
       let at_v : get_or (set masks v mask) v 0 ≡ mask = get_or-set_same masks v mask 0 long in
       let at_r : (w : ℕ) → wants (plain (set ranks r x) r).mailbox w ≡ wants x.mailbox w =
-          λ w. ap (λ (y : PlainRank). wants y.mailbox w) (get_or-set_same ranks r x no_rank inside) in
+      λ w. ap (λ (y : PlainRank). wants y.mailbox w) (get_or-set_same ranks r x no_rank inside) in
       let at_else : (k w : ℕ) → k ≢ r → wants (plain (set ranks r x) k).mailbox w ≡ wants (plain ranks k).mailbox w =
-          λ k w ne. ap (λ (y : PlainRank). wants y.mailbox w) (get_or-set_other ranks r k x no_rank ne) in
+      λ k w ne. ap (λ (y : PlainRank). wants y.mailbox w) (get_or-set_other ranks r k x no_rank ne) in
       record {
         count = length-set masks v mask ∙ N.count ∙ sym (length-set ranks r x);
         few = subst (λ (k : ℕ). k ≤ 64) (sym (length-set ranks r x)) N.few;
         asks = λ k w h. dite (ℕ_discrete k r)
             (λ e. subst (λ (j : ℕ). wants (plain (set ranks r x) j).mailbox w ≡ has_bit (get_or (set masks v mask) w 0) j) (sym e) (at_r w
-              ∙ dite (ℕ_discrete w v)
-                (λ q. subst (λ (u : ℕ). wants x.mailbox u ≡ has_bit (get_or (set masks v mask) u 0) r) (sym q) (here ∙ ap (λ (m : ℕ). has_bit m r) (sym at_v)))
-                (λ ne. same w ne ∙ N.asks r w (below w h) ∙ ap (λ (m : ℕ). has_bit m r) (sym (else_masks w ne)))))
+            ∙ dite (ℕ_discrete w v)
+            (λ q. subst (λ (u : ℕ). wants x.mailbox u ≡ has_bit (get_or (set masks v mask) u 0) r) (sym q) (here ∙ ap (λ (m : ℕ). has_bit m r) (sym at_v)))
+            (λ ne. same w ne ∙ N.asks r w (below w h) ∙ ap (λ (m : ℕ). has_bit m r) (sym (else_masks w ne)))))
             (λ ne. at_else k w ne ∙ N.asks k w (below w h)
-              ∙ dite (ℕ_discrete w v)
-                (λ q. subst (λ (u : ℕ). has_bit (get_or masks u 0) k ≡ has_bit (get_or (set masks v mask) u 0) k) (sym q)
-                  (sym (others k ne) ∙ ap (λ (m : ℕ). has_bit m k) (sym at_v)))
-                (λ other. ap (λ (m : ℕ). has_bit m k) (sym (else_masks w other))));
+            ∙ dite (ℕ_discrete w v)
+            (λ q. subst (λ (u : ℕ). has_bit (get_or masks u 0) k ≡ has_bit (get_or (set masks v mask) u 0) k) (sym q)
+            (sym (others k ne) ∙ ap (λ (m : ℕ). has_bit m k) (sym at_v)))
+            (λ other. ap (λ (m : ℕ). has_bit m k) (sym (else_masks w other))));
       }
 
 -- the rank r, whose mailbox was at rest, asks the rank v

@@ -17,14 +17,15 @@ use Rattle.post_board.specs.declared.boards.Board.{Board}
 use Rattle.post_board.specs.declared.boards.BoardSeat.{BoardSeat}
 use Rattle.post_board.specs.BoardRule.{asked_of, OpenFits, OwnFits}
 use Rattle.post_board.specs.BoardSteps.{SeatState, knows, knowing, noted, learn}
-use Rattle.post_board.specs.BoardSeats.{IsSeat, own_by, one_if, Fronted}
+use Rattle.post_board.specs.BoardSeats.{IsSeat, own_by, one_if}
+use Rattle.post_board.specs.BoardWork.{Fronted}
 use Rattle.post_board.specs.declared.board_views.View.{View}
 use Rattle.atomic_table.specs.Table.{rest}
 use Rattle.std.proofs.lemmas.List.Sums.{sum_by-set, sum_by-cons}
 use Rattle.std.specs.List.{All, Contains}
 use Rattle.std.proofs.lemmas.List.{append-nil, map-append}
 use Rattle.std.proofs.lemmas.List.Elements.{All-nil, All-cons, All-append}
-use Rattle.post_board.proofs.DeskLemmas.{one_word}
+use Rattle.post_board.proofs.MailboxLemmas.{one_word}
 use mathlib.Core.Logic.{dite}
 use native.Mathlib.Decide.{ℕ_discrete}
 
@@ -40,8 +41,11 @@ two_more rs rs' P Q x y p q e = (x ∷ y ∷ [], (x, y, p, q, refl), ap Some (e 
 
 pub three_more : (rs rs' : List Reading) (P Q R : Reading → Type 0) (x y z : Reading) → P x → Q y → R z → rs' ≡ ((rs ++ x ∷ []) ++ y ∷ []) ++ z ∷ []
     → Adds (Some rs) (Three P Q R) (Some rs')
-three_more rs rs' P Q R x y z p q r e = (x ∷ y ∷ z ∷ [], (x, y, z, p, q, r, refl),
-    ap Some (e ∙ append_assoc (rs ++ x ∷ []) (y ∷ []) (z ∷ []) ∙ append_assoc rs (x ∷ []) (y ∷ z ∷ [])))
+three_more rs rs' P Q R x y z p q r e = (
+  x ∷ y ∷ z ∷ [],
+  (x, y, z, p, q, r, refl),
+  ap Some (e ∙ append_assoc (rs ++ x ∷ []) (y ∷ []) (z ∷ []) ∙ append_assoc rs (x ∷ []) (y ∷ z ∷ [])),
+)
 
 pub token_here : (v : Known) (token : Colour) → v.here ≡ Some token → token_of (shown_known v) ≡ token
 token_here v token h = ap (λ (o : Option Colour). token_of (record (shown_known v) { here = o })) h
@@ -87,15 +91,15 @@ by_kind kind r d h =
     (λ n3. dite (ℕ_discrete kind 4) (λ e. let g : sign_by kind r ≡ fetching r = ap (λ (k : ℕ). sign_by k r) e in subst P (sym g ∙ h) (inr (e, refl)))
     (λ n4. dite (ℕ_discrete kind 5) (λ e. let g : sign_by kind r ≡ emptied r = ap (λ (k : ℕ). sign_by k r) e in subst P (sym g ∙ h) (inr (e, refl)))
     (λ n5.
-      let g : sign_by kind r ≡ resting =
-          ap (λ (b : Bool). cond b (asking r) (cond (kind == 2) (serving r)
-              (cond (kind == 3) (full r) (cond (kind == 4) (fetching r) (cond (kind == 5) (emptied r) resting))))) (ne_eqb kind 1 n1)
-          ∙ ap (λ (b : Bool). cond b (serving r) (cond (kind == 3) (full r) (cond (kind == 4) (fetching r) (cond (kind == 5) (emptied r) resting))))
-              (ne_eqb kind 2 n2)
-          ∙ ap (λ (b : Bool). cond b (full r) (cond (kind == 4) (fetching r) (cond (kind == 5) (emptied r) resting))) (ne_eqb kind 3 n3)
-          ∙ ap (λ (b : Bool). cond b (fetching r) (cond (kind == 5) (emptied r) resting)) (ne_eqb kind 4 n4)
-          ∙ ap (λ (b : Bool). cond b (emptied r) resting) (ne_eqb kind 5 n5) in
-      inl (sym h ∙ g))))))
+    let g : sign_by kind r ≡ resting =
+    ap (λ (b : Bool). cond b (asking r) (cond (kind == 2) (serving r)
+    (cond (kind == 3) (full r) (cond (kind == 4) (fetching r) (cond (kind == 5) (emptied r) resting))))) (ne_eqb kind 1 n1)
+    ∙ ap (λ (b : Bool). cond b (serving r) (cond (kind == 3) (full r) (cond (kind == 4) (fetching r) (cond (kind == 5) (emptied r) resting))))
+    (ne_eqb kind 2 n2)
+    ∙ ap (λ (b : Bool). cond b (full r) (cond (kind == 4) (fetching r) (cond (kind == 5) (emptied r) resting))) (ne_eqb kind 3 n3)
+    ∙ ap (λ (b : Bool). cond b (fetching r) (cond (kind == 5) (emptied r) resting)) (ne_eqb kind 4 n4)
+    ∙ ap (λ (b : Bool). cond b (emptied r) resting) (ne_eqb kind 5 n5) in
+    inl (sym h ∙ g))))))
 
 pub full_word : (w v : ℕ) → sign w ≡ full v → w ≡ 8 * v + 3
 unfolding sign
@@ -172,8 +176,11 @@ others_same me r e = ap (others_below me) (let p : r + 1 ≡ suc r = omega arith
     ∙ ap (λ (b : Bool). cond b (others_below me r) (others_below me r ++ (r + 1) ∷ [])) (eq-eqb r me e)
 
 pub looked_none : (me : ℕ) (m : SeatState) → Looked me 0 m m
-looked_none me m = record { steps = []; none = (refl, All-nil (λ x. (x.left ≡ x.found) × (sign x.found ≢ asking me)));
-    is = ap (λ (rs : List Reading). knowing m (record m.0.own { readings = rs })) (sym (append-nil m.0.own.readings)) }
+looked_none me m = record {
+  steps = [];
+  none = (refl, All-nil (λ x. (x.left ≡ x.found) × (sign x.found ≢ asking me)));
+  is = ap (λ (rs : List Reading). knowing m (record m.0.own { readings = rs })) (sym (append-nil m.0.own.readings));
+}
 
 pub looked_more : (me r found : ℕ) (before now after : SeatState) → r ≢ me → found ≢ word_of (asking me)
     → after ≡ knowing now (noted now.0.own (r + 1) found found) → Looked me r before now → Looked me (r + 1) before after
@@ -182,8 +189,10 @@ looked_more me r found before now after ne other step L =
     let P : Reading → Type 0 = λ y. (y.left ≡ y.found) × (sign y.found ≢ asking me) in
     record {
       steps = L.steps ++ x ∷ [];
-      none = (map-append (λ y. y.word) L.steps (x ∷ []) ∙ ap (λ ws. ws ++ (r + 1) ∷ []) L.none.0 ∙ sym (others_more me r ne),
-        All-append P L.steps (x ∷ []) L.none.1 (All-cons P x [] (refl, λ e. other (one_word found me e)) (All-nil P)));
+      none = (
+        map-append (λ y. y.word) L.steps (x ∷ []) ∙ ap (λ ws. ws ++ (r + 1) ∷ []) L.none.0 ∙ sym (others_more me r ne),
+        All-append P L.steps (x ∷ []) L.none.1 (All-cons P x [] (refl, λ e. other (one_word found me e)) (All-nil P)),
+      );
       is = step ∙ ap (λ (m : SeatState). knowing m (noted m.0.own (r + 1) found found)) L.is
           ∙ ap (λ (rs : List Reading). knowing before (record before.0.own { readings = rs })) (append_assoc before.0.own.readings L.steps (x ∷ []));
     }
@@ -262,14 +271,14 @@ answered_one b s s1 s' k to S serve A =
       ended = ap (λ (x : View). x.own.ended) A.view ∙ A.ended;
       room = subst (λ h. b.n ≤ deque_capacity h) (sym A.held) (subst (λ (x : ℕ). b.n ≤ x) (sym F.room) S.room);
       count = (let e : length s'.held.items ≡ length s1.held.items = ap (λ h. length h.items) A.held in
-        let c : sum_by one_if s'.seat.me.0.own.serves ≡ sum_by one_if (set v.serves to false) =
-            ap (λ (x : View). sum_by one_if x.own.serves) A.view ∙ ap (sum_by one_if) A.serves_less in
-        let f = F.count in let g = S.count in omega arith);
+          let c : sum_by one_if s'.seat.me.0.own.serves ≡ sum_by one_if (set v.serves to false) =
+          ap (λ (x : View). sum_by one_if x.own.serves) A.view ∙ ap (sum_by one_if) A.serves_less in
+          let f = F.count in let g = S.count in omega arith);
       held = A.slots ∙ ap rest F.slots ∙ ap (λ h. map (λ r. (r, None)) h.items) (sym A.held);
       holds = λ r e. subst (λ h. Contains h.items r) (sym A.held)
-        (let now : get_or (set v.serves to false) r false ≡ true =
-             ap (λ xs. get_or xs r false) (sym A.serves_less) ∙ ap (λ (x : View). get_or x.own.serves r false) (sym A.view) ∙ e in
-         let ne : r ≢ to = λ same. (let gone : get_or (set v.serves to false) r false ≡ false =
-             ap (λ (j : ℕ). get_or (set v.serves to false) j false) same ∙ get_or-set_same v.serves to false false (in_list v.serves to serve) in cc) in
-         F.others r ne (sym (get_or-set_other v.serves to r false false ne) ∙ now));
+          (let now : get_or (set v.serves to false) r false ≡ true =
+          ap (λ xs. get_or xs r false) (sym A.serves_less) ∙ ap (λ (x : View). get_or x.own.serves r false) (sym A.view) ∙ e in
+          let ne : r ≢ to = λ same. (let gone : get_or (set v.serves to false) r false ≡ false =
+          ap (λ (j : ℕ). get_or (set v.serves to false) j false) same ∙ get_or-set_same v.serves to false false (in_list v.serves to serve) in cc) in
+          F.others r ne (sym (get_or-set_other v.serves to r false false ne) ∙ now));
     }

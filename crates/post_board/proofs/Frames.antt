@@ -57,19 +57,22 @@ frame n s o id v W ws hs here live long wide scene =
       wide = long ∙ o.wide;
       slots = wide ∙ o.slots;
       seated = λ k u e lives. ⊎_elim
-        (λ t. (subst (λ (j : ℕ). j < n) (sym t.0) was.0, ap (put o.known id (W (o.known id))) t.0 ∙ put_here o.known id (W (o.known id)) ∙ ap W was.1
-            ∙ ap (λ (y : View). y.own) t.1))
-        (λ t. let old = o.seated k u t.1 lives in (old.0, put_elsewhere o.known id (W (o.known id)) k t.0 ∙ old.1))
-        (at_set s.views id k x u e);
+          (λ t. (
+            subst (λ (j : ℕ). j < n) (sym t.0) was.0,
+            ap (put o.known id (W (o.known id))) t.0 ∙ put_here o.known id (W (o.known id)) ∙ ap W was.1
+                ∙ ap (λ (y : View). y.own) t.1,
+          ))
+          (λ t. let old = o.seated k u t.1 lives in (old.0, put_elsewhere o.known id (W (o.known id)) k t.0 ∙ old.1))
+          (at_set s.views id k x u e);
       kept = λ k u e. kept_on n s o id v (W (o.known id)) x here live u.kept
-        (⊎_elim (λ t. subst (λ (y : View). All (KeptIn n o.known s.views) y.kept) t.1 (o.kept id v here)) (λ t. o.kept k u t.1) (at_set s.views id k x u e));
+          (⊎_elim (λ t. subst (λ (y : View). All (KeptIn n o.known s.views) y.kept) t.1 (o.kept id v here)) (λ t. o.kept k u t.1) (at_set s.views id k x u e));
       dealt = λ k u e. subst (λ (l : ℕ). (u.made ≡ 0) ⊎ ((k ≡ 0) × (u.made ≡ l))) (sym (length-set s.views id x))
-        (⊎_elim
+          (⊎_elim
           (λ t. subst (λ (y : View). (y.made ≡ 0) ⊎ ((k ≡ 0) × (y.made ≡ length s.views))) t.1
-              (subst (λ (j : ℕ). (v.made ≡ 0) ⊎ ((j ≡ 0) × (v.made ≡ length s.views))) (sym t.0) (o.dealt id v here)))
+          (subst (λ (j : ℕ). (v.made ≡ 0) ⊎ ((j ≡ 0) × (v.made ≡ length s.views))) (sym t.0) (o.dealt id v here)))
           (λ t. o.dealt k u t.1) (at_set s.views id k x u e));
       unmade = λ r beyond. let inside = within s.views id v here in let same = length-set s.views id x in
-        put_elsewhere o.known id (W (o.known id)) r (λ e. omega arith) ∙ o.unmade r (omega arith);
+          put_elsewhere o.known id (W (o.known id)) r (λ e. omega arith) ∙ o.unmade r (omega arith);
       moment = scene;
     }
 
@@ -87,9 +90,9 @@ mailbox_put n ws r m d reads h inside = λ i k. at k i
     at : (k : ℕ) → signs_in n (set ws (r + 1) m) k ≡ put (signs_in n ws) r d k
     at k = dite (ℕ_discrete k r)
         (λ e. subst (λ (j : ℕ). signs_in n (set ws (r + 1) m) j ≡ put (signs_in n ws) r d j) (sym e)
-            (mailbox_there n (set ws (r + 1) m) r h ∙ ap sign (get_or-set_same ws (r + 1) m 0 inside) ∙ reads ∙ sym (put_here (signs_in n ws) r d)))
+        (mailbox_there n (set ws (r + 1) m) r h ∙ ap sign (get_or-set_same ws (r + 1) m 0 inside) ∙ reads ∙ sym (put_here (signs_in n ws) r d)))
         (λ ne. ap sign (same_if (nat_lt k n) (get_or (set ws (r + 1) m) (k + 1) 0) (get_or ws (k + 1) 0)
-            (λ t. get_or-set_other ws (r + 1) (k + 1) m 0 (λ e. ne (omega arith)))) ∙ sym (put_elsewhere (signs_in n ws) r d k ne))
+        (λ t. get_or-set_other ws (r + 1) (k + 1) m 0 (λ e. ne (omega arith)))) ∙ sym (put_elsewhere (signs_in n ws) r d k ne))
 
 mailbox_else : (n : ℕ) (ws : List ℕ) (i m : ℕ) → ((r : ℕ) → r < n → r + 1 ≢ i) → signs_in n (set ws i m) ≡ signs_in n ws
 mailbox_else n ws i m ne = λ t k. at k t
@@ -103,7 +106,7 @@ slot_put hs r x inside = λ i k. at k i
     at : (k : ℕ) → slots_in (set hs r x) k ≡ put (slots_in hs) r x k
     at k = dite (ℕ_discrete k r)
         (λ e. subst (λ (j : ℕ). slots_in (set hs r x) j ≡ put (slots_in hs) r x j) (sym e)
-            (get_or-set_same hs r x none inside ∙ sym (put_here (slots_in hs) r x)))
+        (get_or-set_same hs r x none inside ∙ sym (put_here (slots_in hs) r x)))
         (λ ne. get_or-set_other hs r k x none ne ∙ sym (put_elsewhere (slots_in hs) r x k ne))
 
 module _ (n : ℕ) (known : ℕ → Known) (ws : List ℕ) (hs : List (Core.Option Parcel)) (wide : length ws ≡ n + 3) where
@@ -175,3 +178,28 @@ module _ (n : ℕ) (known : ℕ → Known) (ws : List ℕ) (hs : List (Core.Opti
   pub at_none : (i : ℕ) → MailboxFacts n known (signs_in n ws) (slots_in hs) → RingFacts n known (signs_in n ws) (token_in ws)
       → HaltFacts n known (halt_in n ws) (stops_in n ws) → Moment n known (set ws i (get_or ws i 0)) hs
   at_none i F T H = subst (λ (vs : List ℕ). Moment n known vs hs) (sym (set-get_or ws i 0)) record { mailboxes = F; ring = T; halt = H }
+
+-- The pattern of a kind of step. A seat that is in use steps on one word and comes to know W of what it knew; what is owed is the three parts of the rule
+-- afterwards, for the words, the slots and what the seats then know: (1) mailboxes, by `unmoved` or a lemma of MailboxLemmas; (2) the ring, by `calm_all` or,
+-- where the step is a deed, a lemma of RingLemmas; (3) the halt, by `halt_same` or `halt_moved`. (4) `reads` and `writes` put them into the rule.
+module _ (n : ℕ) (s : TableState) (o : Rule n s) (id : ℕ) (v : View) (W : Known → Known) where
+  -- the word i is read and stays as it is
+  pub reads : (i : ℕ) → get_elem? s.views id ≡ some v → v.live ≡ true
+      → MailboxFacts n (put o.known id (W (o.known id))) (signs_in n s.words) (slots_in s.homes)
+      → RingFacts n (put o.known id (W (o.known id))) (signs_in n s.words) (token_in s.words)
+      → HaltFacts n (put o.known id (W (o.known id))) (halt_in n s.words) (stops_in n s.words)
+      → Rule n record { words = set s.words i (get_or s.words i 0); homes = s.homes; views = set s.views id (knows v (W v.own)) }
+  reads i here live F T H =
+      frame n s o id v W (set s.words i (get_or s.words i 0)) s.homes here live (length-set s.words i (get_or s.words i 0)) refl
+      (at_none n (put o.known id (W (o.known id))) s.words s.homes o.wide i F T H)
+
+  -- the mailbox of r comes to say d, by this code, and slots may go out or come home with it
+  pub writes : (r code : ℕ) (d : Sign) (hs : List (Core.Option Parcel)) (slots : ℕ → Core.Option Parcel) → get_elem? s.views id ≡ some v → v.live ≡ true
+      → length hs ≡ length s.homes → sign code ≡ d → r < n → slots_in hs ≡ slots
+      → MailboxFacts n (put o.known id (W (o.known id))) (put (signs_in n s.words) r d) slots
+      → RingFacts n (put o.known id (W (o.known id))) (put (signs_in n s.words) r d) (token_in s.words)
+      → HaltFacts n (put o.known id (W (o.known id))) (halt_in n s.words) (stops_in n s.words)
+      → Rule n record { words = set s.words (r + 1) code; homes = hs; views = set s.views id (knows v (W v.own)) }
+  writes r code d hs slots here live same says inside are F T H =
+      frame n s o id v W (set s.words (r + 1) code) hs here live (length-set s.words (r + 1) code) same
+      (at_mailbox n (put o.known id (W (o.known id))) s.words hs o.wide r code d slots says inside are F T H)

@@ -44,9 +44,11 @@ module _ (b : Board) (all : List BoardSeat) (D : AllDone shown_by (IsSeat b) all
       record {
         short = omega arith;
         same = λ k d h. sym (ap (λ xs. get_or xs k d) e ∙ get_or_append_left left (last ∷ []) d k h);
-        has = λ i d low high. (let is : i ≡ length left = omega arith in
-          (0, (let one : 0 < length (last.seat.me.0.own ∷ last.seat.me.0.kept) = omega arith in one),
-              sym (ap (λ (k : ℕ). (get_or all k d).seat.me.0.own) is ∙ ap (λ (x : BoardSeat). x.seat.me.0.own) (at d))));
+        has = λ i d low high. (let is : i ≡ length left = omega arith in (
+          0,
+          (let one : 0 < length (last.seat.me.0.own ∷ last.seat.me.0.kept) = omega arith in one),
+          sym (ap (λ (k : ℕ). (get_or all k d).seat.me.0.own) is ∙ ap (λ (x : BoardSeat). x.seat.me.0.own) (at d)),
+        ));
         done = All-cons IsDone last.seat.me.0.own last.seat.me.0.kept
             (subst (λ (x : BoardSeat). IsDone x.seat.me.0.own) (at last) (D (length left) last (omega arith)).3)
             (subst (All IsDone) (sym alone) (All-nil IsDone));
@@ -58,7 +60,7 @@ module _ (b : Board) (all : List BoardSeat) (D : AllDone shown_by (IsSeat b) all
   goes_on left left' other v over T e alone =
       let long : length left ≡ length left' + 1 = ap length e ∙ length-append left' (other ∷ []) in
       let at : (d : BoardSeat) → get_or all (length left') d ≡ other = λ d. sym (T.same (length left') d (omega arith))
-          ∙ ap (λ xs. get_or xs (length left') d) e ∙ get_or-append_seam left' other [] d in
+      ∙ ap (λ xs. get_or xs (length left') d) e ∙ get_or-append_seam left' other [] d in
       let ks : List Known = v.own ∷ v.kept in
       let short : length left < length all = T.short in
       let push : ks ++ other.seat.me.0.own ∷ [] ≡ v.own ∷ (both v other.seat.me.0).kept = ap (λ xs. ks ++ other.seat.me.0.own ∷ xs) (sym alone) in
@@ -66,12 +68,12 @@ module _ (b : Board) (all : List BoardSeat) (D : AllDone shown_by (IsSeat b) all
         short = omega arith;
         same = λ k d h. sym (get_or_append_left left' (other ∷ []) d k h) ∙ ap (λ xs. get_or xs k d) (sym e) ∙ T.same k d (omega arith);
         has = λ i d low high. dite (ℕ_discrete i (length left'))
-          (λ is. subst (λ xs. Contains xs (get_or all i d).seat.me.0.own) push
-              (subst (λ (x : Known). Contains (ks ++ other.seat.me.0.own ∷ []) x)
-              (sym (ap (λ (k : ℕ). (get_or all k d).seat.me.0.own) is ∙ ap (λ (x : BoardSeat). x.seat.me.0.own) (at d)))
+            (λ is. subst (λ xs. Contains xs (get_or all i d).seat.me.0.own) push
+            (subst (λ (x : Known). Contains (ks ++ other.seat.me.0.own ∷ []) x)
+            (sym (ap (λ (k : ℕ). (get_or all k d).seat.me.0.own) is ∙ ap (λ (x : BoardSeat). x.seat.me.0.own) (at d)))
             (Contains-push ks other.seat.me.0.own)))
-          (λ ne. subst (λ xs. Contains xs (get_or all i d).seat.me.0.own) push
-              (Contains-append_left ks (other.seat.me.0.own ∷ []) (get_or all i d).seat.me.0.own (T.has i d (omega arith) high)));
+            (λ ne. subst (λ xs. Contains xs (get_or all i d).seat.me.0.own) push
+            (Contains-append_left ks (other.seat.me.0.own ∷ []) (get_or all i d).seat.me.0.own (T.has i d (omega arith) high)));
         done = subst (All IsDone) push (All-append IsDone ks (other.seat.me.0.own ∷ []) T.done
             (All-cons IsDone other.seat.me.0.own [] (subst (λ (x : BoardSeat). IsDone x.seat.me.0.own) (at other) (D (length left') other (omega arith)).3)
             (All-nil IsDone)));
@@ -99,10 +101,12 @@ module _ (b : Board) (all : List BoardSeat) (D : AllDone shown_by (IsSeat b) all
   begun left last id m over e id_is m_is over_is =
       let long : length all ≡ length left + 1 = ap length e ∙ length-append left (last ∷ []) in
       let at : get_or all (length left) last ≡ last = ap (λ xs. get_or xs (length left) last) e ∙ get_or-append_seam left last [] last in
-      let S : IsSeat b last = (seat_at left last (omega arith) at).0 in
-      (id_is ∙ S.table, ap (λ (x : SeatState). x.0.live) m_is ∙ S.live,
-       subst (λ (t : Bool). Together all left m.0 t) (S.ended ∙ sym over_is)
-           (subst (λ (x : View). Together all left x last.seat.me.0.own.ended) (sym (ap (λ (x : SeatState). x.0) m_is)) (begins left last e S.alone)))
+      let S : IsSeat b last = (seat_at left last (omega arith) at).0 in (
+        id_is ∙ S.table,
+        ap (λ (x : SeatState). x.0.live) m_is ∙ S.live,
+        subst (λ (t : Bool). Together all left m.0 t) (S.ended ∙ sym over_is)
+            (subst (λ (x : View). Together all left x last.seat.me.0.own.ended) (sym (ap (λ (x : SeatState). x.0) m_is)) (begins left last e S.alone)),
+      )
 
   pub fits : (left left' : List BoardSeat) (other : BoardSeat) (v : View) (over : Bool) → Together all left v over → left ≡ left' ++ other ∷ []
       → (id : TableId) (m : SeatState) → id ≡ other.seat.table_id → m ≡ other.seat.me
@@ -120,8 +124,8 @@ module _ (b : Board) (all : List BoardSeat) (D : AllDone shown_by (IsSeat b) all
       let short : length left < length all = T.short in
       let S = seat_at left' other (omega arith) (came left left' other v over T e) in
       subst (λ (t : Bool). Together all left' u t) (S.0.ended ∙ sym over_is)
-          (subst (λ (x : View). Together all left' x other.seat.me.0.own.ended) (sym (u_is ∙ ap (λ (x : SeatState). both v x.0) m_is))
-          (goes_on left left' other v over T e S.0.alone))
+      (subst (λ (x : View). Together all left' x other.seat.me.0.own.ended) (sym (u_is ∙ ap (λ (x : SeatState). both v x.0) m_is))
+      (goes_on left left' other v over T e S.0.alone))
 
   pub squares_of : (left : List BoardSeat) (v : View) (over : Bool) → Together all left v over → length left ≡ 0 → Squares v → (i j : ℕ) (d : BoardSeat)
       → i < length all → j < length all
@@ -133,10 +137,10 @@ module _ (b : Board) (all : List BoardSeat) (D : AllDone shown_by (IsSeat b) all
       let cx : Contains ks x = T.has i d (omega arith) hi in
       let cy : Contains ks y = T.has j d (omega arith) hj in
       let sq : get_or (get_or ks cy.0 y).taken (get_or ks cx.0 x).number [] ≡ get_or (get_or ks cx.0 x).given (get_or ks cy.0 y).number [] =
-          S cx.0 x cx.1 cy.0 y cy.1 in
+      S cx.0 x cx.1 cy.0 y cy.1 in
       let nx : x.number ≡ i = (D i d hi).1 in
       let ny : y.number ≡ j = (D j d hj).1 in
       ap (λ (k : ℕ). get_or y.taken k []) (sym nx) ∙ ap (λ (z : Known). get_or y.taken z.number []) (sym cx.2)
-          ∙ ap (λ (z : Known). get_or z.taken (get_or ks cx.0 x).number []) (sym cy.2)
+      ∙ ap (λ (z : Known). get_or z.taken (get_or ks cx.0 x).number []) (sym cy.2)
       ∙ sq ∙ ap (λ (z : Known). get_or z.given (get_or ks cy.0 y).number []) cx.2 ∙ ap (λ (z : Known). get_or x.given z.number []) cy.2
-          ∙ ap (λ (k : ℕ). get_or x.given k []) ny
+      ∙ ap (λ (k : ℕ). get_or x.given k []) ny

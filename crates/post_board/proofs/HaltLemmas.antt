@@ -38,7 +38,7 @@ halt_moved n known halt stops id w halt' stops' H O = record {
 pub halt_same : (n : ℕ) (known : ℕ → Known) (halt : Bool) (stops : ℕ → Bool) (id : ℕ) (w : Known) → id < n → HaltFacts n known halt stops
     → (known id).stopped ≡ false
     → w.halted ≡ (known id).halted → w.knows_halt ≡ (known id).knows_halt → w.stopped ≡ (known id).stopped
-        → ((v : ℕ) → w.own ≡ Left v → (known v).stopped ≡ true)
+    → ((v : ℕ) → w.own ≡ Left v → (known v).stopped ≡ true)
     → HaltFacts n (put known id w) halt stops
 halt_same n known halt stops id w me H runs halted knows stopped left =
     halt_moved n known halt stops id w halt stops H record {

@@ -26,10 +26,10 @@ use Rattle.post_board.specs.declared.board_views.OwnMailbox.{OwnMailbox}
 use Rattle.post_board.specs.declared.board_views.OwnMailbox.TheVariants.{Resting, Open, Left, Filled, Emptied, Getting}
 use Rattle.post_board.proofs.Puts.{put_same, put_self}
 use Rattle.post_board.proofs.FactLemmas.{unmoved}
-use Rattle.post_board.proofs.DeskLemmas.{one_word, own_moves, slot_under, learns, learns_away}
-use Rattle.post_board.proofs.TurnLemmas.{calm_all, withdraws}
+use Rattle.post_board.proofs.MailboxLemmas.{one_word, own_moves, slot_under, learns, learns_away}
+use Rattle.post_board.proofs.RingLemmas.{calm_all, withdraws}
 use Rattle.post_board.proofs.HaltLemmas.{IsGone, halt_moved, halt_same}
-use Rattle.post_board.proofs.Frames.{frame, at_none, at_halt, at_stops, at_mailbox, mailbox_there}
+use Rattle.post_board.proofs.Frames.{frame, at_halt, at_stops, mailbox_there, reads, writes}
 
 pub allows_set_halt : (n slots id : ℕ) (m : SeatState) → Going m → Allows (Rule n) slots id m (n + 1) (λ _. 1)
     (SetHaltTells (step slots (n + 1) 1 0 none) m)
@@ -38,24 +38,27 @@ allows_set_halt n slots id m G s o wide here small =
     let r : ℕ = get_or s.words (n + 1) 0 in
     let W : Known → Known = λ v. record (noted v (n + 1) r 1) { halted = true } in
     let k : Known = o.known id in
-    let unstopped : k.stopped ≡ false = ap (λ (v : Known). v.stopped) was.1 ∙ G.goes in
-    (knows m.0 (W m.0.own), keeps, tt,
-     frame n s o id m.0 W (set s.words (n + 1) 1) s.homes here G.live (length-set s.words (n + 1) 1) refl
-       (at_halt n (put o.known id (W k)) s.words s.homes o.wide 1
-         (unmoved n o.known (signs_in n s.words) (slots_in s.homes) id (W k) was.0 o.moment.mailboxes refl refl refl refl refl
-             (o.moment.mailboxes.own id was.0) (o.moment.mailboxes.away id was.0))
-         (calm_all n o.known (signs_in n s.words) (token_in s.words) o.moment.ring id was.0 (W k) refl (o.moment.ring.here id was.0))
-         (halt_moved n o.known (halt_in n s.words) (stops_in n s.words) id (W k) true (stops_in n s.words) o.moment.halt record {
-           up = λ e. refl;
-           halted = λ e. refl;
-           knows = λ e. refl;
-           by_one = λ e. (id, was.0, ap (λ (v : Known). v.halted) (put_here o.known id (W k)));
-           bits = λ j h. put_same (λ i x. x.stopped) o.known id (W k) refl j ∙ o.moment.halt.bits j h;
-           left = λ v e. put_same (λ i x. x.stopped) o.known id (W k) refl v ∙ o.moment.halt.left id v was.0 e;
-           stays = λ e. e;
-           gone = λ e. absurd (let clash : true ≡ false = sym e ∙ unstopped in cc);
-         })),
-     refl)
+    let unstopped : k.stopped ≡ false = ap (λ (v : Known). v.stopped) was.1 ∙ G.goes in (
+      knows m.0 (W m.0.own),
+      keeps,
+      tt,
+      frame n s o id m.0 W (set s.words (n + 1) 1) s.homes here G.live (length-set s.words (n + 1) 1) refl
+          (at_halt n (put o.known id (W k)) s.words s.homes o.wide 1
+          (unmoved n o.known (signs_in n s.words) (slots_in s.homes) id (W k) was.0 o.moment.mailboxes refl refl refl refl refl
+          (o.moment.mailboxes.own id was.0) (o.moment.mailboxes.away id was.0))
+          (calm_all n o.known (signs_in n s.words) (token_in s.words) o.moment.ring id was.0 (W k) refl (o.moment.ring.here id was.0))
+          (halt_moved n o.known (halt_in n s.words) (stops_in n s.words) id (W k) true (stops_in n s.words) o.moment.halt record {
+            up = λ e. refl;
+            halted = λ e. refl;
+            knows = λ e. refl;
+            by_one = λ e. (id, was.0, ap (λ (v : Known). v.halted) (put_here o.known id (W k)));
+            bits = λ j h. put_same (λ i x. x.stopped) o.known id (W k) refl j ∙ o.moment.halt.bits j h;
+            left = λ v e. put_same (λ i x. x.stopped) o.known id (W k) refl v ∙ o.moment.halt.left id v was.0 e;
+            stays = λ e. e;
+            gone = λ e. absurd (let clash : true ≡ false = sym e ∙ unstopped in cc);
+          })),
+      refl,
+    )
 
 halt_facts : (v : Known) (b : Bool) → let w : Known = halt_seen v b in (w.number ≡ v.number) × (w.n ≡ v.n) × (w.serves ≡ v.serves) × (w.given ≡ v.given)
     × (w.taken ≡ v.taken) × (w.own ≡ v.own) × (w.halted ≡ v.halted) × (w.stopped ≡ v.stopped)
@@ -80,25 +83,27 @@ allows_load_halt n slots id m G s o wide here small =
     let W : Known → Known = λ v. halt_seen (noted v (n + 1) r r) (r == 1) in
     let k : Known = o.known id in
     let unstopped : k.stopped ≡ false = ap (λ (v : Known). v.stopped) was.1 ∙ G.goes in
-    let f = halt_facts (noted k (n + 1) r r) (r == 1) in
-    (knows m.0 (W m.0.own), keeps, tt,
-     frame n s o id m.0 W (set s.words (n + 1) r) s.homes here G.live (length-set s.words (n + 1) r) refl
-       (at_none n (put o.known id (W k)) s.words s.homes o.wide (n + 1)
-         (unmoved n o.known (signs_in n s.words) (slots_in s.homes) id (W k) was.0 o.moment.mailboxes f.0 f.1 f.2 f.3 f.4
-             (subst (λ (x : OwnMailbox). OwnFits x (signs_in n s.words id)) (sym f.5) (o.moment.mailboxes.own id was.0))
-             (subst (λ (x : OwnMailbox). Away n id x) (sym f.5) (o.moment.mailboxes.away id was.0)))
-         (halt_turns n o.known (signs_in n s.words) (token_in s.words) o.moment.ring id was.0 (n + 1) r r (r == 1))
-         (halt_moved n o.known (halt_in n s.words) (stops_in n s.words) id (W k) (halt_in n s.words) (stops_in n s.words) o.moment.halt record {
-           up = λ e. e;
-           halted = λ e. o.moment.halt.halted id was.0 (sym f.6 ∙ e);
-           knows = λ e. ⊎_elim (λ b. b) (λ q. o.moment.halt.knows id was.0 q) (halt_known (noted k (n + 1) r r) (r == 1) e);
-           by_one = λ e. (let p = o.moment.halt.by_one e in (p.0, p.1, put_same (λ j x. x.halted) o.known id (W k) f.6 p.0 ∙ p.2));
-           bits = λ j h. put_same (λ i x. x.stopped) o.known id (W k) f.7 j ∙ o.moment.halt.bits j h;
-           left = λ v e. put_same (λ i x. x.stopped) o.known id (W k) f.7 v ∙ o.moment.halt.left id v was.0 (sym f.5 ∙ e);
-           stays = λ e. f.7 ∙ e;
-           gone = λ e. absurd (let clash : true ≡ false = sym e ∙ f.7 ∙ unstopped in cc);
-         })),
-     (refl, λ e. eqb-true r 1 (o.moment.halt.halted id was.0 (ap (λ (v : Known). v.halted) was.1 ∙ e))))
+    let f = halt_facts (noted k (n + 1) r r) (r == 1) in (
+      knows m.0 (W m.0.own),
+      keeps,
+      tt,
+      reads n s o id m.0 W (n + 1) here G.live
+          (unmoved n o.known (signs_in n s.words) (slots_in s.homes) id (W k) was.0 o.moment.mailboxes f.0 f.1 f.2 f.3 f.4
+          (subst (λ (x : OwnMailbox). OwnFits x (signs_in n s.words id)) (sym f.5) (o.moment.mailboxes.own id was.0))
+          (subst (λ (x : OwnMailbox). Away n id x) (sym f.5) (o.moment.mailboxes.away id was.0)))
+          (halt_turns n o.known (signs_in n s.words) (token_in s.words) o.moment.ring id was.0 (n + 1) r r (r == 1))
+          (halt_moved n o.known (halt_in n s.words) (stops_in n s.words) id (W k) (halt_in n s.words) (stops_in n s.words) o.moment.halt record {
+            up = λ e. e;
+            halted = λ e. o.moment.halt.halted id was.0 (sym f.6 ∙ e);
+            knows = λ e. ⊎_elim (λ b. b) (λ q. o.moment.halt.knows id was.0 q) (halt_known (noted k (n + 1) r r) (r == 1) e);
+            by_one = λ e. (let p = o.moment.halt.by_one e in (p.0, p.1, put_same (λ j x. x.halted) o.known id (W k) f.6 p.0 ∙ p.2));
+            bits = λ j h. put_same (λ i x. x.stopped) o.known id (W k) f.7 j ∙ o.moment.halt.bits j h;
+            left = λ v e. put_same (λ i x. x.stopped) o.known id (W k) f.7 v ∙ o.moment.halt.left id v was.0 (sym f.5 ∙ e);
+            stays = λ e. f.7 ∙ e;
+            gone = λ e. absurd (let clash : true ≡ false = sym e ∙ f.7 ∙ unstopped in cc);
+          }),
+      (refl, λ e. eqb-true r 1 (o.moment.halt.halted id was.0 (ap (λ (v : Known). v.halted) was.1 ∙ e))),
+    )
 
 pub allows_stop : (n slots id bit : ℕ) (m : SeatState) → Going m → m.0.own.own ≡ Resting
     → ((r : ℕ) → serves m.0.own r ≡ false) → bit ≡ 2 ^ m.0.own.number
@@ -110,26 +115,34 @@ allows_stop n slots id bit m G rests idle is s o wide here small =
     let k : Known = o.known id in
     let number : m.0.own.number ≡ id = ap (λ (v : Known). v.number) (sym was.1) ∙ (o.moment.mailboxes.named id was.0).0 in
     let bit_id : bit ≡ 2 ^ id = is ∙ ap (λ (j : ℕ). 2 ^ j) number in
-    let new : ℕ = bit_or r bit in
-    (knows m.0 (W m.0.own), keeps, tt,
-     frame n s o id m.0 W (set s.words (n + 2) new) s.homes here G.live (length-set s.words (n + 2) new) refl
-       (at_stops n (put o.known id (W k)) s.words s.homes o.wide new
-         (unmoved n o.known (signs_in n s.words) (slots_in s.homes) id (W k) was.0 o.moment.mailboxes refl refl refl refl refl
-             (o.moment.mailboxes.own id was.0) (o.moment.mailboxes.away id was.0))
-         (calm_all n o.known (signs_in n s.words) (token_in s.words) o.moment.ring id was.0 (W k) refl (o.moment.ring.here id was.0))
-         (halt_moved n o.known (halt_in n s.words) (stops_in n s.words) id (W k) (halt_in n s.words) (has_bit new) o.moment.halt record {
-           up = λ e. e;
-           halted = o.moment.halt.halted id was.0;
-           knows = o.moment.halt.knows id was.0;
-           by_one = λ e. (let p = o.moment.halt.by_one e in (p.0, p.1, put_same (λ j x. x.halted) o.known id (W k) refl p.0 ∙ p.2));
-           bits = λ j h. subst (λ (b : ℕ). (put o.known id (W k) j).stopped ≡ has_bit (bit_or r b) j) (sym bit_id)
-               (put_all (λ i x. x.stopped ≡ has_bit (bit_or r (2 ^ id)) i) o.known id (W k) j (sym (bit_set r id))
-                   (λ ne. o.moment.halt.bits j h ∙ sym (bit_else r id j ne)));
-           left = λ v e. absurd (let clash : Left v ≡ Resting = sym e ∙ ap (λ (x : Known). x.own) was.1 ∙ rests in cc);
-           stays = λ e. refl;
-           gone = λ e. (ap (λ (x : Known). x.own) was.1 ∙ rests, ap (λ (x : Known). x.ended) was.1 ∙ G.runs, λ j. ap (λ (x : Known). serves x j) was.1 ∙ idle j);
-         })),
-     refl)
+    let new : ℕ = bit_or r bit in (
+      knows m.0 (W m.0.own),
+      keeps,
+      tt,
+      frame n s o id m.0 W (set s.words (n + 2) new) s.homes here G.live (length-set s.words (n + 2) new) refl
+          (at_stops n (put o.known id (W k)) s.words s.homes o.wide new
+          (unmoved n o.known (signs_in n s.words) (slots_in s.homes) id (W k) was.0 o.moment.mailboxes refl refl refl refl refl
+          (o.moment.mailboxes.own id was.0) (o.moment.mailboxes.away id was.0))
+          (calm_all n o.known (signs_in n s.words) (token_in s.words) o.moment.ring id was.0 (W k) refl (o.moment.ring.here id was.0))
+          (halt_moved n o.known (halt_in n s.words) (stops_in n s.words) id (W k) (halt_in n s.words) (has_bit new) o.moment.halt record {
+            up = λ e. e;
+            halted = o.moment.halt.halted id was.0;
+            knows = o.moment.halt.knows id was.0;
+            by_one = λ e. (let p = o.moment.halt.by_one e in (p.0, p.1, put_same (λ j x. x.halted) o.known id (W k) refl p.0 ∙ p.2));
+            bits = λ j h. subst (λ (b : ℕ). (put o.known id (W k) j).stopped ≡ has_bit (bit_or r b) j) (sym bit_id)
+                (put_all (λ i x. x.stopped ≡ has_bit (bit_or r (2 ^ id)) i) o.known id (W k) j (sym (bit_set r id))
+                (λ ne. o.moment.halt.bits j h ∙ sym (bit_else r id j ne)));
+            left = λ v e. absurd (let clash : Left v ≡ Resting = sym e ∙ ap (λ (x : Known). x.own) was.1 ∙ rests in cc);
+            stays = λ e. refl;
+            gone = λ e. (
+              ap (λ (x : Known). x.own) was.1 ∙ rests,
+              ap (λ (x : Known). x.ended) was.1 ∙ G.runs,
+              λ j. ap (λ (x : Known). serves x j) was.1
+                  ∙ idle j,
+            );
+          })),
+      refl,
+    )
 
 open_still : (b : Bool) (v : ℕ) (d : Sign) → OpenFits v d → OwnFits (cond b (Left v) (Open v)) d
 open_still true v d h = h
@@ -173,18 +186,21 @@ allows_load_stops n slots id m G s o wide here small =
     let was = o.seated id m.0 here G.live in
     let r : ℕ = get_or s.words (n + 2) 0 in
     let W : Known → Known = λ v. record (noted v (n + 2) r r) { own = stop_seen v.own r } in
-    let k : Known = o.known id in
-    (knows m.0 (W m.0.own), keeps, tt,
-     frame n s o id m.0 W (set s.words (n + 2) r) s.homes here G.live (length-set s.words (n + 2) r) refl
-       (at_none n (put o.known id (W k)) s.words s.homes o.wide (n + 2)
-         (unmoved n o.known (signs_in n s.words) (slots_in s.homes) id (W k) was.0 o.moment.mailboxes refl refl refl refl refl
-             (stop_fits k.own r (signs_in n s.words id) (o.moment.mailboxes.own id was.0))
-             (λ v e. o.moment.mailboxes.away id was.0 v (sym (stop_asked k.own r) ∙ e)))
-         (calm_all n o.known (signs_in n s.words) (token_in s.words) o.moment.ring id was.0 (W k) refl (o.moment.ring.here id was.0))
-         (halt_same n o.known (halt_in n s.words) (stops_in n s.words) id (W k) was.0 o.moment.halt (ap (λ (v : Known). v.stopped) was.1 ∙ G.goes) refl refl refl
-           (λ v e. ⊎_elim (λ q. o.moment.halt.left id v was.0 q)
-             (λ q. o.moment.halt.bits v (o.moment.mailboxes.away id was.0 v (ap asked_of q.0)).0 ∙ q.1) (stop_left k.own r v e)))),
-     refl)
+    let k : Known = o.known id in (
+      knows m.0 (W m.0.own),
+      keeps,
+      tt,
+      reads n s o id m.0 W (n + 2) here G.live
+          (unmoved n o.known (signs_in n s.words) (slots_in s.homes) id (W k) was.0 o.moment.mailboxes refl refl refl refl refl
+          (stop_fits k.own r (signs_in n s.words id) (o.moment.mailboxes.own id was.0))
+          (λ v e. o.moment.mailboxes.away id was.0 v (sym (stop_asked k.own r) ∙ e)))
+          (calm_all n o.known (signs_in n s.words) (token_in s.words) o.moment.ring id was.0 (W k) refl (o.moment.ring.here id was.0))
+          (halt_same n o.known (halt_in n s.words) (stops_in n s.words) id (W k) was.0 o.moment.halt (ap (λ (v : Known). v.stopped) was.1 ∙ G.goes) refl
+          refl refl
+          (λ v e. ⊎_elim (λ q. o.moment.halt.left id v was.0 q)
+          (λ q. o.moment.halt.bits v (o.moment.mailboxes.away id was.0 v (ap asked_of q.0)).0 ∙ q.1) (stop_left k.own r v e))),
+      refl,
+    )
 
 abbrev pub Goes : ℕ → TableState → ℕ → ℕ → SeatState → (ℕ → SeatState → Type 0) → ℕ → Type 0
 Goes n s i id m then x = (w : View) × (a : Act Parcel) × Valid s.homes m.1 a × Rule n (stepped s i x id m.1 w a) × then (get_or s.words i 0)
@@ -201,7 +217,7 @@ learn_left o (emptied i) v u e f = cc
 pub allows_withdraw : (n slots id r v : ℕ) (m : SeatState) → Going m → m.0.own.number ≡ r
     → m.0.own.own ≡ Left v
     → Allows (Rule n) slots id m (r + 1) (λ w. either (eqb w (word_of (asking v))) (word_of resting) w)
-        (WithdrawTells (step slots (r + 1) (word_of (asking v)) (word_of resting) none) m)
+    (WithdrawTells (step slots (r + 1) (word_of (asking v)) (word_of resting) none) m)
 allows_withdraw n slots id r v m G mine leaves s o wide here small =
     let was = o.seated id m.0 here G.live in
     let found : ℕ = get_or s.words (r + 1) 0 in
@@ -215,37 +231,41 @@ allows_withdraw n slots id r v m G mine leaves s o wide here small =
     let stopped_not : k.stopped ≡ false = ap (λ (x : Known). x.stopped) was.1 ∙ G.goes in
     let fits : OpenFits v (signs_in n s.words id) = subst (λ (x : OwnMailbox). OwnFits x (signs_in n s.words id)) left_own (o.moment.mailboxes.own id was.0) in
     exchanged found (word_of (asking v)) (word_of resting) (Goes n s (r + 1) id m
-        (WithdrawTells (step slots (r + 1) (word_of (asking v)) (word_of resting) none) m))
+    (WithdrawTells (step slots (r + 1) (word_of (asking v)) (word_of resting) none) m))
     (λ hit.
-      let W : Known → Known = λ x. after_rest x (r + 1) found true in
-      let asks : signs_in n s.words id ≡ asking v = sign_now ∙ ap sign hit ∙ sign_of_word (asking v) in
-      (knows m.0 (W m.0.own), keeps, tt,
-       frame n s o id m.0 W (set s.words (r + 1) (word_of resting)) s.homes here G.live (length-set s.words (r + 1) (word_of resting)) refl
-         (at_mailbox n (put o.known id (W k)) s.words s.homes o.wide r (word_of resting) resting (slots_in s.homes) (sign_of_word resting) below refl
-           (subst (λ (j : ℕ). MailboxFacts n (put o.known id (W k)) (put (signs_in n s.words) j resting) (slots_in s.homes)) (sym number)
-             (own_moves n o.known (signs_in n s.words) (slots_in s.homes) o.moment.mailboxes id was.0 (W k) resting refl refl refl refl refl refl (λ u e. cc)
-               (slot_under n o.known (signs_in n s.words) (slots_in s.homes) o.moment.mailboxes id was.0 (asking v) asks) refl (λ j e. cc) (λ j e. cc)))
-           (subst (λ (j : ℕ). RingFacts n (put o.known id (W k)) (put (signs_in n s.words) j resting) (token_in s.words)) (sym number)
-             (withdraws n o.known (signs_in n s.words) (token_in s.words) o.moment.ring id was.0 (W k) v away.0 (λ e. away.1 (sym e))
-                 (ap (λ (x : Known). x.ended) was.1 ∙ G.runs) gone.1 asks refl refl))
-           (halt_same n o.known (halt_in n s.words) (stops_in n s.words) id (W k) was.0 o.moment.halt stopped_not refl refl refl (λ u e. absurd (cc)))),
-       (λ u e. ((λ q. refl), (λ q. absurd (q hit))))))
+    let W : Known → Known = λ x. after_rest x (r + 1) found true in
+    let asks : signs_in n s.words id ≡ asking v = sign_now ∙ ap sign hit ∙ sign_of_word (asking v) in (
+      knows m.0 (W m.0.own),
+      keeps,
+      tt,
+      writes n s o id m.0 W r (word_of resting) resting s.homes (slots_in s.homes) here G.live refl (sign_of_word resting) below refl
+          (subst (λ (j : ℕ). MailboxFacts n (put o.known id (W k)) (put (signs_in n s.words) j resting) (slots_in s.homes)) (sym number)
+          (own_moves n o.known (signs_in n s.words) (slots_in s.homes) o.moment.mailboxes id was.0 (W k) resting refl refl refl refl refl refl (λ u e. cc)
+          (slot_under n o.known (signs_in n s.words) (slots_in s.homes) o.moment.mailboxes id was.0 (asking v) asks) refl (λ j e. cc) (λ j e. cc)))
+          (subst (λ (j : ℕ). RingFacts n (put o.known id (W k)) (put (signs_in n s.words) j resting) (token_in s.words)) (sym number)
+          (withdraws n o.known (signs_in n s.words) (token_in s.words) o.moment.ring id was.0 (W k) v away.0 (λ e. away.1 (sym e))
+          (ap (λ (x : Known). x.ended) was.1 ∙ G.runs) gone.1 asks refl refl))
+          (halt_same n o.known (halt_in n s.words) (stops_in n s.words) id (W k) was.0 o.moment.halt stopped_not refl refl refl (λ u e. absurd (cc))),
+      (λ u e. ((λ q. refl), (λ q. absurd (q hit)))),
+    ))
     (λ miss.
-      let W : Known → Known = λ x. after_look x (r + 1) found in
-      let no_ask : sign found ≢ asking v = λ e. miss (one_word found v e) in
-      let no_serve : sign found ≢ serving v = λ e. (let yes : serves (o.known v) id ≡ true = o.moment.mailboxes.served id v was.0 away.0 (sign_now ∙ e) in
-          let never : serves (o.known v) id ≡ false = gone.2 id in cc) in
-      let answered : (sign found ≡ full v) ⊎ (sign found ≡ emptied v) = ⊎_elim (λ a. absurd (no_ask (sym sign_now ∙ a)))
-          (λ b. ⊎_elim (λ c. absurd (no_serve (sym sign_now ∙ c))) (λ d. ⊎_elim (λ e. inl (sym sign_now ∙ e)) (λ e. inr (sym sign_now ∙ e)) d) b) fits in
-      let found_fits : OwnFits k.own (sign found) = subst (OwnFits k.own) sign_now (o.moment.mailboxes.own id was.0) in
-      (knows m.0 (W m.0.own), keeps, tt,
-       frame n s o id m.0 W (set s.words (r + 1) found) s.homes here G.live (length-set s.words (r + 1) found) refl
-         (at_none n (put o.known id (W k)) s.words s.homes o.wide (r + 1)
-           (unmoved n o.known (signs_in n s.words) (slots_in s.homes) id (W k) was.0 o.moment.mailboxes refl refl refl refl refl
-             (subst (OwnFits (learn k.own (sign found))) (sym sign_now) (learns k.own (sign found) found_fits))
-             (λ u e. o.moment.mailboxes.away id was.0 u (learns_away k.own (sign found) found_fits u e)))
-           (calm_all n o.known (signs_in n s.words) (token_in s.words) o.moment.ring id was.0 (W k) refl (o.moment.ring.here id was.0))
-           (halt_same n o.known (halt_in n s.words) (stops_in n s.words) id (W k) was.0 o.moment.halt stopped_not refl refl refl
-             (λ u e. subst (λ (j : ℕ). (o.known j).stopped ≡ true) (learn_left k.own (sign found) v u left_own e) (o.moment.halt.left id v was.0 left_own)))),
-       (λ u e. (let same : u ≡ v = (let p : Left u ≡ Left v = sym e ∙ leaves in cc) in
-         ((λ q. absurd (miss q)), (λ q. (subst (λ (j : ℕ). (sign found ≡ full j) ⊎ (sign found ≡ emptied j)) (sym same) answered, refl)))))))
+    let W : Known → Known = λ x. after_look x (r + 1) found in
+    let no_ask : sign found ≢ asking v = λ e. miss (one_word found v e) in
+    let no_serve : sign found ≢ serving v = λ e. (let yes : serves (o.known v) id ≡ true = o.moment.mailboxes.served id v was.0 away.0 (sign_now ∙ e) in
+    let never : serves (o.known v) id ≡ false = gone.2 id in cc) in
+    let answered : (sign found ≡ full v) ⊎ (sign found ≡ emptied v) = ⊎_elim (λ a. absurd (no_ask (sym sign_now ∙ a)))
+    (λ b. ⊎_elim (λ c. absurd (no_serve (sym sign_now ∙ c))) (λ d. ⊎_elim (λ e. inl (sym sign_now ∙ e)) (λ e. inr (sym sign_now ∙ e)) d) b) fits in
+    let found_fits : OwnFits k.own (sign found) = subst (OwnFits k.own) sign_now (o.moment.mailboxes.own id was.0) in (
+      knows m.0 (W m.0.own),
+      keeps,
+      tt,
+      reads n s o id m.0 W (r + 1) here G.live
+          (unmoved n o.known (signs_in n s.words) (slots_in s.homes) id (W k) was.0 o.moment.mailboxes refl refl refl refl refl
+          (subst (OwnFits (learn k.own (sign found))) (sym sign_now) (learns k.own (sign found) found_fits))
+          (λ u e. o.moment.mailboxes.away id was.0 u (learns_away k.own (sign found) found_fits u e)))
+          (calm_all n o.known (signs_in n s.words) (token_in s.words) o.moment.ring id was.0 (W k) refl (o.moment.ring.here id was.0))
+          (halt_same n o.known (halt_in n s.words) (stops_in n s.words) id (W k) was.0 o.moment.halt stopped_not refl refl refl
+          (λ u e. subst (λ (j : ℕ). (o.known j).stopped ≡ true) (learn_left k.own (sign found) v u left_own e) (o.moment.halt.left id v was.0 left_own))),
+      (λ u e. (let same : u ≡ v = (let p : Left u ≡ Left v = sym e ∙ leaves in cc) in
+          ((λ q. absurd (miss q)), (λ q. (subst (λ (j : ℕ). (sign found ≡ full j) ⊎ (sign found ≡ emptied j)) (sym same) answered, refl))))),
+    ))

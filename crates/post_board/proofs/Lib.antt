@@ -8,13 +8,13 @@ pub mod AskerLemmas
 pub mod Puts
 pub mod Sheets
 pub mod FactLemmas
-pub mod TurnLemmas
+pub mod RingLemmas
 pub mod HaltLemmas
 pub mod Frames
 pub mod RingSteps
-pub mod DeskLemmas
+pub mod MailboxLemmas
 pub mod HaltSteps
-pub mod DeskSteps
+pub mod MailboxSteps
 pub mod MomentLemmas
 pub mod SeatSteps
 pub mod CallLemmas

@@ -8,8 +8,8 @@ use Rattle.post_board.specs.Words.{Sign}
 use Rattle.post_board.specs.BoardRule.{TableState, Rule, signs_in, slots_in, token_in}
 use Rattle.post_board.specs.BoardMoments.{told_at, NothingLeft}
 use Rattle.post_board.proofs.Sheets.{places, place_at, sheet_size}
-use Rattle.post_board.proofs.DeskLemmas.{not_full}
-use Rattle.post_board.proofs.TurnLemmas.{sound_now, over_quiet}
+use Rattle.post_board.proofs.MailboxLemmas.{not_full}
+use Rattle.post_board.proofs.RingLemmas.{sound_now, over_quiet}
 
 module _ (n : ℕ) (s : TableState) (o : Rule n s) where
   sound_there : 0 < n → Sound (told_at n s o)

@@ -26,9 +26,9 @@ use Rattle.post_board.specs.declared.board_views.Known.{Known}
 use Rattle.post_board.specs.declared.board_views.View.{View}
 use Rattle.post_board.specs.declared.board_views.OwnMailbox.{OwnMailbox}
 use Rattle.post_board.specs.declared.board_views.OwnMailbox.TheVariants.{Resting}
-use Rattle.post_board.proofs.DeskLemmas.{not_full}
+use Rattle.post_board.proofs.MailboxLemmas.{not_full}
 use Rattle.post_board.proofs.FactLemmas.{unmoved}
-use Rattle.post_board.proofs.TurnLemmas.{calm_all, over_quiet}
+use Rattle.post_board.proofs.RingLemmas.{calm_all, over_quiet}
 use Rattle.post_board.proofs.MomentLemmas.{ended_over}
 use Rattle.post_board.proofs.PlainStart.{read_of_copies}
 use Rattle.post_board.specs.Reached.{Reached, begun}
@@ -38,7 +38,7 @@ use Rattle.post_board.specs.Fresh.{fresh_place, fresh_told}
 use Rattle.std.proofs.lemmas.List.{ext_get_or}
 use Rattle.std.proofs.lemmas.List.FromFn.{get_or-map-range_with_len}
 use Rattle.post_board.proofs.Sheets.{places, place_at, sheet_size}
-use Rattle.post_board.proofs.Frames.{there, within, elsewhere, frame, at_none, mailbox_there}
+use Rattle.post_board.proofs.Frames.{there, within, elsewhere, reads}
 
 -- the one after the last
 at_end : {A : Type 0} (l : List A) (a : A) (k : ℕ) (b : A) → get_elem? (l ++ a ∷ []) k ≡ some b → (get_elem? l k ≡ some b) ⊎ ((k ≡ length l) × (a ≡ b))
@@ -62,27 +62,27 @@ deals n id v first room live s o here =
       wide = o.wide;
       slots = o.slots;
       seated = λ k u e lives. ⊎_elim
-        (λ old. ⊎_elim
+          (λ old. ⊎_elim
           (λ t. (subst (λ (j : ℕ). j < n) (sym t.0) was.0, ap o.known t.0 ∙ was.1 ∙ ap (λ (x : View). x.own) t.1))
           (λ t. o.seated k u t.1 lives) (at_set s.views id k (dealing v) u old))
-        (λ new. (let at : k ≡ v.made = new.0 ∙ same ∙ sym long.1 in
+          (λ new. (let at : k ≡ v.made = new.0 ∙ same ∙ sym long.1 in
           (omega arith, ap o.known at ∙ o.unmade v.made (omega (arith, long.1)) ∙ ap (λ (m : ℕ). fresh m v.made) (sym size) ∙ ap (λ (x : View). x.own) new.1)))
-        (at_end vs (dealt_out v) k u e);
+          (at_end vs (dealt_out v) k u e);
       kept = λ k u e. ⊎_elim
-        (λ old. λ i d h. (let p = ⊎_elim {C = All (KeptIn n o.known s.views) u.kept}
-            (λ t. subst (λ (x : View). All (KeptIn n o.known s.views) x.kept) t.1 (o.kept id v here)) (λ t. o.kept k u t.1)
-            (at_set s.views id k (dealing v) u old) i d h in
+          (λ old. λ i d h. (let p = ⊎_elim {C = All (KeptIn n o.known s.views) u.kept}
+          (λ t. subst (λ (x : View). All (KeptIn n o.known s.views) x.kept) t.1 (o.kept id v here)) (λ t. o.kept k u t.1)
+          (at_set s.views id k (dealing v) u old) i d h in
           let y : Known = get_or u.kept i d in
           let ne : y.number ≢ id = elsewhere s.views y.number id v p.2.0 here live p.2.1 p.2.2 in
           (p.0, p.1, (p.2.0, at_longer vs (dealt_out v ∷ []) y.number p.2.0 (set_else s.views id y.number (dealing v) ne ∙ p.2.1), p.2.2))))
-        (λ new. subst (λ (x : View). All (KeptIn n o.known (vs ++ dealt_out v ∷ [])) x.kept) new.1 (All-nil (KeptIn n o.known (vs ++ dealt_out v ∷ []))))
-        (at_end vs (dealt_out v) k u e);
+          (λ new. subst (λ (x : View). All (KeptIn n o.known (vs ++ dealt_out v ∷ [])) x.kept) new.1 (All-nil (KeptIn n o.known (vs ++ dealt_out v ∷ []))))
+          (at_end vs (dealt_out v) k u e);
       dealt = λ k u e. ⊎_elim
-        (λ old. ⊎_elim
+          (λ old. ⊎_elim
           (λ t. inr (t.0 ∙ long.0, ap (λ (x : View). x.made) (sym t.1) ∙ ap (λ (m : ℕ). m + 1) long.1 ∙ sym longer))
           (λ t. ⊎_elim (λ none. inl none) (λ r. absurd (t.0 (r.0 ∙ sym long.0))) (o.dealt k u t.1)) (at_set s.views id k (dealing v) u old))
-        (λ new. inl (ap (λ (x : View). x.made) (sym new.1)))
-        (at_end vs (dealt_out v) k u e);
+          (λ new. inl (ap (λ (x : View). x.made) (sym new.1)))
+          (at_end vs (dealt_out v) k u e);
       unmade = λ r beyond. o.unmade r (omega arith);
       moment = o.moment;
     }
@@ -96,40 +96,44 @@ joins n id other v w live lives s o here apart there =
     let other_in : other < length us = within us other w there in
     let same : length vs ≡ length s.views = length-set us other spent ∙ length-set s.views id (both v w) in
     let moved : (x : Known) → KeptIn n o.known s.views x → KeptIn n o.known vs x = λ x p.
-        (let a : x.number ≢ id = elsewhere s.views x.number id v p.2.0 here live p.2.1 p.2.2 in
-         let b : x.number ≢ other = elsewhere s.views x.number other w p.2.0 there2 lives p.2.1 p.2.2 in
-         (p.0, p.1, (p.2.0, set_else us other x.number spent b ∙ set_else s.views id x.number (both v w) a ∙ p.2.1, p.2.2))) in
+    (let a : x.number ≢ id = elsewhere s.views x.number id v p.2.0 here live p.2.1 p.2.2 in
+    let b : x.number ≢ other = elsewhere s.views x.number other w p.2.0 there2 lives p.2.1 p.2.2 in
+    (p.0, p.1, (p.2.0, set_else us other x.number spent b ∙ set_else s.views id x.number (both v w) a ∙ p.2.1, p.2.2))) in
     let all_moved : (ks : List Known) → All (KeptIn n o.known s.views) ks → All (KeptIn n o.known vs) ks = λ ks all i d h. moved (get_or ks i d) (all i d h) in
     let was = o.seated other w there2 lives in
     let number : other ≡ w.own.number = sym (o.moment.mailboxes.named other was.0).0 ∙ ap (λ (x : Known). x.number) was.1 in
-    let taken_in : KeptIn n o.known vs w.own = (subst (λ (j : ℕ). j < n) number was.0, ap o.known (sym number)
-        ∙ was.1, (spent, ap (get_elem? vs) (sym number) ∙ set_here us other spent other_in, refl)) in
+    let taken_in : KeptIn n o.known vs w.own = (
+      subst (λ (j : ℕ). j < n) number was.0,
+      ap o.known (sym number)
+          ∙ was.1,
+      (spent, ap (get_elem? vs) (sym number) ∙ set_here us other spent other_in, refl),
+    ) in
     record {
       known = o.known;
       few = o.few;
       wide = o.wide;
       slots = o.slots;
       seated = λ k u e lit. ⊎_elim
-        (λ t. absurd (let dark : spent.live ≡ u.live = ap (λ (x : View). x.live) t.1 in cc))
-        (λ t. ⊎_elim
+          (λ t. absurd (let dark : spent.live ≡ u.live = ap (λ (x : View). x.live) t.1 in cc))
+          (λ t. ⊎_elim
           (λ q. let mine = o.seated id v here live in (subst (λ (j : ℕ). j < n) (sym q.0) mine.0, ap o.known q.0 ∙ mine.1 ∙ ap (λ (x : View). x.own) q.1))
           (λ q. o.seated k u q.1 lit) (at_set s.views id k (both v w) u t.1))
-        (at_set us other k spent u e);
+          (at_set us other k spent u e);
       kept = λ k u e. ⊎_elim
-        (λ t. subst (λ (x : View). All (KeptIn n o.known vs) x.kept) t.1 (All-nil (KeptIn n o.known vs)))
-        (λ t. ⊎_elim
+          (λ t. subst (λ (x : View). All (KeptIn n o.known vs) x.kept) t.1 (All-nil (KeptIn n o.known vs)))
+          (λ t. ⊎_elim
           (λ q. subst (λ (x : View). All (KeptIn n o.known vs) x.kept) q.1
-              (All-append (KeptIn n o.known vs) v.kept (w.own ∷ w.kept) (all_moved v.kept (o.kept id v here))
-              (All-cons (KeptIn n o.known vs) w.own w.kept taken_in (all_moved w.kept (o.kept other w there2)))))
+          (All-append (KeptIn n o.known vs) v.kept (w.own ∷ w.kept) (all_moved v.kept (o.kept id v here))
+          (All-cons (KeptIn n o.known vs) w.own w.kept taken_in (all_moved w.kept (o.kept other w there2)))))
           (λ q. all_moved u.kept (o.kept k u q.1)) (at_set s.views id k (both v w) u t.1))
-        (at_set us other k spent u e);
+          (at_set us other k spent u e);
       dealt = λ k u e. subst (λ (l : ℕ). (u.made ≡ 0) ⊎ ((k ≡ 0) × (u.made ≡ l))) (sym same) (⊎_elim
-        (λ t. inl (ap (λ (x : View). x.made) (sym t.1)))
-        (λ t. ⊎_elim
+          (λ t. inl (ap (λ (x : View). x.made) (sym t.1)))
+          (λ t. ⊎_elim
           (λ q. subst (λ (x : View). (x.made ≡ 0) ⊎ ((k ≡ 0) × (x.made ≡ length s.views))) q.1
-              (subst (λ (j : ℕ). (v.made ≡ 0) ⊎ ((j ≡ 0) × (v.made ≡ length s.views))) (sym q.0) (o.dealt id v here)))
+          (subst (λ (j : ℕ). (v.made ≡ 0) ⊎ ((j ≡ 0) × (v.made ≡ length s.views))) (sym q.0) (o.dealt id v here)))
           (λ q. o.dealt k u q.1) (at_set s.views id k (both v w) u t.1))
-        (at_set us other k spent u e));
+          (at_set us other k spent u e));
       unmade = λ r beyond. o.unmade r (omega arith);
       moment = o.moment;
     }
@@ -142,10 +146,10 @@ no_batch : (n : ℕ) (s : TableState) (o : Rule n s) (y : Known) → y.number < 
     → signs_in n s.words y.number ≢ full k
 no_batch n s o y h same fate k = ⊎_elim
     (λ e. (over_quiet n o.known (signs_in n s.words) (token_in s.words) o.moment.ring
-      (ended_over n s o y.number h (ap (λ (x : Known). x.ended) same ∙ e)) y.number h).1 k)
+    (ended_over n s o y.number h (ap (λ (x : Known). x.ended) same ∙ e)) y.number h).1 k)
     (λ e f. (let gone = o.moment.halt.gone y.number h (ap (λ (x : Known). x.stopped) same ∙ e) in
-      let calm : signs_in n s.words y.number ≡ resting = subst (λ (x : OwnMailbox). OwnFits x (signs_in n s.words y.number)) gone.0
-          (o.moment.mailboxes.own y.number h) in cc)) fate
+    let calm : signs_in n s.words y.number ≡ resting = subst (λ (x : OwnMailbox). OwnFits x (signs_in n s.words y.number)) gone.0
+    (o.moment.mailboxes.own y.number h) in cc)) fate
 
 -- the last look: what the kept seats took from one another is what they gave
 pub settles : (n slots id i : ℕ) (m : SeatState) → m.0.live ≡ true → (m.0.own.ended ≡ true) ⊎ (m.0.own.stopped ≡ true)
@@ -158,37 +162,44 @@ settles n slots id i m live fate s o wide here small =
     let ks : List Known = m.0.own ∷ m.0.kept in
     let number : m.0.own.number ≡ id = ap (λ (x : Known). x.number) (sym was.1) ∙ (o.moment.mailboxes.named id was.0).0 in
     let mine : Kept2 n o.known m.0.own = (subst (λ (j : ℕ). j < n) (sym number) was.0, ap o.known number ∙ was.1) in
-    let all : All (Kept2 n o.known) ks = All-cons (Kept2 n o.known) m.0.own m.0.kept mine (λ j d h. let q = o.kept id m.0 here j d h in (q.0, q.1)) in
-    (knows m.0 (W m.0.own), keeps, tt,
-     frame n s o id m.0 W (set s.words i r) s.homes here live (length-set s.words i r) refl
-       (at_none n (put o.known id (W k)) s.words s.homes o.wide i
-         (unmoved n o.known (signs_in n s.words) (slots_in s.homes) id (W k) was.0 o.moment.mailboxes refl refl refl refl refl
-             (o.moment.mailboxes.own id was.0) (o.moment.mailboxes.away id was.0))
-         (calm_all n o.known (signs_in n s.words) (token_in s.words) o.moment.ring id was.0 (W k) refl (o.moment.ring.here id was.0))
-         (halt_moved n o.known (halt_in n s.words) (stops_in n s.words) id (W k) (halt_in n s.words) (stops_in n s.words) o.moment.halt record {
-           up = λ e. e;
-           halted = o.moment.halt.halted id was.0;
-           knows = o.moment.halt.knows id was.0;
-           by_one = λ e. (let p = o.moment.halt.by_one e in (p.0, p.1, put_same (λ j x. x.halted) o.known id (W k) refl p.0 ∙ p.2));
-           bits = λ j h. put_same (λ q x. x.stopped) o.known id (W k) refl j ∙ o.moment.halt.bits j h;
-           left = λ v e. put_same (λ q x. x.stopped) o.known id (W k) refl v ∙ o.moment.halt.left id v was.0 e;
-           stays = λ e. e;
-           gone = o.moment.halt.gone id was.0;
-         })),
-     (refl, λ done j d h l e g.
-      let x : Known = get_or ks j d in let y : Known = get_or ks l e in
-      let kx = all j d h in let ky = all l e g in
-      ap (λ (v : Known). taken v x.number) (sym ky.1) ∙ sym (append-nil (taken (o.known y.number) x.number))
-      ∙ ap (λ xs. taken (o.known y.number) x.number ++ xs) (sym
-          (not_full (signs_in n s.words y.number) x.number (slots_in s.homes y.number) (no_batch n s o y ky.0 ky.1 (done l e g))))
-      ∙ o.moment.mailboxes.paired x.number y.number kx.0 ky.0 ∙ ap (λ (v : Known). given v y.number) kx.1,
-     λ j d h e.
-      let x : Known = get_or ks j d in
-      let kx = all j d h in
-      let p = o.moment.halt.by_one (o.moment.halt.knows x.number kx.0 (ap (λ (v : Known). v.knows_halt) kx.1 ∙ e)) in
-      (p.0, subst (λ (q : ℕ). p.0 < q) (sym (o.moment.mailboxes.named id was.0).1 ∙ ap (λ (v : Known). v.n) was.1) p.1,
-       λ l f g same. (let y : Known = get_or ks l f in let ky = all l f g in ap (λ (v : Known). v.halted) (sym ky.1)
-           ∙ ap (λ (q : ℕ). (o.known q).halted) same ∙ p.2))))
+    let all : All (Kept2 n o.known) ks = All-cons (Kept2 n o.known) m.0.own m.0.kept mine (λ j d h. let q = o.kept id m.0 here j d h in (q.0, q.1)) in (
+      knows m.0 (W m.0.own),
+      keeps,
+      tt,
+      reads n s o id m.0 W i here live
+          (unmoved n o.known (signs_in n s.words) (slots_in s.homes) id (W k) was.0 o.moment.mailboxes refl refl refl refl refl
+          (o.moment.mailboxes.own id was.0) (o.moment.mailboxes.away id was.0))
+          (calm_all n o.known (signs_in n s.words) (token_in s.words) o.moment.ring id was.0 (W k) refl (o.moment.ring.here id was.0))
+          (halt_moved n o.known (halt_in n s.words) (stops_in n s.words) id (W k) (halt_in n s.words) (stops_in n s.words) o.moment.halt record {
+            up = λ e. e;
+            halted = o.moment.halt.halted id was.0;
+            knows = o.moment.halt.knows id was.0;
+            by_one = λ e. (let p = o.moment.halt.by_one e in (p.0, p.1, put_same (λ j x. x.halted) o.known id (W k) refl p.0 ∙ p.2));
+            bits = λ j h. put_same (λ q x. x.stopped) o.known id (W k) refl j ∙ o.moment.halt.bits j h;
+            left = λ v e. put_same (λ q x. x.stopped) o.known id (W k) refl v ∙ o.moment.halt.left id v was.0 e;
+            stays = λ e. e;
+            gone = o.moment.halt.gone id was.0;
+          }),
+      (
+        refl,
+        λ done j d h l e g.
+            let x : Known = get_or ks j d in let y : Known = get_or ks l e in
+            let kx = all j d h in let ky = all l e g in
+            ap (λ (v : Known). taken v x.number) (sym ky.1) ∙ sym (append-nil (taken (o.known y.number) x.number))
+            ∙ ap (λ xs. taken (o.known y.number) x.number ++ xs) (sym
+            (not_full (signs_in n s.words y.number) x.number (slots_in s.homes y.number) (no_batch n s o y ky.0 ky.1 (done l e g))))
+            ∙ o.moment.mailboxes.paired x.number y.number kx.0 ky.0 ∙ ap (λ (v : Known). given v y.number) kx.1,
+        λ j d h e.
+            let x : Known = get_or ks j d in
+            let kx = all j d h in
+            let p = o.moment.halt.by_one (o.moment.halt.knows x.number kx.0 (ap (λ (v : Known). v.knows_halt) kx.1 ∙ e)) in (
+              p.0,
+              subst (λ (q : ℕ). p.0 < q) (sym (o.moment.mailboxes.named id was.0).1 ∙ ap (λ (v : Known). v.n) was.1) p.1,
+              λ l f g same. (let y : Known = get_or ks l f in let ky = all l f g in ap (λ (v : Known). v.halted) (sym ky.1)
+                  ∙ ap (λ (q : ℕ). (o.known q).halted) same ∙ p.2),
+            ),
+      ),
+    )
 
 -- the words of a new table: the token lies black at rank 0
 pub record FirstWords (n : ℕ) (ws : List ℕ) : Type 0 where
@@ -231,17 +242,17 @@ never (suc n) (suc r) = never n r
 pub starts : (n : ℕ) (ws : List ℕ) → 0 < n → n ≤ 64 → FirstWords n ws → Rule n (opening ws (replicate n None) (opened n))
 starts n ws some_rank few W =
     let calm : (r : ℕ) → signs_in n ws r ≡ resting = λ r. ap sign (if_zero (nat_lt r n) (get_or ws (r + 1) 0) (W.others (r + 1) (omega arith)))
-        ∙ sign_of_word resting in
+    ∙ sign_of_word resting in
     let empty : (r : ℕ) → r < n → slots_in (map some (replicate n None)) r ≡ some None =
-        λ r h. (let long : length (replicate {A = Parcel} n None) ≡ n = length-replicate n None in
-        get_or-map some (replicate n None) r None none (omega arith)) ∙ ap some (get_or-replicate n r None None h) in
+    λ r h. (let long : length (replicate {A = Parcel} n None) ≡ n = length-replicate n None in
+    get_or-map some (replicate n None) r None none (omega arith)) ∙ ap some (get_or-replicate n r None None h) in
     let token : token_in ws ≡ At 0 Black = ap token_read W.first ∙ token_of_word (At 0 Black) in
     let same : map (places (fresh n) (signs_in n ws)) (range_with_len 0 n) ≡ replicate n fresh_place =
-        ext_get_or no_place (map (places (fresh n) (signs_in n ws)) (range_with_len 0 n)) (replicate n fresh_place)
-        (sheet_size n (places (fresh n) (signs_in n ws)) ∙ sym (length-replicate n fresh_place))
-        (λ i h. let below : i < n = (let e = sheet_size n (places (fresh n) (signs_in n ws)) in omega arith) in
-          get_or-map-range_with_len (places (fresh n) (signs_in n ws)) 0 n i i no_place below (omega arith)
-              ∙ ap (Rattle.post_board.specs.BoardRule.place_of (fresh n i)) (calm i) ∙ sym (get_or-replicate n i fresh_place no_place below)) in
+    ext_get_or no_place (map (places (fresh n) (signs_in n ws)) (range_with_len 0 n)) (replicate n fresh_place)
+    (sheet_size n (places (fresh n) (signs_in n ws)) ∙ sym (length-replicate n fresh_place))
+    (λ i h. let below : i < n = (let e = sheet_size n (places (fresh n) (signs_in n ws)) in omega arith) in
+    get_or-map-range_with_len (places (fresh n) (signs_in n ws)) 0 n i i no_place below (omega arith)
+    ∙ ap (Rattle.post_board.specs.BoardRule.place_of (fresh n i)) (calm i) ∙ sym (get_or-replicate n i fresh_place no_place below)) in
     record {
       known = fresh n;
       few = few;

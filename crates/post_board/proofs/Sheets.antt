@@ -28,14 +28,14 @@ replaced n f i x h =
     let long : length l ≡ n = sheet_size n f in
     ext_get_or no_place (set l i x) (map (put f i x) (range_with_len 0 n)) (length-set l i x ∙ long ∙ sym (sheet_size n (put f i x)))
     (λ k inside.
-      let below : k < n = (let e = length-set l i x in omega arith) in
-      let there : get_or (map (put f i x) (range_with_len 0 n)) k no_place ≡ put f i x k = get_or-map-range_with_len (put f i x) 0 n k k no_place below
-          (omega arith) in
-      dite (ℕ_discrete k i)
-      (λ e. ap (λ (j : ℕ). get_or (set l i x) j no_place) e ∙ get_or-set_same l i x no_place (omega arith) ∙ sym (put_here f i x) ∙ ap (put f i x) (sym e)
-          ∙ sym there)
-      (λ ne. get_or-set_other l i k x no_place ne ∙ get_or-map-range_with_len f 0 n k k no_place below (omega arith) ∙ sym (put_elsewhere f i x k ne)
-          ∙ sym there))
+    let below : k < n = (let e = length-set l i x in omega arith) in
+    let there : get_or (map (put f i x) (range_with_len 0 n)) k no_place ≡ put f i x k = get_or-map-range_with_len (put f i x) 0 n k k no_place below
+    (omega arith) in
+    dite (ℕ_discrete k i)
+    (λ e. ap (λ (j : ℕ). get_or (set l i x) j no_place) e ∙ get_or-set_same l i x no_place (omega arith) ∙ sym (put_here f i x) ∙ ap (put f i x) (sym e)
+    ∙ sym there)
+    (λ ne. get_or-set_other l i k x no_place ne ∙ get_or-map-range_with_len f 0 n k k no_place below (omega arith) ∙ sym (put_elsewhere f i x k ne)
+    ∙ sym there))
 
 -- the places of ranks
 abbrev pub places : (ℕ → Known) → (ℕ → Sign) → ℕ → Place
@@ -49,10 +49,10 @@ module _ (known : ℕ → Known) (signs : ℕ → Sign) (id : ℕ) (w : Known) w
       at : (k : ℕ) → places (put known id w) (put signs id d) k ≡ put (places known signs) id (place_of w d) k
       at k = dite (ℕ_discrete k id)
           (λ e. subst (λ (j : ℕ). places (put known id w) (put signs id d) j ≡ put (places known signs) id (place_of w d) j) (sym e)
-            (ap (λ (v : Known). place_of v (put signs id d id)) (put_here known id w) ∙ ap (place_of w) (put_here signs id d)
-                ∙ sym (put_here (places known signs) id (place_of w d))))
+          (ap (λ (v : Known). place_of v (put signs id d id)) (put_here known id w) ∙ ap (place_of w) (put_here signs id d)
+          ∙ sym (put_here (places known signs) id (place_of w d))))
           (λ ne. ap (λ (v : Known). place_of v (put signs id d k)) (put_elsewhere known id w k ne)
-              ∙ ap (place_of (known k)) (put_elsewhere signs id d k ne) ∙ sym (put_elsewhere (places known signs) id (place_of w d) k ne))
+          ∙ ap (place_of (known k)) (put_elsewhere signs id d k ne) ∙ sym (put_elsewhere (places known signs) id (place_of w d) k ne))
 
   -- the seat of id changes, and the mailbox of another
   pub seen_two : (r : ℕ) (d : Sign) → id ≢ r → places (put known id w) (put signs r d) ≡ put (put (places known signs) id (place_of w (signs id))) r
@@ -62,14 +62,14 @@ module _ (known : ℕ → Known) (signs : ℕ → Sign) (id : ℕ) (w : Known) w
       at : (k : ℕ) → places (put known id w) (put signs r d) k ≡ put (put (places known signs) id (place_of w (signs id))) r (place_of (known r) d) k
       at k = dite (ℕ_discrete k r)
           (λ e. subst (λ (j : ℕ). places (put known id w) (put signs r d) j ≡ put (put (places known signs) id (place_of w (signs id))) r
-              (place_of (known r) d) j) (sym e)
-            (ap (λ (v : Known). place_of v (put signs r d r)) (put_elsewhere known id w r (λ q. apart (sym q)))
-                ∙ ap (place_of (known r)) (put_here signs r d) ∙ sym (put_here (put (places known signs) id (place_of w (signs id))) r (place_of (known r) d))))
+          (place_of (known r) d) j) (sym e)
+          (ap (λ (v : Known). place_of v (put signs r d r)) (put_elsewhere known id w r (λ q. apart (sym q)))
+          ∙ ap (place_of (known r)) (put_here signs r d) ∙ sym (put_here (put (places known signs) id (place_of w (signs id))) r (place_of (known r) d))))
           (λ ne. ap (place_of (put known id w k)) (put_elsewhere signs r d k ne)
-            ∙ put_all (λ j v. place_of v (signs j) ≡ put (places known signs) id (place_of w (signs id)) j) known id w k
-                (sym (put_here (places known signs) id (place_of w (signs id))))
-                (λ ne2. sym (put_elsewhere (places known signs) id (place_of w (signs id)) k ne2))
-            ∙ sym (put_elsewhere (put (places known signs) id (place_of w (signs id))) r (place_of (known r) d) k ne))
+          ∙ put_all (λ j v. place_of v (signs j) ≡ put (places known signs) id (place_of w (signs id)) j) known id w k
+          (sym (put_here (places known signs) id (place_of w (signs id))))
+          (λ ne2. sym (put_elsewhere (places known signs) id (place_of w (signs id)) k ne2))
+          ∙ sym (put_elsewhere (put (places known signs) id (place_of w (signs id))) r (place_of (known r) d) k ne))
 
   -- nothing that is seen changes
   pub seen_same : (r : ℕ) (d : Sign) → place_of w resting ≡ place_of (known id) resting → mail_of d ≡ mail_of (signs r)

@@ -1,4 +1,4 @@
--- Which seats are a board's own, and what they show.
+-- Which seats are a board's own, and what they show: the seat of `Post` for `&Board`. Our own.
 use Rattle.std.specs.Prelude.{◌≡◌, ◌≢◌, ℕ, ◌+◌, ◌<◌, ◌≤◌, ◌==◌, if◌then◌else◌, List, [], ◌∷◌, replicate, map, length, sum_by, true, false, Bool, slice_index_or, Option, Some, None}
 use Rattle.std.specs.List.{Contains}
 use Rattle.std.proofs.Common.{deque_capacity}
@@ -16,18 +16,12 @@ use Rattle.post_board.specs.declared.board_views.OwnMailbox.TheVariants.{Resting
 use Rattle.post_board.specs.declared.boards.Board.{Board}
 use Rattle.post_board.specs.declared.boards.BoardSeat.{BoardSeat}
 
--- the seat of the rank me, which neither ended nor stopped
-pub record Mine (b : Board) (id : TableId) (m : SeatState) (me : ℕ) : Type 0 where
-  pub table : id ≡ b.table.shared.table_id
-  pub number : m.0.own.number ≡ me
-  pub sized : m.0.own.n ≡ b.n
-  pub inside : me < b.n
-  pub going : Going m
-
+-- it knows that the rank that it asked has stopped
 abbrev pub is_left : OwnMailbox → Bool
 is_left (Left v) = true
 is_left _ = false
 
+-- what a seat shows of what it knows
 abbrev pub shown_known : Known → Shown
 shown_known v =
     record {
@@ -50,11 +44,6 @@ shown_known v =
 abbrev pub shown_by : BoardSeat → Shown
 shown_by s = shown_known s.seat.me.0.own
 
--- what the token in the ring word says to the rank me
-abbrev pub ring_read : Token → ℕ → Ring
-ring_read Over me = HeardOver
-ring_read (At p c) me = if p == me then Here c else Elsewhere
-
 abbrev pub one_if : Bool → ℕ
 one_if true = 1
 one_if false = 0
@@ -64,6 +53,7 @@ abbrev pub own_by : Option ℕ → OwnMailbox
 own_by None = Resting
 own_by (Some v) = Open v
 
+-- the seat is one of this board's, and its fields are what its view knows
 pub record IsSeat (b : Board) (s : BoardSeat) : Type 0 where
   pub table : s.seat.table_id ≡ b.table.shared.table_id
   pub number : s.seat.me.0.own.number ≡ s.number
@@ -83,21 +73,6 @@ pub record IsSeat (b : Board) (s : BoardSeat) : Type 0 where
   -- the slots that it holds, all empty, are those of the ranks that it serves
   pub held : s.seat.me.1 ≡ map (λ r. (r, None)) s.held.items
   pub holds : (r : ℕ) → serves s.seat.me.0.own r ≡ true → Contains s.held.items r
-
--- the slot of a rank that is served is in front, and no more in the list
-pub record Fronted (s : BoardSeat) (to : ℕ) (s' : BoardSeat) : Type 0 where
-  pub table : s'.seat.table_id ≡ s.seat.table_id
-  pub view : s'.seat.me.0 ≡ s.seat.me.0
-  pub slots : s'.seat.me.1 ≡ (to, None) ∷ map (λ r. (r, None)) s'.held.items
-  pub number : s'.number ≡ s.number
-  pub n : s'.n ≡ s.n
-  pub colour : s'.colour ≡ s.colour
-  pub here : s'.here ≡ s.here
-  pub asked : s'.asked ≡ s.asked
-  pub ended : s'.ended ≡ s.ended
-  pub room : deque_capacity s'.held ≡ deque_capacity s.held
-  pub count : length s'.held.items + 1 ≡ length s.held.items
-  pub others : (r : ℕ) → r ≢ to → serves s.seat.me.0.own r ≡ true → Contains s'.held.items r
 
 -- the lists of a seat that gave nothing and took nothing
 abbrev pub unused : ℕ → Batches

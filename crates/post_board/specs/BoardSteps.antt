@@ -46,7 +46,7 @@ after_ask v victim word found = record (noted v word found (word_of (asking vict
 abbrev pub AskTells : Telling
 AskTells st m r n = (sign r ≡ resting) × ((victim : ℕ) → st.first ≡ word_of (asking victim) → n ≡ knowing m (after_ask m.0.own victim st.word r))
 
--- load signs: of the own one
+-- a look at the own mailbox: a load
 abbrev pub learn : OwnMailbox → Sign → OwnMailbox
 learn o (full i) = Filled i
 learn o (emptied i) = Emptied i
@@ -58,7 +58,7 @@ after_look v word found = record (noted v word found found) { own = learn v.own 
 abbrev pub LookTells : Telling
 LookTells st m r n = OwnFits m.0.own.own (sign r) × (n ≡ knowing m (after_look m.0.own st.word r))
 
--- take up: a compare_exchange of another mailbox; where it fails, load signs
+-- take up: a compare_exchange of another mailbox; where it fails, a look
 abbrev pub after_taking : Known → ℕ → ℕ → ℕ → Known
 after_taking v asker word found = record (noted v word found (word_of (serving v.number))) { serves = slice_set v.serves asker true }
 
@@ -67,7 +67,7 @@ TakeUpTells st m r n =
     (r ≡ st.first → (serves m.0.own (st.word - 1) ≡ false) × (n ≡ (knows m.0 (after_taking m.0.own (st.word - 1) st.word r), (st.word - 1, None) ∷ m.1)))
     × (r ≢ st.first → n ≡ knowing m (noted m.0.own st.word r r))
 
--- load signs, of another one: read and noted where it does not ask this rank
+-- a look at the mailbox of another rank: a load, noted where it does not ask this rank
 abbrev pub ScanTells : Telling
 ScanTells st m r n =
     (r ≡ word_of (asking m.0.own.number) → n ≡ m)

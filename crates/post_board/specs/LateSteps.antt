@@ -34,7 +34,7 @@ stop_seen o found = o
 abbrev pub LoadStopsTells : Telling
 LoadStopsTells st m r n = n ≡ knowing m (record (noted m.0.own st.word r r) { own = stop_seen m.0.own.own r })
 
--- withdraw: a compare_exchange of the own mailbox; where it fails, load signs, which read full or empty
+-- withdraw: a compare_exchange of the own mailbox; where it fails, a look, which read full or empty
 abbrev pub WithdrawTells : Telling
 WithdrawTells st m r n = (v : ℕ) → m.0.own.own ≡ Left v
     → (r ≡ st.first → n ≡ knowing m (after_rest m.0.own st.word r true))
@@ -62,4 +62,4 @@ LoadStopsKeeps = (n slots id : ℕ) (m : SeatState) → Going m
 abbrev pub WithdrawKeeps : Type 0
 WithdrawKeeps = (n slots id r v : ℕ) (m : SeatState) → Going m → m.0.own.number ≡ r → m.0.own.own ≡ Left v
     → Allows (Rule n) slots id m (r + 1) (λ w. either (w == word_of (asking v)) (word_of resting) w)
-      (WithdrawTells (step slots (r + 1) (word_of (asking v)) (word_of resting) none) m)
+    (WithdrawTells (step slots (r + 1) (word_of (asking v)) (word_of resting) none) m)

@@ -13,3 +13,4 @@ pub mod BoardMoments
 pub mod BoardSteps
 pub mod LateSteps
 pub mod BoardSeats
+pub mod BoardWork

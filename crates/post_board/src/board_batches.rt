@@ -1,19 +1,21 @@
-//! A batch is fetched, and the slot of a rank that is served comes to the front.
+//! A batch is taken out of the own slot, and the slot of a rank that is served comes to the front.
 ghost use Rattle.std.specs.Prelude.{◌≡◌, ◌+◌, ◌<◌, ◌∷◌, ◌++◌, ℕ, map, length, slice_index_or, true, false, Some, None, take, drop};
 ghost use Rattle.std.specs.List.{Contains};
 ghost use Rattle.post_board.specs.Words.{sign, full, fetching};
 ghost use Rattle.post_board.specs.BoardRule.{serves};
 ghost use Rattle.post_board.specs.BoardSteps.{knows, after_fetch, after_rest};
-ghost use Rattle.post_board.specs.BoardSeats.{Mine, IsSeat, Fronted};
+ghost use Rattle.post_board.specs.BoardSeats.{IsSeat};
+ghost use Rattle.post_board.specs.BoardWork.{Mine, Fronted};
 ghost use Rattle.post_board.specs.declared.board_views.OwnMailbox.TheVariants.{Filled};
 
-use crate::boards::{Board, BoardSeat};
 use crate::board_views::View;
+use crate::boards::{Board, BoardSeat};
 use atomic_table::Seat;
 use rank_queue::Batch;
 use std::collections::VecDeque;
 
 impl Board {
+    /// Takes the batch that the rank `from` gave, and rests.
     pub(crate) fn fetch(&self, seat: &mut Seat<Option<Batch>, View>, me: u32, from: u32) -> Batch
         requires mine { Mine self.now seat.old.table_id seat.old.me me }
         requires full { seat.old.me.0.own.own ≡ Filled from }
@@ -27,7 +29,7 @@ impl Board {
         batch
     }
 
-    /// The slot of a rank that is served comes to the front, and leaves the list.
+    /// Brings the slot of the rank `to`, which is served, to the front, where its step works, and takes it off the list.
     pub(crate) fn front_slot(&self, seat: &mut BoardSeat, to: u32)
         requires seat { IsSeat self.now seat.old }
         requires served { serves seat.old.seat.me.0.own to ≡ true }

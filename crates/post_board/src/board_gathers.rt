@@ -3,24 +3,38 @@ ghost use Rattle.std.specs.Prelude.{◌≡◌, ◌⊎◌, ◌+◌, ◌<◌, [], 
 ghost use Rattle.post_board.specs.BoardRule.{both};
 ghost use Rattle.post_board.specs.BoardSteps.{Squares, Halters};
 
-use crate::boards::{Board, BoardSeat};
 use crate::board_rules::{Gather, Settle};
 use crate::board_views::View;
+use crate::boards::{Board, BoardSeat};
 use atomic_table::Seat;
 use rank_queue::Batch;
 
 impl BoardSeat {
+    /// What a gathering needs of it.
     pub(crate) fn apart(self) -> (Seat<Option<Batch>, View>, bool)
         ensures { (result.0 ≡ self.seat) × (result.1 ≡ self.ended) }
     {
-        let BoardSeat { seat, ended, number: _, n: _, colour: _, here: _, asked: _, held: _ } = self;
+        let BoardSeat {
+            seat,
+            ended,
+            number: _,
+            n: _,
+            colour: _,
+            here: _,
+            asked: _,
+            held: _,
+        } = self;
         (seat, ended)
     }
 }
 
 impl Board {
     /// Takes another seat in.
-    pub(crate) fn join_step(&self, seat: &mut Seat<Option<Batch>, View>, other: Seat<Option<Batch>, View>)
+    pub(crate) fn join_step(
+        &self,
+        seat: &mut Seat<Option<Batch>, View>,
+        other: Seat<Option<Batch>, View>,
+    )
         requires fits { (seat.old.table_id ≡ self.now.table.shared.table_id) × (other.table_id ≡ self.now.table.shared.table_id) }
         requires live { (seat.old.me.0.live ≡ true) × (other.me.0.live ≡ true) }
         requires empty { other.me.1 ≡ [] }

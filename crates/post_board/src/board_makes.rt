@@ -4,9 +4,9 @@ ghost use Rattle.post_board.specs.Fresh.{AllFresh, fresh as fresh_shown};
 ghost use Rattle.post_board.specs.BoardRule.{fresh, dealing, opened};
 ghost use Rattle.post_board.specs.BoardSeats.{shown_by, IsSeat, unused};
 
-use crate::boards::{Board, BoardSeat};
 use crate::board_rules::Deal;
 use crate::board_views::View;
+use crate::boards::{Board, BoardSeat};
 use atomic_table::{Seat, Table};
 use path_text::OutOfMemory;
 use rank_queue::Batch;
@@ -15,7 +15,7 @@ use std::alloc::Global;
 use std::collections::VecDeque;
 
 impl Board {
-    /// A board of `n` ranks and their seats, in ascending number.
+    /// A board of `n` ranks and their seats, in ascending number. Each rank begins busy, and the token lies black at rank 0.
     pub fn make(alloc: Global, n: u32) -> Result<(Board, Vec<BoardSeat>), OutOfMemory>
         requires one { 1 ≤ n }
         requires at_most_64 { n ≤ 64 }
@@ -30,7 +30,11 @@ impl Board {
     }
 
     /// Makes all seats.
-    fn deal_all(&self, alloc: Global, mut first: Seat<Option<Batch>, View>) -> Result<Vec<BoardSeat>, OutOfMemory>
+    fn deal_all(
+        &self,
+        alloc: Global,
+        mut first: Seat<Option<Batch>, View>,
+    ) -> Result<Vec<BoardSeat>, OutOfMemory>
         requires one { 1 ≤ self.now.n }
         requires table { first.table_id ≡ self.now.table.shared.table_id }
         requires view { first.me ≡ (opened self.now.n, []) }
@@ -47,7 +51,11 @@ impl Board {
     }
 
     /// Makes the next seat.
-    fn deal_step(&self, first: &mut Seat<Option<Batch>, View>, number: u32) -> Seat<Option<Batch>, View>
+    fn deal_step(
+        &self,
+        first: &mut Seat<Option<Batch>, View>,
+        number: u32,
+    ) -> Seat<Option<Batch>, View>
         requires fits { first.old.table_id ≡ self.now.table.shared.table_id }
         requires next { (0 < number) × (first.old.me.0.made ≡ number) × (first.old.me.0.own.n ≡ self.now.n) × (number < self.now.n) × (first.old.me.0.live ≡ true) }
         ensures first { (first.new.table_id ≡ first.old.table_id) × (first.new.me ≡ (dealing first.old.me.0, first.old.me.1)) }
@@ -58,7 +66,13 @@ impl Board {
 }
 
 impl BoardSeat {
-    fn fresh(board: &Board, alloc: Global, seat: Seat<Option<Batch>, View>, number: u32) -> Result<BoardSeat, OutOfMemory>
+    /// The seat of a rank that has done nothing yet.
+    fn fresh(
+        board: &Board,
+        alloc: Global,
+        seat: Seat<Option<Batch>, View>,
+        number: u32,
+    ) -> Result<BoardSeat, OutOfMemory>
         requires table { seat.table_id ≡ board.now.table.shared.table_id }
         requires view { (seat.me.1 ≡ []) × (seat.me.0.own ≡ fresh board.now.n number) × (seat.me.0.live ≡ true) × (seat.me.0.kept ≡ []) }
         requires inside { number < board.now.n }

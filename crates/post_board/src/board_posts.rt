@@ -1,13 +1,13 @@
-//! What ranks do to a board of atomic words.
+//! What ranks do to a board of atomic words, each call by the steps of `src/board_steps.rt`.
 ghost use Rattle.std.specs.Prelude.{◌≡◌, ◌<◌, Some, None, length, slice_index_or};
 ghost use Rattle.post_board.specs.Deeds.{Stays};
 ghost use Rattle.post_board.specs.Calls.{AllDone, AllEven, NoneOnTheWay};
 ghost use Rattle.post_board.specs.BoardSeats.{shown_by, IsSeat};
 
-use crate::boards::{Board, BoardSeat};
-use crate::ring_words::{read_ring, word_at};
 use crate::answers::{Answer, Gathered, Ring};
+use crate::boards::{Board, BoardSeat};
 use crate::posts::Post;
+use crate::ring_words::{read_ring, word_at};
 use rank_queue::Batch;
 use ring_core::{Colour, Token};
 

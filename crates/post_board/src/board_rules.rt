@@ -1,4 +1,4 @@
-//! The rule of a board's table, and what each kind of step tells.
+//! The rule of a board's table, and each kind of step with what it tells the call that makes it. They have no values.
 ghost use Rattle.post_board.specs.BoardRule.{Rule, opened, dealing, dealt_out, both, spent};
 ghost use Rattle.post_board.specs.BoardSteps.{AskTells, LookTells, TakeUpTells, ScanTells, GiveTells, RefuseTells, FetchTells, RestTells, RestEmptyTells, RingTells, PassTells, RestartTells, ConcludeTells, LastLookTells};
 
@@ -6,6 +6,7 @@ use crate::board_views::View;
 use atomic_table::{Join, Play, Split, TableRule};
 use rank_queue::Batch;
 
+/// What holds between any two steps: `specs/BoardRule.antt`.
 pub struct Order;
 
 impl TableRule<Option<Batch>, View, u64> for Order {
@@ -14,84 +15,98 @@ impl TableRule<Option<Batch>, View, u64> for Order {
     ghost first = { opened };
 }
 
+/// A rank asks: its own mailbox, from rest.
 pub struct Ask;
 
 impl Play<Option<Batch>, View> for Ask {
     ghost then = { AskTells };
 }
 
+/// A rank looks at its own mailbox.
 pub struct Look;
 
 impl Play<Option<Batch>, View> for Look {
     ghost then = { LookTells };
 }
 
+/// A rank takes up a request, where the mailbox of the other rank asks it.
 pub struct TakeUp;
 
 impl Play<Option<Batch>, View> for TakeUp {
     ghost then = { TakeUpTells };
 }
 
+/// A rank gives: the mailbox of the asker is full, and its slot goes back with the batch.
 pub struct PostBatch;
 
 impl Play<Option<Batch>, View> for PostBatch {
     ghost then = { GiveTells };
 }
 
+/// A rank refuses: the mailbox of the asker is empty, and its slot goes back.
 pub struct PostNone;
 
 impl Play<Option<Batch>, View> for PostNone {
     ghost then = { RefuseTells };
 }
 
+/// A rank takes its own slot, which is full.
 pub struct Fetch;
 
 impl Play<Option<Batch>, View> for Fetch {
     ghost then = { FetchTells };
 }
 
+/// A rank gives its own slot back, and its mailbox rests.
 pub struct Rest;
 
 impl Play<Option<Batch>, View> for Rest {
     ghost then = { RestTells };
 }
 
+/// The mailbox of a rank that was refused rests.
 pub struct RestEmpty;
 
 impl Play<Option<Batch>, View> for RestEmpty {
     ghost then = { RestEmptyTells };
 }
 
+/// A rank looks where the token is.
 pub struct LoadRing;
 
 impl Play<Option<Batch>, View> for LoadRing {
     ghost then = { RingTells };
 }
 
+/// The token goes to the rank below.
 pub struct Pass;
 
 impl Play<Option<Batch>, View> for Pass {
     ghost then = { PassTells };
 }
 
+/// Rank 0 sends the token round once more.
 pub struct Restart;
 
 impl Play<Option<Batch>, View> for Restart {
     ghost then = { RestartTells };
 }
 
+/// Rank 0 ends the run.
 pub struct Conclude;
 
 impl Play<Option<Batch>, View> for Conclude {
     ghost then = { ConcludeTells };
 }
 
+/// The last look, of a seat that took all others in.
 pub struct Settle;
 
 impl Play<Option<Batch>, View> for Settle {
     ghost then = { LastLookTells };
 }
 
+/// The first seat makes the next one.
 pub struct Deal;
 
 impl Split<View> for Deal {
@@ -100,6 +115,7 @@ impl Split<View> for Deal {
     ghost right = { dealt_out };
 }
 
+/// A seat takes another one in.
 pub struct Gather;
 
 impl Join<View> for Gather {
@@ -108,6 +124,7 @@ impl Join<View> for Gather {
     ghost spent = { spent };
 }
 
+/// A rank looks at the mailbox of another one.
 pub struct Scan;
 
 impl Play<Option<Batch>, View> for Scan {

@@ -1,5 +1,8 @@
-//! One step on a word each.
-ghost use Rattle.std.specs.Prelude.{◌≡◌, ◌≢◌, ℕ, ◌+◌, ◌-◌, ◌^◌, ◌<◌, ◌≤◌, ◌⊎◌, ◌∷◌, ◌==◌, true, false, Some, None, bit_or, length};
+//! What calls do to the words of a board: each method is one step on one word, or on the slot that the seat took last.
+//!
+//! The codes of words are those of `specs/Words.antt`: `8 * rank + 1` asks the rank, `+ 2` is served by it, `+ 3` was filled by it,
+//! `+ 4` is being emptied of what it gave, `+ 5` was refused by it, and 0 rests.
+ghost use Rattle.std.specs.Prelude.{◌≡◌, ◌≢◌, ℕ, ◌+◌, ◌-◌, ◌<◌, ◌≤◌, ◌⊎◌, ◌∷◌, ◌==◌, true, false, Some, None};
 ghost use Rattle.atomic_table.specs.Table.{rest};
 ghost use Rattle.ring_core.specs.World.{darker, is_over};
 ghost use Rattle.ring_core.specs.Step.{is_at};
@@ -10,19 +13,20 @@ ghost use Rattle.post_board.specs.Shown.{Strings};
 ghost use Rattle.post_board.specs.Words.{sign, resting, asking, serving, full, fetching, emptied, word_of, token_read, word_of_token};
 ghost use Rattle.post_board.specs.BoardRule.{serves, OwnFits};
 ghost use Rattle.post_board.specs.BoardSteps.{SeatState, noted, knows, knowing, after_ask, after_look, after_taking, front, after_post, after_refusing, after_fetch, after_rest, heard_at, after_pass, after_restart, after_conclude};
-ghost use Rattle.post_board.specs.BoardSeats.{Mine};
+ghost use Rattle.post_board.specs.BoardWork.{Mine};
 ghost use Rattle.post_board.specs.declared.board_views.OwnMailbox.TheVariants.{Resting, Open, Left, Filled, Emptied, Getting};
 
-use crate::boards::Board;
 use crate::board_rules::{
-    Ask, Conclude, Fetch, LoadRing, Look, Pass, PostBatch, PostNone, Rest, RestEmpty, Restart, Scan,
-    TakeUp,
+    Ask, Conclude, Fetch, LoadRing, Look, Pass, PostBatch, PostNone, Rest, RestEmpty, Restart,
+    Scan, TakeUp,
 };
 use crate::board_views::View;
+use crate::boards::Board;
 use atomic_table::Seat;
 use rank_queue::Batch;
 
 impl Board {
+    /// Asks the rank `victim`.
     pub(crate) fn ask_step(&self, seat: &mut Seat<Option<Batch>, View>, me: u32, victim: u32)
         requires mine { Mine self.now seat.old.table_id seat.old.me me }
         requires rests { seat.old.me.0.own.own ≡ Resting }
@@ -31,9 +35,12 @@ impl Board {
         ensures after { (found : ℕ) × (sign found ≡ resting) × (seat.new.me ≡ knowing seat.old.me (after_ask seat.old.me.0.own victim (me + 1) found)) }
     {
         let word = me as usize + 1;
-        self.table.shared.swap::<Ask>(seat, word, 8 * (victim as u64) + 1);
+        self.table
+            .shared
+            .swap::<Ask>(seat, word, 8 * (victim as u64) + 1);
     }
 
+    /// Looks at the own mailbox, with an open request.
     pub(crate) fn look_step(&self, seat: &mut Seat<Option<Batch>, View>, me: u32) -> u64
         requires mine { Mine self.now seat.old.table_id seat.old.me me }
         requires open { (v : ℕ) × (seat.old.me.0.own.own ≡ Open v) }
@@ -45,6 +52,7 @@ impl Board {
         self.table.shared.load::<Look>(seat, word)
     }
 
+    /// Takes up the request of the rank `r`, where there is one. Answers whether there was.
     pub(crate) fn take_step(&self, seat: &mut Seat<Option<Batch>, View>, me: u32, r: u32) -> bool
         requires mine { Mine self.now seat.old.table_id seat.old.me me }
         requires other { (r < self.now.n) × (r ≢ me) }
@@ -54,10 +62,14 @@ impl Board {
     {
         let asks = 8 * (me as u64) + 1;
         let word = r as usize + 1;
-        let found = self.table.shared.compare_exchange::<TakeUp>(seat, word, asks, 8 * (me as u64) + 2);
+        let found = self
+            .table
+            .shared
+            .compare_exchange::<TakeUp>(seat, word, asks, 8 * (me as u64) + 2);
         found == asks
     }
 
+    /// Looks at the mailbox of the rank `r`.
     pub(crate) fn scan_step(&self, seat: &mut Seat<Option<Batch>, View>, me: u32, r: u32) -> u64
         requires mine { Mine self.now seat.old.table_id seat.old.me me }
         requires other { r < self.now.n }
@@ -69,7 +81,7 @@ impl Board {
         self.table.shared.load::<Scan>(seat, word)
     }
 
-    /// One load, and where it reads a request to this rank, one compare_exchange.
+    /// Looks at the mailbox of the rank `r`, and takes its request up where it asks this rank. Answers whether it did.
     pub(crate) fn look_at(&self, seat: &mut Seat<Option<Batch>, View>, me: u32, r: u32) -> bool
         requires mine { Mine self.now seat.old.table_id seat.old.me me }
         requires other { (r < self.now.n) × (r ≢ me) }
@@ -84,6 +96,7 @@ impl Board {
         self.take_step(seat, me, r)
     }
 
+    /// Lays a batch into the slot that was taken last.
     pub(crate) fn fill_slot(&self, seat: &mut Seat<Option<Batch>, View>, to: u32, batch: Batch)
         requires table { seat.old.table_id ≡ self.now.table.shared.table_id }
         requires slot { seat.old.me.1 ≡ (to, None) ∷ rest seat.old.me.1 }
@@ -93,6 +106,7 @@ impl Board {
         let _ = self.table.shared.exchange(seat, to as usize, Some(batch));
     }
 
+    /// Gives the slot back, and tells the rank `to` that it is full.
     pub(crate) fn post_step(&self, seat: &mut Seat<Option<Batch>, View>, me: u32, to: u32)
         requires mine { Mine self.now seat.old.table_id seat.old.me me }
         requires to { (to < self.now.n) × (serves seat.old.me.0.own to ≡ true) }
@@ -102,9 +116,12 @@ impl Board {
         ensures after { (found : ℕ) × (sign found ≡ serving me) × (seat.new.me ≡ (knows seat.old.me.0 (after_post seat.old.me.0.own to (to + 1) found (front seat.old.me.1)), rest seat.old.me.1)) }
     {
         let word = to as usize + 1;
-        self.table.shared.swap::<PostBatch>(seat, word, 8 * (me as u64) + 3);
+        self.table
+            .shared
+            .swap::<PostBatch>(seat, word, 8 * (me as u64) + 3);
     }
 
+    /// Gives the slot back empty, and tells the rank `to` that there is nothing for it.
     pub(crate) fn refuse_step(&self, seat: &mut Seat<Option<Batch>, View>, me: u32, to: u32)
         requires mine { Mine self.now seat.old.table_id seat.old.me me }
         requires to { (to < self.now.n) × (serves seat.old.me.0.own to ≡ true) }
@@ -113,9 +130,12 @@ impl Board {
         ensures after { (found : ℕ) × (sign found ≡ serving me) × (seat.new.me ≡ (knows seat.old.me.0 (after_refusing seat.old.me.0.own to (to + 1) found), rest seat.old.me.1)) }
     {
         let word = to as usize + 1;
-        self.table.shared.swap::<PostNone>(seat, word, 8 * (me as u64) + 5);
+        self.table
+            .shared
+            .swap::<PostNone>(seat, word, 8 * (me as u64) + 5);
     }
 
+    /// Takes the own slot, into which the rank `from` laid a batch.
     pub(crate) fn fetch_step(&self, seat: &mut Seat<Option<Batch>, View>, me: u32, from: u32)
         requires mine { Mine self.now seat.old.table_id seat.old.me me }
         requires full { seat.old.me.0.own.own ≡ Filled from }
@@ -123,9 +143,12 @@ impl Board {
         ensures after { (found : ℕ) × (b : Strings) × (sign found ≡ full from) × (seat.new.me ≡ (knows seat.old.me.0 (after_fetch seat.old.me.0.own from (me + 1) found b), (me, Some b) ∷ seat.old.me.1)) }
     {
         let word = me as usize + 1;
-        self.table.shared.swap::<Fetch>(seat, word, 8 * (from as u64) + 4);
+        self.table
+            .shared
+            .swap::<Fetch>(seat, word, 8 * (from as u64) + 4);
     }
 
+    /// Takes the batch out of the own slot.
     pub(crate) fn empty_slot(&self, seat: &mut Seat<Option<Batch>, View>, me: u32) -> Batch
         requires table { seat.old.table_id ≡ self.now.table.shared.table_id }
         requires full { (b : Strings) × (seat.old.me.1 ≡ (me, Some b) ∷ rest seat.old.me.1) }
@@ -140,6 +163,7 @@ impl Board {
         batch
     }
 
+    /// Gives the own slot back, and rests.
     pub(crate) fn rest_step(&self, seat: &mut Seat<Option<Batch>, View>, me: u32, from: u32)
         requires mine { Mine self.now seat.old.table_id seat.old.me me }
         requires gets { seat.old.me.0.own.own ≡ Getting from }
@@ -151,6 +175,7 @@ impl Board {
         self.table.shared.swap::<Rest>(seat, word, 0);
     }
 
+    /// Rests after a refusal.
     pub(crate) fn empty_step(&self, seat: &mut Seat<Option<Batch>, View>, me: u32, from: u32)
         requires mine { Mine self.now seat.old.table_id seat.old.me me }
         requires empty { seat.old.me.0.own.own ≡ Emptied from }
@@ -161,6 +186,7 @@ impl Board {
         self.table.shared.swap::<RestEmpty>(seat, word, 0);
     }
 
+    /// Looks where the token is.
     pub(crate) fn ring_step(&self, seat: &mut Seat<Option<Batch>, View>, me: u32) -> u64
         requires mine { Mine self.now seat.old.table_id seat.old.me me }
         ensures table { seat.new.table_id ≡ seat.old.table_id }
@@ -171,7 +197,14 @@ impl Board {
         self.table.shared.load::<LoadRing>(seat, 0)
     }
 
-    pub(crate) fn pass_step(&self, seat: &mut Seat<Option<Batch>, View>, me: u32, token: ring_core::Colour, new: u64)
+    /// Passes the token on, as the word `new`.
+    pub(crate) fn pass_step(
+        &self,
+        seat: &mut Seat<Option<Batch>, View>,
+        me: u32,
+        token: ring_core::Colour,
+        new: u64,
+    )
         requires mine { Mine self.now seat.old.table_id seat.old.me me }
         requires rests { seat.old.me.0.own.own ≡ Resting }
         requires tried { seat.old.me.0.own.tried ≡ true }
@@ -184,7 +217,13 @@ impl Board {
         self.table.shared.swap::<Pass>(seat, 0, new);
     }
 
-    pub(crate) fn restart_step(&self, seat: &mut Seat<Option<Batch>, View>, token: ring_core::Colour, new: u64)
+    /// Sends the token round once more, as the word `new`.
+    pub(crate) fn restart_step(
+        &self,
+        seat: &mut Seat<Option<Batch>, View>,
+        token: ring_core::Colour,
+        new: u64,
+    )
         requires mine { Mine self.now seat.old.table_id seat.old.me 0 }
         requires rests { seat.old.me.0.own.own ≡ Resting }
         requires tried { (self.now.n ≡ 1) ⊎ (seat.old.me.0.own.tried ≡ true) }
@@ -197,6 +236,7 @@ impl Board {
         self.table.shared.swap::<Restart>(seat, 0, new);
     }
 
+    /// Ends the run.
     pub(crate) fn conclude_step(&self, seat: &mut Seat<Option<Batch>, View>)
         requires mine { Mine self.now seat.old.table_id seat.old.me 0 }
         requires rests { seat.old.me.0.own.own ≡ Resting }

@@ -1,4 +1,4 @@
-//! A board of atomic words, and its seats.
+//! A board of atomic words, which threads share, and its seats.
 ghost use Rattle.std.specs.Prelude.{◌≡◌, ◌+◌, ◌≤◌, ℕ};
 
 use crate::board_rules::Order;
@@ -9,7 +9,8 @@ use ring_core::Colour;
 use std::alloc::Global;
 use std::collections::VecDeque;
 
-/// The seat of a rank at a board of atomic words.
+/// The seat of a rank at a [`Board`]. It goes with its rank to the thread that runs the rank. What it knows of the words stands in
+/// its view (`Known` in `src/board_views.rt`), which costs nothing when it runs; the fields beside it are what the rank's calls read.
 #[derive(Drop)]
 pub struct BoardSeat {
     pub(crate) seat: Seat<Option<Batch>, View>,
@@ -19,15 +20,18 @@ pub struct BoardSeat {
     pub(crate) here: Option<Colour>,
     pub(crate) asked: Option<u32>,
     pub(crate) ended: bool,
-    /// Whose slots this seat holds, in the order in which it took up their requests.
+    // Whose slots this seat holds, in the order in which it took up their requests. It has room for all ranks.
     pub(crate) held: VecDeque<u32>,
 }
 
-/// A board that threads share.
+/// A board that threads share through `&Board`, with no lock: each call of [`Post`](crate::Post) is a fixed number of steps on
+/// atomic words, and none waits, tries again or takes memory. The words are the ring, where the token lies, a mailbox for each rank,
+/// and two for the halt and the stops, which no call uses yet; a batch for a rank lies in that rank's slot.
 #[derive(Drop)]
 pub struct Board {
     pub(crate) table: Table<Option<Batch>, View, u64, Order, Global>,
     pub(crate) n: u32,
+
     ghost few: { n ≤ 64 },
     ghost keyed: { table.shared.key ≡ n },
     ghost sized: { (table.shared.table_id.words ≡ n + 3) × (table.shared.table_id.slots ≡ n) },

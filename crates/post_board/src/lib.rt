@@ -9,6 +9,7 @@
 //!
 //! - [`Post`] is the trait, whose contract each board meets: no call waits, and none takes memory.
 //! - [`PlainBoard`] is a board for ranks that act in turn on one thread, and [`PlainSeat`] its seats.
+//! - [`Board`] is a board of atomic words, which threads share: `Post` is implemented for `&Board`, and [`BoardSeat`] are its seats.
 //! - [`Answer`], [`Ring`] and [`Gathered`] are what calls answer; a [`Reading`] is a step on a word of a board.
 //!
 //! ```text
@@ -32,6 +33,20 @@
 //! of the trait (`seats`); each call keeps its own seat and every seat of another number, and what a seat shows is what its
 //! board tells. What a stop needs is part of what seats show and boards tell from the beginning, and no call changes it yet.
 //!
+//! # The board of atomic words
+//!
+//! A [`Board`] has a word for the ring, a word for each rank's mailbox, and a slot for each rank, in which a batch for it waits. A
+//! call is one atomic step on each word that it names, with no lock, no wait and no loop that tries again. What its seats know, and
+//! the words and slots, keep a rule between any two steps, whatever the threads do (`specs/BoardRule.antt`, and in words that name
+//! no code `specs/BoardMoments.antt`): [`board_is_sound_at_every_moment`] says that its picture came about by legal deeds alone,
+//! that the token invariant holds, that what each rank took from each other one and what is on the way is what that one gave, in
+//! order, and that **no rank's seat sees the end while a rank is busy or a batch is on the way**.
+//!
+//! A slot is with the rank that serves its owner from the taking up until the answer, and with its owner while that takes the batch
+//! out. A rank looks for requests by a load of each mailbox, and takes one up by a compare_exchange where it read a request to
+//! itself. A board of words tells no picture, since it has none that stands still; its seats tell their readings and keep their
+//! batches. The rule keeps the steps of a halt and of stops too ([`late_steps_keep_the_rule`]), which no call makes yet.
+//!
 //! # What is proved
 //!
 //! [`PlainBoard`] meets the contract and tells its picture. [`PlainBoard::make`] says exactly how board and seats begin. Laws of
@@ -40,8 +55,11 @@
 //! seat always has that invariant ([`told_is_sound`]), so when a rank sees the end, no rank is busy and no batch is on the way.
 //! Words of mailboxes and of the ring are read back as they were written ([`words_are_read_back`]).
 //!
+//! [`Board`] meets the same contract, by the rule of the part above; [`Board::make`] says exactly how its seats begin.
+//!
 //! Not promised: that a request is ever answered, or that the token comes back. The seats of a plain board tell no readings and
-//! keep no batches, since the board tells both better.
+//! keep no batches, since the board tells both better. No clause of a call says which board a reference to a `Board` names after
+//! it; a seat of another rank shows that it is the same one.
 #![tactic(auto)]
 
 mod answers;

@@ -1,8 +1,8 @@
-//! The ring word, written and read.
+//! The word of the ring, written and read by the codes of `specs/Words.antt`.
 ghost use Rattle.std.specs.Prelude.{◌≡◌};
 ghost use Rattle.ring_core.specs.declared.states.Token.TheVariants.{At};
 ghost use Rattle.post_board.specs.Words.{token_read, word_of_token};
-ghost use Rattle.post_board.specs.BoardSeats.{ring_read};
+ghost use Rattle.post_board.specs.BoardWork.{ring_read};
 
 use crate::answers::Ring;
 use ring_core::Colour;
@@ -28,7 +28,11 @@ pub(crate) fn read_ring(found: u64, me: u32) -> Ring
     let place = (found - 1) / 2;
     let rest = (found - 1) % 2;
     if place == me as u64 {
-        if rest == 0 { Ring::Here(Colour::White) } else { Ring::Here(Colour::Black) }
+        if rest == 0 {
+            Ring::Here(Colour::White)
+        } else {
+            Ring::Here(Colour::Black)
+        }
     } else {
         Ring::Elsewhere
     }

@@ -33,16 +33,16 @@ returns-then-found-victim-clause-reads c =
     let f = c.fetch-batch.ensures.after in
     let r = c.look_step-found.result in
     three_more v.readings _ (Read (v.number + 1) (Is (full (victim_of (shown_known v)))))
-        (Step (v.number + 1) (Is (full (victim_of (shown_known v)))) (Is (fetching (victim_of (shown_known v)))))
-        (Step (v.number + 1) (Is (fetching (victim_of (shown_known v)))) (Is resting))
+    (Step (v.number + 1) (Is (full (victim_of (shown_known v)))) (Is (fetching (victim_of (shown_known v)))))
+    (Step (v.number + 1) (Is (fetching (victim_of (shown_known v)))) (Is resting))
     (reading (c.args.seat.now.number + 1) r r) (reading (c.args.seat.now.number + 1) f.0 (word_of (fetching c.in-Some.victim)))
-        (reading (c.args.seat.now.number + 1) f.1 (word_of resting))
+    (reading (c.args.seat.now.number + 1) f.1 (word_of resting))
     (place, ap sign c.if-found-victim.true ∙ sign_of_word (full c.in-Some.victim) ∙ ap full whom, refl)
     (place, f.2 ∙ ap full whom, sign_of_word (fetching c.in-Some.victim) ∙ ap fetching whom)
     (place, f.3 ∙ ap fetching whom, sign_of_word resting)
     (ap (λ (m : SeatState). m.0.own.readings) f.4 ∙ ap (λ (m : SeatState).
-        (m.0.own.readings ++ reading (c.args.seat.now.number + 1) f.0 (word_of (fetching c.in-Some.victim)) ∷ []) ++ reading
-        (c.args.seat.now.number + 1) f.1 (word_of resting) ∷ []) c.look_step-found.ensures.after)
+    (m.0.own.readings ++ reading (c.args.seat.now.number + 1) f.0 (word_of (fetching c.in-Some.victim)) ∷ []) ++ reading
+    (c.args.seat.now.number + 1) f.1 (word_of resting) ∷ []) c.look_step-found.ensures.after)
 
 pub returns-then-found-victim-2-clause-reads : goal.returns-then-found-victim-2-clause-reads
 returns-then-found-victim-2-clause-reads c =
@@ -53,12 +53,12 @@ returns-then-found-victim-2-clause-reads c =
     let f = c.empty_step.ensures.after in
     let r = c.look_step-found.result in
     two_more v.readings _ (Read (v.number + 1) (Is (emptied (victim_of (shown_known v)))))
-        (Step (v.number + 1) (Is (emptied (victim_of (shown_known v)))) (Is resting))
+    (Step (v.number + 1) (Is (emptied (victim_of (shown_known v)))) (Is resting))
     (reading (c.args.seat.now.number + 1) r r) (reading (c.args.seat.now.number + 1) f.0 (word_of resting))
     (place, ap sign c.if-found-victim-2.true ∙ sign_of_word (emptied c.in-Some.victim) ∙ ap emptied whom, refl)
     (place, f.1 ∙ ap emptied whom, sign_of_word resting)
     (ap (λ (m : SeatState). m.0.own.readings) f.2 ∙ ap (λ (m : SeatState). m.0.own.readings ++ reading (c.args.seat.now.number + 1) f.0
-        (word_of resting) ∷ []) c.look_step-found.ensures.after)
+    (word_of resting) ∷ []) c.look_step-found.ensures.after)
 
 pub returns-else-found-victim-2-clause-reads : goal.returns-else-found-victim-2-clause-reads
 returns-else-found-victim-2-clause-reads c =
@@ -67,9 +67,9 @@ returns-else-found-victim-2-clause-reads c =
     let whom : c.in-Some.victim ≡ victim_of (shown_known v) = sym (victim_here v c.in-Some.victim asked_v) in
     let r = c.look_step-found.result in
     let waits : (sign r ≡ asking c.in-Some.victim) ⊎ (sign r ≡ serving c.in-Some.victim) =
-        pending v.own r c.in-Some.victim asked_v c.look_step-found.ensures.fits c.if-found-victim.false c.if-found-victim-2.false in
+    pending v.own r c.in-Some.victim asked_v c.look_step-found.ensures.fits c.if-found-victim.false c.if-found-victim-2.false in
     one_more v.readings _ (Read (v.number + 1) (λ w. Is (asking (victim_of (shown_known v))) w ⊎ Is (serving (victim_of (shown_known v))) w))
-        (reading (c.args.seat.now.number + 1) r r)
+    (reading (c.args.seat.now.number + 1) r r)
     (ap (λ (k : ℕ). k + 1) (sym c.requires.seat.number), ⊎_elim (λ e. inl (e ∙ ap asking whom)) (λ e. inr (e ∙ ap serving whom)) waits, refl)
     (ap (λ (m : SeatState). m.0.own.readings) c.look_step-found.ensures.after)
 
@@ -79,7 +79,7 @@ returns-else-found-victim-2-clause-mine c =
     let asked_v : v.own ≡ Open c.in-Some.victim = c.requires.seat.own ∙ ap own_by c.in-Some.is in
     let r = c.look_step-found.result in
     let waits : (sign r ≡ asking c.in-Some.victim) ⊎ (sign r ≡ serving c.in-Some.victim) =
-        pending v.own r c.in-Some.victim asked_v c.look_step-found.ensures.fits c.if-found-victim.false c.if-found-victim-2.false in
+    pending v.own r c.in-Some.victim asked_v c.look_step-found.ensures.fits c.if-found-victim.false c.if-found-victim-2.false in
     let S = c.requires.seat in
     still _ c.args.seat.now _ (after_look v (c.args.seat.now.number + 1) r) S record {
       table = c.look_step-found.ensures.table;

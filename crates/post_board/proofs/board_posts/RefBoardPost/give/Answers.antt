@@ -13,7 +13,7 @@ use Rattle.post_board.specs.BoardSeats.{shown_known}
 use Rattle.post_board.proofs.CallLemmas.{reading, one_more, two_more, three_more, token_here, ring_moved}
 use Rattle.std.proofs.Common.{set, Bool, cond, nat_lt}
 use Rattle.std.proofs.lemmas.Bool.{lt-ltb, ltb-true}
-use Rattle.post_board.proofs.TurnLemmas.{not_true}
+use Rattle.post_board.proofs.RingLemmas.{not_true}
 use Rattle.atomic_table.specs.Table.{rest}
 use Rattle.post_board.specs.BoardSteps.{knows, after_post, front, after_refusing}
 use Rattle.post_board.specs.BoardSeats.{own_by}
@@ -66,7 +66,7 @@ returns-then-to-seat-clause-mine c =
       serves_less = ap (λ (x : View). set x.own.serves c.args.to false) same;
       colour = ap (λ (t : Bool). cond t Black u.colour) (lt-ltb u.number c.args.to
           (let e : u.number ≡ c.front_slot.new.seat.number = ap (λ (x : View). x.own.number) same ∙ S.number ∙ sym F.number in
-           let t = c.if-to-seat.true in omega arith));
+          let t = c.if-to-seat.true in omega arith));
       here = ap (λ (x : View). x.own.here) same ∙ S.here ∙ sym F.here;
       own = ap (λ (x : View). x.own.own) same ∙ S.own ∙ ap own_by (sym F.asked);
       ended = ap (λ (x : View). x.own.ended) same ∙ S.ended ∙ sym F.ended;
@@ -94,7 +94,7 @@ returns-else-to-seat-clause-mine c =
       serves_less = ap (λ (x : View). set x.own.serves c.args.to false) same;
       colour = ap (λ (t : Bool). cond t Black u.colour) (not_true (nat_lt u.number c.args.to)
           (λ q. (let e : u.number ≡ c.front_slot.new.seat.number = ap (λ (x : View). x.own.number) same ∙ S.number ∙ sym F.number in
-            let h = ltb-true u.number c.args.to q in let t = c.if-to-seat.false in absurd (omega arith))))
+          let h = ltb-true u.number c.args.to q in let t = c.if-to-seat.false in absurd (omega arith))))
           ∙ ap (λ (x : View). x.own.colour) same ∙ S.colour ∙ sym F.colour;
       here = ap (λ (x : View). x.own.here) same ∙ S.here ∙ sym F.here;
       own = ap (λ (x : View). x.own.own) same ∙ S.own ∙ ap own_by (sym F.asked);

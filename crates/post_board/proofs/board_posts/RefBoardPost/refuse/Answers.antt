@@ -28,7 +28,7 @@ returns-clause-reads c =
     one_more v.readings _ (Step (c.args.to + 1) (Is (serving v.number)) (Is (emptied v.number))) (reading (c.args.to + 1) f.0 (word_of (emptied v.number)))
     (refl, f.1 ∙ ap serving me, sign_of_word (emptied v.number))
     (ap (λ (m : SeatState). m.0.own.readings) f.2 ∙ ap (λ (w : View). w.own.readings ++ reading (c.args.to + 1) f.0
-        (word_of (emptied w.own.number)) ∷ []) F.view)
+    (word_of (emptied w.own.number)) ∷ []) F.view)
 
 pub returns-clause-mine : goal.returns-clause-mine
 returns-clause-mine c =

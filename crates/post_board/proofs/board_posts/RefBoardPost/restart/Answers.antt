@@ -17,6 +17,6 @@ pub returns-clause-reads : goal.returns-clause-reads
 returns-clause-reads c =
     let after = c.restart_step.ensures.after in
     ring_moved _ _ c.args.seat.now.seat.me.0.own 0 after.0 c.word_at-new.result c.in-Some.token
-        (At (c.args.seat.now.seat.me.0.own.n - 1) White) c.requires.first (c.requires.seat.here ∙ c.in-Some.is) after.1
+    (At (c.args.seat.now.seat.me.0.own.n - 1) White) c.requires.first (c.requires.seat.here ∙ c.in-Some.is) after.1
     (c.word_at-new.ensures ∙ ap (λ (k : ℕ). word_of_token (At (k - 1) White)) (c.requires.seat.n ∙ sym c.requires.seat.sized))
-        (ap (λ (m : SeatState). m.0.own.readings) after.2)
+    (ap (λ (m : SeatState). m.0.own.readings) after.2)

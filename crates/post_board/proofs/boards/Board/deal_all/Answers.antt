@@ -29,10 +29,10 @@ loop-number-preserved c =
       made = ap (λ (m : SeatState). m.0.made) D.1 ∙ ap (λ (k : ℕ). k + 1) inv.made;
       count = omega arith;
       each = λ k d h. subst (λ ys. IsSeat c.args.self.now (get_or ys k d) × (shown_by (get_or ys k d) ≡ fresh_shown n (k + 1) (Some (unused n)))) (sym items)
-        (dite (ℕ_discrete k (length xs))
+          (dite (ℕ_discrete k (length xs))
           (λ e. subst (λ (y : BoardSeat). IsSeat c.args.self.now y × (shown_by y ≡ fresh_shown n (k + 1) (Some (unused n))))
-              (sym (ap (λ (j : ℕ). get_or (xs ++ x ∷ []) j d) e ∙ get_or-append_seam xs x [] d))
-            (c.in_ok-fresh.ensures.seat, c.in_ok-fresh.ensures.shown ∙ ap (λ (j : ℕ). fresh_shown n j (Some (unused n))) (omega arith)))
+          (sym (ap (λ (j : ℕ). get_or (xs ++ x ∷ []) j d) e ∙ get_or-append_seam xs x [] d))
+          (c.in_ok-fresh.ensures.seat, c.in_ok-fresh.ensures.shown ∙ ap (λ (j : ℕ). fresh_shown n j (Some (unused n))) (omega arith)))
           (λ ne. subst (λ (y : BoardSeat). IsSeat c.args.self.now y × (shown_by y ≡ fresh_shown n (k + 1) (Some (unused n))))
-              (sym (get_or_append_left xs (x ∷ []) d k (omega arith))) (inv.each k d (omega arith))));
+          (sym (get_or_append_left xs (x ∷ []) d k (omega arith))) (inv.each k d (omega arith))));
     }

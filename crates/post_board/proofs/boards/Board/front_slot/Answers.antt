@@ -51,11 +51,14 @@ loop-step-preserved c =
       n = inv.n;
       colour = inv.colour;
       here = inv.here;
-      asked = inv.asked; ended = inv.ended; room = c.rotate_left.ensures.capacity ∙ inv.room; long = ap length items ∙ as_long xs ∙ inv.long;
+      asked = inv.asked;
+      ended = inv.ended;
+      room = c.rotate_left.ensures.capacity ∙ inv.room;
+      long = ap length items ∙ as_long xs ∙ inv.long;
       has = λ r h. Contains-permutation _ _ r c.rotate_left.ensures.permutation (inv.has r h);
       within = (let e : length c.rotate_left.new.self.items ≡ length xs = ap length items ∙ as_long xs in omega arith);
       front = ap (λ ys. get_or ys (c.place_in-place.result - (c.loop-step.step + 1)) 0) items ∙ ap (λ k. get_or (drop 1 xs ++ take 1 xs) k 0) less
-        ∙ back_one xs (c.place_in-place.result - c.loop-step.step) (omega arith) within ∙ inv.front;
+          ∙ back_one xs (c.place_in-place.result - c.loop-step.step) (omega arith) within ∙ inv.front;
     }
 
 pub returns : goal.returns
@@ -76,8 +79,10 @@ returns c =
         n = inv.n;
         colour = inv.colour;
         here = inv.here;
-        asked = inv.asked; ended = inv.ended; room = c.pop_front.ensures.capacity ∙ inv.room;
-            count = (let a = inv.long in let b : length xs ≡ suc (length (drop 1 xs)) = ap length head in
+        asked = inv.asked;
+        ended = inv.ended;
+        room = c.pop_front.ensures.capacity ∙ inv.room;
+        count = (let a = inv.long in let b : length xs ≡ suc (length (drop 1 xs)) = ap length head in
             let d : length c.pop_front.new.self.items ≡ length (drop 1 xs) = ap length rest in omega arith);
         others = λ r ne e. subst (λ ys. Contains ys r) (sym rest)
             (behind c.args.to (drop 1 xs) r ne (subst (λ ys. Contains ys r) head (inv.has r (c.requires.seat.holds r e))));

@@ -11,15 +11,15 @@ pub returns-clause-told : goal.returns-clause-told
 returns-clause-told c =
     let all : c.loop-number.number ≡ c.args.n = omega arith in
     ap (λ (ranks : List PlainRank). told_of ranks (At 0 Black)) (c.loop-number.invariant.ranks ∙ ap (λ (k : ℕ). replicate k fresh_rank) all)
-        ∙ told_at_first c.args.n
+    ∙ told_at_first c.args.n
 
 pub returns-clause-seats : goal.returns-clause-seats
 returns-clause-seats c =
     let all : c.loop-number.number ≡ c.args.n = omega arith in
     let ranks : c.loop-number.ranks.items ≡ replicate c.args.n fresh_rank = c.loop-number.invariant.ranks ∙ ap (λ (k : ℕ). replicate k fresh_rank) all in
     let noted : Noted c.loop-number.ranks.items c.in_ok-askers.askers.masks.items =
-        subst (λ (ms : List ℕ). Noted c.loop-number.ranks.items ms) (sym c.in_ok-askers.ensures)
-        (subst (λ (rs : List PlainRank). Noted rs (replicate c.args.n 0)) (sym ranks) (noted_at_first c.args.n c.requires.at_most_64)) in
+    subst (λ (ms : List ℕ). Noted c.loop-number.ranks.items ms) (sym c.in_ok-askers.ensures)
+    (subst (λ (rs : List PlainRank). Noted rs (replicate c.args.n 0)) (sym ranks) (noted_at_first c.args.n c.requires.at_most_64)) in
     record {
       count = c.loop-number.invariant.count ∙ all;
       each = λ k d below.

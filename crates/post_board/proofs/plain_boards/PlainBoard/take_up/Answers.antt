@@ -17,10 +17,10 @@ returns c =
     let fits = c.requires.seat.0.0 in
     let masks = c.args.self.now.askers.masks.items in
     let done = take_up_deed ranks c.args.self.now.token seat
-        (record seat { serves = with_item seat.serves r true }) rank r read c.requires.asks.2 c.requires.asks.1 c.requires.asks.0
+    (record seat { serves = with_item seat.serves r true }) rank r read c.requires.asks.2 c.requires.asks.1 c.requires.asks.0
     c.requires.seat.0 (refl, refl, refl, refl, refl, refl, refl, refl, refl) in
     let noted : Noted (set ranks r (record rank { mailbox = Served seat.number })) c.take_away.new.self.masks.items =
-        subst (Noted _) (sym c.take_away.ensures)
-        (noted_taken ranks masks c.requires.seat.1 r c.requires.asks.0 (record rank { mailbox = Served seat.number }) seat.number fits.inside
-          (wants_is (plain ranks r).mailbox seat.number c.requires.asks.2) refl) in
+    subst (Noted _) (sym c.take_away.ensures)
+    (noted_taken ranks masks c.requires.seat.1 r c.requires.asks.0 (record rank { mailbox = Served seat.number }) seat.number fits.inside
+    (wants_is (plain ranks r).mailbox seat.number c.requires.asks.2) refl) in
     record { shown = refl; told = done.0; mine = (done.1, noted); others = λ o ne b. (done.2 o ne b.0, noted) }

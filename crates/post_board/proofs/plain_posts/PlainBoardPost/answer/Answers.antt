@@ -20,10 +20,10 @@ returns-in-Holds c =
     let read : rank ≡ plain ranks seat.number = get_or_read ranks seat.number rank fits.inside c.index_mut-rank.ensures.value no_rank in
     let done = with_masks
     (take_left ranks c.args.self.now.token seat rank c.in-Holds.field-0 c.in-Holds.batch c.replace.new.dest c.replace.ensures.after read
-        (sym c.replace.ensures.value ∙ c.in-Holds.is)
+    (sym c.replace.ensures.value ∙ c.in-Holds.is)
     c.requires.seat.0 c.requires.live.0)
     (noted_same ranks masks N seat.number fits.inside _ (λ v. ap (λ (d : PlainMailbox). wants d v) c.replace.ensures.after
-        ∙ sym (ap (λ (y : PlainRank). wants y.mailbox v) (sym read) ∙ ap (λ (d : PlainMailbox). wants d v) (sym c.replace.ensures.value ∙ c.in-Holds.is)))) in
+    ∙ sym (ap (λ (y : PlainRank). wants y.mailbox v) (sym read) ∙ ap (λ (d : PlainMailbox). wants d v) (sym c.replace.ensures.value ∙ c.in-Holds.is)))) in
     record { shown = refl; told = (done.legal, ap Some done.told); reads = refl; mine = done.mine; others = done.others }
 
 pub returns-in-Refused : goal.returns-in-Refused
@@ -37,8 +37,8 @@ returns-in-Refused c =
     let read : rank ≡ plain ranks seat.number = get_or_read ranks seat.number rank fits.inside c.index_mut-rank.ensures.value no_rank in
     let done = with_masks
     (none_left ranks c.args.self.now.token seat rank c.in-Refused.field-0 c.replace.new.dest c.replace.ensures.after read
-        (sym c.replace.ensures.value ∙ c.in-Refused.is)
+    (sym c.replace.ensures.value ∙ c.in-Refused.is)
     c.requires.seat.0 c.requires.live.0)
     (noted_same ranks masks N seat.number fits.inside _ (λ v. ap (λ (d : PlainMailbox). wants d v) c.replace.ensures.after
-        ∙ sym (ap (λ (y : PlainRank). wants y.mailbox v) (sym read) ∙ ap (λ (d : PlainMailbox). wants d v) (sym c.replace.ensures.value ∙ c.in-Refused.is)))) in
+    ∙ sym (ap (λ (y : PlainRank). wants y.mailbox v) (sym read) ∙ ap (λ (d : PlainMailbox). wants d v) (sym c.replace.ensures.value ∙ c.in-Refused.is)))) in
     record { shown = refl; told = (done.legal, ap Some done.told); reads = refl; mine = done.mine; others = done.others }

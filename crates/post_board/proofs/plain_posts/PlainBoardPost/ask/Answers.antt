@@ -19,8 +19,9 @@ returns c =
     let rank = c.index_mut-rank.result.now in
     let read : rank ≡ plain ranks seat.number = get_or_read ranks seat.number rank fits.inside c.index_mut-rank.ensures.value no_rank in
     let done = with_masks
-    (ask_deed ranks c.args.self.now.token seat rank c.args.victim read c.requires.seat.0 c.requires.live.0 c.requires.free.0 c.requires.victim.0 c.requires.victim.1)
+    (ask_deed ranks c.args.self.now.token seat rank c.args.victim read c.requires.seat.0 c.requires.live.0 c.requires.free.0 c.requires.victim.0
+    c.requires.victim.1)
     (subst (Noted _) (sym c.add.ensures) (noted_asks ranks masks N seat.number fits.inside
-        (record rank { busy = false; mailbox = Wants c.args.victim }) c.args.victim (subst (λ (n : ℕ). c.args.victim < n) fits.sized c.requires.victim.0)
-        (rests ranks c.args.self.now.token seat fits c.requires.free.0) refl)) in
+    (record rank { busy = false; mailbox = Wants c.args.victim }) c.args.victim (subst (λ (n : ℕ). c.args.victim < n) fits.sized c.requires.victim.0)
+    (rests ranks c.args.self.now.token seat fits c.requires.free.0) refl)) in
     record { shown = refl; told = (done.legal, ap Some done.told); reads = refl; mine = done.mine; others = done.others }

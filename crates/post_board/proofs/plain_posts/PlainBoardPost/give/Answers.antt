@@ -27,14 +27,16 @@ returns c =
     let changed = set ranks seat.number (record rank { colour = colour }) in
     let asker = c.index_mut-2.result.now in
     let below = subst (λ (n : ℕ). to < n) (sym (length-set ranks seat.number (record rank { colour = colour })))
-        (serves_below ranks token seat to fits c.requires.served) in
+    (serves_below ranks token seat to fits c.requires.served) in
     let asker_read : asker ≡ plain changed to = get_or_read changed to asker below c.index_mut-2.ensures.value no_rank in
     let lies : (plain ranks to).mailbox ≡ Served seat.number = fits.serves to c.requires.served in
     let done = with_masks
-    (give_deed ranks token seat (record seat { serves = with_item seat.serves to false;
-        colour = colour }) colour rank asker to c.args.batch read c.shaded-seat.ensures asker_read
+    (give_deed ranks token seat (record seat {
+      serves = with_item seat.serves to false;
+      colour = colour;
+    }) colour rank asker to c.args.batch read c.shaded-seat.ensures asker_read
     c.requires.seat.0 c.requires.live.0 c.requires.served c.requires.busy (refl, refl, refl, refl, refl, refl, refl, refl, refl))
     (noted_same changed masks (noted_same ranks masks N seat.number fits.inside _ (λ v. ap (λ (y : PlainRank). wants y.mailbox v) read)) to below _
-        (λ v. ap (λ (d : PlainMailbox). wants d v) (sym (ap (λ (y : PlainRank). y.mailbox)
-        (get_or-set_other ranks seat.number to (record rank { colour = colour }) no_rank (not_self ranks token seat to fits lies)) ∙ lies)))) in
+    (λ v. ap (λ (d : PlainMailbox). wants d v) (sym (ap (λ (y : PlainRank). y.mailbox)
+    (get_or-set_other ranks seat.number to (record rank { colour = colour }) no_rank (not_self ranks token seat to fits lies)) ∙ lies)))) in
     record { shown = search rules; told = (done.legal, ap Some done.told); reads = refl; mine = done.mine; others = done.others }

@@ -25,5 +25,5 @@ returns c =
     (refuse_deed ranks token seat (record seat { serves = with_item seat.serves to false }) rank to read c.requires.seat.0 c.requires.live.0 c.requires.served
     (refl, refl, refl, refl, refl, refl, refl, refl, refl))
     (noted_same ranks masks N to (serves_below ranks token seat to fits c.requires.served) _
-        (λ v. ap (λ (d : PlainMailbox). wants d v) (sym (fits.serves to c.requires.served)))) in
+    (λ v. ap (λ (d : PlainMailbox). wants d v) (sym (fits.serves to c.requires.served)))) in
     record { shown = refl; told = (done.legal, ap Some done.told); reads = refl; mine = done.mine; others = done.others }

@@ -19,6 +19,7 @@ returns c =
     let rank = c.index_mut-rank.result.now in
     let read : rank ≡ plain ranks seat.number = get_or_read ranks seat.number rank fits.inside c.index_mut-rank.ensures.value no_rank in
     let done = with_masks
-    (restart_deed ranks c.args.self.now.token seat rank read c.requires.seat.0 c.requires.live.0 c.requires.free.0 c.requires.here c.requires.tried c.requires.first c.requires.black)
+    (restart_deed ranks c.args.self.now.token seat rank read c.requires.seat.0 c.requires.live.0 c.requires.free.0 c.requires.here c.requires.tried
+    c.requires.first c.requires.black)
     (noted_same ranks masks N seat.number fits.inside _ (λ v. ap (λ (y : PlainRank). wants y.mailbox v) read)) in
     record { shown = refl; told = (done.legal, ap Some done.told); reads = refl; mine = done.mine; others = done.others }

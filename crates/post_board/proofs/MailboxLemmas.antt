@@ -26,12 +26,15 @@ no_other false false false false r v h = cc
 
 by_kind : (kind r v : ℕ) → sign_by kind r ≡ asking v → (kind ≡ 1) × (r ≡ v)
 by_kind kind r v h = dite (ℕ_discrete kind 1)
-    (λ e. (e, (let here : asking r ≡ asking v = ap (λ (b : Bool). cond b (asking r)
-        (cond (kind == 2) (serving r) (cond (kind == 3) (full r) (cond (kind == 4) (fetching r) (cond (kind == 5) (emptied r) resting)))))
-        (sym (eq-eqb kind 1 e)) ∙ h in cc)))
+    (λ e. (
+      e,
+      (let here : asking r ≡ asking v = ap (λ (b : Bool). cond b (asking r)
+          (cond (kind == 2) (serving r) (cond (kind == 3) (full r) (cond (kind == 4) (fetching r) (cond (kind == 5) (emptied r) resting)))))
+          (sym (eq-eqb kind 1 e)) ∙ h in cc),
+    ))
     (λ ne. absurd (no_other (kind == 2) (kind == 3) (kind == 4) (kind == 5) r v
-      (ap (λ (b : Bool). cond b (asking r) (cond (kind == 2) (serving r)
-          (cond (kind == 3) (full r) (cond (kind == 4) (fetching r) (cond (kind == 5) (emptied r) resting))))) (sym (ne_eqb kind 1 ne)) ∙ h)))
+    (ap (λ (b : Bool). cond b (asking r) (cond (kind == 2) (serving r)
+    (cond (kind == 3) (full r) (cond (kind == 4) (fetching r) (cond (kind == 5) (emptied r) resting))))) (sym (ne_eqb kind 1 ne)) ∙ h)))
 
 -- one word alone asks this rank
 pub one_word : (w v : ℕ) → sign w ≡ asking v → w ≡ word_of (asking v)
@@ -133,10 +136,10 @@ module _ (n : ℕ) (known : ℕ → Known) (signs : ℕ → Sign) (slot : ℕ �
   pub own_moves : (w : Known) (d : Sign) → w.number ≡ (known id).number → w.n ≡ (known id).n → w.serves ≡ (known id).serves → w.given ≡ (known id).given
       → w.taken ≡ (known id).taken
       → OwnFits w.own d → Away n id w.own → slot id ≡ some None → SlotFits d (some None) → ((k : ℕ) → signs id ≢ serving k) → ((k : ℕ) → d ≢ serving k)
-          → MailboxFacts n (put known id w) (put signs id d) slot
+      → MailboxFacts n (put known id w) (put signs id d) slot
   own_moves w d number size serves_same given_same taken_same fits away bare_slot held unserved unserved' =
       subst (λ (f : ℕ → Core.Option Parcel). MailboxFacts n (put known id w) (put signs id d) f) (put_self slot id)
-          (moved n known signs slot id w id d (slot id) me me F record {
+      (moved n known signs slot id w id d (slot id) me me F record {
         named = (number, size);
         sized = (ap length serves_same, ap length given_same, ap length taken_same);
         own_there = subst (λ (v : Known). OwnFits v.own d) (sym (put_here known id w)) fits;
@@ -150,7 +153,7 @@ module _ (n : ℕ) (known : ℕ → Known) (signs : ℕ → Sign) (slot : ℕ �
         pair = λ i hi. ap (λ z. taken (put known id w id) i ++ on_way d i z) bare_slot ∙ ap (λ xs. taken (put known id w id) i ++ xs)
             (bare d i ∙ sym (bare (signs id) i) ∙ ap (on_way (signs id) i) (sym bare_slot))
             ∙ ap (λ xs. xs ++ on_way (signs id) i (slot id)) (put_same (λ k v. taken v i) known id w (ap (λ xs. get_or xs i []) taken_same) id)
-                ∙ F.paired i id hi me
+            ∙ F.paired i id hi me
             ∙ sym (put_same (λ k v. given v id) known id w (ap (λ xs. get_or xs id []) given_same) i);
         taken_else = λ ne i. ap (λ xs. get_or xs i []) taken_same;
         given_else = λ j ne. ap (λ xs. get_or xs j []) given_same;
@@ -178,14 +181,14 @@ module _ (n : ℕ) (known : ℕ → Known) (signs : ℕ → Sign) (slot : ℕ �
         held = refl;
         served = λ k hk e. (let same : k ≡ id = cc in subst (λ (j : ℕ). serves (put known id w j) r ≡ true) (sym same)
             (ap (λ (v : Known). serves v r) (put_here known id w) ∙ ap (λ xs. get_or xs r false) serves_set
-                ∙ get_or-set_same (known id).serves r true false long));
+            ∙ get_or-set_same (known id).serves r true false long));
         serving_is = λ k hk. dite (ℕ_discrete k id) (λ e h. ap serving (sym e))
             (λ other h. (let old : serves (known k) r ≡ true = ap (λ (v : Known). serves v r) (sym (put_elsewhere known id w k other)) ∙ h in
-                let there : signs r ≡ serving k = F.serving_is r k inside hk old in absurd (cc)));
+            let there : signs r ≡ serving k = F.serving_is r k inside hk old in absurd (cc)));
         serves_else = λ a q. ap (λ xs. get_or xs a false) serves_set ∙ get_or-set_other (known id).serves r a true false q;
         pair = λ i hi. ap (λ xs. taken (put known id w r) i ++ xs) (sym (bare (signs r) i) ∙ ap (on_way (signs r) i) (sym bare_slot))
             ∙ ap (λ xs. xs ++ on_way (signs r) i (slot r)) (put_same (λ k v. taken v i) known id w (ap (λ xs. get_or xs i []) taken_same) r)
-                ∙ F.paired i r hi inside
+            ∙ F.paired i r hi inside
             ∙ sym (put_same (λ k v. given v r) known id w (ap (λ xs. get_or xs r []) given_same) i);
         taken_else = λ q i. ap (λ xs. get_or xs i []) taken_same;
         given_else = λ j q. ap (λ xs. get_or xs j []) given_same;
@@ -198,10 +201,10 @@ module _ (n : ℕ) (known : ℕ → Known) (signs : ℕ → Sign) (slot : ℕ �
       let long : r < length (known id).serves = (let e = (F.sized id me).0 in omega arith) in
       dite (ℕ_discrete k id)
       (λ e. (let no_more : serves (put known id w k) r ≡ false = ap (λ (j : ℕ). serves (put known id w j) r) e
-          ∙ ap (λ (v : Known). serves v r) (put_here known id w) ∙ ap (λ xs. get_or xs r false) serves_set
-          ∙ get_or-set_same (known id).serves r false false long in cc))
+      ∙ ap (λ (v : Known). serves v r) (put_here known id w) ∙ ap (λ xs. get_or xs r false) serves_set
+      ∙ get_or-set_same (known id).serves r false false long in cc))
       (λ other. (let old : serves (known k) r ≡ true = ap (λ (v : Known). serves v r) (sym (put_elsewhere known id w k other)) ∙ h in
-          let there : signs r ≡ serving k = F.serving_is r k inside hk old in let same : k ≡ id = cc in other same))
+      let there : signs r ≡ serving k = F.serving_is r k inside hk old in let same : k ≡ id = cc in other same))
 
   -- and holds a refusal
   pub refuses : (w : Known) (r : ℕ) → r < n → signs r ≡ serving id → w.number ≡ (known id).number → w.n ≡ (known id).n
@@ -224,7 +227,7 @@ module _ (n : ℕ) (known : ℕ → Known) (signs : ℕ → Sign) (slot : ℕ �
         serves_else = λ a q. ap (λ xs. get_or xs a false) serves_set ∙ get_or-set_other (known id).serves r a false false q;
         pair = λ i hi. ap (λ xs. taken (put known id w r) i ++ xs) (sym (empty_handed (signs r) i) ∙ ap (on_way (signs r) i) (sym away_slot))
             ∙ ap (λ xs. xs ++ on_way (signs r) i (slot r)) (put_same (λ k v. taken v i) known id w (ap (λ xs. get_or xs i []) taken_same) r)
-                ∙ F.paired i r hi inside
+            ∙ F.paired i r hi inside
             ∙ sym (put_same (λ k v. given v r) known id w (ap (λ xs. get_or xs r []) given_same) i);
         taken_else = λ q i. ap (λ xs. get_or xs i []) taken_same;
         given_else = λ j q. ap (λ xs. get_or xs j []) given_same;
@@ -241,13 +244,17 @@ module _ (n : ℕ) (known : ℕ → Known) (signs : ℕ → Sign) (slot : ℕ �
       let apart : r ≢ id = λ e. ne (sym e) in
       let wide : r < length (known id).given = (let e = (F.sized id me).1 in omega arith) in
       let old : (i : ℕ) → i < n → taken (put known id w r) i ≡ given (known i) r = λ i hi. put_same (λ k v. taken v i) known id w
-          (ap (λ xs. get_or xs i []) taken_same) r
-          ∙ sym (append-nil (taken (known r) i)) ∙ ap (λ xs. taken (known r) i ++ xs)
-              (sym (empty_handed (signs r) i) ∙ ap (on_way (signs r) i) (sym away_slot)) ∙ F.paired i r hi inside in
+      (ap (λ xs. get_or xs i []) taken_same) r
+      ∙ sym (append-nil (taken (known r) i)) ∙ ap (λ xs. taken (known r) i ++ xs)
+      (sym (empty_handed (signs r) i) ∙ ap (on_way (signs r) i) (sym away_slot)) ∙ F.paired i r hi inside in
       moved n known signs slot id w r (full id) (some (Some b)) me inside F record {
         named = (number, size);
-        sized = (ap length serves_set ∙ length-set (known id).serves r false, ap length given_set
-            ∙ length-set (known id).given r (given (known id) r ++ b ∷ []), ap length taken_same);
+        sized = (
+          ap length serves_set ∙ length-set (known id).serves r false,
+          ap length given_set
+              ∙ length-set (known id).given r (given (known id) r ++ b ∷ []),
+          ap length taken_same,
+        );
         own_there = subst (λ (v : Known). OwnFits v.own (full id)) (sym (put_elsewhere known id w r apart))
             (served_own (known r).own id (subst (OwnFits (known r).own) was (F.own r inside)));
         own_here = λ q. subst (λ (o : OwnMailbox). OwnFits o (signs id)) (sym own_same) (F.own id me);
@@ -258,11 +265,11 @@ module _ (n : ℕ) (known : ℕ → Known) (signs : ℕ → Sign) (slot : ℕ �
         serves_else = λ a q. ap (λ xs. get_or xs a false) serves_set ∙ get_or-set_other (known id).serves r a false false q;
         pair = λ i hi. dite (ℕ_discrete i id)
             (λ e. ap (λ (t : Bool). taken (put known id w r) i ++ cond t (b ∷ []) []) (eq-eqb id i (sym e))
-                ∙ ap (λ xs. xs ++ b ∷ []) (old i hi ∙ ap (λ (k : ℕ). given (known k) r) e)
-                ∙ sym (get_or-set_same (known id).given r (given (known id) r ++ b ∷ []) [] wide) ∙ ap (λ xs. get_or xs r []) (sym given_set)
-                    ∙ ap (λ (v : Known). given v r) (sym (put_here known id w)) ∙ ap (λ (k : ℕ). given (put known id w k) r) (sym e))
+            ∙ ap (λ xs. xs ++ b ∷ []) (old i hi ∙ ap (λ (k : ℕ). given (known k) r) e)
+            ∙ sym (get_or-set_same (known id).given r (given (known id) r ++ b ∷ []) [] wide) ∙ ap (λ xs. get_or xs r []) (sym given_set)
+            ∙ ap (λ (v : Known). given v r) (sym (put_here known id w)) ∙ ap (λ (k : ℕ). given (put known id w k) r) (sym e))
             (λ q. ap (λ (t : Bool). taken (put known id w r) i ++ cond t (b ∷ []) []) (ne_eqb id i (λ e. q (sym e)))
-                ∙ append-nil (taken (put known id w r) i) ∙ old i hi ∙ ap (λ (v : Known). given v r) (sym (put_elsewhere known id w i q)));
+            ∙ append-nil (taken (put known id w r) i) ∙ old i hi ∙ ap (λ (v : Known). given v r) (sym (put_elsewhere known id w i q)));
         taken_else = λ q i. ap (λ xs. get_or xs i []) taken_same;
         given_else = λ j q. ap (λ xs. get_or xs j []) given_set ∙ get_or-set_other (known id).given r j (given (known id) r ++ b ∷ []) [] q;
       }
@@ -288,14 +295,14 @@ module _ (n : ℕ) (known : ℕ → Known) (signs : ℕ → Sign) (slot : ℕ �
         serves_else = λ a q. ap (λ xs. get_or xs a false) serves_same;
         pair = λ i hi. append-nil (taken (put known id w id) i) ∙ ap (λ (v : Known). taken v i) (put_here known id w) ∙ ap (λ xs. get_or xs i []) taken_set
             ∙ dite (ℕ_discrete i from)
-              (λ e. ap (λ (k : ℕ). get_or (set (known id).taken from (taken (known id) from ++ b ∷ [])) k []) e
-                  ∙ get_or-set_same (known id).taken from (taken (known id) from ++ b ∷ []) [] wide
-                ∙ ap (λ (t : Bool). taken (known id) from ++ cond t (b ∷ []) []) (sym (eq-eqb from i (sym e)))
-                    ∙ ap (λ (k : ℕ). taken (known id) k ++ cond (from == i) (b ∷ []) []) (sym e))
-              (λ q. get_or-set_other (known id).taken from i (taken (known id) from ++ b ∷ []) [] q ∙ sym (append-nil (taken (known id) i))
-                  ∙ ap (λ (t : Bool). taken (known id) i ++ cond t (b ∷ []) []) (sym (ne_eqb from i (λ e. q (sym e)))))
+            (λ e. ap (λ (k : ℕ). get_or (set (known id).taken from (taken (known id) from ++ b ∷ [])) k []) e
+            ∙ get_or-set_same (known id).taken from (taken (known id) from ++ b ∷ []) [] wide
+            ∙ ap (λ (t : Bool). taken (known id) from ++ cond t (b ∷ []) []) (sym (eq-eqb from i (sym e)))
+            ∙ ap (λ (k : ℕ). taken (known id) k ++ cond (from == i) (b ∷ []) []) (sym e))
+            (λ q. get_or-set_other (known id).taken from i (taken (known id) from ++ b ∷ []) [] q ∙ sym (append-nil (taken (known id) i))
+            ∙ ap (λ (t : Bool). taken (known id) i ++ cond t (b ∷ []) []) (sym (ne_eqb from i (λ e. q (sym e)))))
             ∙ ap (λ (z : Core.Option Parcel). taken (known id) i ++ on_way (full from) i z) (sym filled)
-                ∙ ap (λ (x : Sign). taken (known id) i ++ on_way x i (slot id)) (sym was)
+            ∙ ap (λ (x : Sign). taken (known id) i ++ on_way x i (slot id)) (sym was)
             ∙ F.paired i id hi me ∙ sym (put_same (λ k v. given v id) known id w (ap (λ xs. get_or xs id []) given_same) i);
         taken_else = λ ne. absurd (ne refl);
         given_else = λ j q. ap (λ xs. get_or xs j []) given_same;
@@ -320,7 +327,7 @@ module _ (n : ℕ) (known : ℕ → Known) (signs : ℕ → Sign) (slot : ℕ �
         serves_else = λ a q. ap (λ xs. get_or xs a false) serves_same;
         pair = λ i hi. ap (λ xs. taken (put known id w id) i ++ xs) (sym (empty_handed (signs id) i) ∙ ap (on_way (signs id) i) (sym away_slot))
             ∙ ap (λ xs. xs ++ on_way (signs id) i (slot id)) (put_same (λ k v. taken v i) known id w (ap (λ xs. get_or xs i []) taken_same) id)
-                ∙ F.paired i id hi me
+            ∙ F.paired i id hi me
             ∙ sym (put_same (λ k v. given v id) known id w (ap (λ xs. get_or xs id []) given_same) i);
         taken_else = λ ne. absurd (ne refl);
         given_else = λ j q. ap (λ xs. get_or xs j []) given_same;

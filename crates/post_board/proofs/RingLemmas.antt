@@ -64,10 +64,10 @@ module _ (n : ℕ) (known : ℕ → Known) (signs : ℕ → Sign) (token : Token
   by_own deed d token' legal left here theirs = record {
     reached = done n (places known signs) (places (put known id w) (put signs id d)) token id me deed token' legal
         (left ∙ put_one n (places known signs) (places (put known id w) (put signs id d)) token id me id (place_of w d) token' me
-            (seen_own known signs id w d)) T.reached;
+        (seen_own known signs id w d)) T.reached;
     here = λ k h. dite (ℕ_discrete k id)
         (λ e. subst (λ (j : ℕ). HereFits (put known id w j).here j token') (sym e)
-            (subst (λ (v : Known). HereFits v.here id token') (sym (put_here known id w)) here))
+        (subst (λ (v : Known). HereFits v.here id token') (sym (put_here known id w)) here))
         (λ ne. subst (λ (v : Known). HereFits v.here k token') (sym (put_elsewhere known id w k ne)) (theirs k h ne));
   }
 
@@ -77,7 +77,7 @@ module _ (n : ℕ) (known : ℕ → Known) (signs : ℕ → Sign) (token : Token
   asks victim h ne live rests face here =
       by_own (ask victim) (asking victim) token (acts live, others victim h ne, ap (λ (x : Place). x.mail) at ∙ ap mail_of rests)
       (ap (λ (x : Place). put_place (told_of n known signs token) id (record x { busy = false; mail = asked victim })) at
-       ∙ ap (λ (x : Place). put_place (told_of n known signs token) id (record x { mail = asked victim })) (sym face))
+      ∙ ap (λ (x : Place). put_place (told_of n known signs token) id (record x { mail = asked victim })) (sym face))
       (subst (λ (x : Option Colour). HereFits x id token) (sym here) (T.here id me)) (λ k h2 ne2. T.here k h2)
 
   pub fetches : (from : ℕ) → from < n → id ≢ from → (known id).ended ≡ false → signs id ≡ full from
@@ -86,7 +86,7 @@ module _ (n : ℕ) (known : ℕ → Known) (signs : ℕ → Sign) (token : Token
   fetches from h ne live was face here =
       by_own (take from []) (fetching from) token (acts live, others from h ne, ap (λ (x : Place). x.mail) at ∙ ap mail_of was)
       (ap (λ (x : Place). put_place (told_of n known signs token) id (record x { busy = true; tried = false; mail = vacant })) at
-       ∙ ap (λ (x : Place). put_place (told_of n known signs token) id (record x { mail = vacant })) (sym face))
+      ∙ ap (λ (x : Place). put_place (told_of n known signs token) id (record x { mail = vacant })) (sym face))
       (subst (λ (x : Option Colour). HereFits x id token) (sym here) (T.here id me)) (λ k h2 ne2. T.here k h2)
 
   pub empties : (from : ℕ) → from < n → id ≢ from → (known id).ended ≡ false → signs id ≡ emptied from
@@ -95,7 +95,7 @@ module _ (n : ℕ) (known : ℕ → Known) (signs : ℕ → Sign) (token : Token
   empties from h ne live was face here =
       by_own (take_none from) resting token (acts live, others from h ne, ap (λ (x : Place). x.mail) at ∙ ap mail_of was)
       (ap (λ (x : Place). put_place (told_of n known signs token) id (record x { tried = true; mail = vacant })) at
-       ∙ ap (λ (x : Place). put_place (told_of n known signs token) id (record x { mail = vacant })) (sym face))
+      ∙ ap (λ (x : Place). put_place (told_of n known signs token) id (record x { mail = vacant })) (sym face))
       (subst (λ (x : Option Colour). HereFits x id token) (sym here) (T.here id me)) (λ k h2 ne2. T.here k h2)
 
   -- the mailbox of r, which asks this rank, comes to hold a batch
@@ -109,11 +109,11 @@ module _ (n : ℕ) (known : ℕ → Known) (signs : ℕ → Sign) (token : Token
         reached = done n (places known signs) (places (put known id w) (put signs r (full id))) token id me (give r []) token
             (acts live, others r h ne, ap (λ (x : Place). x.busy) at ∙ busy, ap (λ (x : Place). x.mail) at_r ∙ was)
             (ap (λ (x : Place). put_place (put_place t id (record x { colour = cond (nat_lt id r) Black x.colour })) r
-                (record (place t r) { mail = filled id [] })) at
-             ∙ ap (λ (x : Place). put_place (put_place t id (record x { mail = mail_of (signs id) })) r (record (place t r) { mail = filled id [] })) (sym face)
-             ∙ ap (λ (x : Place). put_place (put_place t id (place_of w (signs id))) r (record x { mail = filled id [] })) at_r
-             ∙ put_two n (places known signs) (places (put known id w) (put signs r (full id))) token id me r (place_of w (signs id))
-                 (place_of (known r) (full id)) h (seen_two known signs id w r (full id) ne))
+            (record (place t r) { mail = filled id [] })) at
+            ∙ ap (λ (x : Place). put_place (put_place t id (record x { mail = mail_of (signs id) })) r (record (place t r) { mail = filled id [] })) (sym face)
+            ∙ ap (λ (x : Place). put_place (put_place t id (place_of w (signs id))) r (record x { mail = filled id [] })) at_r
+            ∙ put_two n (places known signs) (places (put known id w) (put signs r (full id))) token id me r (place_of w (signs id))
+            (place_of (known r) (full id)) h (seen_two known signs id w r (full id) ne))
             T.reached;
         here = λ k h2. put_all (λ j v. HereFits v.here j token) known id w k (subst (λ (x : Option Colour). HereFits x id token) (sym here) (T.here id me))
             (λ ne2. T.here k h2);
@@ -131,9 +131,9 @@ module _ (n : ℕ) (known : ℕ → Known) (signs : ℕ → Sign) (token : Token
         reached = done n (places known signs) (places (put known id w) (put signs r (emptied id))) token id me (refuse r) token
             (acts live, others r h ne, ap (λ (x : Place). x.mail) at_r ∙ was)
             (ap (λ (x : Place). put_place t r (record x { mail = empty id })) at_r
-             ∙ put_one n (places known signs) (places (put known id w) (put signs r (emptied id))) token id me r (place_of (known r) (emptied id)) token h
-               (seen_two known signs id w r (emptied id) ne ∙ ap (λ (x : Place). put (put (places known signs) id x) r (place_of (known r) (emptied id))) same
-                ∙ ap (λ (f : ℕ → Place). put f r (place_of (known r) (emptied id))) (put_self (places known signs) id)))
+            ∙ put_one n (places known signs) (places (put known id w) (put signs r (emptied id))) token id me r (place_of (known r) (emptied id)) token h
+            (seen_two known signs id w r (emptied id) ne ∙ ap (λ (x : Place). put (put (places known signs) id x) r (place_of (known r) (emptied id))) same
+            ∙ ap (λ (f : ℕ → Place). put f r (place_of (known r) (emptied id))) (put_self (places known signs) id)))
             T.reached;
         here = λ k h2. put_all (λ j v. HereFits v.here j token) known id w k (subst (λ (x : Option Colour). HereFits x id token) (sym here) (T.here id me))
             (λ ne2. T.here k h2);
@@ -151,7 +151,7 @@ module _ (n : ℕ) (known : ℕ → Known) (signs : ℕ → Sign) (token : Token
   sees_over live over face here =
       by_self see_over token (acts live, over)
       (ap (λ (x : Place). put_place (told_of n known signs token) id (record x { ended = true })) at
-       ∙ ap (λ (x : Place). put_place (told_of n known signs token) id (record x { mail = mail_of (signs id) })) (sym face))
+      ∙ ap (λ (x : Place). put_place (told_of n known signs token) id (record x { mail = mail_of (signs id) })) (sym face))
       (subst (λ (x : Option Colour). HereFits x id token) (sym here) tt) (λ k h2 ne2. T.here k h2)
 
   -- a rank that has tried is not busy
@@ -162,13 +162,23 @@ module _ (n : ℕ) (known : ℕ → Known) (signs : ℕ → Sign) (token : Token
       → place_of w resting ≡ record (place_of (known id) resting) { colour = White } → w.here ≡ None
       → RingFacts n (put known id w) signs (At (id - 1) (darker (known id).colour c))
   passes c above live tried rests there face here =
-      by_self (pass (darker (known id).colour c)) (At (id - 1) (darker (known id).colour c))
-      (acts live, above, ap (λ (x : Place). x.busy) at ∙ idle tried, ap (λ (x : Place). x.mail) at
-          ∙ ap mail_of rests, (c, there, ap (λ (x : Place). darker x.colour c) (sym at)), ap (λ (x : Place). x.tried) at ∙ tried)
-      (ap (λ (x : Place). record (put_place (told_of n known signs token) id (record x { colour = White })) { token =
-          At (id - 1) (darker (known id).colour c) }) at
-       ∙ ap (λ (x : Place). record (put_place (told_of n known signs token) id (record x { mail = mail_of (signs id) })) { token =
-           At (id - 1) (darker (known id).colour c) }) (sym face))
+      by_self (pass (darker (known id).colour c)) (At (id - 1) (darker (known id).colour c)) (
+        acts live,
+        above,
+        ap (λ (x : Place). x.busy) at ∙ idle tried,
+        ap (λ (x : Place). x.mail) at
+            ∙ ap mail_of rests,
+        (c, there, ap (λ (x : Place). darker x.colour c) (sym at)),
+        ap (λ (x : Place). x.tried) at ∙ tried,
+      )
+      (ap (λ (x : Place). record (put_place (told_of n known signs token) id (record x { colour = White })) {
+        token =
+            At (id - 1) (darker (known id).colour c);
+      }) at
+      ∙ ap (λ (x : Place). record (put_place (told_of n known signs token) id (record x { mail = mail_of (signs id) })) {
+        token =
+            At (id - 1) (darker (known id).colour c);
+      }) (sym face))
       (subst (λ (x : Option Colour). HereFits x id (At (id - 1) (darker (known id).colour c))) (sym here) tt)
       (λ k h2 ne2. elsewhere (known k).here k id c token (At (id - 1) (darker (known id).colour c)) ne2 there (T.here k h2))
 
@@ -180,12 +190,16 @@ module _ (n : ℕ) (known : ℕ → Known) (signs : ℕ → Sign) (token : Token
   restarts c first live tried rests there black face here =
       let t : Told = told_of n known signs token in
       let size : length t.places ≡ n = sheet_size n (places known signs) in
-      by_self restart (At (n - 1) White)
-      (acts live, first, ⊎_elim (λ e. inl (size ∙ e)) (λ e. inr (ap (λ (x : Place). x.busy) at ∙ idle e, ap (λ (x : Place). x.tried) at ∙ e)) tried,
-       ap (λ (x : Place). x.mail) at ∙ ap mail_of rests, (c, there, ap (λ (x : Place). darker x.colour c) at ∙ black))
+      by_self restart (At (n - 1) White) (
+        acts live,
+        first,
+        ⊎_elim (λ e. inl (size ∙ e)) (λ e. inr (ap (λ (x : Place). x.busy) at ∙ idle e, ap (λ (x : Place). x.tried) at ∙ e)) tried,
+        ap (λ (x : Place). x.mail) at ∙ ap mail_of rests,
+        (c, there, ap (λ (x : Place). darker x.colour c) at ∙ black),
+      )
       (ap (λ (x : Place). record (put_place t id (record x { busy = false; colour = White })) { token = At (length t.places - 1) White }) at
-       ∙ ap (λ (x : Place). record (put_place t id (record x { mail = mail_of (signs id) })) { token = At (length t.places - 1) White }) (sym face)
-       ∙ ap (λ (m : ℕ). record (put_place t id (place_of w (signs id))) { token = At (m - 1) White }) size)
+      ∙ ap (λ (x : Place). record (put_place t id (record x { mail = mail_of (signs id) })) { token = At (length t.places - 1) White }) (sym face)
+      ∙ ap (λ (m : ℕ). record (put_place t id (place_of w (signs id))) { token = At (m - 1) White }) size)
       (subst (λ (x : Option Colour). HereFits x id (At (n - 1) White)) (sym here) tt)
       (λ k h2 ne2. elsewhere (known k).here k id c token (At (n - 1) White) ne2 there (T.here k h2))
 
@@ -196,12 +210,18 @@ module _ (n : ℕ) (known : ℕ → Known) (signs : ℕ → Sign) (token : Token
       let t : Told = told_of n known signs token in
       let size : length t.places ≡ n = sheet_size n (places known signs) in
       let busy : (known id).busy ≡ false = ⊎_elim (λ e. ap (λ (x : Place). x.busy) (sym at) ∙ ap (λ (k : ℕ). (place t k).busy) first
-          ∙ (sound_now n known signs token T (omega arith)).sane.alone (size ∙ e) (there ∙ ap (λ (k : ℕ). At k White) first)) idle tried in
-      by_self conclude Over
-      (acts live, first, ap (λ (x : Place). x.busy) at ∙ busy, ap (λ (x : Place). x.mail) at ∙ ap mail_of rests, there, ap (λ (x : Place). x.colour) at ∙ white,
-       ⊎_elim (λ e. inl (size ∙ e)) (λ e. inr (ap (λ (x : Place). x.tried) at ∙ e)) tried)
+      ∙ (sound_now n known signs token T (omega arith)).sane.alone (size ∙ e) (there ∙ ap (λ (k : ℕ). At k White) first)) idle tried in
+      by_self conclude Over (
+        acts live,
+        first,
+        ap (λ (x : Place). x.busy) at ∙ busy,
+        ap (λ (x : Place). x.mail) at ∙ ap mail_of rests,
+        there,
+        ap (λ (x : Place). x.colour) at ∙ white,
+        ⊎_elim (λ e. inl (size ∙ e)) (λ e. inr (ap (λ (x : Place). x.tried) at ∙ e)) tried,
+      )
       (ap (λ (x : Place). record (put_place t id (record x { ended = true })) { token = Over }) at
-       ∙ ap (λ (x : Place). record (put_place t id (record x { mail = mail_of (signs id) })) { token = Over }) (sym face))
+      ∙ ap (λ (x : Place). record (put_place t id (record x { mail = mail_of (signs id) })) { token = Over }) (sym face))
       (subst (λ (x : Option Colour). HereFits x id Over) (sym here) tt)
       (λ k h2 ne2. elsewhere (known k).here k id White token Over ne2 there (T.here k h2))
 
@@ -217,14 +237,14 @@ put_again f i x y = λ t k. at k t
 pub withdraws : (n : ℕ) (known : ℕ → Known) (signs : ℕ → Sign) (token : Token) → RingFacts n known signs token → (id : ℕ) → id < n → (w : Known) (v : ℕ)
     → v < n → id ≢ v
     → (known id).ended ≡ false → (known v).ended ≡ false → signs id ≡ asking v → place_of w resting ≡ record (place_of (known id) resting) { tried = true }
-        → w.here ≡ (known id).here
+    → w.here ≡ (known id).here
     → RingFacts n (put known id w) (put signs id resting) token
 withdraws n known signs token T id me w v h ne live theirs was face here =
-    let desk1 : ℕ → Sign = put signs id (emptied v) in
-    let first : RingFacts n known desk1 token = subst (λ (f : ℕ → Known). RingFacts n f desk1 token) (put_self known v)
-        (refuses n known signs token T v h (known v) id me (λ e. ne (sym e)) theirs (ap mail_of was) refl refl) in
+    let refused : ℕ → Sign = put signs id (emptied v) in
+    let first : RingFacts n known refused token = subst (λ (f : ℕ → Known). RingFacts n f refused token) (put_self known v)
+    (refuses n known signs token T v h (known v) id me (λ e. ne (sym e)) theirs (ap mail_of was) refl refl) in
     subst (λ (f : ℕ → Sign). RingFacts n (put known id w) f token) (put_again signs id (emptied v) resting)
-    (empties n known desk1 token first id me w v h ne live (put_here signs id (emptied v)) face here)
+    (empties n known refused token first id me w v h ne live (put_here signs id (emptied v)) face here)
 
 pub not_true : (b : Bool) → (b ≡ true → ⊥) → b ≡ false
 not_true true never = absurd (never refl)
@@ -237,10 +257,11 @@ over_quiet n known signs token T over r h =
     let t : Told = told_of n known signs token in
     let at_r : place t r ≡ place_of (known r) (signs r) = place_at n (places known signs) token r h in
     let quiet : PictureInvariant (length t.places) (picture t) Over = subst (PictureInvariant (length t.places) (picture t)) over
-        (sound_now n known signs token T (omega arith)).token in
-    let inside : r < length t.places = subst (λ (m : ℕ). r < m) (sym (sheet_size n (places known signs))) h in
-    (not_true (known r).busy (λ b. quiet r (inside, inl (ap (λ (x : Place). x.busy) at_r ∙ b))),
-     λ i e. quiet r (inside, inr (ap (λ (x : Place). is_filled (mailbox x.mail)) at_r ∙ ap (λ (d : Sign). is_filled (mailbox (mail_of d))) e)))
+    (sound_now n known signs token T (omega arith)).token in
+    let inside : r < length t.places = subst (λ (m : ℕ). r < m) (sym (sheet_size n (places known signs))) h in (
+      not_true (known r).busy (λ b. quiet r (inside, inl (ap (λ (x : Place). x.busy) at_r ∙ b))),
+      λ i e. quiet r (inside, inr (ap (λ (x : Place). is_filled (mailbox x.mail)) at_r ∙ ap (λ (d : Sign). is_filled (mailbox (mail_of d))) e)),
+    )
 
 -- a token that is elsewhere is at another rank
 pub many : (n : ℕ) (known : ℕ → Known) (signs : ℕ → Sign) (token : Token) → RingFacts n known signs token → (r : ℕ) → r < n → is_at token r ≡ false
