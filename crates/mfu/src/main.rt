@@ -27,8 +27,14 @@ mod streams;
 
 use crate::grounds::RealGround;
 use crate::streams::RealSink;
-use mfu_top::run;
+use mfu_top::{Status, run};
+use outside::Sink;
+use std::fs::Files;
+use std::os::unix::fs::FileExt;
 use std::process::ExitCode;
+use std::rt::Clock;
+use std::sync::Wait;
+use std::thread::Threads;
 
 fn main(rt: HostRuntime) -> ExitCode {
     let words = match given::words(&rt) {
@@ -38,18 +44,21 @@ fn main(rt: HostRuntime) -> ExitCode {
     if let Some(text) = help::asked(&words) {
         return ExitCode::from(help::print(rt.stdout(), text) as u8);
     }
-    let mut files = RealGround::make(rt);
     let mut out = RealSink::make(rt.stdout());
     let mut notes = RealSink::make(rt.stderr());
-    let now = given::seconds(&rt);
-    let status = run(
-        &rt,
-        rt.alloc(),
-        &words,
-        &mut files,
-        &mut out,
-        &mut notes,
-        now,
-    );
-    ExitCode::from(status as u8)
+    ExitCode::from(run_here(rt, &words, &mut out, &mut notes) as u8)
 }
+
+// Runs the words over the files of the system, at its time.
+fn run_here<R, O: Sink, E: Sink>(rt: R, words: &[String], out: &mut O, notes: &mut E) -> Status
+where
+    R: Files + Clock + AllocGlobal + Threads + Wait + Copy + Send + Sync,
+    R::File: FileExt + Send,
+{
+    let mut files = RealGround::make(rt);
+    let now = given::seconds(&rt);
+    run(&rt, rt.alloc(), words, &mut files, out, notes, now)
+}
+
+#[cfg(test)]
+mod tests;
