@@ -16,6 +16,9 @@
 //! whatever the system wrote. No contract says what the disk or a stream holds, so they tell no tree and no text.
 #![tactic(auto)]
 
+ghost use Rattle.std.specs.Prelude.{◌≡◌, []};
+ghost use Rattle.outside.specs.Writes.{all_but};
+
 mod answers;
 mod disk;
 mod given;
@@ -28,9 +31,7 @@ mod streams;
 use crate::grounds::RealGround;
 use crate::streams::RealSink;
 use mfu_top::{Status, run};
-use outside::Sink;
-use std::fs::Files;
-use std::os::unix::fs::FileExt;
+use outside::{Ground, Sink};
 use std::process::ExitCode;
 use std::rt::Clock;
 use std::sync::Wait;
@@ -44,20 +45,27 @@ fn main(rt: HostRuntime) -> ExitCode {
     if let Some(text) = help::asked(&words) {
         return ExitCode::from(help::print(rt.stdout(), text) as u8);
     }
+    let mut files = RealGround::make(rt);
     let mut out = RealSink::make(rt.stdout());
     let mut notes = RealSink::make(rt.stderr());
-    ExitCode::from(run_here(rt, &words, &mut out, &mut notes) as u8)
+    ExitCode::from(run_now(&rt, &words, &mut files, &mut out, &mut notes) as u8)
 }
 
-// Runs the words over the files of the system, at its time.
-fn run_here<R, O: Sink, E: Sink>(rt: R, words: &[String], out: &mut O, notes: &mut E) -> Status
+// Runs the words over the files, at the time of the system.
+fn run_now<T, G: Ground + Send, O: Sink, E: Sink>(
+    rt: &T,
+    words: &[String],
+    files: &mut G,
+    out: &mut O,
+    notes: &mut E,
+) -> Status
 where
-    R: Files + Clock + AllocGlobal + Threads + Wait + Copy + Send + Sync,
-    R::File: FileExt + Send,
+    T: AllocGlobal + Clock + Threads + Wait + Sync,
+    G::Reader: Send,
+    requires { G.area files.old ≡ all_but [] }
 {
-    let mut files = RealGround::make(rt);
-    let now = given::seconds(&rt);
-    run(&rt, rt.alloc(), words, &mut files, out, notes, now)
+    let now = given::seconds(rt);
+    run(rt, rt.alloc(), words, files, out, notes, now)
 }
 
 #[cfg(test)]

@@ -3,5 +3,6 @@ mod fakes;
 mod folders;
 mod looks;
 mod names;
+mod plots;
 mod runs;
 mod writes;

@@ -99,7 +99,10 @@ fn names_that_are_no_text_are_counted(rt: HostRuntime) -> Result<(), Fail> {
     let alloc = rt.alloc();
     let mut reader = RealGround::make(Odd { fails: false }).reader(alloc)?;
     let listing = reader.list(alloc, &Path::parse(alloc, "/x")?)?;
-    assert_eq!(rt; (listing.len(), listing.unnamed(), listing.far()), (3, 2, 0));
+    assert_eq!(rt;
+        (listing.len(), listing.unnamed(), listing.far()),
+        (3, 2, 0)
+    );
     for (k, name) in ["one", "two", "\u{e9}"].iter().enumerate() {
         if k < listing.len() {
             assert_eq!(rt; listing.name(k), *name);
@@ -138,7 +141,12 @@ impl Clock for Standing {
 
 #[test]
 fn the_time_is_that_of_the_clock(rt: HostRuntime) {
-    for (millis, want) in [(0, 0), (999, 0), (1000, 1), (1_700_000_000_999, 1_700_000_000)] {
+    for (millis, want) in [
+        (0, 0),
+        (999, 0),
+        (1000, 1),
+        (1_700_000_000_999, 1_700_000_000),
+    ] {
         let clock = Standing(Some(Duration::from_millis(millis)));
         assert_eq!(rt; seconds(&clock), want);
     }

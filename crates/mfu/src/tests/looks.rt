@@ -9,6 +9,22 @@ use std::os::unix::fs::symlink;
 use std::test::Fail;
 use std::time::{Duration, UNIX_EPOCH};
 
+// Whether the path below the top is told of as wanted.
+fn told_as(
+    rt: HostRuntime,
+    top: &Path,
+    wants: &[(&str, Option<(Kind, u64)>)],
+) -> Result<bool, Fail> {
+    let mut reader = RealGround::make(rt).reader(rt.alloc())?;
+    for (name, want) in wants {
+        let stat = reader.stat(&at(rt, top, name)?)?;
+        if stat.map(|s| (s.kind, s.size)) != *want {
+            return Err(Fail::new(*name));
+        }
+    }
+    Ok(reader.faults() == 0)
+}
+
 #[test]
 fn kinds_and_sizes(rt: HostRuntime) -> Result<(), Fail> {
     let top = fresh(rt)?;
@@ -17,36 +33,18 @@ fn kinds_and_sizes(rt: HostRuntime) -> Result<(), Fail> {
         put(rt, &at(rt, &top, name.as_str())?, &bytes(rt, len)?)?;
     }
     fs::create_dir(&rt, at(rt, &top, "folder")?.text())?;
-    put(rt, &at(rt, &top, "folder/file")?, b"inner")?;
-    for (to, name) in [
-        ("folder", "to_folder"),
-        ("file1", "to_file"),
-        ("nothing", "to_nothing"),
-        ("loop", "loop"),
-    ] {
-        symlink(&rt, to, at(rt, &top, name)?.text())?;
-    }
-    let mut reader = RealGround::make(rt).reader(rt.alloc())?;
-    for (name, want) in [
+    let wants = [
         ("file0", Some((Kind::File, 0))),
         ("file1", Some((Kind::File, 1))),
         ("file65536", Some((Kind::File, 65_536))),
         ("file65537", Some((Kind::File, 65_537))),
         ("folder", Some((Kind::Dir, 0))),
-        ("folder/file", Some((Kind::File, 5))),
-        ("to_folder", Some((Kind::Link, 0))),
-        ("to_file", Some((Kind::Link, 0))),
-        ("to_nothing", Some((Kind::Link, 0))),
-        ("loop", Some((Kind::Link, 0))),
-        ("to_folder/file", Some((Kind::File, 5))),
-        ("to_nothing/file", None),
         ("file1/file", None),
         ("nothing", None),
         ("nothing/file", None),
-    ] {
-        let stat = reader.stat(&at(rt, &top, name)?)?;
-        assert_eq!(rt; stat.map(|s| (s.kind, s.size)), want, "at {name}");
-    }
+    ];
+    assert!(rt; told_as(rt, &top, &wants)?);
+    let mut reader = RealGround::make(rt).reader(rt.alloc())?;
     for (path, want) in [
         ("/", Some(Kind::Dir)),
         ("/dev/null", Some(Kind::Other)),
@@ -55,7 +53,31 @@ fn kinds_and_sizes(rt: HostRuntime) -> Result<(), Fail> {
         let stat = reader.stat(&Path::parse(rt.alloc(), path)?)?;
         assert_eq!(rt; stat.map(|s| s.kind), want, "at {path}");
     }
-    assert_eq!(rt; reader.faults(), 0);
+    Ok(fs::remove_dir_all(&rt, top.text())?)
+}
+
+#[test]
+fn a_last_link_is_not_followed(rt: HostRuntime) -> Result<(), Fail> {
+    let top = fresh(rt)?;
+    fs::create_dir(&rt, at(rt, &top, "folder")?.text())?;
+    put(rt, &at(rt, &top, "folder/file")?, b"inner")?;
+    for (to, name) in [
+        ("folder", "to_folder"),
+        ("folder/file", "to_file"),
+        ("nothing", "to_nothing"),
+        ("loop", "loop"),
+    ] {
+        symlink(&rt, to, at(rt, &top, name)?.text())?;
+    }
+    let wants = [
+        ("to_folder", Some((Kind::Link, 0))),
+        ("to_file", Some((Kind::Link, 0))),
+        ("to_nothing", Some((Kind::Link, 0))),
+        ("loop", Some((Kind::Link, 0))),
+        ("to_folder/file", Some((Kind::File, 5))),
+        ("to_nothing/file", None),
+    ];
+    assert!(rt; told_as(rt, &top, &wants)?);
     Ok(fs::remove_dir_all(&rt, top.text())?)
 }
 
@@ -72,7 +94,10 @@ fn what_the_system_refuses_is_counted(rt: HostRuntime) -> Result<(), Fail> {
     ] {
         assert_eq!(rt; reader.stat(&path), Err(Failed));
         assert!(rt; reader.list(rt.alloc(), &path).err() == Some(outside::ListError::Failed));
-        assert_eq!(rt; reader.read(&path, 0, &mut [0u8; 4]), Err(ReadError::Failed));
+        assert_eq!(rt;
+            reader.read(&path, 0, &mut [0u8; 4]),
+            Err(ReadError::Failed)
+        );
         faults = faults.saturating_add(3);
         assert_eq!(rt; reader.faults(), faults);
     }
@@ -96,7 +121,10 @@ fn times_since_1970(rt: HostRuntime) -> Result<(), Fail> {
         let stat = reader.stat(&file)?;
         assert!(rt; stat.and_then(|s| s.mtime) == Some(seconds), "{seconds}");
         let stat = reader.stat(&link)?;
-        assert!(rt; stat.and_then(|s| s.mtime) > Some(1_600_000_000), "{seconds}");
+        assert!(rt;
+            stat.and_then(|s| s.mtime) > Some(1_600_000_000),
+            "{seconds}"
+        );
         assert!(rt; stat.and_then(|s| s.mtime) != Some(seconds), "{seconds}");
     }
     for (seconds, want) in [
@@ -159,7 +187,12 @@ fn what_is_no_file_is_not_read(rt: HostRuntime) -> Result<(), Fail> {
         at(rt, &top, "file/below")?,
         Path::parse(rt.alloc(), "/dev/null")?,
     ] {
-        assert_eq!(rt; reader.read(&path, 0, &mut into), Err(ReadError::NotFile), "{}", path.text());
+        assert_eq!(rt;
+            reader.read(&path, 0, &mut into),
+            Err(ReadError::NotFile),
+            "{}",
+            path.text()
+        );
     }
     assert_eq!(rt; reader.faults(), 0);
     Ok(fs::remove_dir_all(&rt, top.text())?)

@@ -115,7 +115,10 @@ fn children_at_the_longest_path(rt: HostRuntime) -> Result<(), Fail> {
     }
     let mut reader = RealGround::make(rt).reader(rt.alloc())?;
     let listing = reader.list(rt.alloc(), &folder)?;
-    assert_eq!(rt; (listing.len(), listing.unnamed(), listing.far()), (2, 0, 3));
+    assert_eq!(rt;
+        (listing.len(), listing.unnamed(), listing.far()),
+        (2, 0, 3)
+    );
     for (k, want) in ["1", "four"].iter().enumerate() {
         if k < listing.len() {
             assert_eq!(rt; listing.name(k), *want);

@@ -1,12 +1,15 @@
 //! Whole runs of the program over the real disk.
+ghost use Rattle.std.specs.Prelude.{◌≡◌, []};
+ghost use Rattle.outside.specs.Writes.{all_but};
+
 use super::folders::{at, bytes, fresh, long, put};
-use crate::run_here;
+use crate::grounds::RealGround;
+use crate::run_now;
 use mfu_top::Status;
-use outside::MemSink;
+use outside::{Ground, MemSink};
 use path_text::Path;
 use std::fs;
-use std::fs::Files;
-use std::os::unix::fs::{FileExt, symlink};
+use std::os::unix::fs::symlink;
 use std::rt::Clock;
 use std::sync::Wait;
 use std::test::Fail;
@@ -16,10 +19,15 @@ use std::time::{Duration, SystemTime};
 const AMPLE: u64 = 10_000_000;
 
 // What a run with these words answers and writes.
-fn ran<R>(rt: R, words: &[&str]) -> Result<(Status, MemSink, MemSink), Fail>
+fn ran<T, G: Ground + Send>(
+    rt: &T,
+    files: &mut G,
+    words: &[&str],
+) -> Result<(Status, MemSink, MemSink), Fail>
 where
-    R: Files + Clock + AllocGlobal + Threads + Wait + Copy + Send + Sync,
-    R::File: FileExt + Send,
+    T: AllocGlobal + Clock + Threads + Wait + Sync,
+    G::Reader: Send,
+    requires { G.area files.old ≡ all_but [] }
 {
     let alloc = rt.alloc();
     let mut given = Vec::new(alloc);
@@ -28,7 +36,7 @@ where
     }
     let mut out = MemSink::limited(alloc, AMPLE)?;
     let mut notes = MemSink::limited(alloc, AMPLE)?;
-    let status = run_here(rt, &given, &mut out, &mut notes);
+    let status = run_now(rt, &given, files, &mut out, &mut notes);
     Ok((status, out, notes))
 }
 
@@ -119,7 +127,10 @@ fn walked(rt: HostRuntime, top: &Path) -> Result<String, Fail> {
             }
         }
     }
-    let summary = format!(in rt.alloc(); "items {} dirs {} files {} links {} others 0 bytes {} failed 0\n", met.items, met.dirs, met.files, met.links, met.bytes)?;
+    let summary = format!(in rt.alloc();
+        "items {} dirs {} files {} links {} others 0 bytes {} failed 0\n",
+        met.items, met.dirs, met.files, met.links, met.bytes
+    )?;
     text.push_str(summary.as_str())?;
     Ok(text)
 }
@@ -144,7 +155,11 @@ fn planted(rt: HostRuntime) -> Result<Path, Fail> {
         let name = format!(in rt.alloc(); "many/a_name_of_more_than_thirty_bytes_{k}")?;
         put(rt, &at(rt, &top, name.as_str())?, b"x")?;
     }
-    put(rt, &at(rt, &at(rt, &top, "b")?, long(rt, 'y', 255)?.as_str())?, b"")?;
+    put(
+        rt,
+        &at(rt, &at(rt, &top, "b")?, long(rt, 'y', 255)?.as_str())?,
+        b"",
+    )?;
     symlink(&rt, "a", at(rt, &top, "to_folder")?.text())?;
     symlink(&rt, "nothing", at(rt, &top, "b/to_nothing")?.text())?;
     symlink(&rt, top.text(), at(rt, &top, "a/to_top")?.text())?;
@@ -159,7 +174,7 @@ fn a_run_lists_what_another_walk_finds(rt: HostRuntime) -> Result<(), Fail> {
         ["dwalk", "--ranks", "1", top.text()],
         ["dwalk", "--ranks", "7", top.text()],
     ] {
-        let (status, out, notes) = ran(rt, &words)?;
+        let (status, out, notes) = ran(&rt, &mut RealGround::make(rt), &words)?;
         assert_eq!(rt; status, Status::Done);
         assert_eq!(rt; out.text(), want.as_bytes());
         assert_eq!(rt; notes.text(), b"".as_slice());
@@ -171,14 +186,15 @@ fn a_run_lists_what_another_walk_finds(rt: HostRuntime) -> Result<(), Fail> {
 fn a_list_is_saved_and_read(rt: HostRuntime) -> Result<(), Fail> {
     let (top, place) = (planted(rt)?, fresh(rt)?);
     let list = at(rt, &place, "list")?;
-    for words in [
-        ["dwalk", "--output", list.text(), top.text()].as_slice(),
-        ["dwalk", "--input", list.text()].as_slice(),
-    ] {
-        let (status, out, _) = ran(rt, words)?;
-        assert_eq!(rt; status, Status::Done);
-        assert_eq!(rt; out.text(), walked(rt, &top)?.as_bytes());
-    }
+    let want = walked(rt, &top)?;
+    let words = ["dwalk", "--output", list.text(), top.text()];
+    let (status, out, _) = ran(&rt, &mut RealGround::make(rt), &words)?;
+    assert_eq!(rt; status, Status::Done);
+    assert_eq!(rt; out.text(), want.as_bytes());
+    let words = ["dwalk", "--input", list.text()];
+    let (status, out, _) = ran(&rt, &mut RealGround::make(rt), &words)?;
+    assert_eq!(rt; status, Status::Done);
+    assert_eq!(rt; out.text(), want.as_bytes());
     fs::remove_dir_all(&rt, place.text())?;
     Ok(fs::remove_dir_all(&rt, top.text())?)
 }
@@ -194,8 +210,12 @@ fn a_run_goes_by_the_time_of_the_system(rt: HostRuntime) -> Result<(), Fail> {
         return Err(Fail::new("a time"));
     };
     fs::open(&rt, old.text())?.set_modified(time)?;
-    let (status, out, notes) = ran(rt, &["dfind", "--mmin", "+60", top.text()])?;
-    let want = format!(in rt.alloc(); "f            4 {}\nitems 1 dirs 0 files 1 links 0 others 0 bytes 4 failed 0\n", old.text())?;
+    let words = ["dfind", "--mmin", "+60", top.text()];
+    let (status, out, notes) = ran(&rt, &mut RealGround::make(rt), &words)?;
+    let want = format!(in rt.alloc();
+        "f            4 {}\nitems 1 dirs 0 files 1 links 0 others 0 bytes 4 failed 0\n",
+        old.text()
+    )?;
     assert_eq!(rt; status, Status::Done);
     assert_eq!(rt; out.text(), want.as_bytes());
     assert_eq!(rt; notes.text(), b"".as_slice());

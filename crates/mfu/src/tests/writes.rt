@@ -1,5 +1,6 @@
 //! Files and directories that are made, written and removed.
 use super::folders::{at, fresh, long, put};
+use super::plots::{make_dir, make_file, remove_dir, remove_file, write_at};
 use crate::grounds::RealGround;
 use outside::{Ground, Kind, Plot, Tree, WriteError, load, save};
 use path_text::Path;
@@ -25,8 +26,11 @@ fn what_is_made_is_there(rt: HostRuntime) -> Result<(), Fail> {
     let top = nodes(rt)?;
     let alloc = rt.alloc();
     let mut ground = RealGround::make(rt);
-    assert_eq!(rt; ground.make_dir(alloc, &at(rt, &top, "new")?), Ok(()));
-    assert_eq!(rt; ground.make_file(alloc, &at(rt, &top, "new/file")?), Ok(()));
+    assert_eq!(rt; make_dir(&mut ground, alloc, &at(rt, &top, "new")?), Ok(()));
+    assert_eq!(rt;
+        make_file(&mut ground, alloc, &at(rt, &top, "new/file")?),
+        Ok(())
+    );
     let mut reader = ground.reader(alloc)?;
     for (name, kind) in [("new", Kind::Dir), ("new/file", Kind::File)] {
         let stat = reader.stat(&at(rt, &top, name)?)?;
@@ -34,13 +38,29 @@ fn what_is_made_is_there(rt: HostRuntime) -> Result<(), Fail> {
     }
     for name in ["file", "link", "dangling", "folder", "new"] {
         let path = at(rt, &top, name)?;
-        assert_eq!(rt; ground.make_dir(alloc, &path), Err(WriteError::Exists), "{name}");
-        assert_eq!(rt; ground.make_file(alloc, &path), Err(WriteError::Exists), "{name}");
+        assert_eq!(rt;
+            make_dir(&mut ground, alloc, &path),
+            Err(WriteError::Exists),
+            "{name}"
+        );
+        assert_eq!(rt;
+            make_file(&mut ground, alloc, &path),
+            Err(WriteError::Exists),
+            "{name}"
+        );
     }
     for name in ["nothing/x", "file/x", "dangling/x"] {
         let path = at(rt, &top, name)?;
-        assert_eq!(rt; ground.make_dir(alloc, &path), Err(WriteError::NoParent), "{name}");
-        assert_eq!(rt; ground.make_file(alloc, &path), Err(WriteError::NoParent), "{name}");
+        assert_eq!(rt;
+            make_dir(&mut ground, alloc, &path),
+            Err(WriteError::NoParent),
+            "{name}"
+        );
+        assert_eq!(rt;
+            make_file(&mut ground, alloc, &path),
+            Err(WriteError::NoParent),
+            "{name}"
+        );
     }
     let kept = fs::read(&rt, at(rt, &top, "file")?.text())?;
     assert_eq!(rt; kept.as_slice(), b"text".as_slice());
@@ -54,8 +74,8 @@ fn bytes_are_written_in_pieces(rt: HostRuntime) -> Result<(), Fail> {
     let alloc = rt.alloc();
     let mut ground = RealGround::make(rt);
     let (one, two) = (at(rt, &top, "one")?, at(rt, &top, "two")?);
-    ground.make_file(alloc, &one)?;
-    ground.make_file(alloc, &two)?;
+    make_file(&mut ground, alloc, &one)?;
+    make_file(&mut ground, alloc, &two)?;
     for (path, at, bytes) in [
         (&one, 0, b"abcdef".as_slice()),
         (&two, 0, b"two".as_slice()),
@@ -63,12 +83,28 @@ fn bytes_are_written_in_pieces(rt: HostRuntime) -> Result<(), Fail> {
         (&one, 2, b"XY".as_slice()),
         (&two, 5, b"gap".as_slice()),
     ] {
-        assert_eq!(rt; ground.write_at(alloc, path, at, bytes), Ok(()));
+        assert_eq!(rt; write_at(&mut ground, alloc, path, at, bytes), Ok(()));
     }
-    assert_eq!(rt; fs::read(&rt, one.text())?.as_slice(), b"abXYefghi".as_slice());
-    assert_eq!(rt; fs::read(&rt, two.text())?.as_slice(), b"two\0\0gap".as_slice());
-    assert_eq!(rt; ground.write_at(alloc, &at(rt, &top, "file")?, 1, b"E"), Ok(()));
-    let kept = fs::read(&rt, at(rt, &top, "file")?.text())?;
+    assert_eq!(rt;
+        fs::read(&rt, one.text())?.as_slice(),
+        b"abXYefghi".as_slice()
+    );
+    assert_eq!(rt;
+        fs::read(&rt, two.text())?.as_slice(),
+        b"two\0\0gap".as_slice()
+    );
+    assert_eq!(rt; ground.faults(), 0);
+    Ok(fs::remove_dir_all(&rt, top.text())?)
+}
+
+#[test]
+fn what_is_no_file_is_not_written(rt: HostRuntime) -> Result<(), Fail> {
+    let top = nodes(rt)?;
+    let alloc = rt.alloc();
+    let mut ground = RealGround::make(rt);
+    let file = at(rt, &top, "file")?;
+    assert_eq!(rt; write_at(&mut ground, alloc, &file, 1, b"E"), Ok(()));
+    let kept = fs::read(&rt, file.text())?;
     assert_eq!(rt; kept.as_slice(), b"tExt".as_slice());
     for (name, want) in [
         ("folder", WriteError::WrongKind),
@@ -78,17 +114,20 @@ fn bytes_are_written_in_pieces(rt: HostRuntime) -> Result<(), Fail> {
         ("nothing/x", WriteError::Absent),
         ("file/x", WriteError::Absent),
     ] {
-        let told = ground.write_at(alloc, &at(rt, &top, name)?, 0, b"x");
+        let told = write_at(&mut ground, alloc, &at(rt, &top, name)?, 0, b"x");
         assert_eq!(rt; told, Err(want), "{name}");
     }
     let null = Path::parse(alloc, "/dev/null")?;
-    assert_eq!(rt; ground.write_at(alloc, &null, 0, b"x"), Err(WriteError::WrongKind));
+    assert_eq!(rt;
+        write_at(&mut ground, alloc, &null, 0, b"x"),
+        Err(WriteError::WrongKind)
+    );
     assert_eq!(rt; ground.faults(), 0);
     Ok(fs::remove_dir_all(&rt, top.text())?)
 }
 
 #[test]
-fn what_is_removed_is_gone(rt: HostRuntime) -> Result<(), Fail> {
+fn a_removed_file_is_gone(rt: HostRuntime) -> Result<(), Fail> {
     let top = nodes(rt)?;
     let alloc = rt.alloc();
     let mut ground = RealGround::make(rt);
@@ -104,14 +143,22 @@ fn what_is_removed_is_gone(rt: HostRuntime) -> Result<(), Fail> {
         ("file", Ok(())),
         ("file", Err(WriteError::Absent)),
     ] {
-        let told = ground.remove_file(alloc, &at(rt, &top, name)?);
+        let told = remove_file(&mut ground, alloc, &at(rt, &top, name)?);
         assert_eq!(rt; told, want, "{name}");
         if name == "link" {
             let kept = fs::read(&rt, at(rt, &top, "file")?.text())?;
             assert_eq!(rt; kept.as_slice(), b"text".as_slice());
         }
     }
-    put(rt, &at(rt, &top, "file")?, b"")?;
+    assert_eq!(rt; ground.faults(), 0);
+    Ok(fs::remove_dir_all(&rt, top.text())?)
+}
+
+#[test]
+fn a_removed_directory_is_gone(rt: HostRuntime) -> Result<(), Fail> {
+    let top = nodes(rt)?;
+    let alloc = rt.alloc();
+    let mut ground = RealGround::make(rt);
     for (name, want) in [
         ("folder", Err(WriteError::NotEmpty)),
         ("file", Err(WriteError::WrongKind)),
@@ -123,7 +170,7 @@ fn what_is_removed_is_gone(rt: HostRuntime) -> Result<(), Fail> {
         ("empty", Ok(())),
         ("empty", Err(WriteError::Absent)),
     ] {
-        let told = ground.remove_dir(alloc, &at(rt, &top, name)?);
+        let told = remove_dir(&mut ground, alloc, &at(rt, &top, name)?);
         assert_eq!(rt; told, want, "{name}");
     }
     assert_eq!(rt; ground.faults(), 0);
@@ -136,12 +183,15 @@ fn a_removed_file_is_let_go(rt: HostRuntime) -> Result<(), Fail> {
     let alloc = rt.alloc();
     let mut ground = RealGround::make(rt);
     let file = at(rt, &top, "file")?;
-    ground.make_file(alloc, &file)?;
-    ground.write_at(alloc, &file, 0, b"old")?;
-    ground.remove_file(alloc, &file)?;
-    assert_eq!(rt; ground.write_at(alloc, &file, 0, b"x"), Err(WriteError::Absent));
-    ground.make_file(alloc, &file)?;
-    ground.write_at(alloc, &file, 0, b"new")?;
+    make_file(&mut ground, alloc, &file)?;
+    write_at(&mut ground, alloc, &file, 0, b"old")?;
+    remove_file(&mut ground, alloc, &file)?;
+    assert_eq!(rt;
+        write_at(&mut ground, alloc, &file, 0, b"x"),
+        Err(WriteError::Absent)
+    );
+    make_file(&mut ground, alloc, &file)?;
+    write_at(&mut ground, alloc, &file, 0, b"new")?;
     assert_eq!(rt; fs::read(&rt, file.text())?.as_slice(), b"new".as_slice());
     Ok(fs::remove_dir_all(&rt, top.text())?)
 }
@@ -153,11 +203,26 @@ fn what_the_system_does_not_write_is_counted(rt: HostRuntime) -> Result<(), Fail
     let alloc = rt.alloc();
     let mut ground = RealGround::make(rt);
     let path = at(rt, &top, long(rt, 'n', 256)?.as_str())?;
-    assert_eq!(rt; ground.make_dir(alloc, &path), Err(WriteError::Failed));
-    assert_eq!(rt; ground.make_file(alloc, &path), Err(WriteError::Failed));
-    assert_eq!(rt; ground.write_at(alloc, &path, 0, b"x"), Err(WriteError::Failed));
-    assert_eq!(rt; ground.remove_file(alloc, &path), Err(WriteError::Failed));
-    assert_eq!(rt; ground.remove_dir(alloc, &path), Err(WriteError::Failed));
+    assert_eq!(rt;
+        make_dir(&mut ground, alloc, &path),
+        Err(WriteError::Failed)
+    );
+    assert_eq!(rt;
+        make_file(&mut ground, alloc, &path),
+        Err(WriteError::Failed)
+    );
+    assert_eq!(rt;
+        write_at(&mut ground, alloc, &path, 0, b"x"),
+        Err(WriteError::Failed)
+    );
+    assert_eq!(rt;
+        remove_file(&mut ground, alloc, &path),
+        Err(WriteError::Failed)
+    );
+    assert_eq!(rt;
+        remove_dir(&mut ground, alloc, &path),
+        Err(WriteError::Failed)
+    );
     assert_eq!(rt; ground.faults(), 5);
     let mut reader = ground.reader(alloc)?;
     assert!(rt; reader.stat(&path).is_err());
