@@ -1,5 +1,5 @@
 //! The files of the system, looked at.
-ghost use Rattle.std.specs.Prelude.{◌≡◌, ◌≢◌, ◌≤◌, length, IfOk, IfSome, IsErrOf, None};
+ghost use Rattle.std.specs.Prelude.{◌≡◌, ◌≢◌, ◌≤◌, ℕ, pos, negsuc, length, IfOk, IfSome, IsErrOf, Some, None};
 ghost use Rattle.outside.specs.Count.{RoseBy};
 ghost use Rattle.outside.specs.Tree.{AreNames};
 
@@ -139,8 +139,16 @@ fn stat_of(data: &Metadata) -> Stat
 {
     let kind = kind_of(data);
     let size = if kind == Kind::File { data.len() } else { 0 };
-    let mtime = u64::try_from(data.mtime()).ok();
+    let mtime = time_of(data.mtime());
     Stat { kind, size, mtime }
+}
+
+/// The seconds since 1970 as a stat tells them. A time before is none.
+pub fn time_of(seconds: i64) -> Option<u64>
+    ensures known { (n : ℕ) → seconds ≡ pos n → result ≡ Some n }
+    ensures before { (n : ℕ) → seconds ≡ negsuc n → result ≡ None }
+{
+    u64::try_from(seconds).ok()
 }
 
 fn kind_of(data: &Metadata) -> Kind {
@@ -182,30 +190,4 @@ fn listing_of<R: Files>(
         }
     }
     Err(ListError::Failed)
-}
-
-#[cfg(test)]
-mod tests {
-    use super::*;
-    use crate::grounds::RealGround;
-    use outside::Ground;
-    use std::test::Fail;
-
-    #[test]
-    fn looks_at_the_real_disk(rt: HostRuntime) -> Result<(), Fail> {
-        let mut reader = RealGround::make(rt).reader(rt.alloc())?;
-        let kinds = [
-            ("/", Some(Kind::Dir)),
-            ("/dev/null", Some(Kind::Other)),
-            ("/dev/null/x", None),
-            ("/absent or not", None),
-        ];
-        for (path, want) in kinds {
-            let stat = reader.stat(&Path::parse(rt.alloc(), path)?)?;
-            assert_eq!(rt; stat.map(|s| s.kind), want, "at {path}");
-        }
-        let listing = reader.list(rt.alloc(), &Path::parse(rt.alloc(), "/")?)?;
-        assert!(rt; listing.len() > 0);
-        Ok(())
-    }
 }

@@ -16,6 +16,9 @@
 //! whatever the system wrote. No contract says what the disk or a stream holds, so they tell no tree and no text.
 #![tactic(auto)]
 
+ghost use Rattle.std.specs.Prelude.{◌≡◌, []};
+ghost use Rattle.outside.specs.Writes.{all_but};
+
 mod answers;
 mod disk;
 mod given;
@@ -27,8 +30,12 @@ mod streams;
 
 use crate::grounds::RealGround;
 use crate::streams::RealSink;
-use mfu_top::run;
+use mfu_top::{Status, run};
+use outside::{Ground, Sink};
 use std::process::ExitCode;
+use std::rt::Clock;
+use std::sync::Wait;
+use std::thread::Threads;
 
 fn main(rt: HostRuntime) -> ExitCode {
     let words = match given::words(&rt) {
@@ -41,15 +48,25 @@ fn main(rt: HostRuntime) -> ExitCode {
     let mut files = RealGround::make(rt);
     let mut out = RealSink::make(rt.stdout());
     let mut notes = RealSink::make(rt.stderr());
-    let now = given::seconds(&rt);
-    let status = run(
-        &rt,
-        rt.alloc(),
-        &words,
-        &mut files,
-        &mut out,
-        &mut notes,
-        now,
-    );
-    ExitCode::from(status.number())
+    ExitCode::from(run_now(&rt, &words, &mut files, &mut out, &mut notes).number())
 }
+
+// Runs the words over the files, at the time of the system.
+fn run_now<T, G: Ground + Send, O: Sink, E: Sink>(
+    rt: &T,
+    words: &[String],
+    files: &mut G,
+    out: &mut O,
+    notes: &mut E,
+) -> Status
+where
+    T: AllocGlobal + Clock + Threads + Wait + Sync,
+    G::Reader: Send,
+    requires { G.area files.old ≡ all_but [] }
+{
+    let now = given::seconds(rt);
+    run(rt, rt.alloc(), words, files, out, notes, now)
+}
+
+#[cfg(test)]
+mod tests;
