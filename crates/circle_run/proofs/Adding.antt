@@ -1,13 +1,13 @@
 -- That a count rises changes no word of the sums, so that a word adds up over what was told before as well.
-use Rattle.std.proofs.Common.{◌≡◌, ℕ, ◌+◌, ◌-◌, ◌*◌, ◌<◌, min, refl, sym, subst, ap, ◌∙◌, arith, length, length-set, get_or-set_same, get_or-set_other, Option, Some, None}
+use Rattle.std.proofs.Common.{◌≡◌, ℕ, ◌<◌, sym, subst, ap, ◌∙◌, arith, length, length-set, get_or-set_same, get_or-set_other, Option, Some, None}
 use Rattle.std.specs.Prelude.{IfSome}
 use Rattle.std.specs.Option.{option_map}
-use Rattle.std.specs.List.{range_with_len, sum_by}
+use Rattle.std.specs.List.{sum_by}
 use mathlib.Core.Logic.{dite}
 use native.Mathlib.Decide.{ℕ_discrete}
 use Rattle.sum_tree.specs.Tree.{children}
 use Rattle.sum_tree.specs.Told.{SumTold, uncounted, rank_of, count_of, word_of, children_in, words_below, told_raised, raised_by}
-use Rattle.sum_tree.specs.Shown.{SumShown, Agrees, raised, refreshed}
+use Rattle.sum_tree.specs.Shown.{SumShown, Agrees}
 use Rattle.sum_tree.specs.declared.ranks.RankSum.{RankSum}
 use Rattle.circle_run.specs.Turns.{AddsUp}
 use Rattle.circle_run.proofs.Maps.{sum_same}
@@ -17,7 +17,7 @@ words_stay : (t : SumTold) (r k q : ℕ) → r < length t.ranks → word_of (tol
 words_stay t r k q inside =
     let x : RankSum = record (rank_of t r) { count = raised_by k (count_of t r) } in
     dite (ℕ_discrete q r)
-    (λ e. ap (λ (i : ℕ). word_of (told_raised r k t) i) e ∙ ap (λ (y : RankSum). y.word) (get_or-set_same t.ranks r x uncounted inside) ∙ ap (word_of t) (sym e))
+    (λ e. ap (word_of (told_raised r k t)) e ∙ ap (λ (y : RankSum). y.word) (get_or-set_same t.ranks r x uncounted inside) ∙ ap (word_of t) (sym e))
     (λ ne. ap (λ (y : RankSum). y.word) (get_or-set_other t.ranks r q x uncounted ne))
 
 below_stays : (t : SumTold) (r k q : ℕ) → r < length t.ranks → words_below (told_raised r k t) q ≡ words_below t q

@@ -1,17 +1,16 @@
 -- The ranks of a run as they begin: they are ready, and their stage is that of the deal.
-use Rattle.std.proofs.Common.{◌≡◌, ℕ, zero, suc, ◌<◌, ◌≤◌, refl, sym, subst, ap, ◌∙◌, arith, true, false, List, [], ◌∷◌, map, length, get_or, Option, Some, None}
+use Rattle.std.proofs.Common.{◌≡◌, ℕ, ◌<◌, ◌≤◌, refl, sym, subst, ap, ◌∙◌, arith, true, List, [], map, length, get_or, Option, None}
 use Rattle.std.proofs.lemmas.List.{length-map, get_or-map}
 use Rattle.std.proofs.lemmas.List.FromFn.{get_or-map-range_with_len}
 use Rattle.std.specs.List.{range_with_len}
 use Rattle.rand_pcg.specs.Lcg.{Lcg}
 use Rattle.post_board.specs.Shown.{Strings, Shown}
 use Rattle.post_board.specs.Told.{Told}
-use Rattle.post_board.specs.Fresh.{fresh, fresh_told, AllFresh}
+use Rattle.post_board.specs.Fresh.{fresh_told, AllFresh}
 use Rattle.sum_tree.specs.Shown.{SumShown}
 use Rattle.sum_tree.specs.Plain.{fresh as fresh_sums}
 use Rattle.circle_run.specs.Balance.{Log}
-use Rattle.circle_run.specs.Stages.{RankSide, Stage, dealt_to, begun}
-use Rattle.circle_run.specs.Ready.{IsNew}
+use Rattle.circle_run.specs.Stages.{RankSide, dealt_to, begun}
 use Rattle.circle_run.specs.Hosts.{IsAscending, NoneWrote, AreAll, AllReady, rank_of, stage_of}
 use Rattle.circle_run.specs.Private.Outcomes.{AreNew}
 use Rattle.circle_run.specs.declared.settings.Options.{Options}

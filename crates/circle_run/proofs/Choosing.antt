@@ -1,5 +1,5 @@
 -- The moves of a turn are a service and then the first that applies.
-use Rattle.std.proofs.Common.{◌≡◌, ◌≢◌, ℕ, zero, suc, ◌+◌, ◌-◌, ◌<◌, ◌⊎◌, refl, sym, subst, inl, inr, ap, ◌∙◌, arith, eq-eqb, Bool, true, false, List, [], ◌∷◌, ◌++◌, length, Option, Some, None}
+use Rattle.std.proofs.Common.{◌≡◌, ◌≢◌, ℕ, zero, suc, ◌-◌, ◌<◌, refl, sym, subst, inl, inr, ap, ◌∙◌, arith, eq-eqb, Bool, true, false, List, [], ◌∷◌, ◌++◌, length, Option, Some, None}
 use Rattle.std.specs.Prelude.{if◌then◌else◌}
 use Rattle.std.specs.List.{flat_map}
 use Rattle.ring_core.specs.World.{darker, is_over}
@@ -10,17 +10,17 @@ use Rattle.ring_core.specs.declared.states.Token.{Token}
 use Rattle.ring_core.specs.declared.states.Token.TheVariants.{At, Over}
 use Rattle.post_board.specs.Shown.{Strings, Shown}
 use Rattle.post_board.specs.Told.{Told}
-use Rattle.post_board.specs.Deeds.{Deed, pass, restart, conclude, see_over, Legal}
+use Rattle.post_board.specs.Deeds.{Deed, pass, restart, conclude}
 use Rattle.post_board.specs.Calls.{RingTold}
 use Rattle.post_board.specs.declared.answers.Ring.{Ring}
 use Rattle.post_board.specs.declared.answers.Ring.TheVariants.{Elsewhere, Here, Over as HeardOver}
 use Rattle.circle_run.specs.Balance.{Log}
-use Rattle.circle_run.specs.Moves.{Move, handled, served, did, Side, Serves}
+use Rattle.circle_run.specs.Moves.{Move, handled, served, did, Side}
 use Rattle.circle_run.specs.Ranks.{DoesAll, side}
 use Rattle.circle_run.specs.Private.Steps.{Came}
 use Rattle.circle_run.specs.Turns.{Worked}
 use Rattle.circle_run.specs.Private.Steps.{Heard, Served, Acts, with_service}
-use Rattle.circle_run.specs.Choices.{Standing, Choice, to_handle, to_look, to_move, to_ask, token_or_ask, look_or_on, choice, moved_on, Chosen, ring_of, IsRing, held_after, heard_after, standing, Chooses}
+use Rattle.circle_run.specs.Choices.{Standing, Choice, to_handle, to_move, choice, moved_on, Chosen, ring_of, IsRing, held_after, heard_after, standing, Chooses}
 use Rattle.circle_run.specs.Private.Steps.{Follows, Works}
 use Rattle.circle_run.specs.declared.steps.Did.{Did}
 use Rattle.circle_run.specs.declared.steps.Did.TheVariants.{Handled, Acted, Waited}
@@ -54,7 +54,8 @@ moved_black me colour first black = ap (λ (k : ℕ). moved_on k colour) first �
 pub moved_white : (me : ℕ) (colour : Colour) → me ≡ 0 → colour ≡ White → moved_on me colour ≡ conclude
 moved_white me colour first white = ap (λ (k : ℕ). moved_on k colour) first ∙ ap (moved_on 0) white
 
-pub follows_moved : (me : ℕ) (own held colour : Colour) (deed : Deed) → colour ≡ darker own held → moved_on me colour ≡ deed → Follows Acted me (to_move held) (did deed ∷ [])
+pub follows_moved : (me : ℕ) (own held colour : Colour) (deed : Deed) → colour ≡ darker own held → moved_on me colour ≡ deed
+    → Follows Acted me (to_move held) (did deed ∷ [])
 follows_moved me own held colour deed mixed is = record {
   acts = (deed, refl);
   chosen = (own, ap (λ (d : Deed). did d ∷ []) (sym is ∙ ap (moved_on me) mixed));
@@ -73,7 +74,8 @@ follows_handled n me x path kids some = record {
 }
 
 choice_as : (n n' : ℕ) (queue : Strings) (asked asked' : Option ℕ) (tried tried' : Bool) (ring : Ring) → n ≡ n' → asked ≡ asked' → tried ≡ tried'
-    → choice n (record { queue = queue; asked = asked; tried = tried; ring = ring }) ≡ choice n' (record { queue = queue; asked = asked'; tried = tried'; ring = ring })
+    → choice n (record { queue = queue; asked = asked; tried = tried; ring = ring })
+    ≡ choice n' (record { queue = queue; asked = asked'; tried = tried'; ring = ring })
 choice_as n n' queue asked asked' tried tried' ring ranks who refused = cc
 
 -- a service, with what waits before and after it
@@ -98,7 +100,8 @@ heard_nothing HeardOver moves more h = absurd (more refl)
 heard_nothing Elsewhere moves more h = h
 heard_nothing (Here colour) moves more h = h
 
-worked_then : (some : Bool) (done : Did) (answers : List (ℕ × Strings)) (b moves : List Move) → (some ≡ false → answers ≡ []) → (some ≡ true → 0 < length answers)
+worked_then : (some : Bool) (done : Did) (answers : List (ℕ × Strings)) (b moves : List Move)
+    → (some ≡ false → answers ≡ []) → (some ≡ true → 0 < length answers)
     → Acts done b → moves ≡ served answers ∷ b → Worked (with_service some done) moves
 worked_then some Handled answers b moves none any d is = (answers, d.0, d.1, is ∙ ap (λ (m : List Move). served answers ∷ m) d.2)
 worked_then some Acted answers b moves none any d is = inr (inl (answers, d.0, is ∙ ap (λ (m : List Move). served answers ∷ m) d.1))
@@ -119,24 +122,45 @@ together some done before after me c a b s f =
       chosen = f.chosen;
     }
 
+-- a rank and its board as a turn begins, once the ring was read, after the service, and at the end of what was done
+pub record Way (J S T P : Type 0) : Type 0 where
+  pub r : Rank J S T
+  pub p : P
+  pub r1 : Rank J S T
+  pub p1 : P
+  pub r2 : Rank J S T
+  pub p2 : P
+  -- what is queued after the service, where memory was found
+  pub queue : Strings
+  pub r3 : Rank J S T
+  pub p3 : P
+
+module _ {J S T P : Type 0} where
+  -- the rank as it goes on
+  abbrev pub going : Way J S T P → Rank J S T
+  going w = record w.r2 { queue = w.queue }
+
+  abbrev pub choice_of : Ring → Way J S T P → Choice
+  choice_of ring w = choice w.r2.options.ranks (standing ring (going w))
+
 module _ {J S T P : Type 0} (heard : J → Option (List ℕ)) (shows : S → Shown) (tells : P → Option Told) where
   -- what was read, and what the steps behind it leave as it was
-  pub record Between (ring : Ring) (r : Rank J S T) (p : P) (r1 r2 : Rank J S T) (queue : Strings) (r3 : Rank J S T) : Type 0 where
+  pub record Between (ring : Ring) (w : Way J S T P) : Type 0 where
     pub more : ring ≢ HeardOver
-    pub read : IsRing r.me (tells p) ring
-    pub queue_is : r1.queue ≡ r.queue
-    pub asked : r2.asked ≡ r.asked
-    pub tried : r2.tried ≡ r.tried
-    pub lost : r2.book.lost ≡ true → queue ≡ []
-    pub kept : r2.book.lost ≡ false → queue ≡ r2.queue
-    pub job : r2.job ≡ r.job
-    pub held : (shows r3.seat).here ≡ held_after (choice r2.options.ranks (standing ring (record r2 { queue = queue }))) ring
-    pub heard_is : r3.book.lost ≡ false
-        → heard r3.job ≡ heard_after (choice r2.options.ranks (standing ring (record r2 { queue = queue }))) (length queue - 1) (heard r2.job)
+    pub read : IsRing w.r.me (tells w.p) ring
+    pub queue_is : w.r1.queue ≡ w.r.queue
+    pub asked : w.r2.asked ≡ w.r.asked
+    pub tried : w.r2.tried ≡ w.r.tried
+    pub lost : w.r2.book.lost ≡ true → w.queue ≡ []
+    pub kept : w.r2.book.lost ≡ false → w.queue ≡ w.r2.queue
+    pub job : w.r2.job ≡ w.r.job
+    pub held : (shows w.r3.seat).here ≡ held_after (choice_of ring w) ring
+    pub heard_is : w.r3.book.lost ≡ false → heard w.r3.job ≡ heard_after (choice_of ring w) (length w.queue - 1) (heard w.r2.job)
 
 module _ {J S T P Q : Type 0} (log : J → Log) (plain : J → Q) (shows : S → Shown) (tells : P → Option Told) (seats : P → S → Type 0) where
   -- the service that followed the reading of the ring
-  came_first : (ring : Ring) (some : Bool) (r : Rank J S T) (p : P) (r1 : Rank J S T) (p1 : P) (r2 : Rank J S T) (p2 : P) → ring ≢ HeardOver → r1.queue ≡ r.queue
+  came_first : (ring : Ring) (some : Bool) (r : Rank J S T) (p : P) (r1 : Rank J S T) (p1 : P) (r2 : Rank J S T) (p2 : P)
+      → ring ≢ HeardOver → r1.queue ≡ r.queue
       → Came log plain shows tells seats (Heard ring) r p r1 p1 → Came log plain shows tells seats (Served some) r1 p1 r2 p2
       → Came log plain shows tells seats (ServedFrom some r.queue r2.queue) r p r2 p2
   came_first ring some r p r1 p1 r2 p2 more same a b =
@@ -156,23 +180,26 @@ module _ {J S T P Q : Type 0} (log : J → Log) (plain : J → Q) (shows : S →
         oldest = sym same ∙ one.1.oldest ∙ ap (λ (z : Side). flat_map (λ a. a.1) s.0 ++ z.queue) (sym one.2);
       }) b)
 
-module _ {J S T P Q : Type 0} (log : J → Log) (heard : J → Option (List ℕ)) (plain : J → Q) (shows : S → Shown) (tells : P → Option Told) (seats : P → S → Type 0) where
+module _ {J S T P Q : Type 0} (log : J → Log) (heard : J → Option (List ℕ)) (plain : J → Q)
+    (shows : S → Shown) (tells : P → Option Told) (seats : P → S → Type 0) where
   -- the ring, the service and what was done after it
-  pub came_worked : (ring : Ring) (some : Bool) (done : Did) (r : Rank J S T) (p : P) (r1 : Rank J S T) (p1 : P) (r2 : Rank J S T) (p2 : P) (queue : Strings) (r3 : Rank J S T) (p3 : P)
-      → Between heard shows tells ring r p r1 r2 queue r3 → Came log plain shows tells seats (Heard ring) r p r1 p1 → Came log plain shows tells seats (Served some) r1 p1 r2 p2
-      → Came log plain shows tells seats (Follows done r2.me (choice r2.options.ranks (standing ring (record r2 { queue = queue })))) (record r2 { queue = queue }) p2 r3 p3
-      → Came log plain shows tells seats (Works heard shows tells (with_service some done) r p r3) r p r3 p3
-  came_worked ring some done r p r1 p1 r2 p2 queue r3 p3 between a b d =
-      let c : Choice = choice r2.options.ranks (standing ring (record r2 { queue = queue })) in
-      let K : List Move → Type 0 = Together some done r.queue r2.queue r2.me c in
-      let service = came_first log plain shows tells seats ring some r p r1 p1 r2 p2 between.more between.queue_is a b in
-      came_as log plain shows tells seats K (Works heard shows tells (with_service some done) r p r3) r p r3 p3
+  pub came_worked : (ring : Ring) (some : Bool) (done : Did) (w : Way J S T P) → Between heard shows tells ring w
+      → Came log plain shows tells seats (Heard ring) w.r w.p w.r1 w.p1 → Came log plain shows tells seats (Served some) w.r1 w.p1 w.r2 w.p2
+      → Came log plain shows tells seats (Follows done w.r2.me (choice_of ring w)) (going w) w.p2 w.r3 w.p3
+      → Came log plain shows tells seats (Works heard shows tells (with_service some done) w.r w.p w.r3) w.r w.p w.r3 w.p3
+  came_worked ring some done w between a b d =
+      let c : Choice = choice_of ring w in
+      let K : List Move → Type 0 = Together some done w.r.queue w.r2.queue w.r2.me c in
+      let before : List Move → Type 0 = ServedFrom some w.r.queue w.r2.queue in
+      let service = came_first log plain shows tells seats ring some w.r w.p w.r1 w.p1 w.r2 w.p2 between.more between.queue_is a b in
+      came_as log plain shows tells seats K (Works heard shows tells (with_service some done) w.r w.p w.r3) w.r w.p w.r3 w.p3
       (λ moves found k does.
-      let had : r2.book.lost ≡ false = not_true r2.book.lost (λ l. true_not_false r3.book.lost (d.lost l) found) in
-      let settled : queue ≡ r2.queue = between.kept had in
-      let ranks : r2.options.ranks ≡ r.options.ranks = ap (λ (o : Options). o.ranks) service.options in
-      let same : c ≡ choice r.options.ranks (record (standing ring r) { queue = queue }) =
-      choice_as r2.options.ranks r.options.ranks queue r2.asked r.asked r2.tried r.tried ring ranks between.asked between.tried in
+      let had : w.r2.book.lost ≡ false = not_true w.r2.book.lost (λ l. true_not_false w.r3.book.lost (d.lost l) found) in
+      let settled : w.queue ≡ w.r2.queue = between.kept had in
+      let ranks : w.r2.options.ranks ≡ w.r.options.ranks = ap (λ (o : Options). o.ranks) service.options in
+      let same : c ≡ choice w.r.options.ranks (record (standing ring w.r) { queue = w.queue }) =
+      choice_as w.r2.options.ranks w.r.options.ranks w.queue w.r2.asked w.r.asked w.r2.tried w.r.tried ring ranks between.asked between.tried in
+      let others : ℕ = length w.queue - 1 in
       record {
         worked = k.worked;
         chosen = record {
@@ -183,17 +210,18 @@ module _ {J S T P Q : Type 0} (log : J → Log) (heard : J → Option (List ℕ)
             answers = k.answers;
             next = k.next;
             are = k.are;
-            left = queue;
+            left = w.queue;
             oldest = k.oldest ∙ ap (λ (q : Strings). flat_map (λ a. a.1) k.answers ++ q) (sym settled);
-            chosen = subst (λ (x : Choice). Chosen r.me x k.next) same (subst (λ (i : ℕ). Chosen i c k.next) service.me k.chosen);
+            chosen = subst (λ (x : Choice). Chosen w.r.me x k.next) same (subst (λ (i : ℕ). Chosen i c k.next) service.me k.chosen);
             held_is = between.held ∙ ap (λ (x : Choice). held_after x ring) same;
-            heard_is = between.heard_is found ∙ ap (heard_after c (length queue - 1)) (ap heard between.job) ∙ ap (λ (x : Choice). heard_after x (length queue - 1) (heard r.job)) same;
+            heard_is = between.heard_is found ∙ ap (heard_after c others) (ap heard between.job)
+                ∙ ap (λ (x : Choice). heard_after x others (heard w.r.job)) same;
           };
         };
       })
-      (came_then log plain shows tells seats (ServedFrom some r.queue r2.queue) (Follows done r2.me c) K r p (record r2 { queue = queue }) p2 r3 p3
-      (together some done r.queue r2.queue r2.me c)
-      (came_settled log plain shows tells seats (ServedFrom some r.queue r2.queue) r p r2 p2 queue between.lost between.kept service)
+      (came_then log plain shows tells seats before (Follows done w.r2.me c) K w.r w.p (going w) w.p2 w.r3 w.p3
+      (together some done w.r.queue w.r2.queue w.r2.me c)
+      (came_settled log plain shows tells seats before w.r w.p w.r2 w.p2 w.queue between.lost between.kept service)
       d)
 
   -- the end was seen

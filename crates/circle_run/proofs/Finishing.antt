@@ -1,6 +1,6 @@
 -- What a whole run leaves.
-use Rattle.std.proofs.Common.{◌≡◌, ◌≢◌, ℕ, zero, suc, ◌+◌, ◌-◌, ◌^◌, ◌<◌, ◌≤◌, ◌⊎◌, inl, inr, rules, min, refl, sym, subst, ap, ◌∙◌, arith, Bool, true, false, cond, List, [], ◌∷◌, ◌++◌, map, length, get_or, Option, Some, None, Vec}
-use Rattle.std.specs.Prelude.{sum, All, IsSome}
+use Rattle.std.proofs.Common.{◌≡◌, ◌≢◌, ℕ, suc, ◌-◌, ◌^◌, ◌<◌, ◌≤◌, ◌⊎◌, inl, rules, min, refl, sym, subst, ap, ◌∙◌, arith, Bool, true, false, cond, List, [], ◌∷◌, map, length, get_or, Option, Some, None, Vec}
+use Rattle.std.specs.Prelude.{IsSome}
 use Rattle.std.proofs.lemmas.List.{length-map, get_or-map, get_or_default}
 use Rattle.std.proofs.lemmas.Simd.{map-map}
 use Rattle.std.proofs.lemmas.List.Elements.{All-get_or}
@@ -21,13 +21,13 @@ use Rattle.circle_run.specs.Left.{all_left}
 use Rattle.circle_run.specs.Moves.{Move}
 use Rattle.circle_run.specs.Stages.{RankSide, Stage, no_side, Plays, events_of_all, begun}
 use Rattle.circle_run.specs.Waiting.{NothingWaits, NothingWaitsAtEnd, all_logged, all_mailed}
-use Rattle.circle_run.specs.Shares.{handled_in, moves_of, handled_by, given_by, taken_by}
-use Rattle.circle_run.specs.Fair.{PlaysTurns, moves_of_turns, RoundsAreFair, IsFair, AnswersFirst}
+use Rattle.circle_run.specs.Shares.{handled_by, given_by, taken_by}
+use Rattle.circle_run.specs.Fair.{PlaysTurns, moves_of_turns, RoundsAreFair, IsFair}
 use Rattle.circle_run.specs.Books.{counted}
-use Rattle.circle_run.specs.Progress.{Rises, Thousands, newest, KeptOf, KeptAll}
+use Rattle.circle_run.specs.Progress.{KeptOf, KeptAll}
 use Rattle.circle_run.specs.Hosts.{events_by, NoneWrote, AreAll, Same, AllEnded, rank_of, stage_of, Ran, KeptInOrder}
-use Rattle.circle_run.specs.Traced.{IsTraced, WasRun, share_in, IsProgress}
-use Rattle.circle_run.specs.Private.Outcomes.{AreNew, ArePartsOf, IsOutcome}
+use Rattle.circle_run.specs.Traced.{IsTraced, share_in, IsProgress}
+use Rattle.circle_run.specs.Private.Outcomes.{IsOutcome}
 use Rattle.circle_run.specs.declared.outcomes.Share.{Share}
 use Rattle.circle_run.specs.declared.outcomes.Finished.{Finished}
 use Rattle.circle_run.specs.declared.settings.Options.{Options}
@@ -61,14 +61,17 @@ some_from : (a : Option ℕ) → a ≢ None → IsSome a
 some_from None ne = absurd (ne refl)
 some_from (Some x) ne = search rules
 
-module _ {J S T P Q D : Type 0} (log : J → Log) (plain : J → D) (shows : S → Shown) (tells : P → Option Told) (seats : P → S → Type 0) (sums_shows : T → SumShown) (sums_seats : Q → T → Type 0) where
+module _ {J S T P Q D : Type 0} (log : J → Log) (plain : J → D) (shows : S → Shown) (tells : P → Option Told) (seats : P → S → Type 0)
+    (sums_shows : T → SumShown) (sums_seats : Q → T → Type 0) where
   abbrev logged : Rank J S T → Log
   logged r = log r.job
 
   -- a run of turns at its end
-  at_end : (o : Options) (starts : Strings) (ranks : List (Rank J S T)) (p : P) (q : Q) (turns : List (List Move)) (told : Told) → NothingWaitsAtEnd → RoundsAreFair → DeedsKeepSound
-      → ((b : P) (s : S) → seats b s → AgreesIfTold (tells b) (shows s)) → 1 ≤ o.ranks → AreAll o ranks → AllEnded log shows seats sums_shows sums_seats ranks p q → tells p ≡ Some told
-      → PlaysTurns o 0 turns (begun o starts) (stage_of log tells ranks told) → Ended o starts (moves_of_turns o.ranks 0 turns) (stage_of log tells ranks told)
+  at_end : (o : Options) (starts : Strings) (ranks : List (Rank J S T)) (p : P) (q : Q) (turns : List (List Move)) (told : Told)
+      → NothingWaitsAtEnd → RoundsAreFair → DeedsKeepSound
+      → ((b : P) (s : S) → seats b s → AgreesIfTold (tells b) (shows s)) → 1 ≤ o.ranks → AreAll o ranks
+      → AllEnded log shows seats sums_shows sums_seats ranks p q → tells p ≡ Some told → PlaysTurns o 0 turns (begun o starts) (stage_of log tells ranks told)
+      → Ended o starts (moves_of_turns o.ranks 0 turns) (stage_of log tells ranks told)
   at_end o starts ranks p q turns told nothing fair sound agrees some all done after played =
       let last : Stage = stage_of log tells ranks told in
       let moves : List (ℕ × Move) = moves_of_turns o.ranks 0 turns in
@@ -104,19 +107,23 @@ module _ {J S T P Q D : Type 0} (log : J → Log) (plain : J → D) (shows : S �
         each = λ k d h. (let w : k < length ranks0 = omega (arith, count, h) in
             shares k d w ∙ share_counts o k moves (begun o starts) last (get_or ranks0 k d).book.share plays (none k d w));
         told = λ k d h. (let w : k < length ranks0 = omega (arith, count, h) in shares k d w ∙ share_told k moves (get_or ranks0 k d).book.share (none k d w));
-        handled = λ k d h. ap length (sym (logs_are_handled o starts moves last plays k) ∙ ap (λ (x : RankSide). x.log) (get_or-map (rank_of log tells) ranks k d no_side h));
+        handled = λ k d h. ap length (sym (logs_are_handled o starts moves last plays k)
+            ∙ ap (λ (x : RankSide). x.log) (get_or-map (rank_of log tells) ranks k d no_side h));
       }
 
   -- what the numbers of rank 0 are, whose final sum is this
-  progressed : (o : Options) (ranks : List (Rank J S T)) (p : P) (q : Q) (total : ℕ) (numbers : List ℕ) → AreAll o ranks → 1 ≤ o.ranks → AllEnded log shows seats sums_shows sums_seats ranks p q → NoneWrote ranks
-      → ((d : Rank J S T) → (sums_shows (get_or ranks 0 d).sums_seat).answer ≡ Some total) → total ≡ sum_by (λ (r : Rank J S T). (sums_shows r.sums_seat).count) ranks
+  progressed : (o : Options) (ranks : List (Rank J S T)) (p : P) (q : Q) (total : ℕ) (numbers : List ℕ) → AreAll o ranks → 1 ≤ o.ranks
+      → AllEnded log shows seats sums_shows sums_seats ranks p q → NoneWrote ranks
+      → ((d : Rank J S T) → (sums_shows (get_or ranks 0 d).sums_seat).answer ≡ Some total)
+      → total ≡ sum_by (λ (r : Rank J S T). (sums_shows r.sums_seat).count) ranks
       → numbers ≡ flat_map (λ (r : Rank J S T). r.book.sums.items) ranks → IsProgress (map (λ (r : Rank J S T). length (logged r)) ranks) numbers
   progressed o [] p q total numbers all some done wrote answer sum_is are = absurd (omega (arith, all.count, some))
   progressed o (x ∷ ranks) p q total numbers all some done wrote answer sum_is are =
       let first = done 0 x (omega arith) in
       let sums = first.ready.sums in
       let own = sums.progress (wrote 0 x (omega arith)).0 in
-      let kept : KeptAll x.book.sums.items total (sums_shows x.sums_seat) = subst (λ (a : Option ℕ). KeptOf a x.book.sums.items (sums_shows x.sums_seat)) (answer x) (own.first (all.each 0 x (omega arith)).0) in
+      let kept : KeptAll x.book.sums.items total (sums_shows x.sums_seat) =
+      subst (λ (a : Option ℕ). KeptOf a x.book.sums.items (sums_shows x.sums_seat)) (answer x) (own.first (all.each 0 x (omega arith)).0) in
       let rest : (k : ℕ) (d : Rank J S T) → k < length ranks → (get_or ranks k d).book.sums.items ≡ [] =
       λ k d h. (let y = done (suc k) d (omega arith) in let me = (all.each (suc k) d (omega arith)).0 in
       (y.ready.sums.progress (wrote (suc k) d (omega arith)).0).rest (λ e. (let f : 0 ≡ suc k = sym e ∙ me in absurd (omega arith)))) in
@@ -132,114 +139,153 @@ module _ {J S T P Q D : Type 0} (log : J → Log) (plain : J → D) (shows : S �
         total = λ few. sum_is ∙ sum_same (λ (r : Rank J S T). (sums_shows r.sums_seat).count) f (x ∷ ranks)
             (λ k d h. (let y = done k d h in let c = y.ready.sums.counted (wrote k d h).0 in
             let below : f (get_or (x ∷ ranks) k d) < 2 ^ 56 =
-            subst (λ (m : ℕ). m < 2 ^ 56) (get_or-map f (x ∷ ranks) k d 0 h) (All-get_or (λ (m : ℕ). m < 2 ^ 56) (map f (x ∷ ranks)) k 0 (let l = length-map (x ∷ ranks) f in omega (arith, l, h)) few) in
+            subst (λ (m : ℕ). m < 2 ^ 56) (get_or-map f (x ∷ ranks) k d 0 h)
+            (All-get_or (λ (m : ℕ). m < 2 ^ 56) (map f (x ∷ ranks)) k 0 (let l = length-map (x ∷ ranks) f in omega (arith, l, h)) few) in
             omega (arith, c, below))) ∙ sym (sum-map f (x ∷ ranks));
         alone = λ one. (let a = kept.alone (n ∙ sym all.count ∙ sym (length-map (x ∷ ranks) f) ∙ one) in (a.1, a.2));
       }
 
-  pub outcome : (o : Options) (starts : Strings) (jobs : List J) (ranks0 ranks : List (Rank J S T)) (p0 p : P) (q0 q : Q) (total : ℕ) (f : Finished J) → NothingWaitsAtEnd → RoundsAreFair → DeedsKeepSound
-      → ((b : P) (s : S) → seats b s → AgreesIfTold (tells b) (shows s)) → 1 ≤ o.ranks → Begins log shows tells seats sums_shows sums_seats o starts ranks0 p0 q0
-      → ((k : ℕ) (d : Rank J S T) → k < length ranks0 → (get_or ranks0 k d).book.share ≡ capped 0 0 0) → map (λ (r : Rank J S T). r.job) ranks0 ≡ jobs
-      → AllEnded log shows seats sums_shows sums_seats ranks p q → Same plain ranks0 ranks → NoneWrote ranks → Ran log tells (KeptInOrder o f.events.items) o (fresh_told o.ranks) ranks0 ranks p
-      → f.jobs.items ≡ map (λ (r : Rank J S T). r.job) ranks → map (λ (l : Vec (List ℕ) _). l.items) f.left.items ≡ map (λ (r : Rank J S T). r.queue) ranks → f.shares.items ≡ map (λ (r : Rank J S T). r.book.share) ranks
-      → f.sums.items ≡ flat_map (λ (r : Rank J S T). r.book.sums.items) ranks
-      → ((d : Rank J S T) → (sums_shows (get_or ranks 0 d).sums_seat).answer ≡ Some total) → total ≡ sum_by (λ (r : Rank J S T). (sums_shows r.sums_seat).count) ranks
-      → IsOutcome log plain o starts jobs f
-  outcome o starts jobs ranks0 ranks p0 p q0 q total f waits fair sound agrees some first none jobs_are done same wrote ran jobs' left' shares' sums' answer sum_is =
-      let all : AreAll o ranks = same_all plain o ranks0 ranks same first.all in
-      let job : Rank J S T → J = λ r. r.job in
-      let share : Rank J S T → Share = λ r. r.book.share in
-      let moves : List (ℕ × Move) = moves_of_turns o.ranks 0 ran.turns in
-      let last : Stage = stage_of log tells ranks ran.told in
-      let played : PlaysTurns o 0 ran.turns (begun o starts) last = subst (λ (s : Stage). PlaysTurns o 0 ran.turns s last) first.begun_is ran.plays in
-      let e : Ended o starts moves last = at_end o starts ranks p q ran.turns ran.told waits fair sound agrees some all done ran.after played in
-      let s : Shared o moves ranks = shared o starts moves ranks0 ranks ran.told same.count none ran.shares e.plays in
-      let logs : map log f.jobs.items ≡ map (λ (x : RankSide). x.log) last.ranks = ap (map log) jobs' ∙ map-map log job ranks ∙ sym (map-map (λ (x : RankSide). x.log) (rank_of log tells) ranks) in
+  abbrev job_of : Rank J S T → J
+  job_of r = r.job
+
+  abbrev queue_of : Rank J S T → Strings
+  queue_of r = r.queue
+
+  abbrev share_of : Rank J S T → Share
+  share_of r = r.book.share
+
+  -- what is known of a run once its ranks were taken apart
+  pub record Ending (o : Options) (starts : Strings) (jobs : List J) (ranks0 ranks : List (Rank J S T)) (p0 p : P) (q0 q : Q) (total : ℕ)
+      (f : Finished J) : Type 0 where
+    -- the laws of runs and of boards
+    pub waits : NothingWaitsAtEnd
+    pub fair : RoundsAreFair
+    pub sound : DeedsKeepSound
+    pub agrees : (b : P) (s : S) → seats b s → AgreesIfTold (tells b) (shows s)
+    -- how it began
+    pub some : 1 ≤ o.ranks
+    pub first : Begins log shows tells seats sums_shows sums_seats o starts ranks0 p0 q0
+    pub unshared : (k : ℕ) (d : Rank J S T) → k < length ranks0 → (get_or ranks0 k d).book.share ≡ capped 0 0 0
+    pub given_jobs : map (λ (r : Rank J S T). r.job) ranks0 ≡ jobs
+    -- how it ended
+    pub done : AllEnded log shows seats sums_shows sums_seats ranks p q
+    pub same : Same plain ranks0 ranks
+    pub wrote : NoneWrote ranks
+    pub ran : Ran log tells (KeptInOrder o f.events.items) o (fresh_told o.ranks) ranks0 ranks p
+    -- what was taken of the ranks
+    pub jobs_are : f.jobs.items ≡ map (λ (r : Rank J S T). r.job) ranks
+    pub left_are : map (λ (l : Vec (List ℕ) _). l.items) f.left.items ≡ map (λ (r : Rank J S T). r.queue) ranks
+    pub shares_are : f.shares.items ≡ map (λ (r : Rank J S T). r.book.share) ranks
+    pub sums_are : f.sums.items ≡ flat_map (λ (r : Rank J S T). r.book.sums.items) ranks
+    pub answer : (d : Rank J S T) → (sums_shows (get_or ranks 0 d).sums_seat).answer ≡ Some total
+    pub total_is : total ≡ sum_by (λ (r : Rank J S T). (sums_shows r.sums_seat).count) ranks
+
+  pub outcome : (o : Options) (starts : Strings) (jobs : List J) (ranks0 ranks : List (Rank J S T)) (p0 p : P) (q0 q : Q) (total : ℕ) (f : Finished J)
+      → Ending o starts jobs ranks0 ranks p0 p q0 q total f → IsOutcome log plain o starts jobs f
+  outcome o starts jobs ranks0 ranks p0 p q0 q total f x =
+      let all : AreAll o ranks = same_all plain o ranks0 ranks x.same x.first.all in
+      let moves : List (ℕ × Move) = moves_of_turns o.ranks 0 x.ran.turns in
+      let last : Stage = stage_of log tells ranks x.ran.told in
+      let played : PlaysTurns o 0 x.ran.turns (begun o starts) last =
+      subst (λ (s : Stage). PlaysTurns o 0 x.ran.turns s last) x.first.begun_is x.ran.plays in
+      let e : Ended o starts moves last =
+      at_end o starts ranks p q x.ran.turns x.ran.told x.waits x.fair x.sound x.agrees x.some all x.done x.ran.after played in
+      let s : Shared o moves ranks = shared o starts moves ranks0 ranks x.ran.told x.same.count x.unshared x.ran.shares e.plays in
+      let logs_of : RankSide → Log = λ r. r.log in
+      let side_of : Rank J S T → RankSide = rank_of log tells in
+      let logs : map log f.jobs.items ≡ map logs_of last.ranks =
+      ap (map log) x.jobs_are ∙ map-map log job_of ranks ∙ sym (map-map logs_of side_of ranks) in
       let all_logs : all_logged last ≡ flat_map log f.jobs.items =
-      flat_map-map (λ (x : RankSide). x.log) (rank_of log tells) ranks ∙ sym (flat_map-map log job ranks) ∙ ap (flat_map log) (sym jobs') in
+      flat_map-map logs_of side_of ranks ∙ sym (flat_map-map log job_of ranks) ∙ ap (flat_map log) (sym x.jobs_are) in
+      let as_list : Strings → Strings = λ xs. xs in
       let left : all_left f.left.items ≡ [] =
-      sym (flat_map-map (λ (xs : Strings). xs) (λ (l : Vec (List ℕ) _). l.items) f.left.items) ∙ ap (flat_map (λ (xs : Strings). xs)) left'
-      ∙ flat_map-map (λ (xs : Strings). xs) (λ (r : Rank J S T). r.queue) ranks ∙ flat_none (λ (r : Rank J S T). r.queue) ranks (λ k d h. (done k d h).ready.knows.over ((done k d h).over refl).0) in
-      let caps : f.shares.items ≡ map (λ k. capped (handled_by k moves) (given_by k moves) (taken_by k moves)) (range_with_len 0 o.ranks) =
-      shares' ∙ map_is share (λ k. capped (handled_by k moves) (given_by k moves) (taken_by k moves)) ranks o.ranks all.count s.each in
+      sym (flat_map-map as_list (λ (l : Vec (List ℕ) _). l.items) f.left.items) ∙ ap (flat_map as_list) x.left_are ∙ flat_map-map as_list queue_of ranks
+      ∙ flat_none queue_of ranks (λ k d h. (x.done k d h).ready.knows.over ((x.done k d h).over refl).0) in
+      let cap : ℕ → Share = λ k. capped (handled_by k moves) (given_by k moves) (taken_by k moves) in
+      let caps : f.shares.items ≡ map cap (range_with_len 0 o.ranks) = x.shares_are ∙ map_is share_of cap ranks o.ranks all.count s.each in
       let mailed : length (all_mailed last) ≡ 0 = ap length (nothing_mailed last e.nothing) in
-      let kept : (b : Bool) → o.trace ≡ b → f.events.items ≡ cond b (events_of_all moves) [] = λ b is. ran.kept ∙ ap (λ (x : Bool). cond x (events_of_all moves) []) is in
+      let kept : (b : Bool) → o.trace ≡ b → f.events.items ≡ cond b (events_of_all moves) [] =
+      λ b is. x.ran.kept ∙ ap (λ (y : Bool). cond y (events_of_all moves) []) is in
+      let run : IsTraced o starts (map log f.jobs.items) (events_of_all moves) = record {
+        moves = moves;
+        last = last;
+        plays = e.plays;
+        are = refl;
+        legal = moves_are_legal_run o starts moves last e.plays;
+        over = e.over;
+        ended = e.ended;
+        logs_are = logs;
+        answers = moves_answer_first o starts moves last e.plays;
+        fair = e.fair;
+      } in
+      let counts : f.shares.items ≡ map (share_in (events_of_all moves)) (range_with_len 0 o.ranks) =
+      x.shares_are ∙ map_is share_of (share_in (events_of_all moves)) ranks o.ranks all.count s.told in
+      let balance : Balanced (all_logged last) [] starts = all_is_handled o starts moves last (let n = x.some in omega arith) e.plays e.nothing in
+      let many : J → ℕ = λ j. length (log j) in
+      let most : J → ℕ = λ j. min (many j) (2 ^ 64 - 1) in
+      let facts_of : Rank J S T → D = λ r. plain r.job in
       record {
-        balance = subst (λ (l : Log). Balanced l (all_left f.left.items) starts) all_logs (subst (λ (l : Strings). Balanced (all_logged last) l starts) (sym left) (all_is_handled o starts moves last (omega (arith, some)) e.plays e.nothing));
+        balance = subst (λ (l : Log). Balanced l (all_left f.left.items) starts) all_logs
+            (subst (λ (l : Strings). Balanced (all_logged last) l starts) (sym left) balance);
         whole = left;
-        jobs_count = ap length jobs' ∙ length-map ranks job ∙ same.count ∙ sym (length-map ranks0 job) ∙ ap length jobs_are;
-        facts = ap (map plain) jobs' ∙ map-map plain job ranks ∙ map_same (λ (r : Rank J S T). plain r.job) (λ (r : Rank J S T). plain r.job) ranks ranks0 same.count
-            (λ k d d' h. ap (λ (r : Rank J S T). plain r.job) (get_or_default ranks k d d' h) ∙ same.facts k d' (let c = same.count in omega arith)) ∙ sym (map-map plain job ranks0) ∙ ap (map plain) jobs_are;
-        lists = sym (length-map f.left.items (λ (l : Vec (List ℕ) _). l.items)) ∙ ap length left' ∙ length-map ranks (λ (r : Rank J S T). r.queue) ∙ same.count ∙ sym (length-map ranks0 job) ∙ ap length jobs_are;
-        handled = ap (map (λ (x : Share). x.handled)) shares' ∙ map-map (λ (x : Share). x.handled) share ranks
-            ∙ map_same (λ (r : Rank J S T). r.book.share.handled) (λ (r : Rank J S T). min (length (log r.job)) (2 ^ 64 - 1)) ranks ranks refl
-            (λ k d d' h. ap (λ (x : Share). x.handled) (s.each k d h) ∙ ap (λ (n : ℕ). min n (2 ^ 64 - 1)) (s.handled k d h) ∙ ap (λ (r : Rank J S T). min (length (log r.job)) (2 ^ 64 - 1)) (get_or_default ranks k d d' h))
-            ∙ sym (map-map (λ (j : J). min (length (log j)) (2 ^ 64 - 1)) job ranks) ∙ ap (map (λ (j : J). min (length (log j)) (2 ^ 64 - 1))) (sym jobs');
+        jobs_count = ap length x.jobs_are ∙ length-map ranks job_of ∙ x.same.count ∙ sym (length-map ranks0 job_of) ∙ ap length x.given_jobs;
+        facts = ap (map plain) x.jobs_are ∙ map-map plain job_of ranks
+            ∙ map_same facts_of facts_of ranks ranks0 x.same.count
+            (λ k d d' h. ap facts_of (get_or_default ranks k d d' h) ∙ x.same.facts k d' (let c = x.same.count in omega arith))
+            ∙ sym (map-map plain job_of ranks0) ∙ ap (map plain) x.given_jobs;
+        lists = sym (length-map f.left.items (λ (l : Vec (List ℕ) _). l.items)) ∙ ap length x.left_are ∙ length-map ranks queue_of ∙ x.same.count
+            ∙ sym (length-map ranks0 job_of) ∙ ap length x.given_jobs;
+        handled = ap (map (λ (y : Share). y.handled)) x.shares_are ∙ map-map (λ (y : Share). y.handled) share_of ranks
+            ∙ map_same (λ (r : Rank J S T). r.book.share.handled) (λ (r : Rank J S T). most r.job) ranks ranks refl
+            (λ k d d' h. ap (λ (y : Share). y.handled) (s.each k d h) ∙ ap (λ (n : ℕ). min n (2 ^ 64 - 1)) (s.handled k d h)
+            ∙ ap (λ (r : Rank J S T). most r.job) (get_or_default ranks k d d' h))
+            ∙ sym (map-map most job_of ranks) ∙ ap (map most) (sym x.jobs_are);
         moved = (let g = capped_sum (λ (k : ℕ). given_by k moves) (2 ^ 128 - 1) (range_with_len 0 o.ranks) in
             let t = capped_sum (λ (k : ℕ). taken_by k moves) (2 ^ 128 - 1) (range_with_len 0 o.ranks) in
-            let cap : ℕ → Share = λ k. capped (handled_by k moves) (given_by k moves) (taken_by k moves) in
             let gives = sum_by-map given cap (range_with_len 0 o.ranks) in
             let takes = sum_by-map taken cap (range_with_len 0 o.ranks) in
             let even = (given_is_taken_or_mailed o starts moves last e.plays).counts in
+            let level : sum_by (λ (k : ℕ). given_by k moves) (range_with_len 0 o.ranks) ≡ sum_by (λ (k : ℕ). taken_by k moves) (range_with_len 0 o.ranks) =
+            omega arith in
             ap (λ (xs : List Share). min (sum_by given xs) (2 ^ 128 - 1)) caps ∙ ap (λ (n : ℕ). min n (2 ^ 128 - 1)) gives ∙ g
-            ∙ ap (λ (n : ℕ). min n (2 ^ 128 - 1)) (let z : sum_by (λ (k : ℕ). given_by k moves) (range_with_len 0 o.ranks) ≡ sum_by (λ (k : ℕ). taken_by k moves) (range_with_len 0 o.ranks) = omega arith in z)
+            ∙ ap (λ (n : ℕ). min n (2 ^ 128 - 1)) level
             ∙ sym (ap (λ (xs : List Share). min (sum_by taken xs) (2 ^ 128 - 1)) caps ∙ ap (λ (n : ℕ). min n (2 ^ 128 - 1)) takes ∙ t));
-        traced = λ on. (let are : f.events.items ≡ events_of_all moves = kept true on in
-            record {
-              moves = moves;
-              last = last;
-              plays = e.plays;
-              are = are;
-              legal = moves_are_legal_run o starts moves last e.plays;
-              over = e.over;
-              ended = e.ended;
-              logs_are = logs;
-              answers = subst (AnswersFirst (started o.ranks (length starts))) (sym are) (moves_answer_first o starts moves last e.plays);
-              fair = subst (IsFair (started o.ranks (length starts))) (sym are) e.fair;
-            });
-        ran = record {
-          events = events_of_all moves;
-          traced = record {
-            moves = moves;
-            last = last;
-            plays = e.plays;
-            are = refl;
-            legal = moves_are_legal_run o starts moves last e.plays;
-            over = e.over;
-            ended = e.ended;
-            logs_are = logs;
-            answers = moves_answer_first o starts moves last e.plays;
-            fair = e.fair;
-          };
-          counts = shares' ∙ map_is share (share_in (events_of_all moves)) ranks o.ranks all.count s.told;
-          kept = ran.kept;
-        };
+        traced = λ on. subst (IsTraced o starts (map log f.jobs.items)) (sym (kept true on)) run;
+        ran = record { events = events_of_all moves; traced = run; counts = counts; kept = x.ran.kept };
         untraced = λ off. kept false off;
-        counts = λ on. shares' ∙ map_is share (share_in f.events.items) ranks o.ranks all.count
-            (λ k d h. s.told k d h ∙ ap (λ (es : List Event). share_in es k) (sym (kept true on)));
-        progress = subst (λ (ns : List ℕ). IsProgress ns f.sums.items) (sym (ap (map (λ (j : J). length (log j))) jobs' ∙ map-map (λ (j : J). length (log j)) job ranks))
-            (progressed o ranks p q total f.sums.items all some done wrote answer sum_is sums');
+        counts = λ on. counts ∙ ap (λ (es : List Event). map (share_in es) (range_with_len 0 o.ranks)) (sym (kept true on));
+        progress = subst (λ (ns : List ℕ). IsProgress ns f.sums.items) (sym (ap (map many) x.jobs_are ∙ map-map many job_of ranks))
+            (progressed o ranks p q total f.sums.items all x.some x.done x.wrote x.answer x.total_is x.sums_are);
       }
 
   -- the seats may be gathered
-  pub seats_done : (o : Options) (ranks : List (Rank J S T)) (p : P) (q : Q) (all_seats : List S) → AreAll o ranks → AllEnded log shows seats sums_shows sums_seats ranks p q → all_seats ≡ map (λ (r : Rank J S T). r.seat) ranks
+  pub seats_done : (o : Options) (ranks : List (Rank J S T)) (p : P) (q : Q) (all_seats : List S) → AreAll o ranks
+      → AllEnded log shows seats sums_shows sums_seats ranks p q → all_seats ≡ map (λ (r : Rank J S T). r.seat) ranks
       → AllDone shows (seats p) all_seats
   seats_done o ranks p q all_seats all done are =
       let long : o.ranks ≡ length all_seats = sym (ap length are ∙ length-map ranks (λ (r : Rank J S T). r.seat) ∙ all.count) in
-      map_each (λ (k : ℕ) (x : S). seats p x × ((shows x).number ≡ k) × ((shows x).n ≡ length all_seats) × (((shows x).ended ≡ true) ⊎ ((shows x).stopped ≡ true)) × ((i : ℕ) → is_served (shows x) i ≡ false)) (λ (r : Rank J S T). r.seat) ranks all_seats are
+      map_each (λ (k : ℕ) (x : S). seats p x × ((shows x).number ≡ k) × ((shows x).n ≡ length all_seats)
+      × (((shows x).ended ≡ true) ⊎ ((shows x).stopped ≡ true)) × ((i : ℕ) → is_served (shows x) i ≡ false))
+      (λ (r : Rank J S T). r.seat) ranks all_seats are
       (λ k d h.
       let x = done k d h in
       let knows = x.ready.knows in
       let me = all.each k d h in
       (x.ready.mine, knows.number ∙ me.0, knows.ranks ∙ ap (λ (q : Options). q.ranks) me.1 ∙ long, inl (knows.ended ∙ (x.over refl).0), x.ready.none))
 
-  pub sums_done : (o : Options) (ranks : List (Rank J S T)) (p : P) (q : Q) (all_sums : List T) → AreAll o ranks → AllEnded log shows seats sums_shows sums_seats ranks p q → all_sums ≡ map (λ (r : Rank J S T). r.sums_seat) ranks
+  pub sums_done : (o : Options) (ranks : List (Rank J S T)) (p : P) (q : Q) (all_sums : List T) → AreAll o ranks
+      → AllEnded log shows seats sums_shows sums_seats ranks p q → all_sums ≡ map (λ (r : Rank J S T). r.sums_seat) ranks
       → AllFinished sums_shows (sums_seats q) all_sums
   sums_done o ranks p q all_sums all done are =
       let long : o.ranks ≡ length all_sums = sym (ap length are ∙ length-map ranks (λ (r : Rank J S T). r.sums_seat) ∙ all.count) in
-      map_each (λ (k : ℕ) (x : T). sums_seats q x × ((sums_shows x).number ≡ k) × ((sums_shows x).n ≡ length all_sums) × IsSome (sums_shows x).answer) (λ (r : Rank J S T). r.sums_seat) ranks all_sums are
+      map_each (λ (k : ℕ) (x : T). sums_seats q x × ((sums_shows x).number ≡ k) × ((sums_shows x).n ≡ length all_sums) × IsSome (sums_shows x).answer)
+      (λ (r : Rank J S T). r.sums_seat) ranks all_sums are
       (λ k d h.
       let x = done k d h in
       let sums = x.ready.sums in
-      let me = all.each k d h in
-      (sums.mine, sums.number ∙ me.0, sums.ranks ∙ ap (λ (q : Options). q.ranks) me.1 ∙ long, some_from (sums_shows (get_or ranks k d).sums_seat).answer (x.over refl).1))
+      let me = all.each k d h in (
+        sums.mine,
+        sums.number ∙ me.0,
+        sums.ranks ∙ ap (λ (q : Options). q.ranks) me.1 ∙ long,
+        some_from (sums_shows (get_or ranks k d).sums_seat).answer (x.over refl).1,
+      ))

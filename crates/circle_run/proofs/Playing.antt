@@ -1,5 +1,5 @@
 -- The turns of ranks in rounds are played, one behind the other.
-use Rattle.std.proofs.Common.{◌≡◌, ℕ, zero, suc, ◌+◌, ◌*◌, ◌%◌, ◌<◌, ◌≤◌, ◌≢◌, refl, sym, subst, ap, ◌∙◌, arith, Bool, true, false, cond, List, [], ◌∷◌, ◌++◌, map, length, length-set, set, get_or, append_assoc, append-nil, mul-suc, mul-zero, Option, Some, None}
+use Rattle.std.proofs.Common.{◌≡◌, ℕ, suc, ◌+◌, ◌*◌, ◌%◌, ◌<◌, refl, sym, subst, ap, ◌∙◌, arith, Bool, true, false, cond, List, [], ◌∷◌, ◌++◌, length, length-set, set, get_or, append_assoc, append-nil, mul-suc, mul-zero, Option, Some, None}
 use Rattle.std.proofs.Math.Nat.{mul-add-mod_self_left, mod-eq_of_lt}
 use Rattle.std.proofs.lemmas.List.{get_or-map, map-set, length-map, length_push, get_or_read, get_or_default}
 use Rattle.std.specs.List.{flat_map}
@@ -10,9 +10,9 @@ use Rattle.circle_run.specs.Balance.{Log}
 use Rattle.circle_run.specs.Moves.{Move, Side, events_of}
 use Rattle.circle_run.specs.Stages.{RankSide, Stage, no_side, rank_side, side, Plays, events_of_all}
 use Rattle.circle_run.specs.Books.{counted}
-use Rattle.circle_run.specs.Fair.{MayIdle, moves_in, PlaysTurns, moves_of_turns}
+use Rattle.circle_run.specs.Fair.{moves_in, moves_of_turns}
 use Rattle.circle_run.specs.Ranks.{DoesAll, side as own_side}
-use Rattle.circle_run.specs.Hosts.{events_by, NoneWrote, AreAll, MayIdleIfTold, Turning, rank_of, stage_of, Ran, KeptByEach, KeptInOrder}
+use Rattle.circle_run.specs.Hosts.{events_by, AreAll, MayIdleIfTold, Turning, rank_of, stage_of, Ran, KeptByEach, KeptInOrder}
 use Rattle.circle_run.specs.declared.outcomes.Share.{Share}
 use Rattle.circle_run.specs.declared.settings.Options.{Options}
 use Rattle.circle_run.specs.declared.ranks.Rank.{Rank}

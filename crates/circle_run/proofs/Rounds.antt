@@ -1,31 +1,16 @@
 -- Ranks that have their turns in rounds: what one turn keeps of all of them.
-use Rattle.std.proofs.Common.{◌≡◌, ℕ, zero, suc, ◌+◌, ◌*◌, ◌%◌, ◌<◌, ◌≤◌, ◌≢◌, inl, inr, ⊎_elim, refl, sym, subst, ap, ◌∙◌, arith, Bool, true, false, cond, List, [], ◌∷◌, ◌++◌, map, length, length-set, set, get_or, take, get_or-set_same, get_or-set_other, append_assoc, append-nil, mul-suc, Option, Some, None}
-use Rattle.std.proofs.Math.Nat.{mul-add-mod_self_left, mod-eq_of_lt}
+use Rattle.std.proofs.Common.{◌≡◌, ℕ, zero, suc, ◌<◌, ◌≤◌, ◌≢◌, ⊎_elim, refl, sym, subst, ap, ◌∙◌, arith, Bool, true, false, List, [], ◌∷◌, length, length-set, set, get_or, take, get_or-set_same, get_or-set_other}
 use Rattle.std.proofs.lemmas.Bool.{cases_lt}
-use Rattle.std.proofs.lemmas.List.{get_or-map, map-set, length-map, length_push, get_or_read, get_or_default, get_or-take, length-take-le}
-use Rattle.std.specs.List.{flat_map}
+use Rattle.std.proofs.lemmas.List.{get_or_read, get_or_default, get_or-take, length-take-le}
 use mathlib.Core.Logic.{dite}
 use native.Mathlib.Decide.{ℕ_discrete}
-use Rattle.rand_pcg.specs.Lcg.{Lcg}
-use Rattle.ring_core.specs.declared.events.Event.{Event}
-use Rattle.post_board.specs.Shown.{Strings, Shown}
-use Rattle.post_board.specs.Told.{Told}
+use Rattle.post_board.specs.Shown.{Shown}
 use Rattle.sum_tree.specs.Shown.{SumShown}
 use Rattle.circle_run.specs.Balance.{Log}
-use Rattle.circle_run.specs.Moves.{Move, Side, events_of}
-use Rattle.circle_run.specs.Stages.{RankSide, Stage, no_side, rank_side, side, Plays, events_of_all}
-use Rattle.circle_run.specs.Books.{counted}
-use Rattle.circle_run.specs.Fair.{HandlesLast, MayIdle, moves_in, PlaysTurns, moves_of_turns}
-use Rattle.circle_run.specs.Ranks.{DoesAll, side as own_side, Knows}
-use Rattle.circle_run.specs.Ready.{SumsReady, Ready}
-use Rattle.circle_run.specs.Hosts.{events_by, IsAscending, NoneLost, NoneWrote, AreAll, Same, Placed, AllPlaced, AllReady, AllEnded, MayIdleIfTold, Turning, Took, rank_of, stage_of, Ran, KeptByEach, KeptInOrder}
-use Rattle.circle_run.specs.declared.books.Book.{Book}
-use Rattle.circle_run.specs.declared.outcomes.Share.{Share}
+use Rattle.circle_run.specs.Hosts.{IsAscending, NoneLost, NoneWrote, AreAll, Same, Placed, AllPlaced, AllReady, AllEnded}
 use Rattle.circle_run.specs.declared.settings.Options.{Options}
 use Rattle.circle_run.specs.declared.ranks.Rank.{Rank}
 use Rattle.circle_run.proofs.Asked.{not_true, true_not_false}
-use Rattle.circle_run.proofs.Stepped.{counted_then, kept_then}
-use Rattle.circle_run.proofs.Staged.{bare, all_bare, Staged, staged, turns_more, moves_more, events_by_own, events_by_other, events_of_turn, events_of_all-append}
 
 -- the events of a rank are elsewhere
 abbrev pub moved_on : {J S T : Type 0} → Rank J S T → Rank J S T → Type 0

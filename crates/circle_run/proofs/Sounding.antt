@@ -1,11 +1,10 @@
 -- What is told in a run is sound, so all is over once a rank has seen the end.
-use Rattle.std.proofs.Common.{◌≡◌, ℕ, ◌<◌, ◌≤◌, inl, inr, ⊎_elim, refl, sym, subst, ap, ◌∙◌, arith, true, false, List, [], ◌∷◌, map, length, set, get_or, replicate, Option, Some, None}
+use Rattle.std.proofs.Common.{◌≡◌, ℕ, ◌≤◌, inr, ⊎_elim, refl, sym, subst, ap, arith, true, false, List, [], ◌∷◌, map, set, replicate, Option, Some}
 use Rattle.std.proofs.lemmas.Bool.{cases_lt}
 use Rattle.std.proofs.lemmas.List.{get_or-replicate, length-replicate, get_or_past}
 use Rattle.ring_core.specs.declared.states.Colour.{Colour}
 use Rattle.ring_core.specs.declared.states.Colour.TheVariants.{Black}
 use Rattle.ring_core.specs.declared.states.Token.TheVariants.{At, Over}
-use Rattle.post_board.specs.Shown.{Strings}
 use Rattle.post_board.specs.Told.{Place, Told, no_place, place, Sound}
 use Rattle.post_board.specs.Deeds.{Deed, told_after, DeedsKeepSound}
 use Rattle.circle_run.specs.Moves.{Move, handled, served, did, Side, answer_of, TellsAll, Does}

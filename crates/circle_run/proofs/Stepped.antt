@@ -1,5 +1,5 @@
 -- What steps of a rank come to, one after the other.
-use Rattle.std.proofs.Common.{◌≡◌, ◌≢◌, ℕ, ◌<◌, refl, sym, subst, inl, inr, ap, ◌∙◌, arith, Bool, true, false, List, [], ◌∷◌, ◌++◌, length, append_assoc, append-nil, Option, Some, None}
+use Rattle.std.proofs.Common.{◌≡◌, ℕ, ◌<◌, refl, sym, subst, ap, ◌∙◌, arith, Bool, true, false, List, [], ◌∷◌, ◌++◌, length, append_assoc, append-nil, Option, Some, None}
 use Rattle.std.specs.Prelude.{if◌then◌else◌}
 use Rattle.std.specs.List.{flat_map}
 use Rattle.std.proofs.lemmas.Grind.{flat_map-append}
@@ -16,7 +16,7 @@ use Rattle.circle_run.specs.declared.steps.Did.TheVariants.{Handled, Acted, Wait
 use Rattle.post_board.specs.Deeds.{Deed, event_of, Tells, Stays}
 use Rattle.post_board.specs.Calls.{AgreesIfTold}
 use Rattle.circle_run.specs.Balance.{Log}
-use Rattle.circle_run.specs.Moves.{Move, handled, served, did, Side, DoesDeed, events_of, IsLive, NobodyAsks}
+use Rattle.circle_run.specs.Moves.{Move, handled, did, Side, DoesDeed, events_of, IsLive, NobodyAsks}
 use Rattle.circle_run.specs.Books.{counted, counted_one}
 use Rattle.circle_run.specs.Private.Books.{Writes}
 use Rattle.circle_run.specs.Ranks.{DoesAll, Knows, ServesNone, side, Went}

@@ -1,20 +1,20 @@
 -- What a turn of a rank is: moves of which the last alone may handle a string, with an event save where the rank waits or has seen the end.
-use Rattle.std.proofs.Common.{◌≡◌, ℕ, zero, suc, ◌+◌, ◌<◌, ◌⊎◌, inl, inr, refl, sym, subst, ap, ◌∙◌, arith, Bool, true, false, cond, List, [], ◌∷◌, ◌++◌, map, length, length-append, append-nil, Option, Some, None}
+use Rattle.std.proofs.Common.{◌≡◌, ℕ, ◌⊎◌, inl, inr, refl, sym, subst, ap, ◌∙◌, arith, Bool, true, false, cond, List, [], ◌∷◌, ◌++◌, map, length, length-append, append-nil, Option, Some, None}
 use Rattle.std.proofs.lemmas.List.{length-map}
 use Rattle.std.specs.List.{flat_map}
 use Rattle.ring_core.specs.declared.events.Event.{Event}
 use Rattle.ring_core.specs.declared.events.Event.TheVariants.{Handle, SeeOver}
 use Rattle.post_board.specs.Shown.{Strings, Shown}
-use Rattle.post_board.specs.Told.{Told, Place, place, asked}
-use Rattle.post_board.specs.Deeds.{Deed, see_over, event_of}
+use Rattle.post_board.specs.Told.{Told, place}
+use Rattle.post_board.specs.Deeds.{event_of}
 use Rattle.post_board.specs.Calls.{AgreesIfTold}
 use Rattle.circle_run.specs.Balance.{Log}
-use Rattle.circle_run.specs.Moves.{Move, handled, served, did, Side, answer_of, events_of}
+use Rattle.circle_run.specs.Moves.{Move, served, Side, answer_of, events_of}
 use Rattle.circle_run.specs.Fair.{HandlesLast, is_waiting}
-use Rattle.circle_run.specs.Ranks.{DoesAll, side, Knows, Went}
+use Rattle.circle_run.specs.Ranks.{DoesAll, side, Knows}
 use Rattle.circle_run.specs.Ready.{Turned}
 use Rattle.circle_run.specs.Turns.{Worked, Waits, IsTurn}
-use Rattle.circle_run.specs.Hosts.{MayIdleIfTold, Turning, Took}
+use Rattle.circle_run.specs.Hosts.{MayIdleIfTold, Took}
 use Rattle.circle_run.specs.declared.steps.Did.TheVariants.{Handled, Acted}
 use Rattle.circle_run.specs.declared.settings.Options.{Options}
 use Rattle.circle_run.specs.declared.ranks.Turn.{Turn}

@@ -1,9 +1,8 @@
 -- What a rank writes down: the events, where they are kept, and its counts. Our own.
-use Rattle.std.specs.Prelude.{◌≡◌, ◌+◌, ◌-◌, ◌^◌, min, Bool, true, false, if◌then◌else◌, List, [], ◌∷◌, ◌++◌}
+use Rattle.std.specs.Prelude.{◌+◌, ◌-◌, ◌^◌, min, List, [], ◌∷◌}
 use Rattle.ring_core.specs.declared.events.Event.{Event}
 use Rattle.ring_core.specs.declared.events.Event.TheVariants.{Handle, Give, Take}
 use Rattle.circle_run.specs.declared.outcomes.Share.{Share}
-use Rattle.circle_run.specs.declared.books.Book.{Book}
 
 -- the counts with an event more. A count stops at the greatest value of its type
 abbrev pub counted_one : Event → Share → Share

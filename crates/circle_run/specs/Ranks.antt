@@ -1,13 +1,11 @@
 -- A rank beside its board: what it knows, and what its steps come to. Our own.
-use Rattle.std.specs.Prelude.{◌≡◌, ◌≢◌, ℕ, ◌^◌, ◌<◌, ◌≤◌, true, false, if◌then◌else◌, List, length, [], ◌∷◌, ◌++◌, Option}
+use Rattle.std.specs.Prelude.{◌≡◌, ℕ, ◌<◌, ◌≤◌, true, false, if◌then◌else◌, List, length, [], ◌∷◌, ◌++◌, Option}
 use Rattle.std.specs.List.{flat_map}
 use Rattle.post_board.specs.Shown.{Shown, is_served}
 use Rattle.post_board.specs.Told.{Told}
 use Rattle.circle_run.specs.Balance.{Log}
 use Rattle.circle_run.specs.Moves.{Move, Side, Does, events_of}
-use Rattle.ring_core.specs.declared.events.Event.TheVariants.{Handle}
 use Rattle.circle_run.specs.Books.{counted}
-use Rattle.circle_run.specs.Private.Books.{Writes}
 use Rattle.circle_run.specs.declared.settings.Options.{Options}
 use Rattle.circle_run.specs.declared.ranks.Rank.{Rank}
 

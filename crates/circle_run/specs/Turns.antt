@@ -3,8 +3,6 @@ use Rattle.std.specs.Prelude.{◌≡◌, ℕ, ◌+◌, ◌<◌, ◌⊎◌, Bool,
 use Rattle.post_board.specs.Shown.{Strings}
 use Rattle.post_board.specs.Told.{Told, asked, place}
 use Rattle.post_board.specs.Deeds.{Deed, see_over}
-use Rattle.post_board.specs.declared.answers.Ring.{Ring}
-use Rattle.post_board.specs.declared.answers.Ring.TheVariants.{Over}
 use Rattle.sum_tree.specs.Shown.{SumShown}
 use Rattle.sum_tree.specs.Told.{SumTold, words_below}
 use Rattle.circle_run.specs.Moves.{Move, handled, served, did}

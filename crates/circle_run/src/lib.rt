@@ -25,13 +25,14 @@
 //! Then the rank counts what it handled. After the end a turn asks for the final sum.
 //!
 //! Proved of a turn, whatever the job, the board and the sums do, unless the rank found no memory: it is moves of a turn, that
-//! is, a service and then at most one move, or that it saw the end. The moves lead from its queue, log, drawn words and what
-//! the board tells to those after the turn, with the amounts of the split, the victims of the lot and nobody left that asks;
-//! its events, where they are kept, and its share are those of the moves. It waits only for an answer or for a final sum. What
-//! it counts at the sums is what its log holds. The numbers of progress are each at least 1,000 above the one before, none of
-//! those that it was shown is passed over, and the last is the final sum. A rank that found no memory has no string and goes on
-//! to the end. By construction and not proved: a rank with ranks below it at the sums shows their counts in each turn before
-//! its end.
+//! is, that it saw the end, or a service and then the first of the picture that applies, by what waits after the service and
+//! what the ring says. The ring is as the board tells, or as the seat shows. The moves lead from its queue, log, drawn words and
+//! what the board tells to those after the turn, with the amounts of the split, the victims of the lot and nobody left that
+//! asks; its events, where they are kept, and its share are those of the moves. A job that keeps the numbers of waiting strings
+//! heard the length of the queue without its string. A turn waits only for an answer or for a final sum that is not there. What
+//! it counts at the sums is what its log holds; a rank with ranks below it at the sums shows in each turn before its end what
+//! it and they counted. The numbers of progress are each at least 1,000 above the one before, none of those that it was shown is
+//! passed over, and the last is the final sum. A rank that found no memory has no string and goes on to the end.
 //!
 //! A [`Host`] has ranks and gives each that is not done a turn, in rounds and in ascending order, until all are done. Proved:
 //! the ranks come back in their order, each has seen the end and knows the final sum, and plain data are as before. Over a
@@ -41,10 +42,10 @@
 //! Proved of [`begin`], whatever the job does: the run is *balanced*. Each string was handled or is left as often as it was a
 //! start or was pushed ([`balance_is_as_often`]), so no string is lost and none is handled twice. Nothing is left unless the
 //! run was to stop. The jobs come back in their order with their plain data, and what a share counts is what its job's log
-//! holds; what all ranks gave all ranks took. With a trace the events are those of a whole run: `IsTraced` in
-//! `specs/Traced.antt` says what that is, and the shares are what the events say. The numbers of progress are each at least
-//! 1,000 above the one before it, and at last comes the number of strings handled in all. Only memory can fail. That a run
-//! ends is not proved: a job may push for ever.
+//! holds; what all ranks gave all ranks took. The shares are what the events of some whole run say, with a trace or without,
+//! and with one those events are kept: `IsTraced` in `specs/Traced.antt` says what a whole run is. The numbers of progress are
+//! each at least 1,000 above the one before it, and at last comes the number of strings handled in all. Only memory can fail.
+//! That a run ends is not proved: a job may push for ever.
 //!
 //! What is proved of a run rests on laws over its moves. What a rank does is a *move*: it handles a string, answers those that
 //! ask it, or asks, takes or moves the token. Moves lead from *stage* to stage, which is what each rank has and what
@@ -61,10 +62,11 @@
 //! By now all ranks run on the calling thread, over `PlainBoard` and `PlainSums`, and without a stop. The clauses of [`begin`]
 //! name no board and no sums, and all that it calls knows these two by the contracts of `Post` and `Sums`.
 //!
-//! `specs/Balance.antt` has the definitions of a balance, `specs/Moves.antt` those of a rank's moves, `specs/Ready.antt` what
-//! holds of a rank between two turns and what a turn comes to; `specs/Stages.antt` has the runs of all ranks,
-//! `specs/Worlds.antt`, `Waiting.antt`, `Shares.antt` and `Fair.antt` what the laws say of them, `specs/Hosts.antt` what rounds
-//! come to, and `specs/Traced.antt` what a trace and the numbers of progress are.
+//! `specs/Balance.antt` has the definitions of a balance, `specs/Moves.antt` those of a rank's moves, `specs/Choices.antt` which
+//! move a rank makes, `specs/Ready.antt` what holds of a rank between two turns and what a turn comes to; `specs/Stages.antt`
+//! has the runs of all ranks, `specs/Worlds.antt`, `Waiting.antt`, `Shares.antt` and `Fair.antt` what the laws say of them,
+//! `specs/Hosts.antt` what rounds come to, and `specs/Traced.antt` what a trace and the numbers of progress are. What stands in
+//! `specs/Private` is cited by the crate's own steps alone.
 #![tactic(auto)]
 
 mod books;
@@ -93,6 +95,3 @@ pub use outcomes::{Finished, Share};
 pub use ranks::{Rank, Turn};
 pub use running::begin;
 pub use settings::{Options, Split};
-
-#[cfg(test)]
-mod tests;

@@ -5,4 +5,10 @@
 #![tactic(auto)]
 
 #[cfg(test)]
+mod of_circle_run;
+#[cfg(test)]
+mod of_ring_core;
+#[cfg(test)]
+mod of_sum_tree;
+#[cfg(test)]
 mod of_tree_walk;

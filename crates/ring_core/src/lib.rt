@@ -56,6 +56,3 @@ pub use states::{Colour, Desk, RankState, Token};
 pub use steps::step;
 pub use texts::{put_event, text_of};
 pub use worlds::World;
-
-#[cfg(test)]
-mod tests;

@@ -52,6 +52,3 @@ pub use laws::{sum_is_own_and_below, sum_of_rank_0_is_sum_of_all, what_is_told_i
 pub use plain::{PlainSumSeat, PlainSums};
 pub use ranks::{RankSum, Reading};
 pub use sums::Sums;
-
-#[cfg(test)]
-mod tests;

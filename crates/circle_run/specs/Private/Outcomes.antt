@@ -1,5 +1,5 @@
 -- How the ranks of a run begin, and what a run leaves. Our own.
-use Rattle.std.specs.Prelude.{◌≡◌, ℕ, ◌+◌, ◌-◌, ◌^◌, ◌<◌, min, true, false, List, length, [], ◌∷◌, map, sum_by, slice_index_or}
+use Rattle.std.specs.Prelude.{◌≡◌, ℕ, ◌-◌, ◌^◌, ◌<◌, min, true, false, List, length, [], map, sum_by, slice_index_or}
 use Rattle.std.specs.List.{flat_map, range_with_len}
 use Rattle.post_board.specs.Shown.{Strings}
 use Rattle.circle_run.specs.Balance.{Log, Balanced}

@@ -1,4 +1,3 @@
-use Rattle.std.proofs.Common.{◌≡◌}
 use Rattle.circle_run.proofs.New.{none_served}
 use Rattle.circle_run.proofs.hosts.unset.Goals as goal
 

@@ -1,4 +1,4 @@
-use Rattle.std.proofs.Common.{◌≡◌, ℕ, ◌<◌, ◌≤◌, List, [], map, length, get_or, refl, sym, subst, ap, ◌∙◌, arith}
+use Rattle.std.proofs.Common.{List, length, get_or, sym, subst, ap, ◌∙◌, arith}
 use Rattle.std.proofs.lemmas.List.{length-map, get_or-map}
 use Rattle.std.proofs.lemmas.List.FromFn.{length-map-range_with_len}
 use Rattle.std.specs.List.{sum_by}
@@ -13,49 +13,90 @@ use Rattle.circle_run.proofs.running.run_whole.Goals as goal
 
 pub new_ranks-requires-clause-sums : goal.new_ranks-requires-clause-sums
 new_ranks-requires-clause-sums g c =
-    sym (length-map c.args.sums_seats.items g.Q.Sums.shows) ∙ ap length c.requires.sums_shown ∙ length-map-range_with_len (fresh_sums c.args.options.now.ranks c.args.options.now.width) 0 c.args.options.now.ranks ∙ sym c.requires.jobs
+    sym (length-map c.args.sums_seats.items g.Q.Sums.shows) ∙ ap length c.requires.sums_shown ∙ length-map-range_with_len (fresh_sums
+    c.args.options.now.ranks c.args.options.now.width) 0 c.args.options.now.ranks ∙ sym c.requires.jobs
 
 pub new_ranks-requires-clause-queues : goal.new_ranks-requires-clause-queues
-new_ranks-requires-clause-queues g c = ap length c.in_ok-queues.ensures ∙ length-map-range_with_len (dealt_to c.args.options.now.ranks c.args.starts.items) 0 c.args.options.now.ranks ∙ sym c.requires.jobs
+new_ranks-requires-clause-queues g c = ap length c.in_ok-queues.ensures ∙ length-map-range_with_len (dealt_to c.args.options.now.ranks
+    c.args.starts.items) 0 c.args.options.now.ranks ∙ sym c.requires.jobs
 
 pub make-requires : goal.make-requires
-make-requires g c = (begins g.J.Job.log g.P.Post.shows g.P.Post.tells g.P.Post.seats g.Q.Sums.shows g.Q.Sums.seats c.args.options.now c.args.starts.items c.args.jobs.items c.args.seats.items c.args.sums_seats.items c.in_ok-queues.queues.items c.in_ok-ranks.ranks.items c.args.post.now c.args.sums.now c.in_ok-ranks.ensures
+make-requires g c = (begins g.J.Job.log g.P.Post.shows g.P.Post.tells g.P.Post.seats g.Q.Sums.shows g.Q.Sums.seats c.args.options.now
+    c.args.starts.items c.args.jobs.items c.args.seats.items c.args.sums_seats.items c.in_ok-queues.queues.items c.in_ok-ranks.ranks.items
+    c.args.post.now c.args.sums.now c.in_ok-ranks.ensures
     c.requires.jobs c.requires.ranks.1 c.requires.width c.requires.seats c.requires.sums_shown c.requires.sums_seats c.in_ok-queues.ensures).order
 
 pub run_traced-requires : goal.run_traced-requires
 run_traced-requires g c =
-    let new = subst (AreNew g.J.Job.log c.args.options.now c.args.jobs.items c.args.seats.items c.args.sums_seats.items c.in_ok-queues.queues.items) (sym c.make.ensures) c.in_ok-ranks.ensures in
-    let first = begins g.J.Job.log g.P.Post.shows g.P.Post.tells g.P.Post.seats g.Q.Sums.shows g.Q.Sums.seats c.args.options.now c.args.starts.items c.args.jobs.items c.args.seats.items c.args.sums_seats.items c.in_ok-queues.queues.items c.make.result.ranks.items c.args.post.now c.args.sums.now new
+    let new = subst (AreNew g.J.Job.log c.args.options.now c.args.jobs.items c.args.seats.items c.args.sums_seats.items c.in_ok-queues.queues.items)
+    (sym c.make.ensures) c.in_ok-ranks.ensures in
+    let first = begins g.J.Job.log g.P.Post.shows g.P.Post.tells g.P.Post.seats g.Q.Sums.shows g.Q.Sums.seats c.args.options.now c.args.starts.items
+    c.args.jobs.items c.args.seats.items c.args.sums_seats.items c.in_ok-queues.queues.items c.make.result.ranks.items c.args.post.now
+    c.args.sums.now new
     c.requires.jobs c.requires.ranks.1 c.requires.width c.requires.seats c.requires.sums_shown c.requires.sums_seats c.in_ok-queues.ensures in
     record { order = first.order; ready = first.ready; unwritten = first.unwritten; empty = c.new-events.ensures.items }
 
 pub gather-requires-clause-all : goal.gather-requires-clause-all
 gather-requires-clause-all g c =
-    let new = subst (AreNew g.J.Job.log c.args.options.now c.args.jobs.items c.args.seats.items c.args.sums_seats.items c.in_ok-queues.queues.items) (sym c.make.ensures) c.in_ok-ranks.ensures in
-    let first = begins g.J.Job.log g.P.Post.shows g.P.Post.tells g.P.Post.seats g.Q.Sums.shows g.Q.Sums.seats c.args.options.now c.args.starts.items c.args.jobs.items c.args.seats.items c.args.sums_seats.items c.in_ok-queues.queues.items c.make.result.ranks.items c.args.post.now c.args.sums.now new
+    let new = subst (AreNew g.J.Job.log c.args.options.now c.args.jobs.items c.args.seats.items c.args.sums_seats.items c.in_ok-queues.queues.items)
+    (sym c.make.ensures) c.in_ok-ranks.ensures in
+    let first = begins g.J.Job.log g.P.Post.shows g.P.Post.tells g.P.Post.seats g.Q.Sums.shows g.Q.Sums.seats c.args.options.now c.args.starts.items
+    c.args.jobs.items c.args.seats.items c.args.sums_seats.items c.in_ok-queues.queues.items c.make.result.ranks.items c.args.post.now
+    c.args.sums.now new
     c.requires.jobs c.requires.ranks.1 c.requires.width c.requires.seats c.requires.sums_shown c.requires.sums_seats c.in_ok-queues.ensures in
     let all = same_all g.J.Job.plain c.args.options.now c.make.result.ranks.items c.in_ok-ranks-2.ranks.items c.in_ok-ranks-2.ensures.same first.all in
-    seats_done g.J.Job.log g.J.Job.plain g.P.Post.shows g.P.Post.tells g.P.Post.seats g.Q.Sums.shows g.Q.Sums.seats c.args.options.now c.in_ok-ranks-2.ranks.items c.run_traced.new.post c.run_traced.new.sums c.in_ok-parts.parts.seats.items all c.in_ok-ranks-2.ensures.ended c.in_ok-parts.ensures.seats
+    seats_done g.J.Job.log g.J.Job.plain g.P.Post.shows g.P.Post.tells g.P.Post.seats g.Q.Sums.shows g.Q.Sums.seats c.args.options.now
+    c.in_ok-ranks-2.ranks.items c.run_traced.new.post c.run_traced.new.sums c.in_ok-parts.parts.seats.items all c.in_ok-ranks-2.ensures.ended
+    c.in_ok-parts.ensures.seats
 
 pub gather-requires-2-clause-all : goal.gather-requires-2-clause-all
 gather-requires-2-clause-all g c =
-    let new = subst (AreNew g.J.Job.log c.args.options.now c.args.jobs.items c.args.seats.items c.args.sums_seats.items c.in_ok-queues.queues.items) (sym c.make.ensures) c.in_ok-ranks.ensures in
-    let first = begins g.J.Job.log g.P.Post.shows g.P.Post.tells g.P.Post.seats g.Q.Sums.shows g.Q.Sums.seats c.args.options.now c.args.starts.items c.args.jobs.items c.args.seats.items c.args.sums_seats.items c.in_ok-queues.queues.items c.make.result.ranks.items c.args.post.now c.args.sums.now new
+    let new = subst (AreNew g.J.Job.log c.args.options.now c.args.jobs.items c.args.seats.items c.args.sums_seats.items c.in_ok-queues.queues.items)
+    (sym c.make.ensures) c.in_ok-ranks.ensures in
+    let first = begins g.J.Job.log g.P.Post.shows g.P.Post.tells g.P.Post.seats g.Q.Sums.shows g.Q.Sums.seats c.args.options.now c.args.starts.items
+    c.args.jobs.items c.args.seats.items c.args.sums_seats.items c.in_ok-queues.queues.items c.make.result.ranks.items c.args.post.now
+    c.args.sums.now new
     c.requires.jobs c.requires.ranks.1 c.requires.width c.requires.seats c.requires.sums_shown c.requires.sums_seats c.in_ok-queues.ensures in
     let all = same_all g.J.Job.plain c.args.options.now c.make.result.ranks.items c.in_ok-ranks-2.ranks.items c.in_ok-ranks-2.ensures.same first.all in
-    sums_done g.J.Job.log g.J.Job.plain g.P.Post.shows g.P.Post.tells g.P.Post.seats g.Q.Sums.shows g.Q.Sums.seats c.args.options.now c.in_ok-ranks-2.ranks.items c.run_traced.new.post c.run_traced.new.sums c.in_ok-parts.parts.sums_seats.items all c.in_ok-ranks-2.ensures.ended c.in_ok-parts.ensures.sums_seats
+    sums_done g.J.Job.log g.J.Job.plain g.P.Post.shows g.P.Post.tells g.P.Post.seats g.Q.Sums.shows g.Q.Sums.seats c.args.options.now
+    c.in_ok-ranks-2.ranks.items c.run_traced.new.post c.run_traced.new.sums c.in_ok-parts.parts.sums_seats.items all
+    c.in_ok-ranks-2.ensures.ended c.in_ok-parts.ensures.sums_seats
 
 pub returns : goal.returns
 returns g c =
     let o = c.args.options.now in
-    let new = subst (AreNew g.J.Job.log c.args.options.now c.args.jobs.items c.args.seats.items c.args.sums_seats.items c.in_ok-queues.queues.items) (sym c.make.ensures) c.in_ok-ranks.ensures in
-    let first = begins g.J.Job.log g.P.Post.shows g.P.Post.tells g.P.Post.seats g.Q.Sums.shows g.Q.Sums.seats c.args.options.now c.args.starts.items c.args.jobs.items c.args.seats.items c.args.sums_seats.items c.in_ok-queues.queues.items c.make.result.ranks.items c.args.post.now c.args.sums.now new
+    let new = subst (AreNew g.J.Job.log c.args.options.now c.args.jobs.items c.args.seats.items c.args.sums_seats.items c.in_ok-queues.queues.items)
+    (sym c.make.ensures) c.in_ok-ranks.ensures in
+    let first = begins g.J.Job.log g.P.Post.shows g.P.Post.tells g.P.Post.seats g.Q.Sums.shows g.Q.Sums.seats c.args.options.now c.args.starts.items
+    c.args.jobs.items c.args.seats.items c.args.sums_seats.items c.in_ok-queues.queues.items c.make.result.ranks.items c.args.post.now
+    c.args.sums.now new
     c.requires.jobs c.requires.ranks.1 c.requires.width c.requires.seats c.requires.sums_shown c.requires.sums_seats c.in_ok-queues.ensures in
     let ranks = c.in_ok-ranks-2.ranks.items in
     let parts = c.in_ok-parts.ensures in
     let all = same_all g.J.Job.plain o c.make.result.ranks.items ranks c.in_ok-ranks-2.ensures.same first.all in
-    outcome g.J.Job.log g.J.Job.plain g.P.Post.shows g.P.Post.tells g.P.Post.seats g.Q.Sums.shows g.Q.Sums.seats o c.args.starts.items c.args.jobs.items c.make.result.ranks.items ranks c.args.post.now c.run_traced.new.post c.args.sums.now c.run_traced.new.sums c.gather-2.result _
-    c.nothing_waits_at_end.ensures c.rounds_are_fair.ensures.fair c.deeds_keep_sound.ensures g.met.P.Post.agrees c.requires.ranks.0 first (λ k d h. (new.new k d h).share) new.jobs_are c.in_ok-ranks-2.ensures.ended c.in_ok-ranks-2.ensures.same c.in_ok-ranks-2.ensures.unwritten
-    (c.in_ok-ranks-2.ensures.ran o _ first.all c.requires.told) parts.jobs parts.left parts.shares parts.numbers
-    (λ d. ap (λ (x : _). (g.Q.Sums.shows x).answer) (sym (ap (λ (xs : List _). get_or xs 0 d.sums_seat) parts.sums_seats ∙ get_or-map (λ r. r.sums_seat) ranks 0 d d.sums_seat (let a = all.count in let b = c.requires.ranks.0 in omega arith))) ∙ c.gather-2.ensures.first d.sums_seat)
-    (c.gather-2.ensures.sum ∙ ap (λ (xs : List _). sum_by (λ x. (g.Q.Sums.shows x).count) xs) parts.sums_seats ∙ sum_by-map (λ x. (g.Q.Sums.shows x).count) (λ r. r.sums_seat) ranks)
+    outcome g.J.Job.log g.J.Job.plain g.P.Post.shows g.P.Post.tells g.P.Post.seats g.Q.Sums.shows g.Q.Sums.seats o c.args.starts.items c.args.jobs.items
+    c.make.result.ranks.items ranks c.args.post.now c.run_traced.new.post c.args.sums.now c.run_traced.new.sums c.gather-2.result _
+    (record {
+      waits = c.nothing_waits_at_end.ensures;
+      fair = c.rounds_are_fair.ensures.fair;
+      sound = c.deeds_keep_sound.ensures;
+      agrees = g.met.P.Post.agrees;
+      some = c.requires.ranks.0;
+      first = first;
+      unshared = λ k d h. (new.new k d h).share;
+      given_jobs = new.jobs_are;
+      done = c.in_ok-ranks-2.ensures.ended;
+      same = c.in_ok-ranks-2.ensures.same;
+      wrote = c.in_ok-ranks-2.ensures.unwritten;
+      ran = c.in_ok-ranks-2.ensures.ran o _ first.all c.requires.told;
+      jobs_are = parts.jobs;
+      left_are = parts.left;
+      shares_are = parts.shares;
+      sums_are = parts.numbers;
+      answer = λ d. ap (λ (x : _). (g.Q.Sums.shows x).answer)
+          (sym (ap (λ (xs : List _). get_or xs 0 d.sums_seat) parts.sums_seats
+          ∙ get_or-map (λ r. r.sums_seat) ranks 0 d d.sums_seat (let a = all.count in let b = c.requires.ranks.0 in omega arith)))
+          ∙ c.gather-2.ensures.first d.sums_seat;
+      total_is = c.gather-2.ensures.sum ∙ ap (λ (xs : List _). sum_by (λ x. (g.Q.Sums.shows x).count) xs) parts.sums_seats
+          ∙ sum_by-map (λ x. (g.Q.Sums.shows x).count) (λ r. r.sums_seat) ranks;
+    })

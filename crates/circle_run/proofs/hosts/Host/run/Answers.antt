@@ -1,4 +1,4 @@
-use Rattle.std.proofs.Common.{◌≡◌, ℕ, ◌<◌, length, length-set, get_or, false, refl, sym, subst, ◌∙◌, arith}
+use Rattle.std.proofs.Common.{◌<◌, length, length-set, get_or, false, refl, sym, subst, ◌∙◌, arith}
 use Rattle.std.proofs.lemmas.List.{length-take-le}
 use Rattle.circle_run.proofs.Rounds.{at_most_64, placed_first, placed_more, placed_last, same_first, same_order, same_all, same_more, lost_before, lost_here}
 use Rattle.circle_run.proofs.Playing.{going_first, going_more, going_round, each_first, each_more}

@@ -1,4 +1,4 @@
-use Rattle.std.proofs.Common.{◌≡◌, ℕ, length, Some}
+use Rattle.std.proofs.Common.{◌≡◌, length, Some}
 use Rattle.post_board.specs.Told.{Told}
 use Rattle.circle_run.specs.Hosts.{AllPlaced, Same, NoneLost, AreAll, KeptByEach}
 use Rattle.circle_run.specs.declared.settings.Options.{Options}

@@ -21,11 +21,11 @@ returns-clause-came g c = record {
   lost = c.note.ensures.lost;
   went = went_did g.J.Job.log g.J.Job.plain g.P.Post.shows g.P.Post.tells g.P.Post.seats (Follows DidAct c.args.self.now.me to_ask) _ _ _ _ (ask c.victim-victim.result)
       (record { acts = (ask c.victim-victim.result, refl); chosen = (c.victim-victim.result, refl) }) c.note.ensures (record {
-    queue = (c.requires.empty, c.requires.empty);
-    few = (let q = c.requires.empty in let n : length c.args.self.now.queue ≡ 0 = ap length q in omega arith);
-    drawn = (c.victim-victim.ensures.chosen, c.victim-victim.ensures.drawn);
-    log = refl;
-    batches = ap (λ (s : Shown). s.batches) c.ask.ensures.shown;
-    told = tells_as (g.P.Post.shows c.args.self.now.seat).number c.args.self.now.me (ask c.victim-victim.result) (ask c.victim-victim.result) (g.P.Post.tells c.args.post.now) (g.P.Post.tells c.ask.new.self) c.requires.knows.number refl c.ask.ensures.told;
-  });
+        queue = (c.requires.empty, c.requires.empty);
+        few = (let q = c.requires.empty in let n : length c.args.self.now.queue ≡ 0 = ap length q in omega arith);
+        drawn = (c.victim-victim.ensures.chosen, c.victim-victim.ensures.drawn);
+        log = refl;
+        batches = ap (λ (s : Shown). s.batches) c.ask.ensures.shown;
+        told = tells_as (g.P.Post.shows c.args.self.now.seat).number c.args.self.now.me (ask c.victim-victim.result) (ask c.victim-victim.result) (g.P.Post.tells c.args.post.now) (g.P.Post.tells c.ask.new.self) c.requires.knows.number refl c.ask.ensures.told;
+      });
 }

@@ -4,7 +4,7 @@ use Rattle.circle_run.specs.Turns.{Waits}
 use Rattle.circle_run.specs.Private.Steps.{Works}
 use Rattle.circle_run.specs.declared.steps.Did.{Did}
 use Rattle.circle_run.proofs.Stepped.{waited_alone, handled_still, handled_before}
-use Rattle.circle_run.proofs.Choosing.{came_worked, came_over}
+use Rattle.circle_run.proofs.Choosing.{came_worked}
 use Rattle.circle_run.proofs.ranks.Rank.work.Goals as goal
 
 pub returns : goal.returns
@@ -14,12 +14,26 @@ returns g c =
     let heard = c.hear-ring.ensures in
     let served = c.serve-some.ensures in
     let went = c.go_on-did.ensures in
+    let last = c.go_on-did.new.self in
+    let board = c.go_on-did.new.post in
+    let some = c.serve-some.result in
+    let did = c.go_on-did.result in
     let log : g.J.Job.log c.serve-some.new.self.job ≡ g.J.Job.log r.job = ap g.J.Job.log (served.job ∙ heard.job) in
     record {
       came = subst (λ (d : Did). Came g.J.Job.log g.J.Job.plain g.P.Post.shows g.P.Post.tells g.P.Post.seats
-          (Works g.J.Job.heard g.P.Post.shows g.P.Post.tells d r c.args.post.now c.go_on-did.new.self) r c.args.post.now c.go_on-did.new.self c.go_on-did.new.post) (sym same)
-          (came_worked g.J.Job.log g.J.Job.heard g.J.Job.plain g.P.Post.shows g.P.Post.tells g.P.Post.seats c.hear-ring.result c.serve-some.result c.go_on-did.result
-          r c.args.post.now c.hear-ring.new.self c.hear-ring.new.post c.serve-some.new.self c.serve-some.new.post c.settle.new.queue c.go_on-did.new.self c.go_on-did.new.post
+          (Works g.J.Job.heard g.P.Post.shows g.P.Post.tells d r c.args.post.now last) r c.args.post.now last board) (sym same)
+          (came_worked g.J.Job.log g.J.Job.heard g.J.Job.plain g.P.Post.shows g.P.Post.tells g.P.Post.seats c.hear-ring.result some did
+          (record {
+            r = r;
+            p = c.args.post.now;
+            r1 = c.hear-ring.new.self;
+            p1 = c.hear-ring.new.post;
+            r2 = c.serve-some.new.self;
+            p2 = c.serve-some.new.post;
+            queue = c.settle.new.queue;
+            r3 = last;
+            p3 = board;
+          })
           (record {
             more = c.in_default.not-Over;
             read = heard.read;
@@ -32,8 +46,8 @@ returns g c =
             held = went.held;
             heard_is = went.heard;
           }) heard.came served.came went.came);
-      waits = λ e. subst (λ (k : ℕ). Waits k (g.P.Post.tells c.go_on-did.new.post)) (went.came.me ∙ served.came.me ∙ heard.came.me)
-          (went.waits (waited_alone c.serve-some.result c.go_on-did.result (sym same ∙ e)));
-      handled = λ e found. went.handled (handled_before c.serve-some.result c.go_on-did.result (sym same ∙ e)) found ∙ ap (λ (l : _). length l + 1) log;
-      other = λ ne. went.other (λ e. ne (same ∙ handled_still c.serve-some.result c.go_on-did.result e)) ∙ log;
+      waits = λ e. subst (λ (k : ℕ). Waits k (g.P.Post.tells board)) (went.came.me ∙ served.came.me ∙ heard.came.me)
+          (went.waits (waited_alone some did (sym same ∙ e)));
+      handled = λ e found. went.handled (handled_before some did (sym same ∙ e)) found ∙ ap (λ (l : _). length l + 1) log;
+      other = λ ne. went.other (λ e. ne (same ∙ handled_still some did e)) ∙ log;
     }

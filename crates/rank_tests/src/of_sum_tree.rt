@@ -1,6 +1,6 @@
 //! Sums of few ranks with what is known of them.
-use crate::{PlainSums, Sums};
 use std::test::Fail;
+use sum_tree::{PlainSums, Sums};
 
 #[test]
 fn two_ranks_come_to_seven(rt: HostRuntime) -> Result<(), Fail> {

@@ -1,5 +1,5 @@
 use Rattle.std.proofs.Common.{◌≡◌, ◌-◌, ◌≤◌, [], length, All}
-use Rattle.circle_run.proofs.tests.families.Given as goal
+use Rattle.rank_tests.proofs.of_circle_run.families.Given as goal
 
 abbrev pub invariant-loop-alloc : goal.invariant-loop-alloc
 invariant-loop-alloc l = record { few : length l.jobs.items ≤ l.count; unused : All (λ f. f.steps.items ≡ []) l.jobs.items }

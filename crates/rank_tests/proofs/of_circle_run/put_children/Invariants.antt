@@ -1,5 +1,5 @@
 use Rattle.std.proofs.Common.{◌≡◌}
-use Rattle.circle_run.proofs.tests.put_children.Given as goal
+use Rattle.rank_tests.proofs.of_circle_run.put_children.Given as goal
 
 abbrev pub invariant-loop-parent : goal.invariant-loop-parent
 invariant-loop-parent l = record { pushed : l.fresh ≡ l.pushed.items }

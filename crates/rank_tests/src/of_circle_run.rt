@@ -1,7 +1,7 @@
 //! Runs over a table of children.
 ghost use Rattle.std.specs.Prelude.{◌≡◌, ◌≤◌, [], length, All, IfOk};
 
-use crate::{CircleError, Finished, Job, Options, Split, begin};
+use circle_run::{CircleError, Finished, Job, Options, Split, begin};
 use path_text::{OutOfMemory, Path};
 use rank_queue::Batch;
 use ring_core::{Verdict, check_run, put_event};
@@ -62,9 +62,11 @@ struct Family {
 }
 
 impl Job for Family {
-    ghost use Rattle.std.specs.Prelude.{map, ⊤};
+    ghost use Rattle.std.specs.Prelude.{map, ⊤, Some};
 
     ghost log = { λ f. map (λ s. (s.item, s.pushed.items)) f.steps.items };
+
+    ghost heard = { λ f. Some (map (λ s. s.waiting) f.steps.items) };
 
     ghost Plain = { ⊤ };
 
@@ -86,6 +88,7 @@ impl Job for Family {
 fn step_of(alloc: Global, item: &Path, waiting: u64, fresh: &mut Batch) -> Result<Step, OutOfMemory>
     requires { fresh.old ≡ [] }
     ensures item { IfOk result (λ s. s.item ≡ item.now) }
+    ensures waiting { IfOk result (λ s. s.waiting ≡ waiting) }
     ensures pushed { IfOk result (λ s. s.pushed.items ≡ fresh.new) }
 {
     if item.text() == "/bad" {

@@ -1,5 +1,5 @@
 use Rattle.std.proofs.Common.{◌≡◌}
-use Rattle.circle_run.proofs.tests.ran.Goals as goal
+use Rattle.rank_tests.proofs.of_circle_run.ran.Goals as goal
 
 pub begin-requires-clause-unused : goal.begin-requires-clause-unused
 begin-requires-clause-unused g c = λ l o k d h. rw (c.in_ok-jobs.ensures.unused k d h)
