@@ -46,9 +46,18 @@
 mod laws;
 mod plain;
 mod ranks;
+mod sum_trees;
 mod sums;
+mod tree_gathers;
+mod tree_makes;
+mod tree_reads;
+mod tree_rules;
+mod tree_steps;
+mod tree_sums;
+mod tree_views;
 
 pub use laws::{sum_is_own_and_below, sum_of_rank_0_is_sum_of_all, what_is_told_is_sound};
 pub use plain::{PlainSumSeat, PlainSums};
 pub use ranks::{RankSum, Reading};
+pub use sum_trees::{SumSeat, SumTree};
 pub use sums::Sums;
