@@ -10,3 +10,4 @@ pub mod ReadLemmas
 pub mod SeatSteps
 pub mod GatherLemmas
 pub mod StartLemmas
+pub mod MomentLemmas

@@ -46,7 +46,7 @@ module _ {A : Type 0} where
 abbrev rows : (ℕ → Known) → ℕ → RankSum
 rows known r = row_of (known r)
 
-row_at : (n width : ℕ) (known : ℕ → Known) (r : ℕ) → r < n → rank_of (told_of n width known) r ≡ row_of (known r)
+pub row_at : (n width : ℕ) (known : ℕ → Known) (r : ℕ) → r < n → rank_of (told_of n width known) r ≡ row_of (known r)
 row_at n width known r h = get_or-map-range_with_len (rows known) 0 n r r uncounted h (omega arith)
 
 told_size : (n width : ℕ) (known : ℕ → Known) → length (told_of n width known).ranks ≡ n

@@ -5,6 +5,7 @@ pub mod Steps
 pub mod Plain
 pub mod Agreed
 pub mod TreeRule
+pub mod TreeMoments
 pub mod TreeSteps
 pub mod TreeSeats
 pub mod TreeReads

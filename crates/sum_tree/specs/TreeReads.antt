@@ -1,5 +1,5 @@
 -- The words of children that a seat has read one after the other. Our own. Private clauses alone cite this.
-use Rattle.std.specs.Prelude.{◌≡◌, ℕ, ◌+◌, ◌<◌, ◌≤◌, true, false, List, [], ◌∷◌, ◌++◌}
+use Rattle.std.specs.Prelude.{◌≡◌, ℕ, ◌+◌, ◌-◌, ◌*◌, ◌<◌, ◌≤◌, min, true, false, List, [], ◌∷◌, ◌++◌}
 use Rattle.std.specs.List.{sum_by, list_all, range_with_len}
 use Rattle.sum_tree.specs.Steps.{Reads, number_read, is_final_read}
 use Rattle.sum_tree.specs.declared.ranks.Reading.{Reading}
@@ -20,7 +20,16 @@ pub record LoadedFinal (v : Known) (a k : ℕ) (w : Known) : Type 0 where
   pub reads : list_all is_final_read loaded.loads ≡ true
   pub all : (c : ℕ) → a ≤ c → c < a + k → final_of w c ≡ true
 
--- the last one did not
+-- the words of all children of the rank r were loaded, and each read final
+abbrev pub ChildrenFinal : ℕ → ℕ → ℕ → Known → Known → Type 0
+ChildrenFinal n width r v w = LoadedFinal v (r * width + 1) (min width (n - (r * width + 1))) w
+
+-- each child of the rank r was last read final
+abbrev pub AreFinalBelow : ℕ → ℕ → ℕ → Known → Type 0
+AreFinalBelow n width r v =
+    (c : ℕ) → r * width + 1 ≤ c → c < r * width + 1 + min width (n - (r * width + 1)) → final_of v c ≡ true
+
+-- the words of these ranks were loaded up to the first that did not read final
 pub record Blocked (v : Known) (ranks : List ℕ) (w : Known) : Type 0 where
   pub front : List ℕ
   pub rest : List ℕ

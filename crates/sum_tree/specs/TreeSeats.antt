@@ -1,20 +1,26 @@
--- Which seats are a tree's own, and what they show.
-use Rattle.std.specs.Prelude.{◌≡◌, ℕ, ◌+◌, ◌-◌, ◌*◌, ◌<◌, ◌≤◌, ◌^◌, Bool, true, false, List, [], ◌∷◌, ◌++◌, length, min, slice_index_or, Option, Some, None, is_some}
+-- Which seats are those of sums over atomic words, and what they show. Our own.
+use Rattle.std.specs.Prelude.{◌≡◌, ℕ, ◌+◌, ◌-◌, ◌≤◌, ◌<◌, ◌^◌, true, List, [], length, slice_index_or, Some, is_some}
 use Rattle.atomic_table.specs.Seated.{TableId}
 use Rattle.sum_tree.specs.Shown.{SumShown}
 use Rattle.sum_tree.specs.Plain.{fresh}
-use Rattle.std.specs.List.{sum_by, list_all, range_with_len}
-use Rattle.sum_tree.specs.Steps.{Reads, number_read, is_final_read}
-use Rattle.sum_tree.specs.declared.ranks.Reading.{Reading}
-use Rattle.sum_tree.specs.TreeRule.{below, seen_of, final_of}
+use Rattle.sum_tree.specs.TreeRule.{below}
 use Rattle.sum_tree.specs.TreeSteps.{SeatState}
-use Rattle.sum_tree.specs.declared.tree_views.Known.{Known}
 use Rattle.sum_tree.specs.declared.sum_trees.SumTree.{SumTree}
 use Rattle.sum_tree.specs.declared.sum_trees.SumSeat.{SumSeat}
 
+-- a count that was raised shows at once, and is in the word from the next refresh on
 abbrev pub shown_by : SumSeat → SumShown
-shown_by s = record { number = s.seat.me.0.own.number; n = s.seat.me.0.own.n; width = s.seat.me.0.own.width; count = s.count; word = s.seat.me.0.own.word; answer = s.answer }
+shown_by s =
+    record {
+      number = s.seat.me.0.own.number;
+      n = s.seat.me.0.own.n;
+      width = s.seat.me.0.own.width;
+      count = s.count;
+      word = s.seat.me.0.own.word;
+      answer = s.answer;
+    }
 
+-- the seat of the rank me, in use
 pub record Mine (t : SumTree) (id : TableId) (m : SeatState) (me : ℕ) : Type 0 where
   pub table : id ≡ t.table.shared.table_id
   pub number : m.0.own.number ≡ me
@@ -23,10 +29,12 @@ pub record Mine (t : SumTree) (id : TableId) (m : SeatState) (me : ℕ) : Type 0
   pub inside : me < t.n
   pub live : m.0.live ≡ true
 
+-- the seat is one of these sums
 pub record IsSeat (t : SumTree) (s : SumSeat) : Type 0 where
   pub mine : Mine t s.seat.table_id s.seat.me s.number
   pub n : s.n ≡ t.n
   pub width : s.width ≡ t.width
+  -- it has taken no other seat in
   pub alone : (s.seat.me.0.kept ≡ []) × (s.seat.me.1 ≡ [])
   pub long : length s.seat.me.0.own.seen ≡ t.n
   pub wide : length s.seat.me.0.own.finals ≡ t.n

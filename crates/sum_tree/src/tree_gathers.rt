@@ -4,7 +4,7 @@ ghost use Rattle.sum_tree.specs.TreeRule.{both};
 ghost use Rattle.sum_tree.specs.TreeSteps.{Totals};
 
 use crate::sum_trees::{SumSeat, SumTree};
-use crate::tree_rules::{GatherSums, Sum};
+use crate::tree_rules::{Gather, LastLook};
 use crate::tree_views::View;
 use atomic_table::Seat;
 
@@ -25,6 +25,7 @@ impl SumSeat {
 }
 
 impl SumTree {
+    /// Takes another seat in.
     pub(crate) fn join_step(&self, seat: &mut Seat<(), View>, other: Seat<(), View>)
         requires fits { (seat.old.table_id ≡ self.now.table.shared.table_id) × (other.table_id ≡ self.now.table.shared.table_id) }
         requires some { 0 < self.now.n }
@@ -33,9 +34,10 @@ impl SumTree {
         ensures table { seat.new.table_id ≡ seat.old.table_id }
         ensures both { seat.new.me ≡ (both seat.old.me.0 other.me.0, seat.old.me.1) }
     {
-        self.table.shared.join_seat::<GatherSums>(seat, other);
+        self.table.shared.join_seat::<Gather>(seat, other);
     }
 
+    /// Where all seats were taken in and are final, the sum of rank 0 is the sum of their counts.
     pub(crate) fn sum_step(&self, seat: &mut Seat<(), View>)
         requires fits { seat.old.table_id ≡ self.now.table.shared.table_id }
         requires some { 0 < self.now.n }
@@ -43,6 +45,6 @@ impl SumTree {
         ensures table { seat.new.table_id ≡ seat.old.table_id }
         ensures totals { Totals seat.old.me.0 }
     {
-        self.table.shared.load::<Sum>(seat, 0);
+        self.table.shared.load::<LastLook>(seat, 0);
     }
 }

@@ -6,7 +6,7 @@ ghost use Rattle.sum_tree.specs.TreeRule.{fresh, dealing, opened};
 ghost use Rattle.sum_tree.specs.TreeSeats.{shown_by, IsSeat, AllFresh};
 
 use crate::sum_trees::{SumSeat, SumTree};
-use crate::tree_rules::DealSums;
+use crate::tree_rules::Deal;
 use crate::tree_views::View;
 use atomic_table::{Seat, Table};
 use path_text::OutOfMemory;
@@ -56,7 +56,7 @@ impl SumTree {
         ensures first { (first.new.table_id ≡ first.old.table_id) × (first.new.me ≡ (dealing first.old.me.0, first.old.me.1)) }
         ensures seat { (result.table_id ≡ first.old.table_id) × (result.me.1 ≡ []) × (result.me.0.own ≡ fresh self.now.n self.now.width number) × (result.me.0.live ≡ true) × (result.me.0.kept ≡ []) }
     {
-        self.table.shared.split_seat::<DealSums>(first)
+        self.table.shared.split_seat::<Deal>(first)
     }
 }
 

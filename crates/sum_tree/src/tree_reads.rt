@@ -1,10 +1,9 @@
 //! The words of children are read.
-ghost use Rattle.std.specs.Prelude.{◌≡◌, ◌+◌, ◌-◌, ◌*◌, ◌<◌, ◌^◌, None, min, IfSome, IfNone};
-ghost use Rattle.std.specs.List.{range_with_len};
+ghost use Rattle.std.specs.Prelude.{◌≡◌, ◌<◌, ◌^◌, None, IfSome, IfNone};
 ghost use Rattle.sum_tree.specs.Tree.{children};
 ghost use Rattle.sum_tree.specs.TreeRule.{below};
 ghost use Rattle.sum_tree.specs.TreeSeats.{shown_by, IsSeat};
-ghost use Rattle.sum_tree.specs.TreeReads.{Loaded, LoadedFinal, Blocked};
+ghost use Rattle.sum_tree.specs.TreeReads.{Loaded, ChildrenFinal, Blocked};
 
 use crate::sum_trees::{SumSeat, SumTree};
 
@@ -31,15 +30,15 @@ impl SumTree {
         sum
     }
 
-    /// What the words of the children read, together, where each reads final.
+    /// What the words of the children read, together, where each reads final; reads up to the first that does not.
     pub(crate) fn read_finals(&self, seat: &mut SumSeat) -> Option<u64>
         requires seat { IsSeat self.now seat.old }
         requires counting { (shown_by seat.old).answer ≡ None }
         ensures shown { shown_by seat.new ≡ shown_by seat.old }
         ensures mine { IsSeat self.now seat.new }
         ensures sum { IfSome result (λ sum. (sum ≡ below seat.new.seat.me.0.own) × (sum < 2 ^ 62)) }
-        ensures some { IfSome result (λ sum. LoadedFinal seat.old.seat.me.0.own (seat.old.number * seat.old.width + 1) (min seat.old.width (seat.old.n - (seat.old.number * seat.old.width + 1))) seat.new.seat.me.0.own) }
-        ensures none { IfNone result (Blocked seat.old.seat.me.0.own (range_with_len (seat.old.number * seat.old.width + 1) (min seat.old.width (seat.old.n - (seat.old.number * seat.old.width + 1)))) seat.new.seat.me.0.own) }
+        ensures some { IfSome result (λ sum. ChildrenFinal seat.old.n seat.old.width seat.old.number seat.old.seat.me.0.own seat.new.seat.me.0.own) }
+        ensures none { IfNone result (Blocked seat.old.seat.me.0.own (children seat.old.n seat.old.width seat.old.number) seat.new.seat.me.0.own) }
     {
         let first = (seat.number * seat.width + 1) as usize;
         let n = seat.n as usize;

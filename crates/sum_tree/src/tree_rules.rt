@@ -31,24 +31,24 @@ impl Play<(), View> for FinalStore {
     ghost then = { FinalTells };
 }
 
-pub struct DealSums;
+pub struct Deal;
 
-impl Split<View> for DealSums {
+impl Split<View> for Deal {
     ghost left = { dealing };
 
     ghost right = { dealt_out };
 }
 
-pub struct GatherSums;
+pub struct Gather;
 
-impl Join<View> for GatherSums {
+impl Join<View> for Gather {
     ghost both = { both };
 
     ghost spent = { spent };
 }
 
-pub struct Sum;
+pub struct LastLook;
 
-impl Play<(), View> for Sum {
+impl Play<(), View> for LastLook {
     ghost then = { LastLookTells };
 }

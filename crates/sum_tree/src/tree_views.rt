@@ -1,12 +1,13 @@
-//! What the seat of a rank knows of the sums. No value of these types is made.
+//! What the seat of a rank knows of the sums. No value of these types is made: they are the views of a table.
 use crate::ranks::Reading;
 use std::collections::LinkedList;
 
+/// What the seat of a rank knows.
 pub struct Known {
     pub number: u64,
     pub n: u64,
     pub width: u64,
-    /// What it had counted when it last stored its word.
+    /// What the rank had counted when it last stored its word.
     pub count: u64,
     pub word: u64,
     pub is_final: bool,
@@ -17,8 +18,11 @@ pub struct Known {
 }
 
 pub struct View {
+    /// Seats made so far, told by the first one alone.
     pub made: u64,
     pub own: Known,
+    /// What the seats knew that this one took in.
     pub kept: LinkedList<Known>,
+    /// False once another seat has taken this one in.
     pub live: bool,
 }
