@@ -4,3 +4,8 @@ pub mod Shown
 pub mod Steps
 pub mod Plain
 pub mod Agreed
+pub mod TreeRule
+pub mod TreeMoments
+pub mod TreeSteps
+pub mod TreeSeats
+pub mod TreeReads

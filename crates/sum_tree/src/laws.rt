@@ -2,7 +2,9 @@
 ghost use Rattle.std.specs.Prelude.{◌≡◌, ◌+◌, ◌<◌, ◌≤◌, ℕ, Some, true};
 ghost use Rattle.std.specs.List.{range_with_len, sum_by};
 ghost use Rattle.sum_tree.specs.Tree.{children, sum_of};
-ghost use Rattle.sum_tree.specs.Told.{SumTold, Sound, count_of, word_of, is_final};
+ghost use Rattle.sum_tree.specs.Told.{SumTold, Sound, word_of, is_final, sum_in};
+ghost use Rattle.sum_tree.specs.TreeRule.{TableState, Rule};
+ghost use Rattle.sum_tree.specs.TreeMoments.{told_at, WordsAreTold, SeatsAreTold};
 
 use crate::sums::Sums;
 
@@ -20,4 +22,14 @@ pub fn sum_of_rank_0_is_sum_of_all()
 /// Between any two calls, what sums tell is sound: a word holds at most the sum of its rank, and a final one just that.
 pub fn what_is_told_is_sound<Q: Sums>()
     ensures { (sums : Q) (seat : Q.Seat) (told : SumTold) → Q.seats sums seat → Q.tells sums ≡ Some told → Sound told }
+{}
+
+/// Between any two steps on the words of a [`SumTree`](crate::SumTree), whatever its threads do, a word holds at most the sum of what
+/// its rank and all below it had counted, each when it last wrote its word, and a final one just that.
+pub fn words_are_sums_at_every_moment()
+    ensures words { (n width : ℕ) (s : TableState) (o : Rule n width s) → WordsAreTold n width s o }
+    ensures seats { (n width : ℕ) (s : TableState) (o : Rule n width s) → SeatsAreTold n width s o }
+    ensures at_most { (n width : ℕ) (s : TableState) (o : Rule n width s) (r : ℕ) → word_of (told_at n width s o) r ≤ sum_in (told_at n width s o) r }
+    ensures exact { (n width : ℕ) (s : TableState) (o : Rule n width s) (r : ℕ) → is_final (told_at n width s o) r ≡ true
+        → word_of (told_at n width s o) r ≡ sum_in (told_at n width s o) r }
 {}

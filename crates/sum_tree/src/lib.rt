@@ -11,6 +11,7 @@
 //!   [`finish`](Sums::finish) write the word, [`shown`](Sums::shown) reads it, and [`gather`](Sums::gather) takes all seats
 //!   back and answers the sum.
 //! - [`PlainSums`] implements it for one thread, by a list of the ranks' counts and words.
+//! - [`SumTree`] implements it for threads, by atomic words: each rank acts through a reference to the tree and a seat of its own.
 //!
 //! ```text
 //! let (mut sums, mut seats) = PlainSums::make(alloc, 2, 2)?;   // rank 1 is the child of rank 0
@@ -38,7 +39,11 @@
 //!
 //! Plain sums keep all of it. The sum of a rank is defined by recursion down the tree ([`sum_is_own_and_below`]), and that of rank
 //! 0 is the sum of all counts ([`sum_of_rank_0_is_sum_of_all`]). A count stops at 2^56 - 1, and there are at most 64 ranks, so no
-//! sum overflows. No call takes memory but [`PlainSums::make`].
+//! sum overflows. No call takes memory but [`PlainSums::make`] and [`SumTree::make`].
+//!
+//! `&SumTree` meets the same contract word for word. Its seats tell the steps that they made on the words. What holds of the words
+//! between any two steps, whatever the threads do, is [`words_are_sums_at_every_moment`]. A count that is raised is in the rank's
+//! word from its next refresh on; until then the word tells of the count that it was last written with.
 //!
 //! Not promised: that a rank ever finishes. That depends on those who call.
 #![tactic(auto)]
@@ -46,9 +51,21 @@
 mod laws;
 mod plain;
 mod ranks;
+mod sum_trees;
 mod sums;
+mod tree_gathers;
+mod tree_makes;
+mod tree_reads;
+mod tree_rules;
+mod tree_steps;
+mod tree_sums;
+mod tree_views;
 
-pub use laws::{sum_is_own_and_below, sum_of_rank_0_is_sum_of_all, what_is_told_is_sound};
+pub use laws::{
+    sum_is_own_and_below, sum_of_rank_0_is_sum_of_all, what_is_told_is_sound,
+    words_are_sums_at_every_moment,
+};
 pub use plain::{PlainSumSeat, PlainSums};
 pub use ranks::{RankSum, Reading};
+pub use sum_trees::{SumSeat, SumTree};
 pub use sums::Sums;

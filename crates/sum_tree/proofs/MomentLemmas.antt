@@ -1,0 +1,15 @@
+-- What the rule says of every moment.
+use Rattle.std.proofs.Common.{◌≡◌, ℕ, ◌∙◌, sym, ap}
+use Rattle.sum_tree.specs.Steps.{coded}
+use Rattle.sum_tree.specs.declared.ranks.RankSum.{RankSum}
+use Rattle.sum_tree.specs.TreeRule.{TableState, Rule, row_of}
+use Rattle.sum_tree.specs.TreeMoments.{WordsAreTold, SeatsAreTold}
+use Rattle.sum_tree.proofs.WordSteps.{row_at}
+
+pub words_told : (n width : ℕ) (s : TableState) (o : Rule n width s) → WordsAreTold n width s o
+words_told n width s o r inside = o.moment.words r inside ∙ ap (λ (x : RankSum). coded x.word x.is_final) (sym (row_at n width o.known r inside))
+
+pub seats_told : (n width : ℕ) (s : TableState) (o : Rule n width s) → SeatsAreTold n width s o
+seats_told n width s o k v here live =
+    let seat = o.seated k v here live in
+    row_at n width o.known k seat.0 ∙ ap row_of seat.1

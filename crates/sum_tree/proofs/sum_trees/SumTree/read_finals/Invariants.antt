@@ -1,0 +1,19 @@
+use Rattle.std.proofs.Common.{◌≡◌, ℕ, ◌-◌, ◌<◌, ◌^◌, sum_by}
+use Rattle.std.specs.List.{range_with_len}
+use Rattle.sum_tree.specs.TreeRule.{seen_of}
+use Rattle.sum_tree.specs.TreeSeats.{IsSeat}
+use Rattle.sum_tree.specs.TreeReads.{LoadedFinal}
+use Rattle.sum_tree.proofs.sum_trees.SumTree.read_finals.Given as goal
+
+abbrev pub invariant-loop-child : goal.invariant-loop-child
+invariant-loop-child l = record {
+  mine : IsSeat l.self l.seat;
+  number : l.seat.number ≡ l.fn.seat.number;
+  n : l.seat.n ≡ l.fn.seat.n;
+  width : l.seat.width ≡ l.fn.seat.width;
+  count : l.seat.count ≡ l.fn.seat.count;
+  answer : l.seat.answer ≡ l.fn.seat.answer;
+  loaded : LoadedFinal l.fn.seat.seat.me.0.own l.first (l.child - l.first) l.seat.seat.me.0.own;
+  sum : l.sum ≡ sum_by (seen_of l.seat.seat.me.0.own) (range_with_len l.first (l.child - l.first));
+  fits : l.sum < 2 ^ 62;
+}

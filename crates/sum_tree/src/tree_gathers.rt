@@ -1,0 +1,50 @@
+//! Seats come together.
+ghost use Rattle.std.specs.Prelude.{◌≡◌, ◌<◌, [], true};
+ghost use Rattle.sum_tree.specs.TreeRule.{both};
+ghost use Rattle.sum_tree.specs.TreeSteps.{Totals};
+
+use crate::sum_trees::{SumSeat, SumTree};
+use crate::tree_rules::{Gather, LastLook};
+use crate::tree_views::View;
+use atomic_table::Seat;
+
+impl SumSeat {
+    pub(crate) fn apart(self) -> (Seat<(), View>, Option<u64>)
+        ensures { (result.0 ≡ self.seat) × (result.1 ≡ self.answer) }
+    {
+        let SumSeat {
+            seat,
+            answer,
+            number: _,
+            n: _,
+            width: _,
+            count: _,
+        } = self;
+        (seat, answer)
+    }
+}
+
+impl SumTree {
+    /// Takes another seat in.
+    pub(crate) fn join_step(&self, seat: &mut Seat<(), View>, other: Seat<(), View>)
+        requires fits { (seat.old.table_id ≡ self.now.table.shared.table_id) × (other.table_id ≡ self.now.table.shared.table_id) }
+        requires some { 0 < self.now.n }
+        requires live { (seat.old.me.0.live ≡ true) × (other.me.0.live ≡ true) }
+        requires empty { other.me.1 ≡ [] }
+        ensures table { seat.new.table_id ≡ seat.old.table_id }
+        ensures both { seat.new.me ≡ (both seat.old.me.0 other.me.0, seat.old.me.1) }
+    {
+        self.table.shared.join_seat::<Gather>(seat, other);
+    }
+
+    /// Where all seats were taken in and are final, the sum of rank 0 is the sum of their counts.
+    pub(crate) fn sum_step(&self, seat: &mut Seat<(), View>)
+        requires fits { seat.old.table_id ≡ self.now.table.shared.table_id }
+        requires some { 0 < self.now.n }
+        requires live { seat.old.me.0.live ≡ true }
+        ensures table { seat.new.table_id ≡ seat.old.table_id }
+        ensures totals { Totals seat.old.me.0 }
+    {
+        self.table.shared.load::<LastLook>(seat, 0);
+    }
+}
