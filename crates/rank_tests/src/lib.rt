@@ -3,3 +3,10 @@
 //! They stand here, and not in the crates, so that each of those is proved once: what they call is proved, and they are proved over
 //! its contracts.
 #![tactic(auto)]
+
+#[cfg(test)]
+mod of_board;
+#[cfg(test)]
+mod of_post_board;
+#[cfg(test)]
+mod of_shared_ranks;
