@@ -1,5 +1,5 @@
 -- The masks of a plain board go with its mailboxes.
-use Rattle.std.proofs.Common.{◌≡◌, ◌≢◌, ℕ, ◌+◌, ◌^◌, ◌<◌, ◌≤◌, ◌==◌, refl, sym, subst, ap, ◌∙◌, arith, Bool, true, false, eq-eqb, ne_eqb, List, length, replicate, get_or, set, get_or-set_same, get_or-set_other, length-set, bit_or, bit_xor, None}
+use Rattle.std.proofs.Common.{◌≡◌, ◌≢◌, ℕ, ◌^◌, ◌<◌, ◌≤◌, ◌==◌, refl, sym, subst, ap, ◌∙◌, true, false, eq-eqb, ne_eqb, List, length, replicate, get_or, set, get_or-set_same, get_or-set_other, length-set, bit_or, bit_xor, None}
 use Rattle.std.proofs.lemmas.List.{length-replicate}
 use Rattle.std.proofs.lemmas.Nat.Bits.{bit_at-zero}
 use mathlib.Core.Logic.{dite}
@@ -13,7 +13,6 @@ use Rattle.post_board.specs.Plain.{plain, wants, no_rank, fresh_rank, told_of, s
 use Rattle.post_board.specs.declared.plain_seats.PlainSeat.{PlainSeat}
 use Rattle.post_board.proofs.PlainFrames.{After, told_place}
 use Rattle.post_board.proofs.PlainDeeds.{own_rest, serving_mail}
-use Rattle.post_board.specs.declared.plain_ranks.PlainMailbox.{PlainMailbox}
 use Rattle.post_board.specs.declared.plain_ranks.PlainMailbox.TheVariants.{Rest, Wants, Served}
 use Rattle.post_board.specs.declared.plain_ranks.PlainRank.{PlainRank}
 use Rattle.post_board.proofs.PlainStart.{read_of_copies}

@@ -1,10 +1,9 @@
 -- What a call leaves, from what its steps told.
-use Rattle.std.proofs.Common.{◌≡◌, ℕ, ◌+◌, ◌-◌, ◌<◌, ◌≢◌, ◌⊎◌, inl, inr, ⊎_elim, arith, ◌*◌, ◌/◌, ◌%◌, ◌==◌, Bool, true, false, cond, ne_eqb, eq-eqb, suc, refl, sym, subst, ap, ◌∙◌, List, [], ◌∷◌, ◌++◌, append_assoc, length, length-set, map, get_or, set, get_or-set_same, get_or-set_other, sum_by, zero, deque_capacity, ◌≤◌, Option, Some, None}
-use Rattle.ring_core.specs.World.{darker}
+use Rattle.std.proofs.Common.{◌≡◌, ℕ, ◌+◌, ◌<◌, ◌≢◌, ◌⊎◌, inl, inr, ⊎_elim, arith, ◌*◌, ◌/◌, ◌%◌, ◌==◌, Bool, true, false, cond, ne_eqb, eq-eqb, suc, refl, sym, subst, ap, ◌∙◌, List, [], ◌∷◌, ◌++◌, append_assoc, length, length-set, map, get_or, set, get_or-set_same, get_or-set_other, sum_by, zero, deque_capacity, ◌≤◌, Option, Some, None}
 use Rattle.ring_core.specs.declared.states.Colour.{Colour}
 use Rattle.ring_core.specs.declared.states.Token.{Token}
-use Rattle.ring_core.specs.declared.states.Token.TheVariants.{At, Over}
-use Rattle.post_board.specs.Shown.{Shown, token_of, mixed, victim_of}
+use Rattle.ring_core.specs.declared.states.Token.TheVariants.{At}
+use Rattle.post_board.specs.Shown.{token_of, victim_of}
 use Rattle.post_board.specs.Readings.{Adds, One, Two, Three, Step, TokenSteps, others_below, NoneAsked}
 use Rattle.post_board.specs.Words.{Sign, resting, asking, serving, full, fetching, emptied, sign_by, sign, word_of, token_read, word_of_token}
 use Rattle.post_board.proofs.WordLemmas.{sign_of_word, token_of_word}
@@ -12,7 +11,7 @@ use Rattle.post_board.specs.declared.answers.Reading.{Reading}
 use Rattle.post_board.specs.BoardSeats.{shown_known}
 use Rattle.post_board.specs.declared.board_views.Known.{Known}
 use Rattle.post_board.specs.declared.board_views.OwnMailbox.{OwnMailbox}
-use Rattle.post_board.specs.declared.board_views.OwnMailbox.TheVariants.{Resting, Open, Filled, Emptied}
+use Rattle.post_board.specs.declared.board_views.OwnMailbox.TheVariants.{Open, Filled, Emptied}
 use Rattle.post_board.specs.declared.boards.Board.{Board}
 use Rattle.post_board.specs.declared.boards.BoardSeat.{BoardSeat}
 use Rattle.post_board.specs.BoardRule.{asked_of, OpenFits, OwnFits}
@@ -22,7 +21,7 @@ use Rattle.post_board.specs.BoardWork.{Fronted}
 use Rattle.post_board.specs.declared.board_views.View.{View}
 use Rattle.atomic_table.specs.Table.{rest}
 use Rattle.std.proofs.lemmas.List.Sums.{sum_by-set, sum_by-cons}
-use Rattle.std.specs.List.{All, Contains}
+use Rattle.std.specs.List.{Contains}
 use Rattle.std.proofs.lemmas.List.{append-nil, map-append}
 use Rattle.std.proofs.lemmas.List.Elements.{All-nil, All-cons, All-append}
 use Rattle.post_board.proofs.MailboxLemmas.{one_word}

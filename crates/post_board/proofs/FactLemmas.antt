@@ -1,15 +1,14 @@
 -- A step at the seat of id, the mailbox of r and the slot of r keeps the facts of mailboxes.
-use Rattle.std.proofs.Common.{◌≡◌, ℕ, ◌+◌, ◌<◌, ◌≢◌, refl, sym, subst, ap, ◌∙◌, arith, Bool, true, false, List, [], ◌++◌, length, get_or}
+use Rattle.std.proofs.Common.{◌≡◌, ℕ, ◌<◌, ◌≢◌, refl, sym, subst, ap, ◌∙◌, true, false, [], ◌++◌, length, get_or}
 use mathlib.Core.Option as Core
 use mathlib.Core.Logic.{dite}
 use native.Mathlib.Decide.{ℕ_discrete}
 use Rattle.ring_core.specs.Picture.{put}
 use Rattle.ring_core.proofs.PictureLemmas.{put_here, put_elsewhere, put_all}
-use Rattle.post_board.specs.Shown.{Strings}
 use Rattle.post_board.specs.Words.{Sign, serving}
 use Rattle.post_board.specs.BoardRule.{Parcel, MailboxFacts, serves, given, taken, OwnFits, SlotFits, Away, on_way}
 use Rattle.post_board.specs.declared.board_views.Known.{Known}
-use Rattle.post_board.proofs.Puts.{put_same, put_both, put_self}
+use Rattle.post_board.proofs.Puts.{put_same, put_self}
 
 -- what is owed for such a step
 pub record Owed (n : ℕ) (known : ℕ → Known) (signs : ℕ → Sign) (slot : ℕ → Core.Option Parcel) (id : ℕ) (w : Known) (r : ℕ) (d : Sign)

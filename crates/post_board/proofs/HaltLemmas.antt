@@ -1,10 +1,9 @@
 -- A step at the seat of id keeps the facts of the halt and the stops.
-use Rattle.std.proofs.Common.{◌≡◌, ℕ, ◌<◌, ◌≢◌, refl, sym, subst, ap, ◌∙◌, Bool, true, false}
+use Rattle.std.proofs.Common.{◌≡◌, ℕ, ◌<◌, sym, ◌∙◌, Bool, true, false}
 use Rattle.ring_core.specs.Picture.{put}
-use Rattle.ring_core.proofs.PictureLemmas.{put_here, put_elsewhere, put_all}
+use Rattle.ring_core.proofs.PictureLemmas.{put_all}
 use Rattle.post_board.specs.BoardRule.{HaltFacts, serves}
 use Rattle.post_board.specs.declared.board_views.Known.{Known}
-use Rattle.post_board.specs.declared.board_views.OwnMailbox.{OwnMailbox}
 use Rattle.post_board.specs.declared.board_views.OwnMailbox.TheVariants.{Resting, Left}
 use Rattle.post_board.proofs.Puts.{put_same}
 

@@ -1,30 +1,23 @@
 -- The steps on the halt word and the stops word, and withdrawing.
-use Rattle.std.proofs.Common.{◌≡◌, ℕ, ◌+◌, ◌-◌, ◌^◌, ◌<◌, ◌≤◌, ◌≢◌, ◌⊎◌, inl, inr, ⊎_elim, refl, sym, subst, ap, ◌∙◌, arith, Bool, true, false, cond, List, length, get_or, set, length-set, eq-eqb, eqb, ◌==◌, bit_or, max, Option, Some, None}
+use Rattle.std.proofs.Common.{◌≡◌, ℕ, ◌+◌, ◌^◌, ◌<◌, ◌≢◌, ◌⊎◌, inl, inr, ⊎_elim, refl, sym, subst, ap, ◌∙◌, Bool, true, false, cond, get_or, set, length-set, eqb, ◌==◌, bit_or, Some}
 use Rattle.std.proofs.lemmas.Bool.{eqb-true}
 use Rattle.post_board.proofs.BitLemmas.{bit_set, bit_else}
-use Rattle.std.specs.Int.{bit_at}
-use lib.ListN.{get_elem?}
-use lib.Seq.{set-get_or}
 use prog.Atomic.{either}
 use Rattle.atomic_table.specs.Table.{step, Act, keeps, stepped, Valid, carried_after, Allows}
 use Rattle.atomic_table.proofs.Lists.{exchanged}
-use mathlib.Core.Option.{none, some}
-use mathlib.Core.Logic.{dite}
-use native.Mathlib.Decide.{ℕ_discrete}
+use mathlib.Core.Option.{none}
 use Rattle.ring_core.specs.Picture.{put}
-use Rattle.ring_core.proofs.PictureLemmas.{put_here, put_elsewhere, put_all}
-use Rattle.ring_core.specs.declared.states.Colour.{Colour}
-use Rattle.post_board.specs.Plain.{HereFits}
+use Rattle.ring_core.proofs.PictureLemmas.{put_here, put_all}
 use Rattle.post_board.specs.Words.{has_bit, Sign, resting, asking, serving, full, fetching, emptied, sign, word_of}
 use Rattle.post_board.proofs.WordLemmas.{sign_of_word}
-use Rattle.post_board.specs.BoardRule.{Parcel, TableState, MailboxFacts, RingFacts, HaltFacts, Moment, Rule, serves, signs_in, slots_in, token_in, halt_in, stops_in, OwnFits, OpenFits, Away, asked_of}
-use Rattle.post_board.specs.BoardSteps.{Going, SeatState, noted, knows, knowing, after_rest, after_look, learn}
+use Rattle.post_board.specs.BoardRule.{Parcel, TableState, MailboxFacts, RingFacts, Rule, serves, signs_in, slots_in, token_in, halt_in, stops_in, OwnFits, OpenFits, Away, asked_of}
+use Rattle.post_board.specs.BoardSteps.{Going, SeatState, noted, knows, after_rest, after_look, learn}
 use Rattle.post_board.specs.LateSteps.{SetHaltTells, halt_seen, LoadHaltTells, StopTells, stop_seen, LoadStopsTells, WithdrawTells}
 use Rattle.post_board.specs.declared.board_views.Known.{Known}
 use Rattle.post_board.specs.declared.board_views.View.{View}
 use Rattle.post_board.specs.declared.board_views.OwnMailbox.{OwnMailbox}
 use Rattle.post_board.specs.declared.board_views.OwnMailbox.TheVariants.{Resting, Open, Left, Filled, Emptied, Getting}
-use Rattle.post_board.proofs.Puts.{put_same, put_self}
+use Rattle.post_board.proofs.Puts.{put_same}
 use Rattle.post_board.proofs.FactLemmas.{unmoved}
 use Rattle.post_board.proofs.MailboxLemmas.{one_word, own_moves, slot_under, learns, learns_away}
 use Rattle.post_board.proofs.RingLemmas.{calm_all, withdraws}

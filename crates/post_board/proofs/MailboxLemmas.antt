@@ -1,21 +1,21 @@
 -- Each kind of step on a mailbox keeps the facts of mailboxes.
-use Rattle.std.proofs.Common.{◌≡◌, ℕ, ◌+◌, ◌*◌, ◌/◌, ◌%◌, ◌==◌, ◌<◌, ◌≢◌, ◌⊎◌, inl, inr, ⊎_elim, refl, sym, subst, ap, ◌∙◌, arith, Bool, true, false, cond, List, [], ◌∷◌, ◌++◌, length, get_or, set, get_or-set_same, get_or-set_other, length-set, eq-eqb, ne_eqb, Option, Some, None}
+use Rattle.std.proofs.Common.{◌≡◌, ℕ, ◌/◌, ◌%◌, ◌==◌, ◌<◌, ◌≢◌, inl, inr, ⊎_elim, refl, sym, subst, ap, ◌∙◌, arith, Bool, true, false, cond, [], ◌∷◌, ◌++◌, length, get_or, set, get_or-set_same, get_or-set_other, length-set, eq-eqb, ne_eqb, Some, None}
 use Rattle.std.proofs.lemmas.List.{append-nil}
 use mathlib.Core.Option.{none, some}
 use mathlib.Core.Option as Core
 use mathlib.Core.Logic.{dite}
 use native.Mathlib.Decide.{ℕ_discrete}
 use Rattle.ring_core.specs.Picture.{put}
-use Rattle.ring_core.proofs.PictureLemmas.{put_here, put_elsewhere, put_all}
+use Rattle.ring_core.proofs.PictureLemmas.{put_here, put_elsewhere}
 use Rattle.post_board.specs.Shown.{Strings}
 use Rattle.post_board.specs.Words.{Sign, resting, asking, serving, full, fetching, emptied, sign, sign_by, word_of}
-use Rattle.post_board.specs.BoardRule.{Parcel, MailboxFacts, serves, given, taken, OwnFits, OpenFits, SlotFits, Away, asked_of, on_way}
+use Rattle.post_board.specs.BoardRule.{Parcel, MailboxFacts, serves, given, taken, OwnFits, SlotFits, Away, asked_of, on_way}
 use Rattle.post_board.specs.BoardSteps.{learn}
 use Rattle.post_board.specs.declared.board_views.Known.{Known}
 use Rattle.post_board.specs.declared.board_views.OwnMailbox.{OwnMailbox}
 use Rattle.post_board.specs.declared.board_views.OwnMailbox.TheVariants.{Resting, Open, Left, Filled, Emptied, Getting}
-use Rattle.post_board.proofs.Puts.{put_same, put_both, put_self}
-use Rattle.post_board.proofs.FactLemmas.{Owed, moved}
+use Rattle.post_board.proofs.Puts.{put_same, put_self}
+use Rattle.post_board.proofs.FactLemmas.{moved}
 
 no_other : (b c d e : Bool) (r v : ℕ) → cond b (serving r) (cond c (full r) (cond d (fetching r) (cond e (emptied r) resting))) ≡ asking v → ⊥
 no_other true c d e r v h = cc

@@ -1,24 +1,20 @@
 -- The steps on mailboxes: ask, look, take up, post batch, post none, fetch, rest.
-use Rattle.std.proofs.Common.{◌≡◌, ℕ, ◌+◌, ◌-◌, ◌<◌, ◌≤◌, ◌≢◌, ◌⊎◌, inl, inr, ⊎_elim, refl, sym, subst, ap, ◌∙◌, arith, Bool, true, false, cond, nat_lt, List, [], ◌∷◌, length, get_or, set, length-set, eqb, Option, Some, None}
-use lib.ListN.{get_elem?}
-use lib.Seq.{set-get_or}
+use Rattle.std.proofs.Common.{◌≡◌, ℕ, ◌+◌, ◌-◌, ◌<◌, ◌≢◌, inl, refl, sym, subst, ap, ◌∙◌, arith, true, false, cond, nat_lt, List, ◌∷◌, length, get_or, set, length-set, eqb, Some, None}
 use prog.Atomic.{either}
-use Rattle.atomic_table.specs.Table.{State, step, Act, keeps, takes, gives, rest, put_back, stepped, Valid, carried_after, Allows}
+use Rattle.atomic_table.specs.Table.{step, keeps, takes, gives, rest, put_back, Allows}
 use Rattle.atomic_table.proofs.Lists.{exchanged}
 use mathlib.Core.Option.{none, some}
 use mathlib.Core.Option as Core
 use Rattle.ring_core.specs.Picture.{put}
 use Rattle.ring_core.specs.declared.states.Colour.{Colour}
 use Rattle.post_board.specs.Shown.{Strings}
-use Rattle.post_board.specs.Told.{asked as asking_mail}
 use Rattle.post_board.specs.Words.{Sign, resting, asking, serving, full, fetching, emptied, sign, word_of}
 use Rattle.post_board.proofs.WordLemmas.{sign_of_word}
 use Rattle.post_board.specs.BoardRule.{Parcel, TableState, MailboxFacts, RingFacts, HaltFacts, Moment, Rule, serves, given, taken, signs_in, slots_in, token_in, halt_in, stops_in, OwnFits, SlotFits, Away, asked_of, mail_of}
 use Rattle.post_board.specs.BoardSteps.{Going, SeatState, noted, knows, knowing, after_ask, AskTells, learn, after_look, LookTells, after_taking, TakeUpTells, ScanTells, after_post, front, GiveTells, after_refusing, RefuseTells, after_fetch, FetchTells, after_rest, RestTells, RestEmptyTells}
 use Rattle.post_board.specs.declared.board_views.Known.{Known}
-use Rattle.post_board.specs.declared.board_views.View.{View}
 use Rattle.post_board.specs.declared.board_views.OwnMailbox.{OwnMailbox}
-use Rattle.post_board.specs.declared.board_views.OwnMailbox.TheVariants.{Resting, Open, Left, Filled, Emptied, Getting}
+use Rattle.post_board.specs.declared.board_views.OwnMailbox.TheVariants.{Resting, Left, Filled, Emptied, Getting}
 use mathlib.Core.Logic.{dite}
 use native.Mathlib.Decide.{ℕ_discrete}
 use Rattle.post_board.proofs.Puts.{put_self}
@@ -26,7 +22,7 @@ use Rattle.post_board.proofs.FactLemmas.{unmoved}
 use Rattle.post_board.proofs.MailboxLemmas.{own_moves, slot_under, not_self, takes_up, refuses, posts, fetches, rests, learns, learns_away}
 use Rattle.post_board.proofs.RingLemmas as Turns
 use Rattle.post_board.proofs.HaltLemmas.{halt_same}
-use Rattle.post_board.proofs.HaltSteps.{Goes, learn_left}
+use Rattle.post_board.proofs.HaltSteps.{Goes}
 use Rattle.post_board.proofs.Frames.{there, mailbox_there, slot_put, reads, writes}
 
 -- what a seat knows of its number

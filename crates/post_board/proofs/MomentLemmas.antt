@@ -1,7 +1,6 @@
 -- What the rule of a board of atomic words says of every moment.
-use Rattle.std.proofs.Common.{◌≡◌, ℕ, ◌<◌, refl, sym, subst, ap, ◌∙◌, arith, true, false, length}
+use Rattle.std.proofs.Common.{◌≡◌, ℕ, ◌<◌, subst, ap, ◌∙◌, arith, true, length}
 use Rattle.ring_core.specs.Picture.{PictureInvariant}
-use Rattle.ring_core.specs.declared.states.Token.{Token}
 use Rattle.ring_core.specs.declared.states.Token.TheVariants.{Over}
 use Rattle.post_board.specs.Told.{Place, picture, Sound}
 use Rattle.post_board.specs.Words.{Sign}

@@ -1,6 +1,5 @@
 -- A step at the seat of id keeps the picture sound, and what seats know of the token.
-use Rattle.std.proofs.Common.{◌≡◌, ℕ, ◌-◌, ◌<◌, ◌≢◌, ◌⊎◌, inl, inr, ⊎_elim, refl, sym, subst, ap, ◌∙◌, arith, Bool, true, false, cond, nat_lt, eq-eqb, List, [], map, length, set, Option, Some, None}
-use Rattle.std.specs.List.{range_with_len}
+use Rattle.std.proofs.Common.{◌≡◌, ℕ, ◌-◌, ◌<◌, ◌≢◌, ◌⊎◌, inl, inr, ⊎_elim, refl, sym, subst, ap, ◌∙◌, arith, Bool, true, false, cond, nat_lt, eq-eqb, [], length, Option, Some, None}
 use Rattle.ring_core.specs.Picture.{put, PictureInvariant, is_filled}
 use Rattle.ring_core.specs.World.{darker, is_over}
 use Rattle.ring_core.specs.Step.{is_at}
@@ -15,13 +14,13 @@ use Rattle.post_board.specs.Plain.{HereFits}
 use Rattle.post_board.specs.Reached.{Reached, begun, did}
 use Rattle.post_board.proofs.DeedLemmas.{sound_after}
 use Rattle.post_board.proofs.PlainStart.{sound_at_first}
-use Rattle.post_board.specs.Words.{Sign, resting, asking, serving, full, fetching, emptied}
+use Rattle.post_board.specs.Words.{Sign, resting, asking, full, fetching, emptied}
 use Rattle.post_board.specs.BoardRule.{mail_of, place_of, sheet, told_of, RingFacts}
 use Rattle.post_board.specs.declared.board_views.Known.{Known}
 use mathlib.Core.Logic.{dite}
 use native.Mathlib.Decide.{ℕ_discrete}
-use Rattle.post_board.proofs.Puts.{put_same, put_self}
-use Rattle.post_board.proofs.Sheets.{sheet_size, place_at, replaced, places, seen_own, seen_two, seen_same, done, put_one, put_two}
+use Rattle.post_board.proofs.Puts.{put_self}
+use Rattle.post_board.proofs.Sheets.{sheet_size, place_at, places, seen_own, seen_two, seen_same, done, put_one, put_two}
 
 -- what was reached is sound
 pub sound_of : (n : ℕ) (t : Told) → 0 < n → Reached n t → Sound t

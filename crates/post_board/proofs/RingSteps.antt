@@ -1,11 +1,10 @@
 -- The steps on the ring: load ring, pass, restart, conclude.
-use Rattle.std.proofs.Common.{◌≡◌, ℕ, ◌+◌, ◌-◌, ◌<◌, ◌≤◌, ◌≢◌, ◌⊎◌, inl, inr, ⊎_elim, refl, sym, subst, ap, ◌∙◌, arith, Bool, true, false, cond, List, length, get_or, set, length-set, eq-eqb, eqb, ◌==◌, Option, Some, None}
+use Rattle.std.proofs.Common.{◌≡◌, ℕ, ◌-◌, ◌<◌, ◌⊎◌, inl, inr, ⊎_elim, refl, sym, subst, ap, ◌∙◌, arith, Bool, true, false, cond, get_or, set, length-set, ◌==◌, Option, Some, None}
 use Rattle.std.proofs.lemmas.Bool.{eqb-true}
 use lib.ListN.{get_elem?}
-use lib.Seq.{set-get_or}
-use Rattle.atomic_table.specs.Table.{step, Act, keeps, Allows}
+use Rattle.atomic_table.specs.Table.{step, keeps, Allows}
 use mathlib.Core.Option.{none, some}
-use Rattle.ring_core.specs.World.{darker, is_over}
+use Rattle.ring_core.specs.World.{darker}
 use Rattle.ring_core.specs.Step.{is_at}
 use Rattle.ring_core.specs.Picture.{put}
 use Rattle.ring_core.specs.declared.states.Colour.{Colour}
@@ -18,9 +17,8 @@ use Rattle.post_board.proofs.WordLemmas.{token_of_word}
 use Rattle.post_board.specs.BoardRule.{TableState, MailboxFacts, RingFacts, HaltFacts, Moment, Rule, signs_in, slots_in, token_in, halt_in, stops_in, OwnFits}
 use Rattle.post_board.specs.BoardSteps.{Going, SeatState, noted, knows, knowing, heard_at, RingTells, after_pass, PassTells, after_restart, RestartTells, after_conclude, ConcludeTells}
 use Rattle.post_board.specs.declared.board_views.Known.{Known}
-use Rattle.post_board.specs.declared.board_views.View.{View}
 use Rattle.post_board.specs.declared.board_views.OwnMailbox.{OwnMailbox}
-use Rattle.post_board.specs.declared.board_views.OwnMailbox.TheVariants.{Resting, Left}
+use Rattle.post_board.specs.declared.board_views.OwnMailbox.TheVariants.{Resting}
 use Rattle.post_board.proofs.FactLemmas.{unmoved}
 use Rattle.post_board.proofs.RingLemmas.{calm_all, sees_over, passes, restarts, concludes, over_quiet, many}
 use Rattle.post_board.proofs.HaltLemmas.{halt_same}

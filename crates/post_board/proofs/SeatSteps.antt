@@ -1,31 +1,24 @@
 -- Seats are made, taken in, and settle; and the table at the start.
-use Rattle.std.proofs.Common.{◌≡◌, ℕ, zero, suc, ◌+◌, ◌-◌, ◌<◌, ◌≤◌, ◌≢◌, ◌⊎◌, inl, inr, ⊎_elim, refl, sym, subst, ap, ◌∙◌, arith, Bool, true, false, cond, nat_lt, List, [], ◌∷◌, ◌++◌, map, replicate, length, get_or, set, get_or-set_same, get_or-set_other, length-set, length-append, ◌==◌, Option, Some, None}
+use Rattle.std.proofs.Common.{◌≡◌, ℕ, zero, suc, ◌+◌, ◌<◌, ◌≤◌, ◌≢◌, ◌⊎◌, inl, inr, ⊎_elim, refl, sym, subst, ap, ◌∙◌, arith, Bool, true, false, cond, nat_lt, List, [], ◌∷◌, ◌++◌, map, replicate, length, get_or, set, get_or-set_same, get_or-set_other, length-set, length-append, ◌==◌, None}
 use Rattle.std.specs.List.{All, range_with_len}
-use Rattle.std.proofs.lemmas.List.{append-nil, get_or_past, get_or-map, get_or-replicate, length-replicate, length-map}
+use Rattle.std.proofs.lemmas.List.{append-nil, get_or-map, get_or-replicate, length-replicate, length-map}
 use Rattle.std.proofs.lemmas.List.Elements.{All-nil, All-cons, All-append}
 use Rattle.std.proofs.lemmas.Nat.Bits.{bit_at-zero}
 use mathlib.Core.Option.{none, some, some-injective, some-ne-none}
 use mathlib.Core.Option as Core
-use mathlib.Core.Logic.{dite}
-use native.Mathlib.Decide.{ℕ_discrete, dec_le}
 use lib.ListN.{get_elem?}
-use Rattle.atomic_table.specs.Table.{State, step, keeps, opening, Allows, Splits, Joins}
+use Rattle.atomic_table.specs.Table.{step, keeps, opening, Allows, Splits, Joins}
 use Rattle.atomic_table.proofs.Lists.{at_set, set_else, set_here, at_longer}
-use Rattle.ring_core.specs.Picture.{put}
-use Rattle.ring_core.specs.declared.states.Colour.{Colour}
-use Rattle.ring_core.specs.declared.states.Colour.TheVariants.{White, Black}
-use Rattle.ring_core.specs.declared.states.Token.{Token}
-use Rattle.ring_core.specs.declared.states.Token.TheVariants.{At, Over}
-use Rattle.post_board.specs.Shown.{Strings}
-use Rattle.post_board.specs.Told.{Told, Place, place, no_place, vacant, Sane, Sound}
-use Rattle.post_board.specs.Words.{has_bit, Sign, resting, sign, word_of, token_read, word_of_token, full}
+use Rattle.ring_core.specs.declared.states.Colour.TheVariants.{Black}
+use Rattle.ring_core.specs.declared.states.Token.TheVariants.{At}
+use Rattle.post_board.specs.Told.{Place, no_place}
+use Rattle.post_board.specs.Words.{has_bit, Sign, resting, sign, token_read, word_of_token, full}
 use Rattle.post_board.proofs.WordLemmas.{sign_of_word, token_of_word}
 use Rattle.post_board.specs.BoardRule.{Parcel, TableState, MailboxFacts, RingFacts, HaltFacts, Moment, Rule, KeptIn, serves, given, taken, on_way, signs_in, slots_in, token_in, halt_in, stops_in, OwnFits, SlotFits, sheet, told_of, fresh, opened, dealing, dealt_out, both, spent}
-use Rattle.post_board.specs.BoardSteps.{SeatState, noted, knows, Squares, LastLookTells}
+use Rattle.post_board.specs.BoardSteps.{SeatState, noted, knows, LastLookTells}
 use Rattle.post_board.specs.declared.board_views.Known.{Known}
 use Rattle.post_board.specs.declared.board_views.View.{View}
 use Rattle.post_board.specs.declared.board_views.OwnMailbox.{OwnMailbox}
-use Rattle.post_board.specs.declared.board_views.OwnMailbox.TheVariants.{Resting}
 use Rattle.post_board.proofs.MailboxLemmas.{not_full}
 use Rattle.post_board.proofs.FactLemmas.{unmoved}
 use Rattle.post_board.proofs.RingLemmas.{calm_all, over_quiet}
@@ -34,10 +27,10 @@ use Rattle.post_board.proofs.PlainStart.{read_of_copies}
 use Rattle.post_board.specs.Reached.{Reached, begun}
 use Rattle.post_board.proofs.HaltLemmas.{halt_moved}
 use Rattle.post_board.proofs.Puts.{put_same}
-use Rattle.post_board.specs.Fresh.{fresh_place, fresh_told}
+use Rattle.post_board.specs.Fresh.{fresh_place}
 use Rattle.std.proofs.lemmas.List.{ext_get_or}
 use Rattle.std.proofs.lemmas.List.FromFn.{get_or-map-range_with_len}
-use Rattle.post_board.proofs.Sheets.{places, place_at, sheet_size}
+use Rattle.post_board.proofs.Sheets.{places, sheet_size}
 use Rattle.post_board.proofs.Frames.{there, within, elsewhere, reads}
 
 -- the one after the last

@@ -1,5 +1,5 @@
 -- The picture of a board's words and views, and what a step makes of it.
-use Rattle.std.proofs.Common.{◌≡◌, ℕ, ◌+◌, ◌<◌, ◌≢◌, refl, sym, subst, ap, ◌∙◌, arith, Bool, true, false, List, [], map, length, get_or, set, get_or-set_same, get_or-set_other, length-set}
+use Rattle.std.proofs.Common.{◌≡◌, ℕ, ◌<◌, ◌≢◌, sym, subst, ap, ◌∙◌, arith, List, map, length, get_or, set, get_or-set_same, get_or-set_other, length-set}
 use Rattle.std.specs.List.{range_with_len}
 use Rattle.std.proofs.lemmas.List.{ext_get_or}
 use Rattle.std.proofs.lemmas.List.FromFn.{length-map-range_with_len, get_or-map-range_with_len}
@@ -8,13 +8,13 @@ use native.Mathlib.Decide.{ℕ_discrete}
 use Rattle.ring_core.specs.Picture.{put}
 use Rattle.ring_core.proofs.PictureLemmas.{put_here, put_elsewhere, put_all}
 use Rattle.ring_core.specs.declared.states.Token.{Token}
-use Rattle.post_board.specs.Told.{Place, Told, no_place, place}
+use Rattle.post_board.specs.Told.{Place, no_place, place}
 use Rattle.post_board.specs.Deeds.{Deed, told_after, Legal}
 use Rattle.post_board.specs.Words.{Sign, resting}
 use Rattle.post_board.specs.Reached.{Reached, did}
-use Rattle.post_board.specs.BoardRule.{mail_of, place_of, sheet, told_of}
+use Rattle.post_board.specs.BoardRule.{mail_of, place_of, sheet}
 use Rattle.post_board.specs.declared.board_views.Known.{Known}
-use Rattle.post_board.proofs.Puts.{put_same, put_self}
+use Rattle.post_board.proofs.Puts.{put_same}
 
 pub sheet_size : (n : ℕ) (f : ℕ → Place) → length (map f (range_with_len 0 n)) ≡ n
 sheet_size n f = length-map-range_with_len f 0 n

@@ -8,10 +8,8 @@ use mathlib.Core.Option.{none, some}
 use mathlib.Core.Option as Core
 use lib.ListN.{get_elem?}
 use Rattle.atomic_table.specs.Table.{State}
-use Rattle.ring_core.specs.declared.states.Colour.{Colour}
-use Rattle.ring_core.specs.declared.states.Colour.TheVariants.{White, Black}
+use Rattle.ring_core.specs.declared.states.Colour.TheVariants.{White}
 use Rattle.ring_core.specs.declared.states.Token.{Token}
-use Rattle.ring_core.specs.declared.states.Token.TheVariants.{At, Over}
 use Rattle.post_board.specs.Shown.{Strings}
 use Rattle.post_board.specs.Told.{Mail, vacant, asked, full as filled, empty, Place, Told}
 use Rattle.post_board.specs.Reached.{Reached}

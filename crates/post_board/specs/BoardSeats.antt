@@ -1,15 +1,9 @@
 -- Which seats are a board's own, and what they show: the seat of `Post` for `&Board`. Our own.
-use Rattle.std.specs.Prelude.{◌≡◌, ◌≢◌, ℕ, ◌+◌, ◌<◌, ◌≤◌, ◌==◌, if◌then◌else◌, List, [], ◌∷◌, replicate, map, length, sum_by, true, false, Bool, slice_index_or, Option, Some, None}
+use Rattle.std.specs.Prelude.{◌≡◌, ℕ, ◌<◌, ◌≤◌, [], replicate, map, length, sum_by, true, false, Bool, Option, Some, None}
 use Rattle.std.specs.List.{Contains}
 use Rattle.std.proofs.Common.{deque_capacity}
-use Rattle.atomic_table.specs.Seated.{TableId}
 use Rattle.post_board.specs.Shown.{Batches, Shown}
-use Rattle.ring_core.specs.declared.states.Token.{Token}
-use Rattle.ring_core.specs.declared.states.Token.TheVariants.{At, Over}
-use Rattle.post_board.specs.declared.answers.Ring.{Ring}
-use Rattle.post_board.specs.declared.answers.Ring.TheVariants.{Elsewhere, Here, Over as HeardOver}
-use Rattle.post_board.specs.BoardRule.{Parcel, asked_of, serves}
-use Rattle.post_board.specs.BoardSteps.{SeatState, Going}
+use Rattle.post_board.specs.BoardRule.{asked_of, serves}
 use Rattle.post_board.specs.declared.board_views.Known.{Known}
 use Rattle.post_board.specs.declared.board_views.OwnMailbox.{OwnMailbox}
 use Rattle.post_board.specs.declared.board_views.OwnMailbox.TheVariants.{Resting, Open, Left}

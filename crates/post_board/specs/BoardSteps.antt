@@ -1,20 +1,19 @@
 -- What each step of a board of atomic words tells the call that makes it: of the step, the seat before, the number found and the seat after. Our own. Private clauses alone cite this, and `LateSteps`.
-use Rattle.std.specs.Prelude.{All, ◌≡◌, ◌≢◌, ℕ, ◌+◌, ◌-◌, ◌^◌, ◌<◌, ◌⊎◌, ◌==◌, nat_lt, Bool, true, false, if◌then◌else◌, List, [], ◌∷◌, ◌++◌, bit_or, slice_set, Option, Some, None}
+use Rattle.std.specs.Prelude.{All, ◌≡◌, ◌≢◌, ℕ, ◌-◌, ◌<◌, ◌⊎◌, ◌==◌, nat_lt, Bool, true, false, if◌then◌else◌, List, [], ◌∷◌, ◌++◌, slice_set, Some, None}
 use Rattle.atomic_table.specs.Table.{Me, Step, rest}
-use Rattle.ring_core.specs.World.{darker, is_over}
+use Rattle.ring_core.specs.World.{is_over}
 use Rattle.ring_core.specs.Step.{is_at}
 use Rattle.ring_core.specs.declared.states.Colour.{Colour}
 use Rattle.ring_core.specs.declared.states.Colour.TheVariants.{White, Black}
 use Rattle.ring_core.specs.declared.states.Token.{Token}
 use Rattle.ring_core.specs.declared.states.Token.TheVariants.{At, Over}
 use Rattle.post_board.specs.Shown.{Strings}
-use Rattle.post_board.specs.Words.{Sign, resting, asking, serving, full, fetching, emptied, sign, word_of, token_read, word_of_token}
-use Rattle.post_board.specs.declared.answers.Reading.{Reading}
+use Rattle.post_board.specs.Words.{Sign, resting, asking, serving, full, fetching, emptied, sign, word_of, token_read}
 use Rattle.post_board.specs.BoardRule.{Parcel, given, taken, serves, OwnFits}
 use Rattle.post_board.specs.declared.board_views.Known.{Known}
 use Rattle.post_board.specs.declared.board_views.View.{View}
 use Rattle.post_board.specs.declared.board_views.OwnMailbox.{OwnMailbox}
-use Rattle.post_board.specs.declared.board_views.OwnMailbox.TheVariants.{Resting, Open, Left, Filled, Emptied, Getting}
+use Rattle.post_board.specs.declared.board_views.OwnMailbox.TheVariants.{Resting, Open, Filled, Emptied, Getting}
 
 -- what a seat knows, and the slots that it holds, the one that it took last in front
 abbrev pub SeatState : Type 0

@@ -1,5 +1,5 @@
 -- The steps that no call makes yet, by which all ranks are told to halt, and one that waits for a rank that has stopped takes its request back. The rule keeps them already. Our own.
-use Rattle.std.specs.Prelude.{◌≡◌, ◌≢◌, ℕ, ◌+◌, ◌^◌, ◌⊎◌, ◌==◌, Bool, true, false, if◌then◌else◌, bit_or, Some, None}
+use Rattle.std.specs.Prelude.{◌≡◌, ◌≢◌, ℕ, ◌+◌, ◌^◌, ◌⊎◌, ◌==◌, Bool, true, false, if◌then◌else◌, bit_or, None}
 use prog.Atomic.{either}
 use mathlib.Core.Option.{none}
 use Rattle.atomic_table.specs.Table.{Allows, step}

@@ -12,3 +12,8 @@ mod of_ring_core;
 mod of_sum_tree;
 #[cfg(test)]
 mod of_tree_walk;
+mod of_board;
+#[cfg(test)]
+mod of_post_board;
+#[cfg(test)]
+mod of_shared_ranks;

@@ -1,19 +1,13 @@
-use Rattle.std.proofs.Common.{rules, ◌≡◌, ◌≢◌, ℕ, ◌+◌, ◌-◌, ◌*◌, ◌∙◌, ◌<◌, ◌⊎◌, ⊎_elim, inl, inr, refl, sym, ap, subst, arith, true, false, List, [], ◌∷◌, ◌++◌, Some, None}
-use Rattle.ring_core.specs.World.{darker}
-use Rattle.ring_core.specs.declared.states.Colour.{Colour}
-use Rattle.ring_core.specs.declared.states.Colour.TheVariants.{White, Black}
-use Rattle.ring_core.specs.declared.states.Token.TheVariants.{At, Over}
-use Rattle.post_board.specs.Readings.{Steps, Is, Step, Read}
-use Rattle.post_board.specs.declared.board_views.OwnMailbox.{OwnMailbox}
-use Rattle.post_board.specs.declared.board_views.OwnMailbox.TheVariants.{Open, Filled, Emptied}
-use Rattle.post_board.specs.BoardSteps.{learn, after_look}
-use Rattle.post_board.specs.Shown.{mixed, token_of, victim_of}
-use Rattle.post_board.specs.Words.{Sign, resting, asking, serving, full, fetching, emptied, sign, word_of, token_read, word_of_token}
-use Rattle.post_board.proofs.WordLemmas.{sign_of_word, token_of_word}
-use Rattle.post_board.specs.declared.answers.Reading.{Reading}
+use Rattle.std.proofs.Common.{◌≡◌, ℕ, ◌+◌, ◌∙◌, ◌⊎◌, ⊎_elim, inl, inr, refl, sym, ap, [], ◌∷◌, ◌++◌}
+use Rattle.post_board.specs.Readings.{Is, Step, Read}
+use Rattle.post_board.specs.declared.board_views.OwnMailbox.TheVariants.{Open}
+use Rattle.post_board.specs.BoardSteps.{after_look}
+use Rattle.post_board.specs.Shown.{victim_of}
+use Rattle.post_board.specs.Words.{resting, asking, serving, full, fetching, emptied, sign, word_of}
+use Rattle.post_board.proofs.WordLemmas.{sign_of_word}
 use Rattle.post_board.specs.BoardSteps.{SeatState}
 use Rattle.post_board.specs.BoardSeats.{shown_known, own_by}
-use Rattle.post_board.proofs.CallLemmas.{reading, one_more, two_more, three_more, token_here, ring_moved, victim_here, pending, learn_full, learn_empty, learn_none, still}
+use Rattle.post_board.proofs.CallLemmas.{reading, one_more, two_more, three_more, victim_here, pending, learn_full, learn_empty, learn_none, still}
 use Rattle.post_board.proofs.board_posts.RefBoardPost.answer.Goals as goal
 
 pub fetch-batch-requires-clause-full : goal.fetch-batch-requires-clause-full

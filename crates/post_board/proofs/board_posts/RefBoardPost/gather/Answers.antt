@@ -1,8 +1,6 @@
-use Rattle.std.proofs.Common.{rules, ◌≡◌, ℕ, ◌∙◌, refl, sym, ap, arith, List, [], ◌∷◌, ◌++◌, length}
-use Rattle.std.proofs.lemmas.Grind.{common_steps}
+use Rattle.std.proofs.Common.{◌≡◌, ◌∙◌, refl, ap, arith, [], ◌∷◌, ◌++◌, length}
 use Rattle.post_board.specs.BoardSteps.{SeatState}
-use Rattle.post_board.specs.declared.boards.BoardSeat.{BoardSeat}
-use Rattle.post_board.proofs.GatherLemmas.{Together, begun, fits, went_on, squares_of}
+use Rattle.post_board.proofs.GatherLemmas.{begun, fits, went_on, squares_of}
 use Rattle.post_board.proofs.board_posts.RefBoardPost.gather.Goals as goal
 
 pub loop-other-init : goal.loop-other-init

@@ -1,18 +1,11 @@
-use Rattle.std.proofs.Common.{rules, ◌≡◌, ◌≢◌, ℕ, ◌+◌, ◌-◌, ◌*◌, ◌∙◌, ◌<◌, ⊎_elim, inl, inr, refl, sym, ap, subst, arith, true, false, append_assoc, map, length, get_or, set, get_or-set_other, length-set, length-append, sum_by, deque_capacity, deque_len, ◌≤◌, List, [], ◌∷◌, ◌++◌, Some, None}
-use Rattle.ring_core.specs.World.{darker}
-use Rattle.ring_core.specs.declared.states.Colour.{Colour}
-use Rattle.ring_core.specs.declared.states.Colour.TheVariants.{White, Black}
-use Rattle.ring_core.specs.declared.states.Token.TheVariants.{At, Over}
-use Rattle.post_board.specs.Readings.{Is, Step, Read}
-use Rattle.post_board.specs.Shown.{mixed, token_of}
-use Rattle.post_board.specs.Words.{Sign, resting, asking, serving, full, fetching, emptied, sign, word_of, token_read, word_of_token}
-use Rattle.post_board.proofs.WordLemmas.{sign_of_word, token_of_word}
+use Rattle.std.proofs.Common.{◌≡◌, ◌≢◌, ℕ, ◌+◌, ◌∙◌, ◌<◌, refl, sym, ap, subst, arith, true, false, append_assoc, map, length, get_or, set, get_or-set_other, length-set, length-append, sum_by, deque_capacity, deque_len, ◌≤◌, List, [], ◌∷◌, ◌++◌, Some, None}
+use Rattle.post_board.specs.Words.{asking, serving, word_of}
+use Rattle.post_board.proofs.WordLemmas.{sign_of_word}
 use Rattle.post_board.specs.declared.answers.Reading.{Reading}
 use Rattle.post_board.specs.BoardSteps.{SeatState}
-use Rattle.post_board.specs.BoardSeats.{shown_known}
-use Rattle.post_board.proofs.CallLemmas.{reading, one_more, two_more, three_more, served_more, room_for, Looked, looked_more, looked_self}
+use Rattle.post_board.proofs.CallLemmas.{reading, served_more, room_for, Looked, looked_more, looked_self}
 use Rattle.post_board.specs.Readings.{NoneAsked}
-use Rattle.post_board.specs.BoardSteps.{knows, knowing, noted, after_taking}
+use Rattle.post_board.specs.BoardSteps.{knows, after_taking}
 use mathlib.Core.Logic.{dite}
 use native.Mathlib.Decide.{ℕ_discrete}
 use Rattle.std.specs.List.{Contains}

@@ -1,16 +1,12 @@
-use Rattle.std.proofs.Common.{rules, ◌≡◌, ◌≢◌, ℕ, ◌+◌, ◌-◌, ◌*◌, ◌∙◌, ◌<◌, ⊎_elim, inl, inr, refl, sym, ap, subst, arith, true, false, List, [], ◌∷◌, ◌++◌, Some, None}
+use Rattle.std.proofs.Common.{◌≡◌, ℕ, ◌-◌, ◌∙◌, sym, ap, Some}
 use Rattle.ring_core.specs.World.{darker}
 use Rattle.ring_core.specs.declared.states.Colour.{Colour}
-use Rattle.ring_core.specs.declared.states.Colour.TheVariants.{White, Black}
-use Rattle.ring_core.specs.declared.states.Token.TheVariants.{At, Over}
-use Rattle.post_board.specs.Readings.{Is, Step, Read}
-use Rattle.post_board.specs.Shown.{mixed, token_of}
-use Rattle.post_board.specs.Words.{Sign, resting, asking, serving, full, fetching, emptied, sign, word_of, token_read, word_of_token}
-use Rattle.post_board.proofs.WordLemmas.{sign_of_word, token_of_word}
-use Rattle.post_board.specs.declared.answers.Reading.{Reading}
+use Rattle.ring_core.specs.declared.states.Token.TheVariants.{At}
+use Rattle.post_board.specs.Shown.{mixed}
+use Rattle.post_board.specs.Words.{word_of_token}
 use Rattle.post_board.specs.BoardSteps.{SeatState}
 use Rattle.post_board.specs.BoardSeats.{shown_known}
-use Rattle.post_board.proofs.CallLemmas.{reading, one_more, two_more, three_more, token_here, ring_moved}
+use Rattle.post_board.proofs.CallLemmas.{token_here, ring_moved}
 use Rattle.post_board.proofs.board_posts.RefBoardPost.pass.Goals as goal
 
 pub returns-clause-reads : goal.returns-clause-reads

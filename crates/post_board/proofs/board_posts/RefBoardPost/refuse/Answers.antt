@@ -1,19 +1,11 @@
-use Rattle.std.proofs.Common.{rules, ◌≡◌, ◌≢◌, ℕ, ◌+◌, ◌-◌, ◌*◌, ◌∙◌, ◌<◌, ⊎_elim, inl, inr, refl, sym, ap, subst, arith, true, false, List, [], ◌∷◌, ◌++◌, Some, None}
-use Rattle.ring_core.specs.World.{darker}
-use Rattle.ring_core.specs.declared.states.Colour.{Colour}
-use Rattle.ring_core.specs.declared.states.Colour.TheVariants.{White, Black}
-use Rattle.ring_core.specs.declared.states.Token.TheVariants.{At, Over}
-use Rattle.post_board.specs.Readings.{Is, Step, Read}
-use Rattle.post_board.specs.Shown.{mixed, token_of}
-use Rattle.post_board.specs.Words.{Sign, resting, asking, serving, full, fetching, emptied, sign, word_of, token_read, word_of_token}
-use Rattle.post_board.proofs.WordLemmas.{sign_of_word, token_of_word}
-use Rattle.post_board.specs.declared.answers.Reading.{Reading}
+use Rattle.std.proofs.Common.{◌≡◌, ◌+◌, ◌∙◌, refl, sym, ap, false, [], ◌∷◌, ◌++◌}
+use Rattle.post_board.specs.Readings.{Is, Step}
+use Rattle.post_board.specs.Words.{serving, emptied, word_of}
+use Rattle.post_board.proofs.WordLemmas.{sign_of_word}
 use Rattle.post_board.specs.BoardSteps.{SeatState}
-use Rattle.post_board.specs.BoardSeats.{shown_known}
-use Rattle.post_board.proofs.CallLemmas.{reading, one_more, two_more, three_more, token_here, ring_moved}
+use Rattle.post_board.proofs.CallLemmas.{reading, one_more}
 use Rattle.std.proofs.Common.{set}
-use Rattle.atomic_table.specs.Table.{rest}
-use Rattle.post_board.specs.BoardSteps.{knows, after_post, front, after_refusing}
+use Rattle.post_board.specs.BoardSteps.{after_refusing}
 use Rattle.post_board.specs.BoardSeats.{own_by}
 use Rattle.post_board.proofs.CallLemmas.{answered_one}
 use Rattle.post_board.specs.declared.board_views.View.{View}

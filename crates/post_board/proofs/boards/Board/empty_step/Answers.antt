@@ -1,9 +1,4 @@
-use Rattle.std.proofs.Common.{rules, ◌≡◌, ◌≢◌, ℕ, ◌+◌, ◌-◌, ◌∙◌, ⊎_elim, inl, inr, refl, sym, ap, subst, arith}
-use Rattle.ring_core.specs.World.{darker}
-use Rattle.ring_core.specs.declared.states.Colour.TheVariants.{White, Black}
-use Rattle.ring_core.specs.declared.states.Token.TheVariants.{At, Over}
-use Rattle.post_board.specs.Words.{word_of_token}
-use Rattle.post_board.specs.declared.board_views.OwnMailbox.TheVariants.{Open, Left}
+use Rattle.std.proofs.Common.{arith}
 use Rattle.post_board.proofs.MailboxSteps.{allows_empty}
 use Rattle.post_board.proofs.boards.Board.empty_step.Goals as goal
 

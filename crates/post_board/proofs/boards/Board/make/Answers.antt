@@ -1,4 +1,3 @@
-use Rattle.std.proofs.Common.{rules, arith}
 use Rattle.post_board.proofs.SeatSteps.{starts, first_words}
 use Rattle.post_board.proofs.boards.Board.make.Goals as goal
 

@@ -1,9 +1,7 @@
-use Rattle.std.proofs.Common.{rules, ◌≡◌, ◌≢◌, ℕ, ◌+◌, ◌-◌, ◌∙◌, ⊎_elim, inl, inr, refl, sym, ap, subst, arith}
-use Rattle.ring_core.specs.World.{darker}
-use Rattle.ring_core.specs.declared.states.Colour.TheVariants.{White, Black}
-use Rattle.ring_core.specs.declared.states.Token.TheVariants.{At, Over}
+use Rattle.std.proofs.Common.{ℕ, ◌-◌, ◌∙◌, ⊎_elim, inl, inr, sym, ap, arith}
+use Rattle.ring_core.specs.declared.states.Colour.TheVariants.{White}
+use Rattle.ring_core.specs.declared.states.Token.TheVariants.{At}
 use Rattle.post_board.specs.Words.{word_of_token}
-use Rattle.post_board.specs.declared.board_views.OwnMailbox.TheVariants.{Open, Left}
 use Rattle.post_board.proofs.RingSteps.{allows_restart}
 use Rattle.post_board.proofs.boards.Board.restart_step.Goals as goal
 

@@ -1,7 +1,7 @@
-use Rattle.std.proofs.Common.{rules, ◌≡◌, ℕ, ◌≤◌, ◌∙◌, refl, sym, ap, subst, arith, List, [], length, get_or, replicate, map, false, true, sum_by, Bool, None}
+use Rattle.std.proofs.Common.{◌≡◌, ℕ, ◌∙◌, refl, sym, ap, [], length, get_or, replicate, map, false, sum_by, None}
 use Rattle.std.proofs.lemmas.List.{length-replicate}
 use Rattle.post_board.specs.BoardRule.{serves}
-use Rattle.post_board.specs.BoardSeats.{IsSeat, one_if}
+use Rattle.post_board.specs.BoardSeats.{one_if}
 use Rattle.post_board.specs.declared.board_views.Known.{Known}
 use Rattle.post_board.proofs.SeatSteps.{never}
 use Rattle.post_board.proofs.CallLemmas.{serves_none}

@@ -4,7 +4,6 @@ use Rattle.post_board.specs.Plain.{no_rank, plain}
 use Rattle.post_board.proofs.PlainDeeds.{take_left, none_left}
 use Rattle.post_board.specs.Plain.{wants}
 use Rattle.post_board.specs.declared.plain_ranks.PlainMailbox.{PlainMailbox}
-use Rattle.post_board.specs.declared.plain_ranks.PlainMailbox.TheVariants.{Wants, Served}
 use Rattle.post_board.specs.declared.plain_ranks.PlainRank.{PlainRank}
 use Rattle.post_board.proofs.AskerLemmas.{noted_same, with_masks}
 use Rattle.post_board.proofs.plain_posts.PlainBoardPost.answer.Goals as goal

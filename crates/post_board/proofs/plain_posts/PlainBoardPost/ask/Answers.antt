@@ -3,9 +3,7 @@ use Rattle.std.proofs.lemmas.List.{get_or_read}
 use Rattle.post_board.specs.Plain.{no_rank, plain}
 use Rattle.post_board.proofs.PlainDeeds.{ask_deed}
 use Rattle.post_board.specs.Plain.{Noted}
-use Rattle.post_board.specs.declared.plain_ranks.PlainMailbox.{PlainMailbox}
-use Rattle.post_board.specs.declared.plain_ranks.PlainMailbox.TheVariants.{Wants, Served}
-use Rattle.post_board.specs.declared.plain_ranks.PlainRank.{PlainRank}
+use Rattle.post_board.specs.declared.plain_ranks.PlainMailbox.TheVariants.{Wants}
 use Rattle.post_board.proofs.AskerLemmas.{noted_asks, with_masks, rests}
 use Rattle.post_board.proofs.plain_posts.PlainBoardPost.ask.Goals as goal
 

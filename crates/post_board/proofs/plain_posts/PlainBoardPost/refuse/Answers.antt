@@ -5,8 +5,6 @@ use Rattle.post_board.specs.Plain.{no_rank, plain}
 use Rattle.post_board.proofs.PlainDeeds.{refuse_deed, serves_below}
 use Rattle.post_board.specs.Plain.{wants}
 use Rattle.post_board.specs.declared.plain_ranks.PlainMailbox.{PlainMailbox}
-use Rattle.post_board.specs.declared.plain_ranks.PlainMailbox.TheVariants.{Wants, Served}
-use Rattle.post_board.specs.declared.plain_ranks.PlainRank.{PlainRank}
 use Rattle.post_board.proofs.AskerLemmas.{noted_same, with_masks}
 use Rattle.post_board.proofs.plain_posts.PlainBoardPost.refuse.Goals as goal
 

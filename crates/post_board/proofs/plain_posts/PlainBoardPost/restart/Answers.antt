@@ -3,8 +3,6 @@ use Rattle.std.proofs.lemmas.List.{get_or_read}
 use Rattle.post_board.specs.Plain.{no_rank, plain}
 use Rattle.post_board.proofs.PlainDeeds.{restart_deed}
 use Rattle.post_board.specs.Plain.{wants}
-use Rattle.post_board.specs.declared.plain_ranks.PlainMailbox.{PlainMailbox}
-use Rattle.post_board.specs.declared.plain_ranks.PlainMailbox.TheVariants.{Wants, Served}
 use Rattle.post_board.specs.declared.plain_ranks.PlainRank.{PlainRank}
 use Rattle.post_board.proofs.AskerLemmas.{noted_same, with_masks}
 use Rattle.post_board.proofs.plain_posts.PlainBoardPost.restart.Goals as goal

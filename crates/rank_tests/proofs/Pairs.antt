@@ -1,0 +1,26 @@
+-- The two seats of a board of two ranks.
+use Rattle.std.proofs.Common.{◌≡◌, ℕ, sym, subst, ap, ◌∙◌, arith, List, [], ◌∷◌, get_or, Option, Some, IfSome}
+use Rattle.post_board.specs.Shown.{Shown, Batches}
+use Rattle.post_board.specs.Fresh.{fresh, AllFresh}
+
+-- what was answered of a list of two
+pub pair_of : {A : Type 0} (all : List A) (answer : Option (A × A)) (first second : A) → IfSome answer (λ pair. all ≡ pair.0 ∷ pair.1 ∷ [])
+    → answer ≡ Some (first, second) → all ≡ first ∷ second ∷ []
+pair_of {A} all answer first second found is = subst (λ (x : Option (A × A)). IfSome x (λ pair. all ≡ pair.0 ∷ pair.1 ∷ [])) is found
+
+module _ {S : Type 0} (shows : S → Shown) (seats : S → Type 0) where
+  -- a seat of the rank k, one of two, that has done nothing
+  pub record New (k : ℕ) (s : S) : Type 0 where
+    pub mine : seats s
+    pub unused : shows s ≡ fresh 2 k (shows s).batches
+
+  new : (k : ℕ) (s : S) (b : Option Batches) → seats s × (shows s ≡ fresh 2 k b) → New k s
+  new k s b h = record { mine = h.0; unused = h.1 ∙ ap (fresh 2 k) (sym (ap (λ (x : Shown). x.batches) h.1)) }
+
+  pub both_new : (all : List S) (answer : Option (S × S)) (first second : S) (b : Option Batches) → AllFresh shows seats 2 b all
+      → IfSome answer (λ pair. all ≡ pair.0 ∷ pair.1 ∷ []) → answer ≡ Some (first, second) → New 0 first × New 1 second
+  both_new all answer first second b made found is =
+      let whole : all ≡ first ∷ second ∷ [] = pair_of all answer first second found is in (
+        new 0 first b (subst (λ (xs : List S). seats (get_or xs 0 first) × (shows (get_or xs 0 first) ≡ fresh 2 0 b)) whole (made.each 0 first (omega arith))),
+        new 1 second b (subst (λ (xs : List S). seats (get_or xs 1 first) × (shows (get_or xs 1 first) ≡ fresh 2 1 b)) whole (made.each 1 first (omega arith))),
+      )

@@ -1,0 +1,7 @@
+use Rattle.std.proofs.Common.{◌≡◌, true}
+use Rattle.post_board.specs.Shown.{Live, is_open}
+use Rattle.post_board.specs.BoardSeats.{IsSeat, shown_by}
+use Rattle.rank_tests.proofs.of_board.ask_for_some.Given as goal
+
+abbrev pub invariant-loop : goal.invariant-loop
+invariant-loop l = record { seat : IsSeat l.post l.one; live : Live (shown_by l.one); waits : is_open (shown_by l.one) ≡ true }
