@@ -5,15 +5,16 @@
 #![tactic(auto)]
 
 #[cfg(test)]
+mod of_board;
+#[cfg(test)]
 mod of_circle_run;
 #[cfg(test)]
+mod of_post_board;
+#[cfg(test)]
 mod of_ring_core;
+#[cfg(test)]
+mod of_shared_ranks;
 #[cfg(test)]
 mod of_sum_tree;
 #[cfg(test)]
 mod of_tree_walk;
-mod of_board;
-#[cfg(test)]
-mod of_post_board;
-#[cfg(test)]
-mod of_shared_ranks;
