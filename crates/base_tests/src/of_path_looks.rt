@@ -1,8 +1,6 @@
 //! Looks at a small tree, and at files that change.
 use files_mem::{Call, MemGround};
-use outside::{
-    Failed, Ground, Kind, ListError, Listing, Plot, ReadError, Stat, Tree, WriteError,
-};
+use outside::{Failed, Ground, Kind, ListError, Listing, Plot, ReadError, Stat, Tree, WriteError};
 use path_looks::{Look, Seen, look_at_each, looks_without_faults_are_told};
 use path_text::{OutOfMemory, Path};
 use std::alloc::Global;

@@ -48,7 +48,7 @@ over 1
 
 // A string that was handled.
 #[derive(Drop)]
-struct Step {
+pub(crate) struct Step {
     item: Path,
     waiting: u64,
     pushed: Vec<Path>,
@@ -56,9 +56,9 @@ struct Step {
 
 // Pushes the children of a string by the table, and refuses the string `/bad`.
 #[derive(Drop)]
-struct Family {
-    alloc: Global,
-    steps: Vec<Step>,
+pub(crate) struct Family {
+    pub(crate) alloc: Global,
+    pub(crate) steps: Vec<Step>,
 }
 
 impl Job for Family {

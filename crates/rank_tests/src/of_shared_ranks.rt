@@ -4,6 +4,7 @@ ghost use Rattle.post_board.specs.Fresh.{fresh};
 ghost use Rattle.sum_tree.specs.Plain.{fresh as fresh_sums};
 ghost use Rattle.circle_run.specs.Hosts.{Placed};
 
+use crate::of_circle_run::Family;
 use crate::of_post_board::two_of;
 use circle_run::{Host, Job, Options, Rank, Share, Split};
 use path_text::{OutOfMemory, Path};
@@ -43,61 +44,6 @@ pass 1 white
 ask 1 0
 over 1
 ";
-
-// A string that was handled, and what was pushed for it.
-#[derive(Drop)]
-struct Step {
-    item: Path,
-    pushed: Vec<Path>,
-}
-
-// Pushes `/u/a` and `/u/b` for `/u`, and nothing for other strings.
-#[derive(Drop)]
-struct Family {
-    alloc: Global,
-    steps: Vec<Step>,
-}
-
-impl Job for Family {
-    ghost use Rattle.std.specs.Prelude.{map, ⊤};
-
-    ghost log = { λ f. map (λ s. (s.item, s.pushed.items)) f.steps.items };
-
-    ghost Plain = { ⊤ };
-
-    ghost plain = { λ f. tt };
-
-    fn handle(&mut self, item: &Path, waiting: u64, fresh: &mut Batch) -> Result<(), OutOfMemory> {
-        let Ok(step) = step_of(self.alloc, item, fresh) else {
-            fresh.clear();
-            return Err(OutOfMemory);
-        };
-        if self.steps.push(step).is_err() {
-            fresh.clear();
-            return Err(OutOfMemory);
-        }
-        Ok(())
-    }
-}
-
-fn step_of(alloc: Global, item: &Path, fresh: &mut Batch) -> Result<Step, OutOfMemory>
-    requires { fresh.old ≡ [] }
-    ensures item { IfOk result (λ s. s.item ≡ item.now) }
-    ensures pushed { IfOk result (λ s. s.pushed.items ≡ fresh.new) }
-{
-    let mut pushed = Vec::new(alloc);
-    if item.text() == "/u" {
-        for child in ["/u/a", "/u/b"] {
-            let Ok(path) = Path::parse(alloc, child) else {
-                return Err(OutOfMemory);
-            };
-            pushed.push(path.copy()?)?;
-            fresh.push(path)?;
-        }
-    }
-    let item = item.copy()?;
-    Ok(Step { item, pushed })
-}
 
 // A rank that has had no turn.
 fn new_rank<J: Job, P: Post, Q: Sums>(

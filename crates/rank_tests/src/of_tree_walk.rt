@@ -4,9 +4,7 @@ ghost use Rattle.std.specs.Prelude.{◌≡◌, ◌≤◌, None};
 use circle_run::{Options, Split};
 use files_mem::{Call, MemGround, MemReader};
 use flat_list::Mark;
-use outside::{
-    Failed, Ground, Kind, ListError, Listing, Plot, ReadError, Stat, Tree, WriteError,
-};
+use outside::{Failed, Ground, Kind, ListError, Listing, Plot, ReadError, Stat, Tree, WriteError};
 use path_text::{OutOfMemory, Path};
 use std::alloc::Global;
 use std::process::Abort;
