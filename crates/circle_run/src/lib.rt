@@ -31,7 +31,7 @@
 //! asks; its events, where they are kept, and its share are those of the moves. A job that keeps the numbers of waiting strings
 //! heard the length of the queue without its string. A turn waits only for an answer or for a final sum that is not there. What
 //! it counts at the sums is what its log holds; a rank with ranks below it at the sums shows in each turn before its end what
-//! it and they counted. The numbers of progress are each at least 1,000 above the one before, none of those that it was shown is
+//! it and they counted. The numbers of progress but the last are each at least 1,000 above the one before, none of those that it was shown is
 //! passed over, and the last is the final sum. A rank that found no memory has no string and goes on to the end.
 //!
 //! A [`Host`] has ranks and gives each that is not done a turn, in rounds and in ascending order, until all are done. Proved:
@@ -40,11 +40,12 @@
 //! other, and each share counts what its rank's moves say.
 //!
 //! Proved of [`begin`], whatever the job does: the run is *balanced*. Each string was handled or is left as often as it was a
-//! start or was pushed ([`balance_is_as_often`]), so no string is lost and none is handled twice. Nothing is left unless the
+//! start or was pushed ([`balance_is_as_often`]), so no string is lost and none is handled more often. Nothing is left unless the
 //! run was to stop. The jobs come back in their order with their plain data, and what a share counts is what its job's log
 //! holds; what all ranks gave all ranks took. The shares are what the events of some whole run say, with a trace or without,
 //! and with one those events are kept: `IsTraced` in `specs/Traced.antt` says what a whole run is. The numbers of progress are
-//! each at least 1,000 above the one before it, and at last comes the number of strings handled in all. Only memory can fail.
+//! each but the last at least 1,000 above the one before it, and the last is the number of strings handled in all. Only memory can
+//! fail.
 //! That a run ends is not proved: a job may push for ever.
 //!
 //! What is proved of a run rests on laws over its moves. What a rank does is a *move*: it handles a string, answers those that

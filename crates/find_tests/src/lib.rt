@@ -23,8 +23,7 @@
 //! that a text gives is the one that its definition says, in the order of the rules. A selection is the list filtered by the
 //! tests. No call but [`parse_test`] and [`select`] takes memory. Definitions stand in `specs/`: `Signs` (characters and
 //! backslashes), `Glob` (pieces and brackets), `Matching` (the relation), `Cases` (the law), `Bounds` (numbers and units),
-//! `Tests` (when a test holds, and what is selected); `Private` has what only private clauses cite. Only tested: that a call
-//! with ample memory does not ask for more.
+//! `Tests` (when a test holds, and what is selected); `Private` has what only private clauses cite.
 #![tactic(auto)]
 
 mod bounds;

@@ -12,7 +12,8 @@
 //! printed the text of what the tests choose of the recursive walk of the roots, or of the entries that the bytes of the list
 //! file spell. Each failed answer is named in a note, chosen or not, and counted by the files. A file that it wrote spells what
 //! was chosen in path order, and every other path is as before. dtest's tree is the map of its rule and never fails, and a run
-//! over it leaves the files alone. Each other status comes by its cause, and status 0 where nothing stands against it.
+//! over it leaves the files alone. Each other status but 3 comes by its cause; where nothing stands against a run and no sink
+//! fails, it ends with status 0, or with 3 for want of memory.
 //! All this holds for any number of ranks, split rule and seed. The trace is that of a run of these ranks from the roots in
 //! which each path of the walk is handled once; the shares are what its events count, and add up to the walk; and the numbers of
 //! progress rise to its number of entries.
@@ -21,7 +22,7 @@
 //! [`run_report`]'s, what it finds and saves [`run_entries`]', and the words are read as [`tool_words`] says: all that is proved here
 //! follows from their contracts and laws.
 //!
-//! Not proved: that a run of two ranks or more comes to an end.
+//! Not proved: that a run comes to an end, with any number of ranks.
 #![tactic(auto)]
 
 mod laws;

@@ -24,7 +24,8 @@
 //!
 //! Proved: each call meets its clauses for every text, ends, and reads nothing out of bounds. Only memory can fail beside
 //! what the clauses name. Definitions stand in `specs/`: `Path` (what a path is), `Order` (path order and its
-//! laws), `Graft` (moving a path), `Escape` (writing and reading it). What only private clauses cite stands in `Written`.
+//! laws), `Total` (that path order is a total order), `Graft` (moving a path), `Escape` (writing and reading it). What only private
+//! clauses cite stands in `Written`.
 #![tactic(auto)]
 
 mod errors;

@@ -6,7 +6,7 @@
 //!
 //! - `finding` has what a run finds in its files: `starting` has where the entries come from, as it begins the walk, or
 //!   `reading` reads a list file; `choosing` has what is chosen of them, and what is named. `saving` writes a list file.
-//! - `accounts` has what is told of a walk beside its list.
+//! - `accounts` has what is told of a walk beside its list, and `printing` the text of that and of the failure notes.
 //! - `ordering` has the order that is asked for.
 //! - `laws` has what is so of any run.
 //!
