@@ -6,3 +6,8 @@ pub mod Nul
 pub mod Parent
 pub mod Strip
 pub mod Treed
+pub mod Copied
+pub mod Laying
+pub mod Lending
+pub mod Parted
+pub mod Acting

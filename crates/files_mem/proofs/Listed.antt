@@ -46,7 +46,7 @@ from at es = entries_between path_cmp (Included at) Unbounded es
 abbrev pub reach : List ℕ → List ℕ → Bool
 reach at q = range_contains path_cmp (Included at) Unbounded q
 
-reach_is : (at q : List ℕ) → reach at q ≡ is_le (path_cmp at q)
+pub reach_is : (at q : List ℕ) → reach at q ≡ is_le (path_cmp at q)
 reach_is at q = elim (is_le (path_cmp at q)) as (λ b. (b && true) ≡ b) [ true ↦ refl | false ↦ refl ]
 
 le_less : (a b d : List ℕ) → is_le (path_cmp a b) ≡ true → path_cmp b d ≡ Less → is_le (path_cmp a d) ≡ true
@@ -84,7 +84,7 @@ all_reach at k (e ∷ es) h a =
     ∙ ap (λ r. e ∷ r) (all_reach at k es h a.1)
 
 -- the entries from `at` on are an end
-from_end : (at : List ℕ) (all : Entries) → IsSorted all → IsEnd all (from at all)
+pub from_end : (at : List ℕ) (all : Entries) → IsSorted all → IsEnd all (from at all)
 from_end at [] s = ([], refl)
 from_end at (e ∷ all) s =
     elim (reach at e.0) as (λ b. reach at e.0 ≡ b → IsEnd (e ∷ all) (cond b (e ∷ from at all) (from at all))) [
@@ -96,11 +96,11 @@ all_mid : (P : List ℕ → Type 0) (before : Entries) (e : List ℕ × stored.N
 all_mid P [] e rest a = a.0
 all_mid P (b ∷ before) e rest a = all_mid P before e rest a.1
 
-all_end : (P : List ℕ × stored.Node → Type 0) (before es : Entries) → AllByRecursion P (before ++ es) → AllByRecursion P es
+pub all_end : (P : List ℕ × stored.Node → Type 0) (before es : Entries) → AllByRecursion P (before ++ es) → AllByRecursion P es
 all_end P [] es a = a
 all_end P (b ∷ before) es a = all_end P before es a.1
 
-sorted_end : (before es : Entries) → IsSorted (before ++ es) → IsSorted es
+pub sorted_end : (before es : Entries) → IsSorted (before ++ es) → IsSorted es
 sorted_end [] es s = s
 sorted_end (b ∷ before) es s = sorted_end before es (sorted_tail path_cmp b.0 (keys_of (before ++ es)) s)
 
@@ -146,7 +146,7 @@ names_from_least p (x ∷ es) v =
           | Some m ↦ λ e. absurd (false≢true (sym l ∙ child_from p x.0 m e v.0))
         ] refl
 
-ready_from : (at : List ℕ) (es : Entries) → AllReady at (from at es)
+pub ready_from : (at : List ℕ) (es : Entries) → AllReady at (from at es)
 ready_from at [] = tt
 ready_from at (x ∷ es) =
     elim (reach at x.0) as (λ b. reach at x.0 ≡ b → AllReady at (cond b (x ∷ from at es) (from at es))) [

@@ -10,7 +10,7 @@ use Rattle.path_text.specs.Order.{path_cmp}
 use Rattle.path_text.specs.Path.{refusal, parent_of}
 use Rattle.path_text.specs.Total.{path_cmp_total, path_cmp_ties}
 use Rattle.outside.specs.Tree.{Files, Node, Body, dir, file, link, other, is_dir, is_dir_body, is_file, is_file_body, is_root, names_in, IsTree}
-use Rattle.outside.specs.Writes.{written, write_refusal, remove_file_refusal, remove_dir_refusal, is_open, all_but}
+use Rattle.outside.specs.Writes.{written, write_refusal, remove_file_refusal, remove_dir_refusal, is_open, in_area, Area}
 use Rattle.outside.proofs.Parents.{no_child}
 use Rattle.outside.specs.declared.plots.WriteError.TheVariants as write
 use Rattle.std.specs.Bool.{IsTrue}
@@ -18,14 +18,14 @@ use Rattle.std.proofs.lemmas.Bool.Decides.{nat_tests}
 use Rattle.files_mem.specs.declared.errors.PutError.TheVariants.{Exists, NoParent}
 use Rattle.files_mem.specs.Memory.{put_refusal, empty_files}
 
-same_path : (q p : List ℕ) → eq_by_cmp path_cmp q p ≡ true → q ≡ p
+pub same_path : (q p : List ℕ) → eq_by_cmp path_cmp q p ≡ true → q ≡ p
 same_path q p e = (bytes_decides q p).0 (path_cmp_ties q p ∙ e)
 
 -- at another path nothing changes
-elsewhere : (files : Files) (p q : List ℕ) (n : Node) → eq_by_cmp path_cmp q p ≡ false → get (insert files p n) q ≡ get files q
+pub elsewhere : (files : Files) (p q : List ℕ) (n : Node) → eq_by_cmp path_cmp q p ≡ false → get (insert files p n) q ≡ get files q
 elsewhere files p q n e = get-insert path_cmp_total files p n q ∙ ap (λ b. cond b (Some n) (get files q)) e
 
-keeps_dir : (files : Files) (p x : List ℕ) (n : Node) → is_dir (get files p) ≡ false → is_dir (get files x) ≡ true → is_dir (get (insert files p n) x) ≡ true
+pub keeps_dir : (files : Files) (p x : List ℕ) (n : Node) → is_dir (get files p) ≡ false → is_dir (get files x) ≡ true → is_dir (get (insert files p n) x) ≡ true
 keeps_dir files p x n off d =
     elim (eq_by_cmp path_cmp x p) as (λ b. eq_by_cmp path_cmp x p ≡ b → is_dir (get (insert files p n) x) ≡ true) [
       | true ↦ λ e. absurd (false≢true (sym off ∙ ap is_dir (ap (get files) (sym (same_path x p e))) ∙ d))
@@ -68,7 +68,7 @@ insert_tree files p n h none fine above q =
       | false ↦ placed_new files p q n none fine above
     ] (h q)
 
-refused_not : (o : Option Node) (b : Bool) → cond (is_some o) (Some Exists) (cond b None (Some NoParent)) ≡ None → (o ≡ None) × (b ≡ true)
+pub refused_not : (o : Option Node) (b : Bool) → cond (is_some o) (Some Exists) (cond b None (Some NoParent)) ≡ None → (o ≡ None) × (b ≡ true)
 refused_not None true e = (refl, refl)
 refused_not None false e = cc
 refused_not (Some n) b e = cc
@@ -113,7 +113,7 @@ again_tree files p n h some off q =
       | false ↦ placed_again files p q n some off
     ] (h q)
 
-file_there : (o : Option Node) → is_file o ≡ true → (is_none o ≡ false) × (is_dir o ≡ false)
+pub file_there : (o : Option Node) → is_file o ≡ true → (is_none o ≡ false) × (is_dir o ≡ false)
 file_there None e = absurd (false≢true e)
 file_there (Some n) e = (refl, by_body n.body e)
   where
@@ -130,7 +130,7 @@ write_tree (Err x) old new p at bytes t f done kept = subst IsTree (sym kept) t
 
 -- a node is gone, over which no other node stands
 
-off_here : (files : Files) (p q : List ℕ) → eq_by_cmp path_cmp q p ≡ false → get (remove files p) q ≡ get files q
+pub off_here : (files : Files) (p q : List ℕ) → eq_by_cmp path_cmp q p ≡ false → get (remove files p) q ≡ get files q
 off_here files p q e = get-remove path_cmp_total files p q ∙ ap (λ b. cond b None (get files q)) e
 
 -- no node has the path as its parent
@@ -145,7 +145,7 @@ some_of : {A : Type 0} (o : Option A) → is_none o ≡ false → is_some o ≡ 
 some_of None e = absurd (false≢true (sym e))
 some_of (Some x) e = refl
 
-both_parts : (a b : Bool) → (a && b) ≡ true → (a ≡ true) × (b ≡ true)
+pub both_parts : (a b : Bool) → (a && b) ≡ true → (a ≡ true) × (b ≡ true)
 both_parts true b e = (refl, e)
 both_parts false b e = absurd (false≢true e)
 
@@ -186,7 +186,7 @@ remove_tree files p h off bare q =
     ] refl (h q)
 
 -- no node is under one that is no directory
-bare_file : (files : Files) (p : List ℕ) → IsTree files → is_dir (get files p) ≡ false → IsBare files p
+pub bare_file : (files : Files) (p : List ℕ) → IsTree files → is_dir (get files p) ≡ false → IsBare files p
 unfolding IsTree
 bare_file files p h off q fine root here over =
     false≢true (sym off ∙ ap (λ x. is_dir (get files x)) (sym over) ∙ dir_over (is_root q) root (get files q) here (h q))
@@ -196,7 +196,7 @@ bare_file files p h off q fine root here over =
     dir_over false e None s c = absurd (false≢true s)
     dir_over false e (Some n) s c = (both_parts (is_none (refusal q)) (is_dir (get files (parent_of q))) c).1
 
-no_dir : (o : Option Node) → remove_file_refusal o ≡ None → is_dir o ≡ false
+pub no_dir : (o : Option Node) → remove_file_refusal o ≡ None → is_dir o ≡ false
 no_dir None e = refl
 no_dir (Some n) e = elim (is_dir (Some n)) as (λ b. cond b (Some write.WrongKind) None ≡ None → b ≡ false) [ true ↦ λ h. cc | false ↦ λ h. refl ] e
 
@@ -204,18 +204,23 @@ pub can_write : (o : Option Node) → write_refusal o ≡ None → is_file o ≡
 can_write None e = cc
 can_write (Some n) e = elim (is_file (Some n)) as (λ b. cond b None (Some write.WrongKind) ≡ None → b ≡ true) [ true ↦ λ h. refl | false ↦ λ h. cc ] e
 
-no_name : (files : Files) (p : List ℕ) → remove_dir_refusal files p ≡ None → length (names_in files p) ≡ 0
+pub no_name : (files : Files) (p : List ℕ) → remove_dir_refusal files p ≡ None → length (names_in files p) ≡ 0
 no_name files p e = grind (arith, nat_tests)
 
-not_root : (p : List ℕ) → IsTrue (is_open (all_but []) p) → is_root p ≡ false
-not_root p o = elim (is_root p) as (λ b. not b ≡ true → b ≡ false) [ true ↦ λ h. absurd (false≢true h) | false ↦ λ h. refl ] o
+pub not_root : (a : Area) (p : List ℕ) → IsTrue (is_open a p) → is_root p ≡ false
+not_root a p o = by (in_area a p) (is_root p) o
+  where
+    by : (i r : Bool) → (i && not r) ≡ true → r ≡ false
+    by true true e = absurd (false≢true e)
+    by true false e = refl
+    by false r e = absurd (false≢true e)
 
 -- after a node was removed as that is not refused, or was not
 
-pub take_file : {B : Type 0} (r : Result (Unit {0}) B) (old new : Files) (p : List ℕ) → IsTree old → IsTrue (is_open (all_but []) p) → remove_file_refusal (get old p) ≡ None → OnOk r (new ≡ remove old p) → OnErr r (new ≡ old) → IsTree new
-take_file (Ok x) old new p t o e done kept = subst IsTree (sym done) (remove_tree old p t (not_root p o) (bare_file old p t (no_dir (get old p) e)))
+pub take_file : {B : Type 0} (r : Result (Unit {0}) B) (old new : Files) (p : List ℕ) → IsTree old → is_root p ≡ false → remove_file_refusal (get old p) ≡ None → OnOk r (new ≡ remove old p) → OnErr r (new ≡ old) → IsTree new
+take_file (Ok x) old new p t o e done kept = subst IsTree (sym done) (remove_tree old p t o (bare_file old p t (no_dir (get old p) e)))
 take_file (Err x) old new p t o e done kept = subst IsTree (sym kept) t
 
-pub take_dir : {B : Type 0} (r : Result (Unit {0}) B) (old new : Files) (p : List ℕ) → IsTree old → IsTrue (is_open (all_but []) p) → remove_dir_refusal old p ≡ None → OnOk r (new ≡ remove old p) → OnErr r (new ≡ old) → IsTree new
-take_dir (Ok x) old new p t o e done kept = subst IsTree (sym done) (remove_tree old p t (not_root p o) (λ q fine off here over. no_child old p q (no_name old p e) fine off here over))
+pub take_dir : {B : Type 0} (r : Result (Unit {0}) B) (old new : Files) (p : List ℕ) → IsTree old → is_root p ≡ false → remove_dir_refusal old p ≡ None → OnOk r (new ≡ remove old p) → OnErr r (new ≡ old) → IsTree new
+take_dir (Ok x) old new p t o e done kept = subst IsTree (sym done) (remove_tree old p t o (λ q fine off here over. no_child old p q (no_name old p e) fine off here over))
 take_dir (Err x) old new p t o e done kept = subst IsTree (sym kept) t

@@ -1,3 +1,4 @@
 pub mod Stored
 pub mod Planned
 pub mod Memory
+pub mod PrivateHeld

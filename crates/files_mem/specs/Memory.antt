@@ -1,10 +1,11 @@
 -- Files in memory: the tree, what is planned to fail in it, and how often it has failed. Our own.
-use Rattle.std.specs.Prelude.{◌≡◌, ℕ, ◌-◌, min, length, take, drop, true, false, Bool, Result, Ok, Err, List, [], ◌∷◌, ◌++◌, Option, Some, None, if◌then◌else◌, is_some, refl}
+use Rattle.std.specs.Prelude.{◌≡◌, ℕ, ◌-◌, min, length, take, drop, true, false, Bool, ◌||◌, Result, Ok, Err, List, [], ◌∷◌, ◌++◌, Option, Some, None, if◌then◌else◌, is_some, refl}
 use Rattle.std.specs.Coded.{Coded, code_by, coded×, coded_ℕ}
 use Rattle.std.specs.FinMap.{get, insert, empty}
 use Rattle.outside.specs.Tree.{Files, Node, Body, dir, file, link, other, is_dir, is_file, content}
 use Rattle.path_text.specs.Path.{parent_of}
-use Rattle.outside.specs.Codes.{files_code}
+use Rattle.outside.specs.Codes.{files_code, area_code}
+use Rattle.outside.specs.Writes.{Area}
 use Rattle.outside.specs.Count.{capped}
 use Rattle.files_mem.specs.declared.plans.Call.{Call}
 use Rattle.files_mem.specs.declared.errors.PutError.{PutError}
@@ -13,16 +14,17 @@ use Rattle.outside.specs.declared.plots.WriteError.{WriteError}
 use Rattle.outside.specs.declared.plots.WriteError.TheVariants as write
 use Rattle.files_mem.specs.Planned.{planned_code, is_planned}
 
--- the nodes by their paths, the calls that are planned to fail, and the count of faults
+-- the nodes by their paths, the calls that are planned to fail, the count of faults, and where it may be written
 pub record Memory : Type 0 where
   pub files : Files
   pub planned : List (Call × List ℕ)
   pub count : ℕ
+  pub area : Area
 
 abbrev pub memory_code : Coded Memory
 memory_code =
-    code_by (Files × (List (Call × List ℕ) × ℕ)) (coded× files_code (coded× planned_code coded_ℕ))
-    (λ m. (m.files, (m.planned, m.count))) (λ p. record { files = p.0; planned = p.1.0; count = p.1.1 }) (λ _. refl)
+    code_by (Files × (List (Call × List ℕ) × (ℕ × Area))) (coded× files_code (coded× planned_code (coded× coded_ℕ area_code)))
+    (λ m. (m.files, (m.planned, (m.count, m.area)))) (λ p. record { files = p.0; planned = p.1.0; count = p.1.1.0; area = p.1.1.1 }) (λ _. refl)
 
 -- nothing but `/`, a directory without a time
 abbrev pub empty_files : Files
@@ -45,6 +47,13 @@ abbrev pub put_refusal : Files → List ℕ → Option PutError
 put_refusal files path =
     if is_some (get files path) then Some put.Exists
     else if is_dir (get files (parent_of path)) then None
+    else Some put.NoParent
+
+-- the same of a part, of which the path may be a top: over a top a directory stands
+abbrev pub put_refusal_at : Bool → Files → List ℕ → Option PutError
+put_refusal_at top files path =
+    if is_some (get files path) then Some put.Exists
+    else if top || is_dir (get files (parent_of path)) then None
     else Some put.NoParent
 
 -- the refusal of a call that writes, where putting is refused so

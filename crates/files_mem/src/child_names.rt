@@ -111,8 +111,8 @@ fn past(alloc: Global, path: &Path) -> Result<Option<Path>, AllocError>
     }
 }
 
-// From this key on.
-fn from<'a>(map: &'a BTreeMap<Path, Node>, at: &Path) -> Range<'a, Path, Node>
+/// From this key on.
+pub fn from<'a>(map: &'a BTreeMap<Path, Node>, at: &Path) -> Range<'a, Path, Node>
     ensures rest { result ≡ entries_between path_cmp (Included at.now) Unbounded map.now.entries }
     ensures ordered { IsOrdered path_cmp map.now }
 {

@@ -4,13 +4,17 @@ ghost use Rattle.std.specs.Arc.{arc_value};
 ghost use Rattle.std.specs.FinMap as map;
 ghost use Rattle.outside.specs.Count.{RoseBy, capped};
 ghost use Rattle.outside.specs.Tree.{IsTree, dir, file, link, other, is_file, content};
-ghost use Rattle.outside.specs.Writes.{all_but, is_open, make_refusal, write_refusal, remove_file_refusal, remove_dir_refusal, empty_dir, new_file, written, HasPlace, Answers, may_make, may_change, may_empty};
+ghost use Rattle.outside.specs.Lease.{CanLease, HaveParents, Joins, leased, kept, area_without, area_with, is_out, tops_of};
+ghost use Rattle.outside.specs.Laid.{laid};
+ghost use Rattle.outside.specs.Writes.{all_but, under, is_open, make_refusal, write_refusal, remove_file_refusal, remove_dir_refusal, empty_dir, new_file, written, HasPlace, Answers, may_make, may_change, may_empty};
 ghost use Rattle.files_mem.specs.Stored.{node_of};
 ghost use Rattle.files_mem.specs.Planned.{is_planned};
 ghost use Rattle.files_mem.specs.Memory.{Memory, put_refusal, empty_files, with_node, with_planned, answered, Acts};
 
 use crate::errors::PutError;
+use crate::held::Held;
 use crate::nodes::{Body, Node};
+use crate::parts::MemPart;
 use crate::plans::{Call, Plan};
 use crate::readers::MemReader;
 use crate::stores::Store;
@@ -24,29 +28,30 @@ use std::sync::Arc;
 /// count of faults.
 #[derive(Drop)]
 pub struct MemGround {
-    store: Arc<Store>,
+    held: Held,
     plan: Arc<Plan>,
     count: u64,
 }
 
 impl Model for MemGround {
     ghost use Rattle.std.specs.Arc.{arc_value};
-    ghost use Rattle.outside.specs.Tree.{IsTree};
+    ghost use Rattle.outside.specs.Writes.{all_but};
     ghost use Rattle.files_mem.specs.Memory.{Memory, memory_code};
+    ghost use Rattle.files_mem.specs.PrivateHeld.{IsGround};
 
     ghost Value = { Memory };
 
     ghost coded = { memory_code };
 
-    ghost view = { λ g. record { files = arc_value g.store; planned = arc_value g.plan; count = g.count } };
+    ghost view = { λ g. record { files = g.held.files; planned = arc_value g.plan; count = g.count; area = all_but g.held.out } };
 
-    ghost invariant = { λ g. IsTree (arc_value g.store) };
+    ghost invariant = { λ g. IsGround g.held };
 }
 
 impl MemGround {
     /// Nothing but `/`, a directory without a time.
     pub fn empty(alloc: Global) -> Result<MemGround, OutOfMemory>
-        ensures { IfOk result (λ made. made ≡ record { files = empty_files; planned = []; count = 0 }) }
+        ensures { IfOk result (λ made. made ≡ record { files = empty_files; planned = []; count = 0; area = all_but [] }) }
     {
         let Ok(root) = Path::parse(alloc, "/") else {
             return Err(OutOfMemory);
@@ -54,7 +59,7 @@ impl MemGround {
         let mut store = Store::empty(alloc);
         store.put(root, folder(0, None))?;
         Ok(MemGround {
-            store: Arc::new(alloc, store)?,
+            held: Held::make(alloc, store)?,
             plan: Arc::new(alloc, Plan::empty(alloc))?,
             count: 0,
         })
@@ -139,21 +144,23 @@ impl MemGround {
         ensures refused { IfErr result (λ e. (put_refusal self.old.files path.now ≡ Some e) ⊎ (e ≡ PutError.OutOfMemory)) }
         ensures same { OnErr result (self.new ≡ self.old) }
     {
-        if let Some(refused) = self.store.put_refusal(self.plan.allocator(), path)? {
+        let alloc = self.plan.allocator();
+        if let Some(refused) = self.held.put_refusal(alloc, path)? {
             return Err(refused);
         }
         let _ = path.text(); // tells that it is a path
-        put_in(&mut self.store, path.copy()?, node)?;
+        self.held.put(alloc, path.copy()?, node)?;
         Ok(())
     }
 
     // Makes a node, as the calls do that write.
     fn make(&mut self, call: Call, path: &Path, node: Node) -> Result<(), WriteError>
-        ensures acts { Acts call path.now (make_refusal (all_but []) self.old.files path.now) (map.insert self.old.files path.now (node_of node)) self.old result self.new }
+        ensures acts { Acts call path.now (make_refusal self.old.area self.old.files path.now) (map.insert self.old.files path.now (node_of node)) self.old result self.new }
         ensures named { IfErr result (λ e. IsTrue (may_make e)) }
         ensures count { RoseBy 0 self.old.count self.new.count }
         ensures cause { IsErrOf result WriteError.Failed → RoseBy 1 self.old.count self.new.count }
     {
+        let _ = &self.held; // tells that it is a ground, and no part
         if self.fails(call, path) {
             return Err(WriteError::Failed);
         }
@@ -171,14 +178,6 @@ fn folder(far: u64, mtime: Option<u64>) -> Node
     }
 }
 
-// Puts a node into the store, or into a copy of it where readers hold the one that is there.
-fn put_in(store: &mut Arc<Store>, path: Path, node: Node) -> Result<(), AllocError>
-    ensures ok { OnOk result (arc_value store.new ≡ map.insert (arc_value store.old) path (node_of node)) }
-    ensures err { OnErr result (arc_value store.new ≡ arc_value store.old) }
-{
-    Arc::make_mut(store)?.put(path, node)
-}
-
 // Adds a call to the plan, or to a copy of it where readers hold the one that is there.
 fn add_to(plan: &mut Arc<Plan>, call: Call, path: Path) -> Result<(), AllocError>
     ensures ok { OnOk result (arc_value plan.new ≡ arc_value plan.old ++ (call, path) ∷ []) }
@@ -187,34 +186,14 @@ fn add_to(plan: &mut Arc<Plan>, call: Call, path: Path) -> Result<(), AllocError
     Arc::make_mut(plan)?.add(call, path)
 }
 
-// Writes to a file in the store, or in a copy of it where readers hold the one that is there.
-fn write_in(store: &mut Arc<Store>, path: &Path, at: usize, bytes: &[u8]) -> Result<(), AllocError>
-    requires file { is_file (map.get (arc_value store.old) path.now) ≡ true }
-    requires place { at ≤ length (content (map.get (arc_value store.old) path.now)) }
-    ensures ok { OnOk result (arc_value store.new ≡ written (arc_value store.old) path.now at bytes.now) }
-    ensures err { OnErr result (arc_value store.new ≡ arc_value store.old) }
-{
-    Arc::make_mut(store)?.write(path, at, bytes)
-}
-
-// Removes a node of the store, or of a copy of it where readers hold the one that is there.
-fn take_from(store: &mut Arc<Store>, path: &Path) -> Result<(), AllocError>
-    ensures ok { OnOk result (arc_value store.new ≡ map.remove (arc_value store.old) path.now) }
-    ensures err { OnErr result (arc_value store.new ≡ arc_value store.old) }
-{
-    Arc::make_mut(store)?.take(path);
-    Ok(())
-}
-
 impl Plot for MemGround {
-    ghost use Rattle.std.specs.Prelude.{Some, []};
-    ghost use Rattle.outside.specs.Writes.{all_but};
+    ghost use Rattle.std.specs.Prelude.{Some};
 
     ghost tree = { λ g. Some g.files };
 
     ghost count = { λ g. g.count };
 
-    ghost area = { λ _. all_but [] };
+    ghost area = { λ g. g.area };
 
     fn faults(&self) -> u64 {
         self.count
@@ -222,9 +201,9 @@ impl Plot for MemGround {
 
     /// Makes an empty directory without a time. It fails exactly where that is planned, before any other refusal, and changes nothing then.
     fn make_dir(&mut self, alloc: Global, path: &Path) -> Result<(), WriteError>
-        requires { IsTrue (is_open (all_but []) path.now) }
-        ensures acts { Acts Call.MakeDir path.now (make_refusal (all_but []) self.old.files path.now) (map.insert self.old.files path.now empty_dir) self.old result self.new }
-        ensures told { Answers path.now (make_refusal (all_but []) self.old.files path.now) self.old.files (map.insert self.old.files path.now empty_dir) result (Some self.new.files) }
+        requires { IsTrue (is_open self.old.area path.now) }
+        ensures acts { Acts Call.MakeDir path.now (make_refusal self.old.area self.old.files path.now) (map.insert self.old.files path.now empty_dir) self.old result self.new }
+        ensures told { Answers path.now (make_refusal self.old.area self.old.files path.now) self.old.files (map.insert self.old.files path.now empty_dir) result (Some self.new.files) }
         ensures named { IfErr result (λ e. IsTrue (may_make e)) }
         ensures count { RoseBy 0 self.old.count self.new.count }
         ensures cause { IsErrOf result WriteError.Failed → RoseBy 1 self.old.count self.new.count }
@@ -234,9 +213,9 @@ impl Plot for MemGround {
 
     /// Makes an empty file without a time. It fails exactly where that is planned, before any other refusal, and changes nothing then.
     fn make_file(&mut self, alloc: Global, path: &Path) -> Result<(), WriteError>
-        requires { IsTrue (is_open (all_but []) path.now) }
-        ensures acts { Acts Call.MakeFile path.now (make_refusal (all_but []) self.old.files path.now) (map.insert self.old.files path.now (new_file [])) self.old result self.new }
-        ensures told { Answers path.now (make_refusal (all_but []) self.old.files path.now) self.old.files (map.insert self.old.files path.now (new_file [])) result (Some self.new.files) }
+        requires { IsTrue (is_open self.old.area path.now) }
+        ensures acts { Acts Call.MakeFile path.now (make_refusal self.old.area self.old.files path.now) (map.insert self.old.files path.now (new_file [])) self.old result self.new }
+        ensures told { Answers path.now (make_refusal self.old.area self.old.files path.now) self.old.files (map.insert self.old.files path.now (new_file [])) result (Some self.new.files) }
         ensures named { IfErr result (λ e. IsTrue (may_make e)) }
         ensures count { RoseBy 0 self.old.count self.new.count }
         ensures cause { IsErrOf result WriteError.Failed → RoseBy 1 self.old.count self.new.count }
@@ -253,7 +232,7 @@ impl Plot for MemGround {
         at: u64,
         bytes: &[u8],
     ) -> Result<(), WriteError>
-        requires open { IsTrue (is_open (all_but []) path.now) }
+        requires open { IsTrue (is_open self.old.area path.now) }
         requires place { HasPlace at (map.get self.old.files path.now) }
         ensures acts { Acts Call.Write path.now (write_refusal (map.get self.old.files path.now)) (written self.old.files path.now at bytes.now) self.old result self.new }
         ensures told { Answers path.now (write_refusal (map.get self.old.files path.now)) self.old.files (written self.old.files path.now at bytes.now) result (Some self.new.files) }
@@ -264,16 +243,16 @@ impl Plot for MemGround {
         if self.fails(Call::Write, path) {
             return Err(WriteError::Failed);
         }
-        if let Some(refused) = self.store.write_refusal(path) {
+        if let Some(refused) = self.held.write_refusal(alloc, path)? {
             return Err(refused);
         }
-        write_in(&mut self.store, path, at as usize, bytes)?;
+        self.held.write(alloc, path, at as usize, bytes)?;
         Ok(())
     }
 
     /// Removes what is no directory. It fails exactly where that is planned, before any other refusal, and changes nothing then.
     fn remove_file(&mut self, alloc: Global, path: &Path) -> Result<(), WriteError>
-        requires { IsTrue (is_open (all_but []) path.now) }
+        requires { IsTrue (is_open self.old.area path.now) }
         ensures acts { Acts Call.RemoveFile path.now (remove_file_refusal (map.get self.old.files path.now)) (map.remove self.old.files path.now) self.old result self.new }
         ensures told { Answers path.now (remove_file_refusal (map.get self.old.files path.now)) self.old.files (map.remove self.old.files path.now) result (Some self.new.files) }
         ensures named { IfErr result (λ e. IsTrue (may_change e)) }
@@ -283,16 +262,16 @@ impl Plot for MemGround {
         if self.fails(Call::RemoveFile, path) {
             return Err(WriteError::Failed);
         }
-        if let Some(refused) = self.store.remove_file_refusal(path) {
+        if let Some(refused) = self.held.remove_file_refusal(alloc, path)? {
             return Err(refused);
         }
-        take_from(&mut self.store, path)?;
+        self.held.take(alloc, path)?;
         Ok(())
     }
 
     /// Removes an empty directory. It fails exactly where that is planned, before any other refusal, and changes nothing then.
     fn remove_dir(&mut self, alloc: Global, path: &Path) -> Result<(), WriteError>
-        requires { IsTrue (is_open (all_but []) path.now) }
+        requires { IsTrue (is_open self.old.area path.now) }
         ensures acts { Acts Call.RemoveDir path.now (remove_dir_refusal self.old.files path.now) (map.remove self.old.files path.now) self.old result self.new }
         ensures told { Answers path.now (remove_dir_refusal self.old.files path.now) self.old.files (map.remove self.old.files path.now) result (Some self.new.files) }
         ensures named { IfErr result (λ e. IsTrue (may_empty e)) }
@@ -302,10 +281,10 @@ impl Plot for MemGround {
         if self.fails(Call::RemoveDir, path) {
             return Err(WriteError::Failed);
         }
-        if let Some(refused) = self.store.remove_dir_refusal(alloc, path)? {
+        if let Some(refused) = self.held.remove_dir_refusal(alloc, path)? {
             return Err(refused);
         }
-        take_from(&mut self.store, path)?;
+        self.held.take(alloc, path)?;
         Ok(())
     }
 }
@@ -313,13 +292,16 @@ impl Plot for MemGround {
 impl Ground for MemGround {
     type Reader = MemReader;
 
-    /// It shares the nodes and the plan with the reader. A later call that changes them copies them first.
+    type Part = MemPart;
+
+    /// It shares the nodes and the plan with the reader. A later call that changes them copies them first. Of a part that is
+    /// out the reader tells nothing.
     fn reader(&mut self, alloc: Global) -> Result<MemReader, OutOfMemory>
         ensures valid { IsTree self.old.files }
-        ensures made { IfOk result (λ reader. reader ≡ record self.old { count = 0 }) }
+        ensures made { IfOk result (λ reader. reader ≡ record self.old { count = 0; area = all_but [] }) }
         ensures same { self.new ≡ self.old }
     {
-        let store = Arc::try_clone(&self.store)?;
+        let store = self.held.store(alloc)?;
         let plan = Arc::try_clone(&self.plan)?;
         Ok(MemReader::make(store, plan))
     }
@@ -329,5 +311,31 @@ impl Ground for MemGround {
         ensures rises { self.old.count ≤ self.new.count }
     {
         self.count = self.count.saturating_add(reader.faults());
+    }
+
+    /// It moves what stands at and under the tops to the part, and makes the place for what comes back. It costs as much as
+    /// these nodes are, and not all, unless a reader is out.
+    fn lease(&mut self, alloc: Global, tops: &[Path]) -> Result<MemPart, OutOfMemory>
+        requires tops { CanLease self.old.area tops.now }
+        requires parents { HaveParents tops.now self.old.files }
+        ensures part { IfOk result (λ part. part ≡ record { files = leased tops.now self.old.files; planned = self.old.planned; count = 0; area = under tops.now }) }
+        ensures rest { OnOk result (self.new ≡ record self.old { files = kept tops.now self.old.files; area = area_without tops.now self.old.area }) }
+        ensures refused { OnErr result (self.new ≡ self.old) }
+    {
+        let plan = Arc::try_clone(&self.plan)?;
+        let (store, tops) = self.held.lease(alloc, tops)?;
+        Ok(MemPart::make(store, tops, plan))
+    }
+
+    /// The part waits in its place, and is joined by the next call that may find no memory.
+    fn give_back(&mut self, part: MemPart)
+        requires { IsTrue (is_out part.area self.old.area) }
+        ensures joins { Joins (tops_of part.area) part.files self.old.files self.new.files }
+        ensures back { self.new ≡ record self.old { files = laid (tops_of part.area) part.files self.old.files; count = capped self.old.count part.count; area = area_with (tops_of part.area) self.old.area } }
+        ensures rises { self.old.count ≤ self.new.count }
+    {
+        self.count = self.count.saturating_add(part.faults());
+        let (store, tops) = part.into_parts();
+        self.held.give_back(store, tops);
     }
 }

@@ -22,19 +22,26 @@
 //! Proved: each call answers exactly what that tells, changes exactly what its clauses name, and leaves a tree; only want of
 //! memory may stand in place of an answer. Listing a directory costs its children and not what is under them, which is
 //! measured and not proved; a write costs the bytes that it writes and not those of the file, unless a reader is out.
+//! A part takes its nodes out of the ground, so a lease costs what it lends and not all, unless a reader is out; the bytes of
+//! files are copied with their nodes. A part that comes back waits in a place that its lease made, without memory, and the next
+//! call that may find none joins it; what is told never waits. Proved too: a part's nodes are those at and under its tops, and
+//! with any parts out, in any order of coming back, the ground stays a tree.
 //! Definitions stand in `specs/`: `Memory`, `Planned` (what is planned to fail) and `Stored` (the tree that a map in memory
-//! is).
+//! is); `PrivateHeld` (what a ground keeps while parts are out) is for private clauses.
 #![tactic(auto)]
 
 mod child_names;
 mod errors;
 mod grounds;
+mod held;
 mod nodes;
+mod parts;
 mod plans;
 mod readers;
 mod stores;
 
 pub use errors::PutError;
 pub use grounds::MemGround;
+pub use parts::MemPart;
 pub use plans::Call;
 pub use readers::MemReader;

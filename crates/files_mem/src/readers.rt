@@ -1,8 +1,9 @@
 //! A reader of files in memory.
-ghost use Rattle.std.specs.Prelude.{◌≡◌, ◌≢◌, ◌≤◌, ◌↔◌, length, ℕ, Some, true, false, if◌then◌else◌, IsTrue, OnOk, OnErr, IfOk, IfSome, IsErr, IsErrOf};
+ghost use Rattle.std.specs.Prelude.{[], ◌≡◌, ◌≢◌, ◌≤◌, ◌↔◌, length, ℕ, Some, true, false, if◌then◌else◌, IsTrue, OnOk, OnErr, IfOk, IfSome, IsErr, IsErrOf};
 ghost use Rattle.std.specs.Option.{option_map};
 ghost use Rattle.std.specs.Arc.{arc_value};
 ghost use Rattle.std.specs.FinMap as map;
+ghost use Rattle.outside.specs.Writes.{all_but};
 ghost use Rattle.outside.specs.Count.{RoseBy, capped};
 ghost use Rattle.outside.specs.Tree.{Files, Lists, AreNames, IsTree, Reads, is_dir, is_file, stat_of};
 ghost use Rattle.files_mem.specs.Planned.{is_planned};
@@ -25,6 +26,8 @@ pub struct MemReader {
 }
 
 impl Model for MemReader {
+    ghost use Rattle.std.specs.Prelude.{[]};
+    ghost use Rattle.outside.specs.Writes.{all_but};
     ghost use Rattle.std.specs.Arc.{arc_value};
     ghost use Rattle.outside.specs.Tree.{IsTree};
     ghost use Rattle.files_mem.specs.Memory.{Memory, memory_code};
@@ -33,7 +36,7 @@ impl Model for MemReader {
 
     ghost coded = { memory_code };
 
-    ghost view = { λ r. record { files = arc_value r.store; planned = arc_value r.plan; count = r.count } };
+    ghost view = { λ r. record { files = arc_value r.store; planned = arc_value r.plan; count = r.count; area = all_but [] } };
 
     ghost invariant = { λ r. IsTree (arc_value r.store) };
 }
@@ -42,7 +45,7 @@ impl MemReader {
     /// A reader that has not failed yet.
     pub(crate) fn make(store: Arc<Store>, plan: Arc<Plan>) -> MemReader
         requires { IsTree (arc_value store) }
-        ensures { result ≡ record { files = arc_value store; planned = arc_value plan; count = 0 } }
+        ensures { result ≡ record { files = arc_value store; planned = arc_value plan; count = 0; area = all_but [] } }
     {
         MemReader {
             store,

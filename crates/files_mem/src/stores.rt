@@ -1,17 +1,22 @@
 //! Nodes by their paths.
-ghost use Rattle.std.specs.Prelude.{◌≡◌, ◌≤◌, ◌-◌, ◌++◌, true, false, length, take, drop, min, OnOk, OnErr, IfOk, IfSome, IfNone};
+ghost use Rattle.std.specs.Prelude.{◌≡◌, ◌≤◌, ◌-◌, ◌++◌, ◌∷◌, [], ◌||◌, ℕ, List, Some, None, slice_get, true, false, if◌then◌else◌, is_some, nat_eq, length, take, drop, min, OnOk, OnErr, IfOk, IfSome, IfNone};
 ghost use Rattle.std.specs.Option.{option_copied, option_map};
+ghost use Rattle.std.specs.Cmp.Lexicographic.{pointwise};
 ghost use Rattle.std.specs.FinMap as map;
 ghost use Rattle.outside.specs.Tree.{names_in, is_dir, is_file, content, stat_of};
 ghost use Rattle.outside.specs.Writes.{write_refusal, remove_file_refusal, remove_dir_refusal, written};
-ghost use Rattle.path_text.specs.Path.{parent_of};
+ghost use Rattle.outside.specs.Laid.{laid};
+ghost use Rattle.outside.specs.Lease.{in_tops, leased, kept};
+ghost use Rattle.path_text.specs.Order.{is_within};
+ghost use Rattle.path_text.specs.Path.{parent_of, refusal};
 ghost use Rattle.files_mem.specs.Stored.{node_of};
-ghost use Rattle.files_mem.specs.Memory.{put_refusal, dir_far, FillsFrom};
+ghost use Rattle.files_mem.specs.Memory.{put_refusal_at, dir_far, FillsFrom};
+ghost use Rattle.files_mem.specs.PrivateHeld.{copied};
 
 use crate::child_names;
 use crate::errors::PutError;
 use crate::nodes::{Body, Node};
-use outside::{Listing, Stat, WriteError};
+use outside::{Lent, Listing, Stat, Tops, WriteError};
 use path_text::{OutOfMemory, Path, PathError};
 use std::alloc::{AllocError, AllocFailed, Global};
 use std::collections::BTreeMap;
@@ -124,14 +129,19 @@ impl Store {
         }
     }
 
-    /// Why no node can be put at the path.
-    pub fn put_refusal(&self, alloc: Global, path: &Path) -> Result<Option<PutError>, OutOfMemory>
-        ensures { IfOk result (λ refusal. refusal ≡ put_refusal self.now path.now) }
+    /// Why no node can be put at the path, which may be a top of a part.
+    pub fn put_refusal(
+        &self,
+        alloc: Global,
+        path: &Path,
+        top: bool,
+    ) -> Result<Option<PutError>, OutOfMemory>
+        ensures { IfOk result (λ refusal. refusal ≡ put_refusal_at top self.now path.now) }
     {
         if self.node_at(path).is_some() {
             return Ok(Some(PutError::Exists));
         }
-        if self.has_parent(alloc, path)? {
+        if top || self.has_parent(alloc, path)? {
             return Ok(None);
         }
         Ok(Some(PutError::NoParent))
@@ -224,6 +234,83 @@ impl Store {
         let _ = self.map.remove(path);
     }
 
+    /// What stands at and under the tops. It costs as much as that is, and not the whole map.
+    pub fn leased(&self, alloc: Global, tops: &[Path]) -> Result<Store, OutOfMemory>
+        ensures { IfOk result (λ part. part ≡ leased tops.now self.now) }
+    {
+        let mut part = Store::empty(alloc);
+        self.copy_tops(tops, &mut part)?;
+        Ok(part)
+    }
+
+    /// Removes all that the other has.
+    pub fn take_all(&mut self, other: &Store)
+        ensures { (q : List ℕ) → map.get self.new q ≡ (if is_some (map.get other.now q) then None else map.get self.old q) }
+    {
+        let mut entries = other.map.iter();
+        while let Some((key, _node)) = entries.next() {
+            self.take(key);
+        }
+    }
+
+    /// Takes what stands at and under the tops away, for a part. A refusal changes nothing.
+    pub fn divide(
+        &mut self,
+        alloc: Global,
+        lent: &mut Lent,
+        tops: &[Path],
+    ) -> Result<(Store, Tops), OutOfMemory>
+        ensures part { IfOk result (λ part. part.0 ≡ leased tops.now self.old) }
+        ensures tops { IfOk result (λ part. part.1 ≡ tops.now) }
+        ensures valid { OnOk result ((i : ℕ) (x : List ℕ) → slice_get tops.now i ≡ Some x → refusal x ≡ None) }
+        ensures rest { OnOk result (self.new ≡ kept tops.now self.old) }
+        ensures lent { OnOk result (lent.new ≡ lent.old ++ tops.now ∷ []) }
+        ensures same { OnErr result (self.new ≡ self.old) }
+        ensures none { OnErr result (lent.new ≡ lent.old) }
+    {
+        let part = self.leased(alloc, tops)?;
+        let theirs = lent.lend(alloc, tops)?;
+        self.take_all(&part);
+        Ok((part, theirs))
+    }
+
+    /// Lays a part over it: at and under the tops what the part has, and nothing else. After a refusal the same may be done again.
+    pub fn lay(&mut self, alloc: Global, tops: &[Path], part: &Store) -> Result<(), OutOfMemory>
+        ensures ok { OnOk result (self.new ≡ laid tops.now part.now self.old) }
+        ensures err { OnErr result (laid tops.now part.now self.new ≡ laid tops.now part.now self.old) }
+    {
+        let old = self.leased(alloc, tops)?;
+        self.take_all(&old);
+        part.copy_tops(tops, self)
+    }
+
+    // Copies what stands at and under the tops into the other.
+    fn copy_tops(&self, tops: &[Path], into: &mut Store) -> Result<(), OutOfMemory>
+        ensures ok { OnOk result ((q : List ℕ) → map.get into.new q ≡ copied (in_tops tops.now q) (map.get self.now q) (map.get into.old q)) }
+        ensures err { OnErr result ((q : List ℕ) → in_tops tops.now q ≡ false → map.get into.new q ≡ map.get into.old q) }
+    {
+        for top in tops {
+            self.copy_top(top, into)?;
+        }
+        Ok(())
+    }
+
+    // Copies what stands at and under the top into the other.
+    fn copy_top(&self, top: &Path, into: &mut Store) -> Result<(), OutOfMemory>
+        ensures ok { OnOk result ((q : List ℕ) → map.get into.new q ≡ copied (is_within q top.now) (map.get self.now q) (map.get into.old q)) }
+        ensures err { OnErr result ((q : List ℕ) → is_within q top.now ≡ false → map.get into.new q ≡ map.get into.old q) }
+    {
+        let _ = top.text(); // tells that it is a path
+        let mut entries = child_names::from(&self.map, top);
+        while let Some((key, node)) = entries.next() {
+            if !is_within(key, top) {
+                return Ok(());
+            }
+            into.put(key.copy()?, node.clone()?)?;
+        }
+        Ok(())
+    }
+
     /// The names of the children of the path.
     pub fn list(&self, alloc: Global, path: &Path) -> Result<Listing, OutOfMemory>
         ensures { IfOk result (λ listing. (listing.0 ≡ names_in self.now path.now) × (listing.1 ≡ 0) × (listing.2 ≡ 0)) }
@@ -256,4 +343,11 @@ fn fill(bytes: &[u8], at: u64, into: &mut [u8]) -> usize
     let n = rest.len().min(into.len());
     into[..n].copy_from_slice(&rest[..n]);
     n
+}
+
+// Whether the path is the top, or under it.
+fn is_within(path: &Path, top: &Path) -> bool
+    ensures { result ≡ is_within path.now top.now }
+{
+    path == top || path.is_under(top)
 }

@@ -6,3 +6,6 @@ pub mod Asked
 pub mod Answered
 pub mod Writes
 pub mod Whole
+pub mod Lease
+pub mod Parts
+pub mod Laid

@@ -1,16 +1,24 @@
 //! Files of which readers can be made, and that can be written.
-ghost use Rattle.std.specs.Prelude.{◌≡◌, ◌≤◌, IfOk, OnErr};
+ghost use Rattle.std.specs.Prelude.{◌≡◌, ◌≤◌, IsTrue, IfOk, IfSome, OnOk, OnErr, is_some};
+ghost use Rattle.std.specs.Option.{option_map};
 ghost use Rattle.outside.specs.Count.{capped};
+ghost use Rattle.outside.specs.Writes.{under};
+ghost use Rattle.outside.specs.Lease.{CanLease, HaveParents, Joins, leased, kept, area_without, area_with, is_out, tops_of};
 
 use crate::plots::Plot;
 use crate::trees::Tree;
-use path_text::OutOfMemory;
+use path_text::{OutOfMemory, Path};
 use std::alloc::Global;
 
-/// Files of which readers can be made, and that can be written.
+/// Files of which readers can be made, and that can be written, also by lending parts of them. What stands at and under the
+/// tops of a part that is out is in the part alone, and the ground may be written neither there nor over there until the part
+/// is back.
 pub trait Ground: Plot {
     /// What looks at the files.
     type Reader: Tree + Drop;
+
+    /// A part of the files, lent out to be written.
+    type Part: Plot + Drop;
 
     /// A reader of the files as they are now.
     fn reader(&mut self, alloc: Global) -> Result<Self::Reader, OutOfMemory>
@@ -26,5 +34,29 @@ pub trait Ground: Plot {
         ensures same { Self.tree self.new ≡ Self.tree self.old }
         ensures area { Self.area self.new ≡ Self.area self.old }
         ensures count { Self.count self.new ≡ capped (Self.count self.old) (Self.Reader.count reader) }
+        ensures rises { Self.count self.old ≤ Self.count self.new };
+
+    /// Lends what stands at and under the tops. The empty list of tops lends nothing, and is fine.
+    fn lease(&mut self, alloc: Global, tops: &[Path]) -> Result<Self::Part, OutOfMemory>
+        requires tops { CanLease (Self.area self.old) tops.now }
+        requires parents { IfSome (Self.tree self.old) (HaveParents tops.now) }
+        ensures part { IfOk result (λ part. Self.Part.tree part ≡ option_map (leased tops.now) (Self.tree self.old)) }
+        ensures zero { IfOk result (λ part. Self.Part.count part ≡ 0) }
+        ensures tops { IfOk result (λ part. Self.Part.area part ≡ under tops.now) }
+        ensures rest { OnOk result (Self.tree self.new ≡ option_map (kept tops.now) (Self.tree self.old)) }
+        ensures area { OnOk result (Self.area self.new ≡ area_without tops.now (Self.area self.old)) }
+        ensures refused { OnErr result (Self.tree self.new ≡ Self.tree self.old) }
+        ensures refused_area { OnErr result (Self.area self.new ≡ Self.area self.old) }
+        ensures count { Self.count self.new ≡ Self.count self.old };
+
+    /// Takes a part back, adds its count and ends that lease. It takes no memory. The part may come from other files, if
+    /// its tops are those of one that is out: at and under the tops is then what the part has.
+    fn give_back(&mut self, part: Self::Part)
+        requires out { IsTrue (is_out (Self.Part.area part) (Self.area self.old)) }
+        requires tells { is_some (Self.Part.tree part) ≡ is_some (Self.tree self.old) }
+        ensures tree { IfSome (Self.tree self.old) (λ rest. IfSome (Self.Part.tree part) (λ own. IfSome (Self.tree self.new) (Joins (tops_of (Self.Part.area part)) own rest))) }
+        ensures tells { is_some (Self.tree self.new) ≡ is_some (Self.tree self.old) }
+        ensures area { Self.area self.new ≡ area_with (tops_of (Self.Part.area part)) (Self.area self.old) }
+        ensures count { Self.count self.new ≡ capped (Self.count self.old) (Self.Part.count part) }
         ensures rises { Self.count self.old ≤ Self.count self.new };
 }

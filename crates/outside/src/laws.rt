@@ -1,4 +1,5 @@
-//! Laws of trees, each the contract of a function that does nothing.
+//! Laws of trees and of leases, each the contract of a function that does nothing.
+ghost use Rattle.outside.specs.Parts.{LeasesKeepTrees, LeasesOverlap, UnderDirectories};
 ghost use Rattle.outside.specs.Tree.{ChildrenAreNames, ChildrenHaveParents, NodesHavePaths};
 
 /// The names in a directory of any tree are valid names in strictly ascending byte order, and the path of each child has at
@@ -15,4 +16,19 @@ pub fn nodes_have_paths()
 /// A path other than `/` is a child of its parent, so what is in a directory is under its path.
 pub fn children_have_parents()
     ensures { ChildrenHaveParents }
+{}
+
+/// In any tree, where a node is under a path, a directory is at that path.
+pub fn nodes_are_under_directories()
+    ensures { UnderDirectories }
+{}
+
+/// A lease leaves a tree and makes a part, and a return makes a tree again.
+pub fn leases_keep_trees()
+    ensures { LeasesKeepTrees }
+{}
+
+/// Two parts that are out at once come to the same as one after the other.
+pub fn leases_overlap()
+    ensures { LeasesOverlap }
 {}

@@ -5,13 +5,15 @@
 //! - [`Plot`] is written, by five calls that each name one path: [`Plot::make_dir`], [`Plot::make_file`],
 //!   [`Plot::write_at`], [`Plot::remove_file`] and [`Plot::remove_dir`]. [`WriteError`] says why one is refused.
 //! - [`Ground`] is a set of files that can be written and of which readers can be made. Each [`Ground::Reader`] is a [`Tree`].
+//!   Parts of it can be lent out ([`Ground::lease`], [`Ground::give_back`]): each [`Ground::Part`] is a [`Plot`] of what stands
+//!   at and under some paths, its tops. [`Lent`] keeps the [`Tops`] of the parts that are out, for whoever writes a ground.
 //! - [`load`] reads a whole file, and [`save`] writes one, in place of a file that is there.
 //! - [`Sink`] takes bytes, and [`put_all`] puts all of a text there. [`MemSink`] is a sink in memory.
 //!
 //! An object may *tell its tree*: then the ghost member `tree` is the finite map from paths to nodes that its answers are
 //! about, and each answer is tied to that map, as is what each call leaves. An object over a real disk tells none, and its
 //! contract still says which answers it has and when each may come. The ghost member `area` says where an object may be
-//! written; it is made for parts that are lent out, and of a ground today it is every path.
+//! written: a part at and under its tops, and a ground everywhere but at, under and over the tops of the parts that are out.
 //!
 //! Each reader, and all files, have a relation `gives` too: which answer a call may have, and what it leaves. An implementation may
 //! choose any. What is written for all of them knows nothing of it, so its contract can name an answer only where a call gave it.
@@ -28,17 +30,21 @@
 //! `NoPlace` only where a look or a write answered that. Memory for a whole file is taken before any of it is read.
 //! [`MemSink`] and [`Listing`] meet their clauses. The traits' clauses are what each implementation is
 //! proved to meet. Laws say what the names in every tree are like ([`children_have_names`]), that nodes stand at paths
-//! ([`nodes_have_paths`]), and that a path is under its parent ([`children_have_parents`]). Not claimed: what stands at the
-//! path of a [`save`] that failed or found no memory.
+//! ([`nodes_have_paths`]), that a path is under its parent ([`children_have_parents`]), and that all that a node is under is a
+//! directory ([`nodes_are_under_directories`]). A lease leaves a tree and makes a part, and a return makes a tree again
+//! ([`leases_keep_trees`]); two parts that are out at once come to the same as one after the other ([`leases_overlap`]). Not
+//! claimed: what stands at the path of a [`save`] that failed or found no memory.
 //!
 //! Definitions stand in `specs/`: `Tree` (files, nodes, listings, bytes that are read), `Writes` (areas, refusals, what a call
-//! answers and leaves), `Whole` (whole files), `Asked` (calls with their answers), `Answered` (whole files by what was
+//! answers and leaves), `Lease` (how files are divided and joined, and the areas meanwhile), `Laid` (the joined map), `Parts`
+//! (the nodes of a part, and what leases keep true), `Whole` (whole files), `Asked` (calls with their answers), `Answered` (whole files by what was
 //! answered), `Count` (counts of faults), `Sinks`; `Codes` is for proofs alone.
 #![tactic(auto)]
 
 mod failures;
 mod grounds;
 mod laws;
+mod leases;
 mod listings;
 mod loading;
 mod plots;
@@ -48,7 +54,11 @@ mod trees;
 
 pub use failures::Failed;
 pub use grounds::Ground;
-pub use laws::{children_have_names, children_have_parents, nodes_have_paths};
+pub use laws::{
+    children_have_names, children_have_parents, leases_keep_trees, leases_overlap,
+    nodes_are_under_directories, nodes_have_paths,
+};
+pub use leases::{Lent, Tops};
 pub use listings::Listing;
 pub use loading::{LoadError, load};
 pub use plots::{Plot, WriteError};

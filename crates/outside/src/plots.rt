@@ -59,6 +59,7 @@ impl From<AllocError> for WriteError {
 /// path but the one that the call names.
 pub trait Plot {
     ghost use Rattle.outside.specs.Tree.{Files};
+    ghost use Rattle.outside.specs.Parts.{IsTreeIn};
     ghost use Rattle.outside.specs.Writes.{Area, is_open, make_refusal, write_refusal, remove_file_refusal, remove_dir_refusal, empty_dir, new_file, written, HasPlace, Answers, may_make, may_change, may_empty};
     ghost use Rattle.std.specs.FinMap as map;
     ghost use Rattle.outside.specs.Asked.{Write};
@@ -79,9 +80,10 @@ pub trait Plot {
     /// all files knows nothing of it, so it can tell of an answer only where a call gave it.
     ghost gives: { Self → List ℕ → Write → Result (Unit {0}) refused.WriteError → Self → Type 0 } = { λ _ _ _ _ _. Unit {0} };
 
-    /// How often it, and what it took back, have failed.
+    /// How often it, and what it took back, have failed. The call tells too that the nodes are a tree, or those of a part.
     fn faults(&self) -> u64
-        ensures { result ≡ count self.now };
+        ensures counted { result ≡ count self.now }
+        ensures valid { IfSome (tree self.now) (IsTreeIn (area self.now)) };
 
     /// Makes an empty directory without a time.
     fn make_dir(&mut self, alloc: Global, path: &Path) -> Result<(), WriteError>

@@ -3,7 +3,7 @@ use Rattle.std.specs.Prelude.{◌≡◌, ℕ, ◌+◌, ◌/◌, List, [], ◌∷
 use Rattle.std.specs.List.{range_with_len}
 use Rattle.std.specs.FinMap.{from_entries}
 use Rattle.outside.specs.Tree.{Files}
-use Rattle.outside.specs.Writes.{empty_dir}
+use Rattle.outside.specs.Writes.{empty_dir, all_but}
 use Rattle.files_mem.specs.Memory.{Memory}
 use Rattle.test_tree.specs.Nodes.{path_of, node_of}
 
@@ -26,5 +26,5 @@ places n k = map place (range_with_len 0 (min k ((n + 6) / 8) + 1))
 
 -- files in memory and the places in them, when the first k of n nodes are made
 pub record IsMade (n k : ℕ) (m : Memory) (dirs : List (List ℕ)) : Type 0 where
-  pub files : m ≡ record { files = first_files n k; planned = []; count = 0 }
+  pub files : m ≡ record { files = first_files n k; planned = []; count = 0; area = all_but [] }
   pub kept : dirs ≡ places n k

@@ -27,6 +27,6 @@ mod laws;
 mod making;
 mod readers;
 
-pub use grounds::TestGround;
+pub use grounds::{TestGround, TestPart};
 pub use laws::{first_node_is_there, no_child_is_far, nodes_are_counted, test_files_are_tree};
 pub use readers::TestReader;

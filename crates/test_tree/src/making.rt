@@ -1,6 +1,7 @@
 //! The made-up tree, node after node.
 ghost use Rattle.std.specs.Prelude.{◌≡◌, ◌≢◌, ◌+◌, ◌*◌, ◌<◌, ◌≤◌, [], ◌∷◌, ◌++◌, None, OnOk, IfOk, IsTrue, length, replicate};
 ghost use Rattle.std.specs.String.{string_bytes};
+ghost use Rattle.outside.specs.Writes.{all_but};
 ghost use Rattle.path_text.specs.Path.{joined, is_name};
 ghost use Rattle.files_mem.specs.Memory.{put_refusal, with_node};
 ghost use Rattle.test_tree.specs.Nodes.{name_of, path_of, node_of, test_files};
@@ -13,7 +14,7 @@ use std::alloc::{AllocError, Global};
 /// Files in memory with so many nodes.
 pub fn made(alloc: Global, nodes: u64) -> Result<MemGround, OutOfMemory>
     requires { (1 ≤ nodes) × (nodes ≤ 1000000) }
-    ensures { IfOk result (λ files. files ≡ record { files = test_files nodes; planned = []; count = 0 }) }
+    ensures { IfOk result (λ files. files ≡ record { files = test_files nodes; planned = []; count = 0; area = all_but [] }) }
 {
     let mut files = MemGround::empty(alloc)?;
     let mut dirs = only_root(alloc)?;

@@ -1,4 +1,5 @@
 use Rattle.std.proofs.Common.{[], ◌∙◌, sym, ap, arith}
+use Rattle.outside.specs.Writes.{all_but}
 use Rattle.files_mem.specs.Memory.{with_node}
 use Rattle.test_tree.specs.Nodes.{node_of}
 use Rattle.test_tree.proofs.Filled.{next_free, grown}
@@ -11,6 +12,6 @@ pub returns : goal.returns
 returns c = record {
   files = c.in_ok-put.ensures
       ∙ (λ i. with_node (c.requires.made.files i) (c.in_ok-path.ensures i) (node_of c.args.nodes c.args.k))
-      ∙ ap (λ files. record { files = files; planned = []; count = 0 }) (sym (grown c.args.nodes c.args.k (omega arith)));
+      ∙ ap (λ files. record { files = files; planned = []; count = 0; area = all_but [] }) (sym (grown c.args.nodes c.args.k (omega arith)));
   kept = c.in_ok-keep.ensures;
 }

@@ -1,11 +1,10 @@
-use Rattle.std.proofs.Common.{rules, ◌≡◌, sym, subst}
-use Rattle.std.specs.Arc.{arc_value}
-use Rattle.outside.specs.Tree.{IsTree}
+use Rattle.std.proofs.Common.{rules, ◌≡◌, sym, subst, [], ap, ◌∙◌}
 use Rattle.files_mem.specs.Memory.{empty_files}
+use Rattle.files_mem.specs.PrivateHeld.{Lending, IsGround}
 use Rattle.files_mem.proofs.Treed.{empty_tree}
 use Rattle.files_mem.proofs.grounds.MemGround.empty.Goals as goal
 
 pub invariant_of-result : goal.invariant_of-result
 invariant_of-result c =
-    let is : arc_value c.in_ok-new.field-0 ≡ empty_files = search rules in
-    subst IsTree (sym is) empty_tree
+    let is : c.in_ok-make.field-0 ≡ record { files = empty_files; out = [] } = search rules in
+    subst IsGround (sym is) (record { tree = empty_tree; lends = tt })

@@ -1,10 +1,19 @@
-use Rattle.std.proofs.Common.{rules, ◌≡◌, None}
-use Rattle.std.specs.Arc.{arc_value}
-use Rattle.outside.specs.Writes.{remove_dir_refusal}
-use Rattle.files_mem.proofs.Treed.{take_dir}
+use Rattle.std.proofs.Common.{rules, ◌≡◌, None, sym, ap, ◌∙◌, false, subst}
+use Rattle.std.specs.Prelude.{Ok, IsTrue}
+use Rattle.std.specs.FinMap.{get, remove}
+use Rattle.outside.specs.Writes.{all_but, is_open, remove_dir_refusal}
+use Rattle.files_mem.specs.declared.plans.Call.TheVariants as call
+use Rattle.files_mem.specs.Memory.{answered}
+use Rattle.files_mem.specs.Planned.{is_planned}
+use Rattle.files_mem.specs.PrivateHeld.{Lending}
+use Rattle.files_mem.proofs.Lending.{remove_dir_ground}
 use Rattle.files_mem.proofs.grounds.MemGroundPlot.remove_dir.Goals as goal
 
 pub invariant_of-self-2 : goal.invariant_of-self-2
 invariant_of-self-2 c =
-    let free : remove_dir_refusal (arc_value c.self.inside.store) c.args.path.now ≡ None = search rules in
-    take_dir _ _ _ _ c.self.invariant c.requires free c.take_from.ensures.ok c.take_from.ensures.err
+    let planned : is_planned call.RemoveDir c.args.path.now c.args.self.now.planned ≡ false = sym c.fails.ensures.planned ∙ c.if-fails.false in
+    let same = c.fails.ensures.counted ∙ ap (λ b. answered b c.args.self.now) planned in
+    let free : remove_dir_refusal c.self.inside.held.files c.args.path.now ≡ None = sym c.in_ok-refused.ensures.told ∙ c.in_default.is in
+    let held = ap (λ (h : Lending). record h { files = remove h.files c.args.path.now }) c.remove_dir_refusal.ensures.same in
+    remove_dir_ground {B = ⊥} (Ok tt) c.self.inside.held c.take.new.self c.args.path.now c.self.invariant
+    (subst (λ a. IsTrue (is_open a c.args.path.now)) (sym (ap (λ m. m.area) (c.self.view_is ∙ same))) c.requires) free (c.in_ok-take.ensures.ok ∙ held) tt

@@ -1,11 +1,13 @@
-use Rattle.std.proofs.Common.{rules, ◌≡◌, true}
-use Rattle.std.specs.Arc.{arc_value}
+use Rattle.std.proofs.Common.{rules, ◌≡◌, None, sym, ap, ◌∙◌}
+use Rattle.std.specs.Prelude.{Ok}
 use Rattle.std.specs.FinMap.{get}
-use Rattle.outside.specs.Tree.{is_file}
-use Rattle.files_mem.proofs.Treed.{can_write, write_tree}
+use Rattle.outside.specs.Writes.{write_refusal, written}
+use Rattle.files_mem.specs.PrivateHeld.{Lending}
+use Rattle.files_mem.proofs.Lending.{write_ground}
 use Rattle.files_mem.proofs.grounds.MemGroundPlot.write_at.Goals as goal
 
 pub invariant_of-self-2 : goal.invariant_of-self-2
 invariant_of-self-2 c =
-    let there : is_file (get (arc_value c.self.inside.store) c.args.path.now) ≡ true = can_write _ (search rules) in
-    write_tree _ _ _ _ c.args.at c.args.bytes.now c.self.invariant there c.write_in.ensures.ok c.write_in.ensures.err
+    let free : write_refusal (get c.self.inside.held.files c.args.path.now) ≡ None = sym c.in_ok-refused.ensures.told ∙ c.in_default.is in
+    let held = ap (λ (h : Lending). record h { files = written h.files c.args.path.now c.args.at c.args.bytes.now }) c.write_refusal.ensures.same in
+    write_ground {B = ⊥} (Ok tt) c.self.inside.held c.write.new.self c.args.path.now c.args.at c.args.bytes.now c.self.invariant free (c.in_ok-write.ensures.ok ∙ held) tt

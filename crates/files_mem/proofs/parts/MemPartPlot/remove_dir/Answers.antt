@@ -1,0 +1,10 @@
+use Rattle.std.proofs.Common.{rules, ◌≡◌, None}
+use Rattle.std.specs.Prelude.{Ok}
+use Rattle.outside.specs.Writes.{remove_dir_refusal}
+use Rattle.files_mem.proofs.Parted.{remove_dir_part}
+use Rattle.files_mem.proofs.parts.MemPartPlot.remove_dir.Goals as goal
+
+pub invariant_of-self : goal.invariant_of-self
+invariant_of-self c =
+    let free : remove_dir_refusal c.self.inside.store c.args.path.now ≡ None = search rules in
+    remove_dir_part {B = ⊥} (Ok tt) _ _ _ _ c.self.invariant free c.take.ensures tt

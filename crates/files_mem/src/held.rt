@@ -1,0 +1,279 @@
+//! What a ground keeps while parts of it are out.
+ghost use Rattle.std.specs.Prelude.{◌≡◌, ◌<◌, ◌≤◌, ◌+◌, ◌++◌, ◌∷◌, [], ℕ, List, Some, None, true, false, length, OnOk, OnErr, IfOk, slice_get, IsTrue};
+ghost use Rattle.std.specs.Vec.{vec_len, vec_capacity};
+ghost use Rattle.std.specs.Arc.{arc_value};
+ghost use Rattle.std.specs.List.{list_any};
+ghost use Rattle.std.specs.FinMap as map;
+ghost use Rattle.outside.specs.Tree.{is_file, content};
+ghost use Rattle.outside.specs.Writes.{write_refusal, remove_file_refusal, remove_dir_refusal, written};
+ghost use Rattle.outside.specs.Lease.{leased, kept, without_tops, same_tops};
+ghost use Rattle.outside.specs.Laid.{laid};
+ghost use Rattle.path_text.specs.Path.{refusal};
+ghost use Rattle.files_mem.specs.Stored.{node_of};
+ghost use Rattle.files_mem.specs.Memory.{put_refusal_at};
+ghost use Rattle.files_mem.specs.PrivateHeld.{laid_all};
+
+use crate::errors::PutError;
+use crate::nodes::Node;
+use crate::stores::Store;
+use outside::{Lent, Tops, WriteError};
+use path_text::{OutOfMemory, Path};
+use std::alloc::{AllocError, Global};
+use std::marker::Model;
+use std::sync::Arc;
+
+/// A part that came back.
+#[derive(Drop)]
+pub struct Returned {
+    tops: Tops,
+    store: Store,
+}
+
+impl Model for Returned {
+    ghost use Rattle.files_mem.specs.PrivateHeld.{Back, back_code};
+
+    ghost Value = { Back };
+
+    ghost coded = { back_code };
+
+    ghost view = { λ r. record { tops = r.tops; files = r.store } };
+}
+
+/// The nodes that a ground keeps, and the tops of the parts that are out. A part that comes back waits in a place that was
+/// made when it was lent, so that it takes no memory, and is joined by the next call that may find none.
+#[derive(Drop)]
+pub struct Held {
+    store: Arc<Store>,
+    lent: Lent,
+    back: Vec<Returned>,
+}
+
+impl Model for Held {
+    ghost use Rattle.std.specs.Prelude.{◌+◌, ◌≤◌, length};
+    ghost use Rattle.std.specs.Arc.{arc_value};
+    ghost use Rattle.std.specs.Vec.{vec_len, vec_capacity};
+    ghost use Rattle.files_mem.specs.PrivateHeld.{Lending, lending_code, laid_all};
+
+    ghost Value = { Lending };
+
+    ghost coded = { lending_code };
+
+    ghost view = { λ h. record { files = laid_all h.back.items (arc_value h.store); out = h.lent } };
+
+    ghost invariant = { λ h. length h.lent + vec_len h.back ≤ vec_capacity h.back };
+}
+
+impl Held {
+    /// These nodes, and no part is out.
+    pub fn make(alloc: Global, store: Store) -> Result<Held, AllocError>
+        ensures { IfOk result (λ made. made ≡ record { files = store; out = [] }) }
+    {
+        Ok(Held {
+            store: Arc::new(alloc, store)?,
+            lent: Lent::make(alloc),
+            back: Vec::new(alloc),
+        })
+    }
+
+    /// The nodes, all that came back among them, for a reader to share.
+    pub fn store(&mut self, alloc: Global) -> Result<Arc<Store>, OutOfMemory>
+        ensures told { IfOk result (λ store. arc_value store ≡ self.old.files) }
+        ensures same { self.new ≡ self.old }
+    {
+        settle(alloc, &mut self.store, &mut self.back)?;
+        Ok(Arc::try_clone(&self.store)?)
+    }
+
+    /// Why no node can be put at the path.
+    pub fn put_refusal(
+        &mut self,
+        alloc: Global,
+        path: &Path,
+    ) -> Result<Option<PutError>, OutOfMemory>
+        ensures told { IfOk result (λ refusal. refusal ≡ put_refusal_at false self.old.files path.now) }
+        ensures same { self.new ≡ self.old }
+    {
+        settle(alloc, &mut self.store, &mut self.back)?;
+        self.store.put_refusal(alloc, path, false)
+    }
+
+    /// Why bytes can't be written to what is at the path.
+    pub fn write_refusal(
+        &mut self,
+        alloc: Global,
+        path: &Path,
+    ) -> Result<Option<WriteError>, OutOfMemory>
+        ensures told { IfOk result (λ refusal. refusal ≡ write_refusal (map.get self.old.files path.now)) }
+        ensures same { self.new ≡ self.old }
+    {
+        settle(alloc, &mut self.store, &mut self.back)?;
+        Ok(self.store.write_refusal(path))
+    }
+
+    /// Why what is at the path can't be removed as no directory.
+    pub fn remove_file_refusal(
+        &mut self,
+        alloc: Global,
+        path: &Path,
+    ) -> Result<Option<WriteError>, OutOfMemory>
+        ensures told { IfOk result (λ refusal. refusal ≡ remove_file_refusal (map.get self.old.files path.now)) }
+        ensures same { self.new ≡ self.old }
+    {
+        settle(alloc, &mut self.store, &mut self.back)?;
+        Ok(self.store.remove_file_refusal(path))
+    }
+
+    /// Why what is at the path can't be removed as an empty directory.
+    pub fn remove_dir_refusal(
+        &mut self,
+        alloc: Global,
+        path: &Path,
+    ) -> Result<Option<WriteError>, OutOfMemory>
+        ensures told { IfOk result (λ refusal. refusal ≡ remove_dir_refusal self.old.files path.now) }
+        ensures same { self.new ≡ self.old }
+    {
+        settle(alloc, &mut self.store, &mut self.back)?;
+        self.store.remove_dir_refusal(alloc, path)
+    }
+
+    /// Puts a node at the path, in place of what is there.
+    pub fn put(&mut self, alloc: Global, path: Path, node: Node) -> Result<(), OutOfMemory>
+        ensures ok { OnOk result (self.new ≡ record self.old { files = map.insert self.old.files path (node_of node) }) }
+        ensures err { OnErr result (self.new ≡ self.old) }
+    {
+        settle(alloc, &mut self.store, &mut self.back)?;
+        put_in(&mut self.store, path, node)?;
+        Ok(())
+    }
+
+    /// Writes bytes over those of the file at the path from a place on, and past its end.
+    pub fn write(
+        &mut self,
+        alloc: Global,
+        path: &Path,
+        at: usize,
+        bytes: &[u8],
+    ) -> Result<(), OutOfMemory>
+        requires file { is_file (map.get self.old.files path.now) ≡ true }
+        requires place { at ≤ length (content (map.get self.old.files path.now)) }
+        ensures ok { OnOk result (self.new ≡ record self.old { files = written self.old.files path.now at bytes.now }) }
+        ensures err { OnErr result (self.new ≡ self.old) }
+    {
+        settle(alloc, &mut self.store, &mut self.back)?;
+        write_in(&mut self.store, path, at, bytes)?;
+        Ok(())
+    }
+
+    /// Removes what is at the path.
+    pub fn take(&mut self, alloc: Global, path: &Path) -> Result<(), OutOfMemory>
+        ensures ok { OnOk result (self.new ≡ record self.old { files = map.remove self.old.files path.now }) }
+        ensures err { OnErr result (self.new ≡ self.old) }
+    {
+        settle(alloc, &mut self.store, &mut self.back)?;
+        take_from(&mut self.store, path)?;
+        Ok(())
+    }
+
+    /// Takes what stands at and under the tops away, for a part, and makes a place for what comes back.
+    pub fn lease(&mut self, alloc: Global, tops: &[Path]) -> Result<(Store, Tops), OutOfMemory>
+        ensures part { IfOk result (λ part. part.0 ≡ leased tops.now self.old.files) }
+        ensures tops { IfOk result (λ part. part.1 ≡ tops.now) }
+        ensures valid { OnOk result ((i : ℕ) (x : List ℕ) → slice_get tops.now i ≡ Some x → refusal x ≡ None) }
+        ensures rest { OnOk result (self.new ≡ record { files = kept tops.now self.old.files; out = self.old.out ++ tops.now ∷ [] }) }
+        ensures same { OnErr result (self.new ≡ self.old) }
+    {
+        settle(alloc, &mut self.store, &mut self.back)?;
+        self.back.reserve(self.lent.len() + 1)?;
+        divide(alloc, &mut self.store, &mut self.lent, tops)
+    }
+
+    /// Takes a part back, without memory.
+    pub fn give_back(&mut self, store: Store, tops: Tops)
+        requires { IsTrue (list_any (λ one. same_tops one tops) self.old.out) }
+        ensures { self.new ≡ record { files = laid tops store self.old.files; out = without_tops tops self.old.out } }
+    {
+        self.lent.end(&tops);
+        put_back(&mut self.back, Returned { tops, store });
+    }
+}
+
+// Joins what came back with what is kept, and what is told stays, also after a refusal.
+fn settle(
+    alloc: Global,
+    store: &mut Arc<Store>,
+    back: &mut Vec<Returned>,
+) -> Result<(), OutOfMemory>
+    ensures ok { OnOk result (arc_value store.new ≡ laid_all back.old.items (arc_value store.old)) }
+    ensures none { OnOk result (back.new.items ≡ []) }
+    ensures told { laid_all back.new.items (arc_value store.new) ≡ laid_all back.old.items (arc_value store.old) }
+    ensures len { vec_len back.new ≤ vec_len back.old }
+    ensures capacity { vec_capacity back.new ≡ vec_capacity back.old }
+{
+    while !back.is_empty() {
+        lay_in(alloc, store, &back[0])?;
+        back.remove(0);
+    }
+    Ok(())
+}
+
+// Lays a part over the nodes, or over a copy of them where readers hold those that are there.
+fn lay_in(alloc: Global, store: &mut Arc<Store>, part: &Returned) -> Result<(), OutOfMemory>
+    ensures ok { OnOk result (arc_value store.new ≡ laid part.now.tops part.now.files (arc_value store.old)) }
+    ensures err { OnErr result (laid part.now.tops part.now.files (arc_value store.new) ≡ laid part.now.tops part.now.files (arc_value store.old)) }
+{
+    Arc::make_mut(store)?.lay(alloc, part.tops.paths(), &part.store)
+}
+
+// Divides the nodes, or a copy of them where readers hold those that are there.
+fn divide(
+    alloc: Global,
+    store: &mut Arc<Store>,
+    lent: &mut Lent,
+    tops: &[Path],
+) -> Result<(Store, Tops), OutOfMemory>
+    ensures part { IfOk result (λ part. part.0 ≡ leased tops.now (arc_value store.old)) }
+    ensures tops { IfOk result (λ part. part.1 ≡ tops.now) }
+    ensures valid { OnOk result ((i : ℕ) (x : List ℕ) → slice_get tops.now i ≡ Some x → refusal x ≡ None) }
+    ensures rest { OnOk result (arc_value store.new ≡ kept tops.now (arc_value store.old)) }
+    ensures lent { OnOk result (lent.new ≡ lent.old ++ tops.now ∷ []) }
+    ensures same { OnErr result (arc_value store.new ≡ arc_value store.old) }
+    ensures none { OnErr result (lent.new ≡ lent.old) }
+{
+    Arc::make_mut(store)?.divide(alloc, lent, tops)
+}
+
+// Puts a part into a place that was made for it, without memory.
+fn put_back(places: &mut Vec<Returned>, part: Returned)
+    requires { vec_len places.old < vec_capacity places.old }
+    ensures items { places.new.items ≡ places.old.items ++ part ∷ [] }
+    ensures len { vec_len places.new ≡ vec_len places.old + 1 }
+    ensures capacity { vec_capacity places.old ≤ vec_capacity places.new }
+{
+    let _ = places.push(part);
+}
+
+// The writes go into a copy of the nodes where readers hold those that are there.
+
+fn put_in(store: &mut Arc<Store>, path: Path, node: Node) -> Result<(), AllocError>
+    ensures ok { OnOk result (arc_value store.new ≡ map.insert (arc_value store.old) path (node_of node)) }
+    ensures err { OnErr result (arc_value store.new ≡ arc_value store.old) }
+{
+    Arc::make_mut(store)?.put(path, node)
+}
+
+fn write_in(store: &mut Arc<Store>, path: &Path, at: usize, bytes: &[u8]) -> Result<(), AllocError>
+    requires file { is_file (map.get (arc_value store.old) path.now) ≡ true }
+    requires place { at ≤ length (content (map.get (arc_value store.old) path.now)) }
+    ensures ok { OnOk result (arc_value store.new ≡ written (arc_value store.old) path.now at bytes.now) }
+    ensures err { OnErr result (arc_value store.new ≡ arc_value store.old) }
+{
+    Arc::make_mut(store)?.write(path, at, bytes)
+}
+
+fn take_from(store: &mut Arc<Store>, path: &Path) -> Result<(), AllocError>
+    ensures ok { OnOk result (arc_value store.new ≡ map.remove (arc_value store.old) path.now) }
+    ensures err { OnErr result (arc_value store.new ≡ arc_value store.old) }
+{
+    Arc::make_mut(store)?.take(path);
+    Ok(())
+}

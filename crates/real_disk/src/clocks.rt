@@ -1,0 +1,13 @@
+//! The time of the system.
+use std::rt::Clock;
+use std::time::{SystemTime, UNIX_EPOCH};
+
+/// The seconds since 1970, and 0 where the clock can't be read or stands before.
+pub fn seconds(clock: &impl Clock) -> u64 {
+    match SystemTime::now(clock) {
+        Ok(now) => now
+            .duration_since(UNIX_EPOCH)
+            .map_or(0, |time| time.as_secs()),
+        Err(_) => 0,
+    }
+}

@@ -1,0 +1,211 @@
+//! The files of the system, looked at.
+ghost use Rattle.std.specs.Prelude.{◌≡◌, ◌≢◌, ◌≤◌, ℕ, pos, negsuc, length, IfOk, IfSome, IsErrOf, Some, None};
+ghost use Rattle.outside.specs.Count.{RoseBy};
+ghost use Rattle.outside.specs.Tree.{AreNames};
+
+use crate::answers::is_absent;
+use crate::handles::{Handle, to_read};
+use crate::names::FoundNames;
+use outside::{Failed, Kind, ListError, Listing, ReadError, Stat, Tree};
+use path_text::{OutOfMemory, Path};
+use std::alloc::Global;
+use std::fs;
+use std::fs::{Files, Metadata};
+use std::io::Read;
+use std::marker::Model;
+use std::os::unix::fs::{FileExt, MetadataExt};
+
+/// How many bytes of names are asked of the system at a time.
+const PIECE: usize = 32768;
+
+/// Looks at the files of a system, seen as its count of faults. It tells no tree.
+#[derive(Drop)]
+pub struct RealReader<R: Files> {
+    system: R,
+    // What the system writes names into, made once.
+    buffer: Vec<u8>,
+    // The two files that were read last, the later one first, until the next look at a path. Two that are compared are read in turn.
+    last: Option<Handle<R::File>>,
+    before: Option<Handle<R::File>>,
+    count: u64,
+}
+
+impl<R: Files> Model for RealReader<R> {
+    ghost use Rattle.std.specs.Prelude.{ℕ};
+
+    ghost Value = { ℕ };
+
+    ghost view = { λ reader. reader.count };
+}
+
+impl<R: Files + Copy> RealReader<R> {
+    /// A reader that has not failed yet.
+    pub fn make(alloc: Global, system: R) -> Result<RealReader<R>, OutOfMemory>
+        ensures { IfOk result (λ reader. reader ≡ 0) }
+    {
+        let buffer = vec![in alloc; 0u8; PIECE]?;
+        Ok(RealReader {
+            system,
+            buffer,
+            last: None,
+            before: None,
+            count: 0,
+        })
+    }
+}
+
+impl<R: Files> RealReader<R> {
+    // Counts a fault.
+    fn fault(&mut self) -> Failed
+        ensures { RoseBy 1 self.old self.new }
+    {
+        self.count = self.count.saturating_add(1);
+        Failed
+    }
+}
+
+impl<R: Files> RealReader<R>
+where
+    R::File: FileExt,
+{
+    // Reads through the handle that is open, or opens one.
+    fn read_open(&mut self, path: &Path, at: u64, into: &mut [u8]) -> Result<usize, ReadError>
+        ensures same { self.new ≡ self.old }
+        ensures most { IfOk result (λ n. n ≤ length into.new) }
+        ensures untouched { IsErrOf result ReadError.NotFile → into.new ≡ into.old }
+    {
+        if let Some(file) = self.open_file(path) {
+            return file.read_at(into, at).map_err(|_| ReadError::Failed);
+        }
+        let file = to_read(&self.system, path)?;
+        let n = file.read_at(into, at).map_err(|_| ReadError::Failed)?;
+        self.before = self.last.take();
+        self.last = Handle::keep(path, file);
+        Ok(n)
+    }
+
+    // The file at the path, where it is open.
+    fn open_file(&self, path: &Path) -> Option<&R::File> {
+        match file_of(&self.last, path) {
+            Some(file) => Some(file),
+            None => file_of(&self.before, path),
+        }
+    }
+}
+
+impl<R: Files> Tree for RealReader<R>
+where
+    R::File: FileExt,
+{
+    ghost use Rattle.std.specs.Prelude.{None};
+
+    ghost tree = { λ _. None };
+
+    ghost count = { λ reader. reader };
+
+    fn faults(&self) -> u64 {
+        self.count
+    }
+
+    /// A link is not followed. Where a name of the path is no directory, nothing stands at the path.
+    fn stat(&mut self, path: &Path) -> Result<Option<Stat>, Failed> {
+        self.last = None;
+        self.before = None;
+        match fs::symlink_metadata(&self.system, path.text()) {
+            Ok(data) => Ok(Some(stat_of(&data))),
+            Err(e) if is_absent(e.kind()) => Ok(None),
+            Err(_) => Err(self.fault()),
+        }
+    }
+
+    /// A link is not followed.
+    fn list(&mut self, alloc: Global, path: &Path) -> Result<Listing, ListError> {
+        match listing_of(&self.system, alloc, path, self.buffer.as_mut_slice()) {
+            Ok(listing) => {
+                self.count = self.count.saturating_add(listing.unnamed());
+                Ok(listing)
+            }
+            Err(ListError::Failed) => {
+                self.fault();
+                Err(ListError::Failed)
+            }
+            Err(e) => Err(e),
+        }
+    }
+
+    /// What is no file is not opened, so a link is not followed and a pipe is not waited for.
+    fn read(&mut self, path: &Path, at: u64, into: &mut [u8]) -> Result<usize, ReadError> {
+        match self.read_open(path, at, into) {
+            Err(ReadError::Failed) => match self.fault() {
+                Failed => Err(ReadError::Failed),
+            },
+            told => told,
+        }
+    }
+}
+
+// The file, where it is this one that was kept.
+fn file_of<'a, F: Drop>(kept: &'a Option<Handle<F>>, path: &Path) -> Option<&'a F> {
+    match kept {
+        Some(handle) => handle.of(path),
+        None => None,
+    }
+}
+
+fn stat_of(data: &Metadata) -> Stat
+    ensures { result.kind ≢ Kind.File → result.size ≡ 0 }
+{
+    let kind = kind_of(data);
+    let size = if kind == Kind::File { data.len() } else { 0 };
+    let mtime = time_of(data.mtime());
+    Stat { kind, size, mtime }
+}
+
+/// The seconds since 1970 as a stat tells them. A time before is none.
+pub fn time_of(seconds: i64) -> Option<u64>
+    ensures known { (n : ℕ) → seconds ≡ pos n → result ≡ Some n }
+    ensures before { (n : ℕ) → seconds ≡ negsuc n → result ≡ None }
+{
+    u64::try_from(seconds).ok()
+}
+
+fn kind_of(data: &Metadata) -> Kind {
+    if data.is_file() {
+        Kind::File
+    } else if data.is_dir() {
+        Kind::Dir
+    } else if data.is_symlink() {
+        Kind::Link
+    } else {
+        Kind::Other
+    }
+}
+
+// The names in the directory at the path, read through the buffer. The directory is opened once.
+fn listing_of<R: Files>(
+    system: &R,
+    alloc: Global,
+    path: &Path,
+    buffer: &mut [u8],
+) -> Result<Listing, ListError>
+    ensures { IfOk result (λ listing. AreNames path.now listing.0) }
+{
+    let mut folder = match system.open_dir(path.text()) {
+        Ok(folder) => folder,
+        Err(e) if is_absent(e.kind()) => return Err(ListError::NotDir),
+        Err(_) => return Err(ListError::Failed),
+    };
+    let mut found = FoundNames::make(alloc);
+    for _ in 0..u64::MAX {
+        let Ok(n) = folder.read(buffer) else {
+            return Err(ListError::Failed);
+        };
+        if n == 0 {
+            return found.listing(path).map_err(|_| ListError::OutOfMemory);
+        }
+        if found.add_piece(&buffer[..n]).is_err() {
+            return Err(ListError::OutOfMemory);
+        }
+    }
+    Err(ListError::Failed)
+}
