@@ -41,6 +41,7 @@ module _ {J S T : Type 0} (shows : S → Shown) where
     stopped = ap (λ (s : Shown). s.stopped) shown ∙ k.stopped;
     inside = k.inside;
     few = k.few;
+    asks = k.asks;
     wide = ap (λ (s : Shown). length s.serves) shown ∙ length-set (shows r.seat).serves to false ∙ k.wide;
     idle = λ e. absurd (let none : length r.queue ≡ 0 = ap length (k.idle (sym (ap (λ (s : Shown). s.busy) shown) ∙ e)) in let all : length r.queue ≡ length batch + length queue = ap length oldest ∙ length-append batch queue in omega arith);
     over = λ e. absurd (true_not_false r.ended e live);
@@ -58,6 +59,7 @@ module _ {J S T : Type 0} (shows : S → Shown) where
     stopped = ap (λ (s : Shown). s.stopped) shown ∙ k.stopped;
     inside = k.inside;
     few = k.few;
+    asks = k.asks;
     wide = ap (λ (s : Shown). length s.serves) shown ∙ length-set (shows r.seat).serves to false ∙ k.wide;
     idle = λ e. same ∙ k.idle (sym (ap (λ (s : Shown). s.busy) shown) ∙ e);
     over = λ e. same ∙ k.over e;

@@ -8,7 +8,8 @@ use Rattle.ring_core.specs.declared.events.Event.{Event}
 use Rattle.ring_core.specs.declared.events.Event.TheVariants.{Handle, Ask, Give, Refuse, Take, TakeNone, Pass, Restart, Conclude, SeeOver}
 use Rattle.post_board.specs.Shown.{Strings}
 use Rattle.post_board.specs.Deeds.{Deed, ask, give, refuse, take, take_none, pass, restart, conclude, see_over, event_of}
-use Rattle.circle_run.specs.Moves.{Move, handled, served, did, answer_of, events_of, Does}
+use Rattle.circle_run.specs.Moves.{Move, handled, served, did, Side, answer_of, events_of, Does}
+use Rattle.circle_run.specs.Ranks.{DoesAll}
 use Rattle.circle_run.specs.Stages.{Stage, rank_side, side, Plays, events_of_all}
 use Rattle.circle_run.specs.Shares.{handled_in, given_in, taken_in, moves_of, handled_by, given_by, taken_by}
 use Rattle.circle_run.specs.Books.{counted, counted_one}
@@ -298,3 +299,20 @@ share_counts o r moves from to s plays none =
     let t = tell.taken in
     ap (counted mine) none ∙ all_counted mine 0 0 0
     ∙ same_share (0 + sum_by handles_one mine) (0 + sum_by gives_so mine) (0 + sum_by takes_so mine) (handled_by r moves) (given_by r moves) (taken_by r moves) (omega arith) (omega arith) (omega arith)
+
+all_proper : (o : Options) (me : ℕ) (moves : List Move) (s s' : Side) → DoesAll o me moves s s' → AllProper moves
+all_proper o me [] s s' does = tt
+all_proper o me (m ∷ moves) s s' (mid, one, rest) = (does_proper o me m s mid one, all_proper o me moves mid s' rest)
+
+-- the same of a rank's own moves, whatever the board tells
+pub share_alone : (o : Options) (me : ℕ) (moves : List Move) (s s' : Side) (share : Share) → DoesAll o me moves s s' → share ≡ capped 0 0 0
+    → counted (flat_map (events_of me) moves) share ≡ capped (length (flat_map handled_in moves)) (length (flat_map given_in moves)) (length (flat_map taken_in moves))
+share_alone o me moves s s' share does none =
+    let events : List Event = flat_map (events_of me) moves in
+    let tell = moves_tell me moves (all_proper o me moves s s' does) in
+    let h = tell.handled in
+    let g = tell.given in
+    let t = tell.taken in
+    ap (counted events) none ∙ all_counted events 0 0 0
+    ∙ same_share (0 + sum_by handles_one events) (0 + sum_by gives_so events) (0 + sum_by takes_so events) (length (flat_map handled_in moves))
+    (length (flat_map given_in moves)) (length (flat_map taken_in moves)) (omega arith) (omega arith) (omega arith)

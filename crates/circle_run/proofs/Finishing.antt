@@ -25,9 +25,9 @@ use Rattle.circle_run.specs.Shares.{handled_by, given_by, taken_by}
 use Rattle.circle_run.specs.Fair.{PlaysTurns, moves_of_turns, RoundsAreFair, IsFair}
 use Rattle.circle_run.specs.Books.{counted}
 use Rattle.circle_run.specs.Progress.{KeptOf, KeptAll}
-use Rattle.circle_run.specs.Hosts.{events_by, NoneWrote, AreAll, Same, AllEnded, rank_of, stage_of, Ran, KeptInOrder}
+use Rattle.circle_run.specs.Hosts.{events_by, NoneLost, NoneWrote, AreAll, Same, AllEnded, rank_of, stage_of, Ran, KeptInOrder}
 use Rattle.circle_run.specs.Traced.{IsTraced, share_in, IsProgress}
-use Rattle.circle_run.specs.Private.Outcomes.{IsOutcome}
+use Rattle.circle_run.specs.Private.Outcomes.{IsOutcome, IsRun}
 use Rattle.circle_run.specs.declared.outcomes.Share.{Share}
 use Rattle.circle_run.specs.declared.outcomes.Finished.{Finished}
 use Rattle.circle_run.specs.declared.settings.Options.{Options}
@@ -112,21 +112,21 @@ module _ {J S T P Q D : Type 0} (log : J → Log) (plain : J → D) (shows : S �
       }
 
   -- what the numbers of rank 0 are, whose final sum is this
-  progressed : (o : Options) (ranks : List (Rank J S T)) (p : P) (q : Q) (total : ℕ) (numbers : List ℕ) → AreAll o ranks → 1 ≤ o.ranks
-      → AllEnded log shows seats sums_shows sums_seats ranks p q → NoneWrote ranks
+  pub progressed : (o : Options) (ranks : List (Rank J S T)) (p : P) (q : Q) (total : ℕ) (numbers : List ℕ) → AreAll o ranks → 1 ≤ o.ranks
+      → AllEnded log shows seats sums_shows sums_seats ranks p q → NoneLost ranks
       → ((d : Rank J S T) → (sums_shows (get_or ranks 0 d).sums_seat).answer ≡ Some total)
       → total ≡ sum_by (λ (r : Rank J S T). (sums_shows r.sums_seat).count) ranks
       → numbers ≡ flat_map (λ (r : Rank J S T). r.book.sums.items) ranks → IsProgress (map (λ (r : Rank J S T). length (logged r)) ranks) numbers
-  progressed o [] p q total numbers all some done wrote answer sum_is are = absurd (omega (arith, all.count, some))
-  progressed o (x ∷ ranks) p q total numbers all some done wrote answer sum_is are =
+  progressed o [] p q total numbers all some done found answer sum_is are = absurd (omega (arith, all.count, some))
+  progressed o (x ∷ ranks) p q total numbers all some done found answer sum_is are =
       let first = done 0 x (omega arith) in
       let sums = first.ready.sums in
-      let own = sums.progress (wrote 0 x (omega arith)).0 in
+      let own = sums.progress (found 0 x (omega arith)) in
       let kept : KeptAll x.book.sums.items total (sums_shows x.sums_seat) =
       subst (λ (a : Option ℕ). KeptOf a x.book.sums.items (sums_shows x.sums_seat)) (answer x) (own.first (all.each 0 x (omega arith)).0) in
       let rest : (k : ℕ) (d : Rank J S T) → k < length ranks → (get_or ranks k d).book.sums.items ≡ [] =
       λ k d h. (let y = done (suc k) d (omega arith) in let me = (all.each (suc k) d (omega arith)).0 in
-      (y.ready.sums.progress (wrote (suc k) d (omega arith)).0).rest (λ e. (let f : 0 ≡ suc k = sym e ∙ me in absurd (omega arith)))) in
+      (y.ready.sums.progress (found (suc k) d (omega arith))).rest (λ e. (let f : 0 ≡ suc k = sym e ∙ me in absurd (omega arith)))) in
       let numbers_are : numbers ≡ x.book.sums.items = are ∙ flat_first (λ (r : Rank J S T). r.book.sums.items) x ranks rest in
       let n : (sums_shows x.sums_seat).n ≡ o.ranks = sums.ranks ∙ ap (λ (q : Options). q.ranks) (all.each 0 x (omega arith)).1 in
       let f : Rank J S T → ℕ = λ r. length (logged r) in
@@ -137,7 +137,7 @@ module _ {J S T P Q D : Type 0} (log : J → Log) (plain : J → D) (shows : S �
         rises = kept.rises;
         within = kept.within;
         total = λ few. sum_is ∙ sum_same (λ (r : Rank J S T). (sums_shows r.sums_seat).count) f (x ∷ ranks)
-            (λ k d h. (let y = done k d h in let c = y.ready.sums.counted (wrote k d h).0 in
+            (λ k d h. (let y = done k d h in let c = y.ready.sums.counted (found k d h) in
             let below : f (get_or (x ∷ ranks) k d) < 2 ^ 56 =
             subst (λ (m : ℕ). m < 2 ^ 56) (get_or-map f (x ∷ ranks) k d 0 h)
             (All-get_or (λ (m : ℕ). m < 2 ^ 56) (map f (x ∷ ranks)) k 0 (let l = length-map (x ∷ ranks) f in omega (arith, l, h)) few) in
@@ -181,7 +181,7 @@ module _ {J S T P Q D : Type 0} (log : J → Log) (plain : J → D) (shows : S �
     pub total_is : total ≡ sum_by (λ (r : Rank J S T). (sums_shows r.sums_seat).count) ranks
 
   pub outcome : (o : Options) (starts : Strings) (jobs : List J) (ranks0 ranks : List (Rank J S T)) (p0 p : P) (q0 q : Q) (total : ℕ) (f : Finished J)
-      → Ending o starts jobs ranks0 ranks p0 p q0 q total f → IsOutcome log plain o starts jobs f
+      → Ending o starts jobs ranks0 ranks p0 p q0 q total f → IsOutcome log plain o starts jobs f × IsRun log o starts f
   outcome o starts jobs ranks0 ranks p0 p q0 q total f x =
       let all : AreAll o ranks = same_all plain o ranks0 ranks x.same x.first.all in
       let moves : List (ℕ × Move) = moves_of_turns o.ranks 0 x.ran.turns in
@@ -223,40 +223,43 @@ module _ {J S T P Q D : Type 0} (log : J → Log) (plain : J → D) (shows : S �
       let balance : Balanced (all_logged last) [] starts = all_is_handled o starts moves last (let n = x.some in omega arith) e.plays e.nothing in
       let many : J → ℕ = λ j. length (log j) in
       let most : J → ℕ = λ j. min (many j) (2 ^ 64 - 1) in
-      let facts_of : Rank J S T → D = λ r. plain r.job in
-      record {
-        balance = subst (λ (l : Log). Balanced l (all_left f.left.items) starts) all_logs
-            (subst (λ (l : Strings). Balanced (all_logged last) l starts) (sym left) balance);
-        whole = left;
-        jobs_count = ap length x.jobs_are ∙ length-map ranks job_of ∙ x.same.count ∙ sym (length-map ranks0 job_of) ∙ ap length x.given_jobs;
-        facts = ap (map plain) x.jobs_are ∙ map-map plain job_of ranks
-            ∙ map_same facts_of facts_of ranks ranks0 x.same.count
-            (λ k d d' h. ap facts_of (get_or_default ranks k d d' h) ∙ x.same.facts k d' (let c = x.same.count in omega arith))
-            ∙ sym (map-map plain job_of ranks0) ∙ ap (map plain) x.given_jobs;
-        lists = sym (length-map f.left.items (λ (l : Vec (List ℕ) _). l.items)) ∙ ap length x.left_are ∙ length-map ranks queue_of ∙ x.same.count
-            ∙ sym (length-map ranks0 job_of) ∙ ap length x.given_jobs;
-        handled = ap (map (λ (y : Share). y.handled)) x.shares_are ∙ map-map (λ (y : Share). y.handled) share_of ranks
-            ∙ map_same (λ (r : Rank J S T). r.book.share.handled) (λ (r : Rank J S T). most r.job) ranks ranks refl
-            (λ k d d' h. ap (λ (y : Share). y.handled) (s.each k d h) ∙ ap (λ (n : ℕ). min n (2 ^ 64 - 1)) (s.handled k d h)
-            ∙ ap (λ (r : Rank J S T). most r.job) (get_or_default ranks k d d' h))
-            ∙ sym (map-map most job_of ranks) ∙ ap (map most) (sym x.jobs_are);
-        moved = (let g = capped_sum (λ (k : ℕ). given_by k moves) (2 ^ 128 - 1) (range_with_len 0 o.ranks) in
-            let t = capped_sum (λ (k : ℕ). taken_by k moves) (2 ^ 128 - 1) (range_with_len 0 o.ranks) in
-            let gives = sum_by-map given cap (range_with_len 0 o.ranks) in
-            let takes = sum_by-map taken cap (range_with_len 0 o.ranks) in
-            let even = (given_is_taken_or_mailed o starts moves last e.plays).counts in
-            let level : sum_by (λ (k : ℕ). given_by k moves) (range_with_len 0 o.ranks) ≡ sum_by (λ (k : ℕ). taken_by k moves) (range_with_len 0 o.ranks) =
-            omega arith in
-            ap (λ (xs : List Share). min (sum_by given xs) (2 ^ 128 - 1)) caps ∙ ap (λ (n : ℕ). min n (2 ^ 128 - 1)) gives ∙ g
-            ∙ ap (λ (n : ℕ). min n (2 ^ 128 - 1)) level
-            ∙ sym (ap (λ (xs : List Share). min (sum_by taken xs) (2 ^ 128 - 1)) caps ∙ ap (λ (n : ℕ). min n (2 ^ 128 - 1)) takes ∙ t));
-        traced = λ on. subst (IsTraced o starts (map log f.jobs.items)) (sym (kept true on)) run;
-        ran = record { events = events_of_all moves; traced = run; counts = counts; kept = x.ran.kept };
-        untraced = λ off. kept false off;
-        counts = λ on. counts ∙ ap (λ (es : List Event). map (share_in es) (range_with_len 0 o.ranks)) (sym (kept true on));
-        progress = subst (λ (ns : List ℕ). IsProgress ns f.sums.items) (sym (ap (map many) x.jobs_are ∙ map-map many job_of ranks))
-            (progressed o ranks p q total f.sums.items all x.some x.done x.wrote x.answer x.total_is x.sums_are);
-      }
+      let facts_of : Rank J S T → D = λ r. plain r.job in (
+        record {
+          balance = subst (λ (l : Log). Balanced l (all_left f.left.items) starts) all_logs
+              (subst (λ (l : Strings). Balanced (all_logged last) l starts) (sym left) balance);
+          whole = left;
+          jobs_count = ap length x.jobs_are ∙ length-map ranks job_of ∙ x.same.count ∙ sym (length-map ranks0 job_of) ∙ ap length x.given_jobs;
+          facts = ap (map plain) x.jobs_are ∙ map-map plain job_of ranks
+              ∙ map_same facts_of facts_of ranks ranks0 x.same.count
+              (λ k d d' h. ap facts_of (get_or_default ranks k d d' h) ∙ x.same.facts k d' (let c = x.same.count in omega arith))
+              ∙ sym (map-map plain job_of ranks0) ∙ ap (map plain) x.given_jobs;
+          lists = sym (length-map f.left.items (λ (l : Vec (List ℕ) _). l.items)) ∙ ap length x.left_are ∙ length-map ranks queue_of ∙ x.same.count
+              ∙ sym (length-map ranks0 job_of) ∙ ap length x.given_jobs;
+          handled = ap (map (λ (y : Share). y.handled)) x.shares_are ∙ map-map (λ (y : Share). y.handled) share_of ranks
+              ∙ map_same (λ (r : Rank J S T). r.book.share.handled) (λ (r : Rank J S T). most r.job) ranks ranks refl
+              (λ k d d' h. ap (λ (y : Share). y.handled) (s.each k d h) ∙ ap (λ (n : ℕ). min n (2 ^ 64 - 1)) (s.handled k d h)
+              ∙ ap (λ (r : Rank J S T). most r.job) (get_or_default ranks k d d' h))
+              ∙ sym (map-map most job_of ranks) ∙ ap (map most) (sym x.jobs_are);
+          moved = (let g = capped_sum (λ (k : ℕ). given_by k moves) (2 ^ 128 - 1) (range_with_len 0 o.ranks) in
+              let t = capped_sum (λ (k : ℕ). taken_by k moves) (2 ^ 128 - 1) (range_with_len 0 o.ranks) in
+              let gives = sum_by-map given cap (range_with_len 0 o.ranks) in
+              let takes = sum_by-map taken cap (range_with_len 0 o.ranks) in
+              let even = (given_is_taken_or_mailed o starts moves last e.plays).counts in
+              let level : sum_by (λ (k : ℕ). given_by k moves) (range_with_len 0 o.ranks) ≡ sum_by (λ (k : ℕ). taken_by k moves) (range_with_len 0 o.ranks) =
+              omega arith in
+              ap (λ (xs : List Share). min (sum_by given xs) (2 ^ 128 - 1)) caps ∙ ap (λ (n : ℕ). min n (2 ^ 128 - 1)) gives ∙ g
+              ∙ ap (λ (n : ℕ). min n (2 ^ 128 - 1)) level
+              ∙ sym (ap (λ (xs : List Share). min (sum_by taken xs) (2 ^ 128 - 1)) caps ∙ ap (λ (n : ℕ). min n (2 ^ 128 - 1)) takes ∙ t));
+          untraced = λ off. kept false off;
+          progress = subst (λ (ns : List ℕ). IsProgress ns f.sums.items) (sym (ap (map many) x.jobs_are ∙ map-map many job_of ranks))
+              (progressed o ranks p q total f.sums.items all x.some x.done (λ k d h. (x.wrote k d h).0) x.answer x.total_is x.sums_are);
+        },
+        record {
+          traced = λ on. subst (IsTraced o starts (map log f.jobs.items)) (sym (kept true on)) run;
+          counts = λ on. counts ∙ ap (λ (es : List Event). map (share_in es) (range_with_len 0 o.ranks)) (sym (kept true on));
+          ran = record { events = events_of_all moves; traced = run; counts = counts; kept = x.ran.kept };
+        },
+      )
 
   -- the seats may be gathered
   pub seats_done : (o : Options) (ranks : List (Rank J S T)) (p : P) (q : Q) (all_seats : List S) → AreAll o ranks

@@ -36,3 +36,12 @@ pub mod Counting
 pub mod Sounding
 pub mod Beginning
 pub mod Finishing
+pub mod Lone
+pub mod Upto
+pub mod Apart
+pub mod Places
+pub mod Joined
+pub mod Pooling
+pub mod Parted
+pub mod Final
+pub mod Whole

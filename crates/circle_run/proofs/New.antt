@@ -1,5 +1,5 @@
 -- A rank that has done nothing is ready for its first turn.
-use Rattle.std.proofs.Common.{◌≡◌, ℕ, ◌<◌, ◌≤◌, refl, sym, subst, ap, ◌∙◌, arith, true, false, List, [], length, get_or, replicate, Option}
+use Rattle.std.proofs.Common.{◌≡◌, ℕ, ◌<◌, ◌≤◌, refl, sym, subst, ap, ◌∙◌, arith, true, false, List, [], length, get_or, replicate, Option, None, Some}
 use mathlib.Core.Logic.{dite}
 use native.Mathlib.Decide.{dec_le}
 use Rattle.std.proofs.lemmas.List.{get_or-replicate, length-replicate}
@@ -41,6 +41,7 @@ module _ {J S T P Q : Type 0} (log : J → Log) (shows : S → Shown) (seats : P
           colour = ap (λ (x : Shown). x.colour) s ∙ sym (ap (λ (x : Rank J S T). x.colour) is);
           tried = ap (λ (x : Shown). x.tried) s ∙ sym (ap (λ (x : Rank J S T). x.tried) is);
           asked = ap (λ (x : Shown). x.asked) s ∙ sym (ap (λ (x : Rank J S T). x.asked) is);
+          asks = λ v e. (let f : None ≡ Some v = sym (ap (λ (x : Rank J S T). x.asked) is) ∙ e in cc);
           ended = ap (λ (x : Shown). x.ended) s ∙ sym (ap (λ (x : Rank J S T). x.ended) is);
           stopped = ap (λ (x : Shown). x.stopped) s;
           inside = omega (arith, inside, is_me, ranks);

@@ -1,5 +1,5 @@
 -- Requests that are taken up, one after the other.
-use Rattle.std.proofs.Common.{◌≡◌, ◌≢◌, ℕ, ◌+◌, ◌<◌, refl, sym, subst, ap, ◌∙◌, arith, true, List, take, length, length-set, set, Option, Some}
+use Rattle.std.proofs.Common.{◌≡◌, ◌≢◌, ℕ, ◌+◌, ◌<◌, refl, sym, subst, ap, ◌∙◌, arith, true, List, take, length, length-set, set, Option, Some, None}
 use Rattle.std.proofs.lemmas.List.{take_more_set}
 use Rattle.post_board.specs.Shown.{Shown}
 use Rattle.post_board.specs.Told.{Told}
@@ -9,7 +9,7 @@ use Rattle.circle_run.specs.Balance.{Log}
 use Rattle.circle_run.specs.Ranks.{Knows, ServesNone}
 use Rattle.circle_run.specs.Private.Services.{unserved, InOrderIfTold, Taken}
 use Rattle.circle_run.specs.declared.ranks.Rank.{Rank}
-use Rattle.circle_run.proofs.Stepped.{stays_same}
+use Rattle.circle_run.proofs.Stepped.{stays_same, still_then}
 use Rattle.circle_run.proofs.Asked.{unserved_set, unserved_all, asks_more, asks_none, ordered_none, ordered_more}
 
 module _ {J S T P : Type 0} (log : J → Log) (shows : S → Shown) (tells : P → Option Told) (seats : P → S → Type 0) where
@@ -24,6 +24,7 @@ module _ {J S T P : Type 0} (log : J → Log) (shows : S → Shown) (tells : P �
     stopped = ap (λ (s : Shown). s.stopped) shown ∙ k.stopped;
     inside = k.inside;
     few = k.few;
+    asks = k.asks;
     wide = ap (λ (s : Shown). length s.serves) shown ∙ length-set (shows r.seat).serves to true ∙ k.wide;
     idle = λ e. k.idle (sym (ap (λ (s : Shown). s.busy) shown) ∙ e);
     over = k.over;
@@ -40,9 +41,9 @@ module _ {J S T P : Type 0} (log : J → Log) (shows : S → Shown) (tells : P �
 
   pub taken_more : (r : Rank J S T) (p : P) (r1 : Rank J S T) (p1 : P) (seat : S) (p2 : P) (asks : List ℕ) (count to : ℕ) → Taken log shows tells seats r p r1 p1 asks count
       → Found (shows r1.seat) (Some to) → shows seat ≡ serving (shows r1.seat) (Some to) → Stays (LookedFor (shows r1.seat) (Some to)) (tells p1) (tells p2) → AgreesIfTold (tells p1) (shows r1.seat) → seats p2 seat
-      → ((o : S) → (shows o).number ≢ (shows r1.seat).number → seats p1 o → seats p2 o) → count < length asks
+      → ((o : S) → (shows o).number ≢ (shows r1.seat).number → seats p1 o → seats p2 o) → (tells p1 ≡ None → p2 ≡ p1) → count < length asks
       → Taken log shows tells seats r p (record r1 { seat = seat }) p2 (set asks count to) (count + 1)
-  taken_more r p r1 p1 seat p2 asks count to taken found shown stays agrees mine others room =
+  taken_more r p r1 p1 seat p2 asks count to taken found shown stays agrees mine others still room =
       let serves : (shows seat).serves ≡ set (shows r1.seat).serves to true = ap (λ (s : Shown). s.serves) shown in
       let me : r1.me ≡ r.me = ap (λ (x : Rank J S T). x.me) taken.rest in
       let number : (shows r1.seat).number ≡ r.me = taken.knows.number ∙ me in
@@ -50,6 +51,7 @@ module _ {J S T P : Type 0} (log : J → Log) (shows : S → Shown) (tells : P �
         knows = knows_serves r1 seat to taken.knows shown;
         mine = mine;
         others = λ o ne s. others o (λ e. ne (e ∙ number)) (taken.others o ne s);
+        still = still_then tells p p1 p2 taken.still still;
         rest = ap (λ (x : Rank J S T). record x { seat = seat }) taken.rest;
         here = ap (λ (s : Shown). s.here) shown ∙ taken.here;
         batches = ap (λ (s : Shown). s.batches) shown ∙ taken.batches;
@@ -66,6 +68,7 @@ module _ {J S T P : Type 0} (log : J → Log) (shows : S → Shown) (tells : P �
     knows = knows;
     mine = mine;
     others = λ o ne s. s;
+    still = λ e. refl;
     rest = refl;
     here = refl;
     batches = refl;

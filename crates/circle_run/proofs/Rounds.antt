@@ -161,6 +161,7 @@ module _ {J S T P Q : Type 0} (log : J → Log) (shows : S → Shown) (seats : P
             stopped = knows.stopped;
             inside = knows.inside;
             few = knows.few;
+            asks = knows.asks;
             wide = knows.wide;
             idle = knows.idle;
             over = knows.over;

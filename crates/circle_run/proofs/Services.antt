@@ -1,8 +1,11 @@
 -- A service, one answer after the other, and what it comes to.
-use Rattle.std.proofs.Common.{◌≡◌, ℕ, zero, suc, ◌+◌, ◌-◌, ◌<◌, ◌≤◌, ◌⊎◌, refl, sym, subst, ap, ◌∙◌, arith, Bool, true, false, List, [], ◌∷◌, ◌++◌, map, take, length, length-append, append_assoc, append-nil, get_or, Option}
+use Rattle.std.proofs.Common.{◌≡◌, ℕ, All, zero, suc, ◌+◌, ◌-◌, ◌<◌, ◌≤◌, ◌⊎◌, refl, sym, subst, ap, ◌∙◌, arith, Bool, true, false, List, [], ◌∷◌, ◌++◌, map, take, length, length-append, append_assoc, append-nil, get_or, Option}
 use Rattle.std.specs.Prelude.{if◌then◌else◌}
 use Rattle.std.specs.List.{flat_map}
-use Rattle.std.proofs.lemmas.List.{map-append, length-map, length-take-le}
+use Rattle.std.proofs.lemmas.List.{map-append, length-map, length-take-le, get_or-take, get_or-map}
+use Rattle.std.proofs.Math.ListN.{get_or-eq_default}
+use mathlib.Core.Logic.{dite}
+use native.Mathlib.Decide.{dec_le}
 use Rattle.std.proofs.lemmas.Grind.{flat_map-append}
 use Rattle.std.proofs.Math.Seq.{take-suc}
 use Rattle.rand_pcg.specs.Lcg.{Lcg}
@@ -23,7 +26,7 @@ use Rattle.circle_run.specs.declared.books.Book.{Book}
 use Rattle.circle_run.specs.declared.outcomes.Share.{Share}
 use Rattle.circle_run.specs.declared.settings.Options.{Options}
 use Rattle.circle_run.specs.declared.ranks.Rank.{Rank}
-use Rattle.circle_run.proofs.Stepped.{counted_then, kept_then, side_as}
+use Rattle.circle_run.proofs.Stepped.{counted_then, kept_then, side_as, still_then}
 use Rattle.circle_run.proofs.Asked.{not_true, true_not_false, asks_less, none_left}
 
 told_push : (me : ℕ) (ds : List Deed) (d : Deed) (a b c : Option Told) → TellsAll me ds a b → Tells me d b c → TellsAll me (ds ++ d ∷ []) a c
@@ -52,7 +55,7 @@ module _ {J S T P : Type 0} (log : J → Log) (shows : S → Shown) (tells : P �
   serving_none r p asks lot count knows mine awaits asked fits =
       let all : count ≡ count - 0 = omega arith in
       record {
-        on = record { knows = knows; mine = mine; others = λ o ne s. s; me = refl; options = refl; sums_seat = refl; sums = refl; job = refl; ended = refl; asked = refl; tried = refl; here = refl; lost = λ l. l; awaits = awaits };
+        on = record { knows = knows; mine = mine; others = λ o ne s. s; still = λ e. refl; me = refl; options = refl; sums_seat = refl; sums = refl; job = refl; ended = refl; asked = refl; tried = refl; here = refl; lost = λ l. l; awaits = awaits };
         left = asked;
         went = λ found. subst (λ (m : ℕ). SoFar log shows tells seats r p r p [] lot lot count m) all (record {
           had = found;
@@ -134,6 +137,7 @@ module _ {J S T P : Type 0} (log : J → Log) (shows : S → Shown) (tells : P �
           knows = a.knows;
           mine = a.mine;
           others = λ o ne s. a.others o (λ e. ne (e ∙ b.me)) (b.others o ne s);
+          still = still_then tells p p1 p2 b.still a.still;
           me = a.me ∙ b.me;
           options = a.options ∙ b.options;
           sums_seat = a.sums_seat ∙ b.sums_seat;
@@ -152,6 +156,16 @@ module _ {J S T P : Type 0} (log : J → Log) (shows : S → Shown) (tells : P �
             let far : SoFar log shows tells seats r p r1 p1 (take k asks) lot lot1 count (suc m) = subst (λ (i : ℕ). SoFar log shows tells seats r p r1 p1 (take k asks) lot lot1 count i) next (old.went before) in
             so_far_more r p r1 p1 r2 p2 asks lot lot1 lot2 k count m share d (omega arith) b.me b.options answered.draws (first m) (drawn m) (λ q. fits m q) found (answered.went found (less m (length r1.queue) far.fits)) far;
       }
+
+names_of : (answers : List (ℕ × Strings)) (asks : List ℕ) (count n : ℕ) → map (λ (y : ℕ × Strings). y.0) answers ≡ take count asks → length answers ≡ count → ((j : ℕ) → j < count → get_or asks j 0 < n) → All (λ (y : ℕ × Strings). y.0 < n) answers
+names_of answers asks count n are total below k d h =
+    let e : get_or asks k 0 ≡ (get_or answers k d).0 =
+    sym (get_or-take count asks k 0 (omega arith)) ∙ ap (λ (xs : List ℕ). get_or xs k 0) (sym are) ∙ get_or-map (λ (y : ℕ × Strings). y.0) answers k d 0 h
+    in
+    subst (λ (v : ℕ). v < n) e (below k (omega arith))
+
+served_below : (xs : List Bool) (r : ℕ) → get_or xs r false ≡ true → r < length xs
+served_below xs r e = dite (dec_le (length xs) r) (λ past. absurd (true_not_false (get_or xs r false) e (get_or-eq_default xs false past))) (λ h. omega arith)
 
 module _ {J S T P Q : Type 0} (log : J → Log) (plain : J → Q) (shows : S → Shown) (tells : P → Option Told) (seats : P → S → Type 0) where
   -- what was done from one rank on was done from another that is as much
@@ -174,9 +188,9 @@ module _ {J S T P Q : Type 0} (log : J → Log) (plain : J → Q) (shows : S →
       }
 
   went_served : (b : Bool) (r : Rank J S T) (p : P) (r1 : Rank J S T) (p1 : P) (asks : List ℕ) (lot lot1 : Lot) (count m : ℕ) → (b ≡ false → count ≡ 0) → (b ≡ true → 0 < count) → m ≡ 0 → count ≤ length asks
-      → ((from : Lcg) → amounts_of lot count from ≡ amounts r.options.split (length r.queue) count from) → AreAskers r.me (tells p) (take count asks) → r1.job ≡ r.job
+      → ((from : Lcg) → amounts_of lot count from ≡ amounts r.options.split (length r.queue) count from) → AreAskers r.me (tells p) (take count asks) → ((j : ℕ) → j < count → get_or asks j 0 < r.options.ranks) → r1.job ≡ r.job
       → SoFar log shows tells seats r p r1 p1 (take count asks) lot lot1 count m → Went log plain shows tells seats (Served b) r p r1 p1
-  went_served b r p r1 p1 asks lot lot1 count m none some done room are askers job far =
+  went_served b r p r1 p1 asks lot lot1 count m none some done room are askers below job far =
       let total : length far.answers ≡ count = sym (length-map far.answers (λ (y : ℕ × Strings). y.0)) ∙ ap length far.are ∙ length-take-le count asks room in
       let rest : amounts_of lot1 m r1.draws ≡ ([], r1.draws) = ap (λ (i : ℕ). amounts_of lot1 i r1.draws) done ∙ none_more lot1 r1.draws in
       let all : amounts r.options.split (length r.queue) (length far.answers) r.draws ≡ amounts_of lot count r.draws = ap (λ (i : ℕ). amounts r.options.split (length r.queue) i r.draws) total ∙ sym (are r.draws) in
@@ -189,6 +203,7 @@ module _ {J S T P Q : Type 0} (log : J → Log) (plain : J → Q) (shows : S →
           side log plain shows tells seats r1 p1,
           record {
             ranks = subst (AreAskers r.me (tells p)) (sym far.are) askers;
+            names = names_of far.answers asks count r.options.ranks far.are total below;
             shares = sym (append-nil (map (λ (y : ℕ × Strings). length y.1) far.answers)) ∙ ap (λ (x : List ℕ × Lcg). map (λ (y : ℕ × Strings). length y.1) far.answers ++ x.0) (sym rest) ∙ sym far.shares ∙ ap (λ (x : List ℕ × Lcg). x.0) (sym all);
             oldest = far.oldest;
             drawn = ap (λ (x : List ℕ × Lcg). x.1) (sym rest) ∙ sym far.drawn ∙ ap (λ (x : List ℕ × Lcg). x.1) (sym all);
@@ -216,6 +231,7 @@ module _ {J S T P Q : Type 0} (log : J → Log) (plain : J → Q) (shows : S →
         mine = on.mine;
         none = none_left (shows r1.seat) asks k count serving.left (omega arith);
         others = λ o ne s. on.others o (λ e. ne (e ∙ me)) (taken.others o ne s);
+        still = still_then tells p0 p p1 taken.still on.still;
         me = on.me ∙ me;
         options = on.options ∙ options;
         sums_seat = on.sums_seat ∙ ap (λ (x : Rank J S T). x.sums_seat) taken.rest;
@@ -224,6 +240,7 @@ module _ {J S T P Q : Type 0} (log : J → Log) (plain : J → Q) (shows : S →
         lost = λ l. on.lost (ap (λ (x : Book). x.lost) book ∙ l);
         went = λ found. went_from (Served b) r0 p0 r p r1 p1 me options book
             (side_as log plain shows tells seats r0 p0 r p (ap (λ (x : Rank J S T). x.queue) taken.rest) (ap log job) (ap (λ (x : Rank J S T). x.draws) taken.rest) taken.batches taken.told)
-            (went_served b r p r1 p1 asks lot lot1 count (count - k) none some (omega arith) room are (subst (λ (i : ℕ). AreAskers i (tells p) (take count asks)) (sym me) askers) on.job
+            (went_served b r p r1 p1 asks lot lot1 count (count - k) none some (omega arith) room are (subst (λ (i : ℕ). AreAskers i (tells p) (take count asks)) (sym me) askers)
+            (λ j h. (let w = taken.knows.wide in let b = served_below (shows r.seat).serves (get_or asks j 0) (taken.asked.served j (omega arith) h) in omega arith)) on.job
             (subst (λ (i : ℕ). SoFar log shows tells seats r p r1 p1 (take i asks) lot lot1 count (count - k)) done (serving.went found)));
       }

@@ -22,6 +22,7 @@ does_bare : (o : Options) (me : ℕ) (m : Move) (s s' : Side) → Does o me m s 
 does_bare o me (handled path kids) s s' does = record { rest = does.rest; live = does.live; newest = does.newest; unasked = does.unasked; few = does.few; after = ap bare does.after }
 does_bare o me (served answers) s s' does = record {
   ranks = does.ranks;
+  names = does.names;
   shares = does.shares;
   oldest = does.oldest;
   drawn = does.drawn;
@@ -29,7 +30,7 @@ does_bare o me (served answers) s s' does = record {
   batches = sym (no_batches_of_all (map answer_of answers));
   told = does.told;
 }
-does_bare o me (did d) s s' does = record { queue = does.queue; few = does.few; drawn = does.drawn; log = does.log; batches = sym (no_batches d); told = does.told }
+does_bare o me (did d) s s' does = record { queue = does.queue; few = does.few; names = does.names; drawn = does.drawn; log = does.log; batches = sym (no_batches d); told = does.told }
 
 pub all_bare : (o : Options) (me : ℕ) (moves : List Move) (s s' : Side) → DoesAll o me moves s s' → DoesAll o me moves (bare s) (bare s')
 all_bare o me [] s s' same = ap bare same

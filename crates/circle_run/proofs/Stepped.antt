@@ -63,6 +63,10 @@ pub waiting_told : (a b v : ℕ) (t t' : Option Told) → a ≡ b → Stays (λ 
 waiting_told a b v None t' e stays = subst (Waits b) (sym stays) tt
 waiting_told a b v (Some t) t' e stays = subst (Waits b) (sym stays.1) (v, subst (λ (k : ℕ). (place t k).mail ≡ asked v) e stays.0)
 
+-- of two steps neither of which changes a board that tells nothing
+pub still_then : {P X : Type 0} (tells : P → Option X) (p p1 p2 : P) → (tells p ≡ None → p1 ≡ p) → (tells p1 ≡ None → p2 ≡ p1) → tells p ≡ None → p2 ≡ p
+still_then tells p p1 p2 a b e = b (ap tells (a e) ∙ e) ∙ a e
+
 module _ {J S T P Q : Type 0} (log : J → Log) (plain : J → Q) (shows : S → Shown) (tells : P → Option Told) (seats : P → S → Type 0) where
   went_then : (A B C : List Move → Type 0) (r : Rank J S T) (p : P) (r1 : Rank J S T) (p1 : P) (r2 : Rank J S T) (p2 : P) → ((a b : List Move) → A a → B b → C (a ++ b)) → r1.me ≡ r.me → r1.options ≡ r.options
       → Went log plain shows tells seats A r p r1 p1 → Went log plain shows tells seats B r1 p1 r2 p2 → Went log plain shows tells seats C r p r2 p2
@@ -100,6 +104,7 @@ module _ {J S T P Q : Type 0} (log : J → Log) (plain : J → Q) (shows : S →
     mine = b.mine;
     none = b.none;
     others = λ other ne s. b.others other (λ e. ne (e ∙ a.me)) (a.others other ne s);
+    still = still_then tells p p1 p2 a.still b.still;
     me = b.me ∙ a.me;
     options = b.options ∙ a.options;
     sums_seat = b.sums_seat ∙ a.sums_seat;
@@ -119,6 +124,7 @@ module _ {J S T P Q : Type 0} (log : J → Log) (plain : J → Q) (shows : S →
     mine = a.mine;
     none = a.none;
     others = a.others;
+    still = a.still;
     me = a.me;
     options = a.options;
     sums_seat = a.sums_seat;
@@ -209,6 +215,7 @@ module _ {J S T P Q : Type 0} (log : J → Log) (plain : J → Q) (shows : S →
         stopped = ap (λ (s : Shown). s.stopped) shown ∙ k.stopped;
         inside = (let i = k.inside in omega (arith, i, me, ranks));
         few = (let f = k.few in omega (arith, f, ranks));
+        asks = λ v e. (let f = k.asks v (sym (ap (λ (x : Rank J S T). x.asked) newest.same) ∙ e) in omega (arith, f, ranks));
         wide = ap (λ (s : Shown). length s.serves) shown ∙ k.wide ∙ sym ranks;
         idle = λ e. absurd (let q = k.idle (sym (ap (λ (s : Shown). s.busy) shown) ∙ e) in let n : length r.queue ≡ 0 = ap length q in omega (arith, some));
         over = λ e. (let f : true ≡ false = sym e ∙ ap (λ (x : Rank J S T). x.ended) newest.same ∙ live in cc);
@@ -224,6 +231,7 @@ module _ {J S T P Q : Type 0} (log : J → Log) (plain : J → Q) (shows : S →
         mine = subst (seats p) (sym seat) mine;
         none = λ i. ap (λ (s : S). is_served (shows s) i) seat ∙ none i;
         others = λ other ne s. s;
+        still = λ e. refl;
         me = ap (λ (x : Rank J S T). x.me) newest.same;
         options = ap (λ (x : Rank J S T). x.options) newest.same;
         sums_seat = ap (λ (x : Rank J S T). x.sums_seat) newest.same;
@@ -250,6 +258,7 @@ module _ {J S T P Q : Type 0} (log : J → Log) (plain : J → Q) (shows : S →
           stopped = k.stopped;
           inside = k.inside;
           few = k.few;
+          asks = k.asks;
           wide = k.wide;
           idle = λ e. none (k.idle e);
           over = λ e. none (k.over e);
@@ -258,6 +267,7 @@ module _ {J S T P Q : Type 0} (log : J → Log) (plain : J → Q) (shows : S →
         mine = a.mine;
         none = a.none;
         others = a.others;
+        still = a.still;
         me = a.me;
         options = a.options;
         sums_seat = a.sums_seat;

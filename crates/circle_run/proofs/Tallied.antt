@@ -120,6 +120,7 @@ module _ {J S T P D : Type 0} (log : J → Log) (heard : J → Option (List ℕ)
         me = ap (λ (x : Rank J S T). x.me) same ∙ came.me;
         options = ap (λ (x : Rank J S T). x.options) same ∙ came.options;
         facts = ap (λ (x : Rank J S T). plain x.job) same ∙ came.facts;
+        still = came.still;
         lost = λ l. lost (came.lost l);
         went = λ found.
             let w = came.went (not_true r1.book.lost (λ l. true_not_false r2.book.lost (lost l) found)) in
@@ -152,6 +153,7 @@ module _ {J S T P D : Type 0} (log : J → Log) (heard : J → Option (List ℕ)
         me = ap (λ (x : Rank J S T). x.me) same;
         options = ap (λ (x : Rank J S T). x.options) same;
         facts = ap plain job;
+        still = λ e. refl;
         lost = lost;
         went = λ found. record {
           had = not_true r.book.lost (λ l. true_not_false r'.book.lost (lost l) found);

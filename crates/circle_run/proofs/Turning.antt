@@ -86,6 +86,7 @@ module _ {J S T P D : Type 0} (log : J → Log) (plain : J → D) (shows : S →
     me = turned.me;
     options = turned.options;
     facts = turned.facts;
+    still = turned.still;
     lost = turned.lost;
     went = λ found. (let w = turned.went found in record {
       had = w.had;
@@ -104,6 +105,7 @@ module _ {J S T P D : Type 0} (log : J → Log) (plain : J → D) (shows : S →
     me = refl;
     options = refl;
     facts = refl;
+    still = λ e. refl;
     lost = λ l. l;
     went = λ found. record {
       had = found;

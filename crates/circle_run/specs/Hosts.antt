@@ -6,7 +6,7 @@ use Rattle.post_board.specs.Shown.{Shown}
 use Rattle.post_board.specs.Told.{Told}
 use Rattle.sum_tree.specs.Shown.{SumShown}
 use Rattle.circle_run.specs.Balance.{Log}
-use Rattle.circle_run.specs.Moves.{Move, events_of}
+use Rattle.circle_run.specs.Moves.{Move, Side, events_of}
 use Rattle.circle_run.specs.Stages.{RankSide, Stage, events_of_all}
 use Rattle.circle_run.specs.Shares.{moves_of}
 use Rattle.circle_run.specs.Books.{counted}
@@ -84,6 +84,7 @@ module _ {J S T P D : Type 0} (log : J → Log) (plain : J → D) (shows : S →
     pub me : r'.me ≡ r.me
     pub options : r'.options ≡ r.options
     pub facts : plain r'.job ≡ plain r.job
+    pub still : tells p ≡ None → p' ≡ p
     pub lost : r.book.lost ≡ true → r'.book.lost ≡ true
     pub went : r'.book.lost ≡ false → Turning r p r' p'
 
@@ -114,3 +115,17 @@ module _ {J S T : Type 0} where
 -- with a trace these are all events, in order
 abbrev pub KeptInOrder : Options → List Event → List (ℕ × Move) → Type 0
 KeptInOrder o events moves = events ≡ (if o.trace then events_of_all moves else [])
+
+module _ {J S T : Type 0} (log : J → Log) (shows : S → Shown) where
+  -- what a rank has and its seat keeps, over a board that tells nothing
+  abbrev pub lone_side : Rank J S T → Side
+  lone_side r = record { queue = r.queue; log = log r.job; draws = r.draws; batches = (shows r.seat).batches; told = None }
+
+  -- what a rank comes to by turns of its own, over a board that tells nothing
+  pub record Alone (r r' : Rank J S T) : Type 0 where
+    pub moves : List Move
+    pub does : DoesAll r.options r.me moves (lone_side r) (lone_side r')
+    pub share : r'.book.share ≡ counted (flat_map (events_of r.me) moves) r.book.share
+
+  abbrev pub AllAlone : List (Rank J S T) → List (Rank J S T) → Type 0
+  AllAlone ranks ranks' = (k : ℕ) (d : Rank J S T) → k < length ranks → Alone (slice_index_or ranks k d) (slice_index_or ranks' k d)

@@ -15,4 +15,5 @@ pub mod Shares
 pub mod Fair
 pub mod Hosts
 pub mod Traced
+pub mod Apart
 pub mod Private

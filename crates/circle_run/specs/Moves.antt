@@ -1,6 +1,6 @@
 -- What one rank does, one move after the other, and what each move does to its side: its queue, its log, the words that it draws, the batches that its seat keeps, and what its board tells.
 -- Handling, asking and giving are those of LaFon, Misra and Bringhurst, On Distributed File Tree Walk of Parallel File Systems (SC 2012), the token is EWD840's; amounts, the order in a queue and the victims are our own.
-use Rattle.std.specs.Prelude.{◌≡◌, ℕ, zero, suc, ◌-◌, ◌<◌, ◌^◌, ◌==◌, ◌&&◌, Bool, false, not, if◌then◌else◌, min, List, length, [], ◌∷◌, ◌++◌, map, filter, replicate, Option, Some, None}
+use Rattle.std.specs.Prelude.{◌≡◌, ℕ, zero, suc, ◌-◌, ◌<◌, ◌^◌, ◌==◌, ◌&&◌, Bool, false, not, if◌then◌else◌, min, All, List, length, [], ◌∷◌, ◌++◌, map, filter, replicate, Option, Some, None}
 use Rattle.std.specs.List.{flat_map, range_with_len}
 use Rattle.rand_pcg.specs.Lcg.{Lcg}
 use Rattle.rank_queue.specs.Shares.{word, after_word, equal_share, random_share, victim}
@@ -110,6 +110,8 @@ Draws n me _ from from' = from' ≡ from
 -- a service: the oldest strings go to those that ask, in order
 pub record Serves (o : Options) (me : ℕ) (answers : List (ℕ × Strings)) (s s' : Side) : Type 0 where
   pub ranks : AreAskers me s.told (map (λ x. x.0) answers)
+  -- each is a rank
+  pub names : All (λ x. x.0 < o.ranks) answers
   pub shares : map (λ x. length x.1) answers ≡ (amounts o.split (length s.queue) (length answers) s.draws).0
   pub oldest : s.queue ≡ flat_map (λ x. x.1) answers ++ s'.queue
   pub drawn : s'.draws ≡ (amounts o.split (length s.queue) (length answers) s.draws).1
@@ -126,9 +128,15 @@ pub record Handles (me : ℕ) (path : List ℕ) (kids : Strings) (s s' : Side) :
   pub few : length (rest ++ kids) < 2 ^ 64
   pub after : s' ≡ record s { queue = rest ++ kids; log = s.log ++ (path, kids) ∷ [] }
 
+-- whom it takes from is a rank
+abbrev pub NamesRank : ℕ → Deed → Type 0
+NamesRank n (take from batch) = from < n
+NamesRank n _ = Unit {0}
+
 pub record DoesDeed (o : Options) (me : ℕ) (deed : Deed) (s s' : Side) : Type 0 where
   pub queue : Queues deed s.queue s'.queue
   pub few : length s'.queue < 2 ^ 64
+  pub names : NamesRank o.ranks deed
   pub drawn : Draws o.ranks me deed s.draws s'.draws
   pub log : s'.log ≡ s.log
   pub batches : s'.batches ≡ batches_after deed s.batches

@@ -3,3 +3,6 @@ pub mod Books
 pub mod Steps
 pub mod Services
 pub mod Outcomes
+pub mod Away
+pub mod Pooled
+pub mod Parting

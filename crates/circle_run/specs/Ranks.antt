@@ -1,5 +1,5 @@
 -- A rank beside its board: what it knows, and what its steps come to. Our own.
-use Rattle.std.specs.Prelude.{◌≡◌, ℕ, ◌<◌, ◌≤◌, true, false, if◌then◌else◌, List, length, [], ◌∷◌, ◌++◌, Option}
+use Rattle.std.specs.Prelude.{◌≡◌, ℕ, ◌<◌, ◌≤◌, true, false, if◌then◌else◌, List, length, [], ◌∷◌, ◌++◌, Option, Some}
 use Rattle.std.specs.List.{flat_map}
 use Rattle.post_board.specs.Shown.{Shown, is_served}
 use Rattle.post_board.specs.Told.{Told}
@@ -22,6 +22,7 @@ module _ {J S T : Type 0} (shows : S → Shown) where
     pub colour : (shows r.seat).colour ≡ r.colour
     pub tried : (shows r.seat).tried ≡ r.tried
     pub asked : (shows r.seat).asked ≡ r.asked
+    pub asks : (v : ℕ) → r.asked ≡ Some v → v < r.options.ranks
     pub ended : (shows r.seat).ended ≡ r.ended
     pub stopped : (shows r.seat).stopped ≡ false
     pub inside : r.me < r.options.ranks

@@ -55,5 +55,6 @@ module _ {J S T P D : Type 0} (log : J → Log) (heard : J → Option (List ℕ)
     pub me : r'.me ≡ r.me
     pub options : r'.options ≡ r.options
     pub facts : plain r'.job ≡ plain r.job
+    pub still : tells p ≡ None → p' ≡ p
     pub lost : r.book.lost ≡ true → r'.book.lost ≡ true
     pub went : r'.book.lost ≡ false → Went log plain shows tells seats (TurnMoves turn r p r') r p r' p'

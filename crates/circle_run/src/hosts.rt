@@ -1,7 +1,7 @@
 //! Ranks that have their turns in rounds on one thread.
-ghost use Rattle.std.specs.Prelude.{◌≡◌, ◌≢◌, ℕ, ◌++◌, ◌<◌, [], length, true, false, Some, slice_index_or, OnOk, IfOk};
+ghost use Rattle.std.specs.Prelude.{◌≡◌, ◌≢◌, ℕ, ◌++◌, ◌<◌, [], length, true, false, Some, slice_index_or, OnOk, IfOk, None};
 ghost use Rattle.post_board.specs.Told.{Told};
-ghost use Rattle.circle_run.specs.Hosts.{IsAscending, NoneLost, NoneWrote, AreAll, Same, Placed, AllReady, AllEnded, Took, Ran, KeptByEach, KeptInOrder};
+ghost use Rattle.circle_run.specs.Hosts.{IsAscending, NoneLost, NoneWrote, AreAll, Same, Placed, AllReady, AllEnded, Took, Ran, KeptByEach, KeptInOrder, AllAlone};
 ghost use Rattle.circle_run.specs.declared.settings.Options.{Options};
 
 use crate::jobs::Job;
@@ -10,6 +10,7 @@ use path_text::OutOfMemory;
 use post_board::Post;
 use ring_core::Event;
 use std::sync::Wait;
+use std::thread;
 use sum_tree::Sums;
 
 /// Ranks that have their turns on one thread, in rounds and in ascending order.
@@ -40,6 +41,13 @@ impl<J: Job, S, T> Host<J, S, T> {
 
         // Over a board that tells its places, where these are all ranks and none was refused memory: the turns are played.
         ensures ran { (o : Options) (t : Told) → AreAll o self.ranks.items → P.tells post.old ≡ Some t → NoneLost result.items → Ran J.log P.tells (KeptByEach o self.ranks.items result.items) o t self.ranks.items result.items post.new }
+
+        // A board, and sums, that tell nothing stay the same value.
+        ensures still { P.tells post.old ≡ None → post.new ≡ post.old }
+        ensures sums_still { Q.tells sums.old ≡ None → sums.new ≡ sums.old }
+
+        // Over a board that tells nothing, where none was refused memory: each made moves of its own.
+        ensures alone { P.tells post.old ≡ None → NoneLost result.items → (P.tells post.new ≡ None) × AllAlone J.log P.shows self.ranks.items result.items }
     {
         let Host { mut ranks } = self;
         let mut done = unset();
@@ -50,6 +58,7 @@ impl<J: Job, S, T> Host<J, S, T> {
             if are_set(&done[..ranks.len()]) {
                 return ranks;
             }
+            rest_if_idle(&ranks);
         }
         unreachable!()
     }
@@ -105,6 +114,7 @@ impl<J: Job, S, T> Rank<J, S, T> {
         ensures took { Took J.log J.plain P.shows P.tells P.seats self.old post.old self.new post.new }
         ensures others { (other : S) → (P.shows other).number ≢ self.old.me → P.seats post.old other → P.seats post.new other }
         ensures sums_others { (other : T) → (Q.shows other).number ≢ self.old.me → Q.seats sums.old other → Q.seats sums.new other }
+        ensures sums_still { Q.tells sums.old ≡ None → sums.new ≡ sums.old }
     {
         if *done {
             return;
@@ -128,6 +138,16 @@ impl<J: Job, S, T> Rank<J, S, T> {
         events.append(&mut self.book.events)?;
         Ok(())
     }
+}
+
+// Leaves the processor to other threads where no rank has a string.
+fn rest_if_idle<J, S, T>(ranks: &[Rank<J, S, T>]) {
+    for rank in ranks {
+        if rank.queue.len() > 0 {
+            return;
+        }
+    }
+    thread::yield_now();
 }
 
 // Flags of as many ranks as there may be, none of which is set.

@@ -1,5 +1,6 @@
 //! What is proved of balances and of runs of moves: each law is the contract of a function that does nothing, or
 //! only cites others.
+ghost use Rattle.circle_run.specs.Apart.{HostsAreBalanced};
 ghost use Rattle.circle_run.specs.AsOften.{BalanceIsAsOften};
 ghost use Rattle.circle_run.specs.Fair.{MovesAnswerFirst, RoundsAreFair, TurnsArePlayed};
 ghost use Rattle.circle_run.specs.Shares.{EventsTellLogs, GivenIsTakenOrMailed, LogsAreHandled};
@@ -60,3 +61,9 @@ pub fn rounds_are_fair()
 {
     nothing_waits_at_end();
 }
+
+/// Where each rank made moves of its own to its end, and what each took from each other is what that one gave, the run is
+/// balanced, whoever hosted the ranks and in whatever order they moved.
+pub fn hosts_are_balanced()
+    ensures { HostsAreBalanced }
+{}

@@ -37,7 +37,8 @@
 //! A [`Host`] has ranks and gives each that is not done a turn, in rounds and in ascending order, until all are done. Proved:
 //! the ranks come back in their order, each has seen the end and knows the final sum, and plain data are as before. Over a
 //! board that tells its places, where the host has all ranks and none was refused memory, their turns are played one behind the
-//! other, and each share counts what its rank's moves say.
+//! other, and each share counts what its rank's moves say. A board, or sums, that tell nothing stay the same value; there each
+//! rank made moves of its own, which its share counts.
 //!
 //! Proved of [`begin`], whatever the job does: the run is *balanced*. Each string was handled or is left as often as it was a
 //! start or was pushed ([`balance_is_as_often`]), so no string is lost and none is handled more often. Nothing is left unless the
@@ -60,8 +61,13 @@
 //! - a rank handles a string only while no other asks it ([`moves_answer_first`]);
 //! - where the ranks have their turns in rounds, the run is fair ([`rounds_are_fair`]).
 //!
-//! By now all ranks run on the calling thread, over `PlainBoard` and `PlainSums`, and without a stop. The clauses of [`begin`]
-//! name no board and no sums, and all that it calls knows these two by the contracts of `Post` and `Sums`.
+//! One host runs all ranks on the calling thread, over `PlainBoard` and `PlainSums`. Of several, host `h` has the ranks `r` with
+//! `r` modulo `hosts` equal to `h`; each host from 1 up has a thread of a scope, and the caller runs host 0. They share a `Board`
+//! and a `SumTree` of atomic words, which tell nothing, so a [`Host`] tells there what each of its ranks did by itself, and the
+//! balance follows from what the seats say when they come together ([`hosts_are_balanced`]). What [`begin`] says of a whole run
+//! and its events is asked for one host. The ranks of a host whose thread was refused run with those of host 0. All memory that
+//! starting and joining take is taken before the first start, and nothing is left early until host 0 is done: the other ranks
+//! would wait for its ranks for ever. A host whose ranks have no string yields its processor after a round. There is no stop yet.
 //!
 //! `specs/Balance.antt` has the definitions of a balance, `specs/Moves.antt` those of a rank's moves, `specs/Choices.antt` which
 //! move a rank makes, `specs/Ready.antt` what holds of a rank between two turns and what a turn comes to; `specs/Stages.antt`
@@ -70,27 +76,34 @@
 //! `specs/Private` is cited by the crate's own steps alone.
 #![tactic(auto)]
 
+mod backs;
 mod books;
 mod errors;
 mod hosts;
 mod jobs;
 mod laws;
 mod lots;
+mod many_hosts;
 mod outcomes;
 mod parts;
+mod pools;
 mod ranks;
 mod running;
 mod serving;
 mod settings;
+mod spread;
+mod started;
 mod steps;
+mod threads;
 mod turns;
 
 pub use errors::CircleError;
 pub use hosts::Host;
 pub use jobs::Job;
 pub use laws::{
-    balance_is_as_often, given_is_taken_or_mailed, logs_are_handled, moves_answer_first,
-    moves_are_balanced, moves_are_legal_run, nothing_waits_at_end, rounds_are_fair,
+    balance_is_as_often, given_is_taken_or_mailed, hosts_are_balanced, logs_are_handled,
+    moves_answer_first, moves_are_balanced, moves_are_legal_run, nothing_waits_at_end,
+    rounds_are_fair,
 };
 pub use outcomes::{Finished, Share};
 pub use ranks::{Rank, Turn};

@@ -6,12 +6,13 @@ ghost use Rattle.sum_tree.specs.Plain.{fresh};
 ghost use Rattle.circle_run.specs.Balance.{Balanced};
 ghost use Rattle.circle_run.specs.Left.{all_left};
 ghost use Rattle.circle_run.specs.Traced.{IsTraced, WasRun, share_in, IsProgress};
-ghost use Rattle.circle_run.specs.Private.Outcomes.{IsOutcome};
+ghost use Rattle.circle_run.specs.Private.Outcomes.{IsOutcome, IsRun};
 
 use crate::errors::CircleError;
 use crate::hosts::Host;
 use crate::jobs::Job;
 use crate::laws::{nothing_waits_at_end, rounds_are_fair};
+use crate::many_hosts::run_spread;
 use crate::outcomes::Finished;
 use crate::parts::{Parts, deal, new_ranks};
 use crate::settings::Options;
@@ -31,7 +32,8 @@ pub fn begin<R: Threads + Wait + Sync, J: Job + Send + Drop>(
     jobs: Vec<J>,
 ) -> Result<Finished<J>, CircleError>
     requires ranks { (1 ≤ options.now.ranks) × (options.now.ranks ≤ 64) }
-    requires hosts { options.now.hosts ≡ 1 }
+    requires hosts { (1 ≤ options.now.hosts) × (options.now.hosts ≤ 64) }
+    requires trace { options.now.trace ≡ true → options.now.hosts ≡ 1 }
     requires width { (2 ≤ options.now.width) × (options.now.width ≤ 64) }
     requires stop_after { options.now.stop_after ≡ None }
     requires jobs { length jobs.items ≡ options.now.ranks }
@@ -56,9 +58,12 @@ pub fn begin<R: Threads + Wait + Sync, J: Job + Send + Drop>(
     ensures traced { IfOk result (λ f. options.now.trace ≡ true → IsTraced options.now starts.items (map J.log f.jobs.items) f.events.items) }
     ensures untraced { IfOk result (λ f. options.now.trace ≡ false → f.events.items ≡ []) }
     ensures counts { IfOk result (λ f. options.now.trace ≡ true → f.shares.items ≡ map (share_in f.events.items) (range_with_len 0 options.now.ranks)) }
-    ensures ran { IfOk result (λ f. WasRun options.now starts.items (map J.log f.jobs.items) f.shares.items f.events.items) }
+    ensures ran { IfOk result (λ f. options.now.hosts ≡ 1 → WasRun options.now starts.items (map J.log f.jobs.items) f.shares.items f.events.items) }
     ensures progress { IfOk result (λ f. IsProgress (map (λ job. length (J.log job)) f.jobs.items) f.sums.items) }
 {
+    if options.hosts > 1 {
+        return Ok(run_spread(rt, alloc, options, starts, jobs)?);
+    }
     let (mut post, seats) = PlainBoard::make(alloc, options.ranks)?;
     let (mut sums, sums_seats) = PlainSums::make(alloc, options.ranks, options.width)?;
     Ok(run_whole(
@@ -86,7 +91,8 @@ fn run_whole<R: Wait, J: Job + Drop, S: Drop, T: Drop, P: Post<Seat = S>, Q: Sum
     requires seats { AllFresh P.shows (P.seats post.old) options.now.ranks None seats.items }
     requires sums_shown { map Q.shows sums_seats.items ≡ map (fresh options.now.ranks options.now.width) (range_with_len 0 options.now.ranks) }
     requires sums_seats { (k : ℕ) (d : T) → k < options.now.ranks → Q.seats sums.old (slice_index_or sums_seats.items k d) }
-    ensures { IfOk result (λ f. IsOutcome J.log J.plain options.now starts.items jobs.items f) }
+    ensures outcome { IfOk result (λ f. IsOutcome J.log J.plain options.now starts.items jobs.items f) }
+    ensures run { IfOk result (λ f. IsRun J.log options.now starts.items f) }
 {
     nothing_waits_at_end();
     rounds_are_fair();

@@ -75,6 +75,20 @@ impl<J: Job, S, T> Rank<J, S, T> {
         &self.book.events
     }
 
+    /// Its number.
+    pub fn number(&self) -> u32
+        ensures { result ≡ self.now.me }
+    {
+        self.me
+    }
+
+    /// Whether it found no memory at some time.
+    pub fn is_lost(&self) -> bool
+        ensures { result ≡ self.now.book.lost }
+    {
+        self.book.lost
+    }
+
     /// How many strings it handled, gave and took so far.
     pub fn share(&self) -> Share
         ensures { result ≡ self.now.book.share }
@@ -111,6 +125,7 @@ impl<J: Job, S, T> Rank<J, S, T> {
         ensures turned { Turned J.log J.heard J.plain P.shows P.tells P.seats result self.old post.old self.new post.new }
         ensures others { (other : S) → (P.shows other).number ≢ self.old.me → P.seats post.old other → P.seats post.new other }
         ensures sums_others { (other : T) → (Q.shows other).number ≢ self.old.me → Q.seats sums.old other → Q.seats sums.new other }
+        ensures sums_still { Q.tells sums.old ≡ None → sums.new ≡ sums.old }
 
         // It waits for an answer before the end, and for final sums after it. After the end nothing happens at the board.
         ensures waits { result ≡ TurnWaited → self.old.ended ≡ false → Waits self.old.me (P.tells post.new) }
@@ -148,6 +163,7 @@ impl<J: Job, S, T> Rank<J, S, T> {
         ensures ready { (strings : ℕ) → SumsReady Q.shows Q.seats strings self.old sums.old → SumsReady Q.shows Q.seats (tallied did strings) self.new sums.new }
         ensures adds_up { (IsLeaf (Q.shows self.old.sums_seat) → did ≡ DidHandle) → IfSome (Q.tells sums.old) (AddsUp (Q.shows self.new.sums_seat)) }
         ensures others { (other : T) → (Q.shows other).number ≢ self.old.me → Q.seats sums.old other → Q.seats sums.new other }
+        ensures still { Q.tells sums.old ≡ None → sums.new ≡ sums.old }
     {
         match did {
             Did::Handled => {
@@ -171,6 +187,7 @@ impl<J: Job, S, T> Rank<J, S, T> {
         ensures lost { self.old.book.lost ≡ true → self.new.book.lost ≡ true }
         ensures mine { Q.seats sums.new self.new.sums_seat }
         ensures others { (other : T) → (Q.shows other).number ≢ (Q.shows self.old.sums_seat).number → Q.seats sums.old other → Q.seats sums.new other }
+        ensures still { Q.tells sums.old ≡ None → sums.new ≡ sums.old }
         ensures shown { Q.shows self.new.sums_seat ≡ refreshed (Q.shows self.new.sums_seat).word (Q.shows self.old.sums_seat) }
         ensures rises { (Q.shows self.old.sums_seat).word ≤ (Q.shows self.new.sums_seat).word }
         ensures adds_up { IfSome (Q.tells sums.old) (AddsUp (Q.shows self.new.sums_seat)) }
@@ -196,6 +213,7 @@ impl<J: Job, S, T> Rank<J, S, T> {
         ensures lost { self.old.book.lost ≡ true → self.new.book.lost ≡ true }
         ensures ready { (strings : ℕ) → SumsReady Q.shows Q.seats strings self.old sums.old → SumsReady Q.shows Q.seats strings self.new sums.new }
         ensures others { (other : T) → (Q.shows other).number ≢ (Q.shows self.old.sums_seat).number → Q.seats sums.old other → Q.seats sums.new other }
+        ensures still { Q.tells sums.old ≡ None → sums.new ≡ sums.old }
         ensures ended { result ≡ TurnEnded → (Q.shows self.new.sums_seat).answer ≢ None }
         ensures unfinished { result ≢ TurnEnded → (Q.shows self.new.sums_seat).answer ≡ None }
         ensures late { result ≡ TurnWaited → IfSome (Q.tells sums.old) (Finishes (Q.shows self.old.sums_seat).number None) }

@@ -39,6 +39,7 @@ pub trait Post {
         requires victim { (victim < (shows seat.old).n) × (victim ≢ (shows seat.old).number) }
         ensures shown { shows seat.new ≡ asking (shows seat.old) victim }
         ensures told { Tells (shows seat.old).number (asking_of victim) (tells self.old) (tells self.new) }
+        ensures still { tells self.old ≡ None → self.new ≡ self.old }
         ensures reads { Adds (reads seat.old) (AskSteps (shows seat.old) victim) (reads seat.new) }
         ensures mine { seats self.new seat.new }
         ensures others { (other : Self.Seat) → (shows other).number ≢ (shows seat.old).number → seats self.old other → seats self.new other };
@@ -50,6 +51,7 @@ pub trait Post {
         requires asked { is_open (shows seat.old) ≡ true }
         ensures shown { shows seat.new ≡ answered (shows seat.old) result }
         ensures told { AnswerTold (shows seat.old) result (tells self.old) (tells self.new) }
+        ensures still { tells self.old ≡ None → self.new ≡ self.old }
         ensures reads { Adds (reads seat.old) (AnswerSteps (shows seat.old) result) (reads seat.new) }
         ensures mine { seats self.new seat.new }
         ensures others { (other : Self.Seat) → (shows other).number ≢ (shows seat.old).number → seats self.old other → seats self.new other };
@@ -61,6 +63,7 @@ pub trait Post {
         ensures found { Found (shows seat.old) result }
         ensures shown { shows seat.new ≡ serving (shows seat.old) result }
         ensures told { Stays (LookedFor (shows seat.old) result) (tells self.old) (tells self.new) }
+        ensures still { tells self.old ≡ None → self.new ≡ self.old }
         ensures reads { Adds (reads seat.old) (RequestSteps (shows seat.old) result) (reads seat.new) }
         ensures mine { seats self.new seat.new }
         ensures others { (other : Self.Seat) → (shows other).number ≢ (shows seat.old).number → seats self.old other → seats self.new other };
@@ -74,6 +77,7 @@ pub trait Post {
         requires some { 0 < length batch }
         ensures shown { shows seat.new ≡ given (shows seat.old) to batch }
         ensures told { Tells (shows seat.old).number (giving_of to batch) (tells self.old) (tells self.new) }
+        ensures still { tells self.old ≡ None → self.new ≡ self.old }
         ensures reads { Adds (reads seat.old) (GiveSteps (shows seat.old) to) (reads seat.new) }
         ensures mine { seats self.new seat.new }
         ensures others { (other : Self.Seat) → (shows other).number ≢ (shows seat.old).number → seats self.old other → seats self.new other };
@@ -85,6 +89,7 @@ pub trait Post {
         requires served { is_served (shows seat.old) to ≡ true }
         ensures shown { shows seat.new ≡ served (shows seat.old) to }
         ensures told { Tells (shows seat.old).number (refusing_of to) (tells self.old) (tells self.new) }
+        ensures still { tells self.old ≡ None → self.new ≡ self.old }
         ensures reads { Adds (reads seat.old) (RefuseSteps (shows seat.old) to) (reads seat.new) }
         ensures mine { seats self.new seat.new }
         ensures others { (other : Self.Seat) → (shows other).number ≢ (shows seat.old).number → seats self.old other → seats self.new other };
@@ -97,6 +102,7 @@ pub trait Post {
         ensures over { result ≡ HeardOver → (shows seat.old).busy ≡ false }
         ensures elsewhere { result ≡ HeardElsewhere → 1 < (shows seat.old).n }
         ensures told { RingTold (shows seat.old) result (tells self.old) (tells self.new) }
+        ensures still { tells self.old ≡ None → self.new ≡ self.old }
         ensures reads { Adds (reads seat.old) (RingSteps (shows seat.old) result) (reads seat.new) }
         ensures mine { seats self.new seat.new }
         ensures others { (other : Self.Seat) → (shows other).number ≢ (shows seat.old).number → seats self.old other → seats self.new other };
@@ -111,6 +117,7 @@ pub trait Post {
         requires above { 0 < (shows seat.old).number }
         ensures shown { shows seat.new ≡ passed (shows seat.old) }
         ensures told { Tells (shows seat.old).number (passing_of (mixed (shows seat.old))) (tells self.old) (tells self.new) }
+        ensures still { tells self.old ≡ None → self.new ≡ self.old }
         ensures reads { Adds (reads seat.old) (TokenSteps (At (shows seat.old).number (token_of (shows seat.old))) (At ((shows seat.old).number - 1) (mixed (shows seat.old)))) (reads seat.new) }
         ensures mine { seats self.new seat.new }
         ensures others { (other : Self.Seat) → (shows other).number ≢ (shows seat.old).number → seats self.old other → seats self.new other };
@@ -126,6 +133,7 @@ pub trait Post {
         requires black { mixed (shows seat.old) ≡ Black }
         ensures shown { shows seat.new ≡ restarted (shows seat.old) }
         ensures told { Tells (shows seat.old).number restarting_of (tells self.old) (tells self.new) }
+        ensures still { tells self.old ≡ None → self.new ≡ self.old }
         ensures reads { Adds (reads seat.old) (TokenSteps (At (shows seat.old).number (token_of (shows seat.old))) (At ((shows seat.old).n - 1) White)) (reads seat.new) }
         ensures mine { seats self.new seat.new }
         ensures others { (other : Self.Seat) → (shows other).number ≢ (shows seat.old).number → seats self.old other → seats self.new other };
@@ -141,6 +149,7 @@ pub trait Post {
         requires white { mixed (shows seat.old) ≡ White }
         ensures shown { shows seat.new ≡ concluded (shows seat.old) }
         ensures told { Tells (shows seat.old).number concluding_of (tells self.old) (tells self.new) }
+        ensures still { tells self.old ≡ None → self.new ≡ self.old }
         ensures reads { Adds (reads seat.old) (TokenSteps (At (shows seat.old).number White) Over) (reads seat.new) }
         ensures mine { seats self.new seat.new }
         ensures others { (other : Self.Seat) → (shows other).number ≢ (shows seat.old).number → seats self.old other → seats self.new other };

@@ -30,6 +30,7 @@ pub trait Sums {
         requires counting { (shows seat.old).answer ≡ None }
         ensures shown { shows seat.new ≡ raised by (shows seat.old) }
         ensures told { tells self.new ≡ option_map (told_raised (shows seat.old).number by) (tells self.old) }
+        ensures still { tells self.old ≡ None → self.new ≡ self.old }
         ensures reads { reads seat.new ≡ reads seat.old }
         ensures mine { seats self.new seat.new }
         ensures others { (other : Self.Seat) → (shows other).number ≢ (shows seat.old).number → seats self.old other → seats self.new other };
@@ -44,6 +45,7 @@ pub trait Sums {
         ensures alone { IsLeaf (shows seat.old) → (shows seat.new).word ≡ (shows seat.old).count }
         ensures exact { IfSome (tells self.old) (λ t. (shows seat.new).word ≡ count_of t (shows seat.old).number + words_below t (shows seat.old).number) }
         ensures told { tells self.new ≡ option_map (told_refreshed (shows seat.old).number (shows seat.new).word) (tells self.old) }
+        ensures still { tells self.old ≡ None → self.new ≡ self.old }
         ensures reads { Adds (reads seat.old) (RefreshSteps (shows seat.old) (shows seat.new).word) (reads seat.new) }
         ensures mine { seats self.new seat.new }
         ensures others { (other : Self.Seat) → (shows other).number ≢ (shows seat.old).number → seats self.old other → seats self.new other };
@@ -59,6 +61,7 @@ pub trait Sums {
         ensures alone { IsLeaf (shows seat.old) → result ≡ Some (shows seat.old).count }
         ensures exact { IfSome (tells self.old) (Finishes (shows seat.old).number result) }
         ensures told { tells self.new ≡ option_map (told_finished (shows seat.old).number result) (tells self.old) }
+        ensures still { tells self.old ≡ None → self.new ≡ self.old }
         ensures reads { Adds (reads seat.old) (FinishSteps (shows seat.old) result) (reads seat.new) }
         ensures mine { seats self.new seat.new }
         ensures others { (other : Self.Seat) → (shows other).number ≢ (shows seat.old).number → seats self.old other → seats self.new other };
@@ -69,6 +72,7 @@ pub trait Sums {
         ensures word { result ≡ (shows seat.old).word }
         ensures shown { shows seat.new ≡ shows seat.old }
         ensures told { tells self.new ≡ tells self.old }
+        ensures still { tells self.old ≡ None → self.new ≡ self.old }
         ensures reads { Adds (reads seat.old) (ShownSteps (shows seat.old)) (reads seat.new) }
         ensures mine { seats self.new seat.new }
         ensures others { (other : Self.Seat) → (shows other).number ≢ (shows seat.old).number → seats self.old other → seats self.new other };

@@ -35,7 +35,8 @@ pub fn walk<W: Threads + Wait + Sync, G: Ground>(
 where
     G::Reader: Send,
     requires ranks { (1 ≤ options.now.ranks) × (options.now.ranks ≤ 64) }
-    requires hosts { options.now.hosts ≡ 1 }
+    requires hosts { (1 ≤ options.now.hosts) × (options.now.hosts ≤ 64) }
+    requires trace { options.now.trace ≡ true → options.now.hosts ≡ 1 }
     requires width { (2 ≤ options.now.width) × (options.now.width ≤ 64) }
     requires stop_after { options.now.stop_after ≡ None }
     requires apart { Apart starts.items }
@@ -49,9 +50,9 @@ where
     ensures by_rank { IfOk result (λ report. length report.shares.items ≡ options.now.ranks) }
     ensures moved { IfOk result (λ report. min (sum_by (λ s. s.given) report.shares.items) (2 ^ 128 - 1) ≡ min (sum_by (λ s. s.taken) report.shares.items) (2 ^ 128 - 1)) }
 
-    // Some whole run was made that gives the list: the shares are its counts, and with a trace the events are its own. Where the
+    // On one host some whole run was made that gives the list: the shares are its counts, and with a trace the events are its own. Where the
     // files tell their tree, a trace is a run of the recursive walk.
-    ensures ran { IfOk result (λ report. WasWalked (G.tree ground.old) options.now starts.items report.list report.shares.items report.events.items) }
+    ensures ran { IfOk result (λ report. options.now.hosts ≡ 1 → WasWalked (G.tree ground.old) options.now starts.items report.list report.shares.items report.events.items) }
     ensures traced { IfOk result (λ report. options.now.trace ≡ true → IfSome (G.tree ground.old) (λ files. IsTracedWalk files options.now starts.items report.list report.events.items)) }
     ensures counts { IfOk result (λ report. options.now.trace ≡ true → report.shares.items ≡ map (share_in report.events.items) (range_with_len 0 options.now.ranks)) }
     ensures untraced { IfOk result (λ report. options.now.trace ≡ false → report.events.items ≡ []) }
@@ -79,7 +80,8 @@ fn found<W: Threads + Wait + Sync, G: Ground>(
 where
     G::Reader: Send,
     requires ranks { (1 ≤ options.now.ranks) × (options.now.ranks ≤ 64) }
-    requires hosts { options.now.hosts ≡ 1 }
+    requires hosts { (1 ≤ options.now.hosts) × (options.now.hosts ≤ 64) }
+    requires trace { options.now.trace ≡ true → options.now.hosts ≡ 1 }
     requires width { (2 ≤ options.now.width) × (options.now.width ≤ 64) }
     requires stop_after { options.now.stop_after ≡ None }
     requires apart { Apart starts.items }
@@ -88,7 +90,7 @@ where
     ensures shares { IfOk result (λ r. length r.list < 2 ^ 64 → sum_by (λ s. s.handled) r.shares.items ≡ length r.list) }
     ensures by_rank { IfOk result (λ r. length r.shares.items ≡ options.now.ranks) }
     ensures moved { IfOk result (λ r. min (sum_by (λ s. s.given) r.shares.items) (2 ^ 128 - 1) ≡ min (sum_by (λ s. s.taken) r.shares.items) (2 ^ 128 - 1)) }
-    ensures ran { IfOk result (λ r. WasWalked (G.tree ground.old) options.now starts.items r.list r.shares.items r.events.items) }
+    ensures ran { IfOk result (λ r. options.now.hosts ≡ 1 → WasWalked (G.tree ground.old) options.now starts.items r.list r.shares.items r.events.items) }
     ensures traced { IfOk result (λ r. options.now.trace ≡ true → IfSome (G.tree ground.old) (λ files. IsTracedWalk files options.now starts.items r.list r.events.items)) }
     ensures counts { IfOk result (λ r. options.now.trace ≡ true → r.shares.items ≡ map (share_in r.events.items) (range_with_len 0 options.now.ranks)) }
     ensures untraced { IfOk result (λ r. options.now.trace ≡ false → r.events.items ≡ []) }

@@ -40,8 +40,12 @@ module _ {J D : Type 0} (log : J → Log) (plain : J → D) where
     pub lists : length f.left.items ≡ length jobs
     pub handled : map (λ s. s.handled) f.shares.items ≡ map (λ job. min (length (log job)) (2 ^ 64 - 1)) f.jobs.items
     pub moved : min (sum_by (λ s. s.given) f.shares.items) (2 ^ 128 - 1) ≡ min (sum_by (λ s. s.taken) f.shares.items) (2 ^ 128 - 1)
-    pub traced : o.trace ≡ true → IsTraced o starts (map log f.jobs.items) f.events.items
     pub untraced : o.trace ≡ false → f.events.items ≡ []
+    pub progress : IsProgress (map (λ job. length (log job)) f.jobs.items) f.sums.items
+
+module _ {J : Type 0} (log : J → Log) where
+  -- what a whole run on one host leaves beside that
+  pub record IsRun (o : Options) (starts : Strings) (f : Finished J) : Type 0 where
+    pub traced : o.trace ≡ true → IsTraced o starts (map log f.jobs.items) f.events.items
     pub counts : o.trace ≡ true → f.shares.items ≡ map (share_in f.events.items) (range_with_len 0 o.ranks)
     pub ran : WasRun o starts (map log f.jobs.items) f.shares.items f.events.items
-    pub progress : IsProgress (map (λ job. length (log job)) f.jobs.items) f.sums.items

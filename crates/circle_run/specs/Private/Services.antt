@@ -66,6 +66,7 @@ module _ {J S T P : Type 0} (log : J → Log) (shows : S → Shown) (tells : P �
     pub knows : Knows shows r'
     pub mine : seats p' r'.seat
     pub others : (other : S) → (shows other).number ≢ r.me → seats p other → seats p' other
+    pub still : tells p ≡ None → p' ≡ p
     pub rest : r' ≡ record r { seat = r'.seat }
     pub here : (shows r'.seat).here ≡ (shows r.seat).here
     pub batches : (shows r'.seat).batches ≡ (shows r.seat).batches
@@ -80,6 +81,7 @@ module _ {J S T P : Type 0} (log : J → Log) (shows : S → Shown) (tells : P �
     pub knows : Knows shows r'
     pub mine : seats p' r'.seat
     pub others : (other : S) → (shows other).number ≢ r.me → seats p other → seats p' other
+    pub still : tells p ≡ None → p' ≡ p
     pub me : r'.me ≡ r.me
     pub options : r'.options ≡ r.options
     pub sums_seat : r'.sums_seat ≡ r.sums_seat

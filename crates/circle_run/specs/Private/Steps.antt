@@ -1,5 +1,5 @@
 -- What the steps of a turn come to. Our own.
-use Rattle.std.specs.Prelude.{◌≡◌, ◌≢◌, ℕ, ◌+◌, ◌^◌, ◌<◌, Bool, true, false, List, length, [], ◌∷◌, ◌++◌, Option}
+use Rattle.std.specs.Prelude.{◌≡◌, ◌≢◌, ℕ, ◌+◌, ◌^◌, ◌<◌, Bool, true, false, List, length, [], ◌∷◌, ◌++◌, Option, None}
 use Rattle.ring_core.specs.declared.events.Event.TheVariants.{Handle}
 use Rattle.post_board.specs.Shown.{Strings, Shown}
 use Rattle.post_board.specs.Told.{Told}
@@ -69,6 +69,8 @@ module _ {J S T P Q : Type 0} (log : J → Log) (plain : J → Q) (shows : S →
     pub mine : seats p' r'.seat
     pub none : ServesNone shows r'
     pub others : (other : S) → (shows other).number ≢ r.me → seats p other → seats p' other
+    -- a board that tells nothing is the same value
+    pub still : tells p ≡ None → p' ≡ p
     pub me : r'.me ≡ r.me
     pub options : r'.options ≡ r.options
     pub sums_seat : r'.sums_seat ≡ r.sums_seat

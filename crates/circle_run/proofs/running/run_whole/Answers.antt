@@ -74,6 +74,7 @@ returns g c =
     let ranks = c.in_ok-ranks-2.ranks.items in
     let parts = c.in_ok-parts.ensures in
     let all = same_all g.J.Job.plain o c.make.result.ranks.items ranks c.in_ok-ranks-2.ensures.same first.all in
+    let left =
     outcome g.J.Job.log g.J.Job.plain g.P.Post.shows g.P.Post.tells g.P.Post.seats g.Q.Sums.shows g.Q.Sums.seats o c.args.starts.items c.args.jobs.items
     c.make.result.ranks.items ranks c.args.post.now c.run_traced.new.post c.args.sums.now c.run_traced.new.sums c.gather-2.result _
     (record {
@@ -100,3 +101,5 @@ returns g c =
       total_is = c.gather-2.ensures.sum ∙ ap (λ (xs : List _). sum_by (λ x. (g.Q.Sums.shows x).count) xs) parts.sums_seats
           ∙ sum_by-map (λ x. (g.Q.Sums.shows x).count) (λ r. r.sums_seat) ranks;
     })
+    in
+    record { outcome = left.0; run = left.1 }

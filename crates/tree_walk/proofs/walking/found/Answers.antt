@@ -43,7 +43,7 @@ returns-clause-by_rank g c =
     c.in_ok-finished.ensures.shares (c.in_ok-finished.ensures.jobs ∙ c.in_ok-jobs.ensures.number)
 
 pub returns-clause-ran : goal.returns-clause-ran
-returns-clause-ran g c =
+returns-clause-ran g c = λ one.
     let ran = c.in_ok-finished.ensures in
     let logs = c.in_ok-logs.ensures in
     let tree = g.G.Reader.Tree.tree in
@@ -64,12 +64,12 @@ returns-clause-ran g c =
         sorted = c.in_ok-list.ensures.sorted;
       };
     } in
-    was_walked tree faults told jobs list starts c.args.options.now c.in_ok-finished.finished.shares.items c.in_ok-finished.finished.events.items run ran.ran
+    was_walked tree faults told jobs list starts c.args.options.now c.in_ok-finished.finished.shares.items c.in_ok-finished.finished.events.items run (ran.ran one)
 
 pub returns-clause-traced : goal.returns-clause-traced
-returns-clause-traced g c =
+returns-clause-traced g c = λ on.
     traced (g.G.Plot.tree c.args.ground.now) c.args.options.now c.args.starts.items c.in_ok-list.list c.in_ok-finished.finished.shares.items
-    c.in_ok-finished.finished.events.items (returns-clause-ran g c)
+    c.in_ok-finished.finished.events.items (returns-clause-ran g c (c.requires.trace on)) on
 
 pub returns-clause-progress : goal.returns-clause-progress
 returns-clause-progress g c = λ few.

@@ -2,6 +2,8 @@ use Rattle.std.proofs.Common.{◌<◌, length, length-set, get_or, false, refl, 
 use Rattle.std.proofs.lemmas.List.{length-take-le}
 use Rattle.circle_run.proofs.Rounds.{at_most_64, placed_first, placed_more, placed_last, same_first, same_order, same_all, same_more, lost_before, lost_here}
 use Rattle.circle_run.proofs.Playing.{going_first, going_more, going_round, each_first, each_more}
+use Rattle.circle_run.proofs.Lone.{alone_first, alone_step}
+use Rattle.circle_run.proofs.Stepped.{still_then}
 use Rattle.circle_run.specs.Hosts.{Placed, KeptByEach}
 use Rattle.circle_run.proofs.hosts.Host.run.Goals as goal
 
@@ -14,12 +16,15 @@ loop-init g c = record {
   same = same_first g.J.Job.plain c.args.self.ranks.items;
   ran = λ none o t all told. going_first g.J.Job.log g.J.Job.plain g.P.Post.shows g.P.Post.tells g.P.Post.seats (KeptByEach o c.args.self.ranks.items c.args.self.ranks.items) o t c.args.self.ranks.items c.args.post.now told
       (each_first g.J.Job.log g.J.Job.plain g.P.Post.shows g.P.Post.tells g.P.Post.seats o c.args.self.ranks.items);
+  still = λ e. refl;
+  sums_still = λ e. refl;
+  alone = λ e none. (e, alone_first g.J.Job.log g.J.Job.plain g.P.Post.shows g.P.Post.tells g.P.Post.seats c.args.self.ranks.items);
 }
 
 pub loop-k-init : goal.loop-k-init
 loop-k-init g c =
     let i = c.loop.invariant in
-    record { placed = i.placed; wide = i.wide; same = i.same; end = (let n = i.same.count in let e = c.len-k-end.ensures in omega arith); ran = i.ran }
+    record { placed = i.placed; wide = i.wide; same = i.same; end = (let n = i.same.count in let e = c.len-k-end.ensures in omega arith); ran = i.ran; still = i.still; sums_still = i.sums_still; alone = i.alone }
 
 pub loop-k-preserved : goal.loop-k-preserved
 loop-k-preserved g c =
@@ -42,6 +47,12 @@ loop-k-preserved g c =
           c.loop-k.k c.index_mut.result.now c.step.new.self c.step.new.self now i.same.count inside was w (λ i. c.step.new.self)
           (each_more g.J.Job.log g.J.Job.plain g.P.Post.shows g.P.Post.tells g.P.Post.seats o c.args.self.ranks.items c.loop-k.ranks.items c.loop-k.post c.step.new.post c.loop-k.k c.index_mut.result.now c.step.new.self now i.same.count inside was w)
           (i.ran before o t all told);
+      still = still_then g.P.Post.tells c.args.post.now c.loop-k.post c.step.new.post i.still took.still;
+      sums_still = still_then g.Q.Sums.tells c.args.sums.now c.loop-k.sums c.step.new.sums i.sums_still c.step.ensures.sums_still;
+      alone = λ e none.
+          let before = lost_before c.loop-k.ranks.items c.loop-k.k c.index_mut.result.now c.step.new.self inside was took.lost none in
+          let w = took.went (lost_here c.loop-k.ranks.items c.loop-k.k c.step.new.self inside none) in
+          alone_step g.J.Job.log g.J.Job.plain g.P.Post.shows g.P.Post.tells g.P.Post.seats c.args.self.ranks.items c.loop-k.ranks.items c.loop-k.post c.step.new.post c.loop-k.k c.index_mut.result.now c.step.new.self inside was i.same w (i.alone e before);
     }
 
 pub loop-preserved : goal.loop-preserved
@@ -55,6 +66,9 @@ loop-preserved g c =
       same = i.same;
       ran = λ none o t all told. going_round g.J.Job.log g.J.Job.plain g.P.Post.shows g.P.Post.tells g.P.Post.seats _ o t c.args.self.ranks.items c.loop-k.ranks.items c.loop-k.post c.loop-k.k
           (let n = all.count in let e = i.end in let f = c.loop-k-test.false in let u = c.loop-k.auto.k-end in omega arith) (i.ran none o t all told);
+      still = i.still;
+      sums_still = i.sums_still;
+      alone = i.alone;
     }
 
 pub index_mut-requires : goal.index_mut-requires
@@ -93,3 +107,12 @@ returns-then-are_set-clause-same g c = c.loop-k.invariant.same
 
 pub returns-then-are_set-clause-ran : goal.returns-then-are_set-clause-ran
 returns-then-are_set-clause-ran g c = λ o t all told none. (c.loop-k.invariant.ran none o t all told).ran
+
+pub returns-then-are_set-clause-alone : goal.returns-then-are_set-clause-alone
+returns-then-are_set-clause-alone g c = c.loop-k.invariant.alone
+
+pub returns-then-are_set-clause-still : goal.returns-then-are_set-clause-still
+returns-then-are_set-clause-still g c = c.loop-k.invariant.still
+
+pub returns-then-are_set-clause-sums_still : goal.returns-then-are_set-clause-sums_still
+returns-then-are_set-clause-sums_still g c = c.loop-k.invariant.sums_still

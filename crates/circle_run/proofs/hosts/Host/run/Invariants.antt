@@ -1,6 +1,6 @@
-use Rattle.std.proofs.Common.{◌≡◌, length, Some}
+use Rattle.std.proofs.Common.{◌≡◌, length, Some, None}
 use Rattle.post_board.specs.Told.{Told}
-use Rattle.circle_run.specs.Hosts.{AllPlaced, Same, NoneLost, AreAll, KeptByEach}
+use Rattle.circle_run.specs.Hosts.{AllPlaced, Same, NoneLost, AreAll, KeptByEach, AllAlone}
 use Rattle.circle_run.specs.declared.settings.Options.{Options}
 use Rattle.circle_run.proofs.Playing.{Going}
 use Rattle.circle_run.proofs.hosts.Host.run.Given as goal
@@ -13,6 +13,9 @@ invariant-loop-k g l = record {
   end : l.k-end ≡ length l.fn.self.ranks.items;
   ran : NoneLost l.ranks.items → (o : Options) (t : Told) → AreAll o l.fn.self.ranks.items → g.P.Post.tells l.fn.post ≡ Some t
       → Going g.J.Job.log g.J.Job.plain g.P.Post.shows g.P.Post.tells g.P.Post.seats (KeptByEach o l.fn.self.ranks.items l.ranks.items) o t l.fn.self.ranks.items l.ranks.items l.post l.k;
+  still : g.P.Post.tells l.fn.post ≡ None → l.post ≡ l.fn.post;
+  sums_still : g.Q.Sums.tells l.fn.sums ≡ None → l.sums ≡ l.fn.sums;
+  alone : g.P.Post.tells l.fn.post ≡ None → NoneLost l.ranks.items → (g.P.Post.tells l.post ≡ None) × AllAlone g.J.Job.log g.P.Post.shows l.fn.self.ranks.items l.ranks.items;
 }
 
 abbrev pub invariant-loop : goal.invariant-loop
@@ -24,4 +27,7 @@ invariant-loop g l = record {
   same : Same g.J.Job.plain l.fn.self.ranks.items l.ranks.items;
   ran : NoneLost l.ranks.items → (o : Options) (t : Told) → AreAll o l.fn.self.ranks.items → g.P.Post.tells l.fn.post ≡ Some t
       → Going g.J.Job.log g.J.Job.plain g.P.Post.shows g.P.Post.tells g.P.Post.seats (KeptByEach o l.fn.self.ranks.items l.ranks.items) o t l.fn.self.ranks.items l.ranks.items l.post 0;
+  still : g.P.Post.tells l.fn.post ≡ None → l.post ≡ l.fn.post;
+  sums_still : g.Q.Sums.tells l.fn.sums ≡ None → l.sums ≡ l.fn.sums;
+  alone : g.P.Post.tells l.fn.post ≡ None → NoneLost l.ranks.items → (g.P.Post.tells l.post ≡ None) × AllAlone g.J.Job.log g.P.Post.shows l.fn.self.ranks.items l.ranks.items;
 }

@@ -13,6 +13,7 @@ returns-clause-came g c = record {
   mine = c.ask.ensures.mine;
   none = λ k. ap (λ (s : Shown). is_served s k) c.ask.ensures.shown ∙ c.requires.none k;
   others = λ other ne s. c.ask.ensures.others other (λ e. ne (e ∙ c.requires.knows.number)) s;
+  still = c.ask.ensures.still;
   me = refl;
   options = refl;
   sums_seat = refl;
@@ -22,6 +23,7 @@ returns-clause-came g c = record {
   went = went_did g.J.Job.log g.J.Job.plain g.P.Post.shows g.P.Post.tells g.P.Post.seats (Follows DidAct c.args.self.now.me to_ask) _ _ _ _ (ask c.victim-victim.result)
       (record { acts = (ask c.victim-victim.result, refl); chosen = (c.victim-victim.result, refl) }) c.note.ensures (record {
         queue = (c.requires.empty, c.requires.empty);
+        names = tt;
         few = (let q = c.requires.empty in let n : length c.args.self.now.queue ≡ 0 = ap length q in omega arith);
         drawn = (c.victim-victim.ensures.chosen, c.victim-victim.ensures.drawn);
         log = refl;

@@ -13,6 +13,7 @@ returns-in-Over-clause-came g c = record {
   mine = c.ring-ring.ensures.mine;
   none = λ k. ap (λ (s : Shown). is_served s k) c.in-Over.ensures.shown ∙ c.requires.none k;
   others = λ other ne s. c.ring-ring.ensures.others other (λ e. ne (e ∙ c.requires.knows.number)) s;
+  still = c.ring-ring.ensures.still;
   me = refl;
   options = refl;
   sums_seat = refl;
@@ -22,6 +23,7 @@ returns-in-Over-clause-came g c = record {
   went = went_did g.J.Job.log g.J.Job.plain g.P.Post.shows g.P.Post.tells g.P.Post.seats (Heard c.ring-ring.result) _ _ _ _ see_over (subst (λ (x : Ring). Heard x (did see_over ∷ [])) (sym c.in-Over.is) refl) c.note.ensures (record {
     queue = ((c.requires.knows.idle (c.in-Over.ensures.over refl)), (c.requires.knows.idle (c.in-Over.ensures.over refl)));
     few = (let n : length c.args.self.now.queue ≡ 0 = ap length (c.requires.knows.idle (c.in-Over.ensures.over refl)) in omega arith);
+    names = tt;
     drawn = refl;
     log = refl;
     batches = ap (λ (s : Shown). s.batches) c.in-Over.ensures.shown;

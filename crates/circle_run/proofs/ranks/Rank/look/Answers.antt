@@ -18,6 +18,7 @@ returns-in-Nothing-clause-came g c = record {
   mine = c.answer.ensures.mine;
   none = λ k. ap (λ (s : Shown). is_served s k) c.in-Nothing.ensures.shown ∙ c.requires.none k;
   others = λ other ne s. c.answer.ensures.others other (λ e. ne (e ∙ c.requires.knows.number)) s;
+  still = c.answer.ensures.still;
   me = refl;
   options = refl;
   sums_seat = refl;
@@ -27,6 +28,7 @@ returns-in-Nothing-clause-came g c = record {
   went = went_did g.J.Job.log g.J.Job.plain g.P.Post.shows g.P.Post.tells g.P.Post.seats (Follows DidAct c.args.self.now.me (to_look c.args.victim)) _ _ _ _ (take_none c.args.victim)
       (record { acts = (take_none c.args.victim, refl); chosen = inr (inl refl) }) c.note.ensures (record {
         queue = refl;
+        names = tt;
         few = (let q = c.requires.empty in let n : length c.args.self.now.queue ≡ 0 = ap length q in omega arith);
         drawn = refl;
         log = refl;
@@ -41,6 +43,7 @@ returns-in-Ok-clause-came g c = record {
   mine = c.answer.ensures.mine;
   none = λ k. ap (λ (s : Shown). is_served s k) c.in-Work.ensures.shown ∙ c.requires.none k;
   others = λ other ne s. c.answer.ensures.others other (λ e. ne (e ∙ c.requires.knows.number)) s;
+  still = c.answer.ensures.still;
   me = refl;
   options = refl;
   sums_seat = refl;
@@ -50,6 +53,7 @@ returns-in-Ok-clause-came g c = record {
   went = went_did g.J.Job.log g.J.Job.plain g.P.Post.shows g.P.Post.tells g.P.Post.seats (Follows DidAct c.args.self.now.me (to_look c.args.victim)) _ _ _ _ (take c.args.victim c.in-Work.batch)
       (record { acts = (take c.args.victim c.in-Work.batch, refl); chosen = inr (inr (c.in-Work.batch, refl)) }) (subst (λ (k : ℕ). Writes c.args.self.now.options.trace (Take c.args.self.now.me c.args.victim k ∷ []) c.args.self.now.book c.note-in-Work.new.self) c.len-count.ensures c.note-in-Work.ensures) (record {
         queue = c.in-Ok.ensures.added;
+        names = c.requires.knows.asks c.args.victim c.requires.open;
         few = (let l : length c.push_all.new.self ≡ length c.in-Work.batch = ap length c.in-Ok.ensures.added ∙ ap (λ (q : List (List ℕ)). length (q ++ c.in-Work.batch)) c.requires.empty in omega (arith, l, c.len-count.ensures));
         drawn = refl;
         log = refl;

@@ -15,6 +15,7 @@ returns-then-rank-gt0-clause-came g c = record {
   mine = c.pass.ensures.mine;
   none = λ k. ap (λ (s : Shown). is_served s k) c.pass.ensures.shown ∙ c.requires.none k;
   others = λ other ne s. c.pass.ensures.others other (λ e. ne (e ∙ c.requires.knows.number)) s;
+  still = c.pass.ensures.still;
   me = refl;
   options = refl;
   sums_seat = refl;
@@ -24,6 +25,7 @@ returns-then-rank-gt0-clause-came g c = record {
   went = went_did g.J.Job.log g.J.Job.plain g.P.Post.shows g.P.Post.tells g.P.Post.seats (Follows DidAct c.args.self.now.me (to_move c.args.held)) _ _ _ _ (pass c.darker-colour.result)
       (follows_moved c.args.self.now.me c.args.self.now.colour c.args.held c.darker-colour.result (pass c.darker-colour.result) c.darker-colour.ensures
       (moved_above c.args.self.now.me c.darker-colour.result (omega (arith, c.if-rank-gt0.true)))) c.note.ensures (record {
+        names = tt;
         queue = (c.requires.empty, c.requires.empty);
         few = (let q = c.requires.empty in let n : length c.args.self.now.queue ≡ 0 = ap length q in omega arith);
         drawn = refl;
@@ -39,6 +41,7 @@ returns-in-Black-clause-came g c = record {
   mine = c.restart.ensures.mine;
   none = λ k. ap (λ (s : Shown). is_served s k) c.restart.ensures.shown ∙ c.requires.none k;
   others = λ other ne s. c.restart.ensures.others other (λ e. ne (e ∙ c.requires.knows.number)) s;
+  still = c.restart.ensures.still;
   me = refl;
   options = refl;
   sums_seat = refl;
@@ -48,6 +51,7 @@ returns-in-Black-clause-came g c = record {
   went = went_did g.J.Job.log g.J.Job.plain g.P.Post.shows g.P.Post.tells g.P.Post.seats (Follows DidAct c.args.self.now.me (to_move c.args.held)) _ _ _ _ restart
       (follows_moved c.args.self.now.me c.args.self.now.colour c.args.held c.darker-colour.result restart c.darker-colour.ensures
       (moved_black c.args.self.now.me c.darker-colour.result (omega (arith, c.if-rank-gt0.false)) c.in-Black.is)) c.note-in-Black.ensures (record {
+        names = tt;
         queue = (c.requires.empty, c.requires.empty);
         few = (let q = c.requires.empty in let n : length c.args.self.now.queue ≡ 0 = ap length q in omega arith);
         drawn = refl;
@@ -63,6 +67,7 @@ returns-in-White-clause-came g c = record {
   mine = c.conclude.ensures.mine;
   none = λ k. ap (λ (s : Shown). is_served s k) c.conclude.ensures.shown ∙ c.requires.none k;
   others = λ other ne s. c.conclude.ensures.others other (λ e. ne (e ∙ c.requires.knows.number)) s;
+  still = c.conclude.ensures.still;
   me = refl;
   options = refl;
   sums_seat = refl;
@@ -72,6 +77,7 @@ returns-in-White-clause-came g c = record {
   went = went_did g.J.Job.log g.J.Job.plain g.P.Post.shows g.P.Post.tells g.P.Post.seats (Follows DidAct c.args.self.now.me (to_move c.args.held)) _ _ _ _ conclude
       (follows_moved c.args.self.now.me c.args.self.now.colour c.args.held c.darker-colour.result conclude c.darker-colour.ensures
       (moved_white c.args.self.now.me c.darker-colour.result (omega (arith, c.if-rank-gt0.false)) c.in-White.is)) c.note-in-White.ensures (record {
+        names = tt;
         queue = (c.requires.empty, c.requires.empty);
         few = (let q = c.requires.empty in let n : length c.args.self.now.queue ≡ 0 = ap length q in omega arith);
         drawn = refl;

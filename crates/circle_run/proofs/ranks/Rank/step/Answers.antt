@@ -13,6 +13,7 @@ returns-in-Ended g c = record {
       (g.met.P.Post.agrees c.args.post.now c.args.self.now.seat c.requires.ready.mine) c.requires.ready.knows c.turn.ensures.turned c.turn.ensures.waits;
   others = c.turn.ensures.others;
   sums_others = c.turn.ensures.sums_others;
+  sums_still = c.turn.ensures.sums_still;
 }
 
 pub returns-in_default : goal.returns-in_default
@@ -22,4 +23,5 @@ returns-in_default g c = record {
       (g.met.P.Post.agrees c.args.post.now c.args.self.now.seat c.requires.ready.mine) c.requires.ready.knows c.turn.ensures.turned c.turn.ensures.waits;
   others = c.turn.ensures.others;
   sums_others = c.turn.ensures.sums_others;
+  sums_still = c.turn.ensures.sums_still;
 }

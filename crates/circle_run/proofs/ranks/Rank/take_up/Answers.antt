@@ -18,7 +18,7 @@ loop-to-smaller g c =
 pub loop-to-preserved : goal.loop-to-preserved
 loop-to-preserved g c =
     taken_more g.J.Job.log g.P.Post.shows g.P.Post.tells g.P.Post.seats c.args.self.now c.args.post.now c.loop-to.self c.loop-to.post c.next_request.new.seat c.next_request.new.self c.loop-to.asks c.loop-to.count c.in-Some.to
-    c.loop-to.invariant c.in-Some.ensures.found c.in-Some.ensures.shown c.in-Some.ensures.told (g.met.P.Post.agrees c.loop-to.post c.loop-to.self.seat c.loop-to.invariant.mine) c.next_request.ensures.mine c.next_request.ensures.others
+    c.loop-to.invariant c.in-Some.ensures.found c.in-Some.ensures.shown c.in-Some.ensures.told (g.met.P.Post.agrees c.loop-to.post c.loop-to.self.seat c.loop-to.invariant.mine) c.next_request.ensures.mine c.next_request.ensures.others c.next_request.ensures.still
     (let h = taken_room g.J.Job.log g.P.Post.shows g.P.Post.tells g.P.Post.seats c.args.self.now c.args.post.now c.loop-to.self c.loop-to.post c.loop-to.asks c.loop-to.count c.in-Some.to c.loop-to.invariant c.in-Some.ensures.found in
     let l = c.loop-to.invariant.long in omega arith)
 

@@ -23,7 +23,7 @@ returns-in-Holds c =
     c.requires.seat.0 c.requires.live.0)
     (noted_same ranks masks N seat.number fits.inside _ (λ v. ap (λ (d : PlainMailbox). wants d v) c.replace.ensures.after
     ∙ sym (ap (λ (y : PlainRank). wants y.mailbox v) (sym read) ∙ ap (λ (d : PlainMailbox). wants d v) (sym c.replace.ensures.value ∙ c.in-Holds.is)))) in
-    record { shown = refl; told = (done.legal, ap Some done.told); reads = refl; mine = done.mine; others = done.others }
+    record { shown = refl; still = λ e. cc; told = (done.legal, ap Some done.told); reads = refl; mine = done.mine; others = done.others }
 
 pub returns-in-Refused : goal.returns-in-Refused
 returns-in-Refused c =
@@ -40,4 +40,4 @@ returns-in-Refused c =
     c.requires.seat.0 c.requires.live.0)
     (noted_same ranks masks N seat.number fits.inside _ (λ v. ap (λ (d : PlainMailbox). wants d v) c.replace.ensures.after
     ∙ sym (ap (λ (y : PlainRank). wants y.mailbox v) (sym read) ∙ ap (λ (d : PlainMailbox). wants d v) (sym c.replace.ensures.value ∙ c.in-Refused.is)))) in
-    record { shown = refl; told = (done.legal, ap Some done.told); reads = refl; mine = done.mine; others = done.others }
+    record { shown = refl; still = λ e. cc; told = (done.legal, ap Some done.told); reads = refl; mine = done.mine; others = done.others }

@@ -22,4 +22,4 @@ returns c =
     (subst (Noted _) (sym c.add.ensures) (noted_asks ranks masks N seat.number fits.inside
     (record rank { busy = false; mailbox = Wants c.args.victim }) c.args.victim (subst (λ (n : ℕ). c.args.victim < n) fits.sized c.requires.victim.0)
     (rests ranks c.args.self.now.token seat fits c.requires.free.0) refl)) in
-    record { shown = refl; told = (done.legal, ap Some done.told); reads = refl; mine = done.mine; others = done.others }
+    record { shown = refl; still = λ e. cc; told = (done.legal, ap Some done.told); reads = refl; mine = done.mine; others = done.others }

@@ -20,4 +20,4 @@ returns c =
     (conclude_deed ranks c.args.self.now.token seat rank read c.requires.seat.0 c.requires.live.0 c.requires.free.0 c.requires.here c.requires.tried
     c.requires.first c.requires.white)
     (noted_same ranks masks N seat.number fits.inside _ (λ v. ap (λ (y : PlainRank). wants y.mailbox v) read)) in
-    record { shown = refl; told = (done.legal, ap Some done.told); reads = refl; mine = done.mine; others = done.others }
+    record { shown = refl; still = λ e. cc; told = (done.legal, ap Some done.told); reads = refl; mine = done.mine; others = done.others }

@@ -39,4 +39,4 @@ returns c =
     (noted_same changed masks (noted_same ranks masks N seat.number fits.inside _ (λ v. ap (λ (y : PlainRank). wants y.mailbox v) read)) to below _
     (λ v. ap (λ (d : PlainMailbox). wants d v) (sym (ap (λ (y : PlainRank). y.mailbox)
     (get_or-set_other ranks seat.number to (record rank { colour = colour }) no_rank (not_self ranks token seat to fits lies)) ∙ lies)))) in
-    record { shown = search rules; told = (done.legal, ap Some done.told); reads = refl; mine = done.mine; others = done.others }
+    record { shown = search rules; still = λ e. cc; told = (done.legal, ap Some done.told); reads = refl; mine = done.mine; others = done.others }

@@ -20,4 +20,4 @@ returns c =
     (pass_deed ranks c.args.self.now.token seat rank c.held.result c.darker-colour.result read c.held.ensures c.darker-colour.ensures
     c.requires.seat.0 c.requires.live.0 c.requires.free.0 c.requires.here c.requires.tried c.requires.above)
     (noted_same ranks masks N seat.number fits.inside _ (λ v. ap (λ (y : PlainRank). wants y.mailbox v) read)) in
-    record { shown = refl; told = (done.legal, ap Some done.told); reads = refl; mine = done.mine; others = done.others }
+    record { shown = refl; still = λ e. cc; told = (done.legal, ap Some done.told); reads = refl; mine = done.mine; others = done.others }

@@ -24,4 +24,4 @@ returns c =
     (refl, refl, refl, refl, refl, refl, refl, refl, refl))
     (noted_same ranks masks N to (serves_below ranks token seat to fits c.requires.served) _
     (λ v. ap (λ (d : PlainMailbox). wants d v) (sym (fits.serves to c.requires.served)))) in
-    record { shown = refl; told = (done.legal, ap Some done.told); reads = refl; mine = done.mine; others = done.others }
+    record { shown = refl; still = λ e. cc; told = (done.legal, ap Some done.told); reads = refl; mine = done.mine; others = done.others }

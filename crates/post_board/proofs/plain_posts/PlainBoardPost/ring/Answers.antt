@@ -24,6 +24,7 @@ returns-in-Over c =
       shown = refl;
       over = λ _. over_quiet ranks token seat c.requires.seat.0 c.in-Over.is;
       elsewhere = λ e. cc;
+      still = λ e. cc;
       told = (done.legal, ap Some done.told);
       reads = refl;
       mine = done.mine;

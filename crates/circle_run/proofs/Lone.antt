@@ -1,0 +1,83 @@
+-- A rank's moves over a board that tells nothing.
+use Rattle.std.proofs.Common.{◌≡◌, ℕ, ◌<◌, refl, sym, subst, ap, ◌∙◌, arith, List, [], ◌∷◌, ◌++◌, map, length, length-set, set, get_or, Option, None}
+use Rattle.std.proofs.lemmas.List.{get_or_read, get_or_default}
+use Rattle.std.specs.List.{flat_map}
+use Rattle.std.proofs.lemmas.List.Concat.{flat_map-append}
+use Rattle.ring_core.specs.declared.events.Event.{Event}
+use Rattle.post_board.specs.Shown.{Shown}
+use Rattle.post_board.specs.Told.{Told}
+use Rattle.post_board.specs.Deeds.{Deed, Tells}
+use Rattle.circle_run.specs.Balance.{Log}
+use Rattle.circle_run.specs.Moves.{Move, handled, served, did, Side, answer_of, TellsAll, Does, events_of}
+use Rattle.circle_run.specs.Books.{counted}
+use Rattle.circle_run.specs.Ranks.{DoesAll, side}
+use Rattle.circle_run.specs.Hosts.{Same, Turning, lone_side, Alone, AllAlone}
+use Rattle.circle_run.specs.declared.settings.Options.{Options}
+use Rattle.circle_run.specs.declared.outcomes.Share.{Share}
+use Rattle.circle_run.specs.declared.ranks.Rank.{Rank}
+use Rattle.circle_run.proofs.Stepped.{does_then, counted_then}
+use Rattle.circle_run.proofs.Rounds.{each-set}
+
+tells_still : (me : ℕ) (deed : Deed) (before after : Option Told) → Tells me deed before after → before ≡ None → after ≡ None
+tells_still me deed before after h e = subst (λ b. Tells me deed b after) e h
+
+all_still : (me : ℕ) (deeds : List Deed) (before after : Option Told) → TellsAll me deeds before after → before ≡ None → after ≡ None
+all_still me [] before after h e = h ∙ e
+all_still me (deed ∷ deeds) before after (mid, one, rest) e = all_still me deeds mid after rest (tells_still me deed before mid one e)
+
+does_still : (o : Options) (me : ℕ) (m : Move) (s s' : Side) → Does o me m s s' → s.told ≡ None → s'.told ≡ None
+does_still o me (handled path kids) s s' does e = ap (λ (x : Side). x.told) does.after ∙ e
+does_still o me (served answers) s s' does e = all_still me (map answer_of answers) s.told s'.told does.told e
+does_still o me (did deed) s s' does e = tells_still me deed s.told s'.told does.told e
+
+told_still : (o : Options) (me : ℕ) (moves : List Move) (s s' : Side) → DoesAll o me moves s s' → s.told ≡ None → s'.told ≡ None
+told_still o me [] s s' does e = ap (λ (x : Side). x.told) does ∙ e
+told_still o me (m ∷ moves) s s' (mid, one, rest) e = told_still o me moves mid s' rest (does_still o me m s mid one e)
+
+module _ {J S T P D : Type 0} (log : J → Log) (plain : J → D) (shows : S → Shown) (tells : P → Option Told) (seats : P → S → Type 0) where
+  lone_is : (r : Rank J S T) (p : P) → tells p ≡ None → side log plain shows tells seats r p ≡ lone_side log shows r
+  lone_is r p e = λ i. record { queue = r.queue; log = log r.job; draws = r.draws; batches = (shows r.seat).batches; told = e i }
+
+  pub untold_after : (r r' : Rank J S T) (p p' : P) → Turning log plain shows tells seats r p r' p' → tells p ≡ None → tells p' ≡ None
+  untold_after r r' p p' w e = told_still r.options r.me w.turn (side log plain shows tells seats r p) (side log plain shows tells seats r' p') w.does e
+
+  alone_more : (r0 r r' : Rank J S T) (p p' : P) → r.me ≡ r0.me → r.options ≡ r0.options → Alone log shows r0 r
+      → Turning log plain shows tells seats r p r' p' → tells p ≡ None → Alone log shows r0 r'
+  alone_more r0 r r' p p' me options a w e =
+      let turn : DoesAll r.options r.me w.turn (lone_side log shows r) (lone_side log shows r') =
+      subst (λ (s : Side). DoesAll r.options r.me w.turn (lone_side log shows r) s) (lone_is r' p' (untold_after r r' p p' w e))
+      (subst (λ (s : Side). DoesAll r.options r.me w.turn s (side log plain shows tells seats r' p')) (lone_is r p e) w.does)
+      in
+      let own : DoesAll r0.options r0.me w.turn (lone_side log shows r) (lone_side log shows r') =
+      subst (λ (o : Options). DoesAll o r0.me w.turn (lone_side log shows r) (lone_side log shows r')) options
+      (subst (λ (n : ℕ). DoesAll r.options n w.turn (lone_side log shows r) (lone_side log shows r')) me turn)
+      in
+      record {
+        moves = a.moves ++ w.turn;
+        does = does_then r0.options r0.me a.moves w.turn (lone_side log shows r0) (lone_side log shows r) (lone_side log shows r') a.does own;
+        share =
+            w.share
+            ∙ ap (λ (n : ℕ). counted (flat_map (events_of n) w.turn) r.book.share) me
+            ∙ ap (λ (x : Share). counted (flat_map (events_of r0.me) w.turn) x) a.share
+            ∙ sym (counted_then (flat_map (events_of r0.me) a.moves) (flat_map (events_of r0.me) w.turn) r0.book.share)
+            ∙ ap (λ (es : List Event). counted es r0.book.share) (sym (flat_map-append (events_of r0.me) a.moves w.turn));
+      }
+
+  pub alone_first : (ranks : List (Rank J S T)) → AllAlone log shows ranks ranks
+  alone_first ranks k d h = record { moves = []; does = refl; share = refl }
+
+  pub alone_step : (ranks0 ranks : List (Rank J S T)) (p p' : P) (k : ℕ) (r r' : Rank J S T) → k < length ranks → r ≡ get_or ranks k r
+      → Same plain ranks0 ranks → Turning log plain shows tells seats r p r' p' →
+      (tells p ≡ None) × AllAlone log shows ranks0 ranks → (tells p' ≡ None) × AllAlone log shows ranks0 (set ranks k r')
+  alone_step ranks0 ranks p p' k r r' inside is same w (e, all) = (
+    untold_after r r' p p' w e,
+    λ j d h.
+        let n = same.count in
+        let long = length-set ranks k r' in
+        let was : get_or ranks k d ≡ r = sym (get_or_read ranks k r inside is d) in
+        let here : Alone log shows (get_or ranks0 k d) r = subst (λ (x : Rank J S T). Alone log shows (get_or ranks0 k d) x) was (all k d (omega arith)) in
+        let me : r.me ≡ (get_or ranks0 k d).me = ap (λ (x : Rank J S T). x.me) (sym was) ∙ same.me k d (omega arith) in
+        let options : r.options ≡ (get_or ranks0 k d).options = ap (λ (x : Rank J S T). x.options) (sym was) ∙ same.options k d (omega arith) in
+        each-set (λ (i : ℕ) (x : Rank J S T). Alone log shows (get_or ranks0 i d) x) ranks k r' (alone_more (get_or ranks0 k d) r r' p p' me options here w e)
+        (λ i d' b ne. subst (λ (x : Rank J S T). Alone log shows (get_or ranks0 i d) x) (get_or_default ranks i d d' b) (all i d (omega arith))) j d (omega (arith, long)),
+  )

@@ -1,0 +1,46 @@
+use Rattle.std.proofs.Common.{rules, arith, ◌≡◌, length, [], ◌∷◌, ◌%◌, All, subst, ap, sym, ◌∙◌}
+use Rattle.std.proofs.lemmas.List.Elements.{All-nil, All-cons, All-append}
+use Rattle.circle_run.specs.declared.ranks.Rank.{Rank}
+use Rattle.std.specs.List.{sum_by}
+use Rattle.std.specs.Vec.Iter.{into_iter_items}
+use Rattle.std.proofs.lemmas.List.{nil_from_length}
+use Rattle.circle_run.proofs.Parted.{parted_first, parted_chosen, parted_rest}
+use Rattle.circle_run.proofs.spread.split.Goals as goal
+
+pub loop-rank-init : goal.loop-rank-init
+loop-rank-init g c =
+    let s : into_iter_items c.into_iter-rank-iterator.result ≡ c.args.ranks.items = search rules in
+    record {
+      len = search rules;
+      parted = parted_first c.args.whole.now.value.items c.args.ranks.items c.new-chosen.result.items c.in_ok-rest.rest.items (into_iter_items c.into_iter-rank-iterator.result) c.requires.ranks c.new-chosen.ensures.items c.in_ok-rest.ensures.items s;
+      own = (let F : Rank g.row.J.Denot g.row.S.Denot g.row.T.Denot → Type 0 = λ r. r.me % c.args.hosts ≡ c.args.host in subst (All F) (sym c.new-chosen.ensures.items) (All-nil F));
+    }
+
+pub returns-clause-numbers : goal.returns-clause-numbers
+returns-clause-numbers g c =
+    let i = c.loop-rank.invariant in
+    let z = c.in-None.ensures.steps in
+    let e : into_iter_items c.loop-rank.rank-iterator ≡ [] = nil_from_length (into_iter_items c.loop-rank.rank-iterator) (sym i.len ∙ z.0) in
+    λ h. omega (arith, i.parted.numbers h, ap (sum_by (λ r. h r.me)) e)
+
+pub loop-rank-preserved-in-Continue-branch-2 : goal.loop-rank-preserved-in-Continue-branch-2
+loop-rank-preserved-in-Continue-branch-2 g c =
+    let i = c.loop-rank.invariant in
+    let e : into_iter_items c.loop-rank.rank-iterator ≡ c.in-Some.rank ∷ into_iter_items c.next.new.self = search rules in
+    record {
+      len = (let n = ap length e in let f = i.len in let st = c.in-Some.ensures.steps in search rules);
+      parted = parted_chosen c.args.whole.now.value.items c.args.ranks.items c.loop-rank.chosen.items c.loop-rank.rest.items (into_iter_items c.loop-rank.rank-iterator) (into_iter_items c.next.new.self) c.push.new.self.items c.in-Some.rank e c.in_ok-push.ensures.items i.parted;
+      own = (let F : Rank g.row.J.Denot g.row.S.Denot g.row.T.Denot → Type 0 = λ r. r.me % c.args.hosts ≡ c.args.host in
+          let is : c.in-Some.rank.me % c.args.hosts ≡ c.args.host = search rules in
+          subst (All F) (sym c.in_ok-push.ensures.items) (All-append F c.loop-rank.chosen.items (c.in-Some.rank ∷ []) i.own (All-cons F c.in-Some.rank [] is (All-nil F))));
+    }
+
+pub loop-rank-preserved : goal.loop-rank-preserved
+loop-rank-preserved g c =
+    let i = c.loop-rank.invariant in
+    let e : into_iter_items c.loop-rank.rank-iterator ≡ c.in-Some.rank ∷ into_iter_items c.next.new.self = search rules in
+    record {
+      len = (let n = ap length e in let f = i.len in let st = c.in-Some.ensures.steps in search rules);
+      parted = parted_rest c.args.whole.now.value.items c.args.ranks.items c.loop-rank.chosen.items c.loop-rank.rest.items (into_iter_items c.loop-rank.rank-iterator) (into_iter_items c.next.new.self) c.push-else-number-hosts.new.self.items c.in-Some.rank e c.in_ok-push-2.ensures.items i.parted;
+      own = i.own;
+    }

@@ -1,0 +1,27 @@
+use Rattle.std.proofs.Common.{arith, All, [], ◌∷◌, ap, sym, subst, Vec}
+use Rattle.std.specs.List.{sum_by}
+use Rattle.std.proofs.lemmas.List.Sums.{sum_by-cons, sum_by-append}
+use Rattle.std.proofs.lemmas.List.Elements.{All-nil, All-cons, All-append}
+use Rattle.std.specs.declared.alloc.Global.{Global}
+use Rattle.circle_run.specs.declared.ranks.Rank.{Rank}
+use Rattle.circle_run.specs.Private.Away.{IsHost}
+use Rattle.circle_run.proofs.spread.spread.Goals as goal
+
+pub loop-host-init : goal.loop-host-init
+loop-host-init g c = record {
+  left = c.requires.ranks;
+  others = subst (All (λ host. IsHost c.args.whole.now.value.items host.items)) (sym c.in_ok-others.ensures.items) (All-nil (λ host. IsHost c.args.whole.now.value.items host.items));
+  numbers = λ h. (let e = ap (sum_by (λ host. sum_by (λ r. h r.me) host.items)) c.in_ok-others.ensures.items in omega arith);
+}
+
+pub loop-host-preserved : goal.loop-host-preserved
+loop-host-preserved g c =
+    let i = c.loop-host.invariant in
+    let P : Vec (Rank g.row.J.Denot g.row.S.Denot g.row.T.Denot) Global → Type 0 = λ host. IsHost c.args.whole.now.value.items host.items in
+    let s = c.in_ok-chosen.ensures in
+    let chosen = c.in_ok-chosen.chosen in
+    record {
+      left = s.rest;
+      others = subst (All P) (sym c.in_ok-push.ensures.items) (All-append P c.loop-host.others.items (chosen ∷ []) i.others (All-cons P chosen [] s.chosen (All-nil P)));
+      numbers = λ h. omega (arith, i.numbers h, s.numbers h, ap (sum_by (λ host. sum_by (λ r. h r.me) host.items)) c.in_ok-push.ensures.items, sum_by-append (λ host. sum_by (λ r. h r.me) host.items) c.loop-host.others.items (chosen ∷ []), sum_by-cons (λ host. sum_by (λ r. h r.me) host.items) chosen []);
+    }
