@@ -1,0 +1,29 @@
+-- A reader goes from one list's end to another's.
+use Rattle.std.proofs.Common.{◌≡◌, ℕ, List, [], ◌∷◌, ◌++◌, map, length, take, drop, append_assoc, append-nil, refl, ap, ◌∙◌, sym, arith, All}
+use Rattle.std.specs.Prelude.{reverse}
+use Rattle.std.specs.List.{AllByRecursion}
+use Rattle.std.proofs.lemmas.List.Elements.{recursion_from_All, All-from_recursion}
+use Rattle.std.proofs.lemmas.List.{map-append, reverse-append, nil_from_length, length-drop, take_all}
+use Rattle.tree_cmp.specs.declared.sharing.Worker.{Worker}
+
+abbrev pub readers_of : {R : Type 0} → List (Worker R) → List R
+readers_of workers = map (λ w. w.reader) workers
+
+pub moved : {R : Type 0} (readers : List R) (workers : List (Worker R)) (w : Worker R) →
+    (readers ++ w.reader ∷ []) ++ reverse (readers_of workers) ≡ readers ++ reverse (readers_of (workers ++ w ∷ []))
+moved readers workers w =
+    append_assoc readers (w.reader ∷ []) (reverse (readers_of workers))
+    ∙ ap (λ xs. readers ++ xs) (sym (ap reverse (map-append (λ w. w.reader) workers (w ∷ [])) ∙ reverse-append (readers_of workers) (w.reader ∷ [])))
+
+front_of : {A : Type 0} (P : A → Type 0) (xs : List A) (x : A) → AllByRecursion P (xs ++ x ∷ []) → AllByRecursion P xs × P x
+front_of P [] x h = (tt, h.0)
+front_of P (y ∷ xs) x h = let r = front_of P xs x h.1 in ((h.0, r.0), r.1)
+
+pub unpushed : {A : Type 0} (P : A → Type 0) (xs : List A) (x : A) → All P (xs ++ x ∷ []) → All P xs × P x
+unpushed P xs x h = let r = front_of P xs x (recursion_from_All P (xs ++ x ∷ []) h) in (All-from_recursion P xs r.0, r.1)
+
+-- a part of a list that was written back whole
+pub written : {A : Type 0} (n : ℕ) (new old : List A) → length new ≡ n → length old ≡ n → take n (new ++ drop (length new) old) ≡ new
+written n new old h k =
+    let none : drop (length new) old ≡ [] = nil_from_length (drop (length new) old) (omega (arith, length-drop (length new) old)) in
+    ap (λ xs. take n (new ++ xs)) none ∙ ap (take n) (append-nil new) ∙ take_all n new (omega arith)

@@ -1,0 +1,14 @@
+pub mod Lists
+pub mod Counts
+pub mod Under
+pub mod Taken
+pub mod Feeding
+pub mod Filling
+pub mod Pieces
+pub mod Sided
+pub mod Shared
+pub mod Placed
+pub mod Hired
+pub mod Parts
+pub mod Workers
+pub mod Finding

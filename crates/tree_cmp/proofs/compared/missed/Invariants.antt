@@ -1,0 +1,7 @@
+use Rattle.std.proofs.Common.{◌≡◌, take}
+use Rattle.std.specs.List.{filter_map}
+use Rattle.tree_cmp.specs.Private.Parts.{missed_by}
+use Rattle.tree_cmp.proofs.compared.missed.Given as goal
+
+abbrev pub invariant-loop-draft : goal.invariant-loop-draft
+invariant-loop-draft l = l.missed.items ≡ filter_map (missed_by l.why l.left l.right) (take l.draft-index l.drafts)

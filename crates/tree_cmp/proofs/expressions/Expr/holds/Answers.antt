@@ -1,0 +1,13 @@
+use Rattle.std.proofs.Common.{List, ap, sym, ◌∙◌}
+use Rattle.std.specs.List.{list_all, list_any}
+use Rattle.tree_cmp.specs.declared.conditions.Condition.{Condition}
+use Rattle.tree_cmp.specs.Expressions.{holds, meets}
+use Rattle.tree_cmp.proofs.Lists.{list_any-map}
+use Rattle.tree_cmp.proofs.expressions.Expr.holds.Goals as goal
+
+pub returns : goal.returns
+returns c =
+    c.any_met.ensures
+    ∙ ap (list_any (λ term. list_all (meets c.args.row.now) term.items)) c.deref.ensures.value
+    ∙ sym (list_any-map (λ (term : List Condition). list_all (meets c.args.row.now) term) (λ term. term.items) c.self.inside.terms.items)
+    ∙ ap (λ (terms : List (List Condition)). holds terms c.args.row.now) c.self.view_is

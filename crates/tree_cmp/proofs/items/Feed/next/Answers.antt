@@ -1,0 +1,20 @@
+use Rattle.std.proofs.Common.{rules, arith, ◌≡◌, ◌∷◌, ◌≤◌, ◌+◌, length, sym, ◌∙◌, true, false, IsTrue}
+use Rattle.path_text.specs.Order.{is_within}
+use Rattle.flat_list.specs.declared.entries.Entry.{Entry}
+use Rattle.tree_cmp.proofs.Feeding.{gave, passed_gone, within_still}
+use Rattle.tree_cmp.proofs.items.Feed.next.Goals as goal
+
+pub returns-then-not-is_gone-clause-some : goal.returns-then-not-is_gone-clause-some
+returns-then-not-is_gone-clause-some c =
+    sym c.loop-self.invariant.same
+    ∙ gave c.loop-self.self.top.now c.loop-self.self.cursor c.advance.new.self c.advance.result c.entry-entry.result.now c.in_ok-item_of.field-0
+    c.advance.ensures.passed (search rules) c.entry-entry.ensures.at (search rules) c.in_ok-item_of.ensures
+
+pub loop-self-preserved : goal.loop-self-preserved
+loop-self-preserved c = record {
+  sound = record {
+    within = within_still (λ (e : Entry). IsTrue (is_within e.path c.loop-self.self.top.now)) c.loop-self.self.cursor c.advance.new.self c.advance.result c.advance.ensures.passed c.loop-self.invariant.sound.within;
+    inside = c.advance.ensures.inside;
+  };
+  same = passed_gone c.loop-self.self.top.now c.loop-self.self.cursor c.advance.new.self c.advance.result c.entry-entry.result.now c.advance.ensures.passed (search rules) c.entry-entry.ensures.at (search rules) ∙ c.loop-self.invariant.same;
+}

@@ -1,0 +1,5 @@
+pub mod Items
+pub mod Steps
+pub mod Reading
+pub mod Sharing
+pub mod Parts

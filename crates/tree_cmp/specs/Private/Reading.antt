@@ -1,0 +1,57 @@
+-- Two files that are read and compared, piece by piece. Our own.
+-- Only clauses of this crate's own functions cite this file.
+use Rattle.std.specs.Prelude.{◌≡◌, ℕ, ◌+◌, ◌<◌, ◌≤◌, ◌⊎◌, Bool, true, false, List, length, take, drop, Option, Some, None, nat_eq}
+use Rattle.std.specs.FinMap.{get}
+use Rattle.std.specs.Cmp.Lexicographic.{pointwise}
+use Rattle.path_text.specs.Order.{path_cmp}
+use Rattle.outside.specs.Count.{RoseBy}
+use Rattle.outside.specs.Tree.{Files, Node, is_file, content}
+use Rattle.outside.specs.declared.trees.ReadError.{ReadError}
+use Rattle.outside.specs.declared.trees.ReadError.TheVariants as read
+use Rattle.tree_cmp.specs.declared.reading.Missing.{Missing}
+use Rattle.tree_cmp.specs.declared.reading.Missing.TheVariants as m
+use Rattle.tree_cmp.specs.declared.reading.Outcome.{Outcome}
+use Rattle.tree_cmp.specs.declared.reading.Outcome.TheVariants as o
+
+abbrev pub missing : ReadError → Missing
+missing read.Failed = m.Failed
+missing read.NotFile = m.Changed
+
+-- the buffer has the bytes of the file from a place on
+pub record Fills (node : Option Node) (at : ℕ) (buffer : List ℕ) : Type 0 where
+  pub is_file : is_file node ≡ true
+  pub inside : at + length buffer ≤ length (content node)
+  pub same : buffer ≡ take (length buffer) (drop at (content node))
+
+-- no file with so many bytes
+abbrev pub IsShort : Option Node → ℕ → Type 0
+IsShort node end = is_file node ≡ true → length (content node) < end
+
+-- the file has so many bytes
+pub record IsFileOf (node : Option Node) (bytes : ℕ) : Type 0 where
+  pub is_file : is_file node ≡ true
+  pub size : length (content node) ≡ bytes
+
+-- how many faults an outcome was counted for
+abbrev pub counts : Outcome → ℕ
+counts (o.Same same) = 0
+counts (o.Missed dest m.Failed) = 1
+counts (o.Missed dest m.Changed) = 0
+
+-- what reading two files of this size comes to
+abbrev pub Told : Option Node → Option Node → Outcome → Type 0
+Told a b (o.Same same) = same ≡ pointwise nat_eq (content a) (content b)
+Told a b (o.Missed dest m.Failed) = Unit {0}
+Told a b (o.Missed dest m.Changed) = ⊥
+
+-- the same of a piece of so many bytes
+abbrev pub PieceTold : Option Node → Option Node → ℕ → ℕ → Outcome → Type 0
+PieceTold a b at n (o.Same same) = (at + n ≤ length (content a)) × (at + n ≤ length (content b)) × (same ≡ pointwise nat_eq (take n (drop at (content a))) (take n (drop at (content b))))
+PieceTold a b at n (o.Missed dest m.Failed) = Unit {0}
+PieceTold a b at n (o.Missed false m.Changed) = IsShort a (at + n)
+PieceTold a b at n (o.Missed true m.Changed) = IsShort b (at + n)
+
+-- so far the bytes are the same
+abbrev pub goes_on : Outcome → Bool
+goes_on (o.Same same) = same
+goes_on (o.Missed dest why) = false

@@ -1,0 +1,117 @@
+//! Two lists compared.
+ghost use Rattle.std.specs.Prelude.{◌≡◌, ◌<◌, ◌≤◌, length, map, IfOk, OnOk, IfSome, All};
+ghost use Rattle.tree_cmp.specs.Sides.{side, IsSide};
+ghost use Rattle.tree_cmp.specs.Rows.{IsComparison};
+ghost use Rattle.tree_cmp.specs.Readers.{first_told, Alike, StatsTold, NoneFell, RoseTogether};
+ghost use Rattle.tree_cmp.specs.Private.Sharing.{IsIdle, IsSettled, unsettled, blames};
+
+use crate::compared::Compared;
+use crate::drafts::Draft;
+use crate::errors::CmpError;
+use crate::hiring::{desks, dismissed, hired};
+use crate::merging::drafts_of;
+use crate::settling::settle;
+use crate::sharing::{Work, Worker, work_all};
+use flat_list::FlatList;
+use outside::Tree;
+use path_text::{Path, graft_undoes_below};
+use std::alloc::Global;
+use std::thread::Threads;
+
+/// Compares two lists, each of a walk from its top. The files of one size that both sides have are read, the source's first, up to
+/// the first piece that differs; files without bytes are not. `hosts`, 1 to 64, is how many threads read at most, each with a
+/// reader of its own. All readers are there again afterwards, in their order, also where memory was wanting.
+pub fn compare<W: Threads + Sync, R: Tree + Send + Drop>(
+    rt: &W,
+    alloc: Global,
+    left: &FlatList,
+    left_top: &Path,
+    right: &FlatList,
+    right_top: &Path,
+    readers: &mut Vec<R>,
+    hosts: u32,
+) -> Result<Compared, CmpError>
+    requires left { IsSide (side left_top.now left.now) }
+    requires right { IsSide (side right_top.now right.now) }
+    requires some { 0 < length readers.old.items }
+    requires alike { Alike (map R.tree readers.old.items) }
+    requires left_told { IfSome (first_told (map R.tree readers.old.items)) (λ files. StatsTold files left.now) }
+    requires right_told { IfSome (first_told (map R.tree readers.old.items)) (λ files. StatsTold files right.now) }
+    requires hosts { (1 ≤ hosts) × (hosts ≤ 64) }
+    ensures found { IfOk result (IsComparison (first_told (map R.tree readers.old.items)) (side left_top.now left.now) (side right_top.now right.now)) }
+    ensures counted { IfOk result (λ found. RoseTogether (length found.failed) (map R.count readers.old.items) (map R.count readers.new.items)) }
+    ensures none_fell { NoneFell (map R.count readers.old.items) (map R.count readers.new.items) }
+    ensures same { map R.tree readers.new.items ≡ map R.tree readers.old.items }
+{
+    graft_undoes_below();
+    let mut drafts = drafts_of(alloc, left, left_top, right, right_top)?;
+    read_all(rt, alloc, &mut drafts, left_top, right_top, readers, hosts)?;
+    Compared::of(alloc, drafts, left_top, right_top)
+}
+
+// Reads the files of all rows that have some to be read.
+fn read_all<W: Threads + Sync, R: Tree + Send + Drop>(
+    rt: &W,
+    alloc: Global,
+    drafts: &mut Vec<Draft>,
+    left: &Path,
+    right: &Path,
+    readers: &mut Vec<R>,
+    hosts: u32,
+) -> Result<(), CmpError>
+    requires unread { map unsettled drafts.old.items ≡ drafts.old.items }
+    requires some { 0 < length readers.old.items }
+    requires alike { Alike (map R.tree readers.old.items) }
+    requires hosts { 1 ≤ hosts }
+    ensures unsettled { map unsettled drafts.new.items ≡ drafts.old.items }
+    ensures settled { OnOk result (All (IsSettled (first_told (map R.tree readers.old.items)) left.now right.now) drafts.new.items) }
+    ensures counted { RoseTogether (blames drafts.new.items) (map R.count readers.old.items) (map R.count readers.new.items) }
+    ensures none_fell { NoneFell (map R.count readers.old.items) (map R.count readers.new.items) }
+    ensures same { map R.tree readers.new.items ≡ map R.tree readers.old.items }
+{
+    let number = worker_count(hosts, readers.len(), drafts);
+    let desks = desks(alloc, number)?;
+    let mut workers = hired(alloc, readers, desks)?;
+    let settled = read_by(rt, &mut workers, drafts, left, right);
+    dismissed(workers, readers);
+    settled
+}
+
+// Lets workers read the files of all rows, each worker in a thread of its own, and puts what they found beside the rows.
+fn read_by<W: Threads + Sync, R: Tree + Send>(
+    rt: &W,
+    workers: &mut [Worker<R>],
+    drafts: &mut [Draft],
+    left: &Path,
+    right: &Path,
+) -> Result<(), CmpError>
+    requires unread { map unsettled drafts.old ≡ drafts.old }
+    requires some { 0 < length workers.old }
+    requires idle { All (λ w. IsIdle w.desk) workers.old }
+    requires alike { Alike (map (λ w. R.tree w.reader) workers.old) }
+    ensures unsettled { map unsettled drafts.new ≡ drafts.old }
+    ensures settled { OnOk result (All (IsSettled (first_told (map (λ w. R.tree w.reader) workers.old)) left.now right.now) drafts.new) }
+    ensures counted { RoseTogether (blames drafts.new) (map (λ w. R.count w.reader) workers.old) (map (λ w. R.count w.reader) workers.new) }
+    ensures none_fell { NoneFell (map (λ w. R.count w.reader) workers.old) (map (λ w. R.count w.reader) workers.new) }
+    ensures same { map (λ w. R.tree w.reader) workers.new ≡ map (λ w. R.tree w.reader) workers.old }
+{
+    let threads = workers.len();
+    let work = Work {
+        drafts,
+        left,
+        right,
+    };
+    work_all(rt, workers, &work, threads);
+    settle(workers, drafts, left, right)
+}
+
+// How many workers there are use for: no more than threads, than readers, and than rows whose files are to be read.
+fn worker_count(hosts: u32, readers: usize, drafts: &[Draft]) -> usize
+    requires hosts { 1 ≤ hosts }
+    requires readers { 1 ≤ readers }
+    ensures some { 1 ≤ result }
+    ensures enough { result ≤ readers }
+{
+    let unread = drafts.iter().filter(|draft| draft.unread.is_some()).count();
+    readers.min(hosts as usize).min(unread.max(1))
+}

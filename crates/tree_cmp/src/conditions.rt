@@ -1,0 +1,161 @@
+//! Conditions on a row, and the texts that say them.
+ghost use Rattle.std.specs.Prelude.{◌≡◌, ◌+◌, ◌<◌, ◌==◌, ◌^◌, not, length, IfSome};
+ghost use Rattle.std.specs.List.{position};
+ghost use Rattle.tree_cmp.specs.Expressions.{only_src, only_dest, on_both, agrees, differs, value_of, meets, exist_in, two_in, or_bad_state, condition_in, condition_reading};
+
+use crate::errors::ExprError;
+use crate::rows::{Exist, Row, Two};
+
+/// A field of a row that says whether two agree.
+#[derive(Clone, Copy, Debug, Drop, PartialEq, Eq)]
+pub(crate) enum Aspect {
+    Kind,
+    Size,
+    Content,
+}
+
+/// What is asked of a row.
+#[derive(Clone, Copy, Debug, Drop, PartialEq, Eq)]
+pub(crate) enum Condition {
+    /// The path is on the source's side alone.
+    OnlySrc,
+    /// It is on the destination's side alone.
+    OnlyDest,
+    /// It is on one side alone.
+    OnOneSide,
+    /// It is on both.
+    OnBoth,
+    /// The two agree in this.
+    Agree(Aspect),
+    /// They differ in it.
+    Differ(Aspect),
+}
+
+impl Condition {
+    /// Whether a row meets it.
+    pub(crate) fn is_met(self, row: &Row) -> bool
+        ensures { result ≡ meets row.now self }
+    {
+        match self {
+            Condition::OnlySrc => only_src(row.exist),
+            Condition::OnlyDest => only_dest(row.exist),
+            Condition::OnOneSide => !on_both(row.exist),
+            Condition::OnBoth => on_both(row.exist),
+            Condition::Agree(aspect) => agrees(value_of(aspect, row)),
+            Condition::Differ(aspect) => differs(value_of(aspect, row)),
+        }
+    }
+}
+
+fn value_of(aspect: Aspect, row: &Row) -> Two
+    ensures { result ≡ value_of aspect row.now }
+{
+    match aspect {
+        Aspect::Kind => row.kind,
+        Aspect::Size => row.size,
+        Aspect::Content => row.content,
+    }
+}
+
+fn only_src(exist: Exist) -> bool
+    ensures { result ≡ only_src exist }
+{
+    matches!(exist, Exist::OnlySrc)
+}
+
+fn only_dest(exist: Exist) -> bool
+    ensures { result ≡ only_dest exist }
+{
+    matches!(exist, Exist::OnlyDest)
+}
+
+fn on_both(exist: Exist) -> bool
+    ensures { result ≡ on_both exist }
+{
+    matches!(exist, Exist::Common)
+}
+
+fn agrees(two: Two) -> bool
+    ensures { result ≡ agrees two }
+{
+    matches!(two, Two::Common)
+}
+
+fn differs(two: Two) -> bool
+    ensures { result ≡ differs two }
+{
+    matches!(two, Two::Differ)
+}
+
+// The condition that a text says, which stands at this place.
+pub(crate) fn condition_at(at: usize, text: &[u8]) -> Result<Condition, ExprError>
+    requires { at + length text.now < 2 ^ 64 }
+    ensures { result ≡ condition_reading at text.now }
+{
+    let Some(end) = place_of_equals(text) else {
+        return Err(ExprError::BadField(at));
+    };
+    condition_in(at, at + end + 1, &text[..end], &text[end + 1..])
+}
+
+fn place_of_equals(text: &[u8]) -> Option<usize>
+    ensures { result ≡ position (λ b. b == 61) text.now }
+{
+    text.iter().position(|b| *b == b'=')
+}
+
+// The condition of a field and a state, which stand at these places.
+fn condition_in(
+    at: usize,
+    behind: usize,
+    field: &[u8],
+    state: &[u8],
+) -> Result<Condition, ExprError>
+    ensures { result ≡ condition_in at behind field.now state.now }
+{
+    if field == b"EXIST".as_slice() {
+        or_bad_state(behind, exist_in(state))
+    } else if field == b"TYPE".as_slice() {
+        or_bad_state(behind, two_in(Aspect::Kind, state))
+    } else if field == b"SIZE".as_slice() {
+        or_bad_state(behind, two_in(Aspect::Size, state))
+    } else if field == b"CONTENT".as_slice() {
+        or_bad_state(behind, two_in(Aspect::Content, state))
+    } else {
+        Err(ExprError::BadField(at))
+    }
+}
+
+fn or_bad_state(at: usize, condition: Option<Condition>) -> Result<Condition, ExprError>
+    ensures { result ≡ or_bad_state at condition }
+{
+    condition.ok_or(ExprError::BadState(at))
+}
+
+fn exist_in(state: &[u8]) -> Option<Condition>
+    ensures { result ≡ exist_in state.now }
+{
+    if state == b"ONLY_SRC".as_slice() {
+        Some(Condition::OnlySrc)
+    } else if state == b"ONLY_DEST".as_slice() {
+        Some(Condition::OnlyDest)
+    } else if state == b"DIFFER".as_slice() {
+        Some(Condition::OnOneSide)
+    } else if state == b"COMMON".as_slice() {
+        Some(Condition::OnBoth)
+    } else {
+        None
+    }
+}
+
+fn two_in(aspect: Aspect, state: &[u8]) -> Option<Condition>
+    ensures { result ≡ two_in aspect state.now }
+{
+    if state == b"COMMON".as_slice() {
+        Some(Condition::Agree(aspect))
+    } else if state == b"DIFFER".as_slice() {
+        Some(Condition::Differ(aspect))
+    } else {
+        None
+    }
+}
