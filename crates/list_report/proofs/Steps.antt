@@ -9,6 +9,7 @@ use Rattle.run_report.specs.declared.stops.Stop.{Stop}
 use Rattle.run_report.specs.Sides.{Side, side_of}
 use Rattle.run_entries.specs.declared.accounts.Account.{Account}
 use Rattle.run_entries.specs.Entries.{Finds}
+use Rattle.run_entries.specs.Saving.{output_of}
 use Rattle.run_entries.specs.Stopping.{StopsFinding, StopsSaving}
 use Rattle.list_report.specs.Lists.{StopsList}
 use Rattle.list_report.specs.Tests.{made_root, made_side}
@@ -29,8 +30,8 @@ stops_finding asked before after why same stops = ⊎_elim (λ is. inl is) (λ s
 
 pub stops_saving : {chosen : List Entry} {notes : List Note} {account : Account} (asked : ListAsked) (now : ℕ) (before found after : Side) (why : Stop) →
     found.tree ≡ before.tree → Finds asked.common asked.start asked.chosen now before found chosen notes account → found.count ≤ after.count →
-    StopsSaving asked.output found after why → StopsList asked before after why
-stops_saving asked now before found after why same f later stops =
+    StopsSaving (output_of asked.output chosen) found after why → StopsList asked before after why
+stops_saving {chosen = chosen} asked now before found after why same f later stops =
     let finds = finds_before asked now before found same f in
     inr (inr (record {
       looks = finds.looks;
@@ -38,7 +39,10 @@ stops_saving asked now before found after why same f later stops =
       between = found.count;
       survey = finds.survey;
       later = later;
-      stops = subst (λ t. StopsSaving asked.output (side_of t found.count) after why) same stops;
+      now = now;
+      stops =
+          subst (λ es. StopsSaving (output_of asked.output es) (side_of before.tree found.count) after why) finds.chooses
+          (subst (λ t. StopsSaving (output_of asked.output chosen) (side_of t found.count) after why) same stops);
     }))
 
 -- ---- dtest

@@ -1,8 +1,11 @@
 -- When dwalk, dfind and dtest succeed.
-use Rattle.std.proofs.Common.{◌≡◌, inr, ⊎_elim, ℕ, ◌≤◌, [], ◌∷◌, length, Option, Some, refl, ap, arith, ◌∙◌}
+use Rattle.std.proofs.Common.{◌≡◌, inr, ⊎_elim, ℕ, ◌≤◌, true, List, [], ◌∷◌, length, Option, Some, None, IfSome, refl, ap, arith, ◌∙◌}
 use Rattle.std.specs.List.{All}
 use Rattle.std.proofs.lemmas.List.Elements.{All-from_recursion}
 use Rattle.outside.specs.Count.{StoodStill}
+use Rattle.outside.specs.Tree.{Files}
+use Rattle.outside.specs.Whole.{can_save}
+use Rattle.flat_list.specs.declared.entries.Entry.{Entry}
 use Rattle.test_tree.specs.Nodes.{test_files}
 use Rattle.tool_words.specs.Limits.{Valid, WithinList}
 use Rattle.tool_words.specs.Asked.{roots, Choice, ListAsked}
@@ -10,6 +13,9 @@ use Rattle.run_report.specs.declared.reports.Report.{Report}
 use Rattle.run_report.specs.declared.stops.Stop.{Stop}
 use Rattle.run_report.specs.declared.stops.Stop.TheVariants as stop
 use Rattle.run_report.specs.Sides.{Side, side_of}
+use Rattle.run_entries.specs.declared.saving.Output.{Output}
+use Rattle.run_entries.specs.Choosing.{tests_in, chosen_of}
+use Rattle.run_entries.specs.Saving.{output_of}
 use Rattle.run_entries.specs.Stopping.{StopsFinding}
 use Rattle.run_entries.specs.Fine.{IsFineSide, FineFindsNameNothing, FineFindsStopForMemory, FinePlacesStopForMemory}
 use Rattle.list_report.specs.Laws.{FineListSucceeds, FineTestSucceeds, MadeWalkIsFine}
@@ -39,6 +45,13 @@ list_names_nothing law asked now before after within fine report r =
     } in
     r.counts ∙ ap length (law asked.common asked.start asked.chosen now before found r.chosen r.notes r.account within.start side fine.there r.finds)
 
+-- the output has a place, where there is one
+has_place : (files : Files) (output : Option (List ℕ)) (entries : List Entry) → IfSome output (λ path. can_save files path ≡ true) →
+    All (λ o. can_save files o.path ≡ true) (output_of output entries)
+has_place files None entries can = All-from_recursion (λ (o : Output). can_save files o.path ≡ true) [] tt
+has_place files (Some path) entries can =
+    All-from_recursion (λ (o : Output). can_save files o.path ≡ true) (output_of (Some path) entries) (can, tt)
+
 list_stops_for_memory : FineFindsStopForMemory → FinePlacesStopForMemory → (asked : ListAsked) (before after : Side) → WithinList asked →
     FineList asked before after →
     (why : Stop) → StopsList asked before after why → why ≡ stop.OutOfMemory
@@ -48,7 +61,8 @@ list_stops_for_memory finds places asked before after within fine why stops =
     (λ s.
     let survey = s.survey in
     let more : before.count ≤ s.between = omega (arith, survey.looked.counted.kept, survey.later) in
-    places asked.output fine.side.files (side_of before.tree s.between) after why fine.side.told fine.place
+    places (output_of asked.output (chosen_of (tests_in asked.chosen) s.looks s.now s.entries)) fine.side.files (side_of before.tree s.between) after why fine.side.told
+    (has_place fine.side.files asked.output _ fine.place)
     (stood_after before.count s.between after.count more s.later fine.side.stood) s.stops))
     stops
 

@@ -1,6 +1,6 @@
 -- What dwalk and dfind do: what they report, why they stop, what they may have changed, and when nothing stands against them. The tools are mpiFileUtils'; the texts and statuses are our own.
 use Rattle.std.specs.Prelude.{◌≡◌, ◌⊎◌, ℕ, ◌≤◌, ◌++◌, List, length, Option, IfSome, true}
-use Rattle.std.specs.Option.{option_map}
+use Rattle.std.specs.Option.{option_map, option_to_list}
 use Rattle.outside.specs.Tree.{Files}
 use Rattle.outside.specs.Whole.{can_save}
 use Rattle.flat_list.specs.declared.entries.Entry.{Entry}
@@ -14,7 +14,7 @@ use Rattle.run_report.specs.declared.stops.Stop.TheVariants as stop
 use Rattle.run_report.specs.Sides.{Side, side_of}
 use Rattle.run_entries.specs.declared.accounts.Account.{Account}
 use Rattle.run_entries.specs.Entries.{Finds, InOrder, notes_text}
-use Rattle.run_entries.specs.Saving.{Saved, SameButOutput}
+use Rattle.run_entries.specs.Saving.{Saved, output_of, SameButOutputs}
 use Rattle.run_entries.specs.Stopping.{StopsAfterLooks, StopsAfterListing}
 use Rattle.run_entries.specs.Fine.{IsFineSide, AreThere}
 use Rattle.list_report.specs.declared.lists.ListTask.{ListTask}
@@ -36,7 +36,7 @@ pub record ReportsList (asked : ListAsked) (now : ℕ) (before after : Side) (re
   pub finds : Finds asked.common asked.start asked.chosen now before (side_of before.tree found) chosen notes account
   -- it saves after it has found
   pub later : found ≤ after.count
-  pub saved : Saved asked.output chosen before.tree after.tree
+  pub saved : Saved (output_of asked.output chosen) before.tree after.tree
   pub printed : List Entry
   pub order : InOrder asked.sort chosen printed
   pub prints : report.out ≡ lines_of printed ++ summary_text chosen (length notes)
@@ -51,7 +51,7 @@ StopsList asked before after why =
 
 -- what it may have changed: the file that is to be written, and nothing else
 abbrev pub LeavesList : ListAsked → Option Files → Option Files → Type 0
-LeavesList asked old new = SameButOutput asked.output old new
+LeavesList asked old new = SameButOutputs (option_to_list asked.output) old new
 
 -- when nothing stands against it: the side is fine, something is at each path that is looked at, and there is a place for the list that is to be written
 pub record FineList (asked : ListAsked) (before after : Side) : Type 0 where

@@ -2,37 +2,43 @@
 use Rattle.std.specs.Prelude.{ℕ, Bool, true, false, Option}
 use Rattle.outside.specs.Tree.{Files}
 use Rattle.tool_words.specs.Limits.{Within}
-use Rattle.tool_words.specs.Asked.{Asked, list, test}
+use Rattle.tool_words.specs.Asked.{Asked, list, compare, test}
 use Rattle.run_report.specs.declared.reports.Report.{Report}
 use Rattle.run_report.specs.declared.stops.Stop.{Stop}
 use Rattle.run_report.specs.Sides.{Side}
 use Rattle.run_report.specs.Stops.{Succeeds}
+use Rattle.compare_report.specs.Comparing.{ReportsCompare, StopsCompare, LeavesCompare, FineCompare}
 use Rattle.list_report.specs.Lists.{ReportsList, StopsList, LeavesList, FineList}
 use Rattle.list_report.specs.Tests.{ReportsTest, StopsTest, LeavesTest, FineTest}
 
 -- what it reports that ends with status 0, 1 or 4, of the side before and the side after it
 abbrev pub Reports : Asked → ℕ → Side → Side → Report → Type 0
 Reports (list asked) now before after report = ReportsList asked now before after report
+Reports (compare asked) now before after report = ReportsCompare asked before after report
 Reports (test asked) now before after report = ReportsTest asked now report
 
 -- why it stops before it prints a report
 abbrev pub Stops : Asked → Side → Side → Stop → Type 0
 Stops (list asked) before after why = StopsList asked before after why
+Stops (compare asked) before after why = StopsCompare asked before after why
 Stops (test asked) before after why = StopsTest why
 
 -- which paths of the files it may have changed
 abbrev pub Leaves : Asked → Option Files → Option Files → Type 0
 Leaves (list asked) old new = LeavesList asked old new
+Leaves (compare asked) old new = LeavesCompare asked old new
 Leaves (test asked) old new = LeavesTest old new
 
 -- whether it has nothing to do with the files that it is given
 abbrev pub is_apart : Asked → Bool
 is_apart (list asked) = false
+is_apart (compare asked) = false
 is_apart (test asked) = true
 
 -- when nothing stands against it
 abbrev pub Fine : Asked → Side → Side → Type 0
 Fine (list asked) before after = FineList asked before after
+Fine (compare asked) before after = FineCompare asked before after
 Fine (test asked) before after = FineTest asked
 
 -- where nothing stands against it, it names nothing, and stops for want of memory alone

@@ -1,6 +1,7 @@
 //! Laws, each the contract of a function that does nothing.
 ghost use Rattle.mfu_top.specs.Run.{FineRunsSucceed};
 
+use compare_report::fine_compare_succeeds;
 use list_report::{fine_list_succeeds, fine_test_succeeds};
 
 /// Where nothing stands against a run, it names nothing, and stops for want of memory alone.
@@ -8,5 +9,6 @@ pub fn fine_runs_succeed()
     ensures { FineRunsSucceed }
 {
     fine_list_succeeds();
+    fine_compare_succeeds();
     fine_test_succeeds();
 }

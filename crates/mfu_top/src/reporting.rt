@@ -7,6 +7,7 @@ ghost use Rattle.tool_words.specs.Limits.{Within};
 ghost use Rattle.run_report.specs.Sides.{side_of};
 ghost use Rattle.mfu_top.specs.Run.{Reports, Stops, Leaves, is_apart};
 
+use compare_report::{CompareTask, report_of_compare};
 use list_report::{ListTask, TestTask, report_of_list, report_of_test};
 use outside::Ground;
 use run_report::{Report, Stop};
@@ -67,6 +68,20 @@ where
                 output,
             };
             report_of_list(rt, alloc, task, files, now)
+        }
+        Command::Cmp {
+            common,
+            left,
+            right,
+            wants,
+        } => {
+            let task = CompareTask {
+                common,
+                left,
+                right,
+                wants,
+            };
+            report_of_compare(rt, alloc, task, files)
         }
         Command::Test {
             common,

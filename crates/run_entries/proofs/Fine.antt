@@ -1,11 +1,17 @@
 -- What is fine names nothing, and stops nothing but for want of memory.
-use Rattle.std.proofs.Common.{◌≡◌, ℕ, ◌<◌, ◌≤◌, true, false, List, [], ◌∷◌, ◌++◌, map, length, Option, Some, IfSome, refl, sym, ap, subst, arith, ◌∙◌, ⊎_elim}
-use Rattle.std.specs.Option.{is_some}
+use Rattle.std.proofs.Common.{◌≡◌, ℕ, ◌<◌, ◌≤◌, Bool, true, false, not, ◌&&◌, ◌||◌, cond, List, [], ◌∷◌, ◌++◌, map, length, Option, Some, None, IfSome, refl, sym, ap, subst, arith, ◌∙◌, ⊎_elim}
+use Rattle.std.specs.Option.{is_some, is_none}
 use Rattle.std.specs.List.{All, AllByRecursion, sum_by, flat_map}
-use Rattle.std.specs.FinMap.{get}
+use Rattle.std.specs.Cmp.Lexicographic.{bytes_decides}
+use Rattle.std.specs.FinMap.{get, insert, get-insert}
+use Rattle.std.specs.Ordering.{eq_by_cmp}
 use Rattle.std.proofs.lemmas.Bool.{false≢true}
 use Rattle.std.proofs.lemmas.List.Elements.{recursion_from_All, All-from_recursion}
-use Rattle.outside.specs.Tree.{Files, IsTree, is_file}
+use Rattle.path_text.specs.Order.{path_cmp}
+use Rattle.path_text.specs.Path.{parent_of}
+use Rattle.path_text.specs.Total.{path_cmp_total, path_cmp_ties}
+use Rattle.outside.specs.Tree.{Files, Node, Body, dir, file, link, other, IsTree, is_root, is_dir, is_file, is_dir_body, is_file_body}
+use Rattle.outside.specs.Writes.{new_file}
 use Rattle.outside.specs.Count.{RoseBy, StoodStill}
 use Rattle.outside.specs.Whole.{HoldsFile, can_save}
 use Rattle.flat_list.specs.declared.entries.Entry.{Entry}
@@ -26,10 +32,13 @@ use Rattle.run_report.specs.declared.stops.Trouble.TheVariants as trouble
 use Rattle.run_report.specs.declared.stops.Stop.{Stop}
 use Rattle.run_report.specs.declared.stops.Stop.TheVariants as stop
 use Rattle.run_report.specs.Sides.{Side, side_of}
-use Rattle.run_entries.specs.Choosing.{newer_in, look_whys, look_notes}
+use Rattle.run_entries.specs.declared.saving.Output.{Output}
+use Rattle.run_entries.specs.Choosing.{newer_in}
+use Rattle.run_entries.specs.Naming.{look_whys, look_notes, on_side, listing_notes}
+use Rattle.run_entries.specs.Saving.{Saved}
 use Rattle.run_entries.specs.Entries.{Walked, Listed}
-use Rattle.run_entries.specs.Stopping.{IsTooMuch, IsDamagedList, IsAbsent, StopsListing, HasNoPlace}
-use Rattle.run_entries.specs.Fine.{IsFineWalk, IsFineList, IsFineStart, FineFindsNameNothing, FineFindsStopForMemory, FinePlacesStopForMemory}
+use Rattle.run_entries.specs.Stopping.{IsTooMuch, IsDamagedList, IsAbsent, StopsListing, StopsAt}
+use Rattle.run_entries.specs.Fine.{IsFineWalk, IsFineList, IsFineStart, FineFindsNameNothing, FineFindsStopForMemory, FineWalksNameNothing, FineWalksStopForMemory, FinePlacesStopForMemory}
 
 -- ---- counts
 
@@ -69,6 +78,9 @@ no_notes : (entries : List Entry) → AllByRecursion IsFine entries → notes_of
 no_notes [] h = refl
 no_notes (e ∷ entries) h = (λ i. map (λ w. record { path = e.path; why = w; dest = false }) (no_whys e h.0 i) ++ no_notes entries h.1 i)
 
+no_listing_notes : (dest : Bool) (entries : List Entry) → AllByRecursion IsFine entries → listing_notes (record { entries = entries; dest = dest }) ≡ []
+no_listing_notes dest entries h = ap (map (on_side dest)) (no_notes entries h)
+
 -- ---- a walk
 
 -- the laws that this rests on
@@ -89,7 +101,7 @@ fine files (start ∷ starts) entries law valid there told zero = law files (sta
 -- what was walked of starts that are there, over files that counted nothing
 pub record IsWhole (files : Files) (starts : List (List ℕ)) (entries : List Entry) : Type 0 where
   pub same : entries ≡ flat_map (walk files all_told) starts
-  pub unnamed : All (λ e. e.far ≡ 0) (flat_map (walk files all_told) starts) → notes_of entries ≡ []
+  pub unnamed : (dest : Bool) → All (λ e. e.far ≡ 0) (flat_map (walk files all_told) starts) → listing_notes (record { entries = entries; dest = dest }) ≡ []
 
 whole : (given : List (List ℕ)) (files : Files) (entries : List Entry) (before after : Side) → Laws → All Valid given → before.tree ≡ Some files →
     (w : Walked given entries before after) (f : IsFineWalk files given) → StoodStill before.count after.count → IsWhole files f.roots entries
@@ -106,8 +118,8 @@ whole given files entries before after laws valid told w f stood =
     in
     record {
       same = all.0;
-      unnamed = λ near.
-          no_notes entries
+      unnamed = λ dest near.
+          no_listing_notes dest entries
           (both entries (recursion_from_All IsAnswered entries all.1)
           (recursion_from_All (λ e. e.far ≡ 0) entries (subst (λ es. All (λ e. e.far ≡ 0) es) (sym all.0) near)));
     }
@@ -122,13 +134,14 @@ spelled files path bytes holds f = subst (λ b. Spells b f.entries) (f.holds.sam
 
 nothing_named : (start : Origin) (files : Files) (entries : List Entry) (before after : Side) → Laws → SpellsOne → All Valid (paths_in start) →
     before.tree ≡ Some files →
-    Listed start entries before after → IsFineStart files start → StoodStill before.count after.count → notes_of entries ≡ []
+    Listed start entries before after → IsFineStart files start → StoodStill before.count after.count →
+    listing_notes (record { entries = entries; dest = false }) ≡ []
 nothing_named (roots given) files entries before after laws one valid told w f stood =
-    (whole given files entries before after laws valid told w f stood).unnamed f.near
+    (whole given files entries before after laws valid told w f stood).unnamed false f.near
 nothing_named (input path) files entries before after laws one valid told r f stood =
     let read = of_told (λ files. (bytes : List ℕ) × HoldsFile bytes (get files path) × Spells bytes entries) before.tree files told r.told in
     let same : f.entries ≡ entries = one.one_list read.0 f.entries entries (spelled files path read.0 read.1 f) read.2 in
-    no_notes entries (recursion_from_All IsFine entries (subst (λ es. All IsFine es) same f.fine))
+    no_listing_notes false entries (recursion_from_All IsFine entries (subst (λ es. All IsFine es) same f.fine))
 
 -- looks that told a time name nothing
 look_named : (seen : Seen) → is_at seen ≡ true → look_whys seen ≡ []
@@ -150,7 +163,7 @@ names_nothing laws one told order common start choice now before after chosen no
     let entries =
     nothing_named start f.files finds.entries (side_of before.tree survey.between) after laws one valid f.told survey.listed f.fine stood.second
     in
-    order.none notes (subst (λ given. AreInOrder given notes) (λ i. looks i ++ entries i) finds.names)
+    order.none notes (subst (λ given. AreInOrder given notes) (λ i. looks i ++ (entries i ++ [])) finds.names)
 
 -- ---- what is fine does not stop a run
 
@@ -198,21 +211,114 @@ stops_for_memory laws exact start choice before after reason valid f stops =
     for_memory start f.files (side_of before.tree s.between) after reason laws exact valid f.told f.fine stood.second s.stops)
     stops
 
--- ---- a list that is saved
+-- ---- a walk by itself
 
-no_place : (output : Option (List ℕ)) (files : Files) (before : Side) (path : List ℕ) → before.tree ≡ Some files → HasNoPlace output before path →
-    IfSome output (λ path. can_save files path ≡ true) → ⊥
-no_place output files before path told none can =
-    let here : can_save files path ≡ true = subst (λ o. IfSome o (λ path. can_save files path ≡ true)) none.named can in
-    let not_here = of_told (λ files. can_save files path ≡ false) before.tree files told none.told in
-    false≢true (sym not_here ∙ here)
+pub walks_name_nothing : Laws → FineWalksNameNothing
+walks_name_nothing laws given entries dest before after valid f w =
+    (whole given f.files entries before after laws valid f.told w f.fine f.stood).unnamed dest f.fine.near
+
+pub walks_stop_for_memory : Laws → RefusesExactly → FineWalksStopForMemory
+walks_stop_for_memory laws exact given before after reason valid f stops =
+    for_memory (roots given) f.files before after reason laws exact valid f.told f.fine f.stood stops
+
+-- ---- outputs that are saved
+
+abbrev is_free : Option Node → Bool
+is_free node = is_none node || is_file node
+
+no_dir_body : (b : Body) → is_dir_body b ≡ true → is_file_body b ≡ true → ⊥
+no_dir_body (dir far) d f = false≢true f
+no_dir_body (file bytes) d f = false≢true d
+no_dir_body link d f = false≢true d
+no_dir_body other d f = false≢true d
+
+no_dir : (node : Option Node) → is_dir node ≡ true → is_free node ≡ true → ⊥
+no_dir None d f = false≢true d
+no_dir (Some node) d f = no_dir_body node.body d f
+
+dir_stays : (b : Bool) (here : Option Node) (bytes : List ℕ) → (b ≡ true → ⊥) → is_dir here ≡ true → is_dir (cond b (Some (new_file bytes)) here) ≡ true
+dir_stays true here bytes off h = absurd (off refl)
+dir_stays false here bytes off h = h
+
+free_stays : (b : Bool) (here : Option Node) (bytes : List ℕ) → is_free here ≡ true → is_free (cond b (Some (new_file bytes)) here) ≡ true
+free_stays true here bytes h = refl
+free_stays false here bytes h = h
+
+all_of : (a b c : Bool) → (a && (b && c)) ≡ true → (a ≡ true) × (b ≡ true) × (c ≡ true)
+all_of true true true e = (refl, refl, refl)
+all_of true true false e = absurd (false≢true e)
+all_of true false c e = absurd (false≢true e)
+all_of false b c e = absurd (false≢true e)
+
+-- what is saved somewhere takes no place away
+place_stays : (files : Files) (p bytes q : List ℕ) → can_save files p ≡ true → can_save files q ≡ true → can_save (insert files p (new_file bytes)) q ≡ true
+place_stays files p bytes q can_p can_q =
+    let over = parent_of q in
+    let of_p = all_of (not (is_root p)) (is_dir (get files (parent_of p))) (is_free (get files p)) can_p in
+    let of_q = all_of (not (is_root q)) (is_dir (get files over)) (is_free (get files q)) can_q in
+    let at : (x : List ℕ) → get (insert files p (new_file bytes)) x ≡ cond (eq_by_cmp path_cmp x p) (Some (new_file bytes)) (get files x) =
+    λ x. get-insert path_cmp_total files p (new_file bytes) x
+    in
+    let apart : eq_by_cmp path_cmp over p ≡ true → ⊥ =
+    λ tied. no_dir (get files p) (ap (λ x. is_dir (get files x)) (sym ((bytes_decides over p).0 (path_cmp_ties over p ∙ tied))) ∙ of_q.1) of_p.2
+    in
+    let dir : is_dir (get (insert files p (new_file bytes)) over) ≡ true = ap is_dir (at over) ∙ dir_stays _ (get files over) bytes apart of_q.1 in
+    let free : is_free (get (insert files p (new_file bytes)) q) ≡ true = ap is_free (at q) ∙ free_stays _ (get files q) bytes of_q.2 in
+    λ i. of_q.0 i && (dir i && free i)
+
+-- so after outputs with a place are saved, each path that had one has one
+place_after : (earlier : List Output) (old new : Option Files) (files : Files) (path : List ℕ) → old ≡ Some files → Saved earlier old new →
+    AllByRecursion (λ output. can_save files output.path ≡ true) earlier → can_save files path ≡ true → IfSome new (λ now. can_save now path ≡ true)
+place_after [] old new files path told same can here = subst (λ t. IfSome t (λ now. can_save now path ≡ true)) (sym (same ∙ told)) here
+place_after (output ∷ earlier) old new files path told saved can here =
+    let at = of_told (λ files. (bytes : List ℕ) × Spells bytes output.list × (can_save files output.path ≡ true) × (saved.0 ≡ Some (insert files output.path (new_file bytes)))) old files told saved.1.1 in
+    place_after earlier saved.0 new (insert files output.path (new_file at.0)) path at.3 saved.2
+    (places_stay files output.path at.0 at.2 earlier can.1) (place_stays files output.path at.0 path at.2 here)
+  where
+    places_stay : (files : Files) (p bytes : List ℕ) → can_save files p ≡ true → (outputs : List Output) →
+        AllByRecursion (λ output. can_save files output.path ≡ true) outputs →
+        AllByRecursion (λ output. can_save (insert files p (new_file bytes)) output.path ≡ true) outputs
+    places_stay files p bytes can [] h = tt
+    places_stay files p bytes can (output ∷ outputs) h = (place_stays files p bytes output.path can h.0, places_stay files p bytes can outputs h.1)
+
+-- each of some outputs that stand one after the other
+parts_of : (P : Output → Type 0) (earlier : List Output) (first : Output) (later : List Output) → AllByRecursion P (earlier ++ first ∷ later) →
+    AllByRecursion P earlier × P first
+parts_of P [] first later h = (tt, h.0)
+parts_of P (output ∷ earlier) first later h = let rest = parts_of P earlier first later h.1 in ((h.0, rest.0), rest.1)
+
+no_place : (tree : Option Files) (path : List ℕ) → (files : Files) → tree ≡ Some files → IfSome tree (λ files. can_save files path ≡ true) →
+    IfSome tree (λ files. can_save files path ≡ false) → ⊥
+no_place tree path files told can cannot =
+    false≢true (sym (of_told (λ files. can_save files path ≡ false) tree files told cannot) ∙ of_told (λ files. can_save files path ≡ true) tree files told can)
+
+-- the tree is told still
+still_told : (earlier : List Output) (old new : Option Files) → Saved earlier old new → is_some new ≡ is_some old
+still_told [] old new same = ap is_some same
+still_told (output ∷ earlier) old new saved = still_told earlier saved.0 new saved.2 ∙ saved.1.0
+
+tree_of : (tree : Option Files) → is_some tree ≡ true → (files : Files) × (tree ≡ Some files)
+tree_of None e = absurd (false≢true e)
+tree_of (Some files) e = (files, refl)
+
+at_for_memory : (output : Output) (between after : Side) (why : Stop) → is_some between.tree ≡ true → IfSome between.tree (λ files. can_save files output.path ≡ true) →
+    StoodStill between.count after.count → StopsAt output between after why → why ≡ stop.OutOfMemory
+at_for_memory output between after stop.OutOfMemory told can stood stops = refl
+at_for_memory output between after stop.TooMany told can stood stops = absurd stops
+at_for_memory output between after (stop.Damaged path line) told can stood stops = absurd stops
+at_for_memory output between after (stop.ListFile trouble.Absent path) told can stood stops = absurd stops
+at_for_memory output between after (stop.ListFile trouble.NoPlace path) told can stood stops =
+    let tree = tree_of between.tree told in absurd (no_place between.tree output.path tree.0 tree.1 can stops.told)
+at_for_memory output between after (stop.ListFile trouble.Fault path) told can stood stops =
+    absurd (no_fault between.count after.count stops.counted stood)
 
 pub places_for_memory : FinePlacesStopForMemory
-places_for_memory output files before after stop.OutOfMemory told can stood stops = refl
-places_for_memory output files before after stop.TooMany told can stood stops = absurd stops
-places_for_memory output files before after (stop.Damaged path line) told can stood stops = absurd stops
-places_for_memory output files before after (stop.ListFile trouble.Absent path) told can stood stops = absurd stops
-places_for_memory output files before after (stop.ListFile trouble.NoPlace path) told can stood stops =
-    absurd (no_place output files before path told stops can)
-places_for_memory output files before after (stop.ListFile trouble.Fault path) told can stood stops =
-    absurd (no_fault before.count after.count stops.counted stood)
+places_for_memory outputs files before after why told can stood s =
+    let all = subst (λ os. AllByRecursion (λ output. can_save files output.path ≡ true) os) s.are (recursion_from_All (λ output. can_save files output.path ≡ true) outputs can) in
+    let parts = parts_of (λ output. can_save files output.path ≡ true) s.earlier s.first s.later all in
+    let still : is_some s.between.tree ≡ true = still_told s.earlier before.tree s.between.tree s.saved ∙ ap is_some told in
+    let here = place_after s.earlier before.tree s.between.tree files s.first.path told s.saved parts.0 parts.1 in
+    let after_stood : StoodStill s.between.count after.count =
+    record { same = omega (arith, s.kept, s.still, stood.same); below_end = stood.below_end }
+    in
+    at_for_memory s.first s.between after why still here after_stood s.stops

@@ -1,13 +1,15 @@
 -- What is told of a walk, from its roots on.
-use Rattle.std.proofs.Common.{ℕ, List, Option, Some, None, IfSome, ◌≡◌}
-use Rattle.std.specs.Prelude.{Result, Ok, Err, IfOk}
+use Rattle.std.proofs.Common.{ℕ, List, Option, Some, None, IfSome, ◌≡◌, Bool, true, false, ◌&&◌, refl, arith}
+use Rattle.std.specs.Prelude.{Result, Ok, Err, IfOk, ◌||◌, ◌==◌}
 use Rattle.std.specs.List.{flat_map}
 use Rattle.std.specs.List.Sorted.{IsStrictlySortedBy}
 use Rattle.std.proofs.lemmas.List.Sorted.{IsPermutation-refl}
+use Rattle.std.proofs.lemmas.Bool.Decides.{nat_tests}
 use Rattle.path_text.specs.Order.{path_cmp}
 use Rattle.outside.specs.Tree.{Files}
 use Rattle.flat_list.specs.declared.entries.Entry.{Entry}
 use Rattle.tool_words.specs.declared.commands.Common.{Common}
+use Rattle.tool_words.specs.Limits.{CommonWithin}
 use Rattle.tree_walk.specs.declared.errors.WalkError.{WalkError}
 use Rattle.tree_walk.specs.Walk.{walk, answers_in}
 use Rattle.tree_walk.specs.Roots.{IsRoots}
@@ -15,7 +17,7 @@ use Rattle.tree_walk.specs.Found.{IsFound, IsWalkOf}
 use Rattle.run_report.specs.Sides.{Side}
 use Rattle.run_entries.specs.declared.accounts.Entries.{Entries}
 use Rattle.run_entries.specs.Entries.{Walked}
-use Rattle.run_entries.specs.Tells.{IsAccount}
+use Rattle.run_entries.specs.Tells.{keeps_events, IsAccount}
 
 -- starts that stand in path order are walked one after the other
 in_order : (tree : Option Files) (starts : List (List ℕ)) (entries : List Entry) → IsStrictlySortedBy path_cmp starts →
@@ -35,6 +37,15 @@ walked_from before after given starts entries are is = record {
   within = is.within;
   counted = is.counted;
 }
+
+-- events are kept on one host alone
+one_host : (trace shares : Bool) (hosts : ℕ) → (trace ≡ true → hosts ≡ 1) → (trace || (shares && hosts == 1)) ≡ true → hosts ≡ 1
+one_host true shares hosts one e = one refl
+one_host false true hosts one e = grind (arith, nat_tests)
+one_host false false hosts one e = cc
+
+pub kept_on_one_host : (common : Common) → CommonWithin common → keeps_events common ≡ true → common.hosts ≡ 1
+kept_on_one_host common within e = one_host common.trace common.shares common.hosts within.trace e
 
 -- a walk of the roots is one of the given paths
 pub told : (common : Common) (before after : Side) (given starts : List (List ℕ)) (r : Result Entries WalkError) → IsRoots given starts →

@@ -1,4 +1,4 @@
--- What is chosen of a list, and what is named beside it. After the tests of find and of mpiFileUtils' dfind.
+-- What is chosen of a list. After the tests of find and of mpiFileUtils' dfind.
 use Rattle.std.specs.Prelude.{ℕ, false, List, [], ◌∷◌, ◌++◌, map, filter, Option, Some, None}
 use Rattle.std.specs.List.{flat_map}
 use Rattle.flat_list.specs.declared.entries.Entry.{Entry}
@@ -34,16 +34,3 @@ newer_than seen.Failed = test.Newer None
 abbrev pub chosen_of : Option (List Test) → List Look → ℕ → List Entry → List Entry
 chosen_of None looks now entries = entries
 chosen_of (Some tests) looks now entries = filter (is_selected (tests ++ map (λ l. newer_than l.seen) looks) now) entries
-
--- why a path is named that was looked at
-abbrev pub look_whys : Seen → List Why
-look_whys (seen.At mtime) = []
-look_whys seen.Absent = why.Gone ∷ []
-look_whys seen.Failed = why.FailedNewer ∷ []
-
-abbrev pub look_notes : Look → List Note
-look_notes look = map (λ w. record { path = look.path; why = w; dest = false }) (look_whys look.seen)
-
--- all that is to be named: of the looks, and of the entries, chosen or not
-abbrev pub failures_of : List Look → List Entry → List Note
-failures_of looks entries = flat_map look_notes looks ++ notes_of entries

@@ -22,7 +22,8 @@ use Rattle.tree_walk.specs.Walk.{walk, answers_in, weight_of, paths_of}
 use Rattle.tree_walk.specs.Roots.{IsRoots, is_in_some}
 use Rattle.run_report.specs.Sides.{Side, side_of}
 use Rattle.run_entries.specs.declared.accounts.Account.{Account}
-use Rattle.run_entries.specs.Choosing.{newer_in, tests_in, chosen_of, failures_of}
+use Rattle.run_entries.specs.Choosing.{newer_in, tests_in, chosen_of}
+use Rattle.run_entries.specs.Naming.{failures_in}
 use Rattle.run_entries.specs.Tells.{IsAccount, told_text}
 
 -- the entries are a walk of the roots of the given paths
@@ -72,7 +73,7 @@ pub record Finds (common : Common) (start : Origin) (choice : Option Choice) (no
   pub tells : Tells common start entries (side_of before.tree survey.between) after survey.listed account
   -- it chooses by the tests, and names what failed
   pub chooses : chosen ≡ chosen_of (tests_in choice) looks now entries
-  pub names : AreInOrder (failures_of looks entries) notes
+  pub names : AreInOrder (failures_in looks entries) notes
 
 -- the entries as they are printed: in path order, or in the order that is asked for
 abbrev pub InOrder : Option (Field × Bool) → List Entry → List Entry → Type 0

@@ -1,5 +1,5 @@
 -- When nothing stands against finding and saving entries. Our own.
-use Rattle.std.specs.Prelude.{◌≡◌, ℕ, ◌≤◌, List, [], length, Option, Some, IfSome, All, true, is_some}
+use Rattle.std.specs.Prelude.{◌≡◌, ℕ, ◌≤◌, List, [], length, Option, Some, All, true, Bool, is_some}
 use Rattle.std.specs.FinMap.{get}
 use Rattle.std.specs.List.{flat_map}
 use Rattle.outside.specs.Tree.{Files}
@@ -18,9 +18,11 @@ use Rattle.run_report.specs.declared.stops.Stop.{Stop}
 use Rattle.run_report.specs.declared.stops.Stop.TheVariants as stop
 use Rattle.run_report.specs.Sides.{Side}
 use Rattle.run_entries.specs.declared.accounts.Account.{Account}
+use Rattle.run_entries.specs.declared.saving.Output.{Output}
 use Rattle.run_entries.specs.Choosing.{newer_in}
-use Rattle.run_entries.specs.Entries.{Finds}
-use Rattle.run_entries.specs.Stopping.{StopsFinding, StopsSaving}
+use Rattle.run_entries.specs.Naming.{listing_notes}
+use Rattle.run_entries.specs.Entries.{Walked, Finds}
+use Rattle.run_entries.specs.Stopping.{StopsListing, StopsFinding, StopsSaving}
 
 -- nothing is left to name in a walk: every root is there, no directory below has a child whose path is too long, and the walk is no longer than a list may be
 pub record IsFineWalk (files : Files) (given : List (List ℕ)) : Type 0 where
@@ -67,8 +69,19 @@ abbrev pub FineFindsStopForMemory : Type 0
 FineFindsStopForMemory =
     (start : Origin) (choice : Option Choice) (before after : Side) (why : Stop) → All Valid (paths_in start) → IsFineSide start before after → StopsFinding start choice before after why → why ≡ stop.OutOfMemory
 
--- and one that saves them where they have a place, and no fault is counted
+-- what is walked by itself in a fine side names nothing, whichever side it is
+abbrev pub FineWalksNameNothing : Type 0
+FineWalksNameNothing =
+    (given : List (List ℕ)) (entries : List Entry) (dest : Bool) (before after : Side) → All Valid given → IsFineSide (roots given) before after →
+    Walked given entries before after → listing_notes (record { entries = entries; dest = dest }) ≡ []
+
+-- and only want of memory stops such a walk
+abbrev pub FineWalksStopForMemory : Type 0
+FineWalksStopForMemory =
+    (given : List (List ℕ)) (before after : Side) (why : Stop) → All Valid given → IsFineSide (roots given) before after → StopsListing (roots given) before after why → why ≡ stop.OutOfMemory
+
+-- only want of memory stops a run that saves outputs, where each has a place before and no fault is counted: what is saved takes no place away
 abbrev pub FinePlacesStopForMemory : Type 0
 FinePlacesStopForMemory =
-    (output : Option (List ℕ)) (files : Files) (before after : Side) (why : Stop) → before.tree ≡ Some files → IfSome output (λ path. can_save files path ≡ true) →
-    StoodStill before.count after.count → StopsSaving output before after why → why ≡ stop.OutOfMemory
+    (outputs : List Output) (files : Files) (before after : Side) (why : Stop) → before.tree ≡ Some files → All (λ output. can_save files output.path ≡ true) outputs →
+    StoodStill before.count after.count → StopsSaving outputs before after why → why ≡ stop.OutOfMemory

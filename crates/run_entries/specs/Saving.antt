@@ -1,24 +1,36 @@
--- A list that is saved as a file. Our own.
-use Rattle.std.specs.Prelude.{◌≡◌, ℕ, List, Option, Some, None, is_some, IfSome, true}
-use Rattle.std.specs.FinMap.{insert}
+-- Lists that are saved as files. Our own.
+use Rattle.std.specs.Prelude.{◌≡◌, ℕ, List, [], ◌∷◌, Option, Some, None, is_some, IfSome, true, false, nat_eq}
+use Rattle.std.specs.Cmp.Lexicographic.{pointwise}
+use Rattle.std.specs.FinMap.{get, insert}
+use Rattle.std.specs.List.{list_any}
 use Rattle.outside.specs.Tree.{Files}
-use Rattle.outside.specs.Writes.{new_file, SameBut}
+use Rattle.outside.specs.Writes.{new_file}
 use Rattle.outside.specs.Whole.{can_save}
 use Rattle.flat_list.specs.declared.entries.Entry.{Entry}
 use Rattle.flat_list.specs.Spelling.{Spells}
+use Rattle.run_entries.specs.declared.saving.Output.{Output}
 
--- the entries were saved at the path: only the file there has changed, and its bytes spell them
-abbrev pub SavedAt : List ℕ → List Entry → Option Files → Option Files → Type 0
-SavedAt path entries old new =
+-- the output was saved: only its file has changed, and the bytes there spell its entries
+abbrev pub SavedAt : Output → Option Files → Option Files → Type 0
+SavedAt output old new =
     (is_some new ≡ is_some old)
-    × IfSome old (λ files. (bytes : List ℕ) × Spells bytes entries × (can_save files path ≡ true) × (new ≡ Some (insert files path (new_file bytes))))
+    × IfSome old (λ files. (bytes : List ℕ) × Spells bytes output.list × (can_save files output.path ≡ true) × (new ≡ Some (insert files output.path (new_file bytes))))
 
--- or nothing was, where no path is given
-abbrev pub Saved : Option (List ℕ) → List Entry → Option Files → Option Files → Type 0
-Saved None entries old new = new ≡ old
-Saved (Some path) entries old new = SavedAt path entries old new
+-- the outputs were saved, one after the other
+abbrev pub Saved : List Output → Option Files → Option Files → Type 0
+Saved [] old new = new ≡ old
+Saved (output ∷ outputs) old new = (between : Option Files) × SavedAt output old between × Saved outputs between new
 
--- every path but the one that is to be written is as before
-abbrev pub SameButOutput : Option (List ℕ) → Option Files → Option Files → Type 0
-SameButOutput None old new = new ≡ old
-SameButOutput (Some path) old new = (is_some new ≡ is_some old) × IfSome old (λ files. IfSome new (SameBut path files))
+-- the outputs of a run that saves its entries at one path, or nowhere
+abbrev pub output_of : Option (List ℕ) → List Entry → List Output
+output_of None entries = []
+output_of (Some path) entries = record { path = path; list = entries } ∷ []
+
+-- two trees have the same at every path but these
+abbrev pub SameButAll : List (List ℕ) → Files → Files → Type 0
+SameButAll paths old new = (q : List ℕ) → list_any (pointwise nat_eq q) paths ≡ false → get new q ≡ get old q
+
+-- every path but those that are to be written is as before
+abbrev pub SameButOutputs : List (List ℕ) → Option Files → Option Files → Type 0
+SameButOutputs [] old new = new ≡ old
+SameButOutputs (path ∷ paths) old new = (is_some new ≡ is_some old) × IfSome old (λ files. IfSome new (SameButAll (path ∷ paths) files))

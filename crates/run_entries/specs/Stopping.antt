@@ -1,5 +1,5 @@
 -- Why a run stops while it finds or saves its entries, step by step. Our own.
-use Rattle.std.specs.Prelude.{◌≡◌, ◌⊎◌, ℕ, ◌<◌, ◌≤◌, List, length, Option, Some, IfSome, false}
+use Rattle.std.specs.Prelude.{◌≡◌, ◌⊎◌, ℕ, ◌<◌, ◌≤◌, List, ◌∷◌, ◌++◌, length, Option, IfSome, false}
 use Rattle.std.specs.FinMap.{get}
 use Rattle.outside.specs.Tree.{is_file}
 use Rattle.outside.specs.Count.{RoseBy}
@@ -15,8 +15,10 @@ use Rattle.run_report.specs.declared.stops.Trouble.TheVariants as trouble
 use Rattle.run_report.specs.declared.stops.Stop.{Stop}
 use Rattle.run_report.specs.declared.stops.Stop.TheVariants as stop
 use Rattle.run_report.specs.Sides.{Side, side_of}
-use Rattle.run_entries.specs.Choosing.{newer_in}
+use Rattle.run_entries.specs.declared.saving.Output.{Output}
+use Rattle.run_entries.specs.Choosing.{newer_in, tests_in, chosen_of}
 use Rattle.run_entries.specs.Entries.{Walked, Surveyed}
+use Rattle.run_entries.specs.Saving.{Saved, output_of}
 
 -- no file is there to be read
 pub record IsAbsent (start : Origin) (before : Side) (path : List ℕ) : Type 0 where
@@ -65,33 +67,46 @@ pub record StopsAfterLooks (start : Origin) (choice : Option Choice) (before aft
 abbrev pub StopsFinding : Origin → Option Choice → Side → Side → Stop → Type 0
 StopsFinding start choice before after why = (why ≡ stop.OutOfMemory) ⊎ StopsAfterLooks start choice before after why
 
--- no file can be where the list is to be written
-pub record HasNoPlace (output : Option (List ℕ)) (before : Side) (path : List ℕ) : Type 0 where
-  pub named : output ≡ Some path
-  pub told : IfSome before.tree (λ files. can_save files path ≡ false)
+-- no file can be where the output is to be written
+pub record HasNoPlace (output : Output) (before : Side) (path : List ℕ) : Type 0 where
+  pub named : path ≡ output.path
+  pub told : IfSome before.tree (λ files. can_save files output.path ≡ false)
 
--- the files failed while the list file was written
-pub record FailedWrite (output : Option (List ℕ)) (before after : Side) (path : List ℕ) : Type 0 where
-  pub named : output ≡ Some path
+-- the files failed while it was written
+pub record FailedWrite (output : Output) (before after : Side) (path : List ℕ) : Type 0 where
+  pub named : path ≡ output.path
   pub counted : RoseBy 1 before.count after.count
 
--- the entries were not saved
-abbrev pub StopsSaving : Option (List ℕ) → Side → Side → Stop → Type 0
-StopsSaving output before after stop.OutOfMemory = Unit {0}
-StopsSaving output before after stop.TooMany = ⊥
-StopsSaving output before after (stop.Damaged path line) = ⊥
-StopsSaving output before after (stop.ListFile trouble.Absent path) = ⊥
-StopsSaving output before after (stop.ListFile trouble.NoPlace path) = HasNoPlace output before path
-StopsSaving output before after (stop.ListFile trouble.Fault path) = FailedWrite output before after path
+-- it was not saved
+abbrev pub StopsAt : Output → Side → Side → Stop → Type 0
+StopsAt output before after stop.OutOfMemory = Unit {0}
+StopsAt output before after stop.TooMany = ⊥
+StopsAt output before after (stop.Damaged path line) = ⊥
+StopsAt output before after (stop.ListFile trouble.Absent path) = ⊥
+StopsAt output before after (stop.ListFile trouble.NoPlace path) = HasNoPlace output before path
+StopsAt output before after (stop.ListFile trouble.Fault path) = FailedWrite output before after path
 
--- they were not, though they were looked for and listed before, and were no more than a list may have
+-- not all outputs were saved: the first that was not, after those that stand before it
+pub record StopsSaving (outputs : List Output) (before after : Side) (why : Stop) : Type 0 where
+  pub earlier : List Output
+  pub first : Output
+  pub later : List Output
+  pub are : outputs ≡ earlier ++ first ∷ later
+  pub between : Side
+  pub saved : Saved earlier before.tree between.tree
+  pub kept : before.count ≤ between.count
+  pub still : between.count ≤ after.count
+  pub stops : StopsAt first between after why
+
+-- what was chosen of the entries was not saved, though they were looked for and listed before, and were no more than a list may have
 pub record StopsAfterListing (start : Origin) (choice : Option Choice) (output : Option (List ℕ)) (before after : Side) (why : Stop) : Type 0 where
   pub looks : List Look
   pub entries : List Entry
   pub between : ℕ
   pub survey : Surveyed start choice before (side_of before.tree between) looks entries
   pub later : between ≤ after.count
-  pub stops : StopsSaving output (side_of before.tree between) after why
+  pub now : ℕ
+  pub stops : StopsSaving (output_of output (chosen_of (tests_in choice) looks now entries)) (side_of before.tree between) after why
 
 -- why a walk gave no list
 abbrev pub stop_by : WalkError → Stop

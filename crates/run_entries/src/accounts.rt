@@ -21,11 +21,13 @@ pub struct Account {
     pub sums: Vec<u64>,
 }
 
-// The entries of a walk or of a list file, and what is told of the walk.
+/// The entries of a walk or of a list file, and what is told of the walk.
 #[derive(Drop)]
-pub(crate) struct Entries {
-    pub(crate) list: FlatList,
-    pub(crate) account: Account,
+pub struct Entries {
+    /// The entries.
+    pub list: FlatList,
+    /// What the ranks did, if something was walked.
+    pub account: Account,
 }
 
 impl Account {

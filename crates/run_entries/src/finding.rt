@@ -13,7 +13,8 @@ ghost use Rattle.run_entries.specs.Entries.{Finds};
 ghost use Rattle.run_entries.specs.Stopping.{StopsFinding};
 
 use crate::accounts::{Account, Entries};
-use crate::choosing::{choose, failures};
+use crate::choosing::choose;
+use crate::naming::failures;
 use crate::starting::list_from;
 use flat_list::FlatList;
 use outside::Ground;

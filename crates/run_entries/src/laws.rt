@@ -1,5 +1,5 @@
 //! Laws, each the contract of a function that does nothing.
-ghost use Rattle.run_entries.specs.Fine.{FineFindsNameNothing, FineFindsStopForMemory, FinePlacesStopForMemory};
+ghost use Rattle.run_entries.specs.Fine.{FineFindsNameNothing, FineFindsStopForMemory, FineWalksNameNothing, FineWalksStopForMemory, FinePlacesStopForMemory};
 
 use flat_list::{refusals_are_exact, spelling_is_unique};
 use path_looks::looks_without_faults_are_told;
@@ -26,7 +26,24 @@ pub fn fine_finds_stop_for_memory()
     refusals_are_exact();
 }
 
-/// Only want of memory stops a run that saves a list where it has a place, and no fault is counted.
+/// What is walked by itself in a side that is fine names nothing.
+pub fn fine_walks_name_nothing()
+    ensures { FineWalksNameNothing }
+{
+    walk_without_faults_is_fine();
+    roots_are_unique();
+}
+
+/// Only want of memory stops a walk by itself in a side that is fine.
+pub fn fine_walks_stop_for_memory()
+    ensures { FineWalksStopForMemory }
+{
+    walk_without_faults_is_fine();
+    roots_are_unique();
+    refusals_are_exact();
+}
+
+/// Only want of memory stops a run that saves outputs, where each has a place before and no fault is counted.
 pub fn fine_places_stop_for_memory()
     ensures { FinePlacesStopForMemory }
 {}

@@ -1,20 +1,30 @@
-//! A list file, written.
-ghost use Rattle.std.specs.Prelude.{◌≡◌, [], All, OnOk, IfErr, true};
+//! List files, written.
+ghost use Rattle.std.specs.Prelude.{◌≡◌, [], map, All, OnOk, IfErr, IfSome, is_some, true};
+ghost use Rattle.std.specs.Option.{option_to_list};
 ghost use Rattle.std.specs.List.Sorted.{IsStrictlySortedBy};
 ghost use Rattle.path_text.specs.Order.{path_cmp};
 ghost use Rattle.outside.specs.Count.{RoseBy};
-ghost use Rattle.outside.specs.Writes.{all_but};
+ghost use Rattle.outside.specs.Writes.{all_but, SameBut};
 ghost use Rattle.flat_list.specs.Entries.{is_shaped};
 ghost use Rattle.flat_list.specs.Spelling.{paths};
 ghost use Rattle.run_report.specs.Sides.{side_of};
-ghost use Rattle.run_entries.specs.Saving.{Saved, SameButOutput};
-ghost use Rattle.run_entries.specs.Stopping.{StopsSaving};
+ghost use Rattle.run_entries.specs.Saving.{SavedAt, Saved, output_of, SameButOutputs};
+ghost use Rattle.run_entries.specs.Stopping.{StopsAt, StopsSaving};
 
 use flat_list::FlatList;
 use outside::{Ground, SaveError, save};
 use path_text::Path;
 use run_report::{Stop, Trouble};
 use std::alloc::Global;
+
+/// A list, and the file that it is to be written to.
+#[derive(Drop)]
+pub struct Output {
+    /// The file.
+    pub path: Path,
+    /// The list.
+    pub list: FlatList,
+}
 
 /// Writes the list to a file, where one is asked for.
 pub fn save_list<G: Ground>(
@@ -26,9 +36,9 @@ pub fn save_list<G: Ground>(
     requires lent { G.area files.old ≡ all_but [] }
     requires ascend { IsStrictlySortedBy path_cmp (paths list.now) }
     requires shaped { All (λ e. is_shaped e ≡ true) list.now }
-    ensures saved { OnOk result (Saved output list.now (G.tree files.old) (G.tree files.new)) }
-    ensures rest { SameButOutput output (G.tree files.old) (G.tree files.new) }
-    ensures stopped { IfErr result (StopsSaving output (side_of (G.tree files.old) (G.count files.old)) (side_of (G.tree files.new) (G.count files.new))) }
+    ensures saved { OnOk result (Saved (output_of output list.now) (G.tree files.old) (G.tree files.new)) }
+    ensures rest { SameButOutputs (option_to_list output) (G.tree files.old) (G.tree files.new) }
+    ensures stopped { IfErr result (StopsSaving (output_of output list.now) (side_of (G.tree files.old) (G.count files.old)) (side_of (G.tree files.new) (G.count files.new))) }
     ensures lent { G.area files.new ≡ all_but [] }
     ensures count { RoseBy 0 (G.count files.old) (G.count files.new) }
 {
@@ -37,11 +47,53 @@ pub fn save_list<G: Ground>(
     let Some(path) = output else {
         return Ok(());
     };
+    save_at(alloc, files, &path, list)
+}
+
+/// Writes each list to its file, one after the other, so that a later one replaces an earlier one of the same file. The first
+/// that is not written ends that.
+pub fn save_lists<G: Ground>(alloc: Global, files: &mut G, outputs: &[Output]) -> Result<(), Stop>
+    requires lent { G.area files.old ≡ all_but [] }
+    requires ascend { All (λ o. IsStrictlySortedBy path_cmp (paths o.list)) outputs.now }
+    requires shaped { All (λ o. All (λ e. is_shaped e ≡ true) o.list) outputs.now }
+    ensures saved { OnOk result (Saved outputs.now (G.tree files.old) (G.tree files.new)) }
+    ensures rest { SameButOutputs (map (λ o. o.path) outputs.now) (G.tree files.old) (G.tree files.new) }
+    ensures stopped { IfErr result (StopsSaving outputs.now (side_of (G.tree files.old) (G.count files.old)) (side_of (G.tree files.new) (G.count files.new))) }
+    ensures lent { G.area files.new ≡ all_but [] }
+    ensures count { RoseBy 0 (G.count files.old) (G.count files.new) }
+{
+    // The count of faults is a number of 64 bits.
+    let _faults = files.faults();
+    for output in outputs {
+        save_at(alloc, files, &output.path, &output.list)?;
+    }
+    Ok(())
+}
+
+// Writes one list to its file.
+fn save_at<G: Ground>(
+    alloc: Global,
+    files: &mut G,
+    path: &Path,
+    list: &FlatList,
+) -> Result<(), Stop>
+    requires lent { G.area files.old ≡ all_but [] }
+    requires ascend { IsStrictlySortedBy path_cmp (paths list.now) }
+    requires shaped { All (λ e. is_shaped e ≡ true) list.now }
+    ensures saved { OnOk result (SavedAt (record { path = path.now; list = list.now }) (G.tree files.old) (G.tree files.new)) }
+    ensures tells { is_some (G.tree files.new) ≡ is_some (G.tree files.old) }
+    ensures rest { IfSome (G.tree files.old) (λ old. IfSome (G.tree files.new) (SameBut path.now old)) }
+    ensures stopped { IfErr result (StopsAt (record { path = path.now; list = list.now }) (side_of (G.tree files.old) (G.count files.old)) (side_of (G.tree files.new) (G.count files.new))) }
+    ensures lent { G.area files.new ≡ all_but [] }
+    ensures count { RoseBy 0 (G.count files.old) (G.count files.new) }
+{
+    // The count of faults is a number of 64 bits.
+    let _faults = files.faults();
     let bytes = list.encode()?;
-    match save(alloc, files, &path, &bytes) {
+    match save(alloc, files, path, &bytes) {
         Ok(()) => Ok(()),
-        Err(SaveError::NoPlace) => Err(Stop::ListFile(Trouble::NoPlace, path)),
-        Err(SaveError::Failed) => Err(Stop::ListFile(Trouble::Fault, path)),
+        Err(SaveError::NoPlace) => Err(Stop::ListFile(Trouble::NoPlace, path.copy()?)),
+        Err(SaveError::Failed) => Err(Stop::ListFile(Trouble::Fault, path.copy()?)),
         Err(SaveError::OutOfMemory) => Err(Stop::OutOfMemory),
     }
 }

@@ -6,13 +6,13 @@ ghost use Rattle.outside.specs.Count.{RoseBy};
 ghost use Rattle.flat_list.specs.Entries.{is_shaped};
 ghost use Rattle.flat_list.specs.Spelling.{paths};
 ghost use Rattle.tool_words.specs.Limits.{CommonWithin};
-ghost use Rattle.tool_words.specs.Asked.{start_in};
+ghost use Rattle.tool_words.specs.Asked.{roots, start_in};
 ghost use Rattle.tree_walk.specs.Found.{IsFound, IfTooMany, IsTooMuch};
 ghost use Rattle.tree_walk.specs.Roots.{Apart};
 ghost use Rattle.run_report.specs.Sides.{side_of};
 ghost use Rattle.run_entries.specs.Entries.{Walked, Listed, Tells};
 ghost use Rattle.run_entries.specs.Stopping.{IsTooLongWalk, StopsListing, stop_by};
-ghost use Rattle.run_entries.specs.Tells.{IsAccount};
+ghost use Rattle.run_entries.specs.Tells.{keeps_events, IsAccount};
 
 use crate::accounts::{Account, Entries};
 use crate::reading::read_list;
@@ -49,14 +49,39 @@ where
     ensures count { RoseBy 0 (G.count files.old) (G.count files.new) }
 {
     match start {
-        Start::Roots(paths) => match walked(rt, alloc, common, paths, files) {
-            Ok(entries) => Ok(entries),
-            Err(why) => Err(stop_by(why)),
-        },
+        Start::Roots(paths) => walk_side(rt, alloc, common, paths, files),
         Start::Input(path) => Ok(Entries {
             list: read_list(alloc, files, path)?,
             account: Account::of_nothing(alloc),
         }),
+    }
+}
+
+/// Walks the files below the given paths by themselves: nothing is looked at before, and all is listed.
+pub fn walk_side<T: Threads + Wait + Sync, G: Ground>(
+    rt: &T,
+    alloc: Global,
+    common: &Common,
+    given: Vec<Path>,
+    files: &mut G,
+) -> Result<Entries, Stop>
+where
+    G::Reader: Send,
+    requires within { CommonWithin common.now }
+    ensures walked { IfOk result (λ entries. Walked given.items entries.list (side_of (G.tree files.old) (G.count files.old)) (side_of (G.tree files.new) (G.count files.new))) }
+    ensures told { IfOk result (λ entries. (walked : Walked given.items entries.list (side_of (G.tree files.old) (G.count files.old)) (side_of (G.tree files.new) (G.count files.new)))
+        × IsAccount common.now (G.tree files.old) walked.roots entries.list entries.account) }
+    ensures few { IfOk result (λ entries. length entries.list ≤ 4194304) }
+    ensures ascend { IfOk result (λ entries. IsStrictlySortedBy path_cmp (paths entries.list)) }
+    ensures shaped { IfOk result (λ entries. All (λ e. is_shaped e ≡ true) entries.list) }
+    ensures stopped { IfErr result (StopsListing (roots given.items) (side_of (G.tree files.old) (G.count files.old)) (side_of (G.tree files.new) (G.count files.new))) }
+    ensures same { G.tree files.new ≡ G.tree files.old }
+    ensures area { G.area files.new ≡ G.area files.old }
+    ensures count { RoseBy 0 (G.count files.old) (G.count files.new) }
+{
+    match walked(rt, alloc, common, given, files) {
+        Ok(entries) => Ok(entries),
+        Err(why) => Err(stop_by(why)),
     }
 }
 
@@ -96,7 +121,15 @@ where
     walked_from(rt, alloc, common, roots, files)
 }
 
+// Whether the events of a walk are kept: for `--trace`, and on one host for `--shares` too, which then tell what the events count.
+fn keeps_events(common: &Common) -> bool
+    ensures { result ≡ keeps_events common.now }
+{
+    common.trace || (common.shares && common.hosts == 1)
+}
+
 // Walks these roots, with as many ranks as are asked for.
+#[tactic(auto, using(crate::proofs::Told::kept_on_one_host))]
 fn walked_from<T: Threads + Wait + Sync, G: Ground>(
     rt: &T,
     alloc: Global,
@@ -124,7 +157,7 @@ where
         split: common.split,
         seed: common.seed,
         width: common.width,
-        trace: common.trace || common.shares,
+        trace: keeps_events(common),
         stop_after: None,
     };
     let report = walk(rt, alloc, files, roots, &options)?;

@@ -34,7 +34,8 @@ why_at place k =
     else if place == 3 then why.FailedList
     else if place == 4 then why.Changed
     else if place == 5 then why.Unnamed k
-    else why.TooLong k
+    else if place == 6 then why.TooLong k
+    else why.FailedRead
 
 why_again : (w : Why) → why_at (why_place w) (why_number w) ≡ w
 why_again why.Gone = refl
@@ -44,6 +45,7 @@ why_again why.FailedList = refl
 why_again why.Changed = refl
 why_again (why.Unnamed k) = refl
 why_again (why.TooLong k) = refl
+why_again why.FailedRead = refl
 
 why_same : (v w : Why) → why_cmp v w ≡ Equal → v ≡ w
 why_same v w e =

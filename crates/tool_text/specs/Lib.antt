@@ -2,3 +2,4 @@ pub mod Lines
 pub mod Notes
 pub mod Runs
 pub mod NoteOrder
+pub mod Rows

@@ -23,12 +23,14 @@ pub enum Why {
     FailedNewer,
     /// Its names failed.
     FailedList,
-    /// It was told to be a directory, and then to be none.
+    /// It was told to be a directory, or a file of some size, and then was none.
     Changed,
     /// So many names in it are no text.
     Unnamed(u64),
     /// So many of its children have a path that would be too long.
     TooLong(u64),
+    /// A read of it failed.
+    FailedRead,
 }
 
 /// A path that is named, and why.
@@ -132,6 +134,7 @@ fn add_why(draft: &mut Draft, why: Why, path: &Path) -> Result<(), OutOfMemory>
         Why::Changed => add_named(draft, "changed ", path),
         Why::Unnamed(k) => add_counted(draft, "unnamed ", path, k),
         Why::TooLong(k) => add_counted(draft, "too long ", path, k),
+        Why::FailedRead => add_named(draft, "failed read ", path),
     }
 }
 

@@ -67,6 +67,7 @@ fn place_of(why: Why) -> u8
         Why::Changed => 4,
         Why::Unnamed(_) => 5,
         Why::TooLong(_) => 6,
+        Why::FailedRead => 7,
     }
 }
 

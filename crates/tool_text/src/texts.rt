@@ -3,8 +3,10 @@ ghost use Rattle.std.specs.Prelude.{◌≡◌, ◌==◌, ◌++◌, ◌∷◌, []
 ghost use Rattle.path_text.specs.Escape.{escape};
 ghost use Rattle.tool_text.specs.Lines.{lines_of, summary_line};
 ghost use Rattle.tool_text.specs.Notes.{note_lines};
+ghost use Rattle.tool_text.specs.Rows.{rows_text};
 ghost use Rattle.tool_text.specs.Runs.{trace_lines, share_lines, progress_lines};
 
+use crate::comparing::add_rows;
 use crate::drafts::Draft;
 use crate::listing::{add_list, add_summary};
 use crate::noting::{Note, add_notes};
@@ -15,6 +17,7 @@ use path_text::{OutOfMemory, Path};
 use ring_core::Event;
 use std::alloc::Global;
 use std::marker::Model;
+use tree_cmp::Compared;
 
 /// Text to be printed, seen as its bytes.
 #[derive(Debug, Drop)]
@@ -80,6 +83,16 @@ pub fn put_summary(text: &mut Text, sum: &Summary) -> Result<(), OutOfMemory>
     ensures err { OnErr result (text.new ≡ text.old) }
 {
     let put = add_summary(&mut text.draft, sum);
+    text.draft.end(put)
+}
+
+/// Appends a line for each row of a comparison, and the line of their counts and of how many failures are noted. A refusal
+/// leaves the text.
+pub fn put_rows(text: &mut Text, rows: &Compared, failed: u64) -> Result<(), OutOfMemory>
+    ensures ok { OnOk result (text.new ≡ text.old ++ rows_text rows.now.rows failed) }
+    ensures err { OnErr result (text.new ≡ text.old) }
+{
+    let put = add_rows(&mut text.draft, rows, failed);
     text.draft.end(put)
 }
 

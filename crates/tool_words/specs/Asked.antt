@@ -8,6 +8,7 @@ use Rattle.tool_words.specs.declared.commands.Common.{Common}
 use Rattle.tool_words.specs.declared.commands.Start.{Start}
 use Rattle.tool_words.specs.declared.commands.Start.TheVariants.{Roots, Input}
 use Rattle.tool_words.specs.declared.commands.Tests.{Tests}
+use Rattle.tool_words.specs.declared.commands.Want.{Want}
 
 -- where a list comes from: a walk of the trees at these paths, or the list in a file
 pub data Origin : Type 0 where
@@ -33,8 +34,16 @@ pub record TestAsked : Type 0 where
   pub nodes : ℕ
   pub choice : Choice
 
+-- what dcmp is asked for: how each of the two walks is to go, the source and the destination, and what is saved where, in the order of the words
+pub record CompareAsked : Type 0 where
+  pub common : Common
+  pub left : List ℕ
+  pub right : List ℕ
+  pub wants : List Want
+
 pub data Asked : Type 0 where
   list : ListAsked → Asked
+  compare : CompareAsked → Asked
   test : TestAsked → Asked
 
 abbrev pub start_in : Start → Origin
@@ -48,4 +57,5 @@ choice_in tests = record { tests = tests.tests.items; newer = tests.newer.items 
 abbrev pub asked_by : Command → Asked
 asked_by (command.Walk common start sort output) = list (record { common = common; start = start_in start; chosen = None; sort = sort; output = output })
 asked_by (command.Find common start tests sort output) = list (record { common = common; start = start_in start; chosen = Some (choice_in tests); sort = sort; output = output })
+asked_by (command.Cmp common left right wants) = compare (record { common = common; left = left; right = right; wants = wants.items })
 asked_by (command.Test common nodes tests) = test (record { common = common; nodes = nodes; choice = choice_in tests })

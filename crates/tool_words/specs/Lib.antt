@@ -1,4 +1,5 @@
 pub mod Asked
+pub mod Clashes
 pub mod Limits
 pub mod Parts
 pub mod Refusals

@@ -1,8 +1,8 @@
 -- What holds of all that words ask for: paths are valid, and numbers stand within the limits that a run takes. Our own.
-use Rattle.std.specs.Prelude.{◌≡◌, ℕ, ◌<◌, ◌≤◌, ◌^◌, List, [], ◌∷◌, All, Ok, None, IfSome}
+use Rattle.std.specs.Prelude.{◌≡◌, ℕ, ◌<◌, ◌≤◌, ◌^◌, List, [], ◌∷◌, All, Ok, None, IfSome, true}
 use Rattle.path_text.specs.Path.{refusal}
 use Rattle.tool_words.specs.declared.commands.Common.{Common}
-use Rattle.tool_words.specs.Asked.{Origin, roots, input, Choice, ListAsked, TestAsked, Asked, list, test}
+use Rattle.tool_words.specs.Asked.{Origin, roots, input, Choice, ListAsked, CompareAsked, TestAsked, Asked, list, compare, test}
 use Rattle.tool_words.specs.Words.{reading}
 
 abbrev pub Valid : List ℕ → Type 0
@@ -15,9 +15,11 @@ paths_in (input file) = file ∷ []
 
 pub record CommonWithin (common : Common) : Type 0 where
   pub ranks : (1 ≤ common.ranks) × (common.ranks ≤ 64)
-  pub hosts : common.hosts ≡ 1
+  pub hosts : (1 ≤ common.hosts) × (common.hosts ≤ 64)
   pub seed : common.seed < 2 ^ 64
   pub width : (2 ≤ common.width) × (common.width ≤ 64)
+  -- a trace is of one host
+  pub trace : common.trace ≡ true → common.hosts ≡ 1
 
 abbrev pub ChoiceWithin : Choice → Type 0
 ChoiceWithin choice = All Valid choice.newer
@@ -28,6 +30,12 @@ pub record WithinList (asked : ListAsked) : Type 0 where
   pub chosen : IfSome asked.chosen ChoiceWithin
   pub output : IfSome asked.output Valid
 
+pub record WithinCompare (asked : CompareAsked) : Type 0 where
+  pub common : CommonWithin asked.common
+  pub left : Valid asked.left
+  pub right : Valid asked.right
+  pub files : All (λ want. Valid want.file) asked.wants
+
 -- a made-up tree has 1 to 1,000,000 nodes
 pub record WithinTest (asked : TestAsked) : Type 0 where
   pub common : CommonWithin asked.common
@@ -36,6 +44,7 @@ pub record WithinTest (asked : TestAsked) : Type 0 where
 
 abbrev pub Within : Asked → Type 0
 Within (list asked) = WithinList asked
+Within (compare asked) = WithinCompare asked
 Within (test asked) = WithinTest asked
 
 abbrev pub WordsAskWithinLimits : Type 0

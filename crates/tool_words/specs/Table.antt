@@ -1,9 +1,10 @@
--- The tools and their options: how each option is written, and what its value sets. Names of options are those of mpiFileUtils' dwalk and dfind and of libcircle, as far as these have them.
+-- The tools and their options: how each option is written, and what its value sets. Names of options are those of mpiFileUtils' dwalk, dfind and dcmp and of libcircle, as far as these have them.
 use Rattle.std.specs.Prelude.{ℕ, ◌-◌, ◌^◌, Bool, true, List, [], ◌∷◌, ◌++◌, false, if◌then◌else◌, codes, find, Option, Some, None}
 use Rattle.std.specs.List.{flat_map}
 use Rattle.std.specs.Option.{option_map}
 use Rattle.circle_run.specs.declared.settings.Split.TheVariants.{Equal}
 use Rattle.tool_words.specs.declared.commands.Common.{Common}
+use Rattle.tool_words.specs.declared.commands.Want.{Want}
 use Rattle.flat_list.specs.declared.ordering.Field.{Field}
 use Rattle.find_tests.specs.declared.testing.Test.{Test}
 use Rattle.find_tests.specs.declared.testing.TestName.TheVariants as name
@@ -13,12 +14,13 @@ use Rattle.tool_words.specs.declared.tables.Group.{Group}
 use Rattle.tool_words.specs.declared.tables.Group.TheVariants as group
 use Rattle.tool_words.specs.declared.tables.OptionName.{OptionName}
 use Rattle.tool_words.specs.declared.tables.OptionName.TheVariants as option
-use Rattle.tool_words.specs.Value.{is, number_in, split_in, path_in, order_in, test_in}
+use Rattle.tool_words.specs.Value.{is, number_in, split_in, path_in, order_in, test_in, want_in}
 
 abbrev pub tool_named : List ℕ → Option Tool
 tool_named text =
     if is (codes "dwalk") text then Some tool.Walk
     else if is (codes "dfind") text then Some tool.Find
+    else if is (codes "dcmp") text then Some tool.Cmp
     else if is (codes "dtest") text then Some tool.Test
     else None
 
@@ -42,8 +44,9 @@ text_of (option.Test name.Size) = codes "--size"
 text_of (option.Test name.Days) = codes "--mtime"
 text_of (option.Test name.Minutes) = codes "--mmin"
 text_of option.Newer = codes "--newer"
+text_of option.Want = codes "-o"
 
--- the options of a group: how a walk is to go; what is told of it; where a list comes from, in which order it is printed, and where it is saved; and the tests
+-- the options of a group: how a walk is to go; what is told of it; where a list comes from, in which order it is printed, and where it is saved; the tests; and what is saved of a comparison
 abbrev pub options_in : Group → List OptionName
 options_in group.Common = option.Ranks ∷ option.Hosts ∷ option.Split ∷ option.Seed ∷ option.Width ∷ []
 options_in group.Telling = option.Trace ∷ option.Shares ∷ option.Progress ∷ []
@@ -51,11 +54,13 @@ options_in group.Listing = option.Sort ∷ option.Input ∷ option.Output ∷ []
 options_in group.Testing =
     option.Test name.Name ∷ option.Test name.Path ∷ option.Test name.Kind ∷ option.Test name.Size ∷ option.Test name.Days ∷ option.Test name.Minutes
     ∷ option.Newer ∷ []
+options_in group.Comparing = option.Want ∷ []
 
 -- the groups of options that a tool takes
 abbrev pub groups_of : Tool → List Group
 groups_of tool.Walk = group.Common ∷ group.Telling ∷ group.Listing ∷ []
 groups_of tool.Find = group.Common ∷ group.Telling ∷ group.Listing ∷ group.Testing ∷ []
+groups_of tool.Cmp = group.Common ∷ group.Comparing ∷ []
 groups_of tool.Test = group.Common ∷ group.Telling ∷ group.Testing ∷ []
 
 abbrev pub options_of : Tool → List OptionName
@@ -69,7 +74,7 @@ option_named tool text = find (λ o. is (text_of o) text) (options_of tool)
 abbrev pub standard : Common
 standard = record { ranks = 4; hosts = 1; split = Equal; seed = 0; width = 64; trace = false; shares = false; progress = false }
 
--- what options set: how a walk is to go, the order, the files, the tests, and the paths of `--newer`
+-- what options set: how a walk is to go, the order, the files, the tests, the paths of `--newer`, and what is saved of a comparison
 pub record Set : Type 0 where
   pub common : Common
   pub sort : Option (Field × Bool)
@@ -77,20 +82,22 @@ pub record Set : Type 0 where
   pub output : Option (List ℕ)
   pub tests : List Test
   pub newer : List (List ℕ)
+  pub wants : List Want
 
 abbrev pub unset : Set
-unset = record { common = standard; sort = None; input = None; output = None; tests = []; newer = [] }
+unset = record { common = standard; sort = None; input = None; output = None; tests = []; newer = []; wants = [] }
 
--- tests add up, and so do the paths of `--newer`; every other option is given once
+-- tests add up, and so do the paths of `--newer` and what is saved of a comparison; every other option is given once
 abbrev pub adds_up : OptionName → Bool
 adds_up (option.Test _) = true
 adds_up option.Newer = true
+adds_up option.Want = true
 adds_up _ = false
 
 -- what is set after an option with this text as its value, if the text is one; a flag has no value
 abbrev pub set : OptionName → List ℕ → Set → Option Set
 set option.Ranks text s = option_map (λ n. record s { common = record s.common { ranks = n } }) (number_in 1 64 text)
-set option.Hosts text s = option_map (λ n. record s { common = record s.common { hosts = n } }) (number_in 1 1 text)
+set option.Hosts text s = option_map (λ n. record s { common = record s.common { hosts = n } }) (number_in 1 64 text)
 set option.Split text s = option_map (λ split. record s { common = record s.common { split = split } }) (split_in text)
 set option.Seed text s = option_map (λ n. record s { common = record s.common { seed = n } }) (number_in 0 (2 ^ 64 - 1) text)
 set option.Width text s = option_map (λ n. record s { common = record s.common { width = n } }) (number_in 2 64 text)
@@ -102,6 +109,7 @@ set option.Input text s = option_map (λ path. record s { input = Some path }) (
 set option.Output text s = option_map (λ path. record s { output = Some path }) (path_in text)
 set (option.Test name) text s = option_map (λ test. record s { tests = s.tests ++ test ∷ [] }) (test_in name text)
 set option.Newer text s = option_map (λ path. record s { newer = s.newer ++ path ∷ [] }) (path_in text)
+set option.Want text s = option_map (λ want. record s { wants = s.wants ++ want ∷ [] }) (want_in text)
 
 -- what is set after a flag; the other options have a value
 abbrev pub raise : OptionName → Set → Option Set

@@ -1,7 +1,7 @@
--- What the words of a command line mean as values: numbers, splits, paths, orders and tests. The names of fields are those of mpiFileUtils' dwalk; how a path word is read is our own.
-use Rattle.std.specs.Prelude.{ℕ, Bool, true, false, ◌&&◌, List, [], ◌∷◌, length, drop, if◌then◌else◌, ◌==◌, nat_eq, nat_le, slice_index, codes, Option, Some, None, is_none, Result, Ok, Err}
+-- What the words of a command line mean as values: numbers, splits, paths, orders, tests, and what is to be saved of a comparison. The names of fields are those of mpiFileUtils' dwalk, and the value of `-o` is as in its dcmp; how a path word is read is our own.
+use Rattle.std.specs.Prelude.{ℕ, Bool, true, false, ◌&&◌, List, [], ◌∷◌, length, drop, if◌then◌else◌, ◌==◌, nat_eq, nat_le, nat_lt, slice_index, codes, Option, Some, None, is_none, Result, Ok, Err}
 use Rattle.std.specs.Char.{is_ascii_digit}
-use Rattle.std.specs.List.{list_all}
+use Rattle.std.specs.List.{list_all, before_first, after_first, position_or_len}
 use Rattle.std.specs.Str.Parse.{digits_value}
 use Rattle.std.specs.Option.{option_map}
 use Rattle.std.specs.Cmp.Lexicographic.{pointwise}
@@ -14,6 +14,10 @@ use Rattle.find_tests.specs.declared.errors.TestError.{TestError}
 use Rattle.find_tests.specs.declared.testing.Test.{Test}
 use Rattle.find_tests.specs.declared.testing.TestName.{TestName}
 use Rattle.find_tests.specs.Tests.{test_reading}
+use Rattle.tree_cmp.specs.declared.conditions.Condition.{Condition}
+use Rattle.tree_cmp.specs.declared.errors.ExprError.{ExprError}
+use Rattle.tree_cmp.specs.Expressions.{expr_reading}
+use Rattle.tool_words.specs.declared.commands.Want.{Want}
 
 -- the text is this word
 abbrev pub is : List ℕ → List ℕ → Bool
@@ -67,3 +71,23 @@ if_test (Err e) = None
 
 abbrev pub test_in : TestName → List ℕ → Option Test
 test_in name text = if_test (test_reading name text)
+
+-- the expression that a text says, if it says one
+abbrev pub if_expr : Result (List (List Condition)) ExprError → Option (List (List Condition))
+if_expr (Ok expr) = Some expr
+if_expr (Err e) = None
+
+abbrev pub is_colon : ℕ → Bool
+is_colon b = b == 58
+
+abbrev pub want_by : Option (List (List Condition)) → Option (List ℕ) → Option Want
+want_by None file = None
+want_by (Some expr) None = None
+want_by (Some expr) (Some file) = Some (record { expr = expr; file = file })
+
+-- what is to be saved where: an expression and a path, divided by the first `:`
+abbrev pub want_in : List ℕ → Option Want
+want_in text =
+    if nat_lt (position_or_len is_colon text) (length text)
+    then want_by (if_expr (expr_reading (before_first is_colon text))) (path_in (after_first is_colon text))
+    else None

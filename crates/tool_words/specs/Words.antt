@@ -4,11 +4,13 @@ use Rattle.std.specs.List.{list_any, before_first, after_first, position_or_len}
 use Rattle.tool_words.specs.declared.errors.Cause.TheVariants as cause
 use Rattle.tool_words.specs.declared.errors.Refusal.{Refusal}
 use Rattle.tool_words.specs.declared.tables.OptionName.{OptionName}
+use Rattle.tool_words.specs.declared.tables.Placed.{Placed}
 use Rattle.tool_words.specs.declared.tables.Tool.{Tool}
 use Rattle.tool_words.specs.declared.tables.Tool.TheVariants as tool
 use Rattle.tool_words.specs.declared.turns.Turn.{Turn}
 use Rattle.tool_words.specs.declared.turns.Turn.TheVariants as turn
-use Rattle.tool_words.specs.Asked.{Origin, roots, input, Choice, Asked, list, test}
+use Rattle.tool_words.specs.Asked.{Origin, roots, input, Choice, Asked, list, compare, test}
+use Rattle.tool_words.specs.Clashes.{clash_in}
 use Rattle.tool_words.specs.Refusals.{refuse}
 use Rattle.tool_words.specs.Table.{tool_named, text_of, option_named, Set, unset, adds_up, set, raise}
 use Rattle.tool_words.specs.Value.{is, number_in, path_in}
@@ -31,10 +33,11 @@ name_in word = before_first is_equals word
 abbrev pub value_in : List ℕ → Option (List ℕ)
 value_in word = if nat_lt (position_or_len is_equals word) (length word) then Some (after_first is_equals word) else None
 
--- what the words so far gave: the options in their order, what they set, the plain words as paths or as numbers, with the numbers of these words; and what the next word is read as
+-- what the words so far gave: the options in their order, with the numbers of their words; what they set; the plain words as paths or as numbers, with the numbers
+-- of these words; and what the next word is read as
 pub record Given : Type 0 where
   pub next : Turn
-  pub options : List OptionName
+  pub options : List Placed
   pub settings : Set
   pub paths : List (List ℕ)
   pub numbers : List ℕ
@@ -62,6 +65,7 @@ with_number given place None = refuse place cause.BadValue
 abbrev pub with_plain : Tool → Given → ℕ → List ℕ → Result Given Refusal
 with_plain tool.Walk given place word = with_path given place (path_in word)
 with_plain tool.Find given place word = with_path given place (path_in word)
+with_plain tool.Cmp given place word = with_path given place (path_in word)
 with_plain tool.Test given place word = with_number given place (number_in 1 1000000 word)
 
 -- with what a value sets, if the word of this number holds one
@@ -70,18 +74,18 @@ with_settings given place (Some settings) = Ok (record given { settings = settin
 with_settings given place None = refuse place cause.BadValue
 
 -- the option was given before
-abbrev pub was_given : OptionName → List OptionName → Bool
-was_given option options = list_any (λ other. is (text_of option) (text_of other)) options
+abbrev pub was_given : OptionName → List Placed → Bool
+was_given option options = list_any (λ other. is (text_of option) (text_of other.option)) options
 
 -- and may not be given again
-abbrev pub is_repeated : OptionName → List OptionName → Bool
+abbrev pub is_repeated : OptionName → List Placed → Bool
 is_repeated option options = not (adds_up option) && was_given option options
 
 -- with an option whose word has this number, unless it may not be given again
 abbrev pub with_another : Given → ℕ → OptionName → Result Given Refusal
 with_another given place option =
     if is_repeated option given.options then refuse place cause.Clash
-    else Ok (record given { next = turn.Any; options = given.options ++ option ∷ [] })
+    else Ok (record given { next = turn.Any; options = given.options ++ record { option = option; place = place } ∷ [] })
 
 -- with an option whose value stands in its own word: a value that is refused is told before an option that may not be given again
 abbrev pub with_own_value : Given → ℕ → OptionName → List ℕ → Result Given Refusal
@@ -129,6 +133,12 @@ start_by wanting None (path ∷ paths) places = Ok (roots (path ∷ paths))
 start_by wanting (Some file) paths [] = Ok (input file)
 start_by wanting (Some file) paths (place ∷ places) = refuse place cause.TooManyPaths
 
+-- a source and a destination, no more and no less
+abbrev pub sides_by : ℕ → List (List ℕ) → List ℕ → Result (List ℕ × List ℕ) Refusal
+sides_by wanting paths (first ∷ second ∷ another ∷ places) = refuse another cause.TooManyPaths
+sides_by wanting (left ∷ right ∷ paths) (first ∷ second ∷ []) = Ok (left, right)
+sides_by wanting paths places = refuse wanting cause.NoPath
+
 -- one number of nodes, no more and no less
 abbrev pub nodes_by : ℕ → List ℕ → List ℕ → Result ℕ Refusal
 nodes_by wanting numbers (place ∷ another ∷ places) = refuse another cause.TooManyPaths
@@ -141,6 +151,9 @@ choice_of s = record { tests = s.tests; newer = s.newer }
 abbrev pub list_of : Set → Option Choice → Origin → Asked
 list_of s chosen start = list (record { common = s.common; start = start; chosen = chosen; sort = s.sort; output = s.output })
 
+abbrev pub compare_of : Set → List ℕ → List ℕ → Asked
+compare_of s left right = compare (record { common = s.common; left = left; right = right; wants = s.wants })
+
 abbrev pub test_of : Set → ℕ → Asked
 test_of s nodes = test (record { common = s.common; nodes = nodes; choice = choice_of s })
 
@@ -149,15 +162,25 @@ abbrev pub list_by : ℕ → Option Choice → Given → Result Asked Refusal
 list_by wanting chosen given =
     and_then (start_by wanting given.settings.input given.paths given.places) (λ start. Ok (list_of given.settings chosen start))
 
--- what the words of a tool ask for
+-- what the words of a tool ask for, if no options clash
 abbrev pub asked_of : ℕ → Tool → Given → Result Asked Refusal
 asked_of wanting tool.Walk given = list_by wanting None given
 asked_of wanting tool.Find given = list_by wanting (Some (choice_of given.settings)) given
+asked_of wanting tool.Cmp given = and_then (sides_by wanting given.paths given.places) (λ sides. Ok (compare_of given.settings sides.0 sides.1))
 asked_of wanting tool.Test given = and_then (nodes_by wanting given.numbers given.places) (λ nodes. Ok (test_of given.settings nodes))
+
+-- options that may not stand together are told last
+abbrev pub unless_clash : {X : Type 0} → Option ℕ → X → Result X Refusal
+unless_clash None x = Ok x
+unless_clash (Some place) x = refuse place cause.Clash
+
+-- what the words of a tool ask for
+abbrev pub command_of : ℕ → Tool → Given → Result Asked Refusal
+command_of wanting tool given = and_then (asked_of wanting tool given) (unless_clash (clash_in given.options given.settings))
 
 abbrev pub reading_for : Option Tool → List (List ℕ) → Result Asked Refusal
 reading_for None words = refuse 0 cause.UnknownTool
-reading_for (Some tool) words = and_then (with_words tool 1 words nothing) (asked_of (length words + 1) tool)
+reading_for (Some tool) words = and_then (with_words tool 1 words nothing) (command_of (length words + 1) tool)
 
 -- what the words ask for, or why they are refused
 abbrev pub reading : List (List ℕ) → Result Asked Refusal

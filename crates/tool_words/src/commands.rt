@@ -3,6 +3,7 @@ use circle_run::Split;
 use find_tests::Test;
 use flat_list::Field;
 use path_text::Path;
+use tree_cmp::Expr;
 
 /// How a walk is to go, whatever the tool.
 #[derive(Clone, Copy, Debug, Drop, PartialEq, Eq)]
@@ -64,6 +65,15 @@ pub struct Tests {
     pub newer: Vec<Path>,
 }
 
+/// What is saved of a comparison.
+#[derive(Debug, Drop)]
+pub struct Want {
+    /// Which rows it is about.
+    pub expr: Expr,
+    /// The file that their entries are written to.
+    pub file: Path,
+}
+
 /// What a command line asks for.
 #[derive(Debug, Drop)]
 pub enum Command {
@@ -90,6 +100,17 @@ pub enum Command {
         sort: Option<(Field, bool)>,
         /// The file that what is chosen is written to.
         output: Option<Path>,
+    },
+    /// A comparison of what stands below two paths.
+    Cmp {
+        /// How each of the two walks is to go.
+        common: Common,
+        /// The source.
+        left: Path,
+        /// The destination.
+        right: Path,
+        /// What is saved, in the order of the words.
+        wants: Vec<Want>,
     },
     /// A walk of a made-up tree, and the summary of what is chosen.
     Test {

@@ -19,7 +19,7 @@ pub enum Cause {
     NoPath,
     /// The word is the first path, or number of nodes, that is one too many.
     TooManyPaths,
-    /// The option was given before.
+    /// The option was given before, or may not stand with others.
     Clash,
 }
 
@@ -56,7 +56,7 @@ pub enum WordsError {
     /// The word is the first path, or number of nodes, that is one too many.
     #[error("refused word {0} too many paths")]
     TooManyPaths(usize),
-    /// The option was given before.
+    /// The option was given before, or may not stand with others.
     #[error("refused word {0} clash")]
     Clash(usize),
     /// No memory was found.

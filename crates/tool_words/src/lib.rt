@@ -1,24 +1,25 @@
 //! The words of a command line: what they ask for, or which of them is refused.
 //!
 //! [`read_words`] reads the words behind the program's name, of which word 0 names a tool, and gives a [`Command`]. There are
-//! three tools:
+//! four tools:
 //!
 //! - `dwalk` lists what stands below paths, one or more, or reads the list from a file.
 //! - `dfind` does the same, and keeps what meets all tests.
+//! - `dcmp` compares what stands below two paths, a source and a destination.
 //! - `dtest` walks a made-up tree, and sums up what meets all tests. It takes one number, of nodes, 1 to 1,000,000.
 //!
-//! Each takes options. These are of all three:
+//! Each takes options. These are of all four:
 //!
 //! | Option | Value | Without it |
 //! |---|---|---|
 //! | `--ranks` | how many ranks work, 1 to 64 | 4 |
-//! | `--hosts` | how many threads the ranks are spread over: 1, for now | 1 |
+//! | `--hosts` | how many threads the ranks are spread over, 1 to 64 | 1 |
 //! | `--split` | `equal` or `random`: what a rank gives to those that ask | `equal` |
 //! | `--seed` | what the lots are drawn from, a number below 2^64 | 0 |
 //! | `--width` | how many ranks report their counts to one, 2 to 64 | 64 |
-//! | `--trace`, `--shares`, `--progress` | none: they are flags | off |
 //!
-//! These are of `dwalk` and `dfind`:
+//! `dwalk`, `dfind` and `dtest` have three flags, `--trace`, `--shares` and `--progress`, which are off without them; `--trace` is
+//! taken with one host alone. These are of `dwalk` and `dfind`:
 //!
 //! | Option | Value | Without it |
 //! |---|---|---|
@@ -38,8 +39,10 @@
 //!
 //! A bound is `N`, `+N` or `-N`: equal to N, greater, or less.
 //!
-//! A value stands behind the first `=` or is the next word, whatever that is. Tests add up, also where an option says two of
-//! them; every other option is given once. A number has 1 to 40 decimal digits, the first of which may be 0. A path may have
+//! `dcmp` has `-o`, whose value is an expression on the rows of the comparison and the path of a file, divided by the first `:`.
+//!
+//! A value stands behind the first `=` or is the next word, whatever that is. Tests and `-o` add up, also where an option says
+//! two of them; every other option is given once. A number has 1 to 40 decimal digits, the first of which may be 0. A path may have
 //! `/` at its end, which is left out. The word `--` ends the options: each later word is a path, or a number for `dtest`,
 //! whatever it begins with.
 //!
@@ -49,6 +52,7 @@
 //! dfind --name *.log --size +10M /t     // of `/t` the logs above 10 MB
 //! dfind --mtime +1 --mtime -7 /t        // what is two to six days old
 //! dfind --input /l --newer /stamp       // of the list in `/l` what changed after `/stamp`
+//! dcmp -o EXIST=ONLY_SRC:/l /p /q        // compares `/q` to `/p`, and saves what `/p` alone has
 //! dtest --type d 100000                 // the directories of a tree of 100,000 nodes
 //! dwalk --x /t                          // UnknownOption(1)
 //! dwalk --name x /t                     // UnknownOption(1)
@@ -62,20 +66,25 @@
 //! dwalk --sort=size --sort x            // Clash(2)
 //! dwalk --input /l /t                   // TooManyPaths(3)
 //! dtest 10 20                           // TooManyPaths(2)
+//! dcmp /p                               // NoPath(2)
+//! dcmp /p -o FOO=DIFFER:/r /q           // BadValue(3)
 //! dwalk --                              // NoPath(2)
+//! dwalk --trace --hosts 2 /t            // Clash(1)
+//! dwalk --trace --hosts 2               // NoPath(4)
 //! ```
 //!
 //! The words are read from left to right, and the first offence is the answer, with the number of its word; that paths or
-//! numbers are wanting or too many is told after the last word. Of several offences at one word the first of [`Cause`] is
-//! told: an offence in the option's own word goes before its standing twice, and a refused value in the next word comes after
-//! that.
+//! numbers are wanting or too many is told after the last word, and after that which options may not stand together. Of several
+//! offences at one word the first of [`Cause`] is told: an offence in the option's own word goes before its standing twice, and
+//! a refused value in the next word comes after that.
 //!
 //! # Parts
 //!
 //! A tool, a group of options and an option are each one line of a table in `specs/Table.antt` (how it is written, which
-//! options the tool takes, what a value sets), and one arm in `tables` and in `settings`. `specs/Value.antt` and `values` say
-//! which texts are values, `specs/Words.antt` and `lines` how words are read one by one, and `specs/Asked.antt` what a command
-//! asks for. What a test's value says is `find_tests`'.
+//! options the tool takes, what a value sets), and one arm in `tables` and in `settings`. Options that may not stand together
+//! are a line each of `specs/Clashes.antt`, and a method of `lines`. `specs/Value.antt` and `values` say which texts are
+//! values, `specs/Words.antt` and `lines` how words are read one by one, and `specs/Asked.antt` what a command asks for. What a
+//! test's value says is `find_tests`', and what an expression says `tree_cmp`'s.
 //!
 //! # What is proved
 //!
@@ -95,7 +104,7 @@ mod trimming;
 mod turns;
 mod values;
 
-pub use commands::{Command, Common, Start, Tests};
+pub use commands::{Command, Common, Start, Tests, Want};
 pub use errors::{Cause, Refusal, WordsError};
 pub use laws::words_ask_within_limits;
 pub use reading::read_words;

@@ -1,16 +1,17 @@
 //! A command line as far as it was read.
-ghost use Rattle.std.specs.Prelude.{◌≡◌, ◌⊎◌, ◌++◌, ◌∷◌, [], Some, None, Ok, Err, OnOk, IfOk, IfErr, IsTrue, Result, Option, List, ℕ, false};
+ghost use Rattle.std.specs.Prelude.{◌≡◌, ◌⊎◌, ◌++◌, ◌∷◌, [], Some, None, Ok, Err, OnOk, IfOk, IfErr, IsTrue, Result, Option, List, ℕ, false, find};
 ghost use Rattle.std.specs.Option.{option_copied};
 ghost use Rattle.tool_words.specs.Asked.{start_in, asked_by};
+ghost use Rattle.tool_words.specs.Clashes.{place_of, trace_on_hosts, clash_in};
 ghost use Rattle.tool_words.specs.Parts.{Tells};
-ghost use Rattle.tool_words.specs.Table.{option_named, Set, set, raise};
-ghost use Rattle.tool_words.specs.Value.{number_in, path_in};
-ghost use Rattle.tool_words.specs.Words.{Given, nothing, ends_options, is_option, name_in, value_in, with_path, with_number, with_plain, was_given, is_repeated, with_another, with_own_value, with_next_value, with_flag, with_option, with_word, at_end, start_by, nodes_by, asked_of};
+ghost use Rattle.tool_words.specs.Table.{option_named, text_of, Set, set, raise};
+ghost use Rattle.tool_words.specs.Value.{is, number_in, path_in};
+ghost use Rattle.tool_words.specs.Words.{Given, nothing, ends_options, is_option, name_in, value_in, with_path, with_number, with_plain, was_given, is_repeated, with_another, with_own_value, with_next_value, with_flag, with_option, with_word, at_end, start_by, sides_by, nodes_by, asked_of, command_of};
 
 use crate::commands::{Command, Start, Tests};
 use crate::errors::WordsError;
 use crate::settings::Settings;
-use crate::tables::{OptionName, Tool};
+use crate::tables::{OptionName, Placed, Tool};
 use crate::turns::Turn;
 use crate::values::{number_in, path_in};
 use path_text::Path;
@@ -24,7 +25,7 @@ const MOST_NODES: u64 = 1_000_000;
 #[derive(Debug, Drop)]
 pub(crate) struct Line {
     next: Turn,
-    options: Vec<OptionName>,
+    options: Vec<Placed>,
     settings: Settings,
     paths: Vec<Path>,
     numbers: Vec<u64>,
@@ -163,7 +164,7 @@ impl Line {
         if self.is_repeated(option) {
             return Err(WordsError::Clash(place));
         }
-        self.options.push(option)?;
+        self.options.push(Placed { option, place })?;
         self.next = Turn::Any;
         Ok(())
     }
@@ -179,7 +180,7 @@ impl Line {
     {
         self.options
             .iter()
-            .any(|other| other.text() == option.text())
+            .any(|other| other.option.text() == option.text())
     }
 
     fn read_plain(
@@ -193,7 +194,7 @@ impl Line {
         ensures refused { IfErr result (λ e. Tells (with_plain tool self.old place word.now) e) }
     {
         match tool {
-            Tool::Walk | Tool::Find => self.read_path(alloc, word, place),
+            Tool::Walk | Tool::Find | Tool::Cmp => self.read_path(alloc, word, place),
             Tool::Test => self.read_number(word, place),
         }
     }
@@ -229,14 +230,64 @@ impl Line {
         }
     }
 
-    /// What the tool was asked for, where the number is that of the word that is wanting behind the last.
+    /// What the tool was asked for, where the number is that of the word that is wanting behind the last. Options that may not
+    /// stand together are told after all else.
     pub(crate) fn command(self, tool: Tool, wanting: usize) -> Result<Command, WordsError>
+        ensures asked { IfOk result (λ command. command_of wanting tool self ≡ Ok (asked_by command)) }
+        ensures refused { IfErr result (λ e. Tells (command_of wanting tool self) e) }
+    {
+        let clash = self.clash();
+        let command = self.asked(tool, wanting)?;
+        match clash {
+            Some(place) => Err(WordsError::Clash(place)),
+            None => Ok(command),
+        }
+    }
+
+    // The number of the word that is named where options may not stand together: the first line that applies.
+    fn clash(&self) -> Option<usize>
+        ensures { result ≡ clash_in self.now.options self.now.settings }
+    {
+        self.trace_on_hosts()
+    }
+
+    // `--trace` with more than one host.
+    fn trace_on_hosts(&self) -> Option<usize>
+        ensures { result ≡ trace_on_hosts self.now.options self.now.settings }
+    {
+        if self.settings.common.hosts > 1 {
+            self.place_of(OptionName::Trace)
+        } else {
+            None
+        }
+    }
+
+    // The number of the word in which an option stands first, if it was given.
+    fn place_of(&self, option: OptionName) -> Option<usize>
+        ensures { result ≡ place_of option self.now.options }
+    {
+        Some(self.first(option)?.place)
+    }
+
+    // The option as it was given first.
+    fn first(&self, option: OptionName) -> Option<Placed>
+        ensures { result ≡ find (λ given. is (text_of option) (text_of given.option)) self.now.options }
+    {
+        self.options
+            .iter()
+            .copied()
+            .find(|given| given.option.text() == option.text())
+    }
+
+    // What the tool was asked for, if no options clash.
+    fn asked(self, tool: Tool, wanting: usize) -> Result<Command, WordsError>
         ensures asked { IfOk result (λ command. asked_of wanting tool self ≡ Ok (asked_by command)) }
         ensures refused { IfErr result (λ e. Tells (asked_of wanting tool self) e) }
     {
         match tool {
             Tool::Walk => self.walk(wanting),
             Tool::Find => self.find(wanting),
+            Tool::Cmp => self.compare(wanting),
             Tool::Test => self.test(wanting),
         }
     }
@@ -284,6 +335,7 @@ impl Line {
             output,
             tests,
             newer,
+            ..
         } = settings;
         let start = start_of(input, paths, &places, wanting)?;
         Ok(Command::Find {
@@ -292,6 +344,26 @@ impl Line {
             tests: Tests { tests, newer },
             sort,
             output,
+        })
+    }
+
+    fn compare(self, wanting: usize) -> Result<Command, WordsError>
+        ensures asked { IfOk result (λ command. asked_of wanting Tool.Cmp self ≡ Ok (asked_by command)) }
+        ensures refused { IfErr result (λ e. Tells (asked_of wanting Tool.Cmp self) e) }
+    {
+        let Line {
+            settings,
+            paths,
+            places,
+            ..
+        } = self;
+        let Settings { common, wants, .. } = settings;
+        let (left, right) = sides_of(paths, &places, wanting)?;
+        Ok(Command::Cmp {
+            common,
+            left,
+            right,
+            wants,
         })
     }
 
@@ -337,6 +409,23 @@ fn start_of(
             Some(place) => Err(WordsError::TooManyPaths(*place)),
             None => Ok(Start::Input(file)),
         },
+    }
+}
+
+// The source and the destination, where the paths stand in words of these numbers.
+fn sides_of(paths: Vec<Path>, places: &[usize], wanting: usize) -> Result<(Path, Path), WordsError>
+    ensures sides { IfOk result (λ sides. sides_by wanting paths.items places.now ≡ Ok sides) }
+    ensures refused { IfErr result (λ e. Tells (sides_by wanting paths.items places.now) e) }
+{
+    match places {
+        [_, _, another, ..] => return Err(WordsError::TooManyPaths(*another)),
+        [_, _] => {}
+        _ => return Err(WordsError::NoPath(wanting)),
+    }
+    let mut paths = paths.into_iter();
+    match (paths.next(), paths.next()) {
+        (Some(left), Some(right)) => Ok((left, right)),
+        _ => Err(WordsError::NoPath(wanting)),
     }
 }
 

@@ -3,10 +3,10 @@ ghost use Rattle.std.specs.Prelude.{◌≡◌, ◌⊎◌, Some, None, OnOk, IfEr
 ghost use Rattle.std.specs.Bool.{OnTrue, OnFalse};
 ghost use Rattle.tool_words.specs.Table.{unset, set, raise};
 
-use crate::commands::Common;
+use crate::commands::{Common, Want};
 use crate::errors::WordsError;
 use crate::tables::OptionName;
-use crate::values::{number_in, order_in, path_in, small_number_in, split_in, test_in};
+use crate::values::{number_in, order_in, path_in, small_number_in, split_in, test_in, want_in};
 use find_tests::Test;
 use flat_list::Field;
 use path_text::Path;
@@ -22,6 +22,7 @@ pub(crate) struct Settings {
     pub(crate) output: Option<Path>,
     pub(crate) tests: Vec<Test>,
     pub(crate) newer: Vec<Path>,
+    pub(crate) wants: Vec<Want>,
 }
 
 impl Model for Settings {
@@ -29,7 +30,7 @@ impl Model for Settings {
 
     ghost Value = { Set };
 
-    ghost view = { λ s. record { common = s.common; sort = s.sort; input = s.input; output = s.output; tests = s.tests.items; newer = s.newer.items } };
+    ghost view = { λ s. record { common = s.common; sort = s.sort; input = s.input; output = s.output; tests = s.tests.items; newer = s.newer.items; wants = s.wants.items } };
 }
 
 impl Settings {
@@ -44,6 +45,7 @@ impl Settings {
             output: None,
             tests: Vec::new(alloc),
             newer: Vec::new(alloc),
+            wants: Vec::new(alloc),
         }
     }
 
@@ -61,7 +63,7 @@ impl Settings {
         let bad = WordsError::BadValue(place);
         match option {
             OptionName::Ranks => self.common.ranks = small_number_in(1, 64, text).ok_or(bad)?,
-            OptionName::Hosts => self.common.hosts = small_number_in(1, 1, text).ok_or(bad)?,
+            OptionName::Hosts => self.common.hosts = small_number_in(1, 64, text).ok_or(bad)?,
             OptionName::Split => self.common.split = split_in(text).ok_or(bad)?,
             OptionName::Seed => self.common.seed = number_in(0, u64::MAX, text).ok_or(bad)?,
             OptionName::Width => self.common.width = small_number_in(2, 64, text).ok_or(bad)?,
@@ -71,6 +73,7 @@ impl Settings {
             OptionName::Output => self.output = Some(path_in(alloc, text, place)?),
             OptionName::Test(name) => self.tests.push(test_in(alloc, name, text, place)?)?,
             OptionName::Newer => self.newer.push(path_in(alloc, text, place)?)?,
+            OptionName::Want => self.wants.push(want_in(alloc, text, place)?)?,
         }
         Ok(())
     }

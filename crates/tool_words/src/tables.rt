@@ -12,6 +12,8 @@ pub(crate) enum Tool {
     Walk,
     /// `dfind`
     Find,
+    /// `dcmp`
+    Cmp,
     /// `dtest`
     Test,
 }
@@ -24,6 +26,7 @@ impl Tool {
         match text {
             "dwalk" => Some(Tool::Walk),
             "dfind" => Some(Tool::Find),
+            "dcmp" => Some(Tool::Cmp),
             "dtest" => Some(Tool::Test),
             _ => None,
         }
@@ -40,6 +43,7 @@ impl Tool {
                 Group::Listing,
                 Group::Testing,
             ],
+            Tool::Cmp => &[Group::Common, Group::Comparing],
             Tool::Test => &[Group::Common, Group::Telling, Group::Testing],
         }
     }
@@ -75,6 +79,8 @@ pub(crate) enum Group {
     Listing,
     /// What is chosen.
     Testing,
+    /// What is saved of a comparison.
+    Comparing,
 }
 
 impl Group {
@@ -100,8 +106,16 @@ impl Group {
                 OptionName::Test(TestName::Minutes),
                 OptionName::Newer,
             ],
+            Group::Comparing => &[OptionName::Want],
         }
     }
+}
+
+/// An option that was given, and the number of its word.
+#[derive(Clone, Copy, Debug, Drop, PartialEq, Eq)]
+pub(crate) struct Placed {
+    pub(crate) option: OptionName,
+    pub(crate) place: usize,
 }
 
 /// An option, whatever the tool.
@@ -120,6 +134,7 @@ pub(crate) enum OptionName {
     Output,
     Test(TestName),
     Newer,
+    Want,
 }
 
 impl OptionName {
@@ -147,6 +162,7 @@ impl OptionName {
             OptionName::Test(TestName::Days) => "--mtime",
             OptionName::Test(TestName::Minutes) => "--mmin",
             OptionName::Newer => "--newer",
+            OptionName::Want => "-o",
         }
     }
 
@@ -154,6 +170,9 @@ impl OptionName {
     pub(crate) fn adds_up(self) -> bool
         ensures { result ≡ adds_up self }
     {
-        matches!(self, OptionName::Test(_) | OptionName::Newer)
+        matches!(
+            self,
+            OptionName::Test(_) | OptionName::Newer | OptionName::Want
+        )
     }
 }

@@ -2,8 +2,10 @@
 ghost use Rattle.std.specs.Prelude.{◌≡◌, ◌⊎◌, Some, None, IfOk, IfErr};
 ghost use Rattle.std.specs.Char.{is_ascii_digit};
 ghost use Rattle.std.specs.List.{list_all};
-ghost use Rattle.tool_words.specs.Value.{number_in, split_in, path_in, field_in, order_in, test_in};
+ghost use Rattle.tool_words.specs.Value.{number_in, split_in, path_in, field_in, order_in, test_in, if_expr, want_in};
+ghost use Rattle.tree_cmp.specs.Expressions.{expr_reading};
 
+use crate::commands::Want;
 use crate::errors::WordsError;
 use crate::trimming::trimmed;
 use circle_run::Split;
@@ -11,6 +13,7 @@ use find_tests::{Test, TestError, TestName, parse_test};
 use flat_list::Field;
 use path_text::{Path, PathError};
 use std::alloc::Global;
+use tree_cmp::{Expr, ExprError, parse_expr};
 
 /// The number from `least` to `most` that a text is.
 pub(crate) fn number_in(least: u64, most: u64, text: &str) -> Option<u64>
@@ -99,6 +102,33 @@ pub(crate) fn test_in(
         Ok(test) => Ok(test),
         Err(TestError::OutOfMemory) => Err(WordsError::OutOfMemory),
         Err(TestError::BadNumber | TestError::BadUnit | TestError::BadKind) => {
+            Err(WordsError::BadValue(place))
+        }
+    }
+}
+
+/// What is to be saved where, which the word of this number holds.
+pub(crate) fn want_in(alloc: Global, text: &str, place: usize) -> Result<Want, WordsError>
+    ensures want { IfOk result (λ want. want_in text.now ≡ Some want) }
+    ensures refused { IfErr result (λ e. ((e ≡ WordsError.BadValue place) × (want_in text.now ≡ None)) ⊎ (e ≡ WordsError.OutOfMemory)) }
+{
+    let Some((expr, file)) = text.split_once(':') else {
+        return Err(WordsError::BadValue(place));
+    };
+    let expr = expr_in(alloc, expr, place)?;
+    let file = path_in(alloc, file, place)?;
+    Ok(Want { expr, file })
+}
+
+// The expression that a text says, which the word of this number holds.
+fn expr_in(alloc: Global, text: &str, place: usize) -> Result<Expr, WordsError>
+    ensures expr { IfOk result (λ expr. if_expr (expr_reading text.now) ≡ Some expr) }
+    ensures refused { IfErr result (λ e. ((e ≡ WordsError.BadValue place) × (if_expr (expr_reading text.now) ≡ None)) ⊎ (e ≡ WordsError.OutOfMemory)) }
+{
+    match parse_expr(alloc, text) {
+        Ok(expr) => Ok(expr),
+        Err(ExprError::OutOfMemory) => Err(WordsError::OutOfMemory),
+        Err(ExprError::BadField(_) | ExprError::BadState(_) | ExprError::Empty) => {
             Err(WordsError::BadValue(place))
         }
     }

@@ -1,6 +1,6 @@
 use Rattle.std.proofs.Common.{rules, subst}
 use Rattle.run_report.specs.Sides.{side_of}
-use Rattle.run_entries.specs.Saving.{Saved}
+use Rattle.run_entries.specs.Saving.{Saved, output_of}
 use Rattle.list_report.specs.Lists.{list_asked}
 use Rattle.list_report.proofs.Steps.{finds_before, stops_finding, stops_saving}
 use Rattle.list_report.proofs.lists.report_of_list.Goals as goal
@@ -14,7 +14,7 @@ returns-clause-reports g c =
     let told = c.in_ok-found.ensures in
     let before = side_of (tree c.args.files.now) (count c.args.files.now) in
     let between = side_of (tree c.find.new.files) (count c.find.new.files) in
-    let saved = subst (λ t. Saved asked.output found.chosen t (tree c.save_list.new.files)) told.same c.in_ok-save_list.ensures.saved in
+    let saved = subst (λ t. Saved (output_of asked.output found.chosen) t (tree c.save_list.new.files)) told.same c.in_ok-save_list.ensures.saved in
     let texts = c.in_ok-list_report.ensures in
     record {
       chosen = found.chosen;

@@ -15,7 +15,7 @@ returns-clause-reports g c =
     over_made
     (λ ps before after. Finds task.common (roots ps) (Some (choice_in task.tests)) c.args.now before after found.chosen found.notes.items found.account)
     task.nodes
-    c.in_ok-made_roots.field-0.items c.in_ok-files.files c.find.new.files c.in_ok-made_roots.ensures c.in_ok-files.ensures c.find.ensures.same
+    c.in_ok-made_roots.field-0.items c.in_ok-files.files.0 c.find.new.files.0 c.in_ok-made_roots.ensures c.in_ok-files.ensures.files c.find.ensures.same
     c.in_ok-found.ensures.finds
     in
     record {
@@ -34,7 +34,7 @@ returns-in_err-found-clause-stops g c =
     let choice = Some (choice_in task.tests) in
     let why = c.in_err-found.field-0.0 in
     let made =
-    over_made (λ ps before after. StopsFinding (roots ps) choice before after why) task.nodes c.in_ok-made_roots.field-0.items c.in_ok-files.files
-    c.find.new.files c.in_ok-made_roots.ensures c.in_ok-files.ensures c.find.ensures.same c.in_err-found.ensures.stopped
+    over_made (λ ps before after. StopsFinding (roots ps) choice before after why) task.nodes c.in_ok-made_roots.field-0.items c.in_ok-files.files.0
+    c.find.new.files.0 c.in_ok-made_roots.ensures c.in_ok-files.ensures.files c.find.ensures.same c.in_err-found.ensures.stopped
     in
     let memory = made_stops c.made_walk_is_fine.ensures c.fine_finds_stop_for_memory.ensures task.nodes c.requires.nodes choice why made in search rules

@@ -2,7 +2,7 @@ use Rattle.std.proofs.Common.{rules, ◌≤◌, [], None, refl}
 use Rattle.tool_text.specs.NoteOrder.{AreInOrder}
 use Rattle.tool_words.specs.Asked.{start_in}
 use Rattle.run_report.specs.Sides.{side_of}
-use Rattle.run_entries.specs.Choosing.{failures_of}
+use Rattle.run_entries.specs.Naming.{failures_in}
 use Rattle.run_entries.proofs.Found.{no_looks, stops_after}
 use Rattle.run_entries.proofs.finding.find_all.Goals as goal
 
@@ -12,7 +12,7 @@ returns-clause-finds g c =
     let count = g.G.Plot.count c.args.files.now in
     let found = c.in_ok-list.field-0 in
     let most : count ≤ 18446744073709551615 = search rules in
-    let names : AreInOrder (failures_of [] found.list) c.in_ok-notes.notes.items = search rules in
+    let names : AreInOrder (failures_in [] found.list) c.in_ok-notes.notes.items = search rules in
     record {
       looks = [];
       entries = found.list;

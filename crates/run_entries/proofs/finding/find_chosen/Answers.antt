@@ -4,7 +4,8 @@ use Rattle.find_tests.specs.Tests.{is_selected}
 use Rattle.tool_text.specs.NoteOrder.{AreInOrder}
 use Rattle.tool_words.specs.Asked.{start_in, choice_in}
 use Rattle.run_report.specs.Sides.{side_of}
-use Rattle.run_entries.specs.Choosing.{newer_than, failures_of}
+use Rattle.run_entries.specs.Choosing.{newer_than}
+use Rattle.run_entries.specs.Naming.{failures_in}
 use Rattle.run_entries.specs.Entries.{Listed, Tells}
 use Rattle.run_entries.proofs.Chosen.{chosen_ascends, chosen_holds}
 use Rattle.run_entries.proofs.Found.{stops_after}
@@ -25,7 +26,7 @@ returns-clause-finds g c =
     in
     let tests = c.args.choice.tests.items ++ map (λ l. newer_than l.seen) looks in
     let chooses : c.in_ok-chosen.chosen ≡ filter (is_selected tests c.args.now) found.list = search rules in
-    let names : AreInOrder (failures_of looks found.list) c.in_ok-notes.notes.items = search rules in
+    let names : AreInOrder (failures_in looks found.list) c.in_ok-notes.notes.items = search rules in
     record {
       looks = looks;
       entries = found.list;

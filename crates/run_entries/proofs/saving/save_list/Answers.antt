@@ -1,10 +1,16 @@
 use Rattle.std.proofs.Common.{subst, sym}
-use Rattle.run_entries.specs.Saving.{SameButOutput}
-use Rattle.run_entries.proofs.Saved.{rest_saved}
+use Rattle.std.specs.Prelude.{IfErr}
+use Rattle.run_report.specs.Sides.{side_of}
+use Rattle.run_entries.specs.Saving.{output_of}
+use Rattle.run_entries.specs.Stopping.{StopsSaving}
+use Rattle.run_entries.proofs.Saved.{if_one_stopped}
 use Rattle.run_entries.proofs.saving.save_list.Goals as goal
 
-pub returns-in-Ok-clause-rest : goal.returns-in-Ok-clause-rest
-returns-in-Ok-clause-rest g c =
+pub returns-clause-stopped : goal.returns-clause-stopped
+returns-clause-stopped g c =
     let tree = g.G.Plot.tree in
-    subst (λ o. SameButOutput o (tree c.args.files.now) (tree c.save.new.ground)) (sym c.in-Some.is)
-    (rest_saved c.in-Some.path _ (tree c.args.files.now) (tree c.save.new.ground) c.in-Ok.ensures.tells c.in-Ok.ensures.told)
+    let count = g.G.Plot.count in
+    let before = side_of (tree c.args.files.now) (count c.args.files.now) in
+    let after = side_of (tree c.save_at.new.files) (count c.save_at.new.files) in
+    subst (λ o. IfErr c.save_at.result (StopsSaving (output_of o c.args.list.now) before after)) (sym c.in-Some.is)
+    (if_one_stopped c.save_at.result _ before after c.save_at.ensures.count.kept c.save_at.ensures.stopped)

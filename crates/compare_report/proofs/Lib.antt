@@ -1,0 +1,9 @@
+pub mod Both
+pub mod Chosen
+pub mod Counted
+pub mod Inside
+pub mod Passed
+pub mod Picked
+pub mod Sided
+pub mod Steps
+pub mod Succeeds

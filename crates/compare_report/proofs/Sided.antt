@@ -1,0 +1,62 @@
+-- What a walk of one path lists is a side, and has the stats that the tree tells.
+use Rattle.std.proofs.Common.{◌≡◌, ℕ, true, List, [], ◌∷◌, Option, Some, None, IfSome, refl, sym, subst}
+use Rattle.std.specs.Prelude.{IsTrue}
+use Rattle.std.specs.List.{All, AllByRecursion, Contains, flat_map}
+use Rattle.std.specs.List.Sorted.{IsStrictlySortedBy}
+use Rattle.std.specs.FinMap.{get}
+use Rattle.std.specs.Option.{option_map}
+use Rattle.std.proofs.Math.ListN.{get_or}
+use Rattle.std.proofs.lemmas.List.Elements.{recursion_from_All, All-from_recursion}
+use Rattle.path_text.specs.Path.{refusal}
+use Rattle.path_text.specs.Order.{path_cmp, is_within}
+use Rattle.outside.specs.Tree.{Files, Node, stat_of}
+use Rattle.outside.specs.declared.trees.Stat.{Stat}
+use Rattle.flat_list.specs.declared.entries.Entry.{Entry}
+use Rattle.flat_list.specs.declared.entries.Mark.{Mark}
+use Rattle.flat_list.specs.declared.entries.Mark.TheVariants as mark
+use Rattle.flat_list.specs.Spelling.{paths}
+use Rattle.tree_walk.specs.Roots.{is_in_some}
+use Rattle.tree_walk.specs.Told.{stat_by, IsTold, EntriesAreTold}
+use Rattle.tree_walk.specs.Walk.{walk, answers_in}
+use Rattle.tree_cmp.specs.Readers.{StatsTold}
+use Rattle.tree_cmp.specs.Sides.{side, IsSide}
+use Rattle.run_report.specs.Sides.{Side}
+use Rattle.run_entries.specs.Entries.{Walked}
+use Rattle.compare_report.proofs.Inside.{within_by_in, all_in}
+
+entries_within : (roots : List (List ℕ)) (top : List ℕ) (es : List Entry) → refusal top ≡ None → AllByRecursion (Contains (top ∷ [])) roots →
+    AllByRecursion (λ e. refusal e.path ≡ None) es → AllByRecursion (λ e. is_in_some roots e.path ≡ true) es →
+    AllByRecursion (λ e. IsTrue (is_within e.path top)) es
+entries_within roots top [] v among valid h = tt
+entries_within roots top (e ∷ es) v among valid h =
+    (within_by_in e.path top valid.0 v (all_in roots top e.path among h.0), entries_within roots top es v among valid.1 h.1)
+
+pub is_side : (top : List ℕ) (es : List Entry) (before after : Side) → refusal top ≡ None → Walked (top ∷ []) es before after →
+    All (λ e. refusal e.path ≡ None) es →
+    IsStrictlySortedBy path_cmp (paths es) → IsSide (side top es)
+is_side top es before after v w valid ascend = record {
+  ascends = ascend;
+  within =
+      All-from_recursion (λ (e : Entry). IsTrue (is_within e.path top)) es
+      (entries_within w.roots top es v (recursion_from_All (Contains (top ∷ [])) w.roots w.are.among)
+      (recursion_from_All (λ (e : Entry). refusal e.path ≡ None) es valid) (recursion_from_All (λ (e : Entry). is_in_some w.roots e.path ≡ true) es w.within));
+}
+
+stat_told : (m : Mark) (found : Option Node) (told : Option Stat) → told ≡ stat_by m found → IfSome told (λ stat. option_map stat_of found ≡ Some stat)
+stat_told m found None e = tt
+stat_told mark.StatFailed found (Some stat) e = absurd (cc)
+stat_told mark.Gone found (Some stat) e = sym e
+stat_told mark.Fine found (Some stat) e = sym e
+stat_told mark.ListFailed found (Some stat) e = sym e
+stat_told mark.Changed found (Some stat) e = sym e
+
+of_told : EntriesAreTold → (tree : Option Files) (starts : List (List ℕ)) (es : List Entry) →
+    IfSome tree (λ files. es ≡ flat_map (walk files (answers_in es)) starts) → IfSome tree (λ files. StatsTold files es)
+of_told law None starts es told = tt
+of_told law (Some files) starts es told =
+    let all = subst (All (IsTold files (answers_in es))) (sym told) (law.of_all files (answers_in es) starts) in
+    λ k d l. let e = get_or es k d in stat_told e.mark (get files e.path) e.stat (all k d l).stat
+
+pub stats_told : EntriesAreTold → (given : List (List ℕ)) (es : List Entry) (before after : Side) → Walked given es before after →
+    IfSome before.tree (λ files. StatsTold files es)
+stats_told law given es before after w = of_told law before.tree w.roots es w.told

@@ -1,0 +1,17 @@
+use Rattle.std.proofs.Common.{◌≡◌, ◌++◌, ℕ, ◌-◌, ◌<◌, ◌≤◌, length, take, filter, get_or}
+use Rattle.path_text.specs.Graft.{below_of}
+use Rattle.compare_report.specs.PrivatePicks.{picks_but, IsNext}
+use Rattle.compare_report.proofs.picking.add_picked.Given as goal
+
+-- what was picked of the entries that were passed, and that the searches are not past the next one
+abbrev pub invariant-loop-cursor : goal.invariant-loop-cursor
+invariant-loop-cursor l = record {
+  of_entries : l.cursor.0 ≡ l.entries;
+  inside : l.cursor.1 ≤ length l.entries;
+  so_far : l.list ≡ l.fn.list ++ filter (picks_but l.top l.wanted l.but) (take l.cursor.1 l.entries);
+  wanted : IsNext (λ e. below_of e.path l.top) l.entries l.cursor.1 l.wanted l.at;
+  but : IsNext (λ e. e.path) l.entries l.cursor.1 l.but l.past;
+}
+
+abbrev pub decreases-loop-cursor : goal.decreases-loop-cursor
+decreases-loop-cursor l = length l.entries - l.cursor.1

@@ -1,0 +1,5 @@
+use Rattle.compare_report.specs.PrivatePicks.{IsPassed}
+use Rattle.compare_report.proofs.picking.seek.Given as goal
+
+abbrev pub invariant-loop-at : goal.invariant-loop-at
+invariant-loop-at l = IsPassed l.all l.at l.sought

@@ -1,0 +1,5 @@
+pub mod Comparing
+pub mod Laws
+pub mod Outputs
+pub mod PrivatePicks
+pub mod PrivateSides

@@ -1,0 +1,115 @@
+//! The two walks of a comparison.
+ghost use Rattle.std.specs.Prelude.{◌≡◌, ◌≤◌, ◌∷◌, [], All, length, IfOk, IfErr, IfSome, None, true};
+ghost use Rattle.path_text.specs.Path.{refusal};
+ghost use Rattle.outside.specs.Count.{RoseBy};
+ghost use Rattle.flat_list.specs.Entries.{is_shaped};
+ghost use Rattle.tree_cmp.specs.Readers.{StatsTold};
+ghost use Rattle.tree_cmp.specs.Sides.{side, IsSide};
+ghost use Rattle.tool_words.specs.Asked.{roots};
+ghost use Rattle.tool_words.specs.Limits.{CommonWithin};
+ghost use Rattle.run_report.specs.Sides.{side_of};
+ghost use Rattle.run_entries.specs.Entries.{Walked};
+ghost use Rattle.run_entries.specs.Stopping.{StopsListing};
+ghost use Rattle.compare_report.specs.Comparing.{WalksBoth, StopsWalking};
+ghost use Rattle.compare_report.specs.PrivateSides.{AreSides};
+
+use flat_list::FlatList;
+use outside::Ground;
+use path_text::{OutOfMemory, Path};
+use run_entries::{Entries, walk_side};
+use run_report::Stop;
+use std::alloc::Global;
+use std::sync::Wait;
+use std::thread::Threads;
+use tool_words::Common;
+use tree_walk::entries_are_told;
+
+// The lists of both sides, and the paths that they were walked from.
+#[derive(Drop)]
+pub(crate) struct Sides {
+    pub(crate) left: FlatList,
+    pub(crate) left_top: Path,
+    pub(crate) right: FlatList,
+    pub(crate) right_top: Path,
+}
+
+/// Walks the source, and then the destination.
+pub(crate) fn walk_sides<T: Threads + Wait + Sync, G: Ground>(
+    rt: &T,
+    alloc: Global,
+    common: &Common,
+    left_top: Path,
+    right_top: Path,
+    files: &mut G,
+) -> Result<Sides, Stop>
+where
+    G::Reader: Send,
+    requires within { CommonWithin common.now }
+    requires left { refusal left_top ≡ None }
+    requires right { refusal right_top ≡ None }
+    ensures tops { IfOk result (λ sides. (sides.left_top ≡ left_top) × (sides.right_top ≡ right_top)) }
+    ensures walks { IfOk result (λ sides. WalksBoth left_top right_top sides.left sides.right (side_of (G.tree files.old) (G.count files.old)) (side_of (G.tree files.new) (G.count files.new))) }
+    ensures are { IfOk result (AreSides (G.tree files.old)) }
+    ensures stopped { IfErr result (StopsWalking left_top right_top (side_of (G.tree files.old) (G.count files.old)) (side_of (G.tree files.new) (G.count files.new))) }
+    ensures same { G.tree files.new ≡ G.tree files.old }
+    ensures area { G.area files.new ≡ G.area files.old }
+    ensures count { RoseBy 0 (G.count files.old) (G.count files.new) }
+{
+    let left = walk_one(rt, alloc, common, &left_top, files)?;
+    let right = walk_one(rt, alloc, common, &right_top, files)?;
+    Ok(Sides {
+        left,
+        left_top,
+        right,
+        right_top,
+    })
+}
+
+// Walks one side.
+fn walk_one<T: Threads + Wait + Sync, G: Ground>(
+    rt: &T,
+    alloc: Global,
+    common: &Common,
+    top: &Path,
+    files: &mut G,
+) -> Result<FlatList, Stop>
+where
+    G::Reader: Send,
+    requires within { CommonWithin common.now }
+    requires top { refusal top.now ≡ None }
+    ensures walked { IfOk result (λ list. Walked (top.now ∷ []) list (side_of (G.tree files.old) (G.count files.old)) (side_of (G.tree files.new) (G.count files.new))) }
+    ensures few { IfOk result (λ list. length list ≤ 4194304) }
+    ensures side { IfOk result (λ list. IsSide (side top.now list)) }
+    ensures told { IfOk result (λ list. IfSome (G.tree files.old) (λ tree. StatsTold tree list)) }
+    ensures shaped { IfOk result (All (λ e. is_shaped e ≡ true)) }
+    ensures stopped { IfErr result (StopsListing (roots (top.now ∷ [])) (side_of (G.tree files.old) (G.count files.old)) (side_of (G.tree files.new) (G.count files.new))) }
+    ensures same { G.tree files.new ≡ G.tree files.old }
+    ensures area { G.area files.new ≡ G.area files.old }
+    ensures count { RoseBy 0 (G.count files.old) (G.count files.new) }
+{
+    entries_are_told();
+    // The count of faults is a number of 64 bits.
+    let _faults = files.faults();
+    let given = one_path(alloc, top)?;
+    let Entries { list, .. } = walk_side(rt, alloc, common, given, files)?;
+    see_paths(&list);
+    Ok(list)
+}
+
+fn one_path(alloc: Global, path: &Path) -> Result<Vec<Path>, OutOfMemory>
+    ensures { IfOk result (λ paths. paths.items ≡ path.now ∷ []) }
+{
+    let mut paths = Vec::new(alloc);
+    paths.push(path.copy()?)?;
+    Ok(paths)
+}
+
+// Each path of a list is a path, which the list does not tell of itself.
+fn see_paths(list: &FlatList)
+    ensures { All (λ e. refusal e.path ≡ None) list.now }
+{
+    let mut cursor = list.cursor();
+    while cursor.advance() {
+        let _ = cursor.entry().path.text();
+    }
+}

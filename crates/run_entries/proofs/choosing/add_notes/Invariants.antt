@@ -1,7 +1,0 @@
-use Rattle.std.proofs.Common.{◌≡◌, ◌++◌, take}
-use Rattle.std.specs.List.{flat_map}
-use Rattle.run_entries.specs.Choosing.{look_notes}
-use Rattle.run_entries.proofs.choosing.add_notes.Given as goal
-
-abbrev pub invariant-loop-look : goal.invariant-loop-look
-invariant-loop-look l = l.notes.items ≡ l.fn.notes.items ++ flat_map look_notes (take l.look-index l.looks)

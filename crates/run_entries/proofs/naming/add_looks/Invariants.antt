@@ -1,0 +1,7 @@
+use Rattle.std.proofs.Common.{◌≡◌, ◌++◌, take}
+use Rattle.std.specs.List.{flat_map}
+use Rattle.run_entries.specs.Naming.{look_notes}
+use Rattle.run_entries.proofs.naming.add_looks.Given as goal
+
+abbrev pub invariant-loop-look : goal.invariant-loop-look
+invariant-loop-look l = l.notes.items ≡ l.fn.notes.items ++ flat_map look_notes (take l.look-index l.looks)

@@ -1,0 +1,6 @@
+use Rattle.std.proofs.Common.{◌≡◌, ◌++◌, map}
+use Rattle.run_entries.specs.Naming.{on_side}
+use Rattle.run_entries.proofs.naming.name_entries.Given as goal
+
+abbrev pub invariant-loop-note : goal.invariant-loop-note
+invariant-loop-note l = l.notes.items ≡ l.fn.notes.items ++ map (on_side l.dest) l.yielded
