@@ -1,6 +1,10 @@
 //! Looks at a small tree, and at files that change.
+ghost use Rattle.std.specs.Prelude.{◌≡◌, []};
+
 use files_mem::{Call, MemGround};
-use outside::{Failed, Ground, Kind, ListError, Listing, Plot, ReadError, Stat, Tree, WriteError};
+use outside::{
+    Failed, Ground, Kind, Lent, ListError, Listing, Plot, ReadError, Stat, Tops, Tree, WriteError,
+};
 use path_looks::{Look, Seen, look_at_each, looks_without_faults_are_told};
 use path_text::{OutOfMemory, Path};
 use std::alloc::Global;
@@ -109,6 +113,54 @@ fn no_path_is_no_look(rt: HostRuntime) -> Result<(), Fail> {
 #[derive(Drop)]
 struct Restless {
     stats: u64,
+    lent: Lent,
+}
+
+// A part of files of which nothing is told, and which finds no memory to write.
+#[derive(Drop)]
+struct Quiet {
+    tops: Tops,
+}
+
+impl Plot for Quiet {
+    ghost use Rattle.std.specs.Prelude.{None};
+    ghost use Rattle.outside.specs.Writes.{under};
+
+    ghost tree = { λ _. None };
+
+    ghost count = { λ _. 0 };
+
+    ghost area = { λ part. under part.tops };
+
+    fn faults(&self) -> u64 {
+        0
+    }
+
+    fn make_dir(&mut self, _alloc: Global, _path: &Path) -> Result<(), WriteError> {
+        Err(WriteError::OutOfMemory)
+    }
+
+    fn make_file(&mut self, _alloc: Global, _path: &Path) -> Result<(), WriteError> {
+        Err(WriteError::OutOfMemory)
+    }
+
+    fn write_at(
+        &mut self,
+        _alloc: Global,
+        _path: &Path,
+        _at: u64,
+        _bytes: &[u8],
+    ) -> Result<(), WriteError> {
+        Err(WriteError::OutOfMemory)
+    }
+
+    fn remove_file(&mut self, _alloc: Global, _path: &Path) -> Result<(), WriteError> {
+        Err(WriteError::OutOfMemory)
+    }
+
+    fn remove_dir(&mut self, _alloc: Global, _path: &Path) -> Result<(), WriteError> {
+        Err(WriteError::OutOfMemory)
+    }
 }
 
 impl Tree for Restless {
@@ -141,14 +193,14 @@ impl Tree for Restless {
 }
 
 impl Plot for Restless {
-    ghost use Rattle.std.specs.Prelude.{None, []};
+    ghost use Rattle.std.specs.Prelude.{None};
     ghost use Rattle.outside.specs.Writes.{all_but};
 
     ghost tree = { λ _. None };
 
     ghost count = { λ _. 0 };
 
-    ghost area = { λ _. all_but [] };
+    ghost area = { λ files. all_but files.lent };
 
     fn faults(&self) -> u64 {
         0
@@ -182,14 +234,35 @@ impl Plot for Restless {
 }
 
 impl Ground for Restless {
+    type Part = Quiet;
+
     type Reader = Restless;
 
-    fn reader(&mut self, _alloc: Global) -> Result<Restless, OutOfMemory> {
-        Ok(Restless { stats: 0 })
+    fn reader(&mut self, alloc: Global) -> Result<Restless, OutOfMemory> {
+        Ok(made_restless(alloc))
     }
 
     fn take_reader(&mut self, reader: Restless) {
         self.stats = self.stats.saturating_add(reader.stats);
+    }
+
+    fn lease(&mut self, alloc: Global, tops: &[Path]) -> Result<Quiet, OutOfMemory> {
+        let tops = self.lent.lend(alloc, tops)?;
+        Ok(Quiet { tops })
+    }
+
+    fn give_back(&mut self, part: Quiet) {
+        self.lent.end(&part.tops);
+    }
+}
+
+// Such files, of which nothing was asked yet.
+fn made_restless(alloc: Global) -> Restless
+    ensures { result.lent ≡ [] }
+{
+    Restless {
+        stats: 0,
+        lent: Lent::make(alloc),
     }
 }
 
@@ -197,7 +270,7 @@ impl Ground for Restless {
 #[test]
 fn each_path_is_asked_once(rt: HostRuntime) -> Result<(), Fail> {
     let alloc = rt.alloc();
-    let mut files = Restless { stats: 0 };
+    let mut files = made_restless(alloc);
     let mut paths = Vec::new(alloc);
     for text in ["/b", "/a", "/c", "/a", "/b"] {
         paths.push(Path::parse(alloc, text)?)?;

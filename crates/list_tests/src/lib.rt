@@ -5,6 +5,8 @@
 #![tactic(auto)]
 
 #[cfg(test)]
+mod of_dcmp;
+#[cfg(test)]
 mod of_find_tests;
 #[cfg(test)]
 mod of_flat_list;

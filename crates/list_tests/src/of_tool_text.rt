@@ -131,11 +131,12 @@ fn names_what_failed(rt: HostRuntime) -> Result<(), Fail> {
         why: Why::Gone,
         dest: true,
     })?;
+    notes.push(note(alloc, "/z\n", Why::FailedRead, true)?)?;
     let mut text = Text::make(alloc);
     put_line(&mut text, "no")?;
     put_notes(&mut text, &notes)?;
     let lines =
-        b"no\nfailed stat /a\nchanged /b\ngone /none\nunnamed /w 3\ntoo long /w 1\ndest gone /z\n";
+        b"no\nfailed stat /a\nchanged /b\ngone /none\nunnamed /w 3\ntoo long /w 1\ndest gone /z\ndest failed read /z\\x0A\n";
     assert_eq!(rt; text.bytes(), lines.as_slice());
     assert!(rt; !text.is_empty());
     Ok(())
@@ -156,6 +157,7 @@ fn puts_notes_in_order(rt: HostRuntime) -> Result<(), Fail> {
     for (path, why, dest) in [
         ("/t/b-x", Why::Gone, false),
         ("/t/b", Why::Gone, true),
+        ("/t/b", Why::FailedRead, false),
         ("/t/b", Why::TooLong(2), false),
         ("/t/b", Why::Unnamed(7), false),
         ("/t/b/c", Why::FailedStat, false),
@@ -172,7 +174,7 @@ fn puts_notes_in_order(rt: HostRuntime) -> Result<(), Fail> {
         notes.push(note(alloc, path, why, dest)?)?;
     }
     let lines =
-        b"dest failed newer /a\ngone /t/b\nfailed stat /t/b\nfailed newer /t/b\nfailed list /t/b\nchanged /t/b\nunnamed /t/b 3\nunnamed /t/b 7\ntoo long /t/b 2\ndest gone /t/b\nfailed stat /t/b/c\ngone /t/b-x\n";
+        b"dest failed newer /a\ngone /t/b\nfailed stat /t/b\nfailed newer /t/b\nfailed list /t/b\nchanged /t/b\nunnamed /t/b 3\nunnamed /t/b 7\ntoo long /t/b 2\nfailed read /t/b\ndest gone /t/b\nfailed stat /t/b/c\ngone /t/b-x\n";
     for _ in 0..2 {
         notes = in_order(notes)?;
         let mut text = Text::make(alloc);

@@ -8,7 +8,8 @@ use std::process::Abort;
 use std::test::Fail;
 use tool_words::{Cause, Command, Common, Refusal, Start, Tests, WordsError, read_words};
 
-fn line_of(alloc: Global, words: &[&str]) -> Result<Vec<String>, AllocError> {
+/// The words as a command line has them.
+pub fn line_of(alloc: Global, words: &[&str]) -> Result<Vec<String>, AllocError> {
     let mut line = Vec::new(alloc);
     for word in words {
         line.push(String::from_str(alloc, word)?)?;
@@ -97,18 +98,17 @@ fn runs_of_command_lines(rt: HostRuntime) -> Result<(), Fail> {
         (
             &[
                 "dwalk",
-                "--ranks=2",
+                "--ranks=8",
                 "--hosts",
-                "1",
+                "4",
                 "--split",
                 "equal",
-                "--trace",
                 "--shares",
                 "/u",
             ],
             Common {
-                ranks: 2,
-                trace: true,
+                ranks: 8,
+                hosts: 4,
                 shares: true,
                 ..standard
             },
@@ -145,9 +145,18 @@ fn runs_of_command_lines(rt: HostRuntime) -> Result<(), Fail> {
 
 #[test]
 fn refused_options_of_runs(rt: HostRuntime) -> Result<(), Fail> {
-    let lines: [(&[&str], WordsError); 14] = [
+    let lines: [(&[&str], WordsError); 17] = [
         (&["dwalk", "--ranks", "65", "/t"], WordsError::BadValue(2)),
-        (&["dwalk", "--hosts", "2", "/t"], WordsError::BadValue(2)),
+        (&["dwalk", "--hosts", "65", "/t"], WordsError::BadValue(2)),
+        (
+            &["dwalk", "--trace", "--hosts", "2", "/t"],
+            WordsError::Clash(1),
+        ),
+        (
+            &["dfind", "--hosts=64", "/t", "--trace"],
+            WordsError::Clash(3),
+        ),
+        (&["dwalk", "--trace", "--hosts", "2"], WordsError::NoPath(4)),
         (&["dwalk", "--ranks=0", "/t"], WordsError::BadValue(1)),
         (&["dwalk", "--ranks=", "/t"], WordsError::BadValue(1)),
         (&["dwalk", "--ranks", "+4", "/t"], WordsError::BadValue(2)),
@@ -580,7 +589,7 @@ static REFUSED: [(&[&str], WordsError); 28] = [
     (&["dtest", "--type", "f"], WordsError::NoPath(3)),
     (&["dtest", "0"], WordsError::BadValue(1)),
     (
-        &["dtest", "--ranks", "8", "--hosts", "4", "--progress", "10"],
+        &["dtest", "--ranks", "8", "--hosts", "0", "--progress", "10"],
         WordsError::BadValue(4),
     ),
     (&["dtest", "1000001"], WordsError::BadValue(1)),

@@ -4,8 +4,7 @@
 //! that the tree took and the one that the run took. N is 1 where no number is given.
 #![tactic(auto)]
 
-use files_mem::MemGround;
-use mfu_top::run;
+use memory_runs::WholeFiles;
 use outside::MemSink;
 use path_text::Path;
 use std::alloc::Global;
@@ -21,7 +20,7 @@ fn main(rt: HostRuntime) -> io::Result<()> {
         .and_then(|word| word.parse::<u32>().ok())
         .unwrap_or(1);
     let start = Instant::now(&rt)?;
-    let Ok(mut files) = MemGround::empty(alloc) else {
+    let Ok(mut files) = WholeFiles::empty(alloc) else {
         return eprintln!(rt; "no memory");
     };
     let Some(nodes) = make_tree(alloc, &mut files, directories) else {
@@ -39,7 +38,7 @@ fn main(rt: HostRuntime) -> io::Result<()> {
         return eprintln!(rt; "no memory");
     };
     let start = Instant::now(&rt)?;
-    let status = run(&rt, alloc, &words, &mut files, &mut out, &mut notes, 0);
+    let status = files.run(&rt, alloc, &words, &mut out, &mut notes, 0);
     eprintln!(rt; "run in {:?}", start.elapsed(&rt)?)?;
     println!(rt;
         "{nodes} nodes, status {}, {} bytes",
@@ -49,7 +48,7 @@ fn main(rt: HostRuntime) -> io::Result<()> {
 }
 
 // Puts the directories and their files, and tells how many nodes the tree then has; None where no memory was found.
-fn make_tree(alloc: Global, files: &mut MemGround, directories: u32) -> Option<u64> {
+fn make_tree(alloc: Global, files: &mut WholeFiles, directories: u32) -> Option<u64> {
     let mut nodes = 1u64;
     for directory in 0..directories {
         let top = format!(in alloc; "/directory_{directory}").ok()?;

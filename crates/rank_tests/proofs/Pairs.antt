@@ -1,5 +1,5 @@
 -- The two seats of a board of two ranks.
-use Rattle.std.proofs.Common.{◌≡◌, ℕ, sym, subst, ap, ◌∙◌, arith, List, [], ◌∷◌, get_or, Option, Some, IfSome}
+use Rattle.std.proofs.Common.{◌≡◌, ◌<◌, ℕ, sym, subst, ap, ◌∙◌, arith, List, [], ◌∷◌, get_or, Option, Some, IfSome}
 use Rattle.post_board.specs.Shown.{Shown, Batches}
 use Rattle.post_board.specs.Fresh.{fresh, AllFresh}
 
@@ -23,4 +23,14 @@ module _ {S : Type 0} (shows : S → Shown) (seats : S → Type 0) where
       let whole : all ≡ first ∷ second ∷ [] = pair_of all answer first second found is in (
         new 0 first b (subst (λ (xs : List S). seats (get_or xs 0 first) × (shows (get_or xs 0 first) ≡ fresh 2 0 b)) whole (made.each 0 first (omega arith))),
         new 1 second b (subst (λ (xs : List S). seats (get_or xs 1 first) × (shows (get_or xs 1 first) ≡ fresh 2 1 b)) whole (made.each 1 first (omega arith))),
+      )
+
+module _ {S : Type 0} (Is : ℕ → S → Type 0) where
+  -- what holds of each of two by its place
+  pub both_are : (all : List S) (answer : Option (S × S)) (first second : S) → ((k : ℕ) (d : S) → k < 2 → Is k (get_or all k d))
+      → IfSome answer (λ pair. all ≡ pair.0 ∷ pair.1 ∷ []) → answer ≡ Some (first, second) → Is 0 first × Is 1 second
+  both_are all answer first second each found is =
+      let whole : all ≡ first ∷ second ∷ [] = pair_of all answer first second found is in (
+        subst (λ (xs : List S). Is 0 (get_or xs 0 first)) whole (each 0 first (omega arith)),
+        subst (λ (xs : List S). Is 1 (get_or xs 1 second)) whole (each 1 second (omega arith)),
       )

@@ -9,11 +9,15 @@ mod of_board;
 #[cfg(test)]
 mod of_circle_run;
 #[cfg(test)]
+mod of_hosts;
+#[cfg(test)]
 mod of_post_board;
 #[cfg(test)]
 mod of_ring_core;
 #[cfg(test)]
 mod of_shared_ranks;
+#[cfg(test)]
+mod of_storms;
 #[cfg(test)]
 mod of_sum_tree;
 #[cfg(test)]

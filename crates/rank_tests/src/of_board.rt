@@ -4,8 +4,9 @@ ghost use Rattle.post_board.specs.Fresh.{fresh};
 ghost use Rattle.post_board.specs.BoardSeats.{IsSeat, shown_by};
 
 use crate::of_post_board::{newest_of, share_and_end, two_of, two_paths};
-use post_board::{Answer, Board, BoardSeat, Post};
+use post_board::{Answer, Board, BoardSeat, Post, Ring};
 use rank_queue::Batch;
+use ring_core::Colour;
 use std::process::Abort;
 use std::test::Fail;
 use std::thread::{Threads, join};
@@ -86,5 +87,26 @@ fn two_ranks_share_strings_over_words_and_end(rt: HostRuntime) -> Result<(), Fai
     let given = share_and_end(&mut post, rt.alloc(), zero, one, batch)?;
     let newest = newest_of(rt.alloc(), given.ok_or("a batch")?)?;
     assert_eq!(rt; newest.ok_or("two paths")?.text(), "/b");
+    Ok(())
+}
+
+// Whether both ranks are busy and nobody asks, and the token lies black at rank 0.
+fn begins<P: Post>(post: &mut P, zero: &mut P::Seat, one: &mut P::Seat) -> bool
+    requires seats { P.seats post.old zero.old × P.seats post.old one.old }
+    requires zero { P.shows zero.old ≡ fresh 2 0 (P.shows zero.old).batches }
+    requires one { P.shows one.old ≡ fresh 2 1 (P.shows one.old).batches }
+{
+    if post.next_request(zero).is_some() || post.ring(zero) != Ring::Here(Colour::Black) {
+        return false;
+    }
+    post.next_request(one).is_none() && post.ring(one) == Ring::Elsewhere
+}
+
+#[test]
+fn a_board_of_two_begins(rt: HostRuntime) -> Result<(), Fail> {
+    let (board, seats) = Board::make(rt.alloc(), 2)?;
+    let (mut zero, mut one) = two_of(seats).ok_or("two seats")?;
+    let mut post = &board;
+    assert!(rt; begins(&mut post, &mut zero, &mut one));
     Ok(())
 }

@@ -1,16 +1,60 @@
 //! Sums of few ranks with what is known of them.
+ghost use Rattle.std.specs.Prelude.{◌≡◌};
+ghost use Rattle.sum_tree.specs.Plain.{fresh};
+
+use crate::of_post_board::two_of;
+use path_text::OutOfMemory;
+use std::alloc::Global;
+use std::process::Abort;
 use std::test::Fail;
-use sum_tree::{PlainSums, Sums};
+use sum_tree::{PlainSums, SumTree, Sums};
+
+// What rank 1 and then rank 0 come to, and both together, where rank 0 counts 3 and rank 1 counts 4.
+fn three_and_four<Q: Sums>(
+    sums: &mut Q,
+    alloc: Global,
+    mut zero: Q::Seat,
+    mut one: Q::Seat,
+) -> Result<Option<(u64, u64, u64)>, OutOfMemory>
+where
+    Q::Seat: Drop,
+    requires seats { Q.seats sums.old zero × Q.seats sums.old one }
+    requires zero { Q.shows zero ≡ fresh 2 2 0 }
+    requires one { Q.shows one ≡ fresh 2 2 1 }
+{
+    sums.raise(&mut zero, 3);
+    sums.raise(&mut one, 4);
+    let None = sums.finish(&mut zero) else {
+        return Ok(None);
+    };
+    let Some(below) = sums.finish(&mut one) else {
+        return Ok(None);
+    };
+    let Some(sum) = sums.finish(&mut zero) else {
+        return Ok(None);
+    };
+    let mut all = Vec::with_capacity(alloc, 2)?;
+    all.push(zero)?;
+    all.push(one)?;
+    Ok(Some((below, sum, sums.gather(all))))
+}
 
 #[test]
 fn two_ranks_come_to_seven(rt: HostRuntime) -> Result<(), Fail> {
-    let (mut sums, mut seats) = PlainSums::make(rt.alloc(), 2, 2)?;
-    sums.raise(&mut seats[0], 3);
-    sums.raise(&mut seats[1], 4);
-    assert_eq!(rt; sums.finish(&mut seats[0]), None);
-    assert_eq!(rt; sums.finish(&mut seats[1]), Some(4));
-    assert_eq!(rt; sums.finish(&mut seats[0]), Some(7));
-    assert_eq!(rt; sums.gather(seats), 7);
+    let (mut sums, seats) = PlainSums::make(rt.alloc(), 2, 2)?;
+    let (zero, one) = two_of(seats).ok_or("two seats")?;
+    let came = three_and_four(&mut sums, rt.alloc(), zero, one)?;
+    assert_eq!(rt; came, Some((4, 7, 7)));
+    Ok(())
+}
+
+#[test]
+fn two_ranks_over_words_come_to_seven(rt: HostRuntime) -> Result<(), Fail> {
+    let (tree, seats) = SumTree::make(rt.alloc(), 2, 2)?;
+    let (zero, one) = two_of(seats).ok_or("two seats")?;
+    let mut sums = &tree;
+    let came = three_and_four(&mut sums, rt.alloc(), zero, one)?;
+    assert_eq!(rt; came, Some((4, 7, 7)));
     Ok(())
 }
 

@@ -4,7 +4,9 @@ ghost use Rattle.std.specs.Prelude.{◌≡◌, ◌≤◌, None};
 use circle_run::{Options, Split};
 use files_mem::{Call, MemGround, MemReader};
 use flat_list::Mark;
-use outside::{Failed, Ground, Kind, ListError, Listing, Plot, ReadError, Stat, Tree, WriteError};
+use outside::{
+    Failed, Ground, Kind, Lent, ListError, Listing, Plot, ReadError, Stat, Tops, Tree, WriteError,
+};
 use path_text::{OutOfMemory, Path};
 use std::alloc::Global;
 use std::process::Abort;
@@ -223,8 +225,56 @@ fn what_fails_is_marked_and_counted(rt: HostRuntime) -> Result<(), Fail> {
 #[derive(Drop)]
 struct Shifting {
     files: MemGround,
+    lent: Lent,
     stats: u64,
     lists: u64,
+}
+
+// A part of files of which nothing is told, and which finds no memory to write.
+#[derive(Drop)]
+struct Quiet {
+    tops: Tops,
+}
+
+impl Plot for Quiet {
+    ghost use Rattle.std.specs.Prelude.{None};
+    ghost use Rattle.outside.specs.Writes.{under};
+
+    ghost tree = { λ _. None };
+
+    ghost count = { λ _. 0 };
+
+    ghost area = { λ part. under part.tops };
+
+    fn faults(&self) -> u64 {
+        0
+    }
+
+    fn make_dir(&mut self, _alloc: Global, _path: &Path) -> Result<(), WriteError> {
+        Err(WriteError::OutOfMemory)
+    }
+
+    fn make_file(&mut self, _alloc: Global, _path: &Path) -> Result<(), WriteError> {
+        Err(WriteError::OutOfMemory)
+    }
+
+    fn write_at(
+        &mut self,
+        _alloc: Global,
+        _path: &Path,
+        _at: u64,
+        _bytes: &[u8],
+    ) -> Result<(), WriteError> {
+        Err(WriteError::OutOfMemory)
+    }
+
+    fn remove_file(&mut self, _alloc: Global, _path: &Path) -> Result<(), WriteError> {
+        Err(WriteError::OutOfMemory)
+    }
+
+    fn remove_dir(&mut self, _alloc: Global, _path: &Path) -> Result<(), WriteError> {
+        Err(WriteError::OutOfMemory)
+    }
 }
 
 #[derive(Drop)]
@@ -272,14 +322,14 @@ impl Tree for ShiftingReader {
 }
 
 impl Plot for Shifting {
-    ghost use Rattle.std.specs.Prelude.{None, []};
+    ghost use Rattle.std.specs.Prelude.{None};
     ghost use Rattle.outside.specs.Writes.{all_but};
 
     ghost tree = { λ _. None };
 
     ghost count = { λ _. 0 };
 
-    ghost area = { λ _. all_but [] };
+    ghost area = { λ files. all_but files.lent };
 
     fn faults(&self) -> u64 {
         0
@@ -313,6 +363,8 @@ impl Plot for Shifting {
 }
 
 impl Ground for Shifting {
+    type Part = Quiet;
+
     type Reader = ShiftingReader;
 
     fn reader(&mut self, alloc: Global) -> Result<ShiftingReader, OutOfMemory> {
@@ -326,6 +378,15 @@ impl Ground for Shifting {
     fn take_reader(&mut self, reader: ShiftingReader) {
         self.stats = self.stats.saturating_add(reader.stats);
         self.lists = self.lists.saturating_add(reader.lists);
+    }
+
+    fn lease(&mut self, alloc: Global, tops: &[Path]) -> Result<Quiet, OutOfMemory> {
+        let tops = self.lent.lend(alloc, tops)?;
+        Ok(Quiet { tops })
+    }
+
+    fn give_back(&mut self, part: Quiet) {
+        self.lent.end(&part.tops);
     }
 }
 
@@ -341,6 +402,7 @@ fn what_changes_between_two_answers_is_marked(rt: HostRuntime) -> Result<(), Fai
         }
         let mut files = Shifting {
             files,
+            lent: Lent::make(alloc),
             stats: 0,
             lists: 0,
         };

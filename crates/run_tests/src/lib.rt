@@ -5,11 +5,15 @@
 #![tactic(auto)]
 
 #[cfg(test)]
+mod of_dcmp;
+#[cfg(test)]
 mod of_dfind;
 #[cfg(test)]
 mod of_dtest;
 #[cfg(test)]
 mod of_dwalk;
+#[cfg(test)]
+mod of_hosts;
 #[cfg(test)]
 mod of_lists;
 #[cfg(test)]

@@ -1,8 +1,8 @@
 //! dfind over files in memory, to the byte.
 use crate::rows::{AMPLE, TREE_T, do_as_wanted, holds, run_at, trees};
-use files_mem::{Call, MemGround};
+use files_mem::Call;
+use memory_runs::WholeFiles;
 use mfu_top::Status;
-use outside::Plot;
 use path_text::Path;
 use std::test::Fail;
 
@@ -64,7 +64,7 @@ fn finds_what_meets_the_tests(rt: HostRuntime) -> Result<(), Fail> {
 #[test]
 fn finds_in_an_ordinary_folder(rt: HostRuntime) -> Result<(), Fail> {
     let alloc = rt.alloc();
-    let mut files = MemGround::empty(alloc)?;
+    let mut files = WholeFiles::empty(alloc)?;
     files.put_dir(&Path::parse(alloc, "/home")?, 0, None)?;
     files.put_dir(&Path::parse(alloc, "/home/ann")?, 0, None)?;
     let profile = Path::parse(alloc, "/home/ann/.profile")?;

@@ -1,15 +1,15 @@
 //! dtest, to the byte.
 use crate::rows::do_as_wanted;
-use files_mem::{Call, MemGround};
+use files_mem::Call;
+use memory_runs::WholeFiles;
 use mfu_top::Status;
-use outside::Plot;
 use path_text::Path;
 use std::test::Fail;
 
 #[test]
 fn walks_a_tree_of_its_own(rt: HostRuntime) -> Result<(), Fail> {
     let alloc = rt.alloc();
-    let mut files = MemGround::empty(alloc)?;
+    let mut files = WholeFiles::empty(alloc)?;
     files.plan(Call::Stat, &Path::parse(alloc, "/n0")?)?;
     do_as_wanted(
         &rt,
@@ -61,7 +61,7 @@ fn walks_a_tree_of_its_own(rt: HostRuntime) -> Result<(), Fail> {
 #[test]
 fn walks_a_hundred_thousand_nodes(rt: HostRuntime) -> Result<(), Fail> {
     let alloc = rt.alloc();
-    let mut files = MemGround::empty(alloc)?;
+    let mut files = WholeFiles::empty(alloc)?;
     do_as_wanted(
         &rt,
         alloc,

@@ -1,8 +1,8 @@
 //! dwalk over files in memory, to the byte.
 use crate::rows::{AMPLE, LIST_T, TIME, TREE_T, holds, run_with, trees};
-use files_mem::{Call, MemGround};
+use files_mem::Call;
+use memory_runs::WholeFiles;
 use mfu_top::Status;
-use outside::Plot;
 use path_text::Path;
 use std::test::Fail;
 
@@ -69,7 +69,7 @@ fn prints_the_tree_and_names_what_failed(rt: HostRuntime) -> Result<(), Fail> {
             "refused word 2 bad value\n",
         ),
         (
-            ["dwalk", "--hosts", "2", "/t"].as_slice(),
+            ["dwalk", "--hosts", "65", "/t"].as_slice(),
             Status::Words,
             "",
             "refused word 2 bad value\n",
@@ -80,7 +80,7 @@ fn prints_the_tree_and_names_what_failed(rt: HostRuntime) -> Result<(), Fail> {
         assert_eq!(rt; told.1.text(), out.as_bytes());
         assert_eq!(rt; told.2.text(), notes.as_bytes());
     }
-    let mut files = MemGround::empty(alloc)?;
+    let mut files = WholeFiles::empty(alloc)?;
     let told = run_with(&rt, alloc, &mut files, &["dwalk", "/"], (AMPLE, AMPLE))?;
     let out = "d            0 /\nitems 1 dirs 1 files 0 links 0 others 0 bytes 0 failed 0\n";
     assert_eq!(rt; told.0, Status::Done);
@@ -146,7 +146,7 @@ fn ends_where_a_sink_is_full(rt: HostRuntime) -> Result<(), Fail> {
 #[test]
 fn walks_ten_thousand_nodes(rt: HostRuntime) -> Result<(), Fail> {
     let alloc = rt.alloc();
-    let mut files = MemGround::empty(alloc)?;
+    let mut files = WholeFiles::empty(alloc)?;
     for d in 0..100 {
         let dir = format!(in alloc; "/d{d}")?;
         files.put_dir(&Path::parse(alloc, &dir)?, 0, TIME)?;
@@ -210,7 +210,7 @@ rank 1 handled 1 given 0 taken 1
 #[test]
 fn tells_what_two_ranks_do(rt: HostRuntime) -> Result<(), Fail> {
     let alloc = rt.alloc();
-    let mut files = MemGround::empty(alloc)?;
+    let mut files = WholeFiles::empty(alloc)?;
     files.put_dir(&Path::parse(alloc, "/u")?, 0, TIME)?;
     files.put_file(&Path::parse(alloc, "/u/a")?, b"", TIME)?;
     files.put_file(&Path::parse(alloc, "/u/b")?, b"", TIME)?;

@@ -1,6 +1,7 @@
 //! Lists that are saved as files, and read.
 use crate::rows::{AMPLE, LIST_T, TREE_T, holds, run_with, trees};
-use files_mem::{Call, MemGround};
+use files_mem::Call;
+use memory_runs::WholeFiles;
 use mfu_top::Status;
 use path_text::Path;
 use std::test::Fail;
@@ -49,7 +50,7 @@ fn tells_what_a_list_file_tells(rt: HostRuntime) -> Result<(), Fail> {
             "damaged /l line 7\n",
         ),
     ] {
-        let mut files = MemGround::empty(alloc)?;
+        let mut files = WholeFiles::empty(alloc)?;
         files.put_file(&Path::parse(alloc, "/l")?, list.as_bytes(), None)?;
         let told = run_with(
             &rt,

@@ -1,7 +1,7 @@
 //! What the tests of runs share: trees, runs with some words, and what is wanted of them.
-use files_mem::MemGround;
-use mfu_top::{Status, run};
-use outside::{Ground, MemSink, load};
+use memory_runs::WholeFiles;
+use mfu_top::Status;
+use outside::MemSink;
 use path_text::Path;
 use std::alloc::Global;
 use std::process::Abort;
@@ -24,8 +24,8 @@ items 5 dirs 2 files 3 links 0 others 0 bytes 6 failed 0
 ";
 
 /// Three trees: `/t` with two levels, `/v` with a name of two lines, and `/w` with a child whose path would be too long.
-pub fn trees(alloc: Global) -> Result<MemGround, Fail> {
-    let mut files = MemGround::empty(alloc)?;
+pub fn trees(alloc: Global) -> Result<WholeFiles, Fail> {
+    let mut files = WholeFiles::empty(alloc)?;
     files.put_dir(&Path::parse(alloc, "/t")?, 0, TIME)?;
     files.put_file(&Path::parse(alloc, "/t/a")?, b"hello", TIME)?;
     files.put_dir(&Path::parse(alloc, "/t/b")?, 0, TIME)?;
@@ -43,7 +43,7 @@ pub fn trees(alloc: Global) -> Result<MemGround, Fail> {
 pub fn run_with<T: Abort + Threads + Wait + Sync>(
     rt: &T,
     alloc: Global,
-    files: &mut MemGround,
+    files: &mut WholeFiles,
     words: &[&str],
     takes: (u64, u64),
 ) -> Result<(Status, MemSink, MemSink), Fail> {
@@ -54,7 +54,7 @@ pub fn run_with<T: Abort + Threads + Wait + Sync>(
 pub fn run_at<T: Abort + Threads + Wait + Sync>(
     rt: &T,
     alloc: Global,
-    files: &mut MemGround,
+    files: &mut WholeFiles,
     words: &[&str],
     takes: (u64, u64),
     now: u64,
@@ -65,7 +65,7 @@ pub fn run_at<T: Abort + Threads + Wait + Sync>(
     }
     let mut out = MemSink::limited(alloc, takes.0)?;
     let mut notes = MemSink::limited(alloc, takes.1)?;
-    let status = run(rt, alloc, &given, files, &mut out, &mut notes, now);
+    let status = files.run(rt, alloc, &given, &mut out, &mut notes, now);
     Ok((status, out, notes))
 }
 
@@ -76,7 +76,7 @@ pub type Want<'w> = (&'w [&'w str], Status, &'w str, &'w str);
 pub fn do_as_wanted<T: Abort + Threads + Wait + Sync>(
     rt: &T,
     alloc: Global,
-    files: &mut MemGround,
+    files: &mut WholeFiles,
     wants: &[Want],
 ) -> Result<(), Fail> {
     for (words, status, out, notes) in wants {
@@ -98,8 +98,7 @@ end 5
 ";
 
 /// Whether the file at a path holds this text.
-pub fn holds(alloc: Global, files: &mut MemGround, path: &str, text: &str) -> Result<bool, Fail> {
-    let mut reader = files.reader(alloc)?;
-    let bytes = load(alloc, &mut reader, &Path::parse(alloc, path)?)?;
+pub fn holds(alloc: Global, files: &mut WholeFiles, path: &str, text: &str) -> Result<bool, Fail> {
+    let bytes = files.load(alloc, &Path::parse(alloc, path)?)?;
     Ok(bytes.as_slice() == text.as_bytes())
 }

@@ -1,0 +1,154 @@
+//! What the system of a test can't be made to tell: names that are no text, a directory that fails while it is read, and a clock.
+use outside::{Ground, ListError, Tree};
+use path_text::Path;
+use real_disk::{RealGround, seconds};
+use std::alloc::Allocator;
+use std::fs::{File, Files, Metadata, OpenOptions};
+use std::io;
+use std::io::{ErrorKind, Read};
+use std::rt::Clock;
+use std::test::Fail;
+use std::time::Duration;
+
+/// A system with one directory, whose names come in two pieces; the second may fail.
+#[derive(Clone, Copy, Drop)]
+struct Odd {
+    fails: bool,
+}
+
+/// The names of its directory.
+#[derive(Drop)]
+struct Pieces {
+    given: u8,
+    fails: bool,
+}
+
+impl Read for Pieces {
+    fn read(&mut self, into: &mut [u8]) -> io::Result<usize> {
+        let piece = match self.given {
+            0 => b".\0..\0two\0\xff\0".as_slice(),
+            1 => b"two\0one\0a\xffb\0\xc3\xa9\0".as_slice(),
+            _ => b"".as_slice(),
+        };
+        if self.fails && self.given == 1 {
+            return Err(io::Error::from(ErrorKind::TimedOut));
+        }
+        self.given = self.given.saturating_add(1);
+        let n = piece.len().min(into.len());
+        into[..n].copy_from_slice(&piece[..n]);
+        Ok(n)
+    }
+}
+
+fn refused<T: Drop>() -> io::Result<T> {
+    Err(io::Error::from(ErrorKind::Unsupported))
+}
+
+impl Files for Odd {
+    type File = File;
+
+    type Dir = Pieces;
+
+    fn open_file(&self, _how: &OpenOptions, _path: &str) -> io::Result<File> {
+        refused()
+    }
+
+    fn open_dir(&self, _path: &str) -> io::Result<Pieces> {
+        Ok(Pieces {
+            given: 0,
+            fails: self.fails,
+        })
+    }
+
+    fn metadata(&self, _path: &str) -> io::Result<Metadata> {
+        refused()
+    }
+
+    fn symlink_metadata(&self, _path: &str) -> io::Result<Metadata> {
+        refused()
+    }
+
+    fn copy(&self, _from: &str, _to: &str) -> io::Result<u64> {
+        refused()
+    }
+
+    fn rename(&self, _from: &str, _to: &str) -> io::Result<()> {
+        refused()
+    }
+
+    fn remove_file(&self, _path: &str) -> io::Result<()> {
+        refused()
+    }
+
+    fn create_dir(&self, _path: &str) -> io::Result<()> {
+        refused()
+    }
+
+    fn remove_dir(&self, _path: &str) -> io::Result<()> {
+        refused()
+    }
+
+    fn remove_dir_all<B: Allocator>(&self, _alloc: B, _path: &str) -> io::Result<()> {
+        refused()
+    }
+}
+
+#[test]
+fn names_that_are_no_text_are_counted(rt: HostRuntime) -> Result<(), Fail> {
+    let alloc = rt.alloc();
+    let mut reader = RealGround::make(alloc, Odd { fails: false }).reader(alloc)?;
+    let listing = reader.list(alloc, &Path::parse(alloc, "/x")?)?;
+    assert_eq!(rt;
+        (listing.len(), listing.unnamed(), listing.far()),
+        (3, 2, 0)
+    );
+    for (k, name) in ["one", "two", "\u{e9}"].iter().enumerate() {
+        if k < listing.len() {
+            assert_eq!(rt; listing.name(k), *name);
+        }
+    }
+    assert_eq!(rt; reader.faults(), 2);
+    Ok(())
+}
+
+#[test]
+fn names_that_end_in_a_fault_are_no_listing(rt: HostRuntime) -> Result<(), Fail> {
+    let alloc = rt.alloc();
+    let mut reader = RealGround::make(alloc, Odd { fails: true }).reader(alloc)?;
+    let told = reader.list(alloc, &Path::parse(alloc, "/x")?).err();
+    assert!(rt; told == Some(ListError::Failed));
+    assert_eq!(rt; reader.faults(), 1);
+    Ok(())
+}
+
+/// A clock that stands, or that can't be read.
+#[derive(Drop)]
+struct Standing(Option<Duration>);
+
+impl Clock for Standing {
+    fn monotonic(&self) -> io::Result<Duration> {
+        refused()
+    }
+
+    fn since_1970(&self) -> io::Result<Duration> {
+        match self.0 {
+            Some(time) => Ok(time),
+            None => refused(),
+        }
+    }
+}
+
+#[test]
+fn the_time_is_that_of_the_clock(rt: HostRuntime) {
+    for (millis, want) in [
+        (0, 0),
+        (999, 0),
+        (1000, 1),
+        (1_700_000_000_999, 1_700_000_000),
+    ] {
+        let clock = Standing(Some(Duration::from_millis(millis)));
+        assert_eq!(rt; seconds(&clock), want);
+    }
+    assert_eq!(rt; seconds(&Standing(None)), 0);
+    assert!(rt; seconds(&rt) > 1_700_000_000);
+}

@@ -1,0 +1,23 @@
+//! Tests of the edge to the system, of which no contract tells what it holds: over a tree that a test makes in an empty folder of
+//! its own, or over made-up answers.
+//!
+//! They stand here, and not in `real_disk`, so that it is proved once: what they call is proved, and they are proved over its
+//! contracts.
+#![tactic(auto)]
+
+#[cfg(test)]
+mod fakes;
+#[cfg(test)]
+mod folders;
+#[cfg(test)]
+mod looks;
+#[cfg(test)]
+mod names;
+#[cfg(test)]
+mod plots;
+#[cfg(test)]
+mod runs;
+#[cfg(test)]
+mod streams;
+#[cfg(test)]
+mod writes;

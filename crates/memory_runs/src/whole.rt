@@ -1,0 +1,115 @@
+//! Files of which no part is lent.
+ghost use Rattle.std.specs.Prelude.{◌≡◌, IfOk};
+ghost use Rattle.files_mem.specs.Memory.{empty_files};
+
+use files_mem::{Call, MemGround, PutError};
+use mfu_top::{Status, run};
+use outside::{Ground, LoadError, MemSink, Plot, load};
+use path_text::{OutOfMemory, Path};
+use std::alloc::Global;
+use std::marker::Model;
+use std::sync::Wait;
+use std::thread::Threads;
+
+/// Files in memory of which no part is lent, so that a run can go over them. They are seen as the files.
+#[derive(Drop)]
+pub struct WholeFiles {
+    files: MemGround,
+}
+
+impl Model for WholeFiles {
+    ghost use Rattle.std.specs.Prelude.{◌≡◌, []};
+    ghost use Rattle.outside.specs.Writes.{all_but};
+    ghost use Rattle.files_mem.specs.Memory.{Memory, memory_code};
+
+    ghost Value = { Memory };
+
+    ghost coded = { memory_code };
+
+    ghost view = { λ whole. whole.files };
+
+    ghost invariant = { λ whole. whole.files.area ≡ all_but [] };
+}
+
+impl WholeFiles {
+    /// Nothing but `/`.
+    pub fn empty(alloc: Global) -> Result<WholeFiles, OutOfMemory>
+        ensures { IfOk result (λ whole. whole.files ≡ empty_files) }
+    {
+        let files = MemGround::empty(alloc)?;
+        Ok(WholeFiles { files })
+    }
+
+    /// Puts a directory, with so many children whose path would be too long.
+    pub fn put_dir(&mut self, path: &Path, far: u64, mtime: Option<u64>) -> Result<(), PutError> {
+        match self.files.put_dir(path, far, mtime) {
+            Ok(()) => Ok(()),
+            Err(e) => Err(e),
+        }
+    }
+
+    /// Puts a file with these bytes.
+    pub fn put_file(
+        &mut self,
+        path: &Path,
+        bytes: &[u8],
+        mtime: Option<u64>,
+    ) -> Result<(), PutError> {
+        match self.files.put_file(path, bytes, mtime) {
+            Ok(()) => Ok(()),
+            Err(e) => Err(e),
+        }
+    }
+
+    /// Puts a link.
+    pub fn put_link(&mut self, path: &Path, mtime: Option<u64>) -> Result<(), PutError> {
+        match self.files.put_link(path, mtime) {
+            Ok(()) => Ok(()),
+            Err(e) => Err(e),
+        }
+    }
+
+    /// Puts what is none of these.
+    pub fn put_other(&mut self, path: &Path, mtime: Option<u64>) -> Result<(), PutError> {
+        match self.files.put_other(path, mtime) {
+            Ok(()) => Ok(()),
+            Err(e) => Err(e),
+        }
+    }
+
+    /// Plans that a call fails at a path.
+    pub fn plan(&mut self, call: Call, path: &Path) -> Result<(), OutOfMemory> {
+        match self.files.plan(call, path) {
+            Ok(()) => Ok(()),
+            Err(e) => Err(e),
+        }
+    }
+
+    /// How often they have failed.
+    pub fn faults(&self) -> u64
+        ensures { result ≡ self.now.count }
+    {
+        self.files.faults()
+    }
+
+    /// The bytes of the file at a path.
+    pub fn load(&mut self, alloc: Global, path: &Path) -> Result<Vec<u8>, LoadError> {
+        let Ok(mut reader) = self.files.reader(alloc) else {
+            return Err(LoadError::OutOfMemory);
+        };
+        load(alloc, &mut reader, path)
+    }
+
+    /// A run over them with these words, at this time in seconds since 1970.
+    pub fn run<T: Threads + Wait + Sync>(
+        &mut self,
+        rt: &T,
+        alloc: Global,
+        words: &[String],
+        out: &mut MemSink,
+        notes: &mut MemSink,
+        now: u64,
+    ) -> Status {
+        run(rt, alloc, words, &mut self.files, out, notes, now)
+    }
+}
