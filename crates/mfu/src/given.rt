@@ -1,11 +1,10 @@
-//! What the program is given: its words and the time.
+//! What the program is given: its words.
 ghost use Rattle.std.specs.Prelude.{◌≡◌, ◌⊎◌, IfErr};
 
 use mfu_top::Status;
 use std::env;
 use std::io::ErrorKind;
-use std::rt::{Clock, Env};
-use std::time::{SystemTime, UNIX_EPOCH};
+use std::rt::Env;
 
 /// The words behind the program's own name, or how the program ends where one is no text or no memory is found.
 pub fn words<R: Env + AllocGlobal>(rt: &R) -> Result<Vec<String>, Status>
@@ -18,14 +17,4 @@ pub fn words<R: Env + AllocGlobal>(rt: &R) -> Result<Vec<String>, Status>
     };
     let _name = words.next();
     words.collect(rt.alloc()).map_err(|_| Status::Memory)
-}
-
-/// The seconds since 1970, and 0 where the clock can't be read or stands before.
-pub fn seconds(clock: &impl Clock) -> u64 {
-    match SystemTime::now(clock) {
-        Ok(now) => now
-            .duration_since(UNIX_EPOCH)
-            .map_or(0, |time| time.as_secs()),
-        Err(_) => 0,
-    }
 }

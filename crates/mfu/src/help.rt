@@ -1,7 +1,7 @@
 //! What the program says of itself.
-use crate::streams::RealSink;
 use mfu_top::Status;
 use outside::put_all;
+use real_disk::RealSink;
 use std::io::Write;
 
 const VERSION: &str = "mfu 0.1.0\n";
@@ -12,6 +12,7 @@ Tools for trees of files.
 
   dwalk PATH..     lists what stands at each path and below it, in path order
   dfind PATH..     lists of that what meets tests
+  dcmp SRC DEST    compares what stands below two paths, bytes too
   dtest N          walks a made-up tree of N nodes in memory, and touches no disk
 
   mfu TOOL --help  says more of a tool
@@ -35,7 +36,7 @@ const DWALK: &str = "usage: mfu dwalk [OPTION].. PATH..
 
 Lists what stands at each path and below it, in path order: the kind (f, d, l, o), the size of a
 file and the path, and then a summary. Links are not followed. A path that is under another one is
-listed once. The word -- ends the options.
+dropped, also where the other is a link. The word -- ends the options.
 
   --sort FIELD   prints by path, name, size, mtime or kind; -FIELD from the greatest to the least
   --output FILE  saves the list, in path order
@@ -43,13 +44,13 @@ listed once. The word -- ends the options.
 
 How the walk goes changes nothing of the list:
   --ranks N      N ranks share the walk, 1 to 64; without it 4
-  --hosts N      the ranks run in N threads; for now N is 1
+  --hosts N      the ranks run in N threads, 1 to 64; without it 1
   --split RULE   what a rank gives to one that asks: equal, the same part to each, or random
   --seed N       the seed of all that is drawn by lot, a number below 2^64; without it 0
   --width N      N ranks report their counts to one, 2 to 64; without it 64
 
 Standard error tells first, of a walk alone:
-  --trace        each thing that a rank did, one a line
+  --trace        each thing that a rank did, one a line; on one host alone
   --shares       how many paths each rank handled, gave and took
   --progress     how many entries had been found, as that number rose by 1000 or more, and at last
 
@@ -96,6 +97,42 @@ Notes on standard error, beside those of dwalk:
   gone P, failed newer P        nothing stands at a path P of --newer, or the system did not tell of it
 ";
 
+const DCMP: &str = "usage: mfu dcmp [OPTION].. [-o EXPR:FILE].. SRC DEST
+
+Compares what stands at SRC and below it with what stands at DEST and below it. A row tells of each
+path that is on a side, in path order, by four signs and the path below SRC and DEST, / for these
+themselves; and a last line counts the rows. Files of one size are read until they differ. Links are
+told by their kind alone. Nothing is changed but the files of -o.
+
+  field    sign
+  EXIST    S, only in SRC; D, only in DEST; C, in both
+  TYPE     =, both are of one kind; !, they differ; -, there are not two to compare
+  SIZE     the same of the sizes of two regular files
+  CONTENT  the same of their bytes; - also where a read failed
+
+  -o EXPR:FILE   saves, as a list in path order, what SRC has at each row that meets EXPR, or what
+                 DEST has where SRC has nothing. It may stand several times; the lists are saved in
+                 that order, before anything is printed. dwalk and dfind read them by --input
+
+An EXPR is FIELD=STATE, or several of them: with @ between them all have to hold, with , one of the
+parts, and @ binds tighter. EXIST has the states ONLY_SRC, ONLY_DEST, COMMON and DIFFER, which is on
+one side only; TYPE, SIZE and CONTENT have COMMON and DIFFER, and a row with - meets neither. The
+first : ends the EXPR.
+
+  mfu dcmp -o EXIST=ONLY_SRC,CONTENT=DIFFER:/l /p /q   saves what is new in /p, or has other bytes
+
+What is under a path has no row where SRC or DEST could not tell all that is in it; such a path is
+named. How the two walks go changes nothing of the rows: --ranks, --hosts, --split, --seed and
+--width, as for dwalk.
+
+Notes on standard error, beside those of dwalk on the entries of SRC and of DEST:
+  failed read P                 a read of the file P failed
+  changed P                     P was a file of some size, and then was not
+  dest ..                       so begins each note on the side of DEST
+
+A list that is not written is named as by dwalk, and nothing is printed.
+";
+
 const DTEST: &str = "usage: mfu dtest [OPTION].. [TEST].. N
 
 Makes a tree of N nodes in memory, 1 to 1000000, walks it, and prints the summary of what meets all
@@ -124,6 +161,7 @@ fn help_of(tool: &str) -> Option<&'static str> {
     match tool {
         "dwalk" => Some(DWALK),
         "dfind" => Some(DFIND),
+        "dcmp" => Some(DCMP),
         "dtest" => Some(DTEST),
         _ => None,
     }
@@ -144,11 +182,12 @@ mod tests {
 
     #[test]
     fn help_is_the_whole_command_line(rt: HostRuntime) -> Result<(), Fail> {
-        let cases: [(&[&str], Option<&str>); 10] = [
+        let cases: [(&[&str], Option<&str>); 11] = [
             (&["--help"], Some("usage: mfu TOOL")),
             (&["--version"], Some("mfu 0.1.0")),
             (&["dwalk", "--help"], Some("usage: mfu dwalk")),
             (&["dfind", "--help"], Some("usage: mfu dfind")),
+            (&["dcmp", "--help"], Some("usage: mfu dcmp")),
             (&["dtest", "--help"], Some("usage: mfu dtest")),
             (&["dnone", "--help"], None),
             (&[], None),
