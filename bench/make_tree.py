@@ -1,10 +1,11 @@
 #!/usr/bin/env python3
-"""Makes a tree of empty files, directories and links, the same tree each time for the same words.
+"""Makes a tree of files, directories and links, the same tree each time for the same words.
 
-usage: make_tree.py DIR ENTRIES [SEED]
+usage: make_tree.py DIR ENTRIES [SEED [full]]
 
 DIR must not be there yet. As in the trees of real projects, few directories hold many files and most hold a few, names have
-3 to 40 bytes and sometimes blanks or bytes beyond ASCII, and one entry in a hundred is a link, every second one to nothing.
+3 to 40 bytes and sometimes blanks or bytes beyond ASCII, and one entry in a hundred is a link, every second one to nothing. Files are empty; with `full` each but one in twenty has bytes,
+most a few KiB and one in a hundred some 200 KiB.
 The last line printed says how many entries there are with DIR itself, and how many bytes their paths have on average.
 """
 import os
@@ -23,6 +24,17 @@ def new_name(draw, ending):
 
 def make_file(path):
     os.close(os.open(path, os.O_CREAT | os.O_EXCL | os.O_WRONLY))
+
+
+def new_size(draw):
+    """How many bytes a full file has."""
+    middle, spread = draw.choices([(7.2, 1.2), (9.5, 1.0), (12.0, 1.0)], [80, 19, 1])[0]
+    return int(draw.lognormvariate(middle, spread)) if draw.randrange(20) else 0
+
+
+def fill(draw, path):
+    with open(path, "wb") as file:
+        file.write(draw.randbytes(new_size(draw)))
 
 
 def put(draw, folder, make, ending):
@@ -50,9 +62,9 @@ def fill_size(draw):
     return draw.randint(low, high)
 
 
-def make_tree(top, entries, seed):
+def make_tree(top, entries, seed, full):
     """Makes directories below those that there are, each with its files, until there are so many entries."""
-    draw = random.Random(seed)
+    draw, draw_bytes = random.Random(seed), random.Random(seed)
     os.makedirs(top)
     made, length = 1, len(os.fsencode(top))
     shallow = [(top, 0)]
@@ -62,12 +74,15 @@ def make_tree(top, entries, seed):
         if depth + 1 < DEEPEST:
             shallow.append((folder, depth + 1))
         leaves = [put_leaf(draw, folder) for _ in range(min(fill_size(draw), entries - made - 1))]
+        for path in leaves if full else []:
+            if not os.path.islink(path):
+                fill(draw_bytes, path)
         made += 1 + len(leaves)
         length += sum(len(os.fsencode(path)) for path in [folder, *leaves])
     print("entries", made, "bytes a path", length // made)
 
 
 if __name__ == "__main__":
-    if len(sys.argv) not in (3, 4):
+    if len(sys.argv) not in (3, 4, 5) or sys.argv[4:] not in ([], ["full"]):
         sys.exit(__doc__)
-    make_tree(os.path.abspath(sys.argv[1]), int(sys.argv[2]), int(sys.argv[3]) if len(sys.argv) == 4 else 1)
+    make_tree(os.path.abspath(sys.argv[1]), int(sys.argv[2]), int(sys.argv[3]) if len(sys.argv) > 3 else 1, len(sys.argv) == 5)

@@ -1,0 +1,209 @@
+#!/usr/bin/env python3
+"""Checks that the documents, the man pages and the completions agree with the program. usage: check_docs.py
+
+- The table contrib/tools.txt has the options that the program reads (tool_words/specs/Table.antt) and those of its help
+  (mfu/src/help.rt), and what is made of it is not old.
+- Each option stands in the man page of its tool, and bash, zsh and fish offer it.
+- `man --warnings` has nothing to say, and each shell reads its completion.
+- Each link in a Markdown file leads to a file and a heading that are there.
+- Where the program is built, each command in README.md, docs/TOOLS.md, docs/RECIPES.md and docs/LISTS.md that begins with `$ ` prints what
+  stands below it. A line `...` stands for any lines.
+
+What needs a tool that is missing is skipped, and a line says so. The exit status is 1 where something is wrong.
+"""
+import glob
+import os
+import re
+import shutil
+import subprocess
+import sys
+import tempfile
+
+import make_pages
+
+TOP = make_pages.TOP
+TRIED = ["README.md", "docs/TOOLS.md", "docs/RECIPES.md", "docs/LISTS.md"]
+OPTION = r"(?<![\w-])--?[a-z][a-z-]*"
+wrong = []
+
+
+def said(text):
+    wrong.append(text)
+    print(f"wrong: {text}", file=sys.stderr)
+
+
+def text_of(name):
+    with open(os.path.join(TOP, name), encoding="utf-8") as file:
+        return file.read()
+
+
+def have(command):
+    if shutil.which(command):
+        return True
+    print(f"skipped: {command} is not there")
+    return False
+
+
+def run(words, **more):
+    return subprocess.run(words, capture_output=True, text=True, cwd=TOP, **more)
+
+
+def names(table, tool):
+    return {option.flags()[0] for option in table.options(tool)}
+
+
+def options_are_read(table):
+    read = set(re.findall(r'^text_of .*codes "([^"]*)"', text_of("crates/tool_words/specs/Table.antt"), re.M))
+    ours = set().union(*(names(table, tool) for tool in table.tools))
+    for name in sorted(read ^ ours):
+        said(f"the option {name} stands in {'contrib/tools.txt' if name in ours else 'tool_words/specs/Table.antt'} alone")
+
+
+def options_are_in_help(table):
+    helps = dict(re.findall(r'^const ([A-Z]+): &str = "((?:[^"\\]|\\.)*)";', text_of("crates/mfu/src/help.rt"), re.M))
+    for tool in table.tools:
+        told = set(re.findall(r"^  (--?[a-z]+)", helps.get(tool.name.upper(), ""), re.M))
+        if not told and tool.name != "dtest":
+            said(f"the help says nothing of {tool.name}")
+        for name in sorted(told - names(table, tool)):
+            said(f"the help of {tool.name} has {name}, and contrib/tools.txt has not")
+    every = set(re.findall(OPTION, " ".join(helps.values()))) - {"--help", "--version"}
+    for tool in table.tools:
+        for name in sorted(names(table, tool) - every):
+            said(f"the help says nothing of {name}")
+    for number in re.findall(r"^  ([0-9])  ", helps["TOOLS"], re.M):
+        if f"\n| {number} |" not in text_of("README.md"):
+            said(f"README.md says nothing of status {number}")
+
+
+def options_are_in_pages(table):
+    for tool in table.tools:
+        page = text_of(f"man/mfu-{tool.name}.1").replace("\\-", "-").replace("\\fB", "").replace("\\fR", "")
+        for name in sorted(names(table, tool) - set(re.findall(OPTION, page))):
+            said(f"mfu-{tool.name}(1) says nothing of {name}")
+
+
+def pages_are_sound():
+    if not have("man") or "dpkg" in run(["man", "--version"]).stdout:
+        return
+    for page in sorted(os.listdir(os.path.join(TOP, "man"))):
+        env = dict(os.environ, LC_ALL="C.UTF-8", MANROFFSEQ="", MANWIDTH="80")
+        told = run(["man", "--warnings", "-E", "UTF-8", "-l", "-Tutf8", "-Z", "man/" + page], env=env).stderr
+        if told:
+            said(f"man/{page}: {told.strip()}")
+
+
+def offered_by_bash(tool):
+    script = "source completions/mfu.bash; COMP_WORDS=(mfu \"$1\" -); COMP_CWORD=2; _mfu; printf '%s\\n' \"${COMPREPLY[@]}\""
+    return run(["bash", "-c", script, "bash", tool]).stdout
+
+
+def offered_by_fish(tool):
+    return run(["fish", "--no-config", "-c", "source completions/mfu.fish; complete -C \"mfu $argv[1] -\"", tool]).stdout
+
+
+def offered_by_zsh(tool):
+    part = re.search(rf"^        {tool}\)$(.*?);;$", text_of("completions/_mfu"), re.M | re.S)
+    return part.group(1) if part else ""
+
+
+def completions_offer(table):
+    shells = [("bash", ["bash", "-n", "completions/mfu.bash"], offered_by_bash),
+              ("zsh", ["zsh", "-n", "completions/_mfu"], offered_by_zsh),
+              ("fish", ["fish", "--no-execute", "completions/mfu.fish"], offered_by_fish)]
+    for shell, reads, offered in shells:
+        if not have(shell):
+            continue
+        told = run(reads)
+        if told.returncode:
+            said(f"{shell}: {told.stderr.strip()}")
+        for tool in table.tools:
+            for name in sorted(names(table, tool) - set(re.findall(OPTION, offered(tool.name)))):
+                said(f"{shell} does not offer {name} for {tool.name}")
+
+
+def headings(text):
+    return {make_pages.anchor(title.replace("`", "")) for title in re.findall(r"^#+ (.*)$", text, re.M)}
+
+
+def links_lead():
+    for folder, below, files in os.walk(TOP):
+        below[:] = [name for name in below if name not in (".git", "out")]
+        for name in files:
+            if name.endswith(".md"):
+                links_of(os.path.relpath(os.path.join(folder, name), TOP))
+
+
+def links_of(name):
+    text = re.sub(r"```.*?```", "", text_of(name), flags=re.S)
+    for link in re.findall(r"\]\(([^)\s]+)\)", text):
+        if re.match(r"[a-z]+:", link):
+            continue
+        path, _, title = link.partition("#")
+        to = os.path.normpath(os.path.join(os.path.dirname(name), path)) if path else name
+        if not os.path.exists(os.path.join(TOP, to)):
+            said(f"{name}: the link {link} leads nowhere")
+        elif title and title not in headings(text_of(to)):
+            said(f"{name}: {to} has no heading {title}")
+
+
+def as_printed(want, got):
+    """Whether the lines are those wanted, where a line `...` stands for any lines."""
+    pattern = "".join("(?:.*\n)*" if line == "..." else re.escape(line) + "\n" for line in want)
+    return re.fullmatch(pattern, got) is not None
+
+
+def commands_of(name):
+    """The commands of a file with the lines that stand below them, in order."""
+    found = []
+    for block in re.findall(r"^```console\n(.*?)^```", text_of(name), re.M | re.S):
+        for line in block.splitlines():
+            if line.startswith("$ "):
+                found.append((line[2:], []))
+            elif line.startswith("> ") and not found[-1][1]:
+                found[-1] = (found[-1][0] + "\n" + line[2:], [])
+            else:
+                found[-1][1].append(line)
+    return found
+
+
+def commands_print():
+    program = os.path.join(TOP, "crates/mfu/out/mfu")
+    if not os.path.exists(program):
+        print("skipped: the program is not built, so no command of the documents is tried")
+        return
+    if glob.glob("/tmp/site*"):
+        print("skipped: /tmp has something whose name begins with site, so no command of the documents is tried")
+        return
+    with tempfile.TemporaryDirectory() as work:
+        os.symlink(program, os.path.join(work, "mfu"))
+        env = dict(os.environ, PATH=work + ":" + os.environ["PATH"], LC_ALL="C.UTF-8")
+        for name in TRIED:
+            if not os.path.exists(os.path.join(TOP, name)):
+                continue
+            run(["sh", "-c", "rm -rf /tmp/site /tmp/site.*; [ \"$1\" = README.md ] || sh contrib/example_tree.sh /tmp/site", "sh", name])
+            for command, want in commands_of(name):
+                got = run(["bash", "-c", "exec 2>&1\n" + command], env=env).stdout
+                if not as_printed(want, got):
+                    said(f"{name}: $ {command}\nprints\n" + "\n".join(got.splitlines()[:20]))
+        run(["sh", "-c", "rm -rf /tmp/site /tmp/site.*"])
+
+
+def main():
+    sys.dont_write_bytecode = True
+    if make_pages.main(["--check"]):
+        said("run contrib/make_pages.py")
+    table = make_pages.Table(os.path.join(TOP, "contrib/tools.txt"))
+    options_are_read(table)
+    options_are_in_help(table)
+    options_are_in_pages(table)
+    pages_are_sound()
+    completions_offer(table)
+    links_lead()
+    commands_print()
+    print(f"documents: {len(wrong)} wrong")
+    return 1 if wrong else 0
+
+
+if __name__ == "__main__":
+    sys.exit(main())
