@@ -1,36 +1,96 @@
-//! Storms: ranks in threads of their own, over one board of words and one tree of sums.
-use circle_run::Split;
-use rank_threads::{Plan, counts, run_all};
+//! Storms: ranks in eight threads over one board of words and one tree of sums, by which each string is handled once.
+ghost use Rattle.std.specs.Prelude.{◌≡◌, [], length, All, IfOk};
+
+use circle_run::{Finished, Options, Split, begin};
+use path_text::{OutOfMemory, Path};
+use rank_threads::{Plan, Sprout, counts, run_all};
+use std::alloc::Global;
 use std::process::Abort;
-use std::sync::atomic::Ordering;
+use std::sync::Wait;
+use std::sync::atomic::{AtomicU64, Ordering};
 use std::test::Fail;
+use std::thread::Threads;
 
-// In all 100,000 strings.
-const SEEDS: u64 = 50;
+const SEEDS: u64 = 100;
 
-const STRINGS: u32 = 2000;
+const STRINGS: u32 = 100_000;
 
+// Each of eight ranks is in a thread of its own.
 #[test]
 fn eight_threads_handle_each_string_once(rt: HostRuntime) -> Result<(), Fail> {
     for seed in 0..SEEDS {
-        let split = if seed % 2 == 0 {
-            Split::Equal
-        } else {
-            Split::Random
-        };
         let plan = Plan {
             ranks: 8,
-            split,
+            split: split_of(seed),
             seed,
             rounds: 0,
         };
         let seen = counts(rt.alloc(), STRINGS)?;
         let came = run_all(&rt, rt.alloc(), &plan, &seen)?.ok_or("eight threads")?;
-        for count in &seen {
-            assert_eq!(rt; count.load(Ordering::SeqCst), 1, "seed {seed}");
-        }
+        assert!(rt; are_ones(&seen), "seed {seed}");
         assert_eq!(rt; (came.handled, came.sum), (STRINGS as u64, STRINGS as u64));
         assert_eq!(rt; came.given, came.taken, "seed {seed}");
     }
     Ok(())
+}
+
+// Each of eight threads has eight ranks.
+#[test]
+fn eight_threads_of_eight_ranks_handle_each_string_once(rt: HostRuntime) -> Result<(), Fail> {
+    for seed in 0..SEEDS {
+        let seen = counts(rt.alloc(), STRINGS)?;
+        let finished = spread(&rt, seed, &seen)?;
+        assert!(rt; are_ones(&seen), "seed {seed}");
+        assert_eq!(rt; finished.sums.last().copied(), Some(STRINGS as u64));
+    }
+    Ok(())
+}
+
+fn split_of(seed: u64) -> Split {
+    if seed % 2 == 0 {
+        Split::Equal
+    } else {
+        Split::Random
+    }
+}
+
+fn are_ones(counts: &[AtomicU64]) -> bool {
+    counts.iter().all(|count| count.load(Ordering::SeqCst) == 1)
+}
+
+fn spread<'s, R: Threads + Wait + Sync + AllocGlobal>(
+    rt: &R,
+    seed: u64,
+    seen: &'s [AtomicU64],
+) -> Result<Finished<Sprout<'s>>, Fail> {
+    let alloc = rt.alloc();
+    let options = Options {
+        ranks: 64,
+        hosts: 8,
+        split: split_of(seed),
+        seed,
+        width: 2,
+        trace: false,
+        stop_after: None,
+    };
+    let mut starts = Vec::new(alloc);
+    starts.push(Path::parse(alloc, "/0")?)?;
+    let jobs = sprouts(alloc, seen, 64)?;
+    Ok(begin(rt, alloc, &options, starts, jobs)?)
+}
+
+// So many jobs, none of which has handled anything.
+fn sprouts<'s>(
+    alloc: Global,
+    seen: &'s [AtomicU64],
+    count: u32,
+) -> Result<Vec<Sprout<'s>>, OutOfMemory>
+    ensures count { IfOk result (λ jobs. length jobs.items ≡ count) }
+    ensures unused { IfOk result (λ jobs. All (λ s. s.steps.items ≡ []) jobs.items) }
+{
+    let mut jobs = Vec::new(alloc);
+    while jobs.len() < count as usize {
+        jobs.push(Sprout::make(alloc, seen, 0))?;
+    }
+    Ok(jobs)
 }
