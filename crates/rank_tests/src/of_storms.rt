@@ -34,15 +34,33 @@ fn eight_threads_handle_each_string_once(rt: HostRuntime) -> Result<(), Fail> {
     Ok(())
 }
 
-// Each of eight threads has eight ranks.
+// Fifty seeds with one split and fifty with the other, as a test has a time limit.
 #[test]
-fn eight_threads_of_eight_ranks_handle_each_string_once(rt: HostRuntime) -> Result<(), Fail> {
-    for seed in 0..SEEDS {
-        let seen = counts(rt.alloc(), STRINGS)?;
-        let finished = spread(&rt, seed, &seen)?;
-        assert!(rt; are_ones(&seen), "seed {seed}");
-        assert_eq!(rt; finished.sums.last().copied(), Some(STRINGS as u64));
+fn eight_threads_of_eight_ranks_share_in_equal_parts(rt: HostRuntime) -> Result<(), Fail> {
+    for seed in 0..SEEDS / 2 {
+        handle_all(&rt, Split::Equal, seed)?;
     }
+    Ok(())
+}
+
+#[test]
+fn eight_threads_of_eight_ranks_share_by_lot(rt: HostRuntime) -> Result<(), Fail> {
+    for seed in SEEDS / 2..SEEDS {
+        handle_all(&rt, Split::Random, seed)?;
+    }
+    Ok(())
+}
+
+// Each of eight threads has eight ranks, which together handle each string once.
+fn handle_all<R: Threads + Wait + Sync + Abort + AllocGlobal>(
+    rt: &R,
+    split: Split,
+    seed: u64,
+) -> Result<(), Fail> {
+    let seen = counts(rt.alloc(), STRINGS)?;
+    let finished = spread(rt, split, seed, &seen)?;
+    assert!(rt; are_ones(&seen), "seed {seed}");
+    assert_eq!(rt; finished.sums.last().copied(), Some(STRINGS as u64));
     Ok(())
 }
 
@@ -60,6 +78,7 @@ fn are_ones(counts: &[AtomicU64]) -> bool {
 
 fn spread<'s, R: Threads + Wait + Sync + AllocGlobal>(
     rt: &R,
+    split: Split,
     seed: u64,
     seen: &'s [AtomicU64],
 ) -> Result<Finished<Sprout<'s>>, Fail> {
@@ -67,7 +86,7 @@ fn spread<'s, R: Threads + Wait + Sync + AllocGlobal>(
     let options = Options {
         ranks: 64,
         hosts: 8,
-        split: split_of(seed),
+        split,
         seed,
         width: 2,
         trace: false,
