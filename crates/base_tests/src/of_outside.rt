@@ -1,23 +1,26 @@
 //! A sink in memory, a sink that takes little at a time, a listing, and a reader that gives little at a time.
+use crate::shared::{parsed, same, same_number};
 use outside::{
     Failed, Kind, ListError, Listing, LoadError, MemSink, ReadError, Sink, Stat, Tree, load,
     put_all,
 };
 use path_text::Path;
 use std::alloc::Global;
-use std::test::Fail;
+use std::process::Abort;
 
 #[test]
-fn a_sink_in_memory_takes_what_it_has_room_for(rt: HostRuntime) -> Result<(), Fail> {
-    let mut sink = MemSink::limited(rt.alloc(), 5)?;
-    assert!(rt; put_all(&mut sink, b"abc").is_ok());
-    assert!(rt; sink.put(b"") == Ok(0));
-    assert!(rt; put_all(&mut sink, b"defg") == Err(Failed));
-    assert_eq!(rt; sink.text(), b"abcde".as_slice());
-    assert_eq!(rt; sink.faults(), 1);
-    assert!(rt; put_all(&mut sink, b"") == Ok(()));
-    assert_eq!(rt; sink.faults(), 1);
-    Ok(())
+fn a_sink_in_memory_takes_what_it_has_room_for(rt: HostRuntime) {
+    let mut sink = MemSink::limited(rt.alloc(), 5).expect(&rt, "room");
+    for (bytes, told, text, faults) in [
+        (b"abc".as_slice(), Ok(()), b"abc".as_slice(), 0),
+        (b"", Ok(()), b"abc", 0),
+        (b"defg", Err(Failed), b"abcde", 1),
+        (b"", Ok(()), b"abcde", 1),
+    ] {
+        same(&rt, &put_all(&mut sink, bytes), &told);
+        same(&rt, &(sink.text(), sink.faults()), &(text, faults));
+    }
+    same(&rt, &sink.put(b""), &Ok(0));
 }
 
 /// Takes two bytes at a time, and fails at one of its calls.
@@ -66,25 +69,28 @@ fn all_is_put_in_pieces_up_to_a_fault(rt: HostRuntime) {
             taken: 0,
             count: 0,
         };
-        assert!(rt; put_all(&mut sink, b"sevenbs") == told, "at {fails_at}");
-        assert_eq!(rt; sink.taken, taken);
-        assert_eq!(rt; sink.faults(), faults);
+        same(&rt, &put_all(&mut sink, b"sevenbs"), &told);
+        same(&rt, &(sink.taken, sink.faults()), &(taken, faults));
     }
 }
 
-#[test]
-fn a_listing_gives_its_names_back(rt: HostRuntime) -> Result<(), Fail> {
+// A listing of these names, with the two numbers 2 and 3.
+fn listing_of(rt: &(impl Abort + AllocGlobal), names: &[&str]) -> Listing {
     let mut listing = Listing::make(rt.alloc());
-    assert_eq!(rt; listing.len(), 0);
-    for name in ["a", "b-x"] {
-        listing.add(String::from_str(rt.alloc(), name)?)?;
+    for name in names {
+        let name = String::from_str(rt.alloc(), name).expect(rt, "room");
+        listing.add(name).expect(rt, "room");
     }
     listing.set_rest(2, 3);
-    assert_eq!(rt; listing.len(), 2);
-    assert_eq!(rt; listing.name(1), "b-x");
-    assert_eq!(rt; listing.unnamed(), 2);
-    assert_eq!(rt; listing.far(), 3);
-    Ok(())
+    listing
+}
+
+#[test]
+fn a_listing_gives_its_names_back(rt: HostRuntime) {
+    let listing = listing_of(&rt, &["a", "b-x"]);
+    same(&rt, &(listing.unnamed(), listing.far()), &(2, 3));
+    same_number(&rt, listing.len() as u64, 2);
+    same(&rt, &listing.name(1), &"b-x");
 }
 
 /// A reader of one file that others change: it tells some size of it, gives two bytes at a time, fails at one of its calls, and
@@ -142,31 +148,47 @@ impl Tree for Drip {
     }
 }
 
+// What is loaded of a file that is told to be so long, and how many faults there were.
+fn loaded(
+    rt: &(impl Abort + AllocGlobal),
+    told: u64,
+    fails_at: u64,
+    gone_at: u64,
+) -> (Result<Vec<u8>, LoadError>, u64) {
+    let mut reader = Drip {
+        told,
+        fails_at,
+        gone_at,
+        calls: 0,
+        count: 0,
+    };
+    let loaded = load(rt.alloc(), &mut reader, &parsed(rt, "/f"));
+    (loaded, reader.faults())
+}
+
 #[test]
-fn a_file_that_changes_is_loaded_up_to_its_end_or_a_fault(rt: HostRuntime) -> Result<(), Fail> {
-    let path = Path::parse(rt.alloc(), "/f")?;
-    for (told, fails_at, gone_at, want, faults) in [
-        (5, 0, 9, Ok("drops"), 0),
-        (9, 0, 9, Ok("drops"), 0),
-        (3, 0, 9, Ok("dro"), 0),
-        (0, 1, 1, Ok(""), 0),
-        (5, 1, 9, Err(LoadError::Failed), 1),
-        (5, 3, 9, Err(LoadError::Failed), 1),
-        (5, 0, 1, Err(LoadError::NoFile), 0),
-        (5, 0, 3, Err(LoadError::NoFile), 0),
+fn a_file_that_changes_is_loaded_up_to_its_end(rt: HostRuntime) {
+    for (told, fails_at, gone_at, want) in [
+        (5, 0, 9, b"drops".as_slice()),
+        (9, 0, 9, b"drops"),
+        (3, 0, 9, b"dro"),
+        (0, 1, 1, b""),
     ] {
-        let mut reader = Drip {
-            told,
-            fails_at,
-            gone_at,
-            calls: 0,
-            count: 0,
-        };
-        match load(rt.alloc(), &mut reader, &path) {
-            Ok(bytes) => assert!(rt; want.ok().map(|t| t.as_bytes()) == Some(bytes.as_slice())),
-            Err(error) => assert!(rt; want.err() == Some(error)),
-        }
-        assert_eq!(rt; reader.faults(), faults);
+        let (loaded, faults) = loaded(&rt, told, fails_at, gone_at);
+        let bytes = loaded.expect(&rt, "a file");
+        same(&rt, &(bytes.as_slice(), faults), &(want, 0));
     }
-    Ok(())
+}
+
+#[test]
+fn a_file_that_changes_is_not_loaded_past_a_fault(rt: HostRuntime) {
+    for (fails_at, gone_at, want, count) in [
+        (1, 9, LoadError::Failed, 1),
+        (3, 9, LoadError::Failed, 1),
+        (0, 1, LoadError::NoFile, 0),
+        (0, 3, LoadError::NoFile, 0),
+    ] {
+        let (loaded, faults) = loaded(&rt, 5, fails_at, gone_at);
+        same(&rt, &(loaded.err(), faults), &(Some(want), count));
+    }
 }

@@ -1,48 +1,46 @@
 //! Looks at a small tree, and at files that change.
 ghost use Rattle.std.specs.Prelude.{◌≡◌, []};
 
+use crate::shared::{all_parsed, parsed, same, so};
 use files_mem::{Call, MemGround};
 use outside::{
     Failed, Ground, Kind, Lent, ListError, Listing, Plot, ReadError, Stat, Tops, Tree, WriteError,
 };
-use path_looks::{Look, Seen, look_at_each, looks_without_faults_are_told};
+use path_looks::{Seen, look_at_each, looks_without_faults_are_told};
 use path_text::{OutOfMemory, Path};
 use std::alloc::Global;
 use std::process::Abort;
-use std::test::Fail;
 
 // `/t` without a time, with the file `a` of 86400, the link `b` of 0 and the file `b-x` of the last second.
-fn tree_t(alloc: Global) -> Result<MemGround, Fail> {
-    let mut files = MemGround::empty(alloc)?;
-    files.put_dir(&Path::parse(alloc, "/t")?, 0, None)?;
-    files.put_file(&Path::parse(alloc, "/t/a")?, b"hello", Some(86400))?;
-    files.put_link(&Path::parse(alloc, "/t/b")?, Some(0))?;
-    files.put_file(&Path::parse(alloc, "/t/b-x")?, b"", Some(u64::MAX))?;
-    Ok(files)
-}
-
-fn looks_at(alloc: Global, files: &mut MemGround, texts: &[&str]) -> Result<Vec<Look>, Fail> {
-    let mut paths = Vec::new(alloc);
-    for text in texts {
-        paths.push(Path::parse(alloc, text)?)?;
+fn tree_t(rt: &(impl Abort + AllocGlobal)) -> MemGround {
+    let mut files = MemGround::empty(rt.alloc()).expect(rt, "room");
+    let top = files.put_dir(&parsed(rt, "/t"), 0, None);
+    let a = files.put_file(&parsed(rt, "/t/a"), b"hello", Some(86400));
+    let b = files.put_link(&parsed(rt, "/t/b"), Some(0));
+    let b_x = files.put_file(&parsed(rt, "/t/b-x"), b"", Some(u64::MAX));
+    for put in [top, a, b, b_x] {
+        same(rt, &put, &Ok(()));
     }
-    Ok(look_at_each(alloc, files, paths)?)
+    files
 }
 
-// Whether the looks are just these.
-fn are(rt: &impl Abort, looks: &[Look], told: &[(&str, Seen)]) {
-    assert_eq!(rt; looks.len(), told.len());
+// Looks at the paths, which tells just this, and how many faults there are then.
+fn do_look<G: Ground>(
+    rt: &(impl Abort + AllocGlobal),
+    files: &mut G,
+    texts: &[&str],
+    told: &[(&str, Seen)],
+) -> u64 {
+    let looks = look_at_each(rt.alloc(), files, all_parsed(rt, texts)).expect(rt, "room");
+    same(rt, &looks.len(), &told.len());
     for (look, (path, seen)) in looks.iter().zip(told) {
-        assert_eq!(rt; look.path.text(), *path);
-        assert!(rt; look.seen == *seen, "{path}");
+        so(rt, look.path.text() == *path && look.seen == *seen, path);
     }
+    files.faults()
 }
 
 #[test]
-fn looks_tell_times_in_path_order(rt: HostRuntime) -> Result<(), Fail> {
-    let alloc = rt.alloc();
-    let mut files = tree_t(alloc)?;
-    let looks = looks_at(alloc, &mut files, &["/t/b-x", "/t/b", "/", "/t/a", "/t"])?;
+fn looks_tell_times_in_path_order(rt: HostRuntime) {
     let told = [
         ("/", Seen::At(None)),
         ("/t", Seen::At(None)),
@@ -50,22 +48,14 @@ fn looks_tell_times_in_path_order(rt: HostRuntime) -> Result<(), Fail> {
         ("/t/b", Seen::At(Some(0))),
         ("/t/b-x", Seen::At(Some(u64::MAX))),
     ];
-    are(&rt, &looks, &told);
-    assert_eq!(rt; files.faults(), 0);
+    let paths = ["/t/b-x", "/t/b", "/", "/t/a", "/t"];
+    same(&rt, &do_look(&rt, &mut tree_t(&rt), &paths, &told), &0);
     looks_without_faults_are_told();
-    Ok(())
 }
 
+// Nothing is under a link, a file or a path that is not there.
 #[test]
-fn nothing_is_at_a_path_that_is_not_there(rt: HostRuntime) -> Result<(), Fail> {
-    let alloc = rt.alloc();
-    let mut files = tree_t(alloc)?;
-    // Nothing is under a link, a file or a path that is not there.
-    let looks = looks_at(
-        alloc,
-        &mut files,
-        &["/u", "/t/b/c", "/t/a/c", "/t/a", "/u/c"],
-    )?;
+fn nothing_is_at_a_path_that_is_not_there(rt: HostRuntime) {
     let told = [
         ("/t/a", Seen::At(Some(86400))),
         ("/t/a/c", Seen::Absent),
@@ -73,40 +63,33 @@ fn nothing_is_at_a_path_that_is_not_there(rt: HostRuntime) -> Result<(), Fail> {
         ("/u", Seen::Absent),
         ("/u/c", Seen::Absent),
     ];
-    are(&rt, &looks, &told);
-    assert_eq!(rt; files.faults(), 0);
-    Ok(())
+    let paths = ["/u", "/t/b/c", "/t/a/c", "/t/a", "/u/c"];
+    same(&rt, &do_look(&rt, &mut tree_t(&rt), &paths, &told), &0);
+}
+
+// Plans that looks at the path fail.
+fn plan(rt: &(impl Abort + AllocGlobal), files: &mut MemGround, path: &str) {
+    files.plan(Call::Stat, &parsed(rt, path)).expect(rt, "room");
 }
 
 #[test]
-fn a_look_that_fails_is_counted_once(rt: HostRuntime) -> Result<(), Fail> {
-    let alloc = rt.alloc();
-    let mut files = tree_t(alloc)?;
-    files.plan(Call::Stat, &Path::parse(alloc, "/t/a")?)?;
-    let looks = looks_at(alloc, &mut files, &["/t/a", "/t", "/t/a", "/t/a", "/t"])?;
-    are(
-        &rt,
-        &looks,
-        &[("/t", Seen::At(None)), ("/t/a", Seen::Failed)],
-    );
-    assert_eq!(rt; files.faults(), 1);
+fn a_look_that_fails_is_counted_once(rt: HostRuntime) {
+    let mut files = tree_t(&rt);
+    plan(&rt, &mut files, "/t/a");
+    let paths = ["/t/a", "/t", "/t/a", "/t/a", "/t"];
+    let told = [("/t", Seen::At(None)), ("/t/a", Seen::Failed)];
+    same(&rt, &do_look(&rt, &mut files, &paths, &told), &1);
     // It fails also where nothing is, and adds to what was counted.
-    files.plan(Call::Stat, &Path::parse(alloc, "/u")?)?;
-    let looks = looks_at(alloc, &mut files, &["/u", "/t/a"])?;
-    are(&rt, &looks, &[("/t/a", Seen::Failed), ("/u", Seen::Failed)]);
-    assert_eq!(rt; files.faults(), 3);
-    Ok(())
+    plan(&rt, &mut files, "/u");
+    let told = [("/t/a", Seen::Failed), ("/u", Seen::Failed)];
+    same(&rt, &do_look(&rt, &mut files, &["/u", "/t/a"], &told), &3);
 }
 
 #[test]
-fn no_path_is_no_look(rt: HostRuntime) -> Result<(), Fail> {
-    let alloc = rt.alloc();
-    let mut files = tree_t(alloc)?;
-    files.plan(Call::Stat, &Path::parse(alloc, "/")?)?;
-    let looks = looks_at(alloc, &mut files, &[])?;
-    assert!(rt; looks.is_empty());
-    assert_eq!(rt; files.faults(), 0);
-    Ok(())
+fn no_path_is_no_look(rt: HostRuntime) {
+    let mut files = tree_t(&rt);
+    plan(&rt, &mut files, "/");
+    same(&rt, &do_look(&rt, &mut files, &[], &[]), &0);
 }
 
 // Files that tell no tree and change at each look: what the nth stat is asked of changed last at n.
@@ -268,20 +251,13 @@ fn made_restless(alloc: Global) -> Restless
 
 // A second stat of a path would tell a later time, of it or of the paths behind it.
 #[test]
-fn each_path_is_asked_once(rt: HostRuntime) -> Result<(), Fail> {
-    let alloc = rt.alloc();
-    let mut files = made_restless(alloc);
-    let mut paths = Vec::new(alloc);
-    for text in ["/b", "/a", "/c", "/a", "/b"] {
-        paths.push(Path::parse(alloc, text)?)?;
-    }
-    let looks = look_at_each(alloc, &mut files, paths)?;
+fn each_path_is_asked_once(rt: HostRuntime) {
+    let mut files = made_restless(rt.alloc());
     let told = [
         ("/a", Seen::At(Some(1))),
         ("/b", Seen::At(Some(2))),
         ("/c", Seen::At(Some(3))),
     ];
-    are(&rt, &looks, &told);
-    assert_eq!(rt; files.stats, 3);
-    Ok(())
+    do_look(&rt, &mut files, &["/b", "/a", "/c", "/a", "/b"], &told);
+    same(&rt, &files.stats, &3);
 }

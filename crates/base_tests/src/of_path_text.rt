@@ -1,12 +1,8 @@
 //! Texts and paths with what is known of them.
+use crate::shared::{parsed, same, so};
 use path_text::{EscapeError, JoinError, Path, PathError, escape, unescape, valid_name};
 use std::cmp::Ordering;
 use std::process::Abort;
-use std::test::Fail;
-
-fn parsed(rt: &(impl Abort + AllocGlobal), text: &str) -> Path {
-    Path::parse(rt.alloc(), text).expect(rt, "a path")
-}
 
 #[test]
 fn texts_that_are_no_paths(rt: HostRuntime) {
@@ -22,54 +18,63 @@ fn texts_that_are_no_paths(rt: HostRuntime) {
         ("/./", PathError::DotName),
     ] {
         let told = Path::parse(rt.alloc(), text).err();
-        assert!(rt; told == Some(fault), "{text:?}");
+        so(&rt, told == Some(fault), text);
     }
 }
 
 #[test]
-fn texts_that_are_paths(rt: HostRuntime) -> Result<(), Fail> {
+fn texts_that_are_paths(rt: HostRuntime) {
     for text in ["/", "/t", "/t/b-x", "/...", "/.a/b..", "/ /\n"] {
-        let path = Path::parse(rt.alloc(), text)?;
-        assert_eq!(rt; path.text(), text);
-        assert_eq!(rt; path.copy()?.text(), text);
+        let path = parsed(&rt, text);
+        same(&rt, &path.text(), &text);
+        let copy = path.copy().expect(&rt, "room");
+        same(&rt, &copy.text(), &text);
     }
-    Ok(())
+}
+
+// `/`, and so many times one text behind it.
+fn long(rt: &(impl Abort + AllocGlobal), piece: &str, many: u32) -> String {
+    let mut text = String::from_str(rt.alloc(), "/").expect(rt, "room");
+    for _ in 0..many {
+        text.push_str(piece).expect(rt, "room");
+    }
+    text
 }
 
 #[test]
-fn a_path_has_at_most_4095_bytes(rt: HostRuntime) -> Result<(), Fail> {
-    let mut text = String::from_str(rt.alloc(), "/")?;
-    for _ in 0..4094 {
-        text.push('a')?;
+fn a_path_has_at_most_4095_bytes(rt: HostRuntime) {
+    let path = parsed(&rt, &long(&rt, "a", 4094));
+    same(&rt, &path.join("a").err(), &Some(JoinError::TooLong));
+    let told = Path::parse(rt.alloc(), &long(&rt, "a", 4095)).err();
+    same(&rt, &told, &Some(PathError::TooLong));
+}
+
+// The path of a child; of what is no name, none.
+fn child(rt: &(impl Abort + AllocGlobal), path: &str, name: &str) -> Option<Path> {
+    let path = parsed(rt, path);
+    if valid_name(name) {
+        path.join(name).ok()
+    } else {
+        None
     }
-    let path = Path::parse(rt.alloc(), &text)?;
-    assert!(rt; path.join("a").err() == Some(JoinError::TooLong));
-    text.push('a')?;
-    assert!(rt; Path::parse(rt.alloc(), &text).err() == Some(PathError::TooLong));
-    Ok(())
 }
 
 #[test]
-fn children_are_joined(rt: HostRuntime) -> Result<(), Fail> {
-    for (path, name, child) in [
+fn children_are_joined(rt: HostRuntime) {
+    for (path, name, want) in [
         ("/", "t", "/t"),
         ("/t", "a", "/t/a"),
         ("/t/b", "..c", "/t/b/..c"),
     ] {
-        let path = parsed(&rt, path);
-        if valid_name(name) {
-            assert_eq!(rt; path.join(name)?.text(), child);
-        } else {
-            assert!(rt; false, "{name:?}");
-        }
+        let told = child(&rt, path, name).expect(&rt, "a name");
+        same(&rt, &told.text(), &want);
     }
-    Ok(())
 }
 
 #[test]
 fn names_that_are_none(rt: HostRuntime) {
     for name in ["", ".", "..", "a/b", "/", "a\0"] {
-        assert!(rt; !valid_name(name), "{name:?}");
+        so(&rt, !valid_name(name), name);
     }
 }
 
@@ -92,14 +97,15 @@ fn paths_in_path_order(rt: HostRuntime) {
     for (i, x) in ascending.iter().enumerate() {
         for (k, y) in ascending.iter().enumerate() {
             let told = parsed(&rt, x).cmp(&parsed(&rt, y));
-            assert!(rt; told == i.cmp(&k), "{x:?} and {y:?}");
+            so(&rt, told == i.cmp(&k), x);
         }
     }
-    assert!(rt; parsed(&rt, "/t/b/c").cmp(&parsed(&rt, "/t/b-x")) == Ordering::Less);
+    let told = parsed(&rt, "/t/b/c").cmp(&parsed(&rt, "/t/b-x"));
+    same(&rt, &told, &Ordering::Less);
 }
 
 #[test]
-fn paths_in_printable_text(rt: HostRuntime) -> Result<(), Fail> {
+fn paths_in_printable_text(rt: HostRuntime) {
     for (text, printed) in [
         ("/t/a", "/t/a"),
         ("/a\\b", "/a\\x5Cb"),
@@ -115,14 +121,21 @@ fn paths_in_printable_text(rt: HostRuntime) -> Result<(), Fail> {
             "/a_long_name_of_\\x0Amore/than_two_block\\x7F",
         ),
     ] {
-        let told = escape(rt.alloc(), &parsed(&rt, text))?;
-        assert_eq!(rt; told.as_slice(), printed.as_bytes());
+        let told = escape(rt.alloc(), &parsed(&rt, text)).expect(&rt, "room");
+        so(&rt, told.as_slice() == printed.as_bytes(), printed);
     }
-    Ok(())
+}
+
+// Whether the path is one name below that parent, or has none.
+fn is_below(rt: &impl Abort, path: &Path, parent: &str) -> bool {
+    match path.parent().expect(rt, "room") {
+        Some(told) => told.text() == parent,
+        None => parent.is_empty(),
+    }
 }
 
 #[test]
-fn the_names_of_paths(rt: HostRuntime) -> Result<(), Fail> {
+fn the_names_of_paths(rt: HostRuntime) {
     for (text, parent, base, level) in [
         ("/", "", "", 0),
         ("/t", "/", "t", 1),
@@ -131,14 +144,9 @@ fn the_names_of_paths(rt: HostRuntime) -> Result<(), Fail> {
         ("/\u{e9}/\u{20ac}", "/\u{e9}", "\u{20ac}", 2),
     ] {
         let path = parsed(&rt, text);
-        assert_eq!(rt; path.base(), base);
-        assert!(rt; path.level() == level, "{text:?}");
-        match path.parent()? {
-            Some(told) => assert_eq!(rt; told.text(), parent),
-            None => assert_eq!(rt; text, "/"),
-        }
+        same(&rt, &(path.base(), path.level()), &(base, level));
+        so(&rt, is_below(&rt, &path, parent), text);
     }
-    Ok(())
 }
 
 #[test]
@@ -153,15 +161,22 @@ fn paths_under_others(rt: HostRuntime) {
         ("/tb", "/t", false),
         ("/t/b-x", "/t/b", false),
     ] {
-        assert!(rt;
-            parsed(&rt, path).is_under(&parsed(&rt, top)) == told,
-            "{path:?} and {top:?}"
-        );
+        let is_under = parsed(&rt, path).is_under(&parsed(&rt, top));
+        so(&rt, is_under == told, path);
+    }
+}
+
+// What is left of a path below a top, where it is there or under it.
+fn below(rt: &impl Abort, path: &Path, top: &Path) -> Option<Path> {
+    if path.is_under(top) || *path == *top {
+        Some(path.below(top).expect(rt, "room"))
+    } else {
+        None
     }
 }
 
 #[test]
-fn paths_below_a_top_and_back(rt: HostRuntime) -> Result<(), Fail> {
+fn paths_below_a_top_and_back(rt: HostRuntime) {
     for (path, top, rest) in [
         ("/t/b/c", "/t", "/b/c"),
         ("/d/t/b/c", "/d/t", "/b/c"),
@@ -169,33 +184,29 @@ fn paths_below_a_top_and_back(rt: HostRuntime) -> Result<(), Fail> {
         ("/t/b", "/t/b", "/"),
         ("/", "/", "/"),
     ] {
-        let (path, top) = (parsed(&rt, path), parsed(&rt, top));
-        if path.is_under(&top) || path == top {
-            let below = path.below(&top)?;
-            assert_eq!(rt; below.text(), rest);
-            assert_eq!(rt; Path::graft(&top, &below)?.text(), path.text());
-        } else {
-            assert!(rt; false, "{rest:?}");
-        }
+        let top = parsed(&rt, top);
+        let below = below(&rt, &parsed(&rt, path), &top).expect(&rt, "a path below");
+        same(&rt, &below.text(), &rest);
+        let back = Path::graft(&top, &below).expect(&rt, "room");
+        same(&rt, &back.text(), &path);
     }
-    Ok(())
 }
 
 #[test]
-fn a_grafted_path_has_at_most_4095_bytes(rt: HostRuntime) -> Result<(), Fail> {
-    let mut text = String::from_str(rt.alloc(), "/")?;
-    for _ in 0..4092 {
-        text.push('a')?;
+fn a_grafted_path_has_at_most_4095_bytes(rt: HostRuntime) {
+    let top = parsed(&rt, &long(&rt, "a", 4092));
+    for (rest, want) in [
+        ("/", Ok(4093)),
+        ("/b", Ok(4095)),
+        ("/bc", Err(JoinError::TooLong)),
+    ] {
+        let told = Path::graft(&top, &parsed(&rt, rest));
+        same(&rt, &told.map(|path| path.text().len()), &want);
     }
-    let top = Path::parse(rt.alloc(), &text)?;
-    assert!(rt; Path::graft(&top, &parsed(&rt, "/b"))?.text().len() == 4095);
-    assert!(rt; Path::graft(&top, &parsed(&rt, "/bc")).err() == Some(JoinError::TooLong));
-    assert!(rt; Path::graft(&top, &parsed(&rt, "/"))? == top);
-    Ok(())
 }
 
 #[test]
-fn paths_read_from_printable_text(rt: HostRuntime) -> Result<(), Fail> {
+fn paths_read_from_printable_text(rt: HostRuntime) {
     for (text, path) in [
         ("/t/a", "/t/a"),
         ("/a\\x5Cb", "/a\\b"),
@@ -204,28 +215,19 @@ fn paths_read_from_printable_text(rt: HostRuntime) -> Result<(), Fail> {
         ("/\u{e9}\\x09\u{20ac}", "/\u{e9}\t\u{20ac}"),
         ("/\\x5Cx41", "/\\x41"),
     ] {
-        assert_eq!(rt; unescape(rt.alloc(), text)?.text(), path);
+        let told = unescape(rt.alloc(), text).expect(&rt, "a path");
+        same(&rt, &told.text(), &path);
     }
-    Ok(())
-}
-
-// A path of `/` and so many line feeds, printed.
-fn printed(rt: &(impl Abort + AllocGlobal), feeds: u32) -> String {
-    let mut text = String::from_str(rt.alloc(), "/").expect(rt, "memory");
-    for _ in 0..feeds {
-        text.push_str("\\x0A").expect(rt, "memory");
-    }
-    text
 }
 
 #[test]
-fn printed_text_counts_the_bytes_that_it_tells(rt: HostRuntime) -> Result<(), Fail> {
-    let path = unescape(rt.alloc(), &printed(&rt, 4094))?;
-    assert!(rt; path.text().len() == 4095);
-    assert!(rt; escape(rt.alloc(), &path)?.len() == 1 + 4 * 4094);
-    let told = unescape(rt.alloc(), &printed(&rt, 4095)).err();
-    assert!(rt; told == Some(EscapeError::Path(PathError::TooLong)));
-    Ok(())
+fn printed_text_counts_the_bytes_that_it_tells(rt: HostRuntime) {
+    let path = unescape(rt.alloc(), &long(&rt, "\\x0A", 4094)).expect(&rt, "a path");
+    same(&rt, &path.text().len(), &4095);
+    let printed = escape(rt.alloc(), &path).expect(&rt, "room");
+    same(&rt, &printed.len(), &(1 + 4 * 4094));
+    let told = unescape(rt.alloc(), &long(&rt, "\\x0A", 4095)).err();
+    same(&rt, &told, &Some(EscapeError::Path(PathError::TooLong)));
 }
 
 #[test]
@@ -249,6 +251,6 @@ fn texts_that_are_read_as_no_path(rt: HostRuntime) {
         ("/..", EscapeError::Path(PathError::DotName)),
     ] {
         let told = unescape(rt.alloc(), text).err();
-        assert!(rt; told == Some(fault), "{text:?}");
+        so(&rt, told == Some(fault), text);
     }
 }

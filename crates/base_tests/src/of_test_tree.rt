@@ -1,9 +1,9 @@
 //! The made-up tree, as it is made, read and written.
-use outside::{Ground, Kind, ListError, Plot, ReadError, Stat, Tree, WriteError, load};
-use path_text::Path;
-use std::alloc::Global;
-use std::test::Fail;
-use test_tree::{TestGround, TestReader};
+use crate::shared::{filled, parsed, same, so};
+use crate::whole::{Whole, holds, listed, lists, told};
+use files_mem::Call;
+use outside::{Ground, Kind, ListError, ReadError, Stat, Tree, WriteError};
+use test_tree::TestGround;
 
 const DIR: Option<Stat> = Some(Stat {
     kind: Kind::Dir,
@@ -19,26 +19,10 @@ fn file(size: u64) -> Option<Stat> {
     })
 }
 
-fn stat(alloc: Global, reader: &mut TestReader, path: &str) -> Result<Option<Stat>, Fail> {
-    Ok(reader.stat(&Path::parse(alloc, path)?)?)
-}
-
-// The names with a blank behind each.
-fn listed(alloc: Global, reader: &mut TestReader, path: &str) -> Result<String, Fail> {
-    let listing = reader.list(alloc, &Path::parse(alloc, path)?)?;
-    let mut names = String::new(alloc);
-    for k in 0..listing.len() {
-        names.push_str(listing.name(k))?;
-        names.push(' ')?;
-    }
-    Ok(names)
-}
-
 #[test]
-fn ten_nodes_are_two_directories_and_eight_files(rt: HostRuntime) -> Result<(), Fail> {
-    let alloc = rt.alloc();
-    let mut reader = TestGround::make(alloc, 10)?.reader(alloc)?;
-    for (path, told) in [
+fn ten_nodes_are_two_directories_and_eight_files(rt: HostRuntime) {
+    let mut reader = Whole::of_nodes(&rt, 10).reader(&rt);
+    for (at, want) in [
         ("/", DIR),
         ("/n0", DIR),
         ("/n0/n1", DIR),
@@ -54,104 +38,97 @@ fn ten_nodes_are_two_directories_and_eight_files(rt: HostRuntime) -> Result<(), 
         ("/n0/n9", None),
         ("/n1", None),
     ] {
-        assert_eq!(rt; stat(alloc, &mut reader, path)?, told, "at {path}");
+        same(&rt, &told(&rt, &mut reader, at), &Ok(want));
     }
-    for (path, size, byte) in [("/n0/n2", 74, 2), ("/n0/n1/n9", 30, 9)] {
-        let bytes = load(alloc, &mut reader, &Path::parse(alloc, path)?)?;
-        let want = vec![in alloc; byte; size]?;
-        assert!(rt; bytes == want, "at {path}");
-    }
-    Ok(())
 }
 
 #[test]
-fn names_are_in_byte_order(rt: HostRuntime) -> Result<(), Fail> {
-    let alloc = rt.alloc();
-    let mut reader = TestGround::make(alloc, 90)?.reader(alloc)?;
-    for (path, names) in [
+fn bytes_of_files_tell_their_nodes(rt: HostRuntime) {
+    let mut files = Whole::of_nodes(&rt, 10);
+    for (at, size, byte) in [("/n0/n2", 74, 2), ("/n0/n1/n9", 30, 9)] {
+        let bytes = filled(&rt, byte, size);
+        so(&rt, holds(&rt, &mut files, at, Some(bytes.as_slice())), at);
+    }
+}
+
+#[test]
+fn names_are_in_byte_order(rt: HostRuntime) {
+    let mut reader = Whole::of_nodes(&rt, 90).reader(&rt);
+    for (at, names) in [
         ("/", "n0 "),
         ("/n0", "n1 n2 n3 n4 n5 n6 n7 n8 "),
         ("/n0/n1", "n10 n11 n12 n13 n14 n15 n16 n9 "),
         ("/n0/n1/n11", "n89 "),
     ] {
-        assert_eq!(rt; listed(alloc, &mut reader, path)?.as_str(), names);
+        so(&rt, lists(&rt, &mut reader, at, (names, 0, 0)), at);
     }
-    Ok(())
 }
 
 #[test]
-fn one_node_is_a_file(rt: HostRuntime) -> Result<(), Fail> {
-    let alloc = rt.alloc();
-    let mut reader = TestGround::make(alloc, 1)?.reader(alloc)?;
-    assert_eq!(rt; stat(alloc, &mut reader, "/n0")?, file(0));
-    Ok(())
+fn the_smallest_trees(rt: HostRuntime) {
+    for (nodes, at, want) in [
+        (1, "/n0", file(0)),
+        (2, "/n0", DIR),
+        (2, "/n0/n1", file(37)),
+    ] {
+        let mut reader = Whole::of_nodes(&rt, nodes).reader(&rt);
+        same(&rt, &told(&rt, &mut reader, at), &Ok(want));
+    }
 }
 
 #[test]
-fn two_nodes_are_a_directory_and_a_file(rt: HostRuntime) -> Result<(), Fail> {
-    let alloc = rt.alloc();
-    let mut reader = TestGround::make(alloc, 2)?.reader(alloc)?;
-    assert_eq!(rt; stat(alloc, &mut reader, "/n0")?, DIR);
-    let bytes = load(alloc, &mut reader, &Path::parse(alloc, "/n0/n1")?)?;
-    assert_eq!(rt; bytes, vec![in alloc; 1; 37]?);
-    Ok(())
-}
-
-#[test]
-fn a_reader_refuses_what_is_of_another_kind(rt: HostRuntime) -> Result<(), Fail> {
-    let alloc = rt.alloc();
-    let mut reader = TestGround::make(alloc, 2)?.reader(alloc)?;
-    let dir = Path::parse(alloc, "/n0")?;
-    let file = Path::parse(alloc, "/n0/n1")?;
+fn a_reader_refuses_what_is_of_another_kind(rt: HostRuntime) {
+    let mut reader = Whole::of_nodes(&rt, 2).reader(&rt);
     let mut four = [0; 4];
-    assert_eq!(rt; reader.list(alloc, &file).err(), Some(ListError::NotDir));
-    assert_eq!(rt; reader.read(&dir, 0, &mut four), Err(ReadError::NotFile));
-    assert_eq!(rt; reader.read(&file, 35, &mut four), Ok(2));
-    assert_eq!(rt; four, [1, 1, 0, 0]);
-    assert_eq!(rt; reader.faults(), 0);
-    Ok(())
+    let listing = listed(&rt, &mut reader, "/n0/n1").err();
+    same(&rt, &listing, &Some(ListError::NotDir));
+    for (at, from, want) in [("/n0", 0, Err(ReadError::NotFile)), ("/n0/n1", 35, Ok(2))] {
+        let read = reader.read(&parsed(&rt, at), from, &mut four);
+        same(&rt, &read, &want);
+    }
+    same(&rt, &four, &[1, 1, 0, 0]);
+    same(&rt, &reader.faults(), &0);
 }
 
 #[test]
-fn what_is_written_is_read(rt: HostRuntime) -> Result<(), Fail> {
-    let alloc = rt.alloc();
-    let mut files = TestGround::make(alloc, 2)?;
-    let file = Path::parse(alloc, "/n0/f")?;
-    files.make_file(alloc, &file)?;
-    files.write_at(alloc, &file, 0, b"abc")?;
-    files.write_at(alloc, &file, 0, b"-")?;
-    let mut reader = files.reader(alloc)?;
-    let bytes = load(alloc, &mut reader, &file)?;
-    assert_eq!(rt; bytes.as_slice(), b"-bc".as_slice());
-    Ok(())
+fn what_is_written_is_read(rt: HostRuntime) {
+    let mut files = Whole::of_nodes(&rt, 2);
+    for (call, bytes, held) in [
+        (Call::MakeFile, b"".as_slice(), b"".as_slice()),
+        (Call::Write, b"abc", b"abc"),
+        (Call::Write, b"-", b"-bc"),
+    ] {
+        let done = files.write(rt.alloc(), call, &parsed(&rt, "/n0/f"), bytes);
+        same(&rt, &done, &Ok(()));
+        so(&rt, holds(&rt, &mut files, "/n0/f", Some(held)), "/n0/f");
+    }
 }
 
 #[test]
-fn a_reader_keeps_what_it_was_made_of(rt: HostRuntime) -> Result<(), Fail> {
-    let alloc = rt.alloc();
-    let mut files = TestGround::make(alloc, 2)?;
-    let dir = Path::parse(alloc, "/n0/d")?;
-    let mut reader = files.reader(alloc)?;
-    files.make_dir(alloc, &dir)?;
-    assert_eq!(rt; reader.stat(&dir), Ok(None));
+fn a_reader_keeps_what_it_was_made_of(rt: HostRuntime) {
+    let mut files = Whole::of_nodes(&rt, 2);
+    let mut reader = files.reader(&rt);
+    let done = files.write(rt.alloc(), Call::MakeDir, &parsed(&rt, "/n0/d"), b"");
+    same(&rt, &done, &Ok(()));
+    same(&rt, &told(&rt, &mut reader, "/n0/d"), &Ok(None));
     files.take_reader(reader);
-    assert_eq!(rt; files.faults(), 0);
-    Ok(())
+    same(&rt, &files.faults(), &0);
 }
 
 #[test]
-fn what_is_removed_is_gone(rt: HostRuntime) -> Result<(), Fail> {
-    let alloc = rt.alloc();
-    let mut files = TestGround::make(alloc, 2)?;
-    let dir = Path::parse(alloc, "/n0")?;
-    let file = Path::parse(alloc, "/n0/n1")?;
-    assert_eq!(rt; files.remove_dir(alloc, &dir), Err(WriteError::NotEmpty));
-    assert_eq!(rt; files.remove_file(alloc, &dir), Err(WriteError::WrongKind));
-    files.remove_file(alloc, &file)?;
-    files.remove_dir(alloc, &dir)?;
-    assert_eq!(rt; files.remove_dir(alloc, &dir), Err(WriteError::Absent));
-    assert_eq!(rt; files.make_file(alloc, &file), Err(WriteError::NoParent));
-    Ok(())
+fn what_is_removed_is_gone(rt: HostRuntime) {
+    let mut files = Whole::of_nodes(&rt, 2);
+    for (call, at, want) in [
+        (Call::RemoveDir, "/n0", Err(WriteError::NotEmpty)),
+        (Call::RemoveFile, "/n0", Err(WriteError::WrongKind)),
+        (Call::RemoveFile, "/n0/n1", Ok(())),
+        (Call::RemoveDir, "/n0", Ok(())),
+        (Call::RemoveDir, "/n0", Err(WriteError::Absent)),
+        (Call::MakeFile, "/n0/n1", Err(WriteError::NoParent)),
+    ] {
+        let done = files.write(rt.alloc(), call, &parsed(&rt, at), b"");
+        same(&rt, &done, &want);
+    }
 }
 
 fn may_move<G: Ground + Send>()

@@ -1,0 +1,179 @@
+//! Files of which no part is lent, as the tests write and read them.
+ghost use Rattle.std.specs.Prelude.{◌≡◌};
+ghost use Rattle.outside.specs.Tree.{is_root};
+
+use crate::shared::parsed;
+use files_mem::{Call, MemGround, MemReader, PutError};
+use outside::{
+    Failed, Ground, Kind, ListError, Listing, LoadError, Plot, SaveError, Stat, Tree, WriteError,
+    load, save,
+};
+use path_text::{OutOfMemory, Path};
+use std::alloc::Global;
+use std::marker::Model;
+use std::process::Abort;
+use test_tree::TestGround;
+
+const TIME: Option<u64> = Some(86400);
+
+/// Files of which no part is lent, so that they may be written at each path but `/`. Nothing is said of what they hold.
+#[derive(Drop)]
+pub struct Whole<G: Plot> {
+    files: G,
+}
+
+impl<G: Plot> Model for Whole<G> {
+    ghost use Rattle.std.specs.Prelude.{◌≡◌, [], ⊤};
+    ghost use Rattle.outside.specs.Writes.{all_but};
+
+    ghost Value = { ⊤ };
+
+    ghost view = { λ _. tt };
+
+    ghost invariant = { λ whole. G.area whole.files ≡ all_but [] };
+}
+
+impl Whole<MemGround> {
+    /// Nothing but `/`.
+    pub fn empty(rt: &(impl Abort + AllocGlobal)) -> Whole<MemGround> {
+        let files = MemGround::empty(rt.alloc()).expect(rt, "room");
+        Whole { files }
+    }
+
+    /// Puts a node that was changed a day after 1970 began: a directory with so many children whose path is too long, or a file
+    /// with these bytes.
+    pub fn put(&mut self, kind: Kind, path: &Path, far: u64, bytes: &str) -> Result<(), PutError> {
+        match kind {
+            Kind::Dir => self.files.put_dir(path, far, TIME),
+            Kind::File => self.files.put_file(path, bytes.as_bytes(), TIME),
+            Kind::Link => self.files.put_link(path, TIME),
+            Kind::Other => self.files.put_other(path, TIME),
+        }
+    }
+
+    /// Plans that a call fails at a path.
+    pub fn plan(&mut self, call: Call, path: &Path) -> Result<(), OutOfMemory> {
+        self.files.plan(call, path)
+    }
+}
+
+impl Whole<TestGround> {
+    /// The made-up tree of so many nodes, of which there is one at least.
+    pub fn of_nodes(rt: &(impl Abort + AllocGlobal), nodes: u64) -> Whole<TestGround> {
+        let nodes = nodes.clamp(1, 1_000_000);
+        let files = TestGround::make(rt.alloc(), nodes).expect(rt, "room");
+        Whole { files }
+    }
+}
+
+impl<G: Ground> Whole<G> {
+    /// A call that writes, `Write` of these bytes from the front on. `/` and a call that does not write are refused as `Failed`.
+    pub fn write(
+        &mut self,
+        alloc: Global,
+        call: Call,
+        path: &Path,
+        bytes: &[u8],
+    ) -> Result<(), WriteError> {
+        if is_root(path) {
+            return Err(WriteError::Failed);
+        }
+        match call {
+            Call::MakeDir => self.files.make_dir(alloc, path),
+            Call::MakeFile => self.files.make_file(alloc, path),
+            Call::Write => self.files.write_at(alloc, path, 0, bytes),
+            Call::RemoveFile => self.files.remove_file(alloc, path),
+            Call::RemoveDir => self.files.remove_dir(alloc, path),
+            _ => Err(WriteError::Failed),
+        }
+    }
+
+    /// Saves a whole file.
+    pub fn save(&mut self, alloc: Global, path: &Path, bytes: &[u8]) -> Result<(), SaveError> {
+        save(alloc, &mut self.files, path, bytes)
+    }
+
+    /// The bytes of a whole file.
+    pub fn load(&mut self, alloc: Global, path: &Path) -> Result<Vec<u8>, LoadError> {
+        let Ok(mut reader) = self.files.reader(alloc) else {
+            return Err(LoadError::OutOfMemory);
+        };
+        load(alloc, &mut reader, path)
+    }
+
+    /// A reader of the files as they are now.
+    pub fn reader(&mut self, rt: &(impl Abort + AllocGlobal)) -> G::Reader {
+        self.files.reader(rt.alloc()).expect(rt, "room")
+    }
+
+    /// Takes a reader back.
+    pub fn take_reader(&mut self, reader: G::Reader) {
+        self.files.take_reader(reader);
+    }
+
+    /// How often they have failed.
+    pub fn faults(&self) -> u64 {
+        self.files.faults()
+    }
+}
+
+fn is_root(path: &Path) -> bool
+    ensures { result ≡ is_root path.now }
+{
+    path.text() == "/"
+}
+
+/// What is told of a path.
+pub fn told<R: Tree>(
+    rt: &(impl Abort + AllocGlobal),
+    reader: &mut R,
+    text: &str,
+) -> Result<Option<Stat>, Failed> {
+    reader.stat(&parsed(rt, text))
+}
+
+/// The names that are told, with a blank behind each, and how many more are no text, or have a path that is too long.
+pub fn listed<R: Tree>(
+    rt: &(impl Abort + AllocGlobal),
+    reader: &mut R,
+    text: &str,
+) -> Result<(String, u64, u64), ListError> {
+    let listing = reader.list(rt.alloc(), &parsed(rt, text))?;
+    let names = joined(rt, &listing);
+    Ok((names, listing.unnamed(), listing.far()))
+}
+
+fn joined(rt: &(impl Abort + AllocGlobal), listing: &Listing) -> String {
+    let mut names = String::new(rt.alloc());
+    for k in 0..listing.len() {
+        names.push_str(listing.name(k)).expect(rt, "room");
+        names.push(' ').expect(rt, "room");
+    }
+    names
+}
+
+/// Whether just these names are told, with a blank behind each, and so many more.
+pub fn lists<R: Tree>(
+    rt: &(impl Abort + AllocGlobal),
+    reader: &mut R,
+    text: &str,
+    want: (&str, u64, u64),
+) -> bool {
+    match listed(rt, reader, text) {
+        Ok((names, unnamed, far)) => (names.as_str(), unnamed, far) == want,
+        Err(_) => false,
+    }
+}
+
+/// Whether the file there holds just these bytes; of `None`, whether no file is there.
+pub fn holds<G: Ground>(
+    rt: &(impl Abort + AllocGlobal),
+    files: &mut Whole<G>,
+    at: &str,
+    want: Option<&[u8]>,
+) -> bool {
+    match files.load(rt.alloc(), &parsed(rt, at)) {
+        Ok(bytes) => want == Some(bytes.as_slice()),
+        Err(error) => want.is_none() && error == LoadError::NoFile,
+    }
+}
