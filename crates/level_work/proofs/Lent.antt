@@ -1,0 +1,110 @@
+-- A share that is leased, worked on and given back.
+use Rattle.std.proofs.Common.{◌≡◌, ◌≢◌, ℕ, zero, suc, ◌+◌, ◌<◌, ◌≤◌, Bool, true, false, cond, not, ◌||◌, ◌&&◌, List, [], ◌∷◌, ◌++◌, length, Option, Some, None, IfSome, refl, ap, ◌∙◌, sym, subst, arith, nat_eq, eqb, length-append, is_some, slice_get}
+use Rattle.std.specs.Prelude.{IsTrue}
+use Rattle.std.proofs.lemmas.Bool.{false≢true}
+use Rattle.std.proofs.lemmas.Bool.Decides.{nat_tests}
+use Rattle.std.proofs.lemmas.Option.{slice_get_within, get_or_from_slice_get}
+use Rattle.std.proofs.lemmas.List.Folds.{list_any_at}
+use Rattle.std.specs.List.{list_any}
+use Rattle.std.specs.Option.{option_map}
+use Rattle.std.specs.FinMap.{get, get-retain_keys}
+use Rattle.std.specs.Cmp.Lexicographic.{pointwise, bytes_decides}
+use Rattle.path_text.specs.Order.{path_cmp, is_within}
+use Rattle.path_text.specs.Path.{level_of, parent_of}
+use Rattle.path_text.specs.Total.{path_cmp_same}
+use Rattle.outside.specs.Tree.{Files, is_dir, is_root}
+use Rattle.outside.specs.Writes.{Area, all_but, under, is_top, is_open}
+use Rattle.outside.specs.Lease.{in_tops, leased, kept, Joins, area_without, area_with, is_out, tops_of, same_tops, CanLease, HaveParents}
+use Rattle.level_work.specs.Acts.{Deed, at_and_under}
+use Rattle.level_work.specs.Private.Lots.{IsAt, AreApart, SameButFirst, WorkedOn, Ready}
+use Rattle.level_work.specs.Private.Shares.{ArePaths, AreFirstPaths, IsShare, StandInDirs}
+use Rattle.level_work.specs.declared.items.Item.{Item}
+use Rattle.level_work.specs.declared.items.Fate.{Fate}
+use Rattle.level_work.specs.declared.lots.Lot.{Lot}
+use Rattle.level_work.proofs.Frames.{get_at, same_at, itself}
+use Rattle.level_work.proofs.Working.{item_at, same_some}
+
+get_end : {X : Type 0} (xs : List X) (y : X) → slice_get (xs ++ y ∷ []) (length xs) ≡ Some y
+get_end [] y = refl
+get_end (x ∷ xs) y = get_end xs y
+
+get_front : {X : Type 0} (xs : List X) (y : X) (j : ℕ) → j < length xs → slice_get (xs ++ y ∷ []) j ≡ slice_get xs j
+get_front [] y j l = absurd (omega arith)
+get_front (x ∷ xs) y zero l = refl
+get_front (x ∷ xs) y (suc j) l = get_front xs y j (omega arith)
+
+pub one_path_more : (items : List Item) (places : List ℕ) (paths : List (List ℕ)) (n : ℕ) (p : List ℕ) → AreFirstPaths n items places paths → ((x : Item) → IsAt items places n x → p ≡ x.path) → AreFirstPaths (n + 1) items places (paths ++ p ∷ [])
+one_path_more items places paths n p a h = record {
+    len = length-append paths (p ∷ []) ∙ ap (λ k. k + 1) a.len;
+    of_item = λ j x l at. elim (eqb j n) as (λ b. eqb j n ≡ b → slice_get (paths ++ p ∷ []) j ≡ Some x.path) [
+        | true ↦ λ is. let e = same j n is in ap (slice_get (paths ++ p ∷ [])) (e ∙ sym a.len) ∙ get_end paths p ∙ ap Some (h x (subst (λ k. IsAt items places k x) e at))
+        | false ↦ λ off. get_front paths p j (omega (arith, a.len, before j n l off)) ∙ a.of_item j x (before j n l off) at
+      ] refl;
+  }
+  where
+    same : (j n : ℕ) → eqb j n ≡ true → j ≡ n
+    same j n e = grind (arith, nat_tests)
+
+    before : (j n : ℕ) → j < n + 1 → eqb j n ≡ false → j < n
+    before j n l e = grind (arith, nat_tests)
+
+pub no_path_yet : (items : List Item) (places : List ℕ) → AreFirstPaths 0 items places []
+no_path_yet items places = record { len = refl; of_item = λ j x l at. absurd (omega (arith, l)) }
+
+pub all_paths : (items : List Item) (places : List ℕ) (paths : List (List ℕ)) (n : ℕ) → n ≡ length places → AreFirstPaths n items places paths → ArePaths items places paths
+all_paths items places paths n e a = record { len = a.len ∙ e; of_item = λ j x at. a.of_item j x (omega (arith, e, slice_get_within places j at.place at.at)) at }
+
+module _ (items : List Item) (places : List ℕ) (tops : List (List ℕ)) (s : IsShare items places) (a : ArePaths items places tops) where
+  pub item_of : (i : ℕ) (p : List ℕ) → slice_get tops i ≡ Some p → (x : Item) × (IsAt items places i x × (x.path ≡ p))
+  item_of i p e =
+      let x = item_at items places i (omega (arith, a.len, slice_get_within tops i p e)) s.inside in
+      (x.0, (x.1, same_some x.0.path p (sym (a.of_item i x.0 x.1) ∙ e)))
+
+  pub can_lease : CanLease (all_but []) tops
+  can_lease = record {
+      distinct = λ i j p h k. elim (eqb i j) as (λ b. eqb i j ≡ b → i ≡ j) [
+          | true ↦ λ is. same i j is
+          | false ↦ λ off. absurd (clash i j p h k (other i j off))
+        ] refl;
+      one_level = λ i j x y h k. let u = item_of i x h in let v = item_of j y k in sym (ap level_of u.1.1) ∙ s.one_level i j u.0 v.0 u.1.0 v.1.0 ∙ ap level_of v.1.1;
+      are_open = λ i x h. let u = item_of i x h in ap not (sym (ap is_root u.1.1) ∙ s.no_root i u.0 u.1.0);
+    }
+    where
+      same : (j n : ℕ) → eqb j n ≡ true → j ≡ n
+      same j n e = grind (arith, nat_tests)
+
+      other : (j n : ℕ) → eqb j n ≡ false → j ≢ n
+      other j n e = λ s. absurd (false≢true (grind (arith, nat_tests)))
+
+      clash : (i j : ℕ) (p : List ℕ) → slice_get tops i ≡ Some p → slice_get tops j ≡ Some p → i ≢ j → ⊥
+      clash i j p h k off = let u = item_of i p h in let v = item_of j p k in
+          false≢true (sym (s.apart i j u.0 v.0 off u.1.0 v.1.0) ∙ ap (λ r. is_within r v.0.path) (u.1.1 ∙ sym v.1.1) ∙ itself v.0.path)
+
+  pub have_parents : (t : Option Files) → IfSome t (StandInDirs items places) → IfSome t (HaveParents tops)
+  have_parents None h = tt
+  have_parents (Some files) h = λ i p e. let u = item_of i p e in ap (λ r. is_dir (get files (parent_of r))) (sym u.1.1) ∙ h i u.0 u.1.0
+
+  in_any : (f : List ℕ → Bool) (j : ℕ) (x : Item) → IsAt items places j x → f x.path ≡ true → list_any f tops ≡ true
+  in_any f j x at e =
+      let h = a.of_item j x at in
+      list_any_at f tops j [] (slice_get_within tops j x.path h) (ap f (get_or_from_slice_get tops j x.path [] h) ∙ e)
+
+  pub inside_tops : (j : ℕ) (x : Item) (q : List ℕ) → IsAt items places j x → is_within q x.path ≡ true → in_tops tops q ≡ true
+  inside_tops j x q at on = in_any (is_within q) j x at on
+
+  pub is_ready : {A P : Type 0} (area : Option P → Area) (lot : Lot A P) → lot.places.items ≡ places → lot.fates.items ≡ [] → lot.lost ≡ false → area lot.part ≡ under tops → Ready area items lot
+  is_ready area lot same fresh found here = record {
+    fresh = fresh;
+    found = found;
+    inside = subst (λ ps. (j k : ℕ) → slice_get ps j ≡ Some k → k < length items) (sym same) s.inside;
+    tops = subst (λ ps. (j : ℕ) (x : Item) → IsAt items ps j x → IsTrue (is_top (area lot.part) x.path)) (sym same) (λ j x at. ap (λ r. is_top r x.path) here ∙ in_any (λ top. pointwise nat_eq top x.path) j x at ((bytes_decides x.path x.path).1 refl));
+    are_open = subst (λ ps. (j : ℕ) (x : Item) → IsAt items ps j x → IsTrue (is_open (area lot.part) x.path)) (sym same) (λ j x at. ap (λ r. is_open r x.path) here ∙ ap (λ b. b && not (is_root x.path)) (inside_tops j x x.path at (itself x.path)) ∙ ap not (s.no_root j x at));
+    apart = subst (AreApart items) (sym same) s.apart;
+  }
+
+same_self : (xs : List ℕ) → pointwise nat_eq xs xs ≡ true
+same_self xs = (bytes_decides xs xs).1 refl
+
+pub same_tops_self : (tops : List (List ℕ)) → same_tops tops tops ≡ true
+same_tops_self [] = refl
+same_tops_self (x ∷ tops) = ap (λ b. b && same_tops tops tops) (same_self x) ∙ same_tops_self tops

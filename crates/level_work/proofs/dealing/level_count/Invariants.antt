@@ -1,0 +1,7 @@
+use Rattle.std.proofs.Common.{◌≡◌, ◌<◌, ℕ, Some, slice_get}
+use Rattle.path_text.specs.Path.{level_of}
+use Rattle.level_work.specs.declared.items.Item.{Item}
+use Rattle.level_work.proofs.dealing.level_count.Given as goal
+
+abbrev pub invariant-loop-item : goal.invariant-loop-item
+invariant-loop-item l = (k : ℕ) (x : Item) → k < l.item-index → slice_get l.items k ≡ Some x → level_of x.path < l.count

@@ -1,0 +1,15 @@
+use Rattle.std.proofs.Common.{◌≡◌, ◌+◌, ◌≤◌, ◌++◌, [], map, length}
+use Rattle.std.specs.Vec.{vec_len, vec_capacity}
+use Rattle.std.specs.Vec.Iter.{into_iter_items, into_iter_len}
+use Rattle.level_work.specs.Private.Crews.{AtHome}
+use Rattle.level_work.proofs.hiring.hired.Given as goal
+
+abbrev pub invariant-loop-actor : goal.invariant-loop-actor
+invariant-loop-actor g l = record {
+  actors : l.fn.actors.items ≡ map (λ lot. lot.actor) l.lots.items ++ into_iter_items l.actor-iterator;
+  home : AtHome l.lots.items;
+  gone : l.actors.items ≡ [];
+  len : into_iter_len l.actor-iterator ≡ length (into_iter_items l.actor-iterator);
+  room : vec_len l.lots + into_iter_len l.actor-iterator ≤ vec_capacity l.lots;
+  back : length l.lots.items + into_iter_len l.actor-iterator ≤ vec_capacity l.actors;
+}

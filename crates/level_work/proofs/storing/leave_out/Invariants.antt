@@ -1,0 +1,6 @@
+use Rattle.std.proofs.Common.{◌≡◌}
+use Rattle.level_work.specs.Private.Storing.{IsLeftOut}
+use Rattle.level_work.proofs.storing.leave_out.Given as goal
+
+abbrev pub invariant-loop-j : goal.invariant-loop-j
+invariant-loop-j l = IsLeftOut l.j l.places l.fn.fates l.fates

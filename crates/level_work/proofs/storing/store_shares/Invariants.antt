@@ -1,0 +1,6 @@
+use Rattle.std.proofs.Common.{◌≡◌}
+use Rattle.level_work.specs.Private.Storing.{AreStored}
+use Rattle.level_work.proofs.storing.store_shares.Given as goal
+
+abbrev pub invariant-loop-i : goal.invariant-loop-i
+invariant-loop-i g l = AreStored l.i l.lots l.fn.fates l.fates

@@ -1,0 +1,5 @@
+pub mod Acts
+pub mod Levels
+pub mod Counts
+pub mod Chain
+pub mod Private

@@ -1,0 +1,9 @@
+pub mod Steps
+pub mod Lots
+pub mod Shares
+pub mod Crews
+pub mod Giving
+pub mod Leasing
+pub mod Dealing
+pub mod Storing
+pub mod Turns

@@ -1,0 +1,31 @@
+-- A share of a level on a ground. Our own.
+use Rattle.std.specs.Prelude.{◌++◌, ◌≡◌, ◌≢◌, ℕ, ◌<◌, Bool, true, false, List, length, Option, Some, IfSome, IfOk, OnErr, slice_get, Result, Ok, Err}
+use Rattle.std.specs.FinMap.{get}
+use Rattle.path_text.specs.Order.{is_within}
+use Rattle.path_text.specs.Path.{level_of, parent_of}
+use Rattle.outside.specs.Tree.{Files, is_dir, is_root}
+use Rattle.level_work.specs.Acts.{Deed}
+use Rattle.level_work.specs.Private.Lots.{IsAt, AreApart, WorkedOn}
+use Rattle.level_work.specs.declared.items.Fate.{Fate}
+use Rattle.level_work.specs.declared.items.Item.{Item}
+
+-- the paths of the items at these places
+pub record ArePaths (items : List Item) (places : List ℕ) (paths : List (List ℕ)) : Type 0 where
+  pub len : length paths ≡ length places
+  pub of_item : (j : ℕ) (x : Item) → IsAt items places j x → slice_get paths j ≡ Some x.path
+
+-- the same, of the first n places
+pub record AreFirstPaths (n : ℕ) (items : List Item) (places : List ℕ) (paths : List (List ℕ)) : Type 0 where
+  pub len : length paths ≡ n
+  pub of_item : (j : ℕ) (x : Item) → j < n → IsAt items places j x → slice_get paths j ≡ Some x.path
+
+-- items that a share may have: each in the list, on one level, none `/`, none at or under another
+pub record IsShare (items : List Item) (places : List ℕ) : Type 0 where
+  pub inside : (j k : ℕ) → slice_get places j ≡ Some k → k < length items
+  pub apart : AreApart items places
+  pub one_level : (i j : ℕ) (x y : Item) → IsAt items places i x → IsAt items places j y → level_of x.path ≡ level_of y.path
+  pub no_root : (j : ℕ) (x : Item) → IsAt items places j x → is_root x.path ≡ false
+
+-- each item's parent is a directory
+abbrev pub StandInDirs : List Item → List ℕ → Files → Type 0
+StandInDirs items places files = (j : ℕ) (x : Item) → IsAt items places j x → is_dir (get files (parent_of x.path)) ≡ true
