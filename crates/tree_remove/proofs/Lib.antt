@@ -1,0 +1,8 @@
+pub mod Answers
+pub mod Chosen
+pub mod Deeds
+pub mod Frames
+pub mod Names
+pub mod Removal
+pub mod Removes
+pub mod Rows

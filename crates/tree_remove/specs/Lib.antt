@@ -1,0 +1,2 @@
+pub mod PrivateDeeds
+pub mod Removing

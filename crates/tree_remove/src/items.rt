@@ -1,0 +1,49 @@
+//! Entries as items of work on levels.
+ghost use Rattle.std.specs.Prelude.{◌≡◌, None, All, IfOk};
+ghost use Rattle.path_text.specs.Path.{refusal};
+ghost use Rattle.tree_remove.specs.PrivateDeeds.{item_of, items_of};
+
+use flat_list::{Entry, FlatList};
+use level_work::Item;
+use path_text::OutOfMemory;
+use std::alloc::Global;
+
+/// The item of each entry, at its own path. Each path of a list is a path, which the list does not tell of itself.
+pub(crate) fn items_of(alloc: Global, list: &FlatList) -> Result<Vec<Item>, OutOfMemory>
+    ensures items { IfOk result (λ items. items.items ≡ items_of list.now) }
+    ensures valid { IfOk result (λ items. All (λ e. refusal e.path ≡ None) list.now) }
+{
+    see_paths(list);
+    let mut items = Vec::with_capacity(alloc, list.len())?;
+    let mut cursor = list.cursor();
+    while cursor.advance() {
+        items.push(item_of(cursor.entry())?)?;
+    }
+    Ok(items)
+}
+
+// Each path is one.
+fn see_paths(list: &FlatList)
+    ensures { All (λ e. refusal e.path ≡ None) list.now }
+{
+    let mut cursor = list.cursor();
+    while cursor.advance() {
+        let _ = cursor.entry().path.text();
+    }
+}
+
+// The item of an entry, with a copy of it.
+fn item_of(entry: &Entry) -> Result<Item, OutOfMemory>
+    ensures { IfOk result (λ item. item ≡ item_of entry.now) }
+{
+    Ok(Item {
+        path: entry.path.copy()?,
+        entry: Entry {
+            path: entry.path.copy()?,
+            stat: entry.stat,
+            mark: entry.mark,
+            unnamed: entry.unnamed,
+            far: entry.far,
+        },
+    })
+}

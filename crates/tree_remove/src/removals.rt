@@ -1,0 +1,66 @@
+//! The removal of chosen paths.
+ghost use Rattle.std.specs.Prelude.{◌≡◌, ◌≤◌, [], length, map, IfOk, IfSome, is_some};
+ghost use Rattle.std.specs.List.{count_by};
+ghost use Rattle.outside.specs.Count.{RoseBy};
+ghost use Rattle.outside.specs.Writes.{all_but};
+ghost use Rattle.flat_list.specs.Spelling.{paths};
+ghost use Rattle.level_work.specs.Counts.{is_failed};
+ghost use Rattle.tree_remove.specs.Removing.{AreChosen, AreThere, Removed, SameButChosen, is_done};
+
+use crate::items::items_of;
+use crate::reports::RemoveReport;
+use crate::unlinking::Remove;
+use flat_list::FlatList;
+use level_work::{Order, on_levels};
+use outside::{Ground, Plot, nodes_are_under_directories};
+use path_text::OutOfMemory;
+use std::alloc::Global;
+use std::thread::Threads;
+
+/// Removes what the entries tell, the deepest first: directories as such, and all else as files. The entries of a level are
+/// dealt to as many ranks, which work in as many threads as there are hosts.
+pub fn remove<R: Threads + Sync, G: Ground>(
+    rt: &R,
+    alloc: Global,
+    chosen: &FlatList,
+    ground: &mut G,
+    ranks: u32,
+    hosts: u32,
+) -> Result<RemoveReport, OutOfMemory>
+where
+    G::Part: Send,
+    requires ranks { 1 ≤ ranks }
+    requires hosts { 1 ≤ hosts }
+    requires lent { G.area ground.old ≡ all_but [] }
+    requires chosen { AreChosen chosen.now }
+    requires there { IfSome (G.tree ground.old) (AreThere chosen.now) }
+    ensures paths { IfOk result (λ report. map (λ row. row.0) report.0 ≡ paths chosen.now) }
+    ensures gone { IfOk result (λ report. report.1 ≡ count_by (λ row. is_done row.1) report.0) }
+    ensures told { IfOk result (λ report. IfSome (G.tree ground.old) (λ before. IfSome (G.tree ground.new) (Removed report.0 before))) }
+    ensures blamed { IfOk result (λ report. RoseBy (count_by (λ row. is_failed row.1) report.0) (G.count ground.old) (G.count ground.new)) }
+    ensures rest { IfSome (G.tree ground.old) (λ before. IfSome (G.tree ground.new) (SameButChosen (paths chosen.now) before)) }
+    ensures tells { is_some (G.tree ground.new) ≡ is_some (G.tree ground.old) }
+    ensures lent { G.area ground.new ≡ all_but [] }
+    ensures count { RoseBy 0 (G.count ground.old) (G.count ground.new) }
+{
+    nodes_are_under_directories();
+    // The call tells that the nodes are a tree, before and after.
+    let _faults = ground.faults();
+    let items = items_of(alloc, chosen)?;
+    let mut removers = removers(alloc, ranks)?;
+    let order = Order::BottomUp;
+    let fates = on_levels(rt, alloc, &items, order, ground, &mut removers, hosts)?;
+    let _faults = ground.faults();
+    Ok(RemoveReport { items, fates })
+}
+
+// As many actors.
+fn removers(alloc: Global, ranks: u32) -> Result<Vec<Remove>, OutOfMemory>
+    ensures { IfOk result (λ actors. length actors.items ≡ ranks) }
+{
+    let mut actors = Vec::with_capacity(alloc, ranks as usize)?;
+    for _ in 0..ranks {
+        actors.push(Remove)?;
+    }
+    Ok(actors)
+}
