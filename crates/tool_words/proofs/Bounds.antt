@@ -1,7 +1,7 @@
 -- All that words give is within the limits, word by word.
 use Rattle.std.proofs.Common.{◌-◌, ◌^◌, ◌≡◌, ◌≢◌, ℕ, ◌+◌, ◌≤◌, ◌<◌, Bool, true, false, cond, refl, ap, sym, ◌∙◌, arith, Option, Some, None}
 use Rattle.std.proofs.Common.{List, [], ◌∷◌, ◌++◌, length, find}
-use Rattle.std.specs.Prelude.{Result, Ok, Err, All, IfSome, IfOk, is_none, is_some, nat_lt}
+use Rattle.std.specs.Prelude.{◌==◌, Result, Ok, Err, All, IfSome, IfOk, is_none, is_some, nat_lt}
 use Rattle.std.specs.Option.{option_map, option_or}
 use Rattle.std.specs.List.{AllByRecursion, before_first, after_first, position_or_len}
 use Rattle.std.proofs.lemmas.List.Elements.{All-from_recursion}
@@ -23,12 +23,12 @@ use Rattle.tool_words.specs.declared.turns.Turn.{Turn}
 use Rattle.tool_words.specs.declared.turns.Turn.TheVariants as turn
 use Rattle.tool_words.specs.Asked.{Origin, Choice, Asked}
 use Rattle.tool_words.specs.Clashes.{place_of, clash_in}
-use Rattle.tool_words.specs.Limits.{Valid, paths_in, CommonWithin, ChoiceWithin, Within}
+use Rattle.tool_words.specs.Limits.{Valid, Lower, paths_in, CommonWithin, ChoiceWithin, Within}
 use Rattle.tool_words.specs.Table.{tool_named, text_of, option_named, Set, set, raise}
-use Rattle.tool_words.specs.Value.{is, trimmed, number_in, split_in, path_in, order_in, test_in, is_colon, if_expr, want_by, want_in}
+use Rattle.tool_words.specs.Value.{is, trimmed, number_in, split_in, path_in, lower_path_in, order_in, test_in, is_colon, if_expr, want_by, want_in}
 use Rattle.tool_words.specs.Words.{ends_options, is_option, name_in, value_in, Given, nothing, and_then, at_end, with_words}
-use Rattle.tool_words.specs.Words.{with_path, with_number, with_plain, with_settings, is_repeated, with_another, with_own_value, with_next_value}
-use Rattle.tool_words.specs.Words.{with_flag, with_option, with_word, start_by, sides_by, nodes_by, choice_of, list_by}
+use Rattle.tool_words.specs.Words.{with_path, with_lower, with_number, with_plain, with_settings, is_repeated, with_another, with_own_value, with_next_value}
+use Rattle.tool_words.specs.Words.{with_flag, with_option, with_word, start_by, sides_by, targets_by, nodes_by, choice_of, list_by}
 use Rattle.tool_words.specs.Words.{asked_of, unless_clash, command_of, reading_for, reading}
 
 one_of : {X : Type 0} (P : X → Type 0) (b : Bool) (x y : X) → P x → P y → P (cond b x y)
@@ -76,6 +76,7 @@ Stands options s = s.common.trace ≡ true → is_some (place_of option.Trace op
 record FineSoFar (given : Given) : Type 0 where
   settings : Fine given.settings
   paths : AllByRecursion Valid given.paths
+  lower : AllByRecursion Lower given.lower
   numbers : AllByRecursion Makeable given.numbers
   trace : Stands given.options given.settings
 
@@ -91,6 +92,23 @@ path_valid word =
 
 the_path : (word path : List ℕ) → path_in word ≡ Some path → Valid path
 the_path word path e = let h = path_valid word in rw e at h
+
+not_one : (n : ℕ) → (n == 1) ≡ false → n ≢ 1
+not_one n e = grind (arith, nat_tests)
+
+trimmed_lower : (word : List ℕ) → (length (trimmed word) == 1) ≡ false → IfSome (path_in word) Lower
+trimmed_lower word off =
+    elim (is_none (refusal (trimmed word))) as (λ b. is_none (refusal (trimmed word)) ≡ b → IfSome (cond b (Some (trimmed word)) None) Lower) [
+      | true ↦ λ e. (valid_if (trimmed word) e, not_one (length (trimmed word)) off)
+      | false ↦ λ e. tt
+    ] refl
+
+path_lower : (word : List ℕ) → IfSome (lower_path_in word) Lower
+path_lower word =
+    elim (length (trimmed word) == 1) as (λ b. (length (trimmed word) == 1) ≡ b → IfSome (cond b None (path_in word)) Lower) [
+      | true ↦ λ e. tt
+      | false ↦ trimmed_lower word
+    ] refl
 
 want_by_valid : (expr : Option (List (List Condition))) (file : Option (List ℕ)) → IfSome file Valid → IfSome (want_by expr file) FileValid
 want_by_valid (Some expr) (Some file) v = v
@@ -169,11 +187,13 @@ set_fine (option.Test name) text s f =
     mapped Fine _ (test_in name text) (λ test e. record { common = f.common; input = f.input; output = f.output; newer = f.newer; wants = f.wants })
 set_fine option.Newer text s f = mapped Fine _ (path_in text) (λ path e. with_newer s path f (the_path text path e))
 set_fine option.Want text s f = mapped Fine _ (want_in text) (λ want e. with_want s want f (the_want text want e))
+set_fine option.Dryrun text s f = tt
 
 raise_fine : (option : OptionName) (s : Set) → Fine s → IfSome (raise option s) Fine
 raise_fine option.Trace s f = with_common s _ f (same_limits s.common _ f.common refl refl refl refl)
 raise_fine option.Shares s f = with_common s _ f (same_limits s.common _ f.common refl refl refl refl)
 raise_fine option.Progress s f = with_common s _ f (same_limits s.common _ f.common refl refl refl refl)
+raise_fine option.Dryrun s f = record { common = f.common; input = f.input; output = f.output; newer = f.newer; wants = f.wants }
 raise_fine _ s f = tt
 
 -- a value leaves the trace as it was
@@ -195,6 +215,7 @@ set_leaves option.Output text s = mapped (SameTrace s) _ (path_in text) (λ path
 set_leaves (option.Test name) text s = mapped (SameTrace s) _ (test_in name text) (λ test e. refl)
 set_leaves option.Newer text s = mapped (SameTrace s) _ (path_in text) (λ path e. refl)
 set_leaves option.Want text s = mapped (SameTrace s) _ (want_in text) (λ want e. refl)
+set_leaves option.Dryrun text s = tt
 
 -- the option is `--trace`
 abbrev is_trace : Placed → Bool
@@ -230,16 +251,28 @@ raise_stands : (option : OptionName) (place : ℕ) (options : List Placed) (s : 
 raise_stands option.Trace place options s h = λ t. now_stands options place
 raise_stands option.Shares place options s h = still_stands options _ s h
 raise_stands option.Progress place options s h = still_stands options _ s h
+raise_stands option.Dryrun place options s h = still_stands options _ s h
 raise_stands _ place options s h = tt
 
 path_fine : (given : Given) (place : ℕ) (path : Option (List ℕ)) → FineSoFar given → IfSome path Valid → IfOk (with_path given place path) FineSoFar
 path_fine given place (Some path) f v = record {
   settings = f.settings;
   paths = one_more Valid given.paths path f.paths v;
+  lower = f.lower;
   numbers = f.numbers;
   trace = f.trace;
 }
 path_fine given place None f v = tt
+
+lower_fine : (given : Given) (place : ℕ) (path : Option (List ℕ)) → FineSoFar given → IfSome path Lower → IfOk (with_lower given place path) FineSoFar
+lower_fine given place (Some path) f v = record {
+  settings = f.settings;
+  paths = f.paths;
+  lower = one_more Lower given.lower path f.lower v;
+  numbers = f.numbers;
+  trace = f.trace;
+}
+lower_fine given place None f v = tt
 
 number_fits : (word : List ℕ) → IfSome (number_in 1 1000000 word) Makeable
 number_fits word = if_found (number_in 1 1000000 word) (number_within 1 1000000 word)
@@ -252,6 +285,7 @@ number_fine : (given : Given) (place : ℕ) (number : Option ℕ) → FineSoFar 
 number_fine given place (Some n) f v = record {
   settings = f.settings;
   paths = f.paths;
+  lower = f.lower;
   numbers = one_more Makeable given.numbers n f.numbers v;
   trace = f.trace;
 }
@@ -261,11 +295,12 @@ plain_fine : (tool : Tool) (given : Given) (place : ℕ) (word : List ℕ) → F
 plain_fine tool.Walk given place word f = path_fine given place (path_in word) f (path_valid word)
 plain_fine tool.Find given place word f = path_fine given place (path_in word) f (path_valid word)
 plain_fine tool.Cmp given place word f = path_fine given place (path_in word) f (path_valid word)
+plain_fine tool.Remove given place word f = lower_fine given place (lower_path_in word) f (path_lower word)
 plain_fine tool.Test given place word f = number_fine given place (number_in 1 1000000 word) f (number_fits word)
 
 settings_fine : (given : Given) (place : ℕ) (settings : Option Set) →
     FineSoFar given → IfSome settings Fine → IfSome settings (SameTrace given.settings) → IfOk (with_settings given place settings) FineSoFar
-settings_fine given place (Some settings) f h same = record { settings = h; paths = f.paths; numbers = f.numbers; trace = λ t. f.trace (sym same ∙ t) }
+settings_fine given place (Some settings) f h same = record { settings = h; paths = f.paths; lower = f.lower; numbers = f.numbers; trace = λ t. f.trace (sym same ∙ t) }
 settings_fine given place None f h same = tt
 
 value_fine : (given : Given) (place : ℕ) (option : OptionName) (text : List ℕ) →
@@ -276,7 +311,7 @@ value_fine given place option text f =
 another_fine : (given : Given) (place : ℕ) (option : OptionName) → FineSoFar given → IfOk (with_another given place option) FineSoFar
 another_fine given place option f =
     one_of (λ r. IfOk r FineSoFar) (is_repeated option given.options) _ _ tt
-    (record { settings = f.settings; paths = f.paths; numbers = f.numbers; trace = still_stands given.options _ given.settings f.trace })
+    (record { settings = f.settings; paths = f.paths; lower = f.lower; numbers = f.numbers; trace = still_stands given.options _ given.settings f.trace })
 
 own_fine : (given : Given) (place : ℕ) (option : OptionName) (text : List ℕ) → FineSoFar given → IfOk (with_own_value given place option text) FineSoFar
 own_fine given place option text f =
@@ -294,8 +329,8 @@ next_fine given at option place word f =
 flag_fine : (given : Given) (place : ℕ) (option : OptionName) (settings : Option Set) → FineSoFar given → IfSome settings Fine →
     IfSome settings (Stands (given.options ++ record { option = option; place = place } ∷ [])) → IfOk (with_flag given place option settings) FineSoFar
 flag_fine given place option (Some settings) f h stands =
-    one_of (λ r. IfOk r FineSoFar) (is_repeated option given.options) _ _ tt (record { settings = h; paths = f.paths; numbers = f.numbers; trace = stands })
-flag_fine given place option None f h stands = record { settings = f.settings; paths = f.paths; numbers = f.numbers; trace = f.trace }
+    one_of (λ r. IfOk r FineSoFar) (is_repeated option given.options) _ _ tt (record { settings = h; paths = f.paths; lower = f.lower; numbers = f.numbers; trace = stands })
+flag_fine given place option None f h stands = record { settings = f.settings; paths = f.paths; lower = f.lower; numbers = f.numbers; trace = f.trace }
 
 option_fine : (given : Given) (place : ℕ) (option : Option OptionName) (value : Option (List ℕ)) →
     FineSoFar given → IfOk (with_option given place option value) FineSoFar
@@ -307,7 +342,7 @@ option_fine given place (Some option) None f =
 
 word_fine : (tool : Tool) (next : Turn) (given : Given) (place : ℕ) (word : List ℕ) → FineSoFar given → IfOk (with_word tool next given place word) FineSoFar
 word_fine tool turn.Any given place word f =
-    one_of (λ r. IfOk r FineSoFar) (ends_options word) _ _ (record { settings = f.settings; paths = f.paths; numbers = f.numbers; trace = f.trace })
+    one_of (λ r. IfOk r FineSoFar) (ends_options word) _ _ (record { settings = f.settings; paths = f.paths; lower = f.lower; numbers = f.numbers; trace = f.trace })
     (one_of (λ r. IfOk r FineSoFar) (is_option word) _ _
     (option_fine given place (option_named tool (name_in word)) (value_in word) f)
     (plain_fine tool given place word f))
@@ -336,6 +371,7 @@ nothing_fine = record {
     wants = tt;
   };
   paths = tt;
+  lower = tt;
   numbers = tt;
   trace = λ t. t;
 }
@@ -366,6 +402,10 @@ sides_fine wanting (left ∷ right ∷ paths) [] h = tt
 sides_fine wanting (left ∷ right ∷ paths) (first ∷ []) h = tt
 sides_fine wanting (left ∷ right ∷ paths) (first ∷ second ∷ []) h = (h.0, h.1.0)
 sides_fine wanting (left ∷ right ∷ paths) (first ∷ second ∷ another ∷ places) h = tt
+
+targets_fine : (wanting : ℕ) (paths : List (List ℕ)) → AllByRecursion Lower paths → IfOk (targets_by wanting paths) (All Lower)
+targets_fine wanting [] h = tt
+targets_fine wanting (path ∷ paths) h = All-from_recursion Lower (path ∷ paths) h
 
 nodes_fine : (wanting : ℕ) (numbers places : List ℕ) → AllByRecursion Makeable numbers → IfOk (nodes_by wanting numbers places) Makeable
 nodes_fine wanting [] [] h = tt
@@ -424,6 +464,10 @@ asked_fine wanting tool.Cmp given f common =
       right = v.1;
       files = All-from_recursion FileValid given.settings.wants f.settings.wants;
     })
+asked_fine wanting tool.Remove given f common =
+    both (All Lower) Within (targets_by wanting given.lower) _
+    (targets_fine wanting given.lower f.lower)
+    (λ paths l. record { common = common; roots = l; choice = choice_fine given.settings f.settings })
 asked_fine wanting tool.Test given f common =
     both Makeable Within (nodes_by wanting given.numbers given.places) _
     (nodes_fine wanting given.numbers given.places f.numbers)

@@ -1,12 +1,16 @@
 -- What holds of all that words ask for: paths are valid, and numbers stand within the limits that a run takes. Our own.
-use Rattle.std.specs.Prelude.{◌≡◌, ℕ, ◌<◌, ◌≤◌, ◌^◌, List, [], ◌∷◌, All, Ok, None, IfSome, true}
+use Rattle.std.specs.Prelude.{◌≡◌, ◌≢◌, ℕ, ◌<◌, ◌≤◌, ◌^◌, List, [], ◌∷◌, length, All, Ok, None, IfSome, true}
 use Rattle.path_text.specs.Path.{refusal}
 use Rattle.tool_words.specs.declared.commands.Common.{Common}
-use Rattle.tool_words.specs.Asked.{Origin, roots, input, Choice, ListAsked, CompareAsked, TestAsked, Asked, list, compare, test}
+use Rattle.tool_words.specs.Asked.{Origin, roots, input, Choice, ListAsked, CompareAsked, RemoveAsked, TestAsked, Asked, list, compare, remove, test}
 use Rattle.tool_words.specs.Words.{reading}
 
 abbrev pub Valid : List ℕ → Type 0
 Valid path = refusal path ≡ None
+
+-- a path that is not `/`
+abbrev pub Lower : List ℕ → Type 0
+Lower path = Valid path × (length path ≢ 1)
 
 -- the paths of a start: the roots, or the file
 abbrev pub paths_in : Origin → List (List ℕ)
@@ -36,6 +40,12 @@ pub record WithinCompare (asked : CompareAsked) : Type 0 where
   pub right : Valid asked.right
   pub files : All (λ want. Valid want.file) asked.wants
 
+-- nothing is removed at `/`
+pub record WithinRemove (asked : RemoveAsked) : Type 0 where
+  pub common : CommonWithin asked.common
+  pub roots : All Lower asked.roots
+  pub choice : ChoiceWithin asked.choice
+
 -- a made-up tree has 1 to 1,000,000 nodes
 pub record WithinTest (asked : TestAsked) : Type 0 where
   pub common : CommonWithin asked.common
@@ -45,6 +55,7 @@ pub record WithinTest (asked : TestAsked) : Type 0 where
 abbrev pub Within : Asked → Type 0
 Within (list asked) = WithinList asked
 Within (compare asked) = WithinCompare asked
+Within (remove asked) = WithinRemove asked
 Within (test asked) = WithinTest asked
 
 abbrev pub WordsAskWithinLimits : Type 0

@@ -1,4 +1,4 @@
--- The tools and their options: how each option is written, and what its value sets. Names of options are those of mpiFileUtils' dwalk, dfind and dcmp and of libcircle, as far as these have them.
+-- The tools and their options: how each option is written, and what its value sets. Names of options are those of mpiFileUtils' dwalk, dfind, dcmp and drm and of libcircle, as far as these have them.
 use Rattle.std.specs.Prelude.{ℕ, ◌-◌, ◌^◌, Bool, true, List, [], ◌∷◌, ◌++◌, false, if◌then◌else◌, codes, find, Option, Some, None}
 use Rattle.std.specs.List.{flat_map}
 use Rattle.std.specs.Option.{option_map}
@@ -21,6 +21,7 @@ tool_named text =
     if is (codes "dwalk") text then Some tool.Walk
     else if is (codes "dfind") text then Some tool.Find
     else if is (codes "dcmp") text then Some tool.Cmp
+    else if is (codes "drm") text then Some tool.Remove
     else if is (codes "dtest") text then Some tool.Test
     else None
 
@@ -45,8 +46,9 @@ text_of (option.Test name.Days) = codes "--mtime"
 text_of (option.Test name.Minutes) = codes "--mmin"
 text_of option.Newer = codes "--newer"
 text_of option.Want = codes "-o"
+text_of option.Dryrun = codes "--dryrun"
 
--- the options of a group: how a walk is to go; what is told of it; where a list comes from, in which order it is printed, and where it is saved; the tests; and what is saved of a comparison
+-- the options of a group: how a walk is to go; what is told of it; where a list comes from, in which order it is printed, and where it is saved; the tests; what is saved of a comparison; and whether something is removed
 abbrev pub options_in : Group → List OptionName
 options_in group.Common = option.Ranks ∷ option.Hosts ∷ option.Split ∷ option.Seed ∷ option.Width ∷ []
 options_in group.Telling = option.Trace ∷ option.Shares ∷ option.Progress ∷ []
@@ -55,12 +57,14 @@ options_in group.Testing =
     option.Test name.Name ∷ option.Test name.Path ∷ option.Test name.Kind ∷ option.Test name.Size ∷ option.Test name.Days ∷ option.Test name.Minutes
     ∷ option.Newer ∷ []
 options_in group.Comparing = option.Want ∷ []
+options_in group.Removing = option.Dryrun ∷ []
 
 -- the groups of options that a tool takes
 abbrev pub groups_of : Tool → List Group
 groups_of tool.Walk = group.Common ∷ group.Telling ∷ group.Listing ∷ []
 groups_of tool.Find = group.Common ∷ group.Telling ∷ group.Listing ∷ group.Testing ∷ []
 groups_of tool.Cmp = group.Common ∷ group.Comparing ∷ []
+groups_of tool.Remove = group.Common ∷ group.Testing ∷ group.Removing ∷ []
 groups_of tool.Test = group.Common ∷ group.Telling ∷ group.Testing ∷ []
 
 abbrev pub options_of : Tool → List OptionName
@@ -74,7 +78,7 @@ option_named tool text = find (λ o. is (text_of o) text) (options_of tool)
 abbrev pub standard : Common
 standard = record { ranks = 4; hosts = 1; split = Equal; seed = 0; width = 64; trace = false; shares = false; progress = false }
 
--- what options set: how a walk is to go, the order, the files, the tests, the paths of `--newer`, and what is saved of a comparison
+-- what options set: how a walk is to go, the order, the files, the tests, the paths of `--newer`, what is saved of a comparison, and whether nothing is to be removed
 pub record Set : Type 0 where
   pub common : Common
   pub sort : Option (Field × Bool)
@@ -83,9 +87,10 @@ pub record Set : Type 0 where
   pub tests : List Test
   pub newer : List (List ℕ)
   pub wants : List Want
+  pub dryrun : Bool
 
 abbrev pub unset : Set
-unset = record { common = standard; sort = None; input = None; output = None; tests = []; newer = []; wants = [] }
+unset = record { common = standard; sort = None; input = None; output = None; tests = []; newer = []; wants = []; dryrun = false }
 
 -- tests add up, and so do the paths of `--newer` and what is saved of a comparison; every other option is given once
 abbrev pub adds_up : OptionName → Bool
@@ -110,10 +115,12 @@ set option.Output text s = option_map (λ path. record s { output = Some path })
 set (option.Test name) text s = option_map (λ test. record s { tests = s.tests ++ test ∷ [] }) (test_in name text)
 set option.Newer text s = option_map (λ path. record s { newer = s.newer ++ path ∷ [] }) (path_in text)
 set option.Want text s = option_map (λ want. record s { wants = s.wants ++ want ∷ [] }) (want_in text)
+set option.Dryrun text s = None
 
 -- what is set after a flag; the other options have a value
 abbrev pub raise : OptionName → Set → Option Set
 raise option.Trace s = Some (record s { common = record s.common { trace = true } })
 raise option.Shares s = Some (record s { common = record s.common { shares = true } })
 raise option.Progress s = Some (record s { common = record s.common { progress = true } })
+raise option.Dryrun s = Some (record s { dryrun = true })
 raise _ s = None

@@ -49,6 +49,10 @@ trimmed (b ∷ word) = b ∷ before_end_slashes word
 abbrev pub path_in : List ℕ → Option (List ℕ)
 path_in word = if is_none (refusal (trimmed word)) then Some (trimmed word) else None
 
+-- the path below `/` that a word is, if it is one
+abbrev pub lower_path_in : List ℕ → Option (List ℕ)
+lower_path_in word = if length (trimmed word) == 1 then None else path_in word
+
 abbrev pub field_in : List ℕ → Option Field
 field_in text =
     if is (codes "path") text then Some field.Path

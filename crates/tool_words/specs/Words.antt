@@ -9,11 +9,11 @@ use Rattle.tool_words.specs.declared.tables.Tool.{Tool}
 use Rattle.tool_words.specs.declared.tables.Tool.TheVariants as tool
 use Rattle.tool_words.specs.declared.turns.Turn.{Turn}
 use Rattle.tool_words.specs.declared.turns.Turn.TheVariants as turn
-use Rattle.tool_words.specs.Asked.{Origin, roots, input, Choice, Asked, list, compare, test}
+use Rattle.tool_words.specs.Asked.{Origin, roots, input, Choice, Asked, list, compare, remove, test}
 use Rattle.tool_words.specs.Clashes.{clash_in}
 use Rattle.tool_words.specs.Refusals.{refuse}
 use Rattle.tool_words.specs.Table.{tool_named, text_of, option_named, Set, unset, adds_up, set, raise}
-use Rattle.tool_words.specs.Value.{is, number_in, path_in}
+use Rattle.tool_words.specs.Value.{is, number_in, path_in, lower_path_in}
 
 -- the word `--`
 abbrev pub ends_options : List ℕ → Bool
@@ -33,18 +33,19 @@ name_in word = before_first is_equals word
 abbrev pub value_in : List ℕ → Option (List ℕ)
 value_in word = if nat_lt (position_or_len is_equals word) (length word) then Some (after_first is_equals word) else None
 
--- what the words so far gave: the options in their order, with the numbers of their words; what they set; the plain words as paths or as numbers, with the numbers
--- of these words; and what the next word is read as
+-- what the words so far gave: the options in their order, with the numbers of their words; what they set; the plain words as paths, as paths below `/` or as numbers,
+-- with the numbers of these words; and what the next word is read as
 pub record Given : Type 0 where
   pub next : Turn
   pub options : List Placed
   pub settings : Set
   pub paths : List (List ℕ)
+  pub lower : List (List ℕ)
   pub numbers : List ℕ
   pub places : List ℕ
 
 abbrev pub nothing : Given
-nothing = record { next = turn.Any; options = []; settings = unset; paths = []; numbers = []; places = [] }
+nothing = record { next = turn.Any; options = []; settings = unset; paths = []; lower = []; numbers = []; places = [] }
 
 -- one reading and then another, unless the first refuses
 abbrev pub and_then : {X Y : Type 0} → Result X Refusal → (X → Result Y Refusal) → Result Y Refusal
@@ -56,16 +57,22 @@ abbrev pub with_path : Given → ℕ → Option (List ℕ) → Result Given Refu
 with_path given place (Some path) = Ok (record given { paths = given.paths ++ path ∷ []; places = given.places ++ place ∷ [] })
 with_path given place None = refuse place cause.BadValue
 
+-- with a path below `/`, if the word of this number is one
+abbrev pub with_lower : Given → ℕ → Option (List ℕ) → Result Given Refusal
+with_lower given place (Some path) = Ok (record given { lower = given.lower ++ path ∷ []; places = given.places ++ place ∷ [] })
+with_lower given place None = refuse place cause.BadValue
+
 -- with a number, if the word of this number is one
 abbrev pub with_number : Given → ℕ → Option ℕ → Result Given Refusal
 with_number given place (Some n) = Ok (record given { numbers = given.numbers ++ n ∷ []; places = given.places ++ place ∷ [] })
 with_number given place None = refuse place cause.BadValue
 
--- with a plain word: a path, or for dtest how many nodes its tree has
+-- with a plain word: a path, which for drm is not `/`, or for dtest how many nodes its tree has
 abbrev pub with_plain : Tool → Given → ℕ → List ℕ → Result Given Refusal
 with_plain tool.Walk given place word = with_path given place (path_in word)
 with_plain tool.Find given place word = with_path given place (path_in word)
 with_plain tool.Cmp given place word = with_path given place (path_in word)
+with_plain tool.Remove given place word = with_lower given place (lower_path_in word)
 with_plain tool.Test given place word = with_number given place (number_in 1 1000000 word)
 
 -- with what a value sets, if the word of this number holds one
@@ -139,6 +146,11 @@ sides_by wanting paths (first ∷ second ∷ another ∷ places) = refuse anothe
 sides_by wanting (left ∷ right ∷ paths) (first ∷ second ∷ []) = Ok (left, right)
 sides_by wanting paths places = refuse wanting cause.NoPath
 
+-- one root or more
+abbrev pub targets_by : ℕ → List (List ℕ) → Result (List (List ℕ)) Refusal
+targets_by wanting [] = refuse wanting cause.NoPath
+targets_by wanting (path ∷ paths) = Ok (path ∷ paths)
+
 -- one number of nodes, no more and no less
 abbrev pub nodes_by : ℕ → List ℕ → List ℕ → Result ℕ Refusal
 nodes_by wanting numbers (place ∷ another ∷ places) = refuse another cause.TooManyPaths
@@ -154,6 +166,9 @@ list_of s chosen start = list (record { common = s.common; start = start; chosen
 abbrev pub compare_of : Set → List ℕ → List ℕ → Asked
 compare_of s left right = compare (record { common = s.common; left = left; right = right; wants = s.wants })
 
+abbrev pub remove_of : Set → List (List ℕ) → Asked
+remove_of s paths = remove (record { common = s.common; roots = paths; choice = choice_of s; dryrun = s.dryrun })
+
 abbrev pub test_of : Set → ℕ → Asked
 test_of s nodes = test (record { common = s.common; nodes = nodes; choice = choice_of s })
 
@@ -167,6 +182,7 @@ abbrev pub asked_of : ℕ → Tool → Given → Result Asked Refusal
 asked_of wanting tool.Walk given = list_by wanting None given
 asked_of wanting tool.Find given = list_by wanting (Some (choice_of given.settings)) given
 asked_of wanting tool.Cmp given = and_then (sides_by wanting given.paths given.places) (λ sides. Ok (compare_of given.settings sides.0 sides.1))
+asked_of wanting tool.Remove given = and_then (targets_by wanting given.lower) (λ paths. Ok (remove_of given.settings paths))
 asked_of wanting tool.Test given = and_then (nodes_by wanting given.numbers given.places) (λ nodes. Ok (test_of given.settings nodes))
 
 -- options that may not stand together are told last

@@ -112,6 +112,17 @@ pub enum Command {
         /// What is saved, in the order of the words.
         wants: Vec<Want>,
     },
+    /// The removal of what is chosen.
+    Remove {
+        /// How the walk is to go.
+        common: Common,
+        /// Where it starts: paths other than `/`, which may be nested or stand twice.
+        roots: Vec<Path>,
+        /// What is chosen.
+        tests: Tests,
+        /// Whether nothing is to be removed.
+        dryrun: bool,
+    },
     /// A walk of a made-up tree, and the summary of what is chosen.
     Test {
         /// How the walk is to go.

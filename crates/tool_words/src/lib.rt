@@ -1,14 +1,15 @@
 //! The words of a command line: what they ask for, or which of them is refused.
 //!
 //! [`read_words`] reads the words behind the program's name, of which word 0 names a tool, and gives a [`Command`]. There are
-//! four tools:
+//! five tools:
 //!
 //! - `dwalk` lists what stands below paths, one or more, or reads the list from a file.
 //! - `dfind` does the same, and keeps what meets all tests.
 //! - `dcmp` compares what stands below two paths, a source and a destination.
+//! - `drm` removes what stands below paths, one or more and none of them `/`, and meets all tests.
 //! - `dtest` walks a made-up tree, and sums up what meets all tests. It takes one number, of nodes, 1 to 1,000,000.
 //!
-//! Each takes options. These are of all four:
+//! Each takes options. These are of all five:
 //!
 //! | Option | Value | Without it |
 //! |---|---|---|
@@ -27,7 +28,7 @@
 //! | `--input` | the file to read the list from; there is no path then | the paths are walked |
 //! | `--output` | the file to write the list to | none is written |
 //!
-//! And these are the tests of `dfind` and `dtest`. Where there is none, everything is kept:
+//! And these are the tests of `dfind`, `drm` and `dtest`. Where there is none, everything is kept:
 //!
 //! | Option | Value |
 //! |---|---|
@@ -40,6 +41,7 @@
 //! A bound is `N`, `+N` or `-N`: equal to N, greater, or less.
 //!
 //! `dcmp` has `-o`, whose value is an expression on the rows of the comparison and the path of a file, divided by the first `:`.
+//! `drm` has the flag `--dryrun`, with which nothing is removed.
 //!
 //! A value stands behind the first `=` or is the next word, whatever that is. Tests and `-o` add up, also where an option says
 //! two of them; every other option is given once. A number has 1 to 40 decimal digits, the first of which may be 0. A path may have
@@ -53,6 +55,7 @@
 //! dfind --mtime +1 --mtime -7 /t        // what is two to six days old
 //! dfind --input /l --newer /stamp       // of the list in `/l` what changed after `/stamp`
 //! dcmp -o EXIST=ONLY_SRC:/l /p /q        // compares `/q` to `/p`, and saves what `/p` alone has
+//! drm --dryrun --name core.* /t          // names what it would remove of `/t`
 //! dtest --type d 100000                 // the directories of a tree of 100,000 nodes
 //! dwalk --x /t                          // UnknownOption(1)
 //! dwalk --name x /t                     // UnknownOption(1)
@@ -68,6 +71,7 @@
 //! dtest 10 20                           // TooManyPaths(2)
 //! dcmp /p                               // NoPath(2)
 //! dcmp /p -o FOO=DIFFER:/r /q           // BadValue(3)
+//! drm /t /                              // BadValue(2)
 //! dwalk --                              // NoPath(2)
 //! dwalk --trace --hosts 2 /t            // Clash(1)
 //! dwalk --trace --hosts 2               // NoPath(4)

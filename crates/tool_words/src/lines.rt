@@ -5,15 +5,15 @@ ghost use Rattle.tool_words.specs.Asked.{start_in, asked_by};
 ghost use Rattle.tool_words.specs.Clashes.{place_of, trace_on_hosts, clash_in};
 ghost use Rattle.tool_words.specs.Parts.{Tells};
 ghost use Rattle.tool_words.specs.Table.{option_named, text_of, Set, set, raise};
-ghost use Rattle.tool_words.specs.Value.{is, number_in, path_in};
-ghost use Rattle.tool_words.specs.Words.{Given, nothing, ends_options, is_option, name_in, value_in, with_path, with_number, with_plain, was_given, is_repeated, with_another, with_own_value, with_next_value, with_flag, with_option, with_word, at_end, start_by, sides_by, nodes_by, asked_of, command_of};
+ghost use Rattle.tool_words.specs.Value.{is, number_in, path_in, lower_path_in};
+ghost use Rattle.tool_words.specs.Words.{Given, nothing, ends_options, is_option, name_in, value_in, with_path, with_lower, with_number, with_plain, was_given, is_repeated, with_another, with_own_value, with_next_value, with_flag, with_option, with_word, at_end, start_by, sides_by, targets_by, nodes_by, asked_of, command_of};
 
 use crate::commands::{Command, Start, Tests};
 use crate::errors::WordsError;
 use crate::settings::Settings;
 use crate::tables::{OptionName, Placed, Tool};
 use crate::turns::Turn;
-use crate::values::{number_in, path_in};
+use crate::values::{lower_path_in, number_in, path_in};
 use path_text::Path;
 use std::alloc::Global;
 use std::marker::Model;
@@ -28,6 +28,7 @@ pub(crate) struct Line {
     options: Vec<Placed>,
     settings: Settings,
     paths: Vec<Path>,
+    lower: Vec<Path>,
     numbers: Vec<u64>,
     places: Vec<usize>,
 }
@@ -37,7 +38,7 @@ impl Model for Line {
 
     ghost Value = { Given };
 
-    ghost view = { λ l. record { next = l.next; options = l.options.items; settings = l.settings; paths = l.paths.items; numbers = l.numbers.items; places = l.places.items } };
+    ghost view = { λ l. record { next = l.next; options = l.options.items; settings = l.settings; paths = l.paths.items; lower = l.lower.items; numbers = l.numbers.items; places = l.places.items } };
 }
 
 impl Line {
@@ -49,6 +50,7 @@ impl Line {
             options: Vec::new(alloc),
             settings: Settings::unset(alloc),
             paths: Vec::new(alloc),
+            lower: Vec::new(alloc),
             numbers: Vec::new(alloc),
             places: Vec::new(alloc),
         }
@@ -195,6 +197,7 @@ impl Line {
     {
         match tool {
             Tool::Walk | Tool::Find | Tool::Cmp => self.read_path(alloc, word, place),
+            Tool::Remove => self.read_lower(alloc, word, place),
             Tool::Test => self.read_number(word, place),
         }
     }
@@ -205,6 +208,16 @@ impl Line {
     {
         let path = path_in(alloc, word, place)?;
         self.paths.push(path)?;
+        self.places.push(place)?;
+        Ok(())
+    }
+
+    fn read_lower(&mut self, alloc: Global, word: &str, place: usize) -> Result<(), WordsError>
+        ensures read { OnOk result (with_lower self.old place (lower_path_in word.now) ≡ Ok self.new) }
+        ensures refused { IfErr result (λ e. Tells (with_lower self.old place (lower_path_in word.now)) e) }
+    {
+        let path = lower_path_in(alloc, word, place)?;
+        self.lower.push(path)?;
         self.places.push(place)?;
         Ok(())
     }
@@ -288,6 +301,7 @@ impl Line {
             Tool::Walk => self.walk(wanting),
             Tool::Find => self.find(wanting),
             Tool::Cmp => self.compare(wanting),
+            Tool::Remove => self.remove(wanting),
             Tool::Test => self.test(wanting),
         }
     }
@@ -367,6 +381,28 @@ impl Line {
         })
     }
 
+    fn remove(self, wanting: usize) -> Result<Command, WordsError>
+        ensures asked { IfOk result (λ command. asked_of wanting Tool.Remove self ≡ Ok (asked_by command)) }
+        ensures refused { IfErr result (λ e. Tells (asked_of wanting Tool.Remove self) e) }
+    {
+        let Line {
+            settings, lower, ..
+        } = self;
+        let Settings {
+            common,
+            tests,
+            newer,
+            dryrun,
+            ..
+        } = settings;
+        Ok(Command::Remove {
+            common,
+            roots: targets_of(lower, wanting)?,
+            tests: Tests { tests, newer },
+            dryrun,
+        })
+    }
+
     fn test(self, wanting: usize) -> Result<Command, WordsError>
         ensures asked { IfOk result (λ command. asked_of wanting Tool.Test self ≡ Ok (asked_by command)) }
         ensures refused { IfErr result (λ e. Tells (asked_of wanting Tool.Test self) e) }
@@ -427,6 +463,17 @@ fn sides_of(paths: Vec<Path>, places: &[usize], wanting: usize) -> Result<(Path,
         (Some(left), Some(right)) => Ok((left, right)),
         _ => Err(WordsError::NoPath(wanting)),
     }
+}
+
+// The paths from which is removed: one or more.
+fn targets_of(lower: Vec<Path>, wanting: usize) -> Result<Vec<Path>, WordsError>
+    ensures targets { IfOk result (λ paths. targets_by wanting lower.items ≡ Ok paths.items) }
+    ensures refused { IfErr result (λ e. Tells (targets_by wanting lower.items) e) }
+{
+    if lower.is_empty() {
+        return Err(WordsError::NoPath(wanting));
+    }
+    Ok(lower)
 }
 
 // How many nodes a made-up tree has, where the numbers stand in words of these numbers.

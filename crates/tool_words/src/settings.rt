@@ -23,6 +23,7 @@ pub(crate) struct Settings {
     pub(crate) tests: Vec<Test>,
     pub(crate) newer: Vec<Path>,
     pub(crate) wants: Vec<Want>,
+    pub(crate) dryrun: bool,
 }
 
 impl Model for Settings {
@@ -30,7 +31,7 @@ impl Model for Settings {
 
     ghost Value = { Set };
 
-    ghost view = { λ s. record { common = s.common; sort = s.sort; input = s.input; output = s.output; tests = s.tests.items; newer = s.newer.items; wants = s.wants.items } };
+    ghost view = { λ s. record { common = s.common; sort = s.sort; input = s.input; output = s.output; tests = s.tests.items; newer = s.newer.items; wants = s.wants.items; dryrun = s.dryrun } };
 }
 
 impl Settings {
@@ -46,6 +47,7 @@ impl Settings {
             tests: Vec::new(alloc),
             newer: Vec::new(alloc),
             wants: Vec::new(alloc),
+            dryrun: false,
         }
     }
 
@@ -67,7 +69,10 @@ impl Settings {
             OptionName::Split => self.common.split = split_in(text).ok_or(bad)?,
             OptionName::Seed => self.common.seed = number_in(0, u64::MAX, text).ok_or(bad)?,
             OptionName::Width => self.common.width = small_number_in(2, 64, text).ok_or(bad)?,
-            OptionName::Trace | OptionName::Shares | OptionName::Progress => return Err(bad),
+            OptionName::Trace
+            | OptionName::Shares
+            | OptionName::Progress
+            | OptionName::Dryrun => return Err(bad),
             OptionName::Sort => self.sort = Some(order_in(text).ok_or(bad)?),
             OptionName::Input => self.input = Some(path_in(alloc, text, place)?),
             OptionName::Output => self.output = Some(path_in(alloc, text, place)?),
@@ -87,6 +92,7 @@ impl Settings {
             OptionName::Trace => self.common.trace = true,
             OptionName::Shares => self.common.shares = true,
             OptionName::Progress => self.common.progress = true,
+            OptionName::Dryrun => self.dryrun = true,
             _ => return false,
         }
         true

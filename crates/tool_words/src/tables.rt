@@ -14,6 +14,8 @@ pub(crate) enum Tool {
     Find,
     /// `dcmp`
     Cmp,
+    /// `drm`
+    Remove,
     /// `dtest`
     Test,
 }
@@ -27,6 +29,7 @@ impl Tool {
             "dwalk" => Some(Tool::Walk),
             "dfind" => Some(Tool::Find),
             "dcmp" => Some(Tool::Cmp),
+            "drm" => Some(Tool::Remove),
             "dtest" => Some(Tool::Test),
             _ => None,
         }
@@ -44,6 +47,7 @@ impl Tool {
                 Group::Testing,
             ],
             Tool::Cmp => &[Group::Common, Group::Comparing],
+            Tool::Remove => &[Group::Common, Group::Testing, Group::Removing],
             Tool::Test => &[Group::Common, Group::Telling, Group::Testing],
         }
     }
@@ -81,6 +85,8 @@ pub(crate) enum Group {
     Testing,
     /// What is saved of a comparison.
     Comparing,
+    /// Whether something is removed.
+    Removing,
 }
 
 impl Group {
@@ -107,6 +113,7 @@ impl Group {
                 OptionName::Newer,
             ],
             Group::Comparing => &[OptionName::Want],
+            Group::Removing => &[OptionName::Dryrun],
         }
     }
 }
@@ -135,6 +142,7 @@ pub(crate) enum OptionName {
     Test(TestName),
     Newer,
     Want,
+    Dryrun,
 }
 
 impl OptionName {
@@ -163,6 +171,7 @@ impl OptionName {
             OptionName::Test(TestName::Minutes) => "--mmin",
             OptionName::Newer => "--newer",
             OptionName::Want => "-o",
+            OptionName::Dryrun => "--dryrun",
         }
     }
 

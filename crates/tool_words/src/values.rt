@@ -2,7 +2,7 @@
 ghost use Rattle.std.specs.Prelude.{◌≡◌, ◌⊎◌, Some, None, IfOk, IfErr};
 ghost use Rattle.std.specs.Char.{is_ascii_digit};
 ghost use Rattle.std.specs.List.{list_all};
-ghost use Rattle.tool_words.specs.Value.{number_in, split_in, path_in, field_in, order_in, test_in, if_expr, want_in};
+ghost use Rattle.tool_words.specs.Value.{number_in, split_in, path_in, lower_path_in, field_in, order_in, test_in, if_expr, want_in};
 ghost use Rattle.tree_cmp.specs.Expressions.{expr_reading};
 
 use crate::commands::Want;
@@ -62,6 +62,17 @@ pub(crate) fn path_in(alloc: Global, word: &str, place: usize) -> Result<Path, W
         Err(PathError::OutOfMemory) => Err(WordsError::OutOfMemory),
         Err(_) => Err(WordsError::BadValue(place)),
     }
+}
+
+/// The path below `/` that a word is, which has this number.
+pub(crate) fn lower_path_in(alloc: Global, word: &str, place: usize) -> Result<Path, WordsError>
+    ensures path { IfOk result (λ path. lower_path_in word.now ≡ Some path) }
+    ensures refused { IfErr result (λ e. ((e ≡ WordsError.BadValue place) × (lower_path_in word.now ≡ None)) ⊎ (e ≡ WordsError.OutOfMemory)) }
+{
+    if trimmed(word).len() == 1 {
+        return Err(WordsError::BadValue(place));
+    }
+    path_in(alloc, word, place)
 }
 
 /// A field to sort by, and whether downwards.
