@@ -3,7 +3,7 @@ _mfu() {
     local cur=${COMP_WORDS[COMP_CWORD]} prev=${COMP_WORDS[COMP_CWORD-1]} words
     COMPREPLY=()
     if [ "$COMP_CWORD" -eq 1 ]; then
-        mapfile -t COMPREPLY < <(compgen -W 'dwalk dfind dcmp dtest --help --version' -- "$cur")
+        mapfile -t COMPREPLY < <(compgen -W 'dwalk dfind dcmp drm dtest --help --version' -- "$cur")
         return
     fi
     # A `=` between an option and its value is a word of its own.
@@ -42,6 +42,18 @@ _mfu() {
         dcmp:--split) words='equal random' ;;
         dcmp:--seed) return ;;
         dcmp:--width) return ;;
+        drm:--name) return ;;
+        drm:--path) return ;;
+        drm:--type) words='f d l o' ;;
+        drm:--size) return ;;
+        drm:--mtime) return ;;
+        drm:--mmin) return ;;
+        drm:--newer) _mfu_paths; return ;;
+        drm:--ranks) return ;;
+        drm:--hosts) return ;;
+        drm:--split) words='equal random' ;;
+        drm:--seed) return ;;
+        drm:--width) return ;;
         dtest:--name) return ;;
         dtest:--path) return ;;
         dtest:--type) words='f d l o' ;;
@@ -63,6 +75,9 @@ _mfu() {
         dcmp:*)
             if [[ $cur != -* ]]; then _mfu_paths; return; fi
             words='-o --ranks --hosts --split --seed --width --help' ;;
+        drm:*)
+            if [[ $cur != -* ]]; then _mfu_paths; return; fi
+            words='--dryrun --name --path --type --size --mtime --mmin --newer --ranks --hosts --split --seed --width --help' ;;
         dtest:*)
             if [[ $cur != -* ]]; then return; fi
             words='--name --path --type --size --mtime --mmin --newer --ranks --hosts --split --seed --width --trace --shares --progress --help' ;;

@@ -13,6 +13,7 @@ Tools for trees of files.
   dwalk PATH..     lists what stands at each path and below it, in path order
   dfind PATH..     lists of that what meets tests
   dcmp SRC DEST    compares what stands below two paths, bytes too
+  drm PATH..       removes of what dfind lists what meets tests
   dtest N          walks a made-up tree of N nodes in memory, and touches no disk
 
   mfu TOOL --help  says more of a tool
@@ -133,6 +134,30 @@ Notes on standard error, beside those of dwalk on the entries of SRC and of DEST
 A list that is not written is named as by dwalk, and nothing is printed.
 ";
 
+const DRM: &str = "usage: mfu drm [OPTION].. [TEST].. PATH..
+
+Removes, of what stands at each path and below it, what meets all tests; without a test that is all.
+It prints a line for each entry that was chosen, as dwalk does, and at last how many of them are
+gone. None of the paths may be /.
+
+  --dryrun       removes nothing, and prints what would have been chosen
+
+The deepest level goes first. A directory goes only where it is empty then: nothing is removed that
+was not chosen, so a directory with something else in it stays, and is named. A link is removed, and
+never what it leads to. Nothing asks before, and nothing that is gone comes back.
+
+  mfu drm --dryrun --name '*.tmp' /p   prints what stands in /p under such a name
+  mfu drm --name '*.tmp' /p            removes it
+
+The tests are those of dfind. How the walk goes and by how many ranks and threads the entries are
+removed changes nothing of the answer: --ranks, --hosts, --split, --seed and --width, as for dwalk.
+
+Notes on standard error, beside those of dfind:
+  failed remove P               the system did not remove P
+  not empty P                   P is a directory, and something is left in it
+  changed P                     something else stood at P than was listed, or nothing did
+";
+
 const DTEST: &str = "usage: mfu dtest [OPTION].. [TEST].. N
 
 Makes a tree of N nodes in memory, 1 to 1000000, walks it, and prints the summary of what meets all
@@ -162,6 +187,7 @@ fn help_of(tool: &str) -> Option<&'static str> {
         "dwalk" => Some(DWALK),
         "dfind" => Some(DFIND),
         "dcmp" => Some(DCMP),
+        "drm" => Some(DRM),
         "dtest" => Some(DTEST),
         _ => None,
     }
@@ -182,12 +208,13 @@ mod tests {
 
     #[test]
     fn help_is_the_whole_command_line(rt: HostRuntime) -> Result<(), Fail> {
-        let cases: [(&[&str], Option<&str>); 11] = [
+        let cases: [(&[&str], Option<&str>); 12] = [
             (&["--help"], Some("usage: mfu TOOL")),
             (&["--version"], Some("mfu 0.1.0")),
             (&["dwalk", "--help"], Some("usage: mfu dwalk")),
             (&["dfind", "--help"], Some("usage: mfu dfind")),
             (&["dcmp", "--help"], Some("usage: mfu dcmp")),
+            (&["drm", "--help"], Some("usage: mfu drm")),
             (&["dtest", "--help"], Some("usage: mfu dtest")),
             (&["dnone", "--help"], None),
             (&[], None),
