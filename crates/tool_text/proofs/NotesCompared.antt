@@ -35,7 +35,9 @@ why_at place k =
     else if place == 4 then why.Changed
     else if place == 5 then why.Unnamed k
     else if place == 6 then why.TooLong k
-    else why.FailedRead
+    else if place == 7 then why.FailedRead
+    else if place == 8 then why.FailedRemove
+    else why.NotEmpty
 
 why_again : (w : Why) → why_at (why_place w) (why_number w) ≡ w
 why_again why.Gone = refl
@@ -46,6 +48,8 @@ why_again why.Changed = refl
 why_again (why.Unnamed k) = refl
 why_again (why.TooLong k) = refl
 why_again why.FailedRead = refl
+why_again why.FailedRemove = refl
+why_again why.NotEmpty = refl
 
 why_same : (v w : Why) → why_cmp v w ≡ Equal → v ≡ w
 why_same v w e =

@@ -21,6 +21,8 @@ why_place why.Changed = 4
 why_place (why.Unnamed k) = 5
 why_place (why.TooLong k) = 6
 why_place why.FailedRead = 7
+why_place why.FailedRemove = 8
+why_place why.NotEmpty = 9
 
 -- the number that a reason tells, or 0
 abbrev pub why_number : Why → ℕ
@@ -32,6 +34,8 @@ why_number why.Changed = 0
 why_number (why.Unnamed k) = k
 why_number (why.TooLong k) = k
 why_number why.FailedRead = 0
+why_number why.FailedRemove = 0
+why_number why.NotEmpty = 0
 
 abbrev pub why_cmp : Why → Why → Ordering
 why_cmp = then_cmp (on why_place nat_cmp) (on why_number nat_cmp)

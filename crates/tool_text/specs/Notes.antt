@@ -43,6 +43,8 @@ why_text why.Changed path = codes "changed " ++ escape path
 why_text (why.Unnamed k) path = codes "unnamed " ++ escape path ++ 32 ∷ decimal k
 why_text (why.TooLong k) path = codes "too long " ++ escape path ++ 32 ∷ decimal k
 why_text why.FailedRead path = codes "failed read " ++ escape path
+why_text why.FailedRemove path = codes "failed remove " ++ escape path
+why_text why.NotEmpty path = codes "not empty " ++ escape path
 
 -- the line of a note; it begins with `dest ` where the note is about a destination
 abbrev pub note_line : Note → List ℕ

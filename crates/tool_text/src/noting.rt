@@ -23,7 +23,7 @@ pub enum Why {
     FailedNewer,
     /// Its names failed.
     FailedList,
-    /// It was told to be a directory, or a file of some size, and then was none.
+    /// It was told to be a directory, or a file of some size, or there at all, and then was not.
     Changed,
     /// So many names in it are no text.
     Unnamed(u64),
@@ -31,6 +31,10 @@ pub enum Why {
     TooLong(u64),
     /// A read of it failed.
     FailedRead,
+    /// Its removal failed.
+    FailedRemove,
+    /// It is a directory that was to be removed, and something is left in it.
+    NotEmpty,
 }
 
 /// A path that is named, and why.
@@ -135,6 +139,8 @@ fn add_why(draft: &mut Draft, why: Why, path: &Path) -> Result<(), OutOfMemory>
         Why::Unnamed(k) => add_counted(draft, "unnamed ", path, k),
         Why::TooLong(k) => add_counted(draft, "too long ", path, k),
         Why::FailedRead => add_named(draft, "failed read ", path),
+        Why::FailedRemove => add_named(draft, "failed remove ", path),
+        Why::NotEmpty => add_named(draft, "not empty ", path),
     }
 }
 

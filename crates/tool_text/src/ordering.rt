@@ -68,6 +68,8 @@ fn place_of(why: Why) -> u8
         Why::Unnamed(_) => 5,
         Why::TooLong(_) => 6,
         Why::FailedRead => 7,
+        Why::FailedRemove => 8,
+        Why::NotEmpty => 9,
     }
 }
 
