@@ -1,0 +1,4 @@
+pub mod Found
+pub mod Named
+pub mod Steps
+pub mod Succeeds

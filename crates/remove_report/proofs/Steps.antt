@@ -1,0 +1,52 @@
+-- What the steps of drm told, as its own words say it.
+use Rattle.std.proofs.Common.{◌≡◌, inl, inr, ⊎_elim, ℕ, ◌≤◌, Bool, true, false, List, Option, Some, None, IfSome, is_some, ◌∙◌, subst}
+use Rattle.outside.specs.Tree.{Files}
+use Rattle.flat_list.specs.declared.entries.Entry.{Entry}
+use Rattle.flat_list.specs.Spelling.{paths}
+use Rattle.tree_remove.specs.Removing.{SameButChosen}
+use Rattle.tool_text.specs.declared.noting.Note.{Note}
+use Rattle.tool_words.specs.Asked.{RemoveAsked, roots}
+use Rattle.run_report.specs.declared.stops.Stop.{Stop}
+use Rattle.run_report.specs.Sides.{Side, side_of}
+use Rattle.run_entries.specs.declared.accounts.Account.{Account}
+use Rattle.run_entries.specs.Entries.{Finds}
+use Rattle.run_entries.specs.Stopping.{StopsFinding}
+use Rattle.remove_report.specs.Choosing.{Chooses, LeavesAllOthers}
+use Rattle.remove_report.specs.Removing.{StopsRemove, LeavesBy, LeavesRemove}
+
+-- choosing leaves the tree as it was
+pub chooses_by : (asked : RemoveAsked) (now : ℕ) (before found : Side) (chosen : List Entry) (named : List Note) (account : Account) → found.tree ≡ before.tree →
+    Finds asked.common (roots asked.roots) (Some asked.choice) now before found chosen named account → Chooses asked now before (side_of before.tree found.count) chosen named
+chooses_by asked now before found chosen named account same f = record {
+  account = account;
+  finds = subst (λ t. Finds asked.common (roots asked.roots) (Some asked.choice) now before (side_of t found.count) chosen named account) same f;
+}
+
+pub stops_finding : (asked : RemoveAsked) (before after : Side) (why : Stop) → after.tree ≡ before.tree →
+    StopsFinding (roots asked.roots) (Some asked.choice) before after why → StopsRemove asked before after why
+stops_finding asked before after why same stops = ⊎_elim (λ is. inl is) (λ s. inr (s, same)) stops
+
+-- nothing has changed
+pub leaves_all : (asked : RemoveAsked) (now : ℕ) (before after : Side) → after.tree ≡ before.tree → LeavesRemove asked now before after
+leaves_all asked now before after same = by asked.dryrun
+  where
+    by : (b : Bool) → LeavesBy b asked now before after
+    by true = same
+    by false = inl same
+
+-- what was chosen may have, unless nothing was to be removed
+pub leaves_others : (asked : RemoveAsked) (now : ℕ) (before found after : Side) (chosen : List Entry) (named : List Note) → found.tree ≡ before.tree →
+    Chooses asked now before (side_of before.tree found.count) chosen named → (asked.dryrun ≡ true → after.tree ≡ found.tree) → is_some after.tree ≡ is_some found.tree →
+    IfSome found.tree (λ old. IfSome after.tree (SameButChosen (paths chosen) old)) → LeavesRemove asked now before after
+leaves_others asked now before found after chosen named same chooses dry tells others = by asked.dryrun dry
+  where
+    by : (b : Bool) → (b ≡ true → after.tree ≡ found.tree) → LeavesBy b asked now before after
+    by true dry = dry Rattle.std.proofs.Common.refl ∙ same
+    by false dry = inr (record {
+      found = found.count;
+      chosen = chosen;
+      named = named;
+      chooses = chooses;
+      tells = subst (λ t. is_some after.tree ≡ is_some t) same tells;
+      others = subst (λ t. IfSome t (λ old. IfSome after.tree (SameButChosen (paths chosen) old))) same others;
+    })

@@ -1,0 +1,56 @@
+-- What drm chooses and what it does with that. The tool is mpiFileUtils'; the relation is our own.
+use Rattle.std.specs.Prelude.{◌≡◌, ℕ, ◌≤◌, Bool, true, false, List, [], map, length, Option, Some, None, IfSome, is_some, nat_eq}
+use Rattle.std.specs.FinMap.{get}
+use Rattle.std.specs.List.{list_any, count_by}
+use Rattle.std.specs.Cmp.Lexicographic.{pointwise}
+use Rattle.path_text.specs.Order.{is_under}
+use Rattle.outside.specs.Count.{RoseBy}
+use Rattle.outside.specs.Tree.{Files}
+use Rattle.flat_list.specs.declared.entries.Entry.{Entry}
+use Rattle.flat_list.specs.Spelling.{paths}
+use Rattle.level_work.specs.Counts.{is_failed}
+use Rattle.level_work.specs.declared.items.Fate.{Fate}
+use Rattle.tree_remove.specs.Removing.{Removed, SameButChosen}
+use Rattle.tool_text.specs.declared.noting.Note.{Note}
+use Rattle.tool_words.specs.Asked.{RemoveAsked, roots}
+use Rattle.run_report.specs.Sides.{Side, side_of}
+use Rattle.run_entries.specs.declared.accounts.Account.{Account}
+use Rattle.run_entries.specs.Entries.{Finds}
+
+-- it walked the roots and chose of that by the tests, as dfind does, and named what failed. That leaves the tree
+pub record Chooses (asked : RemoveAsked) (now : ℕ) (before after : Side) (chosen : List Entry) (named : List Note) : Type 0 where
+  pub account : Account
+  pub finds : Finds asked.common (roots asked.roots) (Some asked.choice) now before (side_of before.tree after.count) chosen named account
+
+-- it removed what was chosen, and no answer that failed is left uncounted
+pub record Removes (chosen : List Entry) (rows : List (List ℕ × Fate)) (before after : Side) : Type 0 where
+  pub paths : map (λ row. row.0) rows ≡ paths chosen
+  pub tells : is_some after.tree ≡ is_some before.tree
+  pub removed : IfSome before.tree (λ old. IfSome after.tree (Removed rows old))
+  pub blamed : RoseBy (count_by (λ row. is_failed row.1) rows) before.count after.count
+
+-- it removed nothing
+pub record RemovesNothing (rows : List (List ℕ × Fate)) (before after : Side) : Type 0 where
+  pub none : rows ≡ []
+  pub same : after.tree ≡ before.tree
+  pub kept : before.count ≤ after.count
+
+-- what it does with what was chosen, with `--dryrun` or without
+abbrev pub Acts : Bool → List Entry → List (List ℕ × Fate) → Side → Side → Type 0
+Acts true chosen rows before after = RemovesNothing rows before after
+Acts false chosen rows before after = Removes chosen rows before after
+
+-- every path but those that were chosen is as before
+pub record LeavesAllOthers (asked : RemoveAsked) (now : ℕ) (before after : Side) : Type 0 where
+  pub found : ℕ
+  pub chosen : List Entry
+  pub named : List Note
+  pub chooses : Chooses asked now before (side_of before.tree found) chosen named
+  pub tells : is_some after.tree ≡ is_some before.tree
+  pub others : IfSome before.tree (λ old. IfSome after.tree (SameButChosen (paths chosen) old))
+
+-- where a path is chosen, all that is under it is
+abbrev pub ChoosesWhole : Files → List Entry → Type 0
+ChoosesWhole files chosen =
+    (p q : List ℕ) → list_any (pointwise nat_eq p) (paths chosen) ≡ true → is_under q p ≡ true → is_some (get files q) ≡ true →
+    list_any (pointwise nat_eq q) (paths chosen) ≡ true

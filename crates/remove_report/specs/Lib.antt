@@ -1,0 +1,4 @@
+pub mod Choosing
+pub mod Laws
+pub mod PrivateActs
+pub mod Removing

@@ -1,0 +1,82 @@
+-- What drm does: what it reports, why it stops, what it may have changed, and when nothing stands against it. The tool is mpiFileUtils'; the texts, notes and statuses are our own.
+use Rattle.std.specs.Prelude.{◌≡◌, ◌⊎◌, ℕ, Bool, true, false, List, [], ◌∷◌, ◌++◌, length, map, codes, Option, Some}
+use Rattle.std.specs.Fmt.{decimal}
+use Rattle.std.specs.List.{flat_map, count_by}
+use Rattle.flat_list.specs.declared.entries.Entry.{Entry}
+use Rattle.level_work.specs.declared.items.Fate.{Fate}
+use Rattle.level_work.specs.declared.items.Fate.TheVariants as fate
+use Rattle.tree_remove.specs.Removing.{is_done}
+use Rattle.tool_text.specs.Lines.{lines_of}
+use Rattle.tool_text.specs.declared.noting.Note.{Note}
+use Rattle.tool_text.specs.declared.noting.Why.{Why}
+use Rattle.tool_text.specs.declared.noting.Why.TheVariants as why
+use Rattle.tool_text.specs.Notes.{note_lines}
+use Rattle.tool_text.specs.NoteOrder.{AreInOrder}
+use Rattle.tool_words.specs.Asked.{RemoveAsked, roots, choice_in}
+use Rattle.run_report.specs.declared.reports.Report.{Report}
+use Rattle.run_report.specs.declared.stops.Stop.{Stop}
+use Rattle.run_report.specs.declared.stops.Stop.TheVariants as stop
+use Rattle.run_report.specs.Sides.{Side, side_of}
+use Rattle.run_entries.specs.Fine.{IsFineSide, AreThere}
+use Rattle.run_entries.specs.Stopping.{StopsAfterLooks}
+use Rattle.remove_report.specs.declared.removing.RemoveTask.{RemoveTask}
+use Rattle.remove_report.specs.Choosing.{Chooses, Acts, LeavesAllOthers, ChoosesWhole}
+
+-- what a task asks for
+abbrev pub remove_asked : RemoveTask → RemoveAsked
+remove_asked task = record { common = task.common; roots = task.roots.items; choice = choice_in task.tests; dryrun = task.dryrun }
+
+-- the line of how many of the chosen entries are gone, and of how many notes there are
+abbrev pub removed_line : ℕ → ℕ → ℕ → List ℕ
+removed_line removed chosen failed =
+    codes "removed " ++ decimal removed ++ codes " of " ++ decimal chosen ++ codes " failed " ++ decimal failed ++ 10 ∷ []
+
+-- why a chosen path is named. A removal has no other fates than the first four
+abbrev pub fate_whys : Fate → List Why
+fate_whys fate.Done = []
+fate_whys fate.Failed = why.FailedRemove ∷ []
+fate_whys fate.NotEmpty = why.NotEmpty ∷ []
+fate_whys fate.Changed = why.Changed ∷ []
+fate_whys fate.Conflict = why.Changed ∷ []
+fate_whys fate.Skipped = why.Changed ∷ []
+fate_whys fate.ParentFailed = why.Changed ∷ []
+fate_whys fate.TooLong = why.Changed ∷ []
+
+abbrev pub row_notes : List ℕ × Fate → List Note
+row_notes row = map (λ w. record { path = row.0; why = w; dest = false }) (fate_whys row.1)
+
+abbrev pub fate_notes : List (List ℕ × Fate) → List Note
+fate_notes rows = flat_map row_notes rows
+
+-- what it reports: what it chose, what became of that, and the two texts of it: a line for each chosen entry and the line of the numbers, and the notes, of the walk and of the removals
+pub record ReportsRemove (asked : RemoveAsked) (now : ℕ) (before after : Side) (report : Report) : Type 0 where
+  pub chosen : List Entry
+  pub named : List Note
+  pub found : ℕ
+  pub chooses : Chooses asked now before (side_of before.tree found) chosen named
+  pub rows : List (List ℕ × Fate)
+  pub acts : Acts asked.dryrun chosen rows (side_of before.tree found) after
+  pub notes : List Note
+  pub names : AreInOrder (named ++ fate_notes rows) notes
+  pub prints : report.out ≡ lines_of chosen ++ removed_line (count_by (λ row. is_done row.1) rows) (length chosen) (length notes)
+  pub tells : report.notes ≡ note_lines notes
+  pub counts : report.failed ≡ length notes
+
+-- why it stops: for want of memory; or the entries were not listed, and the files are as before
+abbrev pub StopsRemove : RemoveAsked → Side → Side → Stop → Type 0
+StopsRemove asked before after why =
+    (why ≡ stop.OutOfMemory) ⊎ (StopsAfterLooks (roots asked.roots) (Some asked.choice) before after why × (after.tree ≡ before.tree))
+
+-- what it may have changed: with `--dryrun` nothing, and without it nothing, or the chosen paths alone. This holds whatever it answers
+abbrev pub LeavesBy : Bool → RemoveAsked → ℕ → Side → Side → Type 0
+LeavesBy true asked now before after = after.tree ≡ before.tree
+LeavesBy false asked now before after = (after.tree ≡ before.tree) ⊎ LeavesAllOthers asked now before after
+
+abbrev pub LeavesRemove : RemoveAsked → ℕ → Side → Side → Type 0
+LeavesRemove asked now before after = LeavesBy asked.dryrun asked now before after
+
+-- when nothing stands against it: the side is fine, something is at each path that is looked at, and, where something is to be removed, all is chosen that is under what is chosen
+pub record FineRemove (asked : RemoveAsked) (now : ℕ) (before after : Side) : Type 0 where
+  pub side : IsFineSide (roots asked.roots) before after
+  pub there : AreThere side.files (Some asked.choice)
+  pub whole : asked.dryrun ≡ false → (chosen : List Entry) (named : List Note) (found : ℕ) → Chooses asked now before (side_of before.tree found) chosen named → ChoosesWhole side.files chosen

@@ -1,0 +1,32 @@
+//! The texts of a removal.
+ghost use Rattle.std.specs.Prelude.{◌≡◌, ◌++◌, length, IfOk};
+ghost use Rattle.tool_text.specs.Lines.{lines_of};
+ghost use Rattle.tool_text.specs.Notes.{note_lines};
+ghost use Rattle.remove_report.specs.Removing.{removed_line};
+
+use flat_list::FlatList;
+use path_text::OutOfMemory;
+use run_report::Report;
+use std::alloc::Global;
+use tool_text::{Note, Text, put_line, put_list, put_notes};
+
+/// The report of a removal: a line for each chosen entry, the line of how many are gone, and a line for each note.
+pub(crate) fn remove_report(
+    alloc: Global,
+    chosen: &FlatList,
+    removed: u64,
+    named: &[Note],
+) -> Result<Report, OutOfMemory>
+    ensures out { IfOk result (λ report. report.out ≡ lines_of chosen.now ++ removed_line removed (length chosen.now) (length named.now)) }
+    ensures notes { IfOk result (λ report. report.notes ≡ note_lines named.now) }
+    ensures failed { IfOk result (λ report. report.failed ≡ length named.now) }
+{
+    let failed = named.len() as u64;
+    let line = format!(in alloc; "removed {removed} of {} failed {failed}", chosen.len())?;
+    let mut out = Text::make(alloc);
+    put_list(&mut out, chosen)?;
+    put_line(&mut out, &line)?;
+    let mut notes = Text::make(alloc);
+    put_notes(&mut notes, named)?;
+    Ok(Report { failed, out, notes })
+}

@@ -1,0 +1,81 @@
+//! What drm does.
+ghost use Rattle.std.specs.Prelude.{◌≡◌, [], IfOk, IfErr, IfSome};
+ghost use Rattle.std.specs.List.{count_by};
+ghost use Rattle.outside.specs.Count.{RoseBy};
+ghost use Rattle.outside.specs.Writes.{all_but};
+ghost use Rattle.tree_remove.specs.Removing.{is_done};
+ghost use Rattle.tool_words.specs.Limits.{WithinRemove};
+ghost use Rattle.run_report.specs.Sides.{side_of};
+ghost use Rattle.remove_report.specs.PrivateActs.{rows_in};
+ghost use Rattle.remove_report.specs.Removing.{remove_asked, ReportsRemove, StopsRemove, LeavesRemove};
+
+use crate::acting::remove_unless;
+use crate::choosing::find_lower;
+use crate::naming::failures;
+use crate::printing::remove_report;
+use outside::Ground;
+use path_text::Path;
+use run_entries::Findings;
+use run_report::{Report, Stop};
+use std::alloc::Global;
+use std::sync::Wait;
+use std::thread::Threads;
+use tool_words::{Common, Tests};
+use tree_remove::RemoveReport;
+
+/// What drm is asked for.
+#[derive(Debug, Drop)]
+pub struct RemoveTask {
+    /// How the walk is to go, and by how many ranks and hosts what is chosen is removed.
+    pub common: Common,
+    /// Where the walk starts.
+    pub roots: Vec<Path>,
+    /// What is chosen.
+    pub tests: Tests,
+    /// Whether nothing is to be removed.
+    pub dryrun: bool,
+}
+
+/// Finds what is asked for, removes it unless nothing is to be removed, and makes the texts. `now` is in seconds since 1970.
+pub fn report_of_remove<T: Threads + Wait + Sync, G: Ground>(
+    rt: &T,
+    alloc: Global,
+    task: RemoveTask,
+    files: &mut G,
+    now: u64,
+) -> Result<Report, Stop>
+where
+    G::Reader: Send,
+    G::Part: Send,
+    requires lent { G.area files.old ≡ all_but [] }
+    requires within { WithinRemove (remove_asked task) }
+    ensures reports { IfOk result (ReportsRemove (remove_asked task) now (side_of (G.tree files.old) (G.count files.old)) (side_of (G.tree files.new) (G.count files.new))) }
+    ensures stops { IfErr result (StopsRemove (remove_asked task) (side_of (G.tree files.old) (G.count files.old)) (side_of (G.tree files.new) (G.count files.new))) }
+    ensures leaves { LeavesRemove (remove_asked task) now (side_of (G.tree files.old) (G.count files.old)) (side_of (G.tree files.new) (G.count files.new)) }
+    ensures lent { G.area files.new ≡ all_but [] }
+    ensures count { RoseBy 0 (G.count files.old) (G.count files.new) }
+{
+    let RemoveTask {
+        common,
+        roots,
+        tests,
+        dryrun,
+    } = task;
+    let found = find_lower(rt, alloc, &common, roots, tests, now, files)?;
+    let Findings { chosen, notes, .. } = found;
+    let acted = remove_unless(rt, alloc, dryrun, &common, &chosen, files)?;
+    let notes = failures(notes, &acted)?;
+    let report = remove_report(alloc, &chosen, removed_in(&acted), &notes)?;
+    Ok(report)
+}
+
+// How many paths are gone.
+fn removed_in(report: &Option<RemoveReport>) -> u64
+    requires { IfSome report.now (λ r. r.1 ≡ count_by (λ row. is_done row.1) r.0) }
+    ensures { result ≡ count_by (λ row. is_done row.1) (rows_in report.now) }
+{
+    match report {
+        Some(report) => report.removed(),
+        None => 0,
+    }
+}
