@@ -1,13 +1,14 @@
 //! What the system of a test can't be made to tell: names that are no text, a directory that fails while it is read, and a clock.
-use outside::{Ground, ListError, Tree};
+use crate::shared::{same, so};
+use outside::{Ground, ListError, Listing, Tree};
 use path_text::Path;
 use real_disk::{RealGround, seconds};
 use std::alloc::Allocator;
 use std::fs::{File, Files, Metadata, OpenOptions};
 use std::io;
 use std::io::{ErrorKind, Read};
+use std::process::Abort;
 use std::rt::Clock;
-use std::test::Fail;
 use std::time::Duration;
 
 /// A system with one directory, whose names come in two pieces; the second may fail.
@@ -93,32 +94,46 @@ impl Files for Odd {
     }
 }
 
-#[test]
-fn names_that_are_no_text_are_counted(rt: HostRuntime) -> Result<(), Fail> {
+// The names in that directory, with a blank behind each, the two numbers, and the count of faults.
+fn listed(
+    rt: &(impl Abort + AllocGlobal),
+    fails: bool,
+) -> (Result<(String, u64, u64), ListError>, u64) {
     let alloc = rt.alloc();
-    let mut reader = RealGround::make(alloc, Odd { fails: false }).reader(alloc)?;
-    let listing = reader.list(alloc, &Path::parse(alloc, "/x")?)?;
-    assert_eq!(rt;
-        (listing.len(), listing.unnamed(), listing.far()),
-        (3, 2, 0)
-    );
-    for (k, name) in ["one", "two", "\u{e9}"].iter().enumerate() {
-        if k < listing.len() {
-            assert_eq!(rt; listing.name(k), *name);
-        }
+    let path = Path::parse(alloc, "/x").expect(rt, "a path");
+    let mut reader = RealGround::make(alloc, Odd { fails })
+        .reader(alloc)
+        .expect(rt, "memory");
+    let told = reader.list(alloc, &path).map(|listing| (
+        joined(rt, &listing),
+        listing.unnamed(),
+        listing.far(),
+    ));
+    (told, reader.faults())
+}
+
+fn joined(rt: &(impl Abort + AllocGlobal), listing: &Listing) -> String {
+    let mut names = String::new(rt.alloc());
+    for k in 0..listing.len() {
+        names.push_str(listing.name(k)).expect(rt, "memory");
+        names.push(' ').expect(rt, "memory");
     }
-    assert_eq!(rt; reader.faults(), 2);
-    Ok(())
+    names
 }
 
 #[test]
-fn names_that_end_in_a_fault_are_no_listing(rt: HostRuntime) -> Result<(), Fail> {
-    let alloc = rt.alloc();
-    let mut reader = RealGround::make(alloc, Odd { fails: true }).reader(alloc)?;
-    let told = reader.list(alloc, &Path::parse(alloc, "/x")?).err();
-    assert!(rt; told == Some(ListError::Failed));
-    assert_eq!(rt; reader.faults(), 1);
-    Ok(())
+fn names_that_are_no_text_are_counted(rt: HostRuntime) {
+    let (told, faults) = listed(&rt, false);
+    let (names, unnamed, far) = told.expect(&rt, "names");
+    same(&rt, &names.as_str(), &"one two \u{e9} ");
+    same(&rt, &(unnamed, far, faults), &(2, 0, 2));
+}
+
+#[test]
+fn names_that_end_in_a_fault_are_no_listing(rt: HostRuntime) {
+    let (told, faults) = listed(&rt, true);
+    same(&rt, &told.err(), &Some(ListError::Failed));
+    same(&rt, &faults, &1);
 }
 
 /// A clock that stands, or that can't be read.
@@ -147,8 +162,8 @@ fn the_time_is_that_of_the_clock(rt: HostRuntime) {
         (1_700_000_000_999, 1_700_000_000),
     ] {
         let clock = Standing(Some(Duration::from_millis(millis)));
-        assert_eq!(rt; seconds(&clock), want);
+        same(&rt, &seconds(&clock), &want);
     }
-    assert_eq!(rt; seconds(&Standing(None)), 0);
-    assert!(rt; seconds(&rt) > 1_700_000_000);
+    same(&rt, &seconds(&Standing(None)), &0);
+    so(&rt, seconds(&rt) > 1_700_000_000, "the time of the system");
 }

@@ -2,22 +2,26 @@
 //! its own, or over made-up answers.
 //!
 //! They stand here, and not in `real_disk`, so that it is proved once: what they call is proved, and they are proved over its
-//! contracts.
+//! contracts. `rooms` has the folders, and `whole_disk` the files of the system as the tests write them.
 #![tactic(auto)]
 
 #[cfg(test)]
 mod fakes;
 #[cfg(test)]
-mod folders;
-#[cfg(test)]
 mod looks;
 #[cfg(test)]
 mod names;
 #[cfg(test)]
-mod plots;
+mod rooms;
 #[cfg(test)]
 mod runs;
 #[cfg(test)]
+mod shared;
+#[cfg(test)]
 mod streams;
+#[cfg(test)]
+mod walks;
+#[cfg(test)]
+mod whole_disk;
 #[cfg(test)]
 mod writes;

@@ -1,37 +1,45 @@
 //! What stands at a path, and the bytes of files.
-use crate::folders::{at, bytes, fresh, long, put};
-use outside::{Failed, Ground, Kind, ReadError, Tree};
+use crate::rooms::{Node, Room, parsed, reader};
+use crate::shared::{bytes, long, same, so};
+use outside::{Failed, Kind, ListError, ReadError, Tree};
 use path_text::Path;
-use real_disk::RealGround;
-use std::fs;
-use std::os::unix::fs::symlink;
-use std::test::Fail;
+use real_disk::RealReader;
+use std::io::ErrorKind;
 use std::time::{Duration, UNIX_EPOCH};
+use std::{fs, io};
 
-// Whether the path below the top is told of as wanted.
-fn told_as(
-    rt: HostRuntime,
-    top: &Path,
-    wants: &[(&str, Option<(Kind, u64)>)],
-) -> Result<bool, Fail> {
-    let mut reader = RealGround::make(rt.alloc(), rt).reader(rt.alloc())?;
-    for (name, want) in wants {
-        let stat = reader.stat(&at(rt, top, name)?)?;
-        if stat.map(|s| (s.kind, s.size)) != *want {
-            return Err(Fail::new(*name));
+type Reader = RealReader<HostRuntime>;
+
+/// The names of what stands in a room, its kind and its size.
+type Want<'a> = (&'a str, Option<(Kind, u64)>);
+
+// The first that is not told of as wanted.
+fn first_wrong<'a>(reader: &mut Reader, room: &Room, wants: &[Want<'a>]) -> Option<&'a str> {
+    for (names, want) in wants {
+        let Ok(path) = room.at(names) else {
+            return Some(*names);
+        };
+        match reader.stat(&path) {
+            Ok(stat) if stat.map(|s| (s.kind, s.size)) == *want => {}
+            _ => return Some(*names),
         }
     }
-    Ok(reader.faults() == 0)
+    None
 }
 
 #[test]
-fn kinds_and_sizes(rt: HostRuntime) -> Result<(), Fail> {
-    let top = fresh(rt)?;
-    for len in [0u32, 1, 65_536, 65_537] {
-        let name = format!(in rt.alloc(); "file{len}")?;
-        put(rt, &at(rt, &top, name.as_str())?, &bytes(rt, len)?)?;
+fn kinds_and_sizes(rt: HostRuntime) {
+    let nodes = [
+        ("folder", Node::Dir),
+        ("file0", Node::File(b"")),
+        ("file1", Node::File(b"1")),
+    ];
+    let room = Room::with(rt, &nodes).expect(&rt, "a room");
+    for (names, len) in [("file65536", 65_536), ("file65537", 65_537)] {
+        let put = room.put(names, Node::File(&bytes(&rt, len)));
+        put.expect(&rt, "a file");
     }
-    fs::create_dir(&rt, at(rt, &top, "folder")?.text())?;
+    let mut reader = reader(rt).expect(&rt, "memory");
     let wants = [
         ("file0", Some((Kind::File, 0))),
         ("file1", Some((Kind::File, 1))),
@@ -42,32 +50,37 @@ fn kinds_and_sizes(rt: HostRuntime) -> Result<(), Fail> {
         ("nothing", None),
         ("nothing/file", None),
     ];
-    assert!(rt; told_as(rt, &top, &wants)?);
-    let mut reader = RealGround::make(rt.alloc(), rt).reader(rt.alloc())?;
-    for (path, want) in [
+    same(&rt, &first_wrong(&mut reader, &room, &wants), &None);
+    same(&rt, &reader.faults(), &0);
+    room.remove().expect(&rt, "an empty room");
+}
+
+#[test]
+fn kinds_of_the_system(rt: HostRuntime) {
+    let mut reader = reader(rt).expect(&rt, "memory");
+    for (text, want) in [
         ("/", Some(Kind::Dir)),
         ("/dev/null", Some(Kind::Other)),
         ("/dev/null/x", None),
     ] {
-        let stat = reader.stat(&Path::parse(rt.alloc(), path)?)?;
-        assert_eq!(rt; stat.map(|s| s.kind), want, "at {path}");
+        let path = parsed(rt, text).expect(&rt, "a path");
+        let told = reader.stat(&path).map(|stat| stat.map(|s| s.kind));
+        same(&rt, &told, &Ok(want));
     }
-    Ok(fs::remove_dir_all(&rt, top.text())?)
 }
 
 #[test]
-fn a_last_link_is_not_followed(rt: HostRuntime) -> Result<(), Fail> {
-    let top = fresh(rt)?;
-    fs::create_dir(&rt, at(rt, &top, "folder")?.text())?;
-    put(rt, &at(rt, &top, "folder/file")?, b"inner")?;
-    for (to, name) in [
-        ("folder", "to_folder"),
-        ("folder/file", "to_file"),
-        ("nothing", "to_nothing"),
-        ("loop", "loop"),
-    ] {
-        symlink(&rt, to, at(rt, &top, name)?.text())?;
-    }
+fn a_last_link_is_not_followed(rt: HostRuntime) {
+    let nodes = [
+        ("folder", Node::Dir),
+        ("folder/file", Node::File(b"inner")),
+        ("to_folder", Node::Link("folder")),
+        ("to_file", Node::Link("folder/file")),
+        ("to_nothing", Node::Link("nothing")),
+        ("loop", Node::Link("loop")),
+    ];
+    let room = Room::with(rt, &nodes).expect(&rt, "a room");
+    let mut reader = reader(rt).expect(&rt, "memory");
     let wants = [
         ("to_folder", Some((Kind::Link, 0))),
         ("to_file", Some((Kind::Link, 0))),
@@ -76,69 +89,91 @@ fn a_last_link_is_not_followed(rt: HostRuntime) -> Result<(), Fail> {
         ("to_folder/file", Some((Kind::File, 5))),
         ("to_nothing/file", None),
     ];
-    assert!(rt; told_as(rt, &top, &wants)?);
-    Ok(fs::remove_dir_all(&rt, top.text())?)
+    same(&rt, &first_wrong(&mut reader, &room, &wants), &None);
+    same(&rt, &reader.faults(), &0);
+    room.remove().expect(&rt, "an empty room");
 }
 
 // A name of 256 bytes is none for the system, and a loop of links has no end: both are refused, and are not told as gone.
 #[test]
-fn what_the_system_refuses_is_counted(rt: HostRuntime) -> Result<(), Fail> {
-    let top = fresh(rt)?;
-    symlink(&rt, "loop", at(rt, &top, "loop")?.text())?;
-    let mut reader = RealGround::make(rt.alloc(), rt).reader(rt.alloc())?;
-    let mut faults = 0u64;
-    for path in [
-        at(rt, &top, long(rt, 'n', 256)?.as_str())?,
-        at(rt, &top, "loop/file")?,
-    ] {
-        assert_eq!(rt; reader.stat(&path), Err(Failed));
-        assert!(rt; reader.list(rt.alloc(), &path).err() == Some(outside::ListError::Failed));
-        assert_eq!(rt;
-            reader.read(&path, 0, &mut [0u8; 4]),
-            Err(ReadError::Failed)
-        );
-        faults = faults.saturating_add(3);
-        assert_eq!(rt; reader.faults(), faults);
+fn what_the_system_refuses_is_counted(rt: HostRuntime) {
+    let room = Room::with(rt, &[("loop", Node::Link("loop"))]).expect(&rt, "a room");
+    let too_long = long(&rt, 'n', 256);
+    let mut reader = reader(rt).expect(&rt, "memory");
+    for (names, faults) in [(too_long.as_str(), 3), ("loop/file", 6)] {
+        let path = room.at(names).expect(&rt, "a path");
+        same(&rt, &reader.stat(&path), &Err(Failed));
+        let listed = reader.list(rt.alloc(), &path).err();
+        same(&rt, &listed, &Some(ListError::Failed));
+        let read = reader.read(&path, 0, &mut [0; 4]);
+        same(&rt, &read, &Err(ReadError::Failed));
+        same(&rt, &reader.faults(), &faults);
     }
-    Ok(fs::remove_dir_all(&rt, top.text())?)
+    room.remove().expect(&rt, "an empty room");
+}
+
+// Sets when a file was changed last.
+fn set_time(host: HostRuntime, file: &Path, seconds: u64) -> io::Result<()> {
+    match UNIX_EPOCH.checked_add(Duration::from_secs(seconds)) {
+        Some(time) => fs::open(&host, file.text())?.set_modified(time),
+        None => Err(io::Error::from(ErrorKind::InvalidInput)),
+    }
+}
+
+fn time_told(reader: &mut Reader, path: &Path) -> Option<u64> {
+    match reader.stat(path) {
+        Ok(Some(stat)) => stat.mtime,
+        _ => None,
+    }
 }
 
 #[test]
-fn times_since_1970(rt: HostRuntime) -> Result<(), Fail> {
-    let top = fresh(rt)?;
-    let file = at(rt, &top, "file")?;
-    put(rt, &file, b"")?;
-    let link = at(rt, &top, "link")?;
-    symlink(&rt, "file", link.text())?;
-    let mut reader = RealGround::make(rt.alloc(), rt).reader(rt.alloc())?;
-    for seconds in [0u64, 1, 86_400, 1_234_567_890, 4_300_000_000] {
-        let time = UNIX_EPOCH.checked_add(Duration::from_secs(seconds));
-        let Some(time) = time else {
-            return Err(Fail::new("a time"));
+fn times_since_1970(rt: HostRuntime) {
+    let nodes = [("file", Node::File(b"")), ("link", Node::Link("file"))];
+    let room = Room::with(rt, &nodes).expect(&rt, "a room");
+    let file = room.at("file").expect(&rt, "a path");
+    let link = room.at("link").expect(&rt, "a path");
+    let mut reader = reader(rt).expect(&rt, "memory");
+    for seconds in [0, 1, 86_400, 1_234_567_890, 4_300_000_000] {
+        set_time(rt, &file, seconds).expect(&rt, "a new time");
+        same(&rt, &time_told(&mut reader, &file), &Some(seconds));
+        let told = time_told(&mut reader, &link);
+        so(&rt, told > Some(1_600_000_000), "the link is as new");
+        so(&rt, told != Some(seconds), "the link has its own time");
+    }
+    room.remove().expect(&rt, "an empty room");
+}
+
+// How many of ten bytes are read from a place on; `None` where they are not those that tell their places, or something is put
+// behind them.
+fn given(reader: &mut Reader, file: &Path, at: usize) -> Option<usize> {
+    let mut into = [0xFFu8; 10];
+    let n = reader.read(file, at as u64, &mut into).ok()?;
+    for (k, b) in into.iter().enumerate() {
+        let told = if k < n {
+            (at.saturating_add(k) % 251) as u8
+        } else {
+            0xFF
         };
-        fs::open(&rt, file.text())?.set_modified(time)?;
-        let stat = reader.stat(&file)?;
-        assert!(rt; stat.and_then(|s| s.mtime) == Some(seconds), "{seconds}");
-        let stat = reader.stat(&link)?;
-        assert!(rt;
-            stat.and_then(|s| s.mtime) > Some(1_600_000_000),
-            "{seconds}"
-        );
-        assert!(rt; stat.and_then(|s| s.mtime) != Some(seconds), "{seconds}");
+        if *b != told {
+            return None;
+        }
     }
-    Ok(fs::remove_dir_all(&rt, top.text())?)
+    Some(n)
 }
 
 #[test]
-fn bytes_of_files(rt: HostRuntime) -> Result<(), Fail> {
-    let top = fresh(rt)?;
-    let (long, short) = (at(rt, &top, "long")?, at(rt, &top, "short")?);
-    let whole = bytes(rt, 65_537)?;
-    put(rt, &long, &whole)?;
-    put(rt, &short, b"short")?;
-    let mut reader = RealGround::make(rt.alloc(), rt).reader(rt.alloc())?;
+fn bytes_of_files(rt: HostRuntime) {
+    let room = Room::with(rt, &[]).expect(&rt, "a room");
+    for (names, len) in [("long", 65_537), ("short", 4)] {
+        let put = room.put(names, Node::File(&bytes(&rt, len)));
+        put.expect(&rt, "a file");
+    }
+    let long = room.at("long").expect(&rt, "a path");
+    let short = room.at("short").expect(&rt, "a path");
+    let mut reader = reader(rt).expect(&rt, "memory");
     for (at, want) in [
-        (0usize, 10usize),
+        (0, 10),
         (1, 10),
         (300, 10),
         (65_530, 7),
@@ -147,60 +182,50 @@ fn bytes_of_files(rt: HostRuntime) -> Result<(), Fail> {
         (70_000, 0),
     ] {
         // The first read opens the file, and the next goes through the same handle.
-        assert_eq!(rt; reader.read(&long, 3, &mut [0u8; 2])?, 2);
-        let mut into = [0xFFu8; 10];
-        let n = reader.read(&long, at as u64, &mut into)?;
-        assert_eq!(rt; n, want, "at {at}");
-        for (k, b) in into.iter().enumerate() {
-            let told = if k < n { ((at + k) % 251) as u8 } else { 0xFF };
-            assert_eq!(rt; *b, told, "at {at}, {k}");
-        }
-        let n = reader.read(&short, 1, &mut into)?;
-        assert_eq!(rt; &into[..n], b"hort".as_slice());
+        same(&rt, &given(&mut reader, &long, 3), &Some(10));
+        same(&rt, &given(&mut reader, &long, at), &Some(want));
+        same(&rt, &given(&mut reader, &short, 1), &Some(3));
     }
-    assert_eq!(rt; reader.read(&long, 0, &mut []), Ok(0));
-    assert_eq!(rt; reader.faults(), 0);
-    Ok(fs::remove_dir_all(&rt, top.text())?)
+    same(&rt, &reader.read(&long, 0, &mut []), &Ok(0));
+    same(&rt, &reader.faults(), &0);
+    room.remove().expect(&rt, "an empty room");
 }
 
 #[test]
-fn what_is_no_file_is_not_read(rt: HostRuntime) -> Result<(), Fail> {
-    let top = fresh(rt)?;
-    put(rt, &at(rt, &top, "file")?, b"text")?;
-    symlink(&rt, "file", at(rt, &top, "link")?.text())?;
-    let mut reader = RealGround::make(rt.alloc(), rt).reader(rt.alloc())?;
-    let mut into = [0u8; 4];
-    for path in [
-        top.copy()?,
-        at(rt, &top, "link")?,
-        at(rt, &top, "nothing")?,
-        at(rt, &top, "file/below")?,
-        Path::parse(rt.alloc(), "/dev/null")?,
-    ] {
-        assert_eq!(rt;
-            reader.read(&path, 0, &mut into),
-            Err(ReadError::NotFile),
-            "{}",
-            path.text()
-        );
+fn what_is_no_file_is_not_read(rt: HostRuntime) {
+    let nodes = [
+        ("folder", Node::Dir),
+        ("file", Node::File(b"text")),
+        ("link", Node::Link("file")),
+        ("to_null", Node::Link("/dev/null")),
+    ];
+    let room = Room::with(rt, &nodes).expect(&rt, "a room");
+    let mut reader = reader(rt).expect(&rt, "memory");
+    for names in ["folder", "link", "nothing", "file/below", "to_null"] {
+        let path = room.at(names).expect(&rt, "a path");
+        let told = reader.read(&path, 0, &mut [0; 4]);
+        same(&rt, &told, &Err(ReadError::NotFile));
     }
-    assert_eq!(rt; reader.faults(), 0);
-    Ok(fs::remove_dir_all(&rt, top.text())?)
+    let null = parsed(rt, "/dev/null").expect(&rt, "a path");
+    let told = reader.read(&null, 0, &mut [0; 4]);
+    same(&rt, &told, &Err(ReadError::NotFile));
+    same(&rt, &reader.faults(), &0);
+    room.remove().expect(&rt, "an empty room");
 }
 
 // The file that was read last is open until the next look.
 #[test]
-fn a_look_lets_go_of_the_file_that_was_read(rt: HostRuntime) -> Result<(), Fail> {
-    let top = fresh(rt)?;
-    let file = at(rt, &top, "file")?;
-    put(rt, &file, b"old")?;
-    let mut reader = RealGround::make(rt.alloc(), rt).reader(rt.alloc())?;
-    let mut into = [0u8; 3];
-    assert_eq!(rt; reader.read(&file, 0, &mut into)?, 3);
-    fs::remove_file(&rt, file.text())?;
-    put(rt, &file, b"new")?;
-    assert!(rt; reader.stat(&file)?.is_some());
-    assert_eq!(rt; reader.read(&file, 0, &mut into)?, 3);
-    assert_eq!(rt; &into, b"new");
-    Ok(fs::remove_dir_all(&rt, top.text())?)
+fn a_look_lets_go_of_the_file_that_was_read(rt: HostRuntime) {
+    let room = Room::with(rt, &[]).expect(&rt, "a room");
+    let file = room.at("file").expect(&rt, "a path");
+    let mut reader = reader(rt).expect(&rt, "memory");
+    for text in [b"old", b"new"] {
+        room.put("file", Node::File(text)).expect(&rt, "a file");
+        so(&rt, reader.stat(&file).is_ok(), "a look");
+        let mut into = [0; 3];
+        same(&rt, &reader.read(&file, 0, &mut into), &Ok(3));
+        same(&rt, &into, text);
+        room.take("file").expect(&rt, "no file");
+    }
+    room.remove().expect(&rt, "an empty room");
 }

@@ -1,43 +1,54 @@
 //! The names in directories.
-use crate::folders::{at, fresh, long, put};
-use outside::{Ground, Kind, ListError, Tree};
+use crate::rooms::{Node, Room, parsed, reader};
+use crate::shared::{long, same, so, texts};
+use outside::{Kind, ListError, Listing, Tree};
 use path_text::Path;
-use real_disk::RealGround;
-use std::fs;
-use std::os::unix::fs::symlink;
-use std::test::Fail;
+use std::io::ErrorKind;
+use std::{fs, io};
+
+// Whether a listing has just these names, and so many whose path is too long.
+fn has(listing: &Listing, names: &[String], far: u64) -> bool {
+    if listing.len() != names.len() || listing.unnamed() != 0 || listing.far() != far {
+        return false;
+    }
+    for (k, name) in names.iter().enumerate() {
+        if k < listing.len() && listing.name(k) != name.as_str() {
+            return false;
+        }
+    }
+    true
+}
+
+// Makes empty files of so many names of 30 bytes, and tells the names.
+fn many(host: HostRuntime, room: &Room, count: u32) -> io::Result<Vec<String>> {
+    let mut names = Vec::new(host.alloc());
+    for k in 0..count {
+        let name = format!(in host.alloc(); "{k:04}_a_name_of_thirty_bytes_")?;
+        room.put(name.as_str(), Node::File(b""))?;
+        names.push(name)?;
+    }
+    Ok(names)
+}
 
 // The system gives 3,000 names of 30 bytes in several pieces of 32 KiB.
 #[test]
-fn many_names(rt: HostRuntime) -> Result<(), Fail> {
-    let top = fresh(rt)?;
-    let mut want = Vec::new(rt.alloc());
-    for k in 0..3000u32 {
-        let name = format!(in rt.alloc(); "{k:04}_a_name_of_thirty_bytes_")?;
-        put(rt, &at(rt, &top, name.as_str())?, b"")?;
-        want.push(name)?;
-    }
-    let mut reader = RealGround::make(rt.alloc(), rt).reader(rt.alloc())?;
+fn many_names(rt: HostRuntime) {
+    let room = Room::with(rt, &[]).expect(&rt, "a room");
+    let want = many(rt, &room, 3000).expect(&rt, "many files");
+    let mut reader = reader(rt).expect(&rt, "memory");
     // The buffer is used again.
     for _ in 0..2 {
-        let listing = reader.list(rt.alloc(), &top)?;
-        assert_eq!(rt; listing.len(), 3000);
-        for (k, name) in want.iter().enumerate() {
-            if k < listing.len() {
-                assert_eq!(rt; listing.name(k), name.as_str());
-            }
-        }
-        assert_eq!(rt; (listing.unnamed(), listing.far()), (0, 0));
+        let listing = reader.list(rt.alloc(), room.top()).expect(&rt, "names");
+        so(&rt, has(&listing, &want, 0), "all names");
     }
-    assert_eq!(rt; reader.faults(), 0);
-    Ok(fs::remove_dir_all(&rt, top.text())?)
+    same(&rt, &reader.faults(), &0);
+    room.remove().expect(&rt, "an empty room");
 }
 
 #[test]
-fn odd_names(rt: HostRuntime) -> Result<(), Fail> {
-    let top = fresh(rt)?;
-    let (longest, widest) = (long(rt, 'z', 255)?, long(rt, '\u{e9}', 127)?);
-    let want = [
+fn odd_names(rt: HostRuntime) {
+    let (longest, widest) = (long(&rt, 'z', 255), long(&rt, '\u{e9}', 127));
+    let names = [
         "\n",
         " ",
         "-rf",
@@ -52,85 +63,92 @@ fn odd_names(rt: HostRuntime) -> Result<(), Fail> {
         widest.as_str(),
         "\u{20ac}",
     ];
-    for name in want {
-        put(rt, &at(rt, &top, name)?, b"")?;
+    let room = Room::with(rt, &[]).expect(&rt, "a room");
+    let mut reader = reader(rt).expect(&rt, "memory");
+    for name in names {
+        room.put(name, Node::File(b"")).expect(&rt, "a file");
+        let path = room.at(name).expect(&rt, "a path");
+        let told = reader.stat(&path).map(|stat| stat.map(|s| s.kind));
+        same(&rt, &told, &Ok(Some(Kind::File)));
     }
-    let mut reader = RealGround::make(rt.alloc(), rt).reader(rt.alloc())?;
-    let listing = reader.list(rt.alloc(), &top)?;
-    assert_eq!(rt; listing.len(), want.len());
-    for (k, name) in want.iter().enumerate() {
-        if k < listing.len() {
-            assert_eq!(rt; listing.name(k), *name);
-        }
-        let stat = reader.stat(&at(rt, &top, name)?)?;
-        assert!(rt; stat.map(|s| s.kind) == Some(Kind::File), "{name:?}");
-    }
-    Ok(fs::remove_dir_all(&rt, top.text())?)
+    let listing = reader.list(rt.alloc(), room.top()).expect(&rt, "names");
+    so(&rt, has(&listing, &texts(&rt, &names), 0), "all names");
+    room.remove().expect(&rt, "an empty room");
 }
 
 #[test]
-fn what_is_no_folder_has_no_names(rt: HostRuntime) -> Result<(), Fail> {
-    let top = fresh(rt)?;
-    fs::create_dir(&rt, at(rt, &top, "empty")?.text())?;
-    put(rt, &at(rt, &top, "file")?, b"text")?;
-    symlink(&rt, "empty", at(rt, &top, "link")?.text())?;
-    symlink(&rt, "nothing", at(rt, &top, "dangling")?.text())?;
-    let mut reader = RealGround::make(rt.alloc(), rt).reader(rt.alloc())?;
-    let listing = reader.list(rt.alloc(), &at(rt, &top, "empty")?)?;
-    assert_eq!(rt; listing.len(), 0);
-    for name in ["file", "link", "dangling", "nothing", "file/below"] {
-        let told = reader.list(rt.alloc(), &at(rt, &top, name)?).err();
-        assert!(rt; told == Some(ListError::NotDir), "{name}");
+fn what_is_no_folder_has_no_names(rt: HostRuntime) {
+    let nodes = [
+        ("empty", Node::Dir),
+        ("file", Node::File(b"text")),
+        ("link", Node::Link("empty")),
+        ("dangling", Node::Link("nothing")),
+    ];
+    let room = Room::with(rt, &nodes).expect(&rt, "a room");
+    let mut reader = reader(rt).expect(&rt, "memory");
+    for (names, want) in [
+        ("empty", Ok(0)),
+        ("file", Err(ListError::NotDir)),
+        ("link", Err(ListError::NotDir)),
+        ("dangling", Err(ListError::NotDir)),
+        ("nothing", Err(ListError::NotDir)),
+        ("file/below", Err(ListError::NotDir)),
+    ] {
+        let path = room.at(names).expect(&rt, "a path");
+        let told = reader.list(rt.alloc(), &path).map(|listing| listing.len());
+        same(&rt, &told, &want);
     }
-    assert_eq!(rt; reader.faults(), 0);
-    Ok(fs::remove_dir_all(&rt, top.text())?)
+    same(&rt, &reader.faults(), &0);
+    room.remove().expect(&rt, "an empty room");
 }
 
-// A folder whose path has so many bytes, below the top, by names of at most 200 bytes.
-fn deep(rt: HostRuntime, top: &Path, len: usize) -> Result<Path, Fail> {
-    let mut path = top.copy()?;
+fn child(host: HostRuntime, path: &Path, name: &str) -> io::Result<Path> {
+    let text = format!(in host.alloc(); "{}/{name}", path.text())?;
+    parsed(host, text.as_str())
+}
+
+// A folder whose path has so many bytes, below the room's, by names of at most 209 bytes; `name` has as many and more.
+fn deep(host: HostRuntime, room: &Room, len: usize, name: &str) -> io::Result<Path> {
+    let mut path = parsed(host, room.top().text())?;
     for _ in 0..40 {
         let left = len.saturating_sub(path.text().len());
         if left >= 2 {
             let size = if left > 210 { 200 } else { left - 1 };
-            path = at(rt, &path, long(rt, 'd', size.min(255) as u32)?.as_str())?;
-            fs::create_dir(&rt, path.text())?;
+            let Some(name) = name.get(..size) else {
+                return Err(io::Error::from(ErrorKind::InvalidInput));
+            };
+            path = child(host, &path, name)?;
+            fs::create_dir(&host, path.text())?;
         }
-    }
-    if path.text().len() != len {
-        return Err(Fail::new("a folder at that depth"));
     }
     Ok(path)
 }
 
 // The system takes a path of 4,095 bytes. What is longer is made through a link.
 #[test]
-fn children_at_the_longest_path(rt: HostRuntime) -> Result<(), Fail> {
-    let top = fresh(rt)?;
-    let folder = deep(rt, &top, 4090)?;
-    let link = at(rt, &top, "link")?;
-    symlink(&rt, folder.text(), link.text())?;
-    for name in ["1", "four", "fives", "hidden and long", ".six.."] {
-        put(rt, &at(rt, &link, name)?, b"text")?;
+fn children_at_the_longest_path(rt: HostRuntime) {
+    let room = Room::with(rt, &[]).expect(&rt, "a room");
+    let folder = deep(rt, &room, 4090, &long(&rt, 'd', 255)).expect(&rt, "a folder");
+    same(&rt, &folder.text().len(), &4090);
+    for (names, node) in [
+        ("link", Node::Link(folder.text())),
+        ("link/1", Node::File(b"1")),
+        ("link/four", Node::File(b"text")),
+        ("link/fives", Node::File(b"")),
+        ("link/hidden and long", Node::File(b"")),
+        ("link/.six..", Node::File(b"")),
+    ] {
+        room.put(names, node).expect(&rt, "a node");
     }
-    let mut reader = RealGround::make(rt.alloc(), rt).reader(rt.alloc())?;
-    let listing = reader.list(rt.alloc(), &folder)?;
-    assert_eq!(rt;
-        (listing.len(), listing.unnamed(), listing.far()),
-        (2, 0, 3)
-    );
-    for (k, want) in ["1", "four"].iter().enumerate() {
-        if k < listing.len() {
-            assert_eq!(rt; listing.name(k), *want);
-        }
-    }
-    let longest = at(rt, &folder, "four")?;
-    assert_eq!(rt; longest.text().len(), 4095);
-    let stat = reader.stat(&longest)?;
-    assert!(rt; stat.map(|s| (s.kind, s.size)) == Some((Kind::File, 4)));
-    let mut into = [0u8; 4];
-    assert_eq!(rt; reader.read(&longest, 0, &mut into)?, 4);
-    assert_eq!(rt; &into, b"text");
-    assert_eq!(rt; reader.faults(), 0);
-    Ok(fs::remove_dir_all(&rt, top.text())?)
+    let mut reader = reader(rt).expect(&rt, "memory");
+    let listing = reader.list(rt.alloc(), &folder).expect(&rt, "names");
+    so(&rt, has(&listing, &texts(&rt, &["1", "four"]), 3), "names");
+    let longest = child(rt, &folder, "four").expect(&rt, "a path");
+    let told = reader.stat(&longest).map(|stat| stat.map(|s| s.size));
+    same(&rt, &told, &Ok(Some(4)));
+    let mut into = [0; 4];
+    same(&rt, &reader.read(&longest, 0, &mut into), &Ok(4));
+    same(&rt, &into, b"text");
+    same(&rt, &reader.faults(), &0);
+    room.remove().expect(&rt, "an empty room");
 }

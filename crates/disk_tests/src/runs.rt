@@ -1,223 +1,130 @@
 //! Whole runs of the program over the real disk.
-ghost use Rattle.std.specs.Prelude.{◌≡◌, []};
-ghost use Rattle.outside.specs.Writes.{all_but};
-
-use crate::folders::{at, bytes, fresh, long, put};
+use crate::rooms::{Node, Room};
+use crate::shared::{bytes, long, so, texts};
+use crate::walks::walked;
 use mfu_top::{Status, run};
-use outside::{Ground, MemSink};
+use outside::MemSink;
 use path_text::Path;
 use real_disk::{RealGround, seconds};
-use std::fs;
-use std::os::unix::fs::symlink;
+use std::io::ErrorKind;
+use std::process::Abort;
 use std::rt::Clock;
 use std::sync::Wait;
-use std::test::Fail;
 use std::thread::Threads;
 use std::time::{Duration, SystemTime};
+use std::{fs, io};
 
 const AMPLE: u64 = 10_000_000;
 
-// What a run with these words answers and writes.
-fn ran<T, G: Ground + Send>(
-    rt: &T,
-    files: &mut G,
-    words: &[&str],
-) -> Result<(Status, MemSink, MemSink), Fail>
+// Whether a run over the files of the system with these words succeeds, prints just this text, and has no notes.
+fn prints<T>(rt: &T, host: HostRuntime, words: &[&str], text: &str) -> bool
 where
-    T: AllocGlobal + Clock + Threads + Wait + Sync,
-    G::Reader: Send,
-    requires { G.area files.old ≡ all_but [] }
+    T: Abort + AllocGlobal + Clock + Threads + Wait + Sync,
 {
     let alloc = rt.alloc();
-    let mut given = Vec::new(alloc);
-    for word in words {
-        given.push(String::from_str(alloc, word)?)?;
-    }
-    let mut out = MemSink::limited(alloc, AMPLE)?;
-    let mut notes = MemSink::limited(alloc, AMPLE)?;
+    let given = texts(rt, words);
+    let mut out = MemSink::limited(alloc, AMPLE).expect(rt, "memory");
+    let mut notes = MemSink::limited(alloc, AMPLE).expect(rt, "memory");
+    let mut files = RealGround::make(alloc, host);
     let now = seconds(rt);
-    let status = run(rt, alloc, &given, files, &mut out, &mut notes, now);
-    Ok((status, out, notes))
+    let status = run(rt, alloc, &given, &mut files, &mut out, &mut notes, now);
+    status == Status::Done && out.text() == text.as_bytes() && notes.text().is_empty()
 }
 
-// How a path with line feeds is printed.
-fn printed(rt: HostRuntime, path: &str) -> Result<String, Fail> {
-    let mut text = String::new(rt.alloc());
-    for c in path.chars() {
-        if c == '\n' {
-            text.push_str("\\x0A")?;
-        } else {
-            text.push(c)?;
-        }
-    }
-    Ok(text)
-}
-
-/// How many of each kind a walk met.
-#[derive(Clone, Copy, Drop)]
-struct Met {
-    items: u64,
-    dirs: u64,
-    files: u64,
-    links: u64,
-    bytes: u64,
-}
-
-impl Met {
-    fn add(&mut self, kind: char, size: u64) {
-        self.items = self.items.saturating_add(1);
-        self.bytes = self.bytes.saturating_add(size);
-        match kind {
-            'd' => self.dirs = self.dirs.saturating_add(1),
-            'f' => self.files = self.files.saturating_add(1),
-            _ => self.links = self.links.saturating_add(1),
-        }
-    }
-}
-
-// The letter and the size that are printed of what stands at the path.
-fn shown(rt: HostRuntime, path: &str) -> Result<(char, u64), Fail> {
-    let data = fs::symlink_metadata(&rt, path)?;
-    if data.is_dir() {
-        Ok(('d', 0))
-    } else if data.is_file() {
-        Ok(('f', data.len()))
-    } else {
-        Ok(('l', 0))
-    }
-}
-
-// The paths of the children, from the last to the first.
-fn children(rt: HostRuntime, path: &str) -> Result<Vec<String>, Fail> {
-    let mut names = Vec::new(rt.alloc());
-    for entry in fs::read_dir(&rt, path)? {
-        names.push(String::from_str(rt.alloc(), entry?.file_name())?)?;
-    }
-    names.sort()?;
-    let mut paths = Vec::new(rt.alloc());
-    for name in names.iter().rev() {
-        paths.push(format!(in rt.alloc(); "{path}/{name}")?)?;
-    }
-    Ok(paths)
-}
-
-// What dwalk prints of a directory, by a walk of the test's own.
-fn walked(rt: HostRuntime, top: &Path) -> Result<String, Fail> {
-    let mut text = String::new(rt.alloc());
-    let mut met = Met {
-        items: 0,
-        dirs: 0,
-        files: 0,
-        links: 0,
-        bytes: 0,
-    };
-    let mut left = Vec::new(rt.alloc());
-    left.push(String::from_str(rt.alloc(), top.text())?)?;
-    for _ in 0..10_000u32 {
-        let Some(path) = left.pop() else {
-            break;
-        };
-        let (kind, size) = shown(rt, path.as_str())?;
-        met.add(kind, size);
-        let path_shown = printed(rt, path.as_str())?;
-        text.push_str(format!(in rt.alloc(); "{kind} {size:>12} {path_shown}\n")?.as_str())?;
-        if kind == 'd' {
-            for child in children(rt, path.as_str())? {
-                left.push(child)?;
-            }
-        }
-    }
-    let summary = format!(in rt.alloc();
-        "items {} dirs {} files {} links {} others 0 bytes {} failed 0\n",
-        met.items, met.dirs, met.files, met.links, met.bytes
-    )?;
-    text.push_str(summary.as_str())?;
-    Ok(text)
-}
-
-// Directories in directories, odd names, links, and 1,200 names of some length in one directory.
-fn planted(rt: HostRuntime) -> Result<Path, Fail> {
-    let top = fresh(rt)?;
-    for name in ["a", "a/b", "a/b/.deep", "b", ".hidden", "many", "\u{e9}"] {
-        fs::create_dir(&rt, at(rt, &top, name)?.text())?;
-    }
-    for (name, len) in [
-        ("a/b-x", 1),
-        ("a/b/c", 0),
-        ("a/b/.deep/.file", 65_536),
-        (".hidden/file", 65_537),
-        ("a\nline", 7),
-        ("z", 12),
-    ] {
-        put(rt, &at(rt, &top, name)?, &bytes(rt, len)?)?;
-    }
+// Puts 1,200 files with names of some length, and one with the longest name.
+fn put_many(host: HostRuntime, room: &Room, longest: &str) -> io::Result<()> {
     for k in 0..1200u32 {
-        let name = format!(in rt.alloc(); "many/a_name_of_more_than_thirty_bytes_{k}")?;
-        put(rt, &at(rt, &top, name.as_str())?, b"x")?;
+        let names = format!(in host.alloc(); "many/a_name_of_more_than_thirty_bytes_{k}")?;
+        room.put(names.as_str(), Node::File(b"x"))?;
     }
-    put(
-        rt,
-        &at(rt, &at(rt, &top, "b")?, long(rt, 'y', 255)?.as_str())?,
-        b"",
-    )?;
-    symlink(&rt, "a", at(rt, &top, "to_folder")?.text())?;
-    symlink(&rt, "nothing", at(rt, &top, "b/to_nothing")?.text())?;
-    symlink(&rt, top.text(), at(rt, &top, "a/to_top")?.text())?;
-    Ok(top)
+    let names = format!(in host.alloc(); "b/{longest}")?;
+    room.put(names.as_str(), Node::File(b""))?;
+    room.put("a/to_top", Node::Link(room.top().text()))
+}
+
+// Directories in directories, odd names, links, and many names in one directory.
+fn planted(rt: &(impl Abort + AllocGlobal), host: HostRuntime) -> Room {
+    let nodes = [
+        ("a", Node::Dir),
+        ("a/b", Node::Dir),
+        ("a/b/.deep", Node::Dir),
+        ("b", Node::Dir),
+        (".hidden", Node::Dir),
+        ("many", Node::Dir),
+        ("\u{e9}", Node::Dir),
+        ("a/b-x", Node::File(b"1")),
+        ("a/b/c", Node::File(b"")),
+        ("a\nline", Node::File(b"1234567")),
+        ("z", Node::File(b"123456789012")),
+        ("to_folder", Node::Link("a")),
+        ("b/to_nothing", Node::Link("nothing")),
+    ];
+    let room = Room::with(host, &nodes).expect(rt, "a room");
+    for (names, len) in [("a/b/.deep/.file", 65_536), (".hidden/file", 65_537)] {
+        let put = room.put(names, Node::File(&bytes(rt, len)));
+        put.expect(rt, "a file");
+    }
+    put_many(host, &room, &long(rt, 'y', 255)).expect(rt, "many files");
+    room
+}
+
+// The same of dwalk with so many ranks.
+fn dwalk_prints<T>(rt: &T, host: HostRuntime, ranks: &str, top: &Path, text: &str) -> bool
+where
+    T: Abort + AllocGlobal + Clock + Threads + Wait + Sync,
+{
+    prints(rt, host, &["dwalk", "--ranks", ranks, top.text()], text)
 }
 
 #[test]
-fn a_run_lists_what_another_walk_finds(rt: HostRuntime) -> Result<(), Fail> {
-    let top = planted(rt)?;
-    let want = walked(rt, &top)?;
-    for words in [
-        ["dwalk", "--ranks", "1", top.text()],
-        ["dwalk", "--ranks", "7", top.text()],
-    ] {
-        let (status, out, notes) = ran(&rt, &mut RealGround::make(rt.alloc(), rt), &words)?;
-        assert_eq!(rt; status, Status::Done);
-        assert_eq!(rt; out.text(), want.as_bytes());
-        assert_eq!(rt; notes.text(), b"".as_slice());
+fn a_run_lists_what_another_walk_finds(rt: HostRuntime) {
+    let room = planted(&rt, rt);
+    let want = walked(rt, room.top()).expect(&rt, "a walk");
+    for ranks in ["1", "7"] {
+        so(&rt, dwalk_prints(&rt, rt, ranks, room.top(), &want), ranks);
     }
-    Ok(fs::remove_dir_all(&rt, top.text())?)
+    room.remove().expect(&rt, "an empty room");
 }
 
 #[test]
-fn a_list_is_saved_and_read(rt: HostRuntime) -> Result<(), Fail> {
-    let (top, place) = (planted(rt)?, fresh(rt)?);
-    let list = at(rt, &place, "list")?;
-    let want = walked(rt, &top)?;
-    let words = ["dwalk", "--output", list.text(), top.text()];
-    let (status, out, _) = ran(&rt, &mut RealGround::make(rt.alloc(), rt), &words)?;
-    assert_eq!(rt; status, Status::Done);
-    assert_eq!(rt; out.text(), want.as_bytes());
+fn a_list_is_saved_and_read(rt: HostRuntime) {
+    let room = planted(&rt, rt);
+    let place = Room::with(rt, &[]).expect(&rt, "a room");
+    let list = place.at("list").expect(&rt, "a path");
+    let want = walked(rt, room.top()).expect(&rt, "a walk");
+    let words = ["dwalk", "--output", list.text(), room.top().text()];
+    so(&rt, prints(&rt, rt, &words, &want), "saved");
     let words = ["dwalk", "--input", list.text()];
-    let (status, out, _) = ran(&rt, &mut RealGround::make(rt.alloc(), rt), &words)?;
-    assert_eq!(rt; status, Status::Done);
-    assert_eq!(rt; out.text(), want.as_bytes());
-    fs::remove_dir_all(&rt, place.text())?;
-    Ok(fs::remove_dir_all(&rt, top.text())?)
+    so(&rt, prints(&rt, rt, &words, &want), "read");
+    place.remove().expect(&rt, "an empty room");
+    room.remove().expect(&rt, "an empty room");
+}
+
+// Makes a file look as if it was changed two hours ago.
+fn make_old(host: HostRuntime, file: &Path) -> io::Result<()> {
+    match SystemTime::now(&host)?.checked_sub(Duration::from_secs(7200)) {
+        Some(time) => fs::open(&host, file.text())?.set_modified(time),
+        None => Err(io::Error::from(ErrorKind::InvalidInput)),
+    }
+}
+
+// What dfind prints of one file of four bytes.
+fn one_file(host: HostRuntime, file: &Path) -> io::Result<String> {
+    Ok(format!(in host.alloc();
+        "f            4 {}\nitems 1 dirs 0 files 1 links 0 others 0 bytes 4 failed 0\n",
+        file.text()
+    )?)
 }
 
 // What was changed two hours ago is older than one; what was made just now is not.
 #[test]
-fn a_run_goes_by_the_time_of_the_system(rt: HostRuntime) -> Result<(), Fail> {
-    let top = fresh(rt)?;
-    put(rt, &at(rt, &top, "new")?, b"new")?;
-    let old = at(rt, &top, "old")?;
-    put(rt, &old, b"old!")?;
-    let Some(time) = SystemTime::now(&rt)?.checked_sub(Duration::from_secs(7200)) else {
-        return Err(Fail::new("a time"));
-    };
-    fs::open(&rt, old.text())?.set_modified(time)?;
-    let words = ["dfind", "--mmin", "+60", top.text()];
-    let (status, out, notes) = ran(&rt, &mut RealGround::make(rt.alloc(), rt), &words)?;
-    let want = format!(in rt.alloc();
-        "f            4 {}\nitems 1 dirs 0 files 1 links 0 others 0 bytes 4 failed 0\n",
-        old.text()
-    )?;
-    assert_eq!(rt; status, Status::Done);
-    assert_eq!(rt; out.text(), want.as_bytes());
-    assert_eq!(rt; notes.text(), b"".as_slice());
-    Ok(fs::remove_dir_all(&rt, top.text())?)
+fn a_run_goes_by_the_time_of_the_system(rt: HostRuntime) {
+    let nodes = [("new", Node::File(b"new")), ("old", Node::File(b"old!"))];
+    let room = Room::with(rt, &nodes).expect(&rt, "a room");
+    let old = room.at("old").expect(&rt, "a path");
+    make_old(rt, &old).expect(&rt, "another time");
+    let want = one_file(rt, &old).expect(&rt, "memory");
+    let words = ["dfind", "--mmin", "+60", room.top().text()];
+    so(&rt, prints(&rt, rt, &words, &want), "the old one");
+    room.remove().expect(&rt, "an empty room");
 }

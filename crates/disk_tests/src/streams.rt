@@ -1,4 +1,5 @@
 //! A stream that takes little.
+use crate::shared::same;
 use outside::{Failed, Sink};
 use real_disk::RealSink;
 use std::io;
@@ -36,7 +37,7 @@ fn a_write_of_nothing_is_a_fault(rt: HostRuntime) {
         (b"c".as_slice(), Err(Failed), 2),
     ];
     for (bytes, want, faults) in cases {
-        assert_eq!(rt; sink.put(bytes), want);
-        assert_eq!(rt; sink.faults(), faults);
+        same(&rt, &sink.put(bytes), &want);
+        same(&rt, &sink.faults(), &faults);
     }
 }

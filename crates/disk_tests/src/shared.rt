@@ -1,0 +1,41 @@
+//! What the tests share beside rooms.
+use std::fmt::Debug;
+use std::process::Abort;
+
+/// Stops the test where the two differ.
+pub fn same<T: PartialEq + Debug>(rt: &impl Abort, told: &T, want: &T) {
+    assert!(rt; *told == *want, "{told:?}, and not {want:?}");
+}
+
+/// Stops the test where this is not so.
+pub fn so(rt: &impl Abort, holds: bool, of: &str) {
+    assert!(rt; holds, "{of}");
+}
+
+/// So many bytes, of which each tells its place.
+pub fn bytes(rt: &(impl Abort + AllocGlobal), len: u32) -> Vec<u8> {
+    let mut bytes = Vec::new(rt.alloc());
+    for k in 0..len {
+        bytes.push((k % 251) as u8).expect(rt, "room");
+    }
+    bytes
+}
+
+/// So many times one letter.
+pub fn long(rt: &(impl Abort + AllocGlobal), letter: char, len: u32) -> String {
+    let mut name = String::new(rt.alloc());
+    for _ in 0..len {
+        name.push(letter).expect(rt, "room");
+    }
+    name
+}
+
+/// These texts.
+pub fn texts(rt: &(impl Abort + AllocGlobal), given: &[&str]) -> Vec<String> {
+    let mut texts = Vec::new(rt.alloc());
+    for text in given {
+        let text = String::from_str(rt.alloc(), text).expect(rt, "room");
+        texts.push(text).expect(rt, "room");
+    }
+    texts
+}

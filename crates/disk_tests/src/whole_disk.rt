@@ -1,0 +1,98 @@
+//! The files of the system as the tests write them: nothing is asked of a path.
+ghost use Rattle.std.specs.Prelude.{◌≡◌};
+ghost use Rattle.outside.specs.Tree.{is_root};
+
+use outside::{Ground, LoadError, Plot, SaveError, WriteError, load, save};
+use path_text::{OutOfMemory, Path};
+use real_disk::{RealGround, RealReader};
+use std::alloc::Global;
+use std::marker::Model;
+
+// More is not written by a test.
+const MOST: u64 = 1_000_000;
+
+/// A call that writes, with the place and the bytes of a write.
+#[derive(Clone, Copy, Debug, Drop)]
+pub enum Act {
+    MakeDir,
+    MakeFile,
+    Write(u64, &'static [u8]),
+    RemoveFile,
+    RemoveDir,
+}
+
+/// The files of the system, of which no part is lent, so that they may be written at each path but `/`.
+#[derive(Drop)]
+pub struct WholeDisk {
+    files: RealGround<HostRuntime>,
+}
+
+impl Model for WholeDisk {
+    ghost use Rattle.std.specs.Prelude.{◌≡◌, ℕ, []};
+
+    ghost Value = { ℕ };
+
+    ghost view = { λ whole. whole.files.0 };
+
+    ghost invariant = { λ whole. whole.files.1 ≡ [] };
+}
+
+impl WholeDisk {
+    /// They have not failed yet.
+    pub fn make(rt: HostRuntime) -> WholeDisk {
+        WholeDisk {
+            files: RealGround::make(rt.alloc(), rt),
+        }
+    }
+
+    /// Does a call that writes. `/` is refused as `Failed`, and so is what a test does not write.
+    pub fn act(&mut self, alloc: Global, act: Act, path: &Path) -> Result<(), WriteError> {
+        if is_root(path) {
+            return Err(WriteError::Failed);
+        }
+        match act {
+            Act::MakeDir => self.files.make_dir(alloc, path),
+            Act::MakeFile => self.files.make_file(alloc, path),
+            Act::Write(at, bytes) if at <= MOST && bytes.len() as u64 <= MOST => {
+                self.files.write_at(alloc, path, at, bytes)
+            }
+            Act::Write(..) => Err(WriteError::Failed),
+            Act::RemoveFile => self.files.remove_file(alloc, path),
+            Act::RemoveDir => self.files.remove_dir(alloc, path),
+        }
+    }
+
+    /// Saves a whole file.
+    pub fn save(&mut self, alloc: Global, path: &Path, bytes: &[u8]) -> Result<(), SaveError> {
+        save(alloc, &mut self.files, path, bytes)
+    }
+
+    /// The bytes of a whole file.
+    pub fn load(&mut self, alloc: Global, path: &Path) -> Result<Vec<u8>, LoadError> {
+        let Ok(mut reader) = self.files.reader(alloc) else {
+            return Err(LoadError::OutOfMemory);
+        };
+        load(alloc, &mut reader, path)
+    }
+
+    /// A reader of the files as they are now.
+    pub fn reader(&mut self, alloc: Global) -> Result<RealReader<HostRuntime>, OutOfMemory> {
+        self.files.reader(alloc)
+    }
+
+    /// Takes a reader back.
+    pub fn take_reader(&mut self, reader: RealReader<HostRuntime>) {
+        self.files.take_reader(reader);
+    }
+
+    /// How often they have failed.
+    pub fn faults(&self) -> u64 {
+        self.files.faults()
+    }
+}
+
+fn is_root(path: &Path) -> bool
+    ensures { result ≡ is_root path.now }
+{
+    path.text() == "/"
+}
