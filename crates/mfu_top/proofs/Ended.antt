@@ -29,9 +29,9 @@ pub record Counts : Type 0 where
   pub notes' : ℕ
 
 -- it did all, or memory was wanting, where nothing stands against it and no sink fails
-abbrev pub Completes : Side → Side → Counts → Status → Asked → Type 0
-Completes before after counts answer asked =
-    Fine asked before after → StoodStill counts.out counts.out' → StoodStill counts.notes counts.notes' → (answer ≡ status.Done) ⊎ (answer ≡ status.Memory)
+abbrev pub Completes : ℕ → Side → Side → Counts → Status → Asked → Type 0
+Completes now before after counts answer asked =
+    Fine asked now before after → StoodStill counts.out counts.out' → StoodStill counts.notes counts.notes' → (answer ≡ status.Done) ⊎ (answer ≡ status.Memory)
 
 of_reading : (words : List (List ℕ)) (asked : Asked) (P : Asked → Type 0) → reading words ≡ Ok asked → P asked → IfOk (reading words) P
 of_reading words asked P e h = subst (λ r. IfOk r P) (sym e) h
@@ -41,15 +41,15 @@ pub printed : (words : List (List ℕ)) (asked : Asked) (now : ℕ) (before afte
     reading words ≡ Ok asked →
     FineRunsSucceed → Within asked → Reports asked now before after report →
     (report.failed ≡ 0 → StoodStill counts.out counts.out' → StoodStill counts.notes counts.notes' → answer ≡ status.Done) →
-    IfOk (reading words) (Completes before after counts answer)
+    IfOk (reading words) (Completes now before after counts answer)
 printed words asked now before after counts report answer read law limits is put =
-    of_reading words asked (Completes before after counts answer) read
+    of_reading words asked (Completes now before after counts answer) read
     (λ fine out notes. inl (put ((law asked now before after limits fine).names_nothing report is) out notes))
 
 -- a run that stopped
-pub stopped : (words : List (List ℕ)) (asked : Asked) (before after : Side) (counts : Counts) (why : Stop) (answer : Status) (old new : Stream) →
+pub stopped : (words : List (List ℕ)) (asked : Asked) (now : ℕ) (before after : Side) (counts : Counts) (why : Stop) (answer : Status) (old new : Stream) →
     reading words ≡ Ok asked →
-    FineRunsSucceed → Within asked → Stops asked before after why → Told why answer old new → IfOk (reading words) (Completes before after counts answer)
-stopped words asked before after counts why answer old new read law limits by told =
-    of_reading words asked (Completes before after counts answer) read
-    (λ fine out notes. inr (⊎_elim (λ t. t.0 ∙ ap status_of ((law asked 0 before after limits fine).stops_for_memory why by)) (λ t. t.0) told))
+    FineRunsSucceed → Within asked → Stops asked before after why → Told why answer old new → IfOk (reading words) (Completes now before after counts answer)
+stopped words asked now before after counts why answer old new read law limits by told =
+    of_reading words asked (Completes now before after counts answer) read
+    (λ fine out notes. inr (⊎_elim (λ t. t.0 ∙ ap status_of ((law asked now before after limits fine).stops_for_memory why by)) (λ t. t.0) told))

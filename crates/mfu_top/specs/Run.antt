@@ -1,8 +1,7 @@
 -- What a run does, a line a tool. Each word stands in the tool's own room.
-use Rattle.std.specs.Prelude.{ℕ, Bool, true, false, Option}
-use Rattle.outside.specs.Tree.{Files}
+use Rattle.std.specs.Prelude.{ℕ, Bool, true, false}
 use Rattle.tool_words.specs.Limits.{Within}
-use Rattle.tool_words.specs.Asked.{Asked, list, compare, test}
+use Rattle.tool_words.specs.Asked.{Asked, list, compare, remove, test}
 use Rattle.run_report.specs.declared.reports.Report.{Report}
 use Rattle.run_report.specs.declared.stops.Stop.{Stop}
 use Rattle.run_report.specs.Sides.{Side}
@@ -10,37 +9,43 @@ use Rattle.run_report.specs.Stops.{Succeeds}
 use Rattle.compare_report.specs.Comparing.{ReportsCompare, StopsCompare, LeavesCompare, FineCompare}
 use Rattle.list_report.specs.Lists.{ReportsList, StopsList, LeavesList, FineList}
 use Rattle.list_report.specs.Tests.{ReportsTest, StopsTest, LeavesTest, FineTest}
+use Rattle.remove_report.specs.Removing.{ReportsRemove, StopsRemove, LeavesRemove, FineRemove}
 
 -- what it reports that ends with status 0, 1 or 4, of the side before and the side after it
 abbrev pub Reports : Asked → ℕ → Side → Side → Report → Type 0
 Reports (list asked) now before after report = ReportsList asked now before after report
 Reports (compare asked) now before after report = ReportsCompare asked before after report
+Reports (remove asked) now before after report = ReportsRemove asked now before after report
 Reports (test asked) now before after report = ReportsTest asked now report
 
 -- why it stops before it prints a report
 abbrev pub Stops : Asked → Side → Side → Stop → Type 0
 Stops (list asked) before after why = StopsList asked before after why
 Stops (compare asked) before after why = StopsCompare asked before after why
+Stops (remove asked) before after why = StopsRemove asked before after why
 Stops (test asked) before after why = StopsTest why
 
--- which paths of the files it may have changed
-abbrev pub Leaves : Asked → Option Files → Option Files → Type 0
-Leaves (list asked) old new = LeavesList asked old new
-Leaves (compare asked) old new = LeavesCompare asked old new
-Leaves (test asked) old new = LeavesTest old new
+-- which paths of the files it may have changed, whatever it answers
+abbrev pub Leaves : Asked → ℕ → Side → Side → Type 0
+Leaves (list asked) now before after = LeavesList asked before.tree after.tree
+Leaves (compare asked) now before after = LeavesCompare asked before.tree after.tree
+Leaves (remove asked) now before after = LeavesRemove asked now before after
+Leaves (test asked) now before after = LeavesTest before.tree after.tree
 
 -- whether it has nothing to do with the files that it is given
 abbrev pub is_apart : Asked → Bool
 is_apart (list asked) = false
 is_apart (compare asked) = false
+is_apart (remove asked) = false
 is_apart (test asked) = true
 
 -- when nothing stands against it
-abbrev pub Fine : Asked → Side → Side → Type 0
-Fine (list asked) before after = FineList asked before after
-Fine (compare asked) before after = FineCompare asked before after
-Fine (test asked) before after = FineTest asked
+abbrev pub Fine : Asked → ℕ → Side → Side → Type 0
+Fine (list asked) now before after = FineList asked before after
+Fine (compare asked) now before after = FineCompare asked before after
+Fine (remove asked) now before after = FineRemove asked now before after
+Fine (test asked) now before after = FineTest asked
 
 -- where nothing stands against it, it names nothing, and stops for want of memory alone
 abbrev pub FineRunsSucceed : Type 0
-FineRunsSucceed = (asked : Asked) (now : ℕ) (before after : Side) → Within asked → Fine asked before after → Succeeds (Reports asked now before after) (Stops asked before after)
+FineRunsSucceed = (asked : Asked) (now : ℕ) (before after : Side) → Within asked → Fine asked now before after → Succeeds (Reports asked now before after) (Stops asked before after)

@@ -3,6 +3,7 @@ ghost use Rattle.mfu_top.specs.Run.{FineRunsSucceed};
 
 use compare_report::fine_compare_succeeds;
 use list_report::{fine_list_succeeds, fine_test_succeeds};
+use remove_report::fine_remove_succeeds;
 
 /// Where nothing stands against a run, it names nothing, and stops for want of memory alone.
 pub fn fine_runs_succeed()
@@ -10,5 +11,6 @@ pub fn fine_runs_succeed()
 {
     fine_list_succeeds();
     fine_compare_succeeds();
+    fine_remove_succeeds();
     fine_test_succeeds();
 }

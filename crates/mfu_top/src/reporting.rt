@@ -10,6 +10,7 @@ ghost use Rattle.mfu_top.specs.Run.{Reports, Stops, Leaves, is_apart};
 use compare_report::{CompareTask, report_of_compare};
 use list_report::{ListTask, TestTask, report_of_list, report_of_test};
 use outside::Ground;
+use remove_report::{RemoveTask, report_of_remove};
 use run_report::{Report, Stop};
 use std::alloc::Global;
 use std::sync::Wait;
@@ -26,11 +27,12 @@ pub(crate) fn report_of<T: Threads + Wait + Sync, G: Ground>(
 ) -> Result<Report, Stop>
 where
     G::Reader: Send,
+    G::Part: Send,
     requires lent { G.area files.old ≡ all_but [] }
     requires within { Within (asked_by command) }
     ensures reports { IfOk result (Reports (asked_by command) now (side_of (G.tree files.old) (G.count files.old)) (side_of (G.tree files.new) (G.count files.new))) }
     ensures stops { IfErr result (Stops (asked_by command) (side_of (G.tree files.old) (G.count files.old)) (side_of (G.tree files.new) (G.count files.new))) }
-    ensures leaves { Leaves (asked_by command) (G.tree files.old) (G.tree files.new) }
+    ensures leaves { Leaves (asked_by command) now (side_of (G.tree files.old) (G.count files.old)) (side_of (G.tree files.new) (G.count files.new)) }
     ensures apart { is_apart (asked_by command) ≡ true → files.new ≡ files.old }
     ensures lent { G.area files.new ≡ all_but [] }
     ensures count { RoseBy 0 (G.count files.old) (G.count files.new) }
@@ -82,6 +84,20 @@ where
                 wants,
             };
             report_of_compare(rt, alloc, task, files)
+        }
+        Command::Remove {
+            common,
+            roots,
+            tests,
+            dryrun,
+        } => {
+            let task = RemoveTask {
+                common,
+                roots,
+                tests,
+                dryrun,
+            };
+            report_of_remove(rt, alloc, task, files, now)
         }
         Command::Test {
             common,

@@ -25,8 +25,8 @@ use std::thread::Threads;
 use tool_words::{Command, WordsError, read_words, words_ask_within_limits};
 
 /// Does all that the program does, in this order: reads the words; looks at the paths of `--newer`; reads a list, or walks;
-/// writes what is chosen of it to a file where one is asked for; writes `out`, and then `notes`. All memory is taken before the
-/// first byte goes to `out`. `now` is in seconds since 1970. The status's number is the program's exit status.
+/// removes what is chosen of it, or writes it to a file, where that is asked for; writes `out`, and then `notes`. All memory is
+/// taken before the first byte goes to `out`. `now` is in seconds since 1970. The status's number is the program's exit status.
 pub fn run<T: Threads + Wait + Sync, G: Ground + Send, O: Sink, E: Sink>(
     rt: &T,
     alloc: Global,
@@ -38,12 +38,13 @@ pub fn run<T: Threads + Wait + Sync, G: Ground + Send, O: Sink, E: Sink>(
 ) -> Status
 where
     G::Reader: Send,
+    G::Part: Send,
     // No part of the files is lent to anybody, and none is after the run.
     requires lent { G.area files.old ≡ all_but [] }
     ensures lent { G.area files.new ≡ all_but [] }
 
     // Every path of the files but those that the tool may change is as before, and no count falls.
-    ensures rest { IfOk (reading (map string_bytes words.now)) (λ asked. Leaves asked (G.tree files.old) (G.tree files.new)) }
+    ensures rest { IfOk (reading (map string_bytes words.now)) (λ asked. Leaves asked now (side_of (G.tree files.old) (G.count files.old)) (side_of (G.tree files.new) (G.count files.new))) }
     // A tool that has nothing to do with the files leaves them alone.
     ensures apart { IfOk (reading (map string_bytes words.now)) (λ asked. is_apart asked ≡ true → files.new ≡ files.old) }
     ensures counts { RoseBy 0 (G.count files.old) (G.count files.new) × RoseBy 0 (O.count out.old) (O.count out.new) × RoseBy 0 (E.count notes.old) (E.count notes.new) }
@@ -79,7 +80,7 @@ where
         × GrewByLine (stop_line why) (stream_of (E.text notes.old) (E.count notes.old)) (stream_of (E.text notes.new) (E.count notes.new))) }
 
     // When a run succeeds: nothing stands against it, and no sink fails.
-    ensures complete { IfOk (reading (map string_bytes words.now)) (λ asked. Fine asked (side_of (G.tree files.old) (G.count files.old)) (side_of (G.tree files.new) (G.count files.new))
+    ensures complete { IfOk (reading (map string_bytes words.now)) (λ asked. Fine asked now (side_of (G.tree files.old) (G.count files.old)) (side_of (G.tree files.new) (G.count files.new))
         → StoodStill (O.count out.old) (O.count out.new) → StoodStill (E.count notes.old) (E.count notes.new) → (result ≡ Status.Done) ⊎ (result ≡ Status.Memory)) }
 {
     fine_runs_succeed();

@@ -2,4 +2,9 @@ use Rattle.mfu_top.proofs.Succeeds.{succeeds}
 use Rattle.mfu_top.proofs.laws.fine_runs_succeed.Goals as goal
 
 pub returns : goal.returns
-returns c = succeeds (record { lists = c.fine_list_succeeds.ensures; compares = c.fine_compare_succeeds.ensures; tests = c.fine_test_succeeds.ensures })
+returns c = succeeds (record {
+  lists = c.fine_list_succeeds.ensures;
+  compares = c.fine_compare_succeeds.ensures;
+  removes = c.fine_remove_succeeds.ensures;
+  tests = c.fine_test_succeeds.ensures;
+})

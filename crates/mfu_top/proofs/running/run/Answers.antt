@@ -27,7 +27,7 @@ returns-in-Err-report_of-clause-complete g c =
     let notes = g.E.Sink.count in
     let text = g.E.Sink.text in
     let refused = c.in-Err-report_of in
-    stopped (map string_bytes c.args.words.now) _ before after
+    stopped (map string_bytes c.args.words.now) _ c.args.now before after
     (record { out = outs c.args.out.now; out' = outs c.args.out.now; notes = notes c.args.notes.now; notes' = notes c.end_stopped.new.notes })
     refused.stop c.end_stopped.result (stream_of (text c.args.notes.now) (notes c.args.notes.now))
     (stream_of (text c.end_stopped.new.notes) (notes c.end_stopped.new.notes))
