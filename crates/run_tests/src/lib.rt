@@ -9,6 +9,8 @@ mod of_dcmp;
 #[cfg(test)]
 mod of_dfind;
 #[cfg(test)]
+mod of_drm;
+#[cfg(test)]
 mod of_dtest;
 #[cfg(test)]
 mod of_dwalk;
