@@ -1,5 +1,6 @@
 -- The masks of a plain board go with its mailboxes.
-use Rattle.std.proofs.Common.{◌≡◌, ◌≢◌, ℕ, ◌^◌, ◌<◌, ◌≤◌, ◌==◌, refl, sym, subst, ap, ◌∙◌, true, false, eq-eqb, ne_eqb, List, length, replicate, get_or, set, get_or-set_same, get_or-set_other, length-set, bit_or, bit_xor, None}
+use Rattle.std.proofs.Common.{◌≡◌, ◌≢◌, ℕ, ◌^◌, ◌<◌, ◌≤◌, ◌==◌, refl, sym, subst, ap, ◌∙◌, true, false, eq-eqb, ne_eqb, List, length, replicate}
+use Rattle.std.proofs.Common.{get_or, set, get_or-set_same, get_or-set_other, length-set, bit_or, bit_xor, None}
 use Rattle.std.proofs.lemmas.List.{length-replicate}
 use Rattle.std.proofs.lemmas.Nat.Bits.{bit_at-zero}
 use mathlib.Core.Logic.{dite}

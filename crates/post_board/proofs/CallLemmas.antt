@@ -1,5 +1,7 @@
 -- What a call leaves, from what its steps told.
-use Rattle.std.proofs.Common.{◌≡◌, ℕ, ◌+◌, ◌<◌, ◌≢◌, ◌⊎◌, inl, inr, ⊎_elim, arith, ◌*◌, ◌/◌, ◌%◌, ◌==◌, Bool, true, false, cond, ne_eqb, eq-eqb, suc, refl, sym, subst, ap, ◌∙◌, List, [], ◌∷◌, ◌++◌, append_assoc, length, length-set, map, get_or, set, get_or-set_same, get_or-set_other, sum_by, zero, deque_capacity, ◌≤◌, Option, Some, None}
+use Rattle.std.proofs.Common.{◌≡◌, ℕ, ◌+◌, ◌<◌, ◌≢◌, ◌⊎◌, inl, inr, ⊎_elim, arith, ◌*◌, ◌/◌, ◌%◌, ◌==◌, Bool, true, false, cond, ne_eqb, eq-eqb, suc}
+use Rattle.std.proofs.Common.{refl, sym, subst, ap, ◌∙◌, List, [], ◌∷◌, ◌++◌, append_assoc, length, length-set, map, get_or, set, get_or-set_same}
+use Rattle.std.proofs.Common.{get_or-set_other, sum_by, zero, deque_capacity, ◌≤◌, Option, Some, None}
 use Rattle.ring_core.specs.declared.states.Colour.{Colour}
 use Rattle.ring_core.specs.declared.states.Token.{Token}
 use Rattle.ring_core.specs.declared.states.Token.TheVariants.{At}

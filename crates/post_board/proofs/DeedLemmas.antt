@@ -1,5 +1,6 @@
 -- A legal deed happens in the picture that is told, and what is told stays sound.
-use Rattle.std.proofs.Common.{◌≡◌, ◌==◌, ℕ, ◌-◌, ◌<◌, ◌≢◌, refl, sym, subst, ap, ◌∙◌, arith, true, false, cond, nat_lt, length, set, get_or-set_same, get_or-set_other, length-set}
+use Rattle.std.proofs.Common.{◌≡◌, ◌==◌, ℕ, ◌-◌, ◌<◌, ◌≢◌, refl, sym, subst, ap, ◌∙◌, arith, true, false, cond, nat_lt, length, set, get_or-set_same}
+use Rattle.std.proofs.Common.{get_or-set_other, length-set}
 use mathlib.Core.Logic.{dite}
 use native.Mathlib.Decide.{ℕ_discrete}
 use Rattle.ring_core.specs.declared.states.Colour.{Colour}
@@ -55,7 +56,8 @@ one t r x u h sane alone tried vacancy ended over within =
     record {
       alone = λ sole token. (let e : 0 ≡ r = (let q : length t.places ≡ 1 = sym size ∙ sole in omega arith) in
           ap (λ (y : Place). y.busy) (at 0)
-          ∙ subst (λ (j : ℕ). (put (place t) r x j).busy ≡ false) (sym e) (ap (λ (y : Place). y.busy) (put_here (place t) r x) ∙ alone (sym size ∙ sole) token));
+          ∙ subst (λ (j : ℕ). (put (place t) r x j).busy ≡ false) (sym e)
+          (ap (λ (y : Place). y.busy) (put_here (place t) r x) ∙ alone (sym size ∙ sole) token));
       tried = λ k. subst (λ (y : Place). y.tried ≡ true → y.busy ≡ false) (sym (at k))
           (put_all (λ j y. y.tried ≡ true → y.busy ≡ false) (place t) r x k tried (λ ne. sane.tried k));
       waits = λ k. subst (λ (y : Place). y.mail ≢ vacant → y.busy ≡ false) (sym (at k))
@@ -88,7 +90,8 @@ sane_after me (refuse to) t (acts, other, mail) sane =
     let lazy : (place t to).busy ≡ false = sane.waits to (λ e. cc) in
     one t to _ t.token other.0 sane (λ a e. lazy) (λ e. lazy) (λ e. lazy) (sane.over to) (λ e. e) sane.within
 sane_after me (take from b) t (acts, other, mail) sane =
-    one t me _ t.token acts.0 sane (λ a e. solo (length t.places) me from a acts.0 other.0 other.1) (λ e. cc) (λ e. absurd (e refl)) (sane.over me) (λ e. e) sane.within
+    one t me _ t.token acts.0 sane (λ a e. solo (length t.places) me from a acts.0 other.0 other.1) (λ e. cc) (λ e. absurd (e refl)) (sane.over me)
+    (λ e. e) sane.within
 sane_after me (take_none from) t (acts, other, mail) sane =
     let lazy : (place t me).busy ≡ false = sane.waits me (λ e. cc) in
     one t me _ t.token acts.0 sane (λ a e. lazy) (λ e. lazy) (λ e. lazy) (sane.over me) (λ e. e) sane.within

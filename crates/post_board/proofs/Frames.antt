@@ -1,5 +1,6 @@
 -- What a step on one word leaves of the rule.
-use Rattle.std.proofs.Common.{◌≡◌, ℕ, zero, suc, ◌+◌, ◌<◌, ◌≢◌, ◌⊎◌, ⊎_elim, refl, sym, subst, ap, ◌∙◌, arith, Bool, true, false, cond, nat_lt, List, [], ◌∷◌, length, get_or, set, get_or-set_same, get_or-set_other, length-set, ◌==◌}
+use Rattle.std.proofs.Common.{◌≡◌, ℕ, zero, suc, ◌+◌, ◌<◌, ◌≢◌, ◌⊎◌, ⊎_elim, refl, sym, subst, ap, ◌∙◌, arith, Bool, true, false, cond, nat_lt, List}
+use Rattle.std.proofs.Common.{[], ◌∷◌, length, get_or, set, get_or-set_same, get_or-set_other, length-set, ◌==◌}
 use Rattle.std.proofs.lemmas.Bool.{lt-ltb, ltb-true}
 use Rattle.std.specs.List.{All}
 use mathlib.Core.Option.{none, some, some-injective, some-ne-none}
@@ -13,7 +14,8 @@ use Rattle.ring_core.specs.Picture.{put}
 use Rattle.ring_core.proofs.PictureLemmas.{put_here, put_elsewhere}
 use Rattle.ring_core.specs.declared.states.Token.{Token}
 use Rattle.post_board.specs.Words.{has_bit, Sign, sign, token_read}
-use Rattle.post_board.specs.BoardRule.{Parcel, TableState, MailboxFacts, RingFacts, HaltFacts, Moment, Rule, KeptIn, signs_in, slots_in, token_in, halt_in, stops_in}
+use Rattle.post_board.specs.BoardRule.{Parcel, TableState, MailboxFacts, RingFacts, HaltFacts, Moment, Rule, KeptIn, signs_in, slots_in, token_in}
+use Rattle.post_board.specs.BoardRule.{halt_in, stops_in}
 use Rattle.post_board.specs.BoardSteps.{knows}
 use Rattle.post_board.specs.declared.board_views.Known.{Known}
 use Rattle.post_board.specs.declared.board_views.View.{View}

@@ -1,5 +1,6 @@
 -- The steps on the halt word and the stops word, and withdrawing.
-use Rattle.std.proofs.Common.{◌≡◌, ℕ, ◌+◌, ◌^◌, ◌<◌, ◌≢◌, ◌⊎◌, inl, inr, ⊎_elim, refl, sym, subst, ap, ◌∙◌, Bool, true, false, cond, get_or, set, length-set, eqb, ◌==◌, bit_or, Some}
+use Rattle.std.proofs.Common.{◌≡◌, ℕ, ◌+◌, ◌^◌, ◌<◌, ◌≢◌, ◌⊎◌, inl, inr, ⊎_elim, refl, sym, subst, ap, ◌∙◌, Bool, true, false, cond, get_or, set}
+use Rattle.std.proofs.Common.{length-set, eqb, ◌==◌, bit_or, Some}
 use Rattle.std.proofs.lemmas.Bool.{eqb-true}
 use Rattle.post_board.proofs.BitLemmas.{bit_set, bit_else}
 use prog.Atomic.{either}
@@ -10,7 +11,8 @@ use Rattle.ring_core.specs.Picture.{put}
 use Rattle.ring_core.proofs.PictureLemmas.{put_here, put_all}
 use Rattle.post_board.specs.Words.{has_bit, Sign, resting, asking, serving, full, fetching, emptied, sign, word_of}
 use Rattle.post_board.proofs.WordLemmas.{sign_of_word}
-use Rattle.post_board.specs.BoardRule.{Parcel, TableState, MailboxFacts, RingFacts, Rule, serves, signs_in, slots_in, token_in, halt_in, stops_in, OwnFits, OpenFits, Away, asked_of}
+use Rattle.post_board.specs.BoardRule.{Parcel, TableState, MailboxFacts, RingFacts, Rule, serves, signs_in, slots_in, token_in, halt_in, stops_in}
+use Rattle.post_board.specs.BoardRule.{OwnFits, OpenFits, Away, asked_of}
 use Rattle.post_board.specs.BoardSteps.{Going, SeatState, noted, knows, after_rest, after_look, learn}
 use Rattle.post_board.specs.LateSteps.{SetHaltTells, halt_seen, LoadHaltTells, StopTells, stop_seen, LoadStopsTells, WithdrawTells}
 use Rattle.post_board.specs.declared.board_views.Known.{Known}

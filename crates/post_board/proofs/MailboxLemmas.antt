@@ -1,5 +1,6 @@
 -- Each kind of step on a mailbox keeps the facts of mailboxes.
-use Rattle.std.proofs.Common.{◌≡◌, ℕ, ◌/◌, ◌%◌, ◌==◌, ◌<◌, ◌≢◌, inl, inr, ⊎_elim, refl, sym, subst, ap, ◌∙◌, arith, Bool, true, false, cond, [], ◌∷◌, ◌++◌, length, get_or, set, get_or-set_same, get_or-set_other, length-set, eq-eqb, ne_eqb, Some, None}
+use Rattle.std.proofs.Common.{◌≡◌, ℕ, ◌/◌, ◌%◌, ◌==◌, ◌<◌, ◌≢◌, inl, inr, ⊎_elim, refl, sym, subst, ap, ◌∙◌, arith, Bool, true, false, cond, [], ◌∷◌}
+use Rattle.std.proofs.Common.{◌++◌, length, get_or, set, get_or-set_same, get_or-set_other, length-set, eq-eqb, ne_eqb, Some, None}
 use Rattle.std.proofs.lemmas.List.{append-nil}
 use mathlib.Core.Option.{none, some}
 use mathlib.Core.Option as Core

@@ -1,5 +1,6 @@
 -- The steps on mailboxes: ask, look, take up, post batch, post none, fetch, rest.
-use Rattle.std.proofs.Common.{◌≡◌, ℕ, ◌+◌, ◌-◌, ◌<◌, ◌≢◌, inl, refl, sym, subst, ap, ◌∙◌, arith, true, false, cond, nat_lt, List, ◌∷◌, length, get_or, set, length-set, eqb, Some, None}
+use Rattle.std.proofs.Common.{◌≡◌, ℕ, ◌+◌, ◌-◌, ◌<◌, ◌≢◌, inl, refl, sym, subst, ap, ◌∙◌, arith, true, false, cond, nat_lt, List, ◌∷◌, length, get_or}
+use Rattle.std.proofs.Common.{set, length-set, eqb, Some, None}
 use prog.Atomic.{either}
 use Rattle.atomic_table.specs.Table.{step, keeps, takes, gives, rest, put_back, Allows}
 use Rattle.atomic_table.proofs.Lists.{exchanged}
@@ -10,8 +11,11 @@ use Rattle.ring_core.specs.declared.states.Colour.{Colour}
 use Rattle.post_board.specs.Shown.{Strings}
 use Rattle.post_board.specs.Words.{Sign, resting, asking, serving, full, fetching, emptied, sign, word_of}
 use Rattle.post_board.proofs.WordLemmas.{sign_of_word}
-use Rattle.post_board.specs.BoardRule.{Parcel, TableState, MailboxFacts, RingFacts, HaltFacts, Moment, Rule, serves, given, taken, signs_in, slots_in, token_in, halt_in, stops_in, OwnFits, SlotFits, Away, asked_of, mail_of}
-use Rattle.post_board.specs.BoardSteps.{Going, SeatState, noted, knows, knowing, after_ask, AskTells, learn, after_look, LookTells, after_taking, TakeUpTells, ScanTells, after_post, front, GiveTells, after_refusing, RefuseTells, after_fetch, FetchTells, after_rest, RestTells, RestEmptyTells}
+use Rattle.post_board.specs.BoardRule.{Parcel, TableState, MailboxFacts, RingFacts, HaltFacts, Moment, Rule, serves, given, taken, signs_in, slots_in}
+use Rattle.post_board.specs.BoardRule.{token_in, halt_in, stops_in, OwnFits, SlotFits, Away, asked_of, mail_of}
+use Rattle.post_board.specs.BoardSteps.{Going, SeatState, noted, knows, knowing, after_ask, AskTells, learn, after_look, LookTells, after_taking}
+use Rattle.post_board.specs.BoardSteps.{TakeUpTells, ScanTells, after_post, front, GiveTells, after_refusing, RefuseTells, after_fetch, FetchTells}
+use Rattle.post_board.specs.BoardSteps.{after_rest, RestTells, RestEmptyTells}
 use Rattle.post_board.specs.declared.board_views.Known.{Known}
 use Rattle.post_board.specs.declared.board_views.OwnMailbox.{OwnMailbox}
 use Rattle.post_board.specs.declared.board_views.OwnMailbox.TheVariants.{Resting, Left, Filled, Emptied, Getting}

@@ -1,5 +1,6 @@
 -- What each call does to a plain board.
-use Rattle.std.proofs.Common.{◌≡◌, ℕ, ◌+◌, ◌-◌, ◌<◌, ◌≢◌, ◌⊎◌, inl, inr, ⊎_elim, refl, sym, subst, ap, ◌∙◌, arith, Bool, true, false, cond, nat_lt, List, length, map, replicate, set, get_or, get_or-set_same, get_or-set_other, length-set, Option, Some, None}
+use Rattle.std.proofs.Common.{◌≡◌, ℕ, ◌+◌, ◌-◌, ◌<◌, ◌≢◌, ◌⊎◌, inl, inr, ⊎_elim, refl, sym, subst, ap, ◌∙◌, arith, Bool, true, false, cond, nat_lt}
+use Rattle.std.proofs.Common.{List, length, map, replicate, set, get_or, get_or-set_same, get_or-set_other, length-set, Option, Some, None}
 use Rattle.std.proofs.lemmas.List.{length-map}
 use Rattle.std.proofs.lemmas.Bool.Decides.{nat_tests}
 use mathlib.Core.Logic.{dite}
@@ -108,7 +109,8 @@ take_deed ranks token s x r b e holds seat live =
     (ap (λ (y : Place). put_place (told_of ranks token) s.number (record y { busy = true; tried = false; mail = vacant })) (mine ranks token s x e))
     refl refl refl (λ w q. no_more None w _ refl q)
     (λ k. unlike Rest (plain ranks s.number).mailbox k (λ q. cc)
-    (λ q. (let d : (plain ranks s.number).mailbox ≡ Holds r b = ap (λ (y : PlainRank). y.mailbox) (sym e) ∙ holds in let f : Holds r b ≡ Served k = sym d ∙ q in cc)))
+    (λ q. (let d : (plain ranks s.number).mailbox ≡ Holds r b = ap (λ (y : PlainRank). y.mailbox) (sym e) ∙ holds in
+    let f : Holds r b ≡ Served k = sym d ∙ q in cc)))
     (refl, m.1, refl, m.3, refl) seat.0.here (λ o ne h. h))
 
 pub none_deed : (ranks : List PlainRank) (token : Token) (s : PlainSeat) (x : PlainRank) (r : ℕ) → x ≡ plain ranks s.number → x.mailbox ≡ Refused r
@@ -126,7 +128,8 @@ none_deed ranks token s x r e refused seat live =
     (ap (λ (y : Place). put_place (told_of ranks token) s.number (record y { tried = true; mail = vacant })) (mine ranks token s x e))
     refl refl refl (λ w q. no_more None w _ refl q)
     (λ k. unlike Rest (plain ranks s.number).mailbox k (λ q. cc)
-    (λ q. (let d : (plain ranks s.number).mailbox ≡ Refused r = ap (λ (y : PlainRank). y.mailbox) (sym e) ∙ refused in let f : Refused r ≡ Served k = sym d ∙ q in cc)))
+    (λ q. (let d : (plain ranks s.number).mailbox ≡ Refused r = ap (λ (y : PlainRank). y.mailbox) (sym e) ∙ refused in
+    let f : Refused r ≡ Served k = sym d ∙ q in cc)))
     (m.0, m.1, refl, m.3, refl) seat.0.here (λ o ne h. h))
 
 pub over_deed : (ranks : List PlainRank) (token : Token) (s : PlainSeat) (x : PlainRank) → x ≡ plain ranks s.number → token ≡ Over
@@ -156,7 +159,8 @@ pass_mixed ranks token s x e seat live rest here tried above =
     let m = matching ranks token s x e seat.0 in
     let at : token ≡ At s.number (token_of (shown_by s)) = here_is s.here s.number token here seat.0.here in
     let colour : (place (told_of ranks token) s.number).colour ≡ s.colour = ap (λ (y : Place). y.colour) (told_place ranks token s.number) ∙ seat.0.matches.1 in
-    own (pass (mixed (shown_by s))) ranks token (At (s.number - 1) (mixed (shown_by s))) s (record s { colour = White; here = None }) (record x { colour = White }) seat (
+    own (pass (mixed (shown_by s))) ranks token (At (s.number - 1) (mixed (shown_by s))) s (record s { colour = White; here = None })
+    (record x { colour = White }) seat (
       acts ranks token s seat live,
       above,
       lazy ranks token s seat tried,
@@ -208,7 +212,8 @@ restart_deed ranks token s x e seat live rest here tried first black =
       token =
           At (length (map place_of ranks) - 1) White;
     }) (mine ranks token s x e)
-    ∙ ap (λ (n : ℕ). record (put_place (told_of ranks token) s.number (record (place_of x) { busy = false; colour = White })) { token = At (n - 1) White }) count)
+    ∙ ap (λ (n : ℕ). record (put_place (told_of ranks token) s.number (record (place_of x) { busy = false; colour = White }))
+    { token = At (n - 1) White }) count)
     refl refl refl seat.0.away (λ k. alike_same x.mailbox (plain ranks s.number).mailbox k (ap (λ (y : PlainRank). y.mailbox) e))
     (refl, refl, m.2, m.3, m.4) tt (λ o ne h. not_here o token _ s.number _ ne at h)
 
@@ -250,14 +255,18 @@ pub over_quiet : (ranks : List PlainRank) (token : Token) (s : PlainSeat) → Is
 over_quiet ranks token s seat over =
     let t : Told = told_of ranks token in
     let quiet : PictureInvariant (length t.places) (picture t) Over = subst (PictureInvariant (length t.places) (picture t)) over seat.1.token in
-    not_true s.busy (λ b. quiet s.number (inside ranks s.number seat.0.inside, inl (ap (λ (y : Place). y.busy) (told_place ranks token s.number) ∙ seat.0.matches.0 ∙ b)))
+    not_true s.busy (λ b. quiet s.number (
+      inside ranks s.number seat.0.inside,
+      inl (ap (λ (y : Place). y.busy) (told_place ranks token s.number) ∙ seat.0.matches.0 ∙ b),
+    ))
 
 -- no seat serves itself
 apart : (a : Option ℕ) (me to : ℕ) → ((v : ℕ) → a ≡ Some v → v ≢ me) → to ≡ me → OwnFits a (Served me) → ⊥
 apart None me to away e fits = cc
 apart (Some v) me to away e fits = away v refl (sym fits)
 
-pub not_self : (ranks : List PlainRank) (token : Token) (s : PlainSeat) (to : ℕ) → Fits ranks token s → (plain ranks to).mailbox ≡ Served s.number → to ≢ s.number
+pub not_self : (ranks : List PlainRank) (token : Token) (s : PlainSeat) (to : ℕ) → Fits ranks token s → (plain ranks to).mailbox ≡ Served s.number
+    → to ≢ s.number
 not_self ranks token s to fits lies same =
     apart s.asked s.number to (λ v e. (fits.away v e).1) same
     (subst (OwnFits s.asked) (subst (λ (k : ℕ). (plain ranks k).mailbox ≡ Served s.number) same lies) fits.matches.4)
@@ -267,7 +276,8 @@ beyond ranks r k lies = dite (dec_le (length ranks) r)
     (λ h. (let e : plain ranks r ≡ no_rank = get_or-eq_default ranks no_rank h in let d : Rest ≡ Served k = sym (ap (λ (y : PlainRank). y.mailbox) e)
     ∙ lies in cc)) (λ h. omega arith)
 
-pub serves_below : (ranks : List PlainRank) (token : Token) (s : PlainSeat) (to : ℕ) → Fits ranks token s → get_or s.serves.items to false ≡ true → to < length ranks
+pub serves_below : (ranks : List PlainRank) (token : Token) (s : PlainSeat) (to : ℕ) → Fits ranks token s → get_or s.serves.items to false ≡ true
+    → to < length ranks
 serves_below ranks token s to fits serves = beyond ranks to s.number (fits.serves to serves)
 
 -- another rank's mailbox changes under the hand of the rank me
@@ -306,7 +316,13 @@ Serving s s' r b = (s'.number ≡ s.number) × (s'.n ≡ s.n) × (s'.serves.item
     (s'.busy ≡ s.busy) × (s'.colour ≡ s.colour) × (s'.tried ≡ s.tried) × (s'.ended ≡ s.ended)
 
 rematch : (z : PlainRank) (s s' : PlainSeat) (r : ℕ) (b : Bool) → Serving s s' r b → Match z s → Match z s'
-rematch z s s' r b same m = (m.0 ∙ sym same.5, m.1 ∙ sym same.6, m.2 ∙ sym same.7, m.3 ∙ sym same.8, subst (λ (a : Option ℕ). OwnFits a z.mailbox) (sym same.3) m.4)
+rematch z s s' r b same m = (
+  m.0 ∙ sym same.5,
+  m.1 ∙ sym same.6,
+  m.2 ∙ sym same.7,
+  m.3 ∙ sym same.8,
+  subst (λ (a : Option ℕ). OwnFits a z.mailbox) (sym same.3) m.4,
+)
 
 told_mailbox : (ranks : List PlainRank) (token : Token) (to : ℕ) (y : PlainRank) → y ≡ plain ranks to → place (told_of ranks token) to ≡ place_of y
 told_mailbox ranks token to y e = told_place ranks token to ∙ ap place_of (sym e)
@@ -359,7 +375,8 @@ give_deed ranks token s s' c x y to b ex ec ey seat live serves busy same =
     let y_lies : y.mailbox ≡ Served me = ap (λ (z : PlainRank). z.mailbox) (ey ∙ was) ∙ lies in
     let h : to < length ranks = beyond ranks to me lies in
     let hm : to < length mid = simp length-set h in
-    let alike : (k : ℕ) → Alike x1.mailbox (plain ranks me).mailbox k = λ k. alike_same x.mailbox (plain ranks me).mailbox k (ap (λ (z : PlainRank). z.mailbox) ex) in
+    let alike : (k : ℕ) → Alike x1.mailbox (plain ranks me).mailbox k = λ k. alike_same x.mailbox (plain ranks me).mailbox k
+    (ap (λ (z : PlainRank). z.mailbox) ex) in
     let m : Match x s = matching ranks token s x ex seat.0 in
     let m1 : Match x1 s1 = (m.0, refl, m.2, m.3, m.4) in
     let fits1 : Fits mid token s1 =
@@ -488,4 +505,5 @@ asks_mail ranks token me r w = ap (λ (y : Place). y.mail) (told_place ranks tok
 pub unserved : (ranks : List PlainRank) (token : Token) (s : PlainSeat) (r : ℕ) → Fits ranks token s → wants (plain ranks r).mailbox s.number ≡ true
     → get_or s.serves.items r false ≡ false
 unserved ranks token s r fits w =
-    not_true (get_or s.serves.items r false) (λ t. (let a : Wants s.number ≡ Served s.number = sym (wants_is (plain ranks r).mailbox s.number w) ∙ fits.serves r t in cc))
+    not_true (get_or s.serves.items r false) (λ t. (let a : Wants s.number ≡ Served s.number = sym (wants_is (plain ranks r).mailbox s.number w)
+    ∙ fits.serves r t in cc))

@@ -1,5 +1,6 @@
 -- Replacing one rank of a plain board.
-use Rattle.std.proofs.Common.{◌≡◌, ℕ, ◌<◌, ◌≢◌, refl, sym, subst, ap, ◌∙◌, arith, Bool, true, false, List, length, map, replicate, set, get_or, get_or-set_same, get_or-set_other, length-set, Option, Some}
+use Rattle.std.proofs.Common.{◌≡◌, ℕ, ◌<◌, ◌≢◌, refl, sym, subst, ap, ◌∙◌, arith, Bool, true, false, List, length, map, replicate, set, get_or}
+use Rattle.std.proofs.Common.{get_or-set_same, get_or-set_other, length-set, Option, Some}
 use Rattle.std.proofs.lemmas.List.{map-set}
 use Rattle.std.proofs.Math.ListN.{get_or-map}
 use mathlib.Core.Logic.{dite}
@@ -25,8 +26,10 @@ pub record After (me : ℕ) (d : Deed) (ranks : List PlainRank) (token : Token) 
 pub told_put : (ranks : List PlainRank) (token token' : Token) (r : ℕ) (x : PlainRank)
     → told_of (set ranks r x) token' ≡ record (put_place (told_of ranks token) r (place_of x)) { token = token' }
 told_put ranks token token' r x =
-    ap (λ (ss : List Place). record { places = ss; token = token'; halt = false; stops = replicate (length (set ranks r x)) false }) (map-set place_of ranks r x)
-    ∙ ap (λ (n : ℕ). record { places = set (map place_of ranks) r (place_of x); token = token'; halt = false; stops = replicate n false }) (length-set ranks r x)
+    ap (λ (ss : List Place). record { places = ss; token = token'; halt = false; stops = replicate (length (set ranks r x)) false })
+    (map-set place_of ranks r x)
+    ∙ ap (λ (n : ℕ). record { places = set (map place_of ranks) r (place_of x); token = token'; halt = false; stops = replicate n false })
+    (length-set ranks r x)
 
 pub told_place : (ranks : List PlainRank) (token : Token) (r : ℕ) → place (told_of ranks token) r ≡ place_of (plain ranks r)
 told_place ranks token r = get_or-map place_of ranks r no_rank
@@ -38,7 +41,8 @@ Alike d e k = (d ≡ Served k → e ≡ Served k) × (e ≡ Served k → d ≡ S
 -- a seat that serves as before, where one rank is replaced
 pub frame : (ranks : List PlainRank) (token token' : Token) (r : ℕ) (x : PlainRank) (o o' : PlainSeat) → r < length ranks → Fits ranks token o
     → o'.number ≡ o.number → o'.n ≡ o.n → o'.serves.items ≡ o.serves.items → ((v : ℕ) → o'.asked ≡ Some v → (v < length ranks) × (v ≢ o.number))
-    → Alike x.mailbox (plain ranks r).mailbox o.number → Match (plain (set ranks r x) o.number) o' → HereFits o'.here o.number token' → Fits (set ranks r x) token' o'
+    → Alike x.mailbox (plain ranks r).mailbox o.number → Match (plain (set ranks r x) o.number) o' → HereFits o'.here o.number token'
+    → Fits (set ranks r x) token' o'
 frame ranks token token' r x o o' h fits number n serves away alike match here =
     let size : length (set ranks r x) ≡ length ranks = length-set ranks r x in
     let numbered : (P : ℕ → Type 0) → P o.number → P o'.number = λ P p. subst P (sym number) p in
@@ -52,7 +56,8 @@ frame ranks token token' r x o o' h fits number n serves away alike match here =
           (let old : (plain ranks k).mailbox ≡ Served o.number = fits.serves k (ap (λ (xs : List Bool). get_or xs k false) (sym serves) ∙ e) in
           dite (ℕ_discrete k r)
           (λ q. subst (λ (j : ℕ). (plain (set ranks r x) j).mailbox ≡ Served o.number) (sym q)
-          (ap (λ (y : PlainRank). y.mailbox) (get_or-set_same ranks r x no_rank h) ∙ alike.1 (subst (λ (j : ℕ). (plain ranks j).mailbox ≡ Served o.number) q old)))
+          (ap (λ (y : PlainRank). y.mailbox) (get_or-set_same ranks r x no_rank h)
+          ∙ alike.1 (subst (λ (j : ℕ). (plain ranks j).mailbox ≡ Served o.number) q old)))
           (λ ne. ap (λ (y : PlainRank). y.mailbox) (get_or-set_other ranks r k x no_rank ne) ∙ old));
       served = λ k e. ap (λ (xs : List Bool). get_or xs k false) serves ∙ fits.served k
           (let new : (plain (set ranks r x) k).mailbox ≡ Served o.number = subst (λ (m : ℕ). (plain (set ranks r x) k).mailbox ≡ Served m) number e in
@@ -65,7 +70,8 @@ frame ranks token token' r x o o' h fits number n serves away alike match here =
     }
 
 -- a seat that serves the rank r from now on, or no more
-pub reserve : (ranks : List PlainRank) (token : Token) (r : ℕ) (x : PlainRank) (b : Bool) (o o' : PlainSeat) → r < length ranks → r ≢ o.number → Fits ranks token o
+pub reserve : (ranks : List PlainRank) (token : Token) (r : ℕ) (x : PlainRank) (b : Bool) (o o' : PlainSeat) → r < length ranks → r ≢ o.number
+    → Fits ranks token o
     → o'.number ≡ o.number → o'.n ≡ o.n → o'.serves.items ≡ set o.serves.items r b → o'.asked ≡ o.asked → o'.here ≡ o.here
     → (b ≡ true → x.mailbox ≡ Served o.number) → (x.mailbox ≡ Served o.number → b ≡ true) → Match (plain ranks o.number) o' → Fits (set ranks r x) token o'
 reserve ranks token r x b o o' h apart fits number n serves asks hears on off match =
@@ -82,7 +88,8 @@ reserve ranks token r x b o o' h apart fits number n serves asks hears on off ma
       serves = λ k e. numbered (λ m. (plain (set ranks r x) k).mailbox ≡ Served m)
           (let new : get_or (set o.serves.items r b) k false ≡ true = ap (λ (xs : List Bool). get_or xs k false) (sym serves) ∙ e in
           dite (ℕ_discrete k r)
-          (λ q. subst (λ (j : ℕ). (plain (set ranks r x) j).mailbox ≡ Served o.number) (sym q) (ap (λ (y : PlainRank). y.mailbox) (get_or-set_same ranks r x no_rank h)
+          (λ q. subst (λ (j : ℕ). (plain (set ranks r x) j).mailbox ≡ Served o.number) (sym q)
+          (ap (λ (y : PlainRank). y.mailbox) (get_or-set_same ranks r x no_rank h)
           ∙ on (sym (get_or-set_same o.serves.items r b false wide) ∙ subst (λ (j : ℕ). get_or (set o.serves.items r b) j false ≡ true) q new)))
           (λ ne. ap (λ (y : PlainRank). y.mailbox) (get_or-set_other ranks r k x no_rank ne)
           ∙ fits.serves k (sym (get_or-set_other o.serves.items r k b false ne) ∙ new)));
@@ -98,7 +105,8 @@ reserve ranks token r x b o o' h apart fits number n serves asks hears on off ma
     }
 
 -- a rank changes its own place, and maybe the token
-pub own : (d : Deed) (ranks : List PlainRank) (token token' : Token) (s s' : PlainSeat) (x : PlainRank) → IsSeat ranks token s → Legal s.number d (told_of ranks token)
+pub own : (d : Deed) (ranks : List PlainRank) (token token' : Token) (s s' : PlainSeat) (x : PlainRank) → IsSeat ranks token s
+    → Legal s.number d (told_of ranks token)
     → told_after s.number d (told_of ranks token) ≡ record (put_place (told_of ranks token) s.number (place_of x)) { token = token' }
     → s'.number ≡ s.number → s'.n ≡ s.n → s'.serves.items ≡ s.serves.items → ((v : ℕ) → s'.asked ≡ Some v → (v < length ranks) × (v ≢ s.number))
     → ((k : ℕ) → Alike x.mailbox (plain ranks s.number).mailbox k) → Match x s' → HereFits s'.here s.number token'

@@ -1,5 +1,6 @@
 -- A board on which no rank has done anything, and its seats.
-use Rattle.std.proofs.Common.{◌≡◌, ℕ, zero, suc, ◌<◌, ◌≤◌, ◌≢◌, ◌∷◌, inr, refl, sym, subst, ap, ◌∙◌, arith, Bool, true, false, List, length, map, replicate, get_or, Option, Some, None}
+use Rattle.std.proofs.Common.{◌≡◌, ℕ, zero, suc, ◌<◌, ◌≤◌, ◌≢◌, ◌∷◌, inr, refl, sym, subst, ap, ◌∙◌, arith, Bool, true, false, List, length, map}
+use Rattle.std.proofs.Common.{replicate, get_or, Option, Some, None}
 use Rattle.std.proofs.lemmas.List.{length-replicate, get_or-replicate, get_or_past}
 use mathlib.Core.Logic.{dite}
 use native.Mathlib.Decide.{dec_le}

@@ -1,5 +1,6 @@
 -- A step at the seat of id keeps the picture sound, and what seats know of the token.
-use Rattle.std.proofs.Common.{◌≡◌, ℕ, ◌-◌, ◌<◌, ◌≢◌, ◌⊎◌, inl, inr, ⊎_elim, refl, sym, subst, ap, ◌∙◌, arith, Bool, true, false, cond, nat_lt, eq-eqb, [], length, Option, Some, None}
+use Rattle.std.proofs.Common.{◌≡◌, ℕ, ◌-◌, ◌<◌, ◌≢◌, ◌⊎◌, inl, inr, ⊎_elim, refl, sym, subst, ap, ◌∙◌, arith, Bool, true, false, cond, nat_lt, eq-eqb}
+use Rattle.std.proofs.Common.{[], length, Option, Some, None}
 use Rattle.ring_core.specs.Picture.{put, PictureInvariant, is_filled}
 use Rattle.ring_core.specs.World.{darker, is_over}
 use Rattle.ring_core.specs.Step.{is_at}

@@ -1,5 +1,6 @@
 -- The steps on the ring: load ring, pass, restart, conclude.
-use Rattle.std.proofs.Common.{◌≡◌, ℕ, ◌-◌, ◌<◌, ◌⊎◌, inl, inr, ⊎_elim, refl, sym, subst, ap, ◌∙◌, arith, Bool, true, false, cond, get_or, set, length-set, ◌==◌, Option, Some, None}
+use Rattle.std.proofs.Common.{◌≡◌, ℕ, ◌-◌, ◌<◌, ◌⊎◌, inl, inr, ⊎_elim, refl, sym, subst, ap, ◌∙◌, arith, Bool, true, false, cond, get_or, set}
+use Rattle.std.proofs.Common.{length-set, ◌==◌, Option, Some, None}
 use Rattle.std.proofs.lemmas.Bool.{eqb-true}
 use lib.ListN.{get_elem?}
 use Rattle.atomic_table.specs.Table.{step, keeps, Allows}
@@ -15,7 +16,8 @@ use Rattle.post_board.specs.Plain.{HereFits}
 use Rattle.post_board.specs.Words.{Sign, resting, token_read, word_of_token}
 use Rattle.post_board.proofs.WordLemmas.{token_of_word}
 use Rattle.post_board.specs.BoardRule.{TableState, MailboxFacts, RingFacts, HaltFacts, Moment, Rule, signs_in, slots_in, token_in, halt_in, stops_in, OwnFits}
-use Rattle.post_board.specs.BoardSteps.{Going, SeatState, noted, knows, knowing, heard_at, RingTells, after_pass, PassTells, after_restart, RestartTells, after_conclude, ConcludeTells}
+use Rattle.post_board.specs.BoardSteps.{Going, SeatState, noted, knows, knowing, heard_at, RingTells, after_pass, PassTells, after_restart}
+use Rattle.post_board.specs.BoardSteps.{RestartTells, after_conclude, ConcludeTells}
 use Rattle.post_board.specs.declared.board_views.Known.{Known}
 use Rattle.post_board.specs.declared.board_views.OwnMailbox.{OwnMailbox}
 use Rattle.post_board.specs.declared.board_views.OwnMailbox.TheVariants.{Resting}

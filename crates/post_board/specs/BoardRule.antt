@@ -1,8 +1,12 @@
 -- The rule of a board of atomic words: all that holds between any two steps, whatever the threads do.
--- A board has the words 0 (the ring, where the token lies), r + 1 (the mailbox of rank r), n + 1 (the halt) and n + 2 (the stops, one bit a rank), and the slot r, in which a batch for rank r waits.
--- Of each rank the rule speaks by what its seat knows (`Known`), which changes only at a step of that seat. The token, busy and colour are EWD840's (Dijkstra, Feijen, van Gasteren); mailboxes, slots, halt and stops are our own.
--- The rule has three parts: `MailboxFacts` (the words and slots of mailboxes, and the history of batches), `RingFacts` (the picture with the token) and `HaltFacts` (halt and stops, which no call sets yet).
-use Rattle.std.specs.Prelude.{All, ◌≡◌, ◌≢◌, ℕ, ◌+◌, ◌<◌, ◌≤◌, ◌⊎◌, ◌==◌, nat_lt, Bool, true, false, if◌then◌else◌, List, [], ◌∷◌, ◌++◌, length, map, slice_index, slice_index_or, replicate, Option, Some, None}
+-- A board has the words 0 (the ring, where the token lies), r + 1 (the mailbox of rank r), n + 1 (the halt) and n + 2 (the stops, one bit a
+-- rank), and the slot r, in which a batch for rank r waits.
+-- Of each rank the rule speaks by what its seat knows (`Known`), which changes only at a step of that seat. The token, busy and colour are
+-- EWD840's (Dijkstra, Feijen, van Gasteren); mailboxes, slots, halt and stops are our own.
+-- The rule has three parts: `MailboxFacts` (the words and slots of mailboxes, and the history of batches), `RingFacts` (the picture with
+-- the token) and `HaltFacts` (halt and stops, which no call sets yet).
+use Rattle.std.specs.Prelude.{All, ◌≡◌, ◌≢◌, ℕ, ◌+◌, ◌<◌, ◌≤◌, ◌⊎◌, ◌==◌, nat_lt, Bool, true, false, if◌then◌else◌, List, [], ◌∷◌, ◌++◌, length, map}
+use Rattle.std.specs.Prelude.{slice_index, slice_index_or, replicate, Option, Some, None}
 use Rattle.std.specs.List.{range_with_len}
 use mathlib.Core.Option.{none, some}
 use mathlib.Core.Option as Core

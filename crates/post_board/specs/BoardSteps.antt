@@ -1,4 +1,5 @@
--- What each step of a board of atomic words tells the call that makes it: of the step, the seat before, the number found and the seat after. Our own. Private clauses alone cite this, and `LateSteps`.
+-- What each step of a board of atomic words tells the call that makes it: of the step, the seat before, the number found and the seat
+-- after. Our own. Private clauses alone cite this, and `LateSteps`.
 use Rattle.std.specs.Prelude.{All, ◌≡◌, ◌≢◌, ℕ, ◌-◌, ◌<◌, ◌⊎◌, ◌==◌, nat_lt, Bool, true, false, if◌then◌else◌, List, [], ◌∷◌, ◌++◌, slice_set, Some, None}
 use Rattle.atomic_table.specs.Table.{Me, Step, rest}
 use Rattle.ring_core.specs.World.{is_over}
@@ -99,7 +100,12 @@ RefuseTells st m r n = (sign r ≡ serving m.0.own.number) × (n ≡ (knows m.0 
 -- fetch
 abbrev pub after_fetch : Known → ℕ → ℕ → ℕ → Strings → Known
 after_fetch v from word found b =
-    record (noted v word found (word_of (fetching from))) { busy = true; tried = false; own = Getting from; taken = slice_set v.taken from (taken v from ++ b ∷ []) }
+    record (noted v word found (word_of (fetching from))) {
+      busy = true;
+      tried = false;
+      own = Getting from;
+      taken = slice_set v.taken from (taken v from ++ b ∷ []);
+    }
 
 abbrev pub FetchTells : Telling
 FetchTells st m r n = (from : ℕ) → m.0.own.own ≡ Filled from
@@ -110,7 +116,8 @@ abbrev pub after_rest : Known → ℕ → ℕ → Bool → Known
 after_rest v word found tried = record (noted v word found (word_of resting)) { own = Resting; tried = tried }
 
 abbrev pub RestTells : Telling
-RestTells st m r n = ((from : ℕ) → m.0.own.own ≡ Getting from → sign r ≡ fetching from) × (n ≡ (knows m.0 (after_rest m.0.own st.word r m.0.own.tried), rest m.1))
+RestTells st m r n = ((from : ℕ) → m.0.own.own ≡ Getting from → sign r ≡ fetching from)
+    × (n ≡ (knows m.0 (after_rest m.0.own st.word r m.0.own.tried), rest m.1))
 
 abbrev pub RestEmptyTells : Telling
 RestEmptyTells st m r n = ((from : ℕ) → m.0.own.own ≡ Emptied from → sign r ≡ emptied from) × (n ≡ knowing m (after_rest m.0.own st.word r true))

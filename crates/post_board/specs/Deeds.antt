@@ -1,5 +1,6 @@
 -- What a rank does to a board by a call, as an event of the ranks' world, with the batch that goes with it.
--- Passing, restarting, concluding and blackening are EWD840's (Dijkstra, Feijen, van Gasteren); asking and giving through mailboxes are our own, after libcircle's work stealing.
+-- Passing, restarting, concluding and blackening are EWD840's (Dijkstra, Feijen, van Gasteren); asking and giving through mailboxes are our
+-- own, after libcircle's work stealing.
 use Rattle.std.specs.Prelude.{◌≡◌, ◌≢◌, ℕ, ◌-◌, ◌<◌, ◌⊎◌, nat_lt, true, false, if◌then◌else◌, length, Option, Some, None}
 use Rattle.ring_core.specs.World.{darker}
 use Rattle.ring_core.specs.declared.states.Colour.{Colour}

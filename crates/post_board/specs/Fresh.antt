@@ -1,4 +1,5 @@
--- How the ranks of a board begin: busy and white, with the token black at rank 0. The start of EWD840 (Dijkstra, Feijen, van Gasteren); mailboxes and seats are our own.
+-- How the ranks of a board begin: busy and white, with the token black at rank 0. The start of EWD840 (Dijkstra, Feijen, van Gasteren);
+-- mailboxes and seats are our own.
 use Rattle.std.specs.Prelude.{◌≡◌, ℕ, ◌<◌, true, false, List, length, slice_index_or, replicate, Option, None}
 use Rattle.ring_core.specs.declared.states.Colour.TheVariants.{White, Black}
 use Rattle.ring_core.specs.declared.states.Token.TheVariants.{At}

@@ -1,4 +1,5 @@
--- The steps that no call makes yet, by which all ranks are told to halt, and one that waits for a rank that has stopped takes its request back. The rule keeps them already. Our own.
+-- The steps that no call makes yet, by which all ranks are told to halt, and one that waits for a rank that has stopped takes its request
+-- back. The rule keeps them already. Our own.
 use Rattle.std.specs.Prelude.{◌≡◌, ◌≢◌, ℕ, ◌+◌, ◌^◌, ◌⊎◌, ◌==◌, Bool, true, false, if◌then◌else◌, bit_or, None}
 use prog.Atomic.{either}
 use mathlib.Core.Option.{none}

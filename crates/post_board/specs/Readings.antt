@@ -63,7 +63,8 @@ NoneAsked me k steps = (map (λ x. x.word) steps ≡ others_below me k) × All (
 abbrev pub RequestSteps : Shown → Option ℕ → Steps
 RequestSteps s None steps = NoneAsked s.number s.n steps
 RequestSteps s (Some r) steps =
-    (before : List Reading) × (x : Reading) × NoneAsked s.number r before × Step (r + 1) (Is (asking s.number)) (Is (serving s.number)) x × (steps ≡ before ++ x ∷ [])
+    (before : List Reading) × (x : Reading) × NoneAsked s.number r before × Step (r + 1) (Is (asking s.number)) (Is (serving s.number)) x
+    × (steps ≡ before ++ x ∷ [])
 
 abbrev pub GiveSteps : Shown → ℕ → Steps
 GiveSteps s to = One (Step (to + 1) (Is (serving s.number)) (Is (full s.number)))

@@ -1,4 +1,5 @@
--- What a board may tell: its picture, with the batch in each mailbox. Busy, colour and token are EWD840's (Dijkstra, Feijen, van Gasteren); the mailboxes are our own.
+-- What a board may tell: its picture, with the batch in each mailbox. Busy, colour and token are EWD840's (Dijkstra, Feijen, van Gasteren);
+-- the mailboxes are our own.
 use Rattle.std.specs.Prelude.{◌≡◌, ◌≢◌, ℕ, ◌<◌, Bool, true, false, List, length, slice_set, slice_index_or}
 use Rattle.ring_core.specs.Picture.{Mailbox, at_rest, asked_of, filled_by, refused_by, RankPicture, Picture, PictureInvariant}
 use Rattle.ring_core.specs.declared.states.Colour.{Colour}

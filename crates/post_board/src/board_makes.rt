@@ -57,9 +57,11 @@ impl Board {
         number: u32,
     ) -> Seat<Option<Batch>, View>
         requires fits { first.old.table_id ≡ self.now.table.shared.table_id }
-        requires next { (0 < number) × (first.old.me.0.made ≡ number) × (first.old.me.0.own.n ≡ self.now.n) × (number < self.now.n) × (first.old.me.0.live ≡ true) }
+        requires next { (0 < number) × (first.old.me.0.made ≡ number) × (first.old.me.0.own.n ≡ self.now.n) × (number < self.now.n)
+            × (first.old.me.0.live ≡ true) }
         ensures first { (first.new.table_id ≡ first.old.table_id) × (first.new.me ≡ (dealing first.old.me.0, first.old.me.1)) }
-        ensures seat { (result.table_id ≡ first.old.table_id) × (result.me.1 ≡ []) × (result.me.0.own ≡ fresh self.now.n number) × (result.me.0.live ≡ true) × (result.me.0.kept ≡ []) }
+        ensures seat { (result.table_id ≡ first.old.table_id) × (result.me.1 ≡ []) × (result.me.0.own ≡ fresh self.now.n number)
+            × (result.me.0.live ≡ true) × (result.me.0.kept ≡ []) }
     {
         self.table.shared.split_seat::<Deal>(first)
     }

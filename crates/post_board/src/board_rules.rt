@@ -1,6 +1,7 @@
 //! The rule of a board's table, and each kind of step with what it tells the call that makes it. They have no values.
 ghost use Rattle.post_board.specs.BoardRule.{Rule, opened, dealing, dealt_out, both, spent};
-ghost use Rattle.post_board.specs.BoardSteps.{AskTells, LookTells, TakeUpTells, ScanTells, GiveTells, RefuseTells, FetchTells, RestTells, RestEmptyTells, RingTells, PassTells, RestartTells, ConcludeTells, LastLookTells};
+ghost use Rattle.post_board.specs.BoardSteps.{AskTells, LookTells, TakeUpTells, ScanTells, GiveTells, RefuseTells, FetchTells, RestTells};
+ghost use Rattle.post_board.specs.BoardSteps.{RestEmptyTells, RingTells, PassTells, RestartTells, ConcludeTells, LastLookTells};
 
 use crate::board_views::View;
 use atomic_table::{Join, Play, Split, TableRule};

@@ -12,7 +12,8 @@ ghost use Rattle.ring_core.specs.declared.states.Token.TheVariants.{At, Over};
 ghost use Rattle.post_board.specs.Shown.{Strings};
 ghost use Rattle.post_board.specs.Words.{sign, resting, asking, serving, full, fetching, emptied, word_of, token_read, word_of_token};
 ghost use Rattle.post_board.specs.BoardRule.{serves, OwnFits};
-ghost use Rattle.post_board.specs.BoardSteps.{SeatState, noted, knows, knowing, after_ask, after_look, after_taking, front, after_post, after_refusing, after_fetch, after_rest, heard_at, after_pass, after_restart, after_conclude};
+ghost use Rattle.post_board.specs.BoardSteps.{SeatState, noted, knows, knowing, after_ask, after_look, after_taking, front, after_post};
+ghost use Rattle.post_board.specs.BoardSteps.{after_refusing, after_fetch, after_rest, heard_at, after_pass, after_restart, after_conclude};
 ghost use Rattle.post_board.specs.BoardWork.{Mine};
 ghost use Rattle.post_board.specs.declared.board_views.OwnMailbox.TheVariants.{Resting, Open, Left, Filled, Emptied, Getting};
 
@@ -57,8 +58,10 @@ impl Board {
         requires mine { Mine self.now seat.old.table_id seat.old.me me }
         requires other { (r < self.now.n) × (r ≢ me) }
         ensures table { seat.new.table_id ≡ seat.old.table_id }
-        ensures hit { result ≡ true → (serves seat.old.me.0.own r ≡ false) × (seat.new.me ≡ (knows seat.old.me.0 (after_taking seat.old.me.0.own r (r + 1) (word_of (asking me))), (r, None) ∷ seat.old.me.1)) }
-        ensures miss { result ≡ false → (found : ℕ) × (found ≢ word_of (asking me)) × (seat.new.me ≡ knowing seat.old.me (noted seat.old.me.0.own (r + 1) found found)) }
+        ensures hit { result ≡ true → (serves seat.old.me.0.own r ≡ false)
+            × (seat.new.me ≡ (knows seat.old.me.0 (after_taking seat.old.me.0.own r (r + 1) (word_of (asking me))), (r, None) ∷ seat.old.me.1)) }
+        ensures miss { result ≡ false → (found : ℕ) × (found ≢ word_of (asking me))
+            × (seat.new.me ≡ knowing seat.old.me (noted seat.old.me.0.own (r + 1) found found)) }
     {
         let asks = 8 * (me as u64) + 1;
         let word = r as usize + 1;
@@ -86,8 +89,10 @@ impl Board {
         requires mine { Mine self.now seat.old.table_id seat.old.me me }
         requires other { (r < self.now.n) × (r ≢ me) }
         ensures table { seat.new.table_id ≡ seat.old.table_id }
-        ensures hit { result ≡ true → (serves seat.old.me.0.own r ≡ false) × (seat.new.me ≡ (knows seat.old.me.0 (after_taking seat.old.me.0.own r (r + 1) (word_of (asking me))), (r, None) ∷ seat.old.me.1)) }
-        ensures miss { result ≡ false → (found : ℕ) × (found ≢ word_of (asking me)) × (seat.new.me ≡ knowing seat.old.me (noted seat.old.me.0.own (r + 1) found found)) }
+        ensures hit { result ≡ true → (serves seat.old.me.0.own r ≡ false)
+            × (seat.new.me ≡ (knows seat.old.me.0 (after_taking seat.old.me.0.own r (r + 1) (word_of (asking me))), (r, None) ∷ seat.old.me.1)) }
+        ensures miss { result ≡ false → (found : ℕ) × (found ≢ word_of (asking me))
+            × (seat.new.me ≡ knowing seat.old.me (noted seat.old.me.0.own (r + 1) found found)) }
     {
         let found = self.scan_step(seat, me, r);
         if found != 8 * (me as u64) + 1 {
@@ -113,7 +118,8 @@ impl Board {
         requires busy { seat.old.me.0.own.busy ≡ true }
         requires slot { (b : Strings) × (seat.old.me.1 ≡ (to, Some b) ∷ rest seat.old.me.1) }
         ensures table { seat.new.table_id ≡ seat.old.table_id }
-        ensures after { (found : ℕ) × (sign found ≡ serving me) × (seat.new.me ≡ (knows seat.old.me.0 (after_post seat.old.me.0.own to (to + 1) found (front seat.old.me.1)), rest seat.old.me.1)) }
+        ensures after { (found : ℕ) × (sign found ≡ serving me)
+            × (seat.new.me ≡ (knows seat.old.me.0 (after_post seat.old.me.0.own to (to + 1) found (front seat.old.me.1)), rest seat.old.me.1)) }
     {
         let word = to as usize + 1;
         self.table
@@ -127,7 +133,8 @@ impl Board {
         requires to { (to < self.now.n) × (serves seat.old.me.0.own to ≡ true) }
         requires slot { seat.old.me.1 ≡ (to, None) ∷ rest seat.old.me.1 }
         ensures table { seat.new.table_id ≡ seat.old.table_id }
-        ensures after { (found : ℕ) × (sign found ≡ serving me) × (seat.new.me ≡ (knows seat.old.me.0 (after_refusing seat.old.me.0.own to (to + 1) found), rest seat.old.me.1)) }
+        ensures after { (found : ℕ) × (sign found ≡ serving me)
+            × (seat.new.me ≡ (knows seat.old.me.0 (after_refusing seat.old.me.0.own to (to + 1) found), rest seat.old.me.1)) }
     {
         let word = to as usize + 1;
         self.table
@@ -140,7 +147,8 @@ impl Board {
         requires mine { Mine self.now seat.old.table_id seat.old.me me }
         requires full { seat.old.me.0.own.own ≡ Filled from }
         ensures table { seat.new.table_id ≡ seat.old.table_id }
-        ensures after { (found : ℕ) × (b : Strings) × (sign found ≡ full from) × (seat.new.me ≡ (knows seat.old.me.0 (after_fetch seat.old.me.0.own from (me + 1) found b), (me, Some b) ∷ seat.old.me.1)) }
+        ensures after { (found : ℕ) × (b : Strings) × (sign found ≡ full from)
+            × (seat.new.me ≡ (knows seat.old.me.0 (after_fetch seat.old.me.0.own from (me + 1) found b), (me, Some b) ∷ seat.old.me.1)) }
     {
         let word = me as usize + 1;
         self.table
@@ -169,7 +177,8 @@ impl Board {
         requires gets { seat.old.me.0.own.own ≡ Getting from }
         requires slot { seat.old.me.1 ≡ (me, None) ∷ rest seat.old.me.1 }
         ensures table { seat.new.table_id ≡ seat.old.table_id }
-        ensures after { (found : ℕ) × (sign found ≡ fetching from) × (seat.new.me ≡ (knows seat.old.me.0 (after_rest seat.old.me.0.own (me + 1) found seat.old.me.0.own.tried), rest seat.old.me.1)) }
+        ensures after { (found : ℕ) × (sign found ≡ fetching from)
+            × (seat.new.me ≡ (knows seat.old.me.0 (after_rest seat.old.me.0.own (me + 1) found seat.old.me.0.own.tried), rest seat.old.me.1)) }
     {
         let word = me as usize + 1;
         self.table.shared.swap::<Rest>(seat, word, 0);

@@ -4,8 +4,10 @@ ghost use Rattle.ring_core.specs.declared.states.Colour.TheVariants.{White, Blac
 ghost use Rattle.ring_core.specs.declared.states.Token.TheVariants.{At, Over};
 ghost use Rattle.post_board.specs.Shown.{Shown, is_served, Live, Free, is_open, is_here, token_of, mixed};
 ghost use Rattle.post_board.specs.Told.{Told};
-ghost use Rattle.post_board.specs.Deeds.{ask as asking_of, give as giving_of, refuse as refusing_of, pass as passing_of, restart as restarting_of, conclude as concluding_of, Tells, Stays};
-ghost use Rattle.post_board.specs.Calls.{asking, answered, AnswerTold, serving, Found, LookedFor, given, served, hearing, RingTold, passed, restarted, concluded, NoneOnTheWay, AllDone, AllEven, AgreesIfTold};
+ghost use Rattle.post_board.specs.Deeds.{ask as asking_of, give as giving_of, refuse as refusing_of, pass as passing_of, restart as restarting_of};
+ghost use Rattle.post_board.specs.Deeds.{conclude as concluding_of, Tells, Stays};
+ghost use Rattle.post_board.specs.Calls.{asking, answered, AnswerTold, serving, Found, LookedFor, given, served, hearing, RingTold, passed};
+ghost use Rattle.post_board.specs.Calls.{restarted, concluded, NoneOnTheWay, AllDone, AllEven, AgreesIfTold};
 ghost use Rattle.post_board.specs.Readings.{Adds, AskSteps, AnswerSteps, RequestSteps, GiveSteps, RefuseSteps, RingSteps, TokenSteps};
 ghost use Rattle.post_board.specs.declared.answers.Reading.{Reading};
 ghost use Rattle.post_board.specs.declared.answers.Ring.TheVariants.{Over as HeardOver, Elsewhere as HeardElsewhere};
@@ -118,7 +120,8 @@ pub trait Post {
         ensures shown { shows seat.new ≡ passed (shows seat.old) }
         ensures told { Tells (shows seat.old).number (passing_of (mixed (shows seat.old))) (tells self.old) (tells self.new) }
         ensures still { tells self.old ≡ None → self.new ≡ self.old }
-        ensures reads { Adds (reads seat.old) (TokenSteps (At (shows seat.old).number (token_of (shows seat.old))) (At ((shows seat.old).number - 1) (mixed (shows seat.old)))) (reads seat.new) }
+        ensures reads { Adds (reads seat.old) (TokenSteps (At (shows seat.old).number (token_of (shows seat.old)))
+            (At ((shows seat.old).number - 1) (mixed (shows seat.old)))) (reads seat.new) }
         ensures mine { seats self.new seat.new }
         ensures others { (other : Self.Seat) → (shows other).number ≢ (shows seat.old).number → seats self.old other → seats self.new other };
 
@@ -134,7 +137,8 @@ pub trait Post {
         ensures shown { shows seat.new ≡ restarted (shows seat.old) }
         ensures told { Tells (shows seat.old).number restarting_of (tells self.old) (tells self.new) }
         ensures still { tells self.old ≡ None → self.new ≡ self.old }
-        ensures reads { Adds (reads seat.old) (TokenSteps (At (shows seat.old).number (token_of (shows seat.old))) (At ((shows seat.old).n - 1) White)) (reads seat.new) }
+        ensures reads { Adds (reads seat.old) (TokenSteps (At (shows seat.old).number (token_of (shows seat.old)))
+            (At ((shows seat.old).n - 1) White)) (reads seat.new) }
         ensures mine { seats self.new seat.new }
         ensures others { (other : Self.Seat) → (shows other).number ≢ (shows seat.old).number → seats self.old other → seats self.new other };
 

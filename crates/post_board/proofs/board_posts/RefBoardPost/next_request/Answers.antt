@@ -1,4 +1,5 @@
-use Rattle.std.proofs.Common.{◌≡◌, ◌≢◌, ℕ, ◌+◌, ◌∙◌, ◌<◌, refl, sym, ap, subst, arith, true, false, append_assoc, map, length, get_or, set, get_or-set_other, length-set, length-append, sum_by, deque_capacity, deque_len, ◌≤◌, List, [], ◌∷◌, ◌++◌, Some, None}
+use Rattle.std.proofs.Common.{◌≡◌, ◌≢◌, ℕ, ◌+◌, ◌∙◌, ◌<◌, refl, sym, ap, subst, arith, true, false, append_assoc, map, length, get_or, set}
+use Rattle.std.proofs.Common.{get_or-set_other, length-set, length-append, sum_by, deque_capacity, deque_len, ◌≤◌, List, [], ◌∷◌, ◌++◌, Some, None}
 use Rattle.post_board.specs.Words.{asking, serving, word_of}
 use Rattle.post_board.proofs.WordLemmas.{sign_of_word}
 use Rattle.post_board.specs.declared.answers.Reading.{Reading}
