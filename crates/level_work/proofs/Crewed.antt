@@ -90,14 +90,14 @@ module _ {A P D : Type 0} (tree : P → Option Files) (area : P → Area) (part_
   crew_told d o level old new home (Some b) (Some r) None are s ready tells show same lost st told out back = tt
   crew_told d o level old new home (Some b) (Some r) (Some a) are s ready tells show same lost st told out back =
       one_level_told (part_tree tree) (part_area area) (deed d) o level items old new lots' b r a are (shares_worked o level old s)
-        (shares_told (part_tree tree) (part_area area) part_count plain count deed d o level items old lots lots' b r are s ready out before_work
-          (λ i lot at. show i lot.actor (map_get (λ (l : Lot A P). l.actor) lots i lot at))
-          (λ i lot' at. let h = same_place (λ (l : Lot A P). l.lost) home lots' (sym same.lost) i lot' at in sym h.same ∙ lost i h.it h.here)
-          (λ i t x lot at is. part_told i t x lot lot.part refl at is)
-          (λ q none i lot at. let y = after_work i lot at in ap (λ a. in_tops (tops_of a) q) (sym y.1.1.keeps.same_area) ∙ none i y.0 y.1.0))
-        (stored_over level items lots' home old new same st)
-        (λ k x f at has lev n. st.undealt k x f at has lev (λ dealt. n (let h = likes lots' home same dealt.share dealt.lot dealt.is_lot in record { share = dealt.share; place = dealt.place; lot = h.it; is_lot = h.here; at = subst (λ ps. slice_get ps dealt.place ≡ Some k) (sym h.same) dealt.at })))
-        back
+      (shares_told (part_tree tree) (part_area area) part_count plain count deed d o level items old lots lots' b r are s ready out before_work
+      (λ i lot at. show i lot.actor (map_get (λ (l : Lot A P). l.actor) lots i lot at))
+      (λ i lot' at. let h = same_place (λ (l : Lot A P). l.lost) home lots' (sym same.lost) i lot' at in sym h.same ∙ lost i h.it h.here)
+      (λ i t x lot at is. part_told i t x lot lot.part refl at is)
+      (λ q none i lot at. let y = after_work i lot at in ap (λ a. in_tops (tops_of a) q) (sym y.1.1.keeps.same_area) ∙ none i y.0 y.1.0))
+      (stored_over level items lots' home old new same st)
+      (λ k x f at has lev n. st.undealt k x f at has lev (λ dealt. n (let h = likes lots' home same dealt.share dealt.lot dealt.is_lot in record { share = dealt.share; place = dealt.place; lot = h.it; is_lot = h.here; at = subst (λ ps. slice_get ps dealt.place ≡ Some k) (sym h.same) dealt.at })))
+      back
     where
       part_told : (i t : ℕ) (x : Item) (lot : Lot A P) (p : Option P) → lot.part ≡ p → slice_get lots i ≡ Some lot → IsAt items lot.places.items t x → is_some (part_tree tree lot.part) ≡ true
       part_told i t x lot (Some p) e at is = tells i lot p at e
@@ -108,21 +108,25 @@ module _ {A P D : Type 0} (tree : P → Option Files) (area : P → Area) (part_
 
   pub crew_fates : (o : Order) (level : ℕ) (old new : List Fate) (home : List (Lot A P)) → AreShares o level items old lots → SameShares lots' home → Stored level items home old new → TellsLevel o level items old new
   crew_fates o level old new home s same st = record {
-      len = st.len;
-      others = st.others;
-      failed = λ k x f at has lev. by k x f at has lev ((shares_worked o level old s).all k x at lev);
-    }
+    len = st.len;
+    others = st.others;
+    failed = λ k x f at has lev. by k x f at has lev ((shares_worked o level old s).all k x at lev);
+  }
     where
       by : (k : ℕ) (x : Item) (f : Fate) → slice_get items k ≡ Some x → slice_get new k ≡ Some f → level_of x.path ≡ level → (FailsWith o items old x ⊎ Dealt lots' k) → (f ≡ fate.ParentFailed) ↔ FailsWith o items old x
-      by k x f at has lev (inl fails) = (λ _. fails, λ _. st.undealt k x f at has lev (λ dealt.
-          let h = likes lots' home same dealt.share dealt.lot dealt.is_lot in
-          let l = worked_like dealt.share h.it h.here in
-          s.can dealt.share dealt.place x (record { lot = l.it; is_lot = l.here; at = record { place = k; at = subst (λ ps. slice_get ps dealt.place ≡ Some k) (sym (l.same ∙ h.same)) dealt.at; is = at } }) fails))
+      by k x f at has lev (inl fails) = (
+        λ _. fails,
+        λ _. st.undealt k x f at has lev (λ dealt.
+            let h = likes lots' home same dealt.share dealt.lot dealt.is_lot in
+            let l = worked_like dealt.share h.it h.here in
+            s.can dealt.share dealt.place x (record { lot = l.it; is_lot = l.here; at = record { place = k; at = subst (λ ps. slice_get ps dealt.place ≡ Some k) (sym (l.same ∙ h.same)) dealt.at; is = at } }) fails),
+      )
       by k x f at has lev (inr d) =
           let w = before_work d.share d.lot d.is_lot in
-          let l = worked_like d.share d.lot d.is_lot in
-          (λ pf. absurd (w.did.named d.place f (sym (stored_over level items lots' home old new same st k d) ∙ has) pf),
-           λ fails. absurd (s.can d.share d.place x (record { lot = l.it; is_lot = l.here; at = record { place = k; at = subst (λ ps. slice_get ps d.place ≡ Some k) (sym l.same) d.at; is = at } }) fails))
+          let l = worked_like d.share d.lot d.is_lot in (
+            λ pf. absurd (w.did.named d.place f (sym (stored_over level items lots' home old new same st k d) ∙ has) pf),
+            λ fails. absurd (s.can d.share d.place x (record { lot = l.it; is_lot = l.here; at = record { place = k; at = subst (λ ps. slice_get ps d.place ≡ Some k) (sym l.same) d.at; is = at } }) fails),
+          )
 
   pub all_fates : (home : List (Lot A P)) → SameShares lots' home → ((i : ℕ) (lot : Lot A P) → slice_get home i ≡ Some lot → lot.lost ≡ false) → (i : ℕ) (lot : Lot A P) → slice_get home i ≡ Some lot → length lot.fates.items ≡ length lot.places.items
   all_fates home same lost i lot at =
@@ -146,7 +150,7 @@ module _ {A P D : Type 0} (tree : P → Option Files) (area : P → Area) (part_
           let w = before_work i lot' here in
           let own = told_own (part_tree tree) (part_area area) part_count plain count deed (part_tree tree w.lot.part) (sym w.did.keeps.tells ∙ ap is_some shows) in
           e ∙ opened (part_tree tree) (part_area area) part_count plain count deed (SameButFirst (length w.lot.places.items) items w.lot.places.items) (part_tree tree w.lot.part) (part_tree tree lot'.part) own.0 own' own.1 shows w.did.rest q
-                (λ j x l at. off at.place x at.is (s.on_level i j x (record { lot = w.lot; is_lot = w.here; at = at })))
+          (λ j x l at. off at.place x at.is (s.on_level i j x (record { lot = w.lot; is_lot = w.here; at = at })))
           ∙ out.out i w.lot own.0 q w.here own.1 (ap (λ a. in_tops (tops_of a) q) (sym w.did.keeps.same_area) ∙ on)
 
 -- nobody worked

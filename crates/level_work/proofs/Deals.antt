@@ -71,11 +71,11 @@ module _ {A P : Type 0} where
   -- no share has a place
   pub dealt_none : (o : Order) (items : List Item) (fates : List Fate) (places : List ℕ) (lots : List (Lot A P)) → ((i : ℕ) (lot : Lot A P) → slice_get lots i ≡ Some lot → lot.places.items ≡ []) → DealtTo 0 o items fates places lots
   dealt_none o items fates places lots empty = record {
-      from = λ i j k e. absurd (none i j k e);
-      can = λ i j k x e at fails. none i j k e;
-      once = λ i j s t k e f. absurd (none i j k e);
-      all = λ t k x l at is. absurd (omega (arith, l));
-    }
+    from = λ i j k e. absurd (none i j k e);
+    can = λ i j k x e at fails. none i j k e;
+    once = λ i j s t k e f. absurd (none i j k e);
+    all = λ t k x l at is. absurd (omega (arith, l));
+  }
     where
       nothing : (xs : List ℕ) (j k : ℕ) → xs ≡ [] → slice_get xs j ≡ Some k → ⊥
       nothing [] j k e s = cc
@@ -110,10 +110,10 @@ module _ {A P : Type 0} where
 
     still : (m : ℕ) → Dealt lots m → Dealt (slice_set lots i new) m
     still m e = elim (eqb e.share i) as (λ b. eqb e.share i ≡ b → Dealt (slice_set lots i new) m) [
-        | true ↦ λ is. let s = same_number e.share i is in let same : e.lot ≡ lot = same_some e.lot lot (sym e.is_lot ∙ ap (slice_get lots) s ∙ at) in
-            record { share = i; place = e.place; lot = new; is_lot = new_here; at = ap (λ ps. slice_get ps e.place) more ∙ get_front lot.places.items k m e.place (ap (λ (l : Lot A P). slice_get l.places.items e.place) (sym same) ∙ e.at) }
-        | false ↦ λ off. record { share = e.share; place = e.place; lot = e.lot; is_lot = get_set_other lots i e.share new (other_number e.share i off) ∙ e.is_lot; at = e.at }
-      ] refl
+      | true ↦ λ is. let s = same_number e.share i is in let same : e.lot ≡ lot = same_some e.lot lot (sym e.is_lot ∙ ap (slice_get lots) s ∙ at) in
+          record { share = i; place = e.place; lot = new; is_lot = new_here; at = ap (λ ps. slice_get ps e.place) more ∙ get_front lot.places.items k m e.place (ap (λ (l : Lot A P). slice_get l.places.items e.place) (sym same) ∙ e.at) }
+      | false ↦ λ off. record { share = e.share; place = e.place; lot = e.lot; is_lot = get_set_other lots i e.share new (other_number e.share i off) ∙ e.is_lot; at = e.at }
+    ] refl
 
     added : Dealt (slice_set lots i new) k
     added = record { share = i; place = length lot.places.items; lot = new; is_lot = new_here; at = ap (λ ps. slice_get ps (length lot.places.items)) more ∙ get_end lot.places.items k }
@@ -123,17 +123,17 @@ module _ {A P : Type 0} where
 
     pub dealt_more : ((x : Item) → slice_get items k ≡ Some x → FailsWith o items fates x → ⊥) → DealtTo (n + 1) o items fates places (slice_set lots i new)
     dealt_more can = record {
-        from = λ j t m e. from j t m (taken j t m e);
-        can = λ j t m x e is. may j t m x is (taken j t m e);
-        once = λ j t s u m e f. once j t s u m (taken j t m e) (taken s u m f);
-        all = λ t m x l is it. all t m x is it (elim (eqb t n) as (λ b. eqb t n ≡ b → (t ≡ n) ⊎ (t < n)) [ | true ↦ λ e. inl (same_number t n e) | false ↦ λ e. inr (early t l (other_number t n e)) ] refl);
-      }
+      from = λ j t m e. from j t m (taken j t m e);
+      can = λ j t m x e is. may j t m x is (taken j t m e);
+      once = λ j t s u m e f. once j t s u m (taken j t m e) (taken s u m f);
+      all = λ t m x l is it. all t m x is it (elim (eqb t n) as (λ b. eqb t n ≡ b → (t ≡ n) ⊎ (t < n)) [ true ↦ λ e. inl (same_number t n e) | false ↦ λ e. inr (early t l (other_number t n e)) ] refl);
+    }
       where
         early : (t : ℕ) → t < n + 1 → (t ≡ n → ⊥) → t < n
         early t l off = elim (nat_lt t n) as (λ b. nat_lt t n ≡ b → t < n) [
-            | true ↦ λ e. is_less t n e
-            | false ↦ λ e. absurd (off (let m = not_less t n e in omega (arith, l, m)))
-          ] refl
+          | true ↦ λ e. is_less t n e
+          | false ↦ λ e. absurd (off (let m = not_less t n e in omega (arith, l, m)))
+        ] refl
 
         from : (j t m : ℕ) → Taken lots i k lot j t m → IsAmong (n + 1) places m
         from j t m (was_in e) = widen n places m (d.from j t m e)
@@ -161,14 +161,14 @@ module _ {A P : Type 0} where
   pub dealt_skip : (o : Order) (items : List Item) (fates : List Fate) (places : List ℕ) (lots : List (Lot A P)) (n k : ℕ) → slice_get places n ≡ Some k → ((x : Item) → slice_get items k ≡ Some x → FailsWith o items fates x) →
       DealtTo n o items fates places lots → DealtTo (n + 1) o items fates places lots
   dealt_skip o items fates places lots n k next fails d = record {
-      from = λ j t m e. widen n places m (d.from j t m e);
-      can = d.can;
-      once = d.once;
-      all = λ t m x l is it. elim (nat_lt t n) as (λ b. nat_lt t n ≡ b → FailsWith o items fates x ⊎ Dealt lots m) [
-          | true ↦ λ e. d.all t m x (is_less t n e) is it
-          | false ↦ λ e. inl (fails x (ap (slice_get items) (same_some k m (sym next ∙ ap (slice_get places) (last t l (not_less t n e)) ∙ is)) ∙ it))
-        ] refl;
-    }
+    from = λ j t m e. widen n places m (d.from j t m e);
+    can = d.can;
+    once = d.once;
+    all = λ t m x l is it. elim (nat_lt t n) as (λ b. nat_lt t n ≡ b → FailsWith o items fates x ⊎ Dealt lots m) [
+      | true ↦ λ e. d.all t m x (is_less t n e) is it
+      | false ↦ λ e. inl (fails x (ap (slice_get items) (same_some k m (sym next ∙ ap (slice_get places) (last t l (not_less t n e)) ∙ is)) ∙ it))
+    ] refl;
+  }
     where
       last : (t : ℕ) → t < n + 1 → n ≤ t → n ≡ t
       last t l m = omega (arith, l, m)
@@ -176,15 +176,15 @@ module _ {A P : Type 0} where
   pub all_dealt : (o : Order) (level n : ℕ) (items : List Item) (fates : List Fate) (places : List ℕ) (lots : List (Lot A P)) → IsPreorder → UnderIsContiguous → AreItems items → AreOnLevel (length items) level items places → length places ≤ n →
       DealtTo n o items fates places lots → AreShares o level items fates lots
   all_dealt o level n items fates places lots pre cont are on l d = record {
-      inside = λ i j k lot is e. let a = d.from i j k (record { lot = lot; is_lot = is; at = e }) in on.below a.place k a.at;
-      on_level = λ i t x e. lev i t x e;
-      can = λ i t x e. d.can i t e.at.place x (dealt i t x e) e.at.is;
-      apart = λ i j t s x y other e f q within. elim (is_within q y.path) as (λ b. is_within q y.path ≡ b → b ≡ false) [
-          | true ↦ λ within'. absurd (other (same i j t s x y q e f within within'))
-          | false ↦ λ _. refl
-        ] refl;
-      all = λ k x is le. let a = on.all k x (slice_get_within items k x is) is le in d.all a.place k x (omega (arith, a.early, l)) a.at is;
-    }
+    inside = λ i j k lot is e. let a = d.from i j k (record { lot = lot; is_lot = is; at = e }) in on.below a.place k a.at;
+    on_level = λ i t x e. lev i t x e;
+    can = λ i t x e. d.can i t e.at.place x (dealt i t x e) e.at.is;
+    apart = λ i j t s x y other e f q within. elim (is_within q y.path) as (λ b. is_within q y.path ≡ b → b ≡ false) [
+      | true ↦ λ within'. absurd (other (same i j t s x y q e f within within'))
+      | false ↦ λ _. refl
+    ] refl;
+    all = λ k x is le. let a = on.all k x (slice_get_within items k x is) is le in d.all a.place k x (omega (arith, a.early, l)) a.at is;
+  }
     where
       dealt : (i t : ℕ) (x : Item) (e : InLot items lots i t x) → In lots i t e.at.place
       dealt i t x e = record { lot = e.lot; is_lot = e.is_lot; at = e.at.at }
@@ -226,20 +226,20 @@ one_place_more f n level items x levels v v' at lev has more w l places e = by (
 
     here_more : AreOnLevel (n + 1) level items (f v ++ n ∷ [])
     here_more = record {
-        on_level = λ j k y e' is. case_level j k y is (get_more (f v) n j k e');
-        below = λ j k e'. case_below j k (get_more (f v) n j k e');
-        once = λ i j k e' h. case_once i j k (get_more (f v) n i k e') (get_more (f v) n j k h);
-        all = λ k y less is le. case_all k y is le (elim (eqb k n) as (λ b. eqb k n ≡ b → (k ≡ n) ⊎ (k < n)) [ | true ↦ λ s. inl (same_number k n s) | false ↦ λ s. inr (smaller k less (other_number k n s)) ] refl);
-      }
+      on_level = λ j k y e' is. case_level j k y is (get_more (f v) n j k e');
+      below = λ j k e'. case_below j k (get_more (f v) n j k e');
+      once = λ i j k e' h. case_once i j k (get_more (f v) n i k e') (get_more (f v) n j k h);
+      all = λ k y less is le. case_all k y is le (elim (eqb k n) as (λ b. eqb k n ≡ b → (k ≡ n) ⊎ (k < n)) [ true ↦ λ s. inl (same_number k n s) | false ↦ λ s. inr (smaller k less (other_number k n s)) ] refl);
+    }
       where
         d : AreOnLevel n level items (f v)
         d = w level (f v) (map_get f levels level v has)
 
         smaller : (k : ℕ) → k < n + 1 → (k ≡ n → ⊥) → k < n
         smaller k less off = elim (nat_lt k n) as (λ b. nat_lt k n ≡ b → k < n) [
-            | true ↦ λ s. is_less k n s
-            | false ↦ λ s. absurd (off (let m = not_less k n s in omega (arith, less, m)))
-          ] refl
+          | true ↦ λ s. is_less k n s
+          | false ↦ λ s. absurd (off (let m = not_less k n s in omega (arith, less, m)))
+        ] refl
 
         case_level : (j k : ℕ) (y : Item) → slice_get items k ≡ Some y → (slice_get (f v) j ≡ Some k) ⊎ ((j ≡ length (f v)) × (n ≡ k)) → level_of y.path ≡ level
         case_level j k y is (inl old) = d.on_level j k y old is
@@ -265,14 +265,14 @@ one_place_more f n level items x levels v v' at lev has more w l places e = by (
         case : Written levels level v' l m.it → AreOnLevel (n + 1) l items places
         case (written_here s same) = subst (AreOnLevel (n + 1) l items) (sym more ∙ ap f same ∙ m.same) (subst (λ z. AreOnLevel (n + 1) z items (f v ++ n ∷ [])) (sym s) here_more)
         case (written_there off is_it) = record {
-            on_level = d.on_level;
-            below = λ j k e'. let b = d.below j k e' in omega (arith, b);
-            once = d.once;
-            all = λ k y less is le. elim (nat_lt k n) as (λ b. nat_lt k n ≡ b → IsAmong (length places) places k) [
-                | true ↦ λ s. d.all k y (is_less k n s) is le
-                | false ↦ λ s. absurd (off (sym le ∙ ap (λ (z : Item). level_of z.path) (item k y (let q = not_less k n s in omega (arith, q, less)) is) ∙ sym lev))
-              ] refl;
-          }
+          on_level = d.on_level;
+          below = λ j k e'. let b = d.below j k e' in omega (arith, b);
+          once = d.once;
+          all = λ k y less is le. elim (nat_lt k n) as (λ b. nat_lt k n ≡ b → IsAmong (length places) places k) [
+            | true ↦ λ s. d.all k y (is_less k n s) is le
+            | false ↦ λ s. absurd (off (sym le ∙ ap (λ (z : Item). level_of z.path) (item k y (let q = not_less k n s in omega (arith, q, less)) is) ∙ sym lev))
+          ] refl;
+        }
           where
             d : AreOnLevel n l items places
             d = subst (AreOnLevel n l items) m.same (w l (f m.it) (map_get f levels l m.it is_it))
@@ -281,10 +281,10 @@ one_place_more f n level items x levels v v' at lev has more w l places e = by (
 
 pub same_seats : {A P : Type 0} (lots now : List (Lot A P)) (i : ℕ) (lot new : Lot A P) → slice_get now i ≡ Some lot → new.actor ≡ lot.actor → new.part ≡ lot.part → SameSeats lots now → SameSeats lots (slice_set now i new)
 same_seats lots now i lot new at actor part s = record {
-    len = length_set now i new ∙ s.len;
-    actor = map_set (λ l. l.actor) now i lot new at actor ∙ s.actor;
-    part = map_set (λ l. l.part) now i lot new at part ∙ s.part;
-  }
+  len = length_set now i new ∙ s.len;
+  actor = map_set (λ l. l.actor) now i lot new at actor ∙ s.actor;
+  part = map_set (λ l. l.part) now i lot new at part ∙ s.part;
+}
 
 pub all_empty : {A P : Type 0} (i : ℕ) (now : List (Lot A P)) (new : Lot A P) → i < length now → (new.places.items ≡ []) × (new.fates.items ≡ []) × (new.lost ≡ false) → ((j : ℕ) (lot : Lot A P) → j < i → slice_get now j ≡ Some lot → (lot.places.items ≡ []) × (lot.fates.items ≡ []) × (lot.lost ≡ false)) →
     (j : ℕ) (lot : Lot A P) → j < i + 1 → slice_get (slice_set now i new) j ≡ Some lot → (lot.places.items ≡ []) × (lot.fates.items ≡ []) × (lot.lost ≡ false)
@@ -292,7 +292,7 @@ all_empty i now new l here_empty before j lot less e = by (written now i new j l
   where
     by : Written now i new j lot → (lot.places.items ≡ []) × (lot.fates.items ≡ []) × (lot.lost ≡ false)
     by (written_here s same) = subst (λ (z : Lot _ _). (z.places.items ≡ []) × (z.fates.items ≡ []) × (z.lost ≡ false)) same here_empty
-    by (written_there off is) = before j lot (elim (nat_lt j i) as (λ b. nat_lt j i ≡ b → j < i) [ | true ↦ λ s. is_less j i s | false ↦ λ s. absurd (off (let q = not_less j i s in omega (arith, q, less))) ] refl) is
+    by (written_there off is) = before j lot (elim (nat_lt j i) as (λ b. nat_lt j i ≡ b → j < i) [ true ↦ λ s. is_less j i s | false ↦ λ s. absurd (off (let q = not_less j i s in omega (arith, q, less))) ] refl) is
 
 pub all_fresh : {A P : Type 0} (i : ℕ) (now : List (Lot A P)) (lot new : Lot A P) → slice_get now i ≡ Some lot → new.fates ≡ lot.fates → new.lost ≡ lot.lost → ((j : ℕ) (l : Lot A P) → slice_get now j ≡ Some l → (l.fates.items ≡ []) × (l.lost ≡ false)) →
     (j : ℕ) (l : Lot A P) → slice_get (slice_set now i new) j ≡ Some l → (l.fates.items ≡ []) × (l.lost ≡ false)

@@ -94,9 +94,9 @@ module _ {A P : Type 0} (tree : P → Option Files) (area : P → Area) (count :
 
   back_more : (done : List (Lot A P)) (lot : Lot A P) (p : P) (own rest now next : Files) → lot.part ≡ Some p → tree p ≡ Some own → Joins (tops_of (area p)) own now next → AllBack (part_tree tree) (part_area area) done rest now → AllBack (part_tree tree) (part_area area) (done ++ lot ∷ []) rest next
   back_more done lot p own rest now next is tells j all q = elim (in_tops (tops_of (area p)) q) as (λ b. in_tops (tops_of (area p)) q ≡ b → Comes (part_tree tree) (part_area area) (done ++ lot ∷ []) rest next q) [
-      | true ↦ λ on. comes (length done) lot own (get_end done lot) (ap (part_tree tree) is ∙ tells) (ap (λ o. in_tops (tops_of (part_area area o)) q) is ∙ on) (j q ∙ ap (λ b. cond b (get own q) (get now q)) on)
-      | false ↦ λ off. by (j q ∙ ap (λ b. cond b (get own q) (get now q)) off) (ap (λ o. in_tops (tops_of (part_area area o)) q) is ∙ off) (all q)
-    ] refl
+    | true ↦ λ on. comes (length done) lot own (get_end done lot) (ap (part_tree tree) is ∙ tells) (ap (λ o. in_tops (tops_of (part_area area o)) q) is ∙ on) (j q ∙ ap (λ b. cond b (get own q) (get now q)) on)
+    | false ↦ λ off. by (j q ∙ ap (λ b. cond b (get own q) (get now q)) off) (ap (λ o. in_tops (tops_of (part_area area o)) q) is ∙ off) (all q)
+  ] refl
     where
       by : get next q ≡ get now q → in_tops (tops_of (part_area area lot.part)) q ≡ false → Comes (part_tree tree) (part_area area) done rest now q → Comes (part_tree tree) (part_area area) (done ++ lot ∷ []) rest next q
       by same off (stays none e) = stays (none_more done lot q none off) (same ∙ e)
@@ -133,17 +133,17 @@ module _ {A P : Type 0} (tree : P → Option Files) (area : P → Area) (count :
 
 pub start : {A P : Type 0} (tree : Option P → Option Files) (area : Option P → Area) (count : Option P → ℕ) (lots : List (Lot A P)) (a : Area) (t : Option Files) (g : ℕ) → a ≡ all_but (tops_out area lots) → Giving tree area count 0 lots lots a t t g g
 start tree area count lots a t g e = record {
-    len = refl;
-    shares = record { actor = refl; places = refl; fates = refl; lost = refl };
-    home = λ j lot l at. absurd (omega (arith, l));
-    rest = λ j l. refl;
-    at = e;
-    tells = refl;
-    told = by t;
-    kept = omega arith;
-    counts = λ l. omega arith;
-    below = λ l j lot at. cc;
-  }
+  len = refl;
+  shares = record { actor = refl; places = refl; fates = refl; lost = refl };
+  home = λ j lot l at. absurd (omega (arith, l));
+  rest = λ j l. refl;
+  at = e;
+  tells = refl;
+  told = by t;
+  kept = omega arith;
+  counts = λ l. omega arith;
+  below = λ l j lot at. cc;
+}
   where
     by : (t : Option Files) → IfSome t (λ r. IfSome t (AllBack tree area (take 0 lots) r))
     by None = tt
@@ -184,9 +184,9 @@ module _ {A P : Type 0} (tree : P → Option Files) (area : P → Area) (count :
 
       home : (j : ℕ) (one : Lot A P) → j < i + 1 → slice_get (slice_set now i new) j ≡ Some one → one.part ≡ None
       home j one l e = elim (eqb j i) as (λ b. eqb j i ≡ b → one.part ≡ None) [
-          | true ↦ λ h. ap (λ (l : Lot A P). l.part) (sym (same_some new one (sym (get_set_same now i new inside) ∙ subst (λ k. slice_get (slice_set now i new) k ≡ Some one) (same j i h) e)) ∙ is)
-          | false ↦ λ h. v.home j one (before j i l h) (sym (get_set_other now i j new (other j i h)) ∙ e)
-        ] refl
+        | true ↦ λ h. ap (λ (l : Lot A P). l.part) (sym (same_some new one (sym (get_set_same now i new inside) ∙ subst (λ k. slice_get (slice_set now i new) k ≡ Some one) (same j i h) e)) ∙ is)
+        | false ↦ λ h. v.home j one (before j i l h) (sym (get_set_other now i j new (other j i h)) ∙ e)
+      ] refl
         where
           same : (j n : ℕ) → eqb j n ≡ true → j ≡ n
           same j n e = grind (arith, nat_tests)

@@ -38,9 +38,9 @@ all_of f (x ∷ xs) h = ap (λ b. b && list_all f xs) (h 0 x refl) ∙ all_of f 
 all_both : {X : Type 0} (f : X → Bool) (xs ys : List X) → list_all f xs ≡ true → list_all f ys ≡ true → list_all f (xs ++ ys) ≡ true
 all_both f [] ys h k = k
 all_both f (x ∷ xs) ys h k = elim (f x) as (λ b. f x ≡ b → (b && list_all f xs) ≡ true → (b && list_all f (xs ++ ys)) ≡ true) [
-    | true ↦ λ _ h. all_both f xs ys h k
-    | false ↦ λ _ h. h
-  ] refl h
+  | true ↦ λ _ h. all_both f xs ys h k
+  | false ↦ λ _ h. h
+] refl h
 
 pub same_number : (j n : ℕ) → eqb j n ≡ true → j ≡ n
 same_number j n e = grind (arith, nat_tests)
@@ -61,9 +61,9 @@ pub data Written {X : Type 0} (xs : List X) (i : ℕ) (new : X) (j : ℕ) (x : X
 
 pub written : {X : Type 0} (xs : List X) (i : ℕ) (new : X) (j : ℕ) (x : X) → i < length xs → slice_get (slice_set xs i new) j ≡ Some x → Written xs i new j x
 written xs i new j x l e = elim (eqb j i) as (λ b. eqb j i ≡ b → Written xs i new j x) [
-    | true ↦ λ is. let s = same_number j i is in written_here s (same_some new x (sym (get_set_same xs i new l) ∙ ap (slice_get (slice_set xs i new)) (sym s) ∙ e))
-    | false ↦ λ off. let n = other_number j i off in written_there n (sym (get_set_other xs i j new n) ∙ e)
-  ] refl
+  | true ↦ λ is. let s = same_number j i is in written_here s (same_some new x (sym (get_set_same xs i new l) ∙ ap (slice_get (slice_set xs i new)) (sym s) ∙ e))
+  | false ↦ λ off. let n = other_number j i off in written_there n (sym (get_set_other xs i j new n) ∙ e)
+] refl
 
 some_map : {X Y : Type 0} (f : X → Y) (o : Option X) → is_some (option_map f o) ≡ is_some o
 some_map f None = refl
@@ -87,17 +87,17 @@ module _ {A P : Type 0} (tree : P → Option Files) (area : P → Area) (count :
 
   pub begin : (items : List Item) (lots : List (Lot A P)) (a : Area) (t : Option Files) → AtHome lots → a ≡ all_but [] → Leasing (part_tree tree) (part_area area) (part_count count) 0 items lots lots a t t
   begin items lots a t home e = record {
-      len = refl;
-      shares = record { actor = refl; places = refl; fates = refl; lost = refl };
-      rest = λ j l. refl;
-      at = e ∙ ap all_but (sym (none_out tree area count lots home));
-      leased = λ j lot l at. absurd (omega (arith, l));
-      paths = λ j lot l at. absurd (omega (arith, l));
-      told = all_left tree area count lots t home;
-      tells = refl;
-      parts_tell = λ j lot p at is. absurd (clash lot.part p (home j lot at) is);
-      counts = none_counted tree area count lots home;
-    }
+    len = refl;
+    shares = record { actor = refl; places = refl; fates = refl; lost = refl };
+    rest = λ j l. refl;
+    at = e ∙ ap all_but (sym (none_out tree area count lots home));
+    leased = λ j lot l at. absurd (omega (arith, l));
+    paths = λ j lot l at. absurd (omega (arith, l));
+    told = all_left tree area count lots t home;
+    tells = refl;
+    parts_tell = λ j lot p at is. absurd (clash lot.part p (home j lot at) is);
+    counts = none_counted tree area count lots home;
+  }
     where
       clash : (o : Option P) (p : P) → o ≡ None → o ≡ Some p → ⊥
       clash None p e s = cc
@@ -136,9 +136,9 @@ module _ {A P : Type 0} (tree : P → Option Files) (area : P → Area) (count :
 
     owner : (j : ℕ) (one : Lot A P) (q : List ℕ) → slice_get now j ≡ Some one → in_tops (tops_of (part_area area one.part)) q ≡ true → Owner j one q
     owner j one q at on = elim (nat_lt j i) as (λ b. nat_lt j i ≡ b → Owner j one q) [
-        | true ↦ λ less. by (is_less j i less)
-        | false ↦ λ more. absurd (false≢true (sym (not_out j one q (not_less j i more) at) ∙ on))
-      ] refl
+      | true ↦ λ less. by (is_less j i less)
+      | false ↦ λ more. absurd (false≢true (sym (not_out j one q (not_less j i more) at) ∙ on))
+    ] refl
       where
         by : j < i → Owner j one q
         by l =
@@ -150,27 +150,27 @@ module _ {A P : Type 0} (tree : P → Option Files) (area : P → Area) (count :
     -- what is at or under an item of a share that is not leased is in no part
     elsewhere : (k : ℕ) (one : Lot A P) (x : Item) (q : List ℕ) → slice_get now i ≡ Some one → IsAt items one.places.items k x → is_within q x.path ≡ true → InNone (part_area area) now q
     elsewhere k one x q at b on j his at' = elim (in_tops (tops_of (part_area area his.part)) q) as (λ c. in_tops (tops_of (part_area area his.part)) q ≡ c → c ≡ false) [
-        | true ↦ λ is. let y = owner j his q at' is in
-            absurd (false≢true (sym (dealt.apart i j k y.place x y.item (λ e. omega (arith, e.0, y.out)) (mine i k one x at b) (mine j y.place his y.item at' y.at) q on) ∙ y.within))
-        | false ↦ λ _. refl
-      ] refl
+      | true ↦ λ is. let y = owner j his q at' is in
+          absurd (false≢true (sym (dealt.apart i j k y.place x y.item (λ e. omega (arith, e.0, y.out)) (mine i k one x at b) (mine j y.place his y.item at' y.at) q on) ∙ y.within))
+      | false ↦ λ _. refl
+    ] refl
 
     -- the parent of an item of the level is in no part
     parent_out : (x : Item) (n : ℕ) → slice_get items n ≡ Some x → level_of x.path ≡ level → InNone (part_area area) now (parent_of x.path)
     parent_out x n is lev j his at' = elim (in_tops (tops_of (part_area area his.part)) (parent_of x.path)) as (λ c. in_tops (tops_of (part_area area his.part)) (parent_of x.path) ≡ c → c ≡ false) [
-        | true ↦ λ on. let y = owner j his (parent_of x.path) at' on in
-            let up = as_deep (parent_of x.path) y.item.path (some_bytes y.item.path (are.valid y.at.place y.item y.at.is)) y.within in
-            let above = parent_above x.path (are.valid n x is) (are.no_root n x is) in
-            absurd (omega (arith, up, above, lev, dealt.on_level j y.place y.item (mine j y.place his y.item at' y.at)))
-        | false ↦ λ _. refl
-      ] refl
+      | true ↦ λ on. let y = owner j his (parent_of x.path) at' on in
+          let up = as_deep (parent_of x.path) y.item.path (some_bytes y.item.path (are.valid y.at.place y.item y.at.is)) y.within in
+          let above = parent_above x.path (are.valid n x is) (are.no_root n x is) in
+          absurd (omega (arith, up, above, lev, dealt.on_level j y.place y.item (mine j y.place his y.item at' y.at)))
+      | false ↦ λ _. refl
+    ] refl
 
     -- a part that is out is apart from an item of a share that is not
     apart_from : (k : ℕ) (one : Lot A P) (x : Item) → slice_get now i ≡ Some one → IsAt items one.places.items k x → (j : ℕ) (his : Lot A P) → slice_get now j ≡ Some his → list_all (is_apart x.path) (tops_in (part_area area his.part)) ≡ true
     apart_from k one x at b j his at' = elim (nat_lt j i) as (λ c. nat_lt j i ≡ c → list_all (is_apart x.path) (tops_in (part_area area his.part)) ≡ true) [
-        | true ↦ λ less. by (is_less j i less)
-        | false ↦ λ more. ap (λ p. list_all (is_apart x.path) (tops_in (part_area area p))) (later j his (not_less j i more) at')
-      ] refl
+      | true ↦ λ less. by (is_less j i less)
+      | false ↦ λ more. ap (λ p. list_all (is_apart x.path) (tops_in (part_area area p))) (later j his (not_less j i more) at')
+    ] refl
       where
         two : (p q : Bool) → p ≡ false → q ≡ false → not (p || q) ≡ true
         two p q e f = (λ n. not (e n || f n))
@@ -180,20 +180,20 @@ module _ {A P : Type 0} (tree : P → Option Files) (area : P → Area) (count :
             let p = v.paths j his l at' in
             ap (λ z. list_all (is_apart x.path) (tops_in z)) (v.leased j his l at')
             ∙ ap (λ c. c && true) (all_of (λ top. not (is_within x.path top || is_within top x.path)) (tops_of (part_area area his.part)) (λ n top e.
-                let u = item_of items his.places.items (tops_of (part_area area his.part)) (share j his at') p n top e in
-                subst (λ r. not (is_within x.path r || is_within r x.path) ≡ true) u.1.1
-                  (two (is_within x.path u.0.path) (is_within u.0.path x.path)
-                    (dealt.apart i j k n x u.0 (λ e. omega (arith, e.0, l)) (mine i k one x at b) (mine j n his u.0 at' u.1.0) x.path (itself x.path))
-                    (dealt.apart j i n k u.0 x (λ e. omega (arith, e.0, l)) (mine j n his u.0 at' u.1.0) (mine i k one x at b) u.0.path (itself u.0.path)))))
+            let u = item_of items his.places.items (tops_of (part_area area his.part)) (share j his at') p n top e in
+            subst (λ r. not (is_within x.path r || is_within r x.path) ≡ true) u.1.1
+            (two (is_within x.path u.0.path) (is_within u.0.path x.path)
+            (dealt.apart i j k n x u.0 (λ e. omega (arith, e.0, l)) (mine i k one x at b) (mine j n his u.0 at' u.1.0) x.path (itself x.path))
+            (dealt.apart j i n k u.0 x (λ e. omega (arith, e.0, l)) (mine j n his u.0 at' u.1.0) (mine i k one x at b) u.0.path (itself u.0.path)))))
 
     module _ (lot : Lot A P) (at : slice_get now i ≡ Some lot) (tops : List (List ℕ)) (p : ArePaths items lot.places.items tops) where
       pub can_be_leased : CanLease a tops
       can_be_leased = let c = can_lease items lot.places.items tops (share i lot at) p in record {
-          distinct = c.distinct;
-          one_level = c.one_level;
-          are_open = λ k x e. let u = item_of items lot.places.items tops (share i lot at) p k x e in subst (λ r. IsTrue (is_open a r)) u.1.1
-              (ap (λ z. is_open z u.0.path) v.at ∙ ap (λ c. c && not (is_root u.0.path)) (all_out (is_apart u.0.path) now (apart_from k lot u.0 at u.1.0)) ∙ ap not (are.no_root u.1.0.place u.0 u.1.0.is));
-        }
+        distinct = c.distinct;
+        one_level = c.one_level;
+        are_open = λ k x e. let u = item_of items lot.places.items tops (share i lot at) p k x e in subst (λ r. IsTrue (is_open a r)) u.1.1
+            (ap (λ z. is_open z u.0.path) v.at ∙ ap (λ c. c && not (is_root u.0.path)) (all_out (is_apart u.0.path) now (apart_from k lot u.0 at u.1.0)) ∙ ap not (are.no_root u.1.0.place u.0 u.1.0.is));
+      }
 
       pub have_parents : IfSome t0 (CanStep o level items old) → IfSome t (HaveParents tops)
       have_parents can = by t0 t refl refl v.told v.tells can
@@ -205,7 +205,7 @@ module _ {A P : Type 0} (tree : P → Option Files) (area : P → Area) (count :
               let u = item_of items lot.places.items tops (share i lot at) p k x h in
               let lev = dealt.on_level i k u.0 (mine i k lot u.0 at u.1.0) in
               subst (λ q. is_dir (get r (parent_of q)) ≡ true) u.1.1
-                (ap is_dir (told.left (parent_of u.0.path) (parent_out u.0 u.1.0.place u.1.0.is lev)) ∙ can u.1.0.place u.0 u.1.0.is lev (dealt.can i k u.0 (mine i k lot u.0 at u.1.0)))
+              (ap is_dir (told.left (parent_of u.0.path) (parent_out u.0 u.1.0.place u.1.0.is lev)) ∙ can u.1.0.place u.0 u.1.0.is lev (dealt.can i k u.0 (mine i k lot u.0 at u.1.0)))
 
       module _ (part : P) (new : Lot A P) (a' : Area) (t' : Option Files) (is : new ≡ record lot { part = Some part }) (own : tree part ≡ option_map (leased tops) t) (none : count part ≡ 0) (his : area part ≡ under tops)
           (rest' : t' ≡ option_map (kept tops) t) (less : a' ≡ area_without tops a) where
@@ -231,9 +231,9 @@ module _ {A P : Type 0} (tree : P → Option Files) (area : P → Area) (count :
 
         earlier : (j : ℕ) → j < i + 1 → (j ≡ i → ⊥) → j < i
         earlier j l n = elim (nat_lt j i) as (λ b. nat_lt j i ≡ b → j < i) [
-            | true ↦ λ e. is_less j i e
-            | false ↦ λ e. absurd (n (let m = not_less j i e in omega (arith, l, m)))
-          ] refl
+          | true ↦ λ e. is_less j i e
+          | false ↦ λ e. absurd (n (let m = not_less j i e in omega (arith, l, m)))
+        ] refl
 
         is_under : (j : ℕ) (one : Lot A P) → j < i + 1 → slice_get (slice_set now i new) j ≡ Some one → part_area area one.part ≡ under (tops_of (part_area area one.part))
         is_under j one l e = by (written now i new j one inside e)
@@ -260,15 +260,15 @@ module _ {A P : Type 0} (tree : P → Option Files) (area : P → Area) (count :
         -- over maps that are told
         out_again : (b r : Files) → t ≡ Some r → AreOut (part_tree tree) (part_area area) now b r → AreOut (part_tree tree) (part_area area) (slice_set now i new) b (kept tops r)
         out_again b r e w = record {
-            left = λ q off. get_rest tops r q ∙ ap (λ c. cond (not c) (get r q) None) (ap (λ z. in_tops (tops_of z) q) (sym new_area) ∙ off i new (get_set_same now i new inside)) ∙ w.left q (none_before q off);
-            out = λ j one mine' q e' shows on. by j one mine' q shows on (written now i new j one inside e');
-          }
+          left = λ q off. get_rest tops r q ∙ ap (λ c. cond (not c) (get r q) None) (ap (λ z. in_tops (tops_of z) q) (sym new_area) ∙ off i new (get_set_same now i new inside)) ∙ w.left q (none_before q off);
+          out = λ j one mine' q e' shows on. by j one mine' q shows on (written now i new j one inside e');
+        }
           where
             none_before : (q : List ℕ) → InNone (part_area area) (slice_set now i new) q → InNone (part_area area) now q
             none_before q off j one e' = elim (eqb j i) as (λ c. eqb j i ≡ c → in_tops (tops_of (part_area area one.part)) q ≡ false) [
-                | true ↦ λ s. not_out j one q (let n = same_number j i s in omega (arith, n)) e'
-                | false ↦ λ n. off j one (get_set_other now i j new (other_number j i n) ∙ e')
-              ] refl
+              | true ↦ λ s. not_out j one q (let n = same_number j i s in omega (arith, n)) e'
+              | false ↦ λ n. off j one (get_set_other now i j new (other_number j i n) ∙ e')
+            ] refl
 
             by : (j : ℕ) (one : Lot A P) (own' : Files) (q : List ℕ) → part_tree tree one.part ≡ Some own' → in_tops (tops_of (part_area area one.part)) q ≡ true → Written now i new j one → get own' q ≡ get b q
             by j one own' q shows on (written_there n h) = w.out j one own' q h shows on
@@ -303,9 +303,9 @@ module _ {A P : Type 0} (tree : P → Option Files) (area : P → Area) (count :
 
     pub all_under : AreUnder (part_area area) now
     all_under j one p at is = elim (nat_lt j i) as (λ b. nat_lt j i ≡ b → part_area area one.part ≡ under (tops_of (part_area area one.part))) [
-        | true ↦ λ less. v.leased j one (is_less j i less) at
-        | false ↦ λ more. absurd (clash one.part p (later j one (not_less j i more) at) is)
-      ] refl
+      | true ↦ λ less. v.leased j one (is_less j i less) at
+      | false ↦ λ more. absurd (clash one.part p (later j one (not_less j i more) at) is)
+    ] refl
       where
         clash : (q : Option P) (p : P) → q ≡ None → q ≡ Some p → ⊥
         clash None p e s = cc
@@ -313,13 +313,13 @@ module _ {A P : Type 0} (tree : P → Option Files) (area : P → Area) (count :
 
     pub all_ready : length lots ≤ i → ((j : ℕ) (lot : Lot A P) → slice_get lots j ≡ Some lot → (lot.fates.items ≡ []) × (lot.lost ≡ false)) → AllReady (part_area area) items now
     all_ready l fresh = record {
-        ready = λ j one at.
-            let f = same_place (λ (l : Lot A P). l.fates) lots now v.shares.fates j one at in
-            let g = same_place (λ (l : Lot A P). l.lost) lots now v.shares.lost j one at in
-            is_ready items one.places.items (tops_of (part_area area one.part)) (share j one at) (v.paths j one (early j one at) at) (part_area area) one refl
-              (ap (λ z. z.items) (sym f.same) ∙ (fresh j f.it f.here).0) (sym g.same ∙ (fresh j g.it g.here).1) (v.leased j one (early j one at) at);
-        paths = λ j one at. v.paths j one (early j one at) at;
-      }
+      ready = λ j one at.
+          let f = same_place (λ (l : Lot A P). l.fates) lots now v.shares.fates j one at in
+          let g = same_place (λ (l : Lot A P). l.lost) lots now v.shares.lost j one at in
+          is_ready items one.places.items (tops_of (part_area area one.part)) (share j one at) (v.paths j one (early j one at) at) (part_area area) one refl
+          (ap (λ z. z.items) (sym f.same) ∙ (fresh j f.it f.here).0) (sym g.same ∙ (fresh j g.it g.here).1) (v.leased j one (early j one at) at);
+      paths = λ j one at. v.paths j one (early j one at) at;
+    }
       where
         early : (j : ℕ) (one : Lot A P) → slice_get now j ≡ Some one → j < i
         early j one at = omega (arith, slice_get_within now j one at, v.len, l)

@@ -35,12 +35,12 @@ get_front (x ∷ xs) y (suc j) l = get_front xs y j (omega arith)
 
 pub one_path_more : (items : List Item) (places : List ℕ) (paths : List (List ℕ)) (n : ℕ) (p : List ℕ) → AreFirstPaths n items places paths → ((x : Item) → IsAt items places n x → p ≡ x.path) → AreFirstPaths (n + 1) items places (paths ++ p ∷ [])
 one_path_more items places paths n p a h = record {
-    len = length-append paths (p ∷ []) ∙ ap (λ k. k + 1) a.len;
-    of_item = λ j x l at. elim (eqb j n) as (λ b. eqb j n ≡ b → slice_get (paths ++ p ∷ []) j ≡ Some x.path) [
-        | true ↦ λ is. let e = same j n is in ap (slice_get (paths ++ p ∷ [])) (e ∙ sym a.len) ∙ get_end paths p ∙ ap Some (h x (subst (λ k. IsAt items places k x) e at))
-        | false ↦ λ off. get_front paths p j (omega (arith, a.len, before j n l off)) ∙ a.of_item j x (before j n l off) at
-      ] refl;
-  }
+  len = length-append paths (p ∷ []) ∙ ap (λ k. k + 1) a.len;
+  of_item = λ j x l at. elim (eqb j n) as (λ b. eqb j n ≡ b → slice_get (paths ++ p ∷ []) j ≡ Some x.path) [
+    | true ↦ λ is. let e = same j n is in ap (slice_get (paths ++ p ∷ [])) (e ∙ sym a.len) ∙ get_end paths p ∙ ap Some (h x (subst (λ k. IsAt items places k x) e at))
+    | false ↦ λ off. get_front paths p j (omega (arith, a.len, before j n l off)) ∙ a.of_item j x (before j n l off) at
+  ] refl;
+}
   where
     same : (j n : ℕ) → eqb j n ≡ true → j ≡ n
     same j n e = grind (arith, nat_tests)
@@ -62,13 +62,13 @@ module _ (items : List Item) (places : List ℕ) (tops : List (List ℕ)) (s : I
 
   pub can_lease : CanLease (all_but []) tops
   can_lease = record {
-      distinct = λ i j p h k. elim (eqb i j) as (λ b. eqb i j ≡ b → i ≡ j) [
-          | true ↦ λ is. same i j is
-          | false ↦ λ off. absurd (clash i j p h k (other i j off))
-        ] refl;
-      one_level = λ i j x y h k. let u = item_of i x h in let v = item_of j y k in sym (ap level_of u.1.1) ∙ s.one_level i j u.0 v.0 u.1.0 v.1.0 ∙ ap level_of v.1.1;
-      are_open = λ i x h. let u = item_of i x h in ap not (sym (ap is_root u.1.1) ∙ s.no_root i u.0 u.1.0);
-    }
+    distinct = λ i j p h k. elim (eqb i j) as (λ b. eqb i j ≡ b → i ≡ j) [
+      | true ↦ λ is. same i j is
+      | false ↦ λ off. absurd (clash i j p h k (other i j off))
+    ] refl;
+    one_level = λ i j x y h k. let u = item_of i x h in let v = item_of j y k in sym (ap level_of u.1.1) ∙ s.one_level i j u.0 v.0 u.1.0 v.1.0 ∙ ap level_of v.1.1;
+    are_open = λ i x h. let u = item_of i x h in ap not (sym (ap is_root u.1.1) ∙ s.no_root i u.0 u.1.0);
+  }
     where
       same : (j n : ℕ) → eqb j n ≡ true → j ≡ n
       same j n e = grind (arith, nat_tests)

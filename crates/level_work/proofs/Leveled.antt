@@ -66,9 +66,9 @@ module _ {A P : Type 0} (tree : Option P → Option Files) (area : Option P → 
     from_own : (i t : ℕ) (lot : Lot A P) (x : Item) (own rest after : Files) (q : List ℕ) → slice_get lots i ≡ Some lot → IsAt items lot.places.items t x → tree lot.part ≡ Some own → is_within q x.path ≡ true → Comes tree area lots rest after q → get after q ≡ get own q
     from_own i t lot x own rest after q here at tells on (stays none e) = absurd (false≢true (sym (none i lot here) ∙ inside i t lot x q here at on))
     from_own i t lot x own rest after q here at tells on (comes j lot' own' here' tells' in' e) = e ∙ elim (eqb j i) as (λ b. eqb j i ≡ b → get own' q ≡ get own q) [
-        | true ↦ λ is. ap (λ (m : Files). get m q) (same_some own' own (sym tells' ∙ ap (λ (l : Lot A P). tree l.part) (same_some lot' lot (sym here' ∙ ap (slice_get lots) (same j i is) ∙ here)) ∙ tells))
-        | false ↦ λ off. let y = owner j lot' q here' in' in absurd (false≢true (sym (s.apart i j t y.place x y.item (λ e. other j i off (sym e.0)) (record { lot = lot; is_lot = here; at = at }) (record { lot = lot'; is_lot = here'; at = y.at }) q on) ∙ y.within))
-      ] refl
+      | true ↦ λ is. ap (λ (m : Files). get m q) (same_some own' own (sym tells' ∙ ap (λ (l : Lot A P). tree l.part) (same_some lot' lot (sym here' ∙ ap (slice_get lots) (same j i is) ∙ here)) ∙ tells))
+      | false ↦ λ off. let y = owner j lot' q here' in' in absurd (false≢true (sym (s.apart i j t y.place x y.item (λ e. other j i off (sym e.0)) (record { lot = lot; is_lot = here; at = at }) (record { lot = lot'; is_lot = here'; at = y.at }) q on) ∙ y.within))
+    ] refl
       where
         same : (j n : ℕ) → eqb j n ≡ true → j ≡ n
         same j n e = grind (arith, nat_tests)
@@ -91,10 +91,10 @@ module _ {A P : Type 0} (tree : Option P → Option Files) (area : Option P → 
 
   pub one_level_told : (deed : Deed) (o : Order) (level : ℕ) (items : List Item) (old new : List Fate) (lots : List (Lot A P)) (before rest after : Files) → AreItems items → AreShares o level items old lots → SharesTold deed items lots before rest → ((k : ℕ) (d : Dealt lots k) → slice_get new k ≡ slice_get d.lot.fates.items d.place) → ((k : ℕ) (x : Item) (f : Fate) → slice_get items k ≡ Some x → slice_get new k ≡ Some f → level_of x.path ≡ level → (Dealt lots k → ⊥) → f ≡ fate.ParentFailed) → AllBack tree area lots rest after → OneLevel deed level items new before after
   one_level_told deed o level items old new lots before rest after are s told dealt undealt back = record {
-      others = λ q off. others q off (back q);
-      touched = λ k x f at has lev named. touched k x f at has lev named (s.all k x at lev);
-      untouched = λ k x f at has lev pf. untouched k x f at has lev pf (s.all k x at lev) (back x.path);
-    }
+    others = λ q off. others q off (back q);
+    touched = λ k x f at has lev named. touched k x f at has lev named (s.all k x at lev);
+    untouched = λ k x f at has lev pf. untouched k x f at has lev pf (s.all k x at lev) (back x.path);
+  }
     where
       others : (q : List ℕ) → ((k : ℕ) (x : Item) → slice_get items k ≡ Some x → level_of x.path ≡ level → pointwise nat_eq q x.path ≡ false) → Comes tree area lots rest after q → get after q ≡ get before q
       others q off (stays none e) = e ∙ told.left q none

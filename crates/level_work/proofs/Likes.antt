@@ -41,12 +41,12 @@ module _ {A P : Type 0} where
 
   pub shares_over : (o : Order) (level : ℕ) (items : List Item) (old : List Fate) (lots lots' : List (Lot A P)) → Like lots lots' → Like lots' lots → AreShares o level items old lots → AreShares o level items old lots'
   shares_over o level items old lots lots' like back s = record {
-      inside = λ i j k lot' here e. let a = like i lot' here in s.inside i j k a.it a.here (subst (λ ps. slice_get ps j ≡ Some k) (sym a.same) e);
-      on_level = λ i t x l. s.on_level i t x (in_lot items lots lots' i t x like l);
-      can = λ i t x l. s.can i t x (in_lot items lots lots' i t x like l);
-      apart = λ i j t u x y n l m. s.apart i j t u x y n (in_lot items lots lots' i t x like l) (in_lot items lots lots' j u y like m);
-      all = λ k x at lev. over k (s.all k x at lev);
-    }
+    inside = λ i j k lot' here e. let a = like i lot' here in s.inside i j k a.it a.here (subst (λ ps. slice_get ps j ≡ Some k) (sym a.same) e);
+    on_level = λ i t x l. s.on_level i t x (in_lot items lots lots' i t x like l);
+    can = λ i t x l. s.can i t x (in_lot items lots lots' i t x like l);
+    apart = λ i j t u x y n l m. s.apart i j t u x y n (in_lot items lots lots' i t x like l) (in_lot items lots lots' j u y like m);
+    all = λ k x at lev. over k (s.all k x at lev);
+  }
     where
       over : {F : Type 0} (k : ℕ) → F ⊎ Dealt lots k → F ⊎ Dealt lots' k
       over k (inl fails) = inl fails

@@ -49,9 +49,9 @@ never_under_itself p u = let l = lt_true (length (front p)) (length p) (right_so
 
 pub under_is_other : (q p : List ℕ) → is_under q p ≡ true → pointwise nat_eq q p ≡ false
 under_is_other q p u = elim (pointwise nat_eq q p) as (λ b. pointwise nat_eq q p ≡ b → b ≡ false) [
-    | true ↦ λ is. absurd (never_under_itself p (subst (λ x. is_under x p ≡ true) ((bytes_decides q p).0 is) u))
-    | false ↦ λ _. refl
-  ] refl
+  | true ↦ λ is. absurd (never_under_itself p (subst (λ x. is_under x p ≡ true) ((bytes_decides q p).0 is) u))
+  | false ↦ λ _. refl
+] refl
 
 or_true : (b : Bool) → (b || true) ≡ true
 or_true true = refl
@@ -85,9 +85,9 @@ pub record Standing (items : List Item) (q : List ℕ) : Type 0 where
 pub standing : (items : List Item) (q : List ℕ) → is_item items q ≡ true → Standing items q
 standing [] q e = absurd (false≢true e)
 standing (y ∷ items) q e = elim (pointwise nat_eq q y.path) as (λ b. pointwise nat_eq q y.path ≡ b → (b || is_item items q) ≡ true → Standing (y ∷ items) q) [
-    | true ↦ λ is e. record { place = 0; item = y; at = refl; is = sym ((bytes_decides q y.path).0 is) }
-    | false ↦ λ _ e. let s = standing items q e in record { place = suc s.place; item = s.item; at = s.at; is = s.is }
-  ] refl e
+  | true ↦ λ is e. record { place = 0; item = y; at = refl; is = sym ((bytes_decides q y.path).0 is) }
+  | false ↦ λ _ e. let s = standing items q e in record { place = suc s.place; item = s.item; at = s.at; is = s.is }
+] refl e
 
 pub no_item : (items : List Item) (q : List ℕ) → ((k : ℕ) (x : Item) → slice_get items k ≡ Some x → pointwise nat_eq q x.path ≡ false) → is_item items q ≡ false
 no_item [] q h = refl
@@ -127,9 +127,9 @@ fails_same order.TopDown level items old new x fine off (inr e) t = absurd (clas
     clash : order.TopDown ≡ order.BottomUp → ⊥
     clash e = cc
 fails_same order.TopDown level items old new x fine off (inl l) t = (
-    (λ h. record { place = h.place; item = h.item; fate_of = h.fate_of; at = h.at; has = kept h.place h.item h.at h.is_parent ∙ h.has; is_parent = h.is_parent; not_done = h.not_done }),
-    (λ h. record { place = h.place; item = h.item; fate_of = h.fate_of; at = h.at; has = sym (kept h.place h.item h.at h.is_parent) ∙ h.has; is_parent = h.is_parent; not_done = h.not_done })
-  )
+  (λ h. record { place = h.place; item = h.item; fate_of = h.fate_of; at = h.at; has = kept h.place h.item h.at h.is_parent ∙ h.has; is_parent = h.is_parent; not_done = h.not_done }),
+  (λ h. record { place = h.place; item = h.item; fate_of = h.fate_of; at = h.at; has = sym (kept h.place h.item h.at h.is_parent) ∙ h.has; is_parent = h.is_parent; not_done = h.not_done }),
+)
   where
     kept : (k : ℕ) (y : Item) → slice_get items k ≡ Some y → y.path ≡ parent_of x.path → slice_get new k ≡ slice_get old k
     kept k y at e = let a = parent_above x.path fine off in t.others k y at (λ s. omega (arith, a, l, s, ap level_of e))
@@ -157,9 +157,9 @@ module _ (deed : Deed) (items : List Item) (fates : List Fate) (ok : AreItems it
   step_files order.BottomUp t l t' n stand makes s k x at lev fails =
       ap is_dir (s.pending (parent_of x.path) (λ j y at' done. other_level (parent_of x.path) y.path (λ e. let a = parent_above x.path (ok.valid k x at) (ok.no_root k x at) in let b = le_true t (level_of y.path) done in omega (arith, a, b, e, lev, n.0)))) ∙ stand k x at
   step_files order.TopDown t l t' n stand makes s k x at lev fails = elim (is_item items (parent_of x.path)) as (λ b. is_item items (parent_of x.path) ≡ b → is_dir (get now (parent_of x.path)) ≡ true) [
-      | false ↦ λ off. ap is_dir (s.pending (parent_of x.path) (λ j y at' done. is_no_item items (parent_of x.path) j y off at')) ∙ stand k x at off
-      | true ↦ λ on. by (standing items (parent_of x.path) on)
-    ] refl
+    | false ↦ λ off. ap is_dir (s.pending (parent_of x.path) (λ j y at' done. is_no_item items (parent_of x.path) j y off at')) ∙ stand k x at off
+    | true ↦ λ on. by (standing items (parent_of x.path) on)
+  ] refl
     where
       by : Standing items (parent_of x.path) → is_dir (get now (parent_of x.path)) ≡ true
       by p = done (is_it_done g.0)
@@ -191,13 +191,13 @@ both_ways a b = ((λ p. b.0 (a.0 p)), (λ r. a.1 (b.1 r)))
 pub ran_more : (deed : Deed) (o : Order) (top turn : ℕ) (items : List Item) (old new : List Fate) (was now next : Option Files) → turn < top → AreItems items → TellsLevel o (level_at o top turn) items old new → IfSome now (λ a. IfSome next (OneLevel deed (level_at o top turn) items new a)) → is_some next ≡ is_some now →
     Ran deed o top turn items old was now → Ran deed o top (turn + 1) items new was next
 ran_more deed o top turn items old new was now next l ok t one tells r = record {
-    len = t.len ∙ r.len;
-    told = λ k x f at has done. told k x f at has (done_after o _ _ _ (level_of x.path) (next_at o top turn l) done);
-    sofar = both_told (Sofar deed o (mark_at o top turn) items old) (OneLevel deed (level_at o top turn) items new) (Sofar deed o (mark_at o top (turn + 1)) items new) was now next r.tells
-        (λ a b c s w. level_more deed items new a b c o _ _ _ old (next_at o top turn l) (λ k x at. some_bytes x.path (ok.valid k x at)) (λ k x at done. t.others k x at (λ e. not_here o _ _ _ (level_of x.path) (next_at o top turn l) done e)) s w)
-        r.sofar one;
-    tells = tells ∙ r.tells;
-  }
+  len = t.len ∙ r.len;
+  told = λ k x f at has done. told k x f at has (done_after o _ _ _ (level_of x.path) (next_at o top turn l) done);
+  sofar = both_told (Sofar deed o (mark_at o top turn) items old) (OneLevel deed (level_at o top turn) items new) (Sofar deed o (mark_at o top (turn + 1)) items new) was now next r.tells
+      (λ a b c s w. level_more deed items new a b c o _ _ _ old (next_at o top turn l) (λ k x at. some_bytes x.path (ok.valid k x at)) (λ k x at done. t.others k x at (λ e. not_here o _ _ _ (level_of x.path) (next_at o top turn l) done e)) s w)
+      r.sofar one;
+  tells = tells ∙ r.tells;
+}
   where
     -- an item that is done, or is on the level, stands no deeper than it from the top down
     no_deeper : (o : Order) (m : ℕ) → (m ≡ level_at o top turn) ⊎ (is_done o (mark_at o top turn) m ≡ true) → (m ≤ level_at o top turn) ⊎ (o ≡ order.BottomUp)

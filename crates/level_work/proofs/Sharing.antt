@@ -50,19 +50,19 @@ module _ {A P D : Type 0} (tree : Option P → Option Files) (area : Option P �
       ((q : List ℕ) → ((i : ℕ) (lot' : Lot A P) → slice_get lots' i ≡ Some lot' → in_tops (tops_of (area lot'.part)) q ≡ false) → (i : ℕ) (lot : Lot A P) → slice_get lots i ≡ Some lot → in_tops (tops_of (area lot.part)) q ≡ false) →
       SharesTold tree area (deed d) items lots' before rest
   shares_told d o level items old lots lots' before rest are s ready out was shows found tells nowhere = record {
-      paths = λ i lot' here. let w = was i lot' here in subst (λ a. ArePaths items lot'.places.items (tops_of a)) (sym w.did.keeps.same_area) (subst (λ v. ArePaths items v.items (tops_of (area w.lot.part))) (sym w.did.keeps.places) (ready.paths i w.lot w.here));
-      owns = λ i t x lot' here at. let w = was i lot' here in
-          let own = told_own (tree lot'.part) (w.did.keeps.tells ∙ tells i t x w.lot w.here (subst (λ v. IsAt items v.items t x) w.did.keeps.places at)) in record { own = own.0; tells = own.1 };
-      left = λ q none. out.left q (nowhere q none);
-      kept = λ i lot' own' q here shows' on off. let w = was i lot' here in
-          let own = told_own (tree w.lot.part) (sym w.did.keeps.tells ∙ ap is_some shows') in
-          opened (SameButFirst (length w.lot.places.items) items w.lot.places.items) (tree w.lot.part) (tree lot'.part) own.0 own' own.1 shows' w.did.rest q (λ j x l at. off j x (subst (λ v. IsAt items v.items j x) (sym w.did.keeps.places) at))
-          ∙ out.out i w.lot own.0 q w.here own.1 (ap (λ a. in_tops (tops_of a) q) (sym w.did.keeps.same_area) ∙ on);
-      deeds = λ i t x f lot' own' here shows' at has. let w = was i lot' here in
-          let own = told_own (tree w.lot.part) (sym w.did.keeps.tells ∙ ap is_some shows') in
-          let at' = subst (λ v. IsAt items v.items t x) w.did.keeps.places at in
-          let done = (opened (WorkedOn (deed (plain w.lot.actor)) items w.lot.places.items lot'.fates.items) (tree w.lot.part) (tree lot'.part) own.0 own' own.1 shows' (w.did.told (found i lot' here))).each t x f at' has in
-          let same : at_and_under x.path own.0 ≡ at_and_under x.path before = same_at x.path before own.0 (λ q on. out.out i w.lot own.0 q w.here own.1 (inside tree area o level items old lots are s ready.paths i t w.lot x q w.here at' on)) in
-          subst (λ m. deed d x.path x.entry f m (at_and_under x.path own')) same (subst (λ (e : D). deed e x.path x.entry f (at_and_under x.path own.0) (at_and_under x.path own')) (shows i w.lot w.here) done);
-      named = λ i t f lot' here has. (was i lot' here).did.named t f has;
-    }
+    paths = λ i lot' here. let w = was i lot' here in subst (λ a. ArePaths items lot'.places.items (tops_of a)) (sym w.did.keeps.same_area) (subst (λ v. ArePaths items v.items (tops_of (area w.lot.part))) (sym w.did.keeps.places) (ready.paths i w.lot w.here));
+    owns = λ i t x lot' here at. let w = was i lot' here in
+        let own = told_own (tree lot'.part) (w.did.keeps.tells ∙ tells i t x w.lot w.here (subst (λ v. IsAt items v.items t x) w.did.keeps.places at)) in record { own = own.0; tells = own.1 };
+    left = λ q none. out.left q (nowhere q none);
+    kept = λ i lot' own' q here shows' on off. let w = was i lot' here in
+        let own = told_own (tree w.lot.part) (sym w.did.keeps.tells ∙ ap is_some shows') in
+        opened (SameButFirst (length w.lot.places.items) items w.lot.places.items) (tree w.lot.part) (tree lot'.part) own.0 own' own.1 shows' w.did.rest q (λ j x l at. off j x (subst (λ v. IsAt items v.items j x) (sym w.did.keeps.places) at))
+        ∙ out.out i w.lot own.0 q w.here own.1 (ap (λ a. in_tops (tops_of a) q) (sym w.did.keeps.same_area) ∙ on);
+    deeds = λ i t x f lot' own' here shows' at has. let w = was i lot' here in
+        let own = told_own (tree w.lot.part) (sym w.did.keeps.tells ∙ ap is_some shows') in
+        let at' = subst (λ v. IsAt items v.items t x) w.did.keeps.places at in
+        let done = (opened (WorkedOn (deed (plain w.lot.actor)) items w.lot.places.items lot'.fates.items) (tree w.lot.part) (tree lot'.part) own.0 own' own.1 shows' (w.did.told (found i lot' here))).each t x f at' has in
+        let same : at_and_under x.path own.0 ≡ at_and_under x.path before = same_at x.path before own.0 (λ q on. out.out i w.lot own.0 q w.here own.1 (inside tree area o level items old lots are s ready.paths i t w.lot x q w.here at' on)) in
+        subst (λ m. deed d x.path x.entry f m (at_and_under x.path own')) same (subst (λ (e : D). deed e x.path x.entry f (at_and_under x.path own.0) (at_and_under x.path own')) (shows i w.lot w.here) done);
+    named = λ i t f lot' here has. (was i lot' here).did.named t f has;
+  }

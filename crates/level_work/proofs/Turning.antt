@@ -47,10 +47,10 @@ flip false n = refl
 
 blamed_on : (l m n g g' g'' : ℕ) (c c' c'' : List ℕ) → length c'' ≡ length c' → BlamedMore l m g c g' c' → BlamedMore m n g' c' g'' c'' → ((i k k' : ℕ) → slice_get c i ≡ Some k → slice_get c'' i ≡ Some k' → k ≤ k') → BlamedMore l n g c g'' c''
 blamed_on l m n g g' g'' c c' c'' len x y kept = record {
-    ground_kept = omega (arith, x.ground_kept, y.ground_kept);
-    kept = kept;
-    rose = λ low none. omega (arith, x.rose (omega (arith, low, y.ground_kept)) (λ i k at. let z = some_at c'' i (omega (arith, len, slice_get_within c' i k at)) in omega (arith, y.kept i k z.0 at z.1, none i z.0 z.1)), y.rose low none);
-  }
+  ground_kept = omega (arith, x.ground_kept, y.ground_kept);
+  kept = kept;
+  rose = λ low none. omega (arith, x.rose (omega (arith, low, y.ground_kept)) (λ i k at. let z = some_at c'' i (omega (arith, len, slice_get_within c' i k at)) in omega (arith, y.kept i k z.0 at z.1, none i z.0 z.1)), y.rose low none);
+}
 
 module _ {A P D : Type 0} (plain : A → D) (count : A → ℕ) where
   pub same_length : (lots now : List (Lot A P)) → SameActors plain count lots now → length now ≡ length lots
@@ -64,11 +64,11 @@ module _ {A P D : Type 0} (plain : A → D) (count : A → ℕ) where
 
   pub actors_on : (lots now next : List (Lot A P)) → SameActors plain count lots now → SameActors plain count now next → SameActors plain count lots next
   actors_on lots now next x y = record {
-      plains = y.plains ∙ x.plains;
-      counts = λ i k k' a b.
-          let z = some_at (map (λ (l : Lot A P). count l.actor) now) i (omega (arith, same_counts now next y, slice_get_within (map (λ (l : Lot A P). count l.actor) next) i k' b)) in
-          omega (arith, x.counts i k z.0 a z.1, y.counts i z.0 k' z.1 b);
-    }
+    plains = y.plains ∙ x.plains;
+    counts = λ i k k' a b.
+        let z = some_at (map (λ (l : Lot A P). count l.actor) now) i (omega (arith, same_counts now next y, slice_get_within (map (λ (l : Lot A P). count l.actor) next) i k' b)) in
+        omega (arith, x.counts i k z.0 a z.1, y.counts i z.0 k' z.1 b);
+  }
 
   pub shown : (lots : List (Lot A P)) → 0 < length lots → Alike (map (λ (l : Lot A P). plain l.actor) lots) → (d : D) × AllShow d (map (λ (l : Lot A P). plain l.actor) lots)
   shown lots some alike =
@@ -89,21 +89,21 @@ module _ {A P D : Type 0} (plain : A → D) (count : A → ℕ) (deed : D → De
   pub turned_none : (lots : List (Lot A P)) (fates : List Fate) (paths : List (List ℕ)) (a : Area) (t : Option Files) (g : ℕ) → a ≡ all_but [] → AtHome lots → AllBelow top items → length fates ≡ length items → ((k : ℕ) (f : Fate) → slice_get fates k ≡ Some f → f ≡ fate.Done) → paths ≡ [] →
       Turned plain count deed o top 0 items lots lots fates paths a t t g g
   turned_none lots fates paths a t g area home below len done empty = record {
-      area = area;
-      home = home;
-      actors = no_work plain count lots;
-      kept = omega arith;
-      ran = λ d show. ran_none (deed d) o top items fates t below len;
-      fresh = λ k x f at has off. done k f has;
-      knows = knows o;
-      blamed = record { ground_kept = omega arith; kept = (no_work plain count lots).counts; rose = λ low none. omega (arith, none_failed fates done) };
-    }
+    area = area;
+    home = home;
+    actors = no_work plain count lots;
+    kept = omega arith;
+    ran = λ d show. ran_none (deed d) o top items fates t below len;
+    fresh = λ k x f at has off. done k f has;
+    knows = knows o;
+    blamed = record { ground_kept = omega arith; kept = (no_work plain count lots).counts; rose = λ low none. omega (arith, none_failed fates done) };
+  }
     where
       knows : (o : Order) → Knows o items fates paths
       knows order.TopDown = record {
-          sound = λ q e. absurd (false≢true (ap (λ ps. has_path ps q) (sym empty) ∙ e));
-          complete = λ k x f at is not. absurd (not (done k f is));
-        }
+        sound = λ q e. absurd (false≢true (ap (λ ps. has_path ps q) (sym empty) ∙ e));
+        complete = λ k x f at is not. absurd (not (done k f is));
+      }
       knows order.BottomUp = tt
 
   module _ (lots now : List (Lot A P)) (fates : List Fate) (paths : List (List ℕ)) (a : Area) (t0 t : Option Files) (g0 g turn : ℕ) (v : Turned plain count deed o top turn items lots now fates paths a t0 t g0 g)
@@ -150,20 +150,20 @@ module _ {A P D : Type 0} (plain : A → D) (count : A → ℕ) (deed : D → De
           BlamedMore (count_by is_failed fates) (count_by is_failed fates') g (map (λ (l : Lot A P). count l.actor) now) g' (map (λ (l : Lot A P). count l.actor) now') →
           AreOnLevel (length items) level items places → Notes o items fates' places paths paths' → Turned plain count deed o top (turn + 1) items lots now' fates' paths' a' t0 next g0 g'
       turned_more places paths' a' are area home actors up tells t' told blamed on notes = record {
-          area = area;
-          home = home;
-          actors = actors_on plain count lots now now' v.actors actors;
-          kept = omega (arith, v.kept, up);
-          ran = λ d show. ran_more (deed d) o top turn items fates fates' t0 t next l are (subst (λ m. TellsLevel o m items fates fates') is t')
-              (subst (λ m. IfSome t (λ old. IfSome next (OneLevel (deed d) m items fates' old))) is (told d (subst (AllShow d) (sym v.actors.plains) show))) tells (v.ran d show);
-          fresh = fresh;
-          knows = knows_more o level items places fates fates' paths paths' on (λ k x f at has lev. v.fresh k x f at has (next_fresh o top turn (level_of x.path) l (lev ∙ is))) t' turned_len v.knows notes;
-          blamed = blamed_on _ _ _ _ _ _ _ _ _ (same_counts plain count now now' actors) v.blamed blamed (actors_on plain count lots now now' v.actors actors).counts;
-        }
+        area = area;
+        home = home;
+        actors = actors_on plain count lots now now' v.actors actors;
+        kept = omega (arith, v.kept, up);
+        ran = λ d show. ran_more (deed d) o top turn items fates fates' t0 t next l are (subst (λ m. TellsLevel o m items fates fates') is t')
+            (subst (λ m. IfSome t (λ old. IfSome next (OneLevel (deed d) m items fates' old))) is (told d (subst (AllShow d) (sym v.actors.plains) show))) tells (v.ran d show);
+        fresh = fresh;
+        knows = knows_more o level items places fates fates' paths paths' on (λ k x f at has lev. v.fresh k x f at has (next_fresh o top turn (level_of x.path) l (lev ∙ is))) t' turned_len v.knows notes;
+        blamed = blamed_on _ _ _ _ _ _ _ _ _ (same_counts plain count now now' actors) v.blamed blamed (actors_on plain count lots now now' v.actors actors).counts;
+      }
         where
           fresh : (k : ℕ) (x : Item) (f : Fate) → slice_get items k ≡ Some x → slice_get fates' k ≡ Some f → is_done o (mark_at o top (turn + 1)) (level_of x.path) ≡ false → f ≡ fate.Done
           fresh k x f at has off =
               let n = next_at o top turn l in
               v.fresh k x f at
-                (sym (t'.others k x at (λ e. false≢true (sym off ∙ subst (λ m. is_done o (mark_at o top (turn + 1)) m ≡ true) (sym (e ∙ is)) (now_done o (mark_at o top turn) (level_at o top turn) (mark_at o top (turn + 1)) n)))) ∙ has)
-                (flip (is_done o (mark_at o top turn) (level_of x.path)) (λ done. false≢true (sym off ∙ still_done o (mark_at o top turn) (level_at o top turn) (mark_at o top (turn + 1)) (level_of x.path) n done)))
+              (sym (t'.others k x at (λ e. false≢true (sym off ∙ subst (λ m. is_done o (mark_at o top (turn + 1)) m ≡ true) (sym (e ∙ is)) (now_done o (mark_at o top turn) (level_at o top turn) (mark_at o top (turn + 1)) n)))) ∙ has)
+              (flip (is_done o (mark_at o top turn) (level_of x.path)) (λ done. false≢true (sym off ∙ still_done o (mark_at o top turn) (level_at o top turn) (mark_at o top (turn + 1)) (level_of x.path) n done)))

@@ -56,9 +56,9 @@ same_item items places j x y a b =
 worked_more : (deed : Deed) (items : List Item) (places : List ℕ) (fates : List Fate) (f : Fate) (x : Item) (a b c : Files) → AreApart items places → IsAt items places (length fates) x →
     WorkedOn deed items places fates a b → IsDone deed x.path x.entry (Ok f) b c → WorkedOn deed items places (fates ++ f ∷ []) a c
 worked_more deed items places fates f x a b c apart here w d = record {
-    others = λ q off. d.others q (off (length fates) x (omega (arith, length-append fates (f ∷ []))) here) ∙ w.others q (λ j y l is. off j y (omega (arith, l, length-append fates (f ∷ []))) is);
-    each = λ j y g is at. step j y g is (get_more fates f j g at);
-  }
+  others = λ q off. d.others q (off (length fates) x (omega (arith, length-append fates (f ∷ []))) here) ∙ w.others q (λ j y l is. off j y (omega (arith, l, length-append fates (f ∷ []))) is);
+  each = λ j y g is at. step j y g is (get_more fates f j g at);
+}
   where
     step : (j : ℕ) (y : Item) (g : Fate) → IsAt items places j y → (slice_get fates j ≡ Some g) ⊎ ((j ≡ length fates) × (f ≡ g)) → deed y.path y.entry g (at_and_under y.path a) (at_and_under y.path c)
     step j y g is (inl old) =
@@ -161,7 +161,7 @@ module _ {A P D : Type 0} (tree : Option P → Option Files) (area : Option P �
       HasWorked tree area part_count plain count deed items lot (record lot' { lost = true })
   lost_at items n lot mid lot' r l u s = record {
     keeps = let k = keeps_on lot mid lot' u.keeps s.keeps in record { places = k.places; same_area = k.same_area; same_plain = k.same_plain; tells = k.tells; there = k.there };
-    blamed = subst (λ k. Blamed k (part_count lot.part) (count lot.actor) (part_count lot'.part) (count lot'.actor)) (sym (ap (count_by is_failed) s.fates) ) (subst (λ k. Blamed k (part_count lot.part) (count lot.actor) (part_count lot'.part) (count lot'.actor)) (plus_none (count_by is_failed mid.fates.items)) (blamed_more _ _ _ _ _ _ _ _ u.blamed s.blamed));
+    blamed = subst (λ k. Blamed k (part_count lot.part) (count lot.actor) (part_count lot'.part) (count lot'.actor)) (sym (ap (count_by is_failed) s.fates)) (subst (λ k. Blamed k (part_count lot.part) (count lot.actor) (part_count lot'.part) (count lot'.actor)) (plus_none (count_by is_failed mid.fates.items)) (blamed_more _ _ _ _ _ _ _ _ u.blamed s.blamed));
     named = λ j f e. u.named j f (subst (λ fs. slice_get fs j ≡ Some f) s.fates e);
     all = λ e. absurd (false≢true (sym e));
     told = λ e. absurd (false≢true (sym e));

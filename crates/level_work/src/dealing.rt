@@ -14,10 +14,7 @@ use path_text::{OutOfMemory, path_order_is_preorder, under_is_contiguous};
 use std::alloc::Global;
 
 // The places of the items of each level, down to the deepest item.
-pub(crate) fn places_by_level(
-    alloc: Global,
-    items: &[Item],
-) -> Result<Vec<Vec<usize>>, OutOfMemory>
+pub(crate) fn places_by_level(alloc: Global, items: &[Item]) -> Result<Vec<Vec<usize>>, OutOfMemory>
     ensures below { IfOk result (λ levels. AllBelow (length levels.items) items.now) }
     ensures places { IfOk result (λ levels. AreByLevel (length items.now) items.now (map (λ places. places.items) levels.items)) }
 {

@@ -57,11 +57,7 @@ fn hand<A, P: Drop>(lot: &mut Lot<A, P>, part: P)
 }
 
 // The paths of the items of a share.
-fn paths_of<A, P>(
-    alloc: Global,
-    items: &[Item],
-    lot: &Lot<A, P>,
-) -> Result<Vec<Path>, OutOfMemory>
+fn paths_of<A, P>(alloc: Global, items: &[Item], lot: &Lot<A, P>) -> Result<Vec<Path>, OutOfMemory>
     requires { (j k : ℕ) → slice_get lot.now.places.items j ≡ Some k → k < length items.now }
     ensures { IfOk result (λ paths. ArePaths items.now lot.now.places.items paths.items) }
 {

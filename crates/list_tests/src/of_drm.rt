@@ -6,15 +6,36 @@ use tool_words::{Command, Common, WordsError, read_words};
 // Lines of drm, their paths, how many tests and paths of `--newer` there are, and whether nothing is to be removed.
 static LINES: [(&[&str], &[&str], usize, usize, bool); 4] = [
     (&["drm", "/t"], &["/t"], 0, 0, false),
-    (&["drm", "--dryrun", "/t/", "/t//"], &["/t", "/t"], 0, 0, true),
     (
-        &["drm", "/t", "--type", "d", "--newer=/n", "--name", "a", "/v"],
+        &["drm", "--dryrun", "/t/", "/t//"],
+        &["/t", "/t"],
+        0,
+        0,
+        true,
+    ),
+    (
+        &[
+            "drm",
+            "/t",
+            "--type",
+            "d",
+            "--newer=/n",
+            "--name",
+            "a",
+            "/v",
+        ],
         &["/t", "/v"],
         2,
         1,
         false,
     ),
-    (&["drm", "/t", "--", "/--dryrun"], &["/t", "/--dryrun"], 0, 0, false),
+    (
+        &["drm", "/t", "--", "/--dryrun"],
+        &["/t", "/--dryrun"],
+        0,
+        0,
+        false,
+    ),
 ];
 
 #[test]

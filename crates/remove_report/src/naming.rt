@@ -55,10 +55,8 @@ fn why_of(fate: Fate) -> Option<Why>
         Fate::Done => None,
         Fate::Failed => Some(Why::FailedRemove),
         Fate::NotEmpty => Some(Why::NotEmpty),
-        Fate::Changed
-        | Fate::Conflict
-        | Fate::Skipped
-        | Fate::ParentFailed
-        | Fate::TooLong => Some(Why::Changed),
+        Fate::Changed | Fate::Conflict | Fate::Skipped | Fate::ParentFailed | Fate::TooLong => Some(
+            Why::Changed,
+        ),
     }
 }

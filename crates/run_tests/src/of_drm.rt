@@ -114,8 +114,10 @@ fn do_with_plan<T: Abort + Threads + Wait + Sync>(
 fn names_what_could_not_be_removed(rt: HostRuntime) -> Result<(), Fail> {
     let alloc = rt.alloc();
     let told = joined(alloc, &[LINES_T, "removed 3 of 5 failed 2\n"])?;
-    let a = "d            0 /t\nf            5 /t/a\nitems 2 dirs 1 files 1 links 0 others 0 bytes 5 failed 0\n";
-    let b = "d            0 /t\nd            0 /t/b\nitems 2 dirs 2 files 0 links 0 others 0 bytes 0 failed 0\n";
+    let a =
+        "d            0 /t\nf            5 /t/a\nitems 2 dirs 1 files 1 links 0 others 0 bytes 5 failed 0\n";
+    let b =
+        "d            0 /t\nd            0 /t/b\nitems 2 dirs 2 files 0 links 0 others 0 bytes 0 failed 0\n";
     for (call, at, left, notes) in [
         (
             Call::RemoveFile,
@@ -217,8 +219,12 @@ fn is_left(alloc: Global, listing: &[u8], chosen: u32) -> Result<bool, Fail> {
             want.push_str(&format!(in alloc; "{}            0 {}\n", NODES[k].1, NODES[k].0)?)?;
         }
     }
-    Ok(listing.starts_with(want.as_bytes())
-        && listing.get(want.len()..).is_some_and(|rest| rest.starts_with(b"items ")))
+    Ok(
+        listing.starts_with(want.as_bytes())
+            && listing
+                .get(want.len()..)
+                .is_some_and(|rest| rest.starts_with(b"items ")),
+    )
 }
 
 #[test]

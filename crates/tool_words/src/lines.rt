@@ -386,7 +386,9 @@ impl Line {
         ensures refused { IfErr result (λ e. Tells (asked_of wanting Tool.Remove self) e) }
     {
         let Line {
-            settings, lower, ..
+            settings,
+            lower,
+            ..
         } = self;
         let Settings {
             common,

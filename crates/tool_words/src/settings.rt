@@ -69,10 +69,8 @@ impl Settings {
             OptionName::Split => self.common.split = split_in(text).ok_or(bad)?,
             OptionName::Seed => self.common.seed = number_in(0, u64::MAX, text).ok_or(bad)?,
             OptionName::Width => self.common.width = small_number_in(2, 64, text).ok_or(bad)?,
-            OptionName::Trace
-            | OptionName::Shares
-            | OptionName::Progress
-            | OptionName::Dryrun => return Err(bad),
+            OptionName::Trace | OptionName::Shares | OptionName::Progress | OptionName::Dryrun =>
+                return Err(bad),
             OptionName::Sort => self.sort = Some(order_in(text).ok_or(bad)?),
             OptionName::Input => self.input = Some(path_in(alloc, text, place)?),
             OptionName::Output => self.output = Some(path_in(alloc, text, place)?),

@@ -16,7 +16,7 @@ one_level-requires-clause-len g c = λ _ _. turned_len g.A.Act.plain g.A.Act.cou
 
 pub one_level-requires-clause-places : goal.one_level-requires-clause-places
 one_level-requires-clause-places g c = λ _ _. subst (AreOnLevel (length c.args.items.now) c.level_of_turn-level.result c.args.items.now) (sym c.deref-places.ensures.value) (c.requires.places c.level_of_turn-level.result _
-      (map_get (λ v. v.items) c.args.levels.now c.level_of_turn-level.result _ (slice_get-get_or c.args.levels.now c.level_of_turn-level.result c.index-levels-level.result (omega (arith, c.level_of_turn-level.ensures, level_below c.args.order (length c.args.levels.now) c.loop-turn.turn c.loop-turn-test.true)) ∙ ap Some (sym c.index-levels-level.is))))
+    (map_get (λ v. v.items) c.args.levels.now c.level_of_turn-level.result _ (slice_get-get_or c.args.levels.now c.level_of_turn-level.result c.index-levels-level.result (omega (arith, c.level_of_turn-level.ensures, level_below c.args.order (length c.args.levels.now) c.loop-turn.turn c.loop-turn-test.true)) ∙ ap Some (sym c.index-levels-level.is))))
 
 pub one_level-requires-clause-parents : goal.one_level-requires-clause-parents
 one_level-requires-clause-parents g c = λ _ _. subst (λ l. IfSome (g.G.Plot.tree c.loop-turn.ground) (CanStep c.args.order l c.args.items.now c.loop-turn.fates)) (sym c.level_of_turn-level.ensures)
@@ -36,7 +36,7 @@ note-requires-clause-len g c = c.in_ok-one_level.ensures.fates.len ∙ turned_le
 
 pub note-requires-clause-inside : goal.note-requires-clause-inside
 note-requires-clause-inside g c = (subst (AreOnLevel (length c.args.items.now) c.level_of_turn-level.result c.args.items.now) (sym c.deref-places.ensures.value) (c.requires.places c.level_of_turn-level.result _
-      (map_get (λ v. v.items) c.args.levels.now c.level_of_turn-level.result _ (slice_get-get_or c.args.levels.now c.level_of_turn-level.result c.index-levels-level.result (omega (arith, c.level_of_turn-level.ensures, level_below c.args.order (length c.args.levels.now) c.loop-turn.turn c.loop-turn-test.true)) ∙ ap Some (sym c.index-levels-level.is))))).below
+    (map_get (λ v. v.items) c.args.levels.now c.level_of_turn-level.result _ (slice_get-get_or c.args.levels.now c.level_of_turn-level.result c.index-levels-level.result (omega (arith, c.level_of_turn-level.ensures, level_below c.args.order (length c.args.levels.now) c.loop-turn.turn c.loop-turn-test.true)) ∙ ap Some (sym c.index-levels-level.is))))).below
 
 pub returns-in_err-note-clause-tells : goal.returns-in_err-note-clause-tells
 returns-in_err-note-clause-tells g c = c.one_level.ensures.tells ∙ turned_tells g.A.Act.plain g.A.Act.count g.A.Act.deed c.args.order (length c.args.levels.now) c.args.items.now c.args.lots.now _ _ _ _ _ _ _ _ _ c.loop-turn.invariant c.requires.some c.requires.alike
@@ -51,7 +51,7 @@ pub loop-turn-preserved : goal.loop-turn-preserved
 loop-turn-preserved g c = turned_more g.A.Act.plain g.A.Act.count g.A.Act.deed c.args.order (length c.args.levels.now) c.args.items.now c.args.lots.now _ _ _ _ _ _ _ _ _ c.loop-turn.invariant c.requires.some c.requires.alike _ _ c.one_level.new.lots c.one_level.new.fates _ c.level_of_turn-level.ensures c.loop-turn-test.true _ c.note.new.failed.set.keys _ c.requires.items c.one_level.ensures.area c.one_level.ensures.home c.one_level.ensures.actors c.one_level.ensures.count c.one_level.ensures.tells
     c.in_ok-one_level.ensures.fates c.in_ok-one_level.ensures.told c.in_ok-one_level.ensures.blamed
     (subst (AreOnLevel (length c.args.items.now) c.level_of_turn-level.result c.args.items.now) (sym c.deref-places.ensures.value) (c.requires.places c.level_of_turn-level.result _
-      (map_get (λ v. v.items) c.args.levels.now c.level_of_turn-level.result _ (slice_get-get_or c.args.levels.now c.level_of_turn-level.result c.index-levels-level.result (omega (arith, c.level_of_turn-level.ensures, level_below c.args.order (length c.args.levels.now) c.loop-turn.turn c.loop-turn-test.true)) ∙ ap Some (sym c.index-levels-level.is)))))
+    (map_get (λ v. v.items) c.args.levels.now c.level_of_turn-level.result _ (slice_get-get_or c.args.levels.now c.level_of_turn-level.result c.index-levels-level.result (omega (arith, c.level_of_turn-level.ensures, level_below c.args.order (length c.args.levels.now) c.loop-turn.turn c.loop-turn-test.true)) ∙ ap Some (sym c.index-levels-level.is)))))
     c.in_ok-note.ensures
 
 pub returns-clause-tells : goal.returns-clause-tells

@@ -33,7 +33,7 @@ returns-clause-gone g c = count_paths is_done _ _ (c.in_ok-fates.ensures.len ∙
 
 pub returns-clause-told : goal.returns-clause-told
 returns-clause-told g c = subst (λ xs. IfSome (g.G.Plot.tree c.args.ground.now) (λ before. IfSome (g.G.Plot.tree c.on_levels.new.ground)
-      (Rattle.tree_remove.specs.Removing.Removed (Rattle.std.specs.List.zip (map (λ x. x.path) xs) c.in_ok-fates.fates) before))) c.deref.ensures.value
+    (Rattle.tree_remove.specs.Removing.Removed (Rattle.std.specs.List.zip (map (λ x. x.path) xs) c.in_ok-fates.fates) before))) c.deref.ensures.value
     (removed c.args.chosen.now _ _ (g.G.Plot.tree c.args.ground.now) (g.G.Plot.tree c.on_levels.new.ground) (record {
       law = c.nodes_are_under_directories.ensures;
       chosen = c.requires.chosen;
