@@ -1,6 +1,5 @@
 -- The actors of the lots before and after some work.
-use Rattle.std.proofs.Common.{◌≡◌, ℕ, zero, suc, ◌<◌, ◌≤◌, List, [], ◌∷◌, map, length, Option, Some, refl, ap, ◌∙◌, sym, subst, arith, slice_get}
-use Rattle.std.proofs.lemmas.Option.{slice_get_within}
+use Rattle.std.proofs.Common.{◌≡◌, ℕ, zero, suc, ◌<◌, ◌≤◌, List, [], ◌∷◌, map, length, Some, refl, ap, ◌∙◌, sym, arith, slice_get}
 use Rattle.std.specs.Prelude.{slice_index_or}
 use Rattle.level_work.specs.Private.Crews.{SameActors}
 use Rattle.level_work.specs.declared.lots.Lot.{Lot}

@@ -1,5 +1,5 @@
 -- One level by several actors, put together.
-use Rattle.std.proofs.Common.{◌≡◌, ◌≢◌, ◌⊎◌, inl, inr, ℕ, zero, suc, ◌+◌, ◌<◌, Bool, true, false, List, [], ◌∷◌, ◌++◌, map, length, Option, Some, None, IfSome, refl, ap, ◌∙◌, sym, subst, arith, slice_get, is_some}
+use Rattle.std.proofs.Common.{◌≡◌, ◌⊎◌, inl, inr, ℕ, zero, suc, ◌<◌, true, false, List, [], ◌∷◌, ◌++◌, map, length, Option, Some, None, IfSome, refl, ap, ◌∙◌, sym, subst, arith, slice_get, is_some}
 use Rattle.std.proofs.lemmas.Bool.{false≢true}
 use Rattle.std.proofs.lemmas.Option.{slice_get_within}
 use Rattle.std.specs.Prelude.{slice_index_or, OnOk, OnErr, Result, Ok, Err}
@@ -14,7 +14,7 @@ use Rattle.level_work.specs.Levels.{AreItems, FailsWith}
 use Rattle.level_work.specs.Chain.{OneLevel}
 use Rattle.level_work.specs.Private.Steps.{TellsLevel, SameButLevel}
 use Rattle.level_work.specs.Private.Lots.{IsAt, HasWorked, SameButFirst, part_tree, part_area}
-use Rattle.level_work.specs.Private.Crews.{Comes, stays, comes, Dealt, AreShares, AreOut, AllReady, AllTell, ShowAll, AllBack, SameShares, Stored, AreUnder, tops_in, tops_out, InNone}
+use Rattle.level_work.specs.Private.Crews.{Comes, stays, comes, Dealt, AreShares, AreOut, AllReady, AllTell, ShowAll, AllBack, SameShares, Stored, AreUnder, tops_in, tops_out}
 use Rattle.std.specs.FinMap.{get}
 use Rattle.std.specs.Prelude.{nat_eq}
 use Rattle.std.specs.Cmp.Lexicographic.{pointwise}
@@ -22,8 +22,8 @@ use Rattle.level_work.specs.declared.items.Item.{Item}
 use Rattle.level_work.specs.declared.items.Fate.{Fate}
 use Rattle.level_work.specs.declared.items.Order.{Order}
 use Rattle.level_work.specs.declared.lots.Lot.{Lot}
-use Rattle.level_work.proofs.Leveled.{SharesTold, one_level_told}
-use Rattle.level_work.proofs.Likes.{At, same_place, Like, likes, likes_back, shares_over, stored_over}
+use Rattle.level_work.proofs.Leveled.{one_level_told}
+use Rattle.level_work.proofs.Likes.{same_place, Like, likes, shares_over, stored_over}
 use Rattle.level_work.proofs.Sharing.{Was, was, shares_told, told_own, opened}
 use Rattle.level_work.proofs.Working.{same_some, some_at}
 

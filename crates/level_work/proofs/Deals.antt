@@ -1,10 +1,8 @@
 -- How the items of a level are dealt.
-use Rattle.std.proofs.Common.{◌≡◌, ◌≢◌, ◌⊎◌, inl, inr, ℕ, zero, suc, ◌+◌, ◌<◌, ◌≤◌, Bool, true, false, ◌||◌, List, [], ◌∷◌, ◌++◌, length, map, Option, Some, None, refl, ap, ◌∙◌, sym, subst, arith, eqb, nat_eq, nat_lt, slice_get}
-use Rattle.std.specs.Prelude.{IsTrue, slice_set}
+use Rattle.std.proofs.Common.{◌≡◌, ◌⊎◌, inl, inr, ℕ, zero, suc, ◌+◌, ◌<◌, ◌≤◌, Bool, true, false, ◌||◌, List, [], ◌∷◌, ◌++◌, length, map, Some, None, refl, ap, ◌∙◌, sym, subst, arith, eqb, nat_eq, nat_lt, slice_get}
+use Rattle.std.specs.Prelude.{slice_set}
 use Rattle.std.proofs.lemmas.Bool.{false≢true}
-use Rattle.std.proofs.lemmas.Bool.Decides.{nat_tests}
 use Rattle.std.proofs.lemmas.Option.{slice_get_within}
-use Rattle.std.specs.Cmp.{IsTotalOrder}
 use Rattle.std.specs.declared.cmp.Ordering.{Ordering}
 use Rattle.std.specs.declared.cmp.Ordering.TheVariants.{Less, Equal, Greater}
 use Rattle.std.specs.Ordering.{ordering_reverse}
@@ -12,10 +10,9 @@ use Rattle.std.specs.Cmp.Lexicographic.{pointwise, bytes_decides}
 use Rattle.path_text.specs.Order.{path_cmp, is_within, is_under, IsPreorder, UnderIsContiguous}
 use Rattle.path_text.specs.Path.{level_of, parent_of, refusal}
 use Rattle.path_text.specs.Total.{path_cmp_total, path_cmp_same}
-use Rattle.outside.proofs.Depth.{deeper, itself}
+use Rattle.outside.proofs.Depth.{deeper}
 use Rattle.level_work.specs.Levels.{AreItems, FailsWith, HasFailedParent}
 use Rattle.level_work.specs.Chain.{AllBelow, level_at}
-use Rattle.level_work.specs.Private.Lots.{IsAt}
 use Rattle.level_work.specs.Private.Crews.{InLot, Dealt, AreShares, SameSeats}
 use Rattle.level_work.specs.Private.Dealing.{IsAmong, Knows, AreOnLevel, AreByLevel, AreFailed, has_path, In, DealtTo, DealsOne, left_out, dealt_to}
 use Rattle.level_work.specs.declared.items.Item.{Item}
@@ -27,7 +24,7 @@ use Rattle.level_work.proofs.Crewed.{map_get}
 use Rattle.level_work.proofs.Giving.{get_set_same, get_set_other, get_end, get_front, length_set, map_set}
 use Rattle.level_work.proofs.Leases.{Written, written_here, written_there, written, same_number, other_number, is_less, not_less}
 use Rattle.level_work.proofs.Running.{some_bytes}
-use Rattle.level_work.proofs.Working.{same_some, get_more, some_at}
+use Rattle.level_work.proofs.Working.{same_some, get_more}
 
 pub failed_parent : (items : List Item) (fates : List Fate) (paths : List (List ℕ)) (x : Item) → AreFailed items fates paths → has_path paths (parent_of x.path) ≡ true → HasFailedParent items fates x
 failed_parent items fates paths x w e = let f = w.sound (parent_of x.path) e in

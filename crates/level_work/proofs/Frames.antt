@@ -1,11 +1,11 @@
 -- What stands at and under a path, where other paths change.
-use Rattle.std.proofs.Common.{◌≡◌, ℕ, Bool, true, false, cond, ◌||◌, List, Option, Some, None, refl, ap, ◌∙◌, sym, nat_eq}
+use Rattle.std.proofs.Common.{◌≡◌, ℕ, true, false, cond, ◌||◌, List, None, refl, ap, ◌∙◌, sym, nat_eq}
 use Rattle.std.proofs.lemmas.Bool.{false≢true}
 use Rattle.std.specs.FinMap.{get, get-retain_keys, same_map}
 use Rattle.std.specs.Cmp.Lexicographic.{pointwise, bytes_decides}
-use Rattle.path_text.specs.Order.{path_cmp, is_within, is_under}
+use Rattle.path_text.specs.Order.{is_within, is_under}
 use Rattle.path_text.specs.Total.{path_cmp_total, path_cmp_same}
-use Rattle.outside.specs.Tree.{Files, Node}
+use Rattle.outside.specs.Tree.{Files}
 use Rattle.outside.specs.Writes.{SameBut}
 use Rattle.level_work.specs.Acts.{at_and_under}
 

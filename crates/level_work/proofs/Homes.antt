@@ -1,8 +1,7 @@
 -- Lots without parts.
-use Rattle.std.proofs.Common.{◌≡◌, ℕ, zero, suc, ◌++◌, Bool, true, false, List, [], ◌∷◌, map, Option, Some, None, IfSome, refl, ap, ◌∙◌, sym, subst, slice_get}
-use Rattle.std.specs.FinMap.{get}
+use Rattle.std.proofs.Common.{◌≡◌, ℕ, suc, ◌++◌, List, [], ◌∷◌, map, Option, Some, None, IfSome, refl, ap, ◌∙◌}
 use Rattle.outside.specs.Tree.{Files}
-use Rattle.outside.specs.Writes.{Area, all_but}
+use Rattle.outside.specs.Writes.{Area}
 use Rattle.level_work.specs.Private.Lots.{part_tree, part_area, part_count}
 use Rattle.level_work.specs.Private.Crews.{AtHome, tops_in, tops_out, AreOut}
 use Rattle.level_work.specs.declared.lots.Lot.{Lot}

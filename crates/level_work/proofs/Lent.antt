@@ -1,27 +1,23 @@
 -- A share that is leased, worked on and given back.
-use Rattle.std.proofs.Common.{◌≡◌, ◌≢◌, ℕ, zero, suc, ◌+◌, ◌<◌, ◌≤◌, Bool, true, false, cond, not, ◌||◌, ◌&&◌, List, [], ◌∷◌, ◌++◌, length, Option, Some, None, IfSome, refl, ap, ◌∙◌, sym, subst, arith, nat_eq, eqb, length-append, is_some, slice_get}
+use Rattle.std.proofs.Common.{◌≡◌, ◌≢◌, ℕ, zero, suc, ◌+◌, ◌<◌, Bool, true, false, not, ◌&&◌, List, [], ◌∷◌, ◌++◌, length, Option, Some, None, IfSome, refl, ap, ◌∙◌, sym, subst, arith, nat_eq, eqb, length-append, slice_get}
 use Rattle.std.specs.Prelude.{IsTrue}
 use Rattle.std.proofs.lemmas.Bool.{false≢true}
 use Rattle.std.proofs.lemmas.Bool.Decides.{nat_tests}
 use Rattle.std.proofs.lemmas.Option.{slice_get_within, get_or_from_slice_get}
 use Rattle.std.proofs.lemmas.List.Folds.{list_any_at}
 use Rattle.std.specs.List.{list_any}
-use Rattle.std.specs.Option.{option_map}
-use Rattle.std.specs.FinMap.{get, get-retain_keys}
+use Rattle.std.specs.FinMap.{get}
 use Rattle.std.specs.Cmp.Lexicographic.{pointwise, bytes_decides}
-use Rattle.path_text.specs.Order.{path_cmp, is_within}
+use Rattle.path_text.specs.Order.{is_within}
 use Rattle.path_text.specs.Path.{level_of, parent_of}
-use Rattle.path_text.specs.Total.{path_cmp_same}
 use Rattle.outside.specs.Tree.{Files, is_dir, is_root}
 use Rattle.outside.specs.Writes.{Area, all_but, under, is_top, is_open}
-use Rattle.outside.specs.Lease.{in_tops, leased, kept, Joins, area_without, area_with, is_out, tops_of, same_tops, CanLease, HaveParents}
-use Rattle.level_work.specs.Acts.{Deed, at_and_under}
-use Rattle.level_work.specs.Private.Lots.{IsAt, AreApart, SameButFirst, WorkedOn, Ready}
+use Rattle.outside.specs.Lease.{in_tops, same_tops, CanLease, HaveParents}
+use Rattle.level_work.specs.Private.Lots.{IsAt, AreApart, Ready}
 use Rattle.level_work.specs.Private.Shares.{ArePaths, AreFirstPaths, IsShare, StandInDirs}
 use Rattle.level_work.specs.declared.items.Item.{Item}
-use Rattle.level_work.specs.declared.items.Fate.{Fate}
 use Rattle.level_work.specs.declared.lots.Lot.{Lot}
-use Rattle.level_work.proofs.Frames.{get_at, same_at, itself}
+use Rattle.level_work.proofs.Frames.{itself}
 use Rattle.level_work.proofs.Working.{item_at, same_some}
 
 get_end : {X : Type 0} (xs : List X) (y : X) → slice_get (xs ++ y ∷ []) (length xs) ≡ Some y

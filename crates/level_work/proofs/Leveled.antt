@@ -1,5 +1,5 @@
 -- One level by several actors, from what each share did.
-use Rattle.std.proofs.Common.{◌≡◌, ◌≢◌, ◌⊎◌, inl, inr, ℕ, ◌+◌, ◌<◌, ◌≤◌, Bool, true, false, cond, List, [], length, Option, Some, None, refl, ap, ◌∙◌, sym, subst, arith, nat_eq, eqb, slice_get}
+use Rattle.std.proofs.Common.{◌≡◌, ◌≢◌, ◌⊎◌, inl, inr, ℕ, true, false, List, [], Option, Some, refl, ap, ◌∙◌, sym, subst, arith, nat_eq, eqb, slice_get}
 use Rattle.std.proofs.lemmas.Bool.{false≢true}
 use Rattle.std.proofs.lemmas.Bool.Decides.{nat_tests}
 use Rattle.std.proofs.lemmas.Option.{slice_get_within, get_or_from_slice_get}
@@ -16,14 +16,14 @@ use Rattle.level_work.specs.Levels.{AreItems, FailsWith}
 use Rattle.level_work.specs.Chain.{OneLevel}
 use Rattle.level_work.specs.Private.Lots.{IsAt}
 use Rattle.level_work.specs.Private.Shares.{ArePaths}
-use Rattle.level_work.specs.Private.Crews.{InLot, Dealt, AreShares, InNone, Comes, stays, comes, AllBack, Stored}
+use Rattle.level_work.specs.Private.Crews.{Dealt, AreShares, InNone, Comes, stays, comes, AllBack}
 use Rattle.level_work.specs.declared.items.Item.{Item}
 use Rattle.level_work.specs.declared.items.Fate.{Fate}
 use Rattle.level_work.specs.declared.items.Fate.TheVariants as fate
 use Rattle.level_work.specs.declared.items.Order.{Order}
 use Rattle.level_work.specs.declared.lots.Lot.{Lot}
 use Rattle.outside.proofs.Depth.{deeper}
-use Rattle.level_work.proofs.Frames.{same_at, itself}
+use Rattle.level_work.proofs.Frames.{same_at}
 use Rattle.level_work.proofs.Running.{some_bytes}
 use Rattle.outside.proofs.Leased.{a_top}
 use Rattle.level_work.proofs.Working.{same_some, item_at}

@@ -1,8 +1,5 @@
 -- Lots that have the same shares.
-use Rattle.std.proofs.Common.{◌≡◌, ◌⊎◌, inl, inr, ℕ, zero, suc, ◌<◌, Bool, true, false, List, [], ◌∷◌, map, length, Option, Some, None, refl, ap, ◌∙◌, sym, subst, slice_get}
-use Rattle.std.specs.List.{count_by, sum_by}
-use Rattle.level_work.specs.Levels.{FailsWith}
-use Rattle.level_work.specs.Counts.{is_failed}
+use Rattle.std.proofs.Common.{◌≡◌, ◌⊎◌, inl, inr, ℕ, zero, suc, List, [], ◌∷◌, map, Some, refl, ap, ◌∙◌, sym, subst, slice_get}
 use Rattle.level_work.specs.Private.Lots.{IsAt}
 use Rattle.level_work.specs.Private.Crews.{InLot, Dealt, AreShares, SameShares, Stored}
 use Rattle.level_work.specs.declared.items.Item.{Item}

@@ -1,26 +1,24 @@
 -- The maps between the levels follow from the maps before and after.
-use Rattle.std.proofs.Common.{◌≡◌, ◌≢◌, ◌⊎◌, inl, inr, ℕ, zero, suc, ◌+◌, ◌<◌, ◌≤◌, Bool, true, false, cond, not, ◌||◌, ◌&&◌, List, [], ◌∷◌, length, Option, Some, None, refl, ap, ◌∙◌, sym, subst, arith, nat_eq, is_some, slice_get}
+use Rattle.std.proofs.Common.{◌≡◌, ◌≢◌, ◌⊎◌, inl, inr, ℕ, zero, suc, Bool, true, false, cond, not, ◌||◌, ◌&&◌, List, [], ◌∷◌, Option, Some, None, refl, ap, ◌∙◌, sym, subst, arith, nat_eq, is_some, slice_get}
 use Rattle.std.proofs.lemmas.Bool.{false≢true}
-use Rattle.std.specs.List.{list_any}
 use Rattle.std.specs.FinMap.{get, entries, retain_keys, get-entries, get-retain_keys, same_map}
 use Rattle.std.specs.Cmp.Lexicographic.{pointwise, bytes_decides}
-use Rattle.path_text.specs.Order.{path_cmp, is_within}
-use Rattle.path_text.specs.Path.{level_of, refusal}
+use Rattle.path_text.specs.Path.{level_of}
 use Rattle.path_text.specs.Total.{path_cmp_total, path_cmp_same}
 use Rattle.outside.specs.Tree.{Files, Node}
-use Rattle.outside.specs.Laid.{put_all, get_put_all}
+use Rattle.outside.specs.Laid.{get_put_all}
 use Rattle.level_work.specs.Acts.{Deed, at_and_under}
-use Rattle.level_work.specs.Levels.{with_at, found, left, HasFate, Acted, AreItems, is_item}
-use Rattle.level_work.specs.Chain.{OneLevel, AllBelow, is_done, mark_at, level_at, is_done_path, stage, IsChain, ActedIsChain}
+use Rattle.level_work.specs.Levels.{with_at, Acted, AreItems, is_item}
+use Rattle.level_work.specs.Chain.{OneLevel, is_done, mark_at, is_done_path, stage, ActedIsChain}
 use Rattle.level_work.specs.declared.items.Item.{Item}
 use Rattle.level_work.specs.declared.items.Fate.{Fate}
 use Rattle.level_work.specs.declared.items.Fate.TheVariants as fate
 use Rattle.level_work.specs.declared.items.Order.{Order}
 use Rattle.level_work.specs.declared.items.Order.TheVariants as order
-use Rattle.level_work.proofs.Frames.{get_at, same_at, itself}
+use Rattle.level_work.proofs.Frames.{same_at}
 use Rattle.outside.proofs.Depth.{deeper, as_deep}
-use Rattle.level_work.proofs.Stages.{Next, with_here, other_level, lt_true, le_true, true_lt, true_le, done_after, not_here, still_done, now_done}
-use Rattle.level_work.proofs.Running.{next_at, not_yet, at_last, some_bytes, is_no_item, no_item, standing, Standing}
+use Rattle.level_work.proofs.Stages.{Next, with_here, other_level, lt_true, le_true, true_le, done_after, not_here, still_done, now_done}
+use Rattle.level_work.proofs.Running.{next_at, not_yet, at_last, some_bytes, is_no_item, no_item, standing}
 use Rattle.level_work.proofs.Working.{same_some}
 
 get_stage : (o : Order) (t : ℕ) (items : List Item) (before after : Files) (q : List ℕ) → get (stage o t items before after) q ≡ cond (is_done_path o t items q) (get after q) (get before q)

@@ -1,29 +1,29 @@
 -- Level by level, turn after turn.
-use Rattle.std.proofs.Common.{◌≡◌, ◌≢◌, ◌⊎◌, ◌↔◌, inl, inr, ℕ, zero, suc, ◌+◌, ◌-◌, ◌<◌, ◌≤◌, Bool, true, false, cond, ◌||◌, List, [], ◌∷◌, length, Option, Some, None, IfSome, refl, ap, ◌∙◌, sym, subst, arith, nat_eq, nat_lt, nat_le, eqb, is_some, slice_get, ◌++◌, ◌&&◌, length-append}
+use Rattle.std.proofs.Common.{◌≡◌, ◌≢◌, ◌⊎◌, ◌↔◌, inl, inr, ℕ, zero, suc, ◌+◌, ◌-◌, ◌<◌, ◌≤◌, Bool, true, false, cond, ◌||◌, List, [], ◌∷◌, length, Option, Some, None, IfSome, refl, ap, ◌∙◌, sym, subst, arith, nat_eq, nat_le, is_some, slice_get, ◌++◌, ◌&&◌, length-append}
 use Rattle.std.proofs.lemmas.Bool.{false≢true}
 use Rattle.std.proofs.lemmas.Bool.Decides.{nat_tests}
 use Rattle.std.specs.Prelude.{◌==◌, Result, Ok, Err, OnErr}
-use Rattle.std.specs.List.{list_any, before_last}
+use Rattle.std.specs.List.{before_last}
 use Rattle.std.specs.FinMap.{get}
 use Rattle.std.proofs.lemmas.Option.{slice_get_within}
 use Rattle.std.specs.Cmp.Lexicographic.{pointwise, bytes_decides}
-use Rattle.path_text.specs.Order.{is_within, is_under, front}
+use Rattle.path_text.specs.Order.{is_under, front}
 use Rattle.path_text.specs.Path.{level_of, parent_of, refusal, is_slash}
 use Rattle.outside.specs.Tree.{Files, is_dir, is_root}
 use Rattle.outside.proofs.Parents.{child_of_parent}
 use Rattle.level_work.specs.Acts.{Deed, at_and_under, MakesDirs}
-use Rattle.level_work.specs.Levels.{with_at, found, left, HasFate, Acted, SameButItems, is_item, HasFailedParent, FailsWith, ParentsFail, StandIn, AreItems}
+use Rattle.level_work.specs.Levels.{found, left, Acted, SameButItems, is_item, FailsWith, ParentsFail, StandIn, AreItems}
 use Rattle.level_work.specs.Chain.{OneLevel, is_done, AllBelow, mark_at, level_at}
-use Rattle.level_work.specs.Private.Steps.{Sofar, SameButLevel, CanStep, TellsLevel, ToldSofar, Ran}
+use Rattle.level_work.specs.Private.Steps.{Sofar, SameButLevel, CanStep, TellsLevel, Ran}
 use Rattle.level_work.specs.declared.items.Item.{Item}
 use Rattle.level_work.specs.declared.items.Fate.{Fate}
 use Rattle.level_work.specs.declared.items.Fate.TheVariants as fate
 use Rattle.level_work.specs.declared.items.Order.{Order}
 use Rattle.level_work.specs.declared.items.Order.TheVariants as order
-use Rattle.level_work.proofs.Frames.{get_here, itself}
-use Rattle.outside.proofs.Depth.{deeper, as_deep}
+use Rattle.level_work.proofs.Frames.{get_here}
+use Rattle.outside.proofs.Depth.{deeper}
 use Rattle.outside.proofs.Depth.{name_is_under}
-use Rattle.level_work.proofs.Stages.{Next, get_with, other_level, lt_true, le_true, true_lt, true_le, done_after, not_here, still_done, now_done, level_more}
+use Rattle.level_work.proofs.Stages.{Next, get_with, other_level, lt_true, le_true, true_lt, true_le, done_after, not_here, level_more}
 use Rattle.level_work.proofs.Working.{some_at, same_some, both_told, same_told}
 
 pub some_bytes : (p : List ℕ) → refusal p ≡ None → 0 < length p

@@ -1,11 +1,8 @@
 -- What the shares of a level did, over the map before the level.
-use Rattle.std.proofs.Common.{◌≡◌, ◌≢◌, ◌⊎◌, inl, inr, ℕ, ◌+◌, ◌<◌, ◌≤◌, Bool, true, false, cond, List, [], length, Option, Some, None, IfSome, refl, ap, ◌∙◌, sym, subst, arith, nat_eq, slice_get, is_some}
+use Rattle.std.proofs.Common.{◌≡◌, ℕ, ◌<◌, true, false, List, length, Option, Some, None, IfSome, refl, ap, ◌∙◌, sym, subst, arith, slice_get, is_some}
 use Rattle.std.proofs.lemmas.Bool.{false≢true}
 use Rattle.std.proofs.lemmas.Option.{slice_get_within, get_or_from_slice_get}
 use Rattle.std.specs.Prelude.{slice_index_or}
-use Rattle.std.specs.FinMap.{get}
-use Rattle.std.specs.Cmp.Lexicographic.{pointwise}
-use Rattle.path_text.specs.Order.{is_within}
 use Rattle.outside.specs.Tree.{Files}
 use Rattle.outside.specs.Writes.{Area}
 use Rattle.outside.specs.Lease.{in_tops, tops_of}
@@ -13,14 +10,14 @@ use Rattle.level_work.specs.Acts.{Deed, at_and_under}
 use Rattle.level_work.specs.Levels.{AreItems}
 use Rattle.level_work.specs.Private.Lots.{IsAt, HasWorked, WorkedOn, SameButFirst}
 use Rattle.level_work.specs.Private.Shares.{ArePaths}
-use Rattle.level_work.specs.Private.Crews.{InLot, AreShares, AreOut, AllReady, AllTell}
+use Rattle.level_work.specs.Private.Crews.{AreShares, AreOut, AllReady}
 use Rattle.level_work.specs.declared.items.Item.{Item}
 use Rattle.level_work.specs.declared.items.Fate.{Fate}
 use Rattle.level_work.specs.declared.items.Order.{Order}
 use Rattle.level_work.specs.declared.lots.Lot.{Lot}
 use Rattle.level_work.proofs.Frames.{same_at}
-use Rattle.level_work.proofs.Leveled.{SharesTold, HasOwn, inside}
-use Rattle.level_work.proofs.Working.{same_some, some_at}
+use Rattle.level_work.proofs.Leveled.{SharesTold, inside}
+use Rattle.level_work.proofs.Working.{some_at}
 
 module _ {A P D : Type 0} (tree : Option P → Option Files) (area : Option P → Area) (part_count : Option P → ℕ) (plain : A → D) (count : A → ℕ) (deed : D → Deed) where
   -- the lot that a lot was before its work

@@ -1,8 +1,7 @@
 -- Level by level.
-use Rattle.std.proofs.Common.{◌≡◌, ◌≢◌, ◌⊎◌, inl, inr, ℕ, ◌+◌, ◌<◌, ◌≤◌, suc, Bool, true, false, cond, ◌||◌, List, length, Option, Some, None, refl, ap, ◌∙◌, sym, subst, arith, nat_eq, nat_lt, nat_le, slice_get}
-use Rattle.std.proofs.lemmas.Bool.{false≢true}
+use Rattle.std.proofs.Common.{◌≡◌, ◌⊎◌, inl, inr, ℕ, ◌+◌, ◌<◌, ◌≤◌, true, false, cond, List, length, Option, Some, None, refl, ap, ◌∙◌, sym, subst, arith, nat_eq, nat_lt, nat_le, slice_get}
 use Rattle.std.proofs.lemmas.Bool.Decides.{nat_tests}
-use Rattle.std.specs.FinMap.{get, insert, remove, get-insert, get-remove, same_map}
+use Rattle.std.specs.FinMap.{get, get-insert, get-remove, same_map}
 use Rattle.std.specs.Ordering.{eq_by_cmp}
 use Rattle.std.specs.Cmp.Lexicographic.{pointwise, bytes_decides}
 use Rattle.path_text.specs.Order.{path_cmp, is_within}
@@ -10,12 +9,11 @@ use Rattle.path_text.specs.Path.{level_of}
 use Rattle.path_text.specs.Total.{path_cmp_total, path_cmp_ties, path_cmp_same}
 use Rattle.outside.specs.Tree.{Files, Node}
 use Rattle.level_work.specs.Acts.{Deed, at_and_under}
-use Rattle.level_work.specs.Levels.{with_at, found, left, HasFate}
+use Rattle.level_work.specs.Levels.{with_at, HasFate}
 use Rattle.level_work.specs.Chain.{OneLevel, is_done}
 use Rattle.level_work.specs.Private.Steps.{Sofar}
 use Rattle.level_work.specs.declared.items.Item.{Item}
 use Rattle.level_work.specs.declared.items.Fate.{Fate}
-use Rattle.level_work.specs.declared.items.Fate.TheVariants as fate
 use Rattle.level_work.specs.declared.items.Order.{Order}
 use Rattle.level_work.specs.declared.items.Order.TheVariants as order
 use Rattle.level_work.proofs.Frames.{get_at, same_at, itself}

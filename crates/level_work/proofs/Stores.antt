@@ -1,5 +1,5 @@
 -- Fates stored, and failed paths noted.
-use Rattle.std.proofs.Common.{◌≡◌, ◌≢◌, ◌⊎◌, inl, inr, ℕ, zero, suc, ◌+◌, ◌<◌, ◌≤◌, Bool, true, false, cond, ◌||◌, List, [], ◌∷◌, ◌++◌, length, take, Some, refl, ap, ◌∙◌, sym, subst, arith, eqb, nat_eq, nat_lt, slice_get}
+use Rattle.std.proofs.Common.{◌≡◌, ◌≢◌, ◌⊎◌, inl, inr, ℕ, zero, suc, ◌+◌, ◌<◌, ◌≤◌, Bool, true, false, cond, ◌||◌, List, [], ◌∷◌, length, take, Some, refl, ap, ◌∙◌, sym, arith, eqb, nat_eq, nat_lt, slice_get}
 use Rattle.std.specs.Prelude.{slice_set}
 use Rattle.std.proofs.lemmas.Bool.{false≢true}
 use Rattle.std.proofs.lemmas.Option.{slice_get_within}
@@ -9,10 +9,9 @@ use Rattle.std.specs.Cmp.Lexicographic.{pointwise, bytes_decides}
 use Rattle.path_text.specs.Path.{level_of}
 use Rattle.outside.proofs.Depth.{itself}
 use Rattle.level_work.specs.Counts.{is_failed}
-use Rattle.level_work.specs.Levels.{AreItems}
 use Rattle.level_work.specs.Private.Steps.{TellsLevel}
-use Rattle.level_work.specs.Private.Crews.{InLot, Dealt, AreShares, Stored}
-use Rattle.level_work.specs.Private.Dealing.{IsAmong, AreOnLevel, FailedAt, AreFailed, IsFresh, Knows, has_path, In}
+use Rattle.level_work.specs.Private.Crews.{AreShares, Stored}
+use Rattle.level_work.specs.Private.Dealing.{IsAmong, AreOnLevel, FailedAt, IsFresh, Knows, has_path, In}
 use Rattle.level_work.specs.Private.Storing.{IsLeftOut, IsStored, AreStored, IsNoted, Notes}
 use Rattle.level_work.specs.declared.items.Item.{Item}
 use Rattle.level_work.specs.declared.items.Fate.{Fate}

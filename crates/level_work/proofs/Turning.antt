@@ -1,20 +1,20 @@
 -- All lots at work, level after level.
-use Rattle.std.proofs.Common.{◌≡◌, ◌≢◌, ℕ, zero, suc, ◌+◌, ◌-◌, ◌^◌, ◌<◌, ◌≤◌, Bool, true, false, cond, List, [], ◌∷◌, length, map, Option, Some, None, IfSome, refl, ap, ◌∙◌, sym, subst, arith, is_some, slice_get}
+use Rattle.std.proofs.Common.{◌≡◌, ℕ, suc, ◌+◌, ◌<◌, ◌≤◌, Bool, true, false, cond, List, [], ◌∷◌, length, map, Option, Some, None, IfSome, refl, ap, ◌∙◌, sym, subst, arith, is_some, slice_get}
 use Rattle.std.proofs.lemmas.Bool.{false≢true}
 use Rattle.std.proofs.lemmas.Option.{slice_get_within}
 use Rattle.std.proofs.lemmas.List.{length-map}
 use Rattle.std.proofs.lemmas.List.Sums.{sum_by-cons}
-use Rattle.std.specs.List.{count_by, sum_by}
+use Rattle.std.specs.List.{count_by}
 use Rattle.path_text.specs.Path.{level_of}
 use Rattle.outside.specs.Tree.{Files}
 use Rattle.outside.specs.Writes.{Area, all_but}
 use Rattle.level_work.specs.Acts.{Deed, Alike, AllShow, MakesDirs}
-use Rattle.level_work.specs.Counts.{NoneAtEnd, NoneFell, BlamedAll, is_failed}
+use Rattle.level_work.specs.Counts.{NoneFell, BlamedAll, is_failed}
 use Rattle.level_work.specs.Levels.{AreItems, StandIn, ParentsFail, Acted, SameButItems}
 use Rattle.level_work.specs.Chain.{AllBelow, OneLevel, is_done, mark_at, level_at}
 use Rattle.level_work.specs.Private.Steps.{CanStep, TellsLevel, SameButLevel, Ran}
 use Rattle.level_work.specs.Private.Crews.{AtHome, BlamedMore, SameActors, ShowAll}
-use Rattle.level_work.specs.Private.Dealing.{AreOnLevel, IsFresh, Knows, has_path}
+use Rattle.level_work.specs.Private.Dealing.{AreOnLevel, Knows, has_path}
 use Rattle.level_work.specs.Private.Storing.{Notes}
 use Rattle.level_work.specs.Private.Turns.{Turned}
 use Rattle.level_work.specs.declared.items.Item.{Item}

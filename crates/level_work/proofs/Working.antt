@@ -1,17 +1,15 @@
 -- The work on a share, item by item.
-use Rattle.std.proofs.Common.{◌≡◌, ◌≢◌, ◌⊎◌, inl, inr, ℕ, zero, suc, ◌+◌, ◌<◌, ◌≤◌, Bool, true, false, cond, ◌||◌, List, [], ◌∷◌, ◌++◌, length, Option, Some, None, IfSome, Result, Ok, Err, refl, ap, ◌∙◌, sym, subst, arith, nat_eq, length-append, is_some, slice_get}
+use Rattle.std.proofs.Common.{◌≡◌, ◌≢◌, ◌⊎◌, inl, inr, ℕ, zero, suc, ◌+◌, ◌<◌, ◌≤◌, true, false, cond, List, [], ◌∷◌, ◌++◌, length, Option, Some, None, IfSome, Ok, refl, ap, ◌∙◌, sym, subst, arith, length-append, is_some, slice_get}
 use Rattle.std.proofs.lemmas.Bool.{false≢true}
-use Rattle.std.proofs.lemmas.Option.{slice_get_within, slice_get_past}
+use Rattle.std.proofs.lemmas.Option.{slice_get_within}
 use Rattle.std.proofs.lemmas.List.Sums.{sum_by-append}
-use Rattle.std.specs.List.{count_by, sum_by}
-use Rattle.std.specs.FinMap.{get}
-use Rattle.std.specs.Cmp.Lexicographic.{pointwise}
+use Rattle.std.specs.List.{count_by}
 use Rattle.path_text.specs.Order.{is_within}
 use Rattle.outside.specs.Tree.{Files}
 use Rattle.outside.specs.Writes.{Area, SameBut}
 use Rattle.level_work.specs.Acts.{Deed, IsDone, at_and_under}
 use Rattle.level_work.specs.Counts.{is_failed}
-use Rattle.level_work.specs.Private.Lots.{IsAt, AreApart, SameButFirst, DoneByEach, WorkedOn, Blamed, Ready, Keeps, Stepped, Stopped, Upto, HasWorked}
+use Rattle.level_work.specs.Private.Lots.{IsAt, AreApart, SameButFirst, WorkedOn, Blamed, Ready, Keeps, Stepped, Stopped, Upto, HasWorked}
 use Rattle.level_work.specs.declared.items.Item.{Item}
 use Rattle.level_work.specs.declared.items.Fate.{Fate}
 use Rattle.level_work.specs.declared.items.Fate.TheVariants as fate

@@ -1,5 +1,5 @@
 -- The maps between the levels. Our own.
-use Rattle.std.specs.Prelude.{◌≡◌, ◌≢◌, ℕ, ◌+◌, ◌-◌, ◌<◌, Bool, true, false, ◌&&◌, not, List, nat_eq, nat_lt, nat_le, Some, slice_get}
+use Rattle.std.specs.Prelude.{◌≡◌, ◌≢◌, ℕ, ◌+◌, ◌-◌, ◌<◌, Bool, false, ◌&&◌, not, List, nat_eq, nat_lt, nat_le, Some, slice_get}
 use Rattle.std.specs.List.{list_any}
 use Rattle.std.specs.FinMap.{get, entries, retain_keys}
 use Rattle.std.specs.Cmp.Lexicographic.{pointwise}

@@ -1,5 +1,5 @@
 -- Several actors at work on one level: the shares they get, the parts that are out, and what comes back. Our own.
-use Rattle.std.specs.Prelude.{◌≡◌, ◌≢◌, ◌⊎◌, ℕ, ◌+◌, ◌-◌, ◌^◌, ◌<◌, ◌≤◌, Bool, true, false, List, [], ◌∷◌, ◌++◌, length, map, Option, Some, None, IfSome, slice_get, is_some}
+use Rattle.std.specs.Prelude.{◌≡◌, ◌≢◌, ◌⊎◌, ℕ, ◌+◌, ◌-◌, ◌^◌, ◌<◌, ◌≤◌, true, false, List, [], ◌∷◌, ◌++◌, length, map, Option, Some, None, slice_get, is_some}
 use Rattle.std.specs.List.{count_by, sum_by}
 use Rattle.std.specs.FinMap.{get}
 use Rattle.path_text.specs.Order.{is_within}

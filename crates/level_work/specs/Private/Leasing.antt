@@ -1,5 +1,5 @@
 -- Shares that are leased, after some of them. Our own.
-use Rattle.std.specs.Prelude.{◌≡◌, ℕ, ◌<◌, ◌≤◌, List, length, map, Option, Some, None, IfSome, slice_get, is_some}
+use Rattle.std.specs.Prelude.{◌≡◌, ℕ, ◌<◌, ◌≤◌, List, length, map, Option, Some, IfSome, slice_get, is_some}
 use Rattle.outside.specs.Tree.{Files}
 use Rattle.outside.specs.Writes.{Area, all_but, under}
 use Rattle.outside.specs.Lease.{tops_of}

@@ -1,5 +1,5 @@
 -- A share of a level: an actor with the part that it writes and the places of its items. Our own.
-use Rattle.std.specs.Prelude.{◌≡◌, ◌≢◌, ◌⊎◌, ℕ, ◌+◌, ◌-◌, ◌^◌, ◌<◌, ◌≤◌, Bool, true, false, List, [], ◌∷◌, ◌++◌, if◌then◌else◌, length, nat_eq, Option, Some, None, IfSome, IsTrue, slice_get, is_some, Result, Ok, Err}
+use Rattle.std.specs.Prelude.{◌≡◌, ◌≢◌, ℕ, ◌+◌, ◌-◌, ◌^◌, ◌<◌, ◌≤◌, false, List, [], ◌∷◌, ◌++◌, if◌then◌else◌, length, nat_eq, Option, Some, None, IfSome, IsTrue, slice_get, is_some, Ok}
 use Rattle.std.specs.List.{count_by}
 use Rattle.std.specs.FinMap.{get}
 use Rattle.std.specs.Cmp.Lexicographic.{pointwise}

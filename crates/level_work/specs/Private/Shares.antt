@@ -1,12 +1,9 @@
 -- A share of a level on a ground. Our own.
-use Rattle.std.specs.Prelude.{◌++◌, ◌≡◌, ◌≢◌, ℕ, ◌<◌, Bool, true, false, List, length, Option, Some, IfSome, IfOk, OnErr, slice_get, Result, Ok, Err}
+use Rattle.std.specs.Prelude.{◌≡◌, ℕ, ◌<◌, true, false, List, length, Some, slice_get}
 use Rattle.std.specs.FinMap.{get}
-use Rattle.path_text.specs.Order.{is_within}
 use Rattle.path_text.specs.Path.{level_of, parent_of}
 use Rattle.outside.specs.Tree.{Files, is_dir, is_root}
-use Rattle.level_work.specs.Acts.{Deed}
-use Rattle.level_work.specs.Private.Lots.{IsAt, AreApart, WorkedOn}
-use Rattle.level_work.specs.declared.items.Fate.{Fate}
+use Rattle.level_work.specs.Private.Lots.{IsAt, AreApart}
 use Rattle.level_work.specs.declared.items.Item.{Item}
 
 -- the paths of the items at these places

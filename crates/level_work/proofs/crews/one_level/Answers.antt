@@ -1,4 +1,4 @@
-use Rattle.std.proofs.Common.{rules, ◌≡◌, ap, subst, sym, ◌∙◌, refl, Some, ℕ, arith}
+use Rattle.std.proofs.Common.{ap, subst, sym, ◌∙◌, Some, arith}
 use Rattle.std.proofs.lemmas.Option.{slice_get-get_or}
 use Rattle.outside.specs.Writes.{all_but}
 use Rattle.level_work.specs.Counts.{NoneAtEnd}

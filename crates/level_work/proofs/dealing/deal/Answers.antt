@@ -1,4 +1,4 @@
-use Rattle.std.proofs.Common.{rules, ◌≡◌, ap, ◌∙◌, sym, arith, refl, Some}
+use Rattle.std.proofs.Common.{arith}
 use Rattle.std.proofs.lemmas.Option.{slice_get-get_or}
 use Rattle.level_work.proofs.Deals.{dealt_none, dealt_on, fresh_on, seats_on, all_dealt}
 use Rattle.level_work.proofs.dealing.deal.Goals as goal

@@ -1,4 +1,3 @@
-use Rattle.std.proofs.Common.{rules, ◌≡◌, ap, ◌∙◌, sym, Some}
 use Rattle.std.proofs.lemmas.Option.{slice_get-get_or}
 use Rattle.level_work.proofs.Deals.{left_out_by, not_left_out}
 use Rattle.level_work.proofs.Hands.{if_ok}

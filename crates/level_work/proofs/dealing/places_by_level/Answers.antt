@@ -1,4 +1,4 @@
-use Rattle.std.proofs.Common.{rules, ◌≡◌, ap, ◌∙◌, sym, subst, arith, map, Vec, Global, ℕ, Some, length}
+use Rattle.std.proofs.Common.{rules, ◌≡◌, ap, ◌∙◌, sym, subst, arith, map, Vec, Global, ℕ, Some}
 use Rattle.std.proofs.lemmas.Option.{slice_get-get_or}
 use Rattle.level_work.specs.Chain.{AllBelow}
 use Rattle.level_work.specs.Private.Dealing.{AreByLevel}

@@ -1,6 +1,6 @@
-use Rattle.std.proofs.Common.{◌≡◌, ap, subst, sym, ◌∙◌, refl, arith, IfSome, ℕ, length, is_some, slice_get, Some, take, ◌<◌, List}
+use Rattle.std.proofs.Common.{ap, subst, sym, ◌∙◌, arith, IfSome, is_some}
 use Rattle.std.proofs.lemmas.Option.{slice_get_within, slice_get-get_or}
-use Rattle.level_work.specs.Private.Lots.{part_tree, part_area, part_count}
+use Rattle.level_work.specs.Private.Lots.{part_tree, part_area}
 use Rattle.level_work.specs.Private.Crews.{AllBack}
 use Rattle.level_work.proofs.Giving.{start, step, is_out_now, take_all}
 use Rattle.level_work.proofs.leasing.give_all.Goals as goal

@@ -1,4 +1,3 @@
-use Rattle.std.proofs.Common.{◌≡◌}
 use Rattle.level_work.specs.Private.Lots.{part_tree, part_area, part_count}
 use Rattle.level_work.specs.Private.Giving.{Giving}
 use Rattle.level_work.proofs.leasing.give_all.Given as goal

@@ -1,4 +1,4 @@
-use Rattle.std.proofs.Common.{rules, ◌≡◌, ap, ◌∙◌, sym, subst, arith, refl}
+use Rattle.std.proofs.Common.{◌∙◌, sym, subst, arith, refl}
 use Rattle.std.proofs.lemmas.Option.{slice_get-get_or}
 use Rattle.level_work.specs.Private.Shares.{ArePaths}
 use Rattle.level_work.specs.declared.lots.Lot.{Lot}

@@ -1,4 +1,3 @@
-use Rattle.std.proofs.Common.{◌≡◌}
 use Rattle.level_work.specs.Private.Shares.{AreFirstPaths}
 use Rattle.level_work.proofs.leasing.paths_at.Given as goal
 

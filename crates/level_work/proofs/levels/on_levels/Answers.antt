@@ -1,4 +1,4 @@
-use Rattle.std.proofs.Common.{rules, ◌≡◌, map, length, ap, ◌∙◌, sym, subst, arith}
+use Rattle.std.proofs.Common.{map, ap, ◌∙◌, sym, subst, arith}
 use Rattle.std.specs.List.{count_by}
 use Rattle.level_work.specs.Acts.{Alike, AllShow}
 use Rattle.level_work.specs.Counts.{BlamedAll, NoneFell, is_failed}

@@ -1,11 +1,11 @@
-use Rattle.std.proofs.Common.{rules, ◌≡◌, ap, ◌∙◌, sym, subst, arith, refl, length, map, Some, IfSome}
+use Rattle.std.proofs.Common.{ap, ◌∙◌, sym, subst, arith, length, Some, IfSome}
 use Rattle.std.proofs.lemmas.Option.{slice_get-get_or}
 use Rattle.level_work.specs.Private.Steps.{CanStep}
 use Rattle.level_work.specs.Private.Dealing.{AreOnLevel}
 use Rattle.level_work.proofs.Crewed.{map_get}
 use Rattle.level_work.proofs.Deals.{level_below}
 use Rattle.level_work.proofs.Running.{on_err}
-use Rattle.level_work.proofs.Turning.{turned_none, turned_some, turned_len, turned_tells, turned_step, turned_told, turned_acted, turned_lost, turned_stopped, turned_more, actors_on}
+use Rattle.level_work.proofs.Turning.{turned_none, turned_len, turned_tells, turned_step, turned_told, turned_acted, turned_lost, turned_stopped, turned_more, actors_on}
 use Rattle.level_work.proofs.levels.run_levels.Goals as goal
 
 pub loop-turn-init : goal.loop-turn-init

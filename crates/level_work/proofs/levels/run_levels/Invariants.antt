@@ -1,4 +1,4 @@
-use Rattle.std.proofs.Common.{◌≡◌, length}
+use Rattle.std.proofs.Common.{length}
 use Rattle.level_work.specs.Private.Turns.{Turned}
 use Rattle.level_work.proofs.levels.run_levels.Given as goal
 

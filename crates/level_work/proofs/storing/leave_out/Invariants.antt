@@ -1,4 +1,3 @@
-use Rattle.std.proofs.Common.{◌≡◌}
 use Rattle.level_work.specs.Private.Storing.{IsLeftOut}
 use Rattle.level_work.proofs.storing.leave_out.Given as goal
 

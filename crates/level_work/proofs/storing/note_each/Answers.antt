@@ -1,4 +1,4 @@
-use Rattle.std.proofs.Common.{rules, ◌≡◌, ◌+◌, ap, ◌∙◌, sym, subst, arith, Some, List, ℕ}
+use Rattle.std.proofs.Common.{◌+◌, ap, sym, subst, arith}
 use Rattle.std.proofs.lemmas.Option.{slice_get-get_or}
 use Rattle.level_work.specs.Private.Storing.{IsNoted}
 use Rattle.level_work.proofs.Stores.{none_noted, noted_skip, noted_more}

@@ -1,4 +1,3 @@
-use Rattle.std.proofs.Common.{◌≡◌}
 use Rattle.level_work.specs.Private.Storing.{IsNoted}
 use Rattle.level_work.proofs.storing.note_each.Given as goal
 

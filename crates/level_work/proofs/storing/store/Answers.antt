@@ -1,4 +1,3 @@
-use Rattle.std.proofs.Common.{rules, ◌≡◌, ap, ◌∙◌, sym, arith, refl, Some}
 use Rattle.level_work.proofs.Working.{some_at}
 use Rattle.level_work.proofs.Stores.{dealt_once, all_stored}
 use Rattle.level_work.proofs.storing.store.Goals as goal

@@ -1,4 +1,3 @@
-use Rattle.std.proofs.Common.{◌≡◌}
 use Rattle.level_work.specs.Private.Storing.{AreStored}
 use Rattle.level_work.proofs.storing.store_shares.Given as goal
 

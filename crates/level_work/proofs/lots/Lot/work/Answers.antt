@@ -1,7 +1,6 @@
-use Rattle.std.proofs.Common.{rules, ◌≡◌, ℕ, ◌<◌, length, Some, IsTrue, sym, ap, subst, arith, ◌∙◌, slice_get}
+use Rattle.std.proofs.Common.{◌≡◌, Some, IsTrue, sym, subst, arith, slice_get}
 use Rattle.outside.specs.Writes.{is_top, is_open}
 use Rattle.level_work.specs.Private.Lots.{IsAt}
-use Rattle.level_work.proofs.Stages.{with_here}
 use Rattle.level_work.proofs.Working.{begun, stepped, finished, lost_at}
 use Rattle.level_work.proofs.lots.Lot.work.Goals as goal
 

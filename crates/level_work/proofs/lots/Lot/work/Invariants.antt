@@ -1,4 +1,3 @@
-use Rattle.std.proofs.Common.{◌≡◌}
 use Rattle.level_work.specs.Private.Lots.{Upto, part_tree, part_area, part_count}
 use Rattle.level_work.proofs.lots.Lot.work.Given as goal
 
