@@ -2,14 +2,15 @@
 # What threads gain: the walk by 8 ranks on 1, 2 and 4 hosts against `find | sort`, and a comparison on as many against diff.
 # usage: hosts.sh [TREE [ROUNDS]]
 #
-# TREE is made where it is absent, with 200,000 entries; the two trees that are compared are those of compare.sh. All in one run,
+# TREE is made where it is absent, with 200,000 entries; the two trees that are compared are `mixed` of compare.sh. All in one run,
 # in turn. That the answers are alike is looked at first.
 set -e
 here=$(dirname "$(readlink -f "$0")")
 tree=${1:-${TMPDIR:-/tmp}/mfu-walk-tree}
 rounds=${2:-7}
-pair=${TMPDIR:-/tmp}/mfu-compare-tree
+pair=${TMPDIR:-/tmp}/mfu-compare/mixed
 [ -e "$tree" ] || python3 "$here/make_tree.py" "$tree" 200000
+mkdir -p "${pair%/*}"
 [ -e "$pair" ] || python3 "$here/make_tree.py" "$pair" 40000 1 full
 [ -e "$pair-copy" ] || cp -a "$pair" "$pair-copy"
 "$here/../mfu" dwalk /dev/null >/dev/null
