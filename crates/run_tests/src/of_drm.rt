@@ -193,18 +193,18 @@ fn wanted_of(alloc: Global, chosen: u32) -> Result<(String, String), Fail> {
     let held = held_by(chosen);
     let mut out = String::new(alloc);
     let mut notes = String::new(alloc);
-    let mut numbers = [0u32; 3];
+    let mut all = 0u32;
+    let mut stay = 0u32;
     for k in 0..8 {
         if (chosen >> k) % 2 == 1 {
             out.push_str(&format!(in alloc; "{}            0 {}\n", NODES[k].1, NODES[k].0)?)?;
-            numbers[0] += 1;
+            all = all.saturating_add(1);
             if held[k] {
                 notes.push_str(&format!(in alloc; "not empty {}\n", NODES[k].0)?)?;
-                numbers[1] += 1;
+                stay = stay.saturating_add(1);
             }
         }
     }
-    let [all, stay, _] = numbers;
     let gone = all.saturating_sub(stay);
     out.push_str(&format!(in alloc; "removed {gone} of {all} failed {stay}\n")?)?;
     Ok((out, notes))
