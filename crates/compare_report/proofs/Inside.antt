@@ -1,13 +1,12 @@
 -- What a walk of one path lists is at that path or under it.
-use Rattle.std.proofs.Common.{◌≡◌, ℕ, ◌+◌, ◌<◌, zero, suc, get_or, Bool, true, false, ◌||◌, List, [], ◌∷◌, ◌++◌, length, drop, cond, None, refl, ap}
+use Rattle.std.proofs.Common.{◌≡◌, ℕ, ◌+◌, ◌<◌, zero, suc, get_or, true, false, ◌||◌, List, [], ◌∷◌, ◌++◌, length, drop, cond, None, refl, ap}
 use Rattle.std.proofs.Common.{sym, ◌∙◌, subst, arith, append-nil, length-append}
 use Rattle.std.specs.Prelude.{◌==◌, nat_eq, IsTrue}
-use Rattle.std.specs.List.{All, AllByRecursion, Contains, starts_with, slice_split, list_any}
+use Rattle.std.specs.List.{AllByRecursion, Contains, slice_split}
 use Rattle.std.specs.Cmp.Lexicographic.{pointwise, bytes_decides}
 use Rattle.std.proofs.lemmas.Bool.{false≢true}
 use Rattle.std.proofs.lemmas.Bool.Decides.{nat_tests}
 use Rattle.std.proofs.lemmas.List.{append_cancel_right}
-use Rattle.std.proofs.lemmas.List.Elements.{recursion_from_All, All-from_recursion}
 use Rattle.path_text.specs.Path.{is_slash, first_fault, refusal}
 use Rattle.path_text.specs.Order.{front, is_under, is_within}
 use Rattle.path_text.proofs.Parts as parts

@@ -1,6 +1,6 @@
 -- When dcmp succeeds.
-use Rattle.std.proofs.Common.{◌≡◌, ◌⊎◌, ⊎_elim, ℕ, ◌≤◌, true, false, List, [], ◌∷◌, ◌++◌, length, Option, Some, IfSome, refl, ap, subst, arith, ◌∙◌}
-use Rattle.std.specs.List.{All, AllByRecursion, AllZip}
+use Rattle.std.proofs.Common.{◌≡◌, ⊎_elim, ℕ, ◌≤◌, true, false, List, [], ◌∷◌, ◌++◌, length, IfSome, refl, ap, subst, arith, ◌∙◌}
+use Rattle.std.specs.List.{All, AllByRecursion}
 use Rattle.std.proofs.lemmas.List.Elements.{All-from_recursion, recursion_from_All}
 use Rattle.outside.specs.Count.{RoseBy, StoodStill}
 use Rattle.outside.specs.Tree.{Files}
@@ -19,7 +19,7 @@ use Rattle.run_report.specs.declared.stops.Stop.TheVariants as stop
 use Rattle.run_report.specs.Sides.{Side, side_of}
 use Rattle.run_entries.specs.declared.saving.Output.{Output}
 use Rattle.run_entries.specs.Fine.{IsFineSide, FineWalksNameNothing, FineWalksStopForMemory, FinePlacesStopForMemory}
-use Rattle.compare_report.specs.Comparing.{missed_notes, ReportsCompare, StopsWalking, StopsCompare, FineCompare}
+use Rattle.compare_report.specs.Comparing.{missed_notes, ReportsCompare, StopsCompare, FineCompare}
 use Rattle.compare_report.specs.Laws.{FineCompareSucceeds}
 use Rattle.compare_report.specs.Outputs.{AreOutputs}
 

@@ -7,6 +7,8 @@
 #[cfg(test)]
 mod of_dcmp;
 #[cfg(test)]
+mod of_dcp;
+#[cfg(test)]
 mod of_drm;
 #[cfg(test)]
 mod of_find_tests;

@@ -185,6 +185,32 @@ fn puts_notes_in_order(rt: HostRuntime) -> Result<(), Fail> {
 }
 
 #[test]
+fn puts_notes_of_acts_in_order(rt: HostRuntime) -> Result<(), Fail> {
+    let alloc = rt.alloc();
+    let mut notes = Vec::new(alloc);
+    for why in [
+        Why::NotEmpty,
+        Why::FailedRemove,
+        Why::LongTarget,
+        Why::Parent,
+        Why::Skipped,
+        Why::Conflict,
+        Why::FailedCopy,
+        Why::FailedRead,
+        Why::Conflict,
+    ] {
+        notes.push(note(alloc, "/t", why, false)?)?;
+    }
+    let notes = in_order(notes)?;
+    let mut text = Text::make(alloc);
+    put_notes(&mut text, &notes)?;
+    let lines =
+        b"failed read /t\nfailed copy /t\nconflict /t\nskipped /t\nparent /t\nlong target /t\nfailed remove /t\nnot empty /t\n";
+    assert_eq!(rt; text.bytes(), lines.as_slice());
+    Ok(())
+}
+
+#[test]
 fn no_notes_stay_none(rt: HostRuntime) -> Result<(), Fail> {
     let notes = in_order(Vec::new(rt.alloc()))?;
     assert!(rt; notes.is_empty());

@@ -253,7 +253,7 @@ fn refused_command_lines(rt: HostRuntime) -> Result<(), Fail> {
         (&[], WordsError::NoTool(0)),
         (&["dwalk"], WordsError::NoPath(1)),
         (&[""], WordsError::UnknownTool(0)),
-        (&["dcp", "/t"], WordsError::UnknownTool(0)),
+        (&["dmv", "/t"], WordsError::UnknownTool(0)),
         (&["dwalk", "--x", "/t"], WordsError::UnknownOption(1)),
         (&["dwalk", "/t", "-x"], WordsError::UnknownOption(2)),
         (&["dwalk", "--=", "/t"], WordsError::UnknownOption(1)),

@@ -1,13 +1,13 @@
 -- What is chosen of a walk of paths below `/` can be removed.
-use Rattle.std.proofs.Common.{◌≡◌, ◌≢◌, ℕ, ◌+◌, ◌<◌, ◌≤◌, Bool, true, false, cond, ◌||◌, List, [], ◌∷◌, ◌++◌, length, map, take, min, Option, Some, None, IfSome, refl, ap, ◌∙◌, sym, subst, arith, nat_eq, is_some, get_or, length-append, length-take}
+use Rattle.std.proofs.Common.{◌≡◌, ◌≢◌, ℕ, ◌<◌, ◌≤◌, true, false, cond, ◌||◌, List, [], ◌∷◌, ◌++◌, length, take, min, Option, Some, None, IfSome, refl, ap, ◌∙◌, sym, subst, arith, nat_eq, is_some, get_or, length-append, length-take}
 use Rattle.std.proofs.lemmas.Bool.{false≢true}
 use Rattle.std.proofs.lemmas.Bool.Decides.{nat_tests}
 use Rattle.std.proofs.lemmas.List.Elements.{All-filter, All-from_recursion, recursion_from_All}
 use Rattle.std.specs.Prelude.{◌==◌}
 use Rattle.std.specs.FinMap.{get}
-use Rattle.std.specs.List.{All, AllByRecursion, Contains, filter, flat_map, list_any, starts_with}
+use Rattle.std.specs.List.{All, AllByRecursion, Contains, filter, flat_map, starts_with}
 use Rattle.std.specs.List.Sorted.{IsStrictlySortedBy}
-use Rattle.std.specs.Cmp.Lexicographic.{pointwise, bytes_decides}
+use Rattle.std.specs.Cmp.Lexicographic.{bytes_decides}
 use Rattle.std.specs.Option.{option_map}
 use Rattle.path_text.specs.Order.{path_cmp, front}
 use Rattle.path_text.specs.Path.{refusal}
@@ -20,16 +20,16 @@ use Rattle.flat_list.specs.Spelling.{paths}
 use Rattle.find_tests.specs.declared.testing.Test.{Test}
 use Rattle.find_tests.specs.Tests.{is_selected, meets_all}
 use Rattle.tree_walk.specs.Roots.{is_in, is_in_some}
-use Rattle.tree_walk.specs.Told.{EntriesAreTold, IsTold, stat_by}
+use Rattle.tree_walk.specs.Told.{EntriesAreTold, stat_by}
 use Rattle.tree_walk.specs.Walk.{answers_in, walk}
 use Rattle.tree_remove.specs.Removing.{AreChosen, AreThere}
 use Rattle.tool_text.specs.declared.noting.Note.{Note}
 use Rattle.tool_words.specs.Asked.{Choice, roots}
 use Rattle.tool_words.specs.Limits.{Lower}
 use Rattle.tool_words.specs.declared.commands.Common.{Common}
-use Rattle.run_report.specs.Sides.{Side, side_of}
+use Rattle.run_report.specs.Sides.{Side}
 use Rattle.run_entries.specs.declared.accounts.Account.{Account}
-use Rattle.run_entries.specs.Entries.{Finds, Walked}
+use Rattle.run_entries.specs.Entries.{Finds}
 
 -- what is chosen by tests has a stat
 

@@ -1,5 +1,5 @@
 -- The notes of rows, one row after the other.
-use Rattle.std.proofs.Common.{◌≡◌, ℕ, zero, suc, ◌+◌, List, [], ◌∷◌, ◌++◌, take, Option, Some, refl, ap, ◌∙◌, sym, arith, slice_get, append-nil, append_assoc}
+use Rattle.std.proofs.Common.{◌≡◌, ℕ, zero, suc, ◌+◌, List, [], ◌∷◌, ◌++◌, take, Some, ap, ◌∙◌, sym, arith, slice_get, append-nil, append_assoc}
 use Rattle.std.specs.Option.{option_map}
 use Rattle.level_work.specs.declared.items.Fate.{Fate}
 use Rattle.tool_text.specs.declared.noting.Note.{Note}

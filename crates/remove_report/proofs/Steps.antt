@@ -1,6 +1,5 @@
 -- What the steps of drm told, as its own words say it.
 use Rattle.std.proofs.Common.{◌≡◌, inl, inr, ⊎_elim, ℕ, ◌≤◌, Bool, true, false, List, Option, Some, None, IfSome, is_some, ◌∙◌, subst}
-use Rattle.outside.specs.Tree.{Files}
 use Rattle.flat_list.specs.declared.entries.Entry.{Entry}
 use Rattle.flat_list.specs.Spelling.{paths}
 use Rattle.tree_remove.specs.Removing.{SameButChosen}
@@ -11,7 +10,7 @@ use Rattle.run_report.specs.Sides.{Side, side_of}
 use Rattle.run_entries.specs.declared.accounts.Account.{Account}
 use Rattle.run_entries.specs.Entries.{Finds}
 use Rattle.run_entries.specs.Stopping.{StopsFinding}
-use Rattle.remove_report.specs.Choosing.{Chooses, LeavesAllOthers}
+use Rattle.remove_report.specs.Choosing.{Chooses}
 use Rattle.remove_report.specs.Removing.{StopsRemove, LeavesBy, LeavesRemove}
 
 -- choosing leaves the tree as it was

@@ -1,5 +1,5 @@
 -- When drm succeeds.
-use Rattle.std.proofs.Common.{◌≡◌, ◌⊎◌, inl, inr, ⊎_elim, ℕ, zero, suc, ◌+◌, ◌<◌, ◌≤◌, Bool, true, false, cond, ◌||◌, ◌&&◌, List, [], ◌∷◌, ◌++◌, length, map, Option, Some, None, IfSome, refl, ap, ◌∙◌, sym, subst, arith, nat_eq, nat_lt, is_some, get_or, length-append}
+use Rattle.std.proofs.Common.{◌≡◌, inr, ⊎_elim, ℕ, zero, suc, ◌+◌, ◌<◌, ◌≤◌, Bool, true, false, cond, ◌||◌, ◌&&◌, List, [], ◌∷◌, ◌++◌, length, map, Option, Some, None, IfSome, refl, ap, ◌∙◌, sym, subst, arith, nat_eq, nat_lt, is_some, get_or, length-append}
 use Rattle.std.proofs.lemmas.Bool.{false≢true}
 use Rattle.std.proofs.lemmas.Bool.Decides.{nat_tests}
 use Rattle.std.proofs.lemmas.List.Elements.{All-filter, All-from_recursion, recursion_from_All}
@@ -32,12 +32,11 @@ use Rattle.run_report.specs.declared.reports.Report.{Report}
 use Rattle.run_report.specs.declared.stops.Stop.{Stop}
 use Rattle.run_report.specs.declared.stops.Stop.TheVariants as stop
 use Rattle.run_report.specs.Sides.{Side, side_of}
-use Rattle.run_entries.specs.Entries.{Walked}
 use Rattle.run_entries.specs.Fine.{IsFineSide, FineFindsNameNothing, FineFindsStopForMemory, FineWalksNameNothing}
-use Rattle.run_entries.specs.Naming.{on_side, listing_notes}
-use Rattle.remove_report.specs.Choosing.{Acts, Chooses, ChoosesWhole, Removes}
+use Rattle.run_entries.specs.Naming.{on_side}
+use Rattle.remove_report.specs.Choosing.{Acts, Chooses, Removes}
 use Rattle.remove_report.specs.Laws.{FineRemoveSucceeds}
-use Rattle.remove_report.specs.Removing.{row_notes, fate_whys, fate_notes, ReportsRemove, StopsRemove, FineRemove}
+use Rattle.remove_report.specs.Removing.{row_notes, fate_notes, ReportsRemove, StopsRemove, FineRemove}
 
 abbrev Row : Type 0
 Row = List ℕ × Fate

@@ -1,5 +1,5 @@
 -- What drm chooses and what it does with that. The tool is mpiFileUtils'; the relation is our own.
-use Rattle.std.specs.Prelude.{◌≡◌, ℕ, ◌≤◌, Bool, true, false, List, [], map, length, Option, Some, None, IfSome, is_some, nat_eq}
+use Rattle.std.specs.Prelude.{◌≡◌, ℕ, ◌≤◌, Bool, true, false, List, [], map, Some, IfSome, is_some, nat_eq}
 use Rattle.std.specs.FinMap.{get}
 use Rattle.std.specs.List.{list_any, count_by}
 use Rattle.std.specs.Cmp.Lexicographic.{pointwise}

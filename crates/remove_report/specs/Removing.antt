@@ -1,5 +1,5 @@
 -- What drm does: what it reports, why it stops, what it may have changed, and when nothing stands against it. The tool is mpiFileUtils'; the texts, notes and statuses are our own.
-use Rattle.std.specs.Prelude.{◌≡◌, ◌⊎◌, ℕ, Bool, true, false, List, [], ◌∷◌, ◌++◌, length, map, codes, Option, Some}
+use Rattle.std.specs.Prelude.{◌≡◌, ◌⊎◌, ℕ, Bool, true, false, List, [], ◌∷◌, ◌++◌, length, map, codes, Some}
 use Rattle.std.specs.Fmt.{decimal}
 use Rattle.std.specs.List.{flat_map, count_by}
 use Rattle.flat_list.specs.declared.entries.Entry.{Entry}

@@ -193,6 +193,8 @@ for_memory : (start : Origin) (files : Files) (before after : Side) (reason : St
     before.tree ≡ Some files →
     IsFineStart files start → StoodStill before.count after.count → StopsListing start before after reason → reason ≡ stop.OutOfMemory
 for_memory start files before after stop.OutOfMemory laws exact valid told f stood stops = refl
+for_memory start files before after stop.Overlap laws exact valid told f stood stops = absurd stops
+for_memory start files before after stop.NoDirectory laws exact valid told f stood stops = absurd stops
 for_memory start files before after stop.TooMany laws exact valid told f stood stops =
     absurd (too_much start files before after laws exact valid told stops f stood)
 for_memory start files before after (stop.Damaged path line) laws exact valid told f stood stops =
@@ -304,6 +306,8 @@ tree_of (Some files) e = (files, refl)
 at_for_memory : (output : Output) (between after : Side) (why : Stop) → is_some between.tree ≡ true → IfSome between.tree (λ files. can_save files output.path ≡ true) →
     StoodStill between.count after.count → StopsAt output between after why → why ≡ stop.OutOfMemory
 at_for_memory output between after stop.OutOfMemory told can stood stops = refl
+at_for_memory output between after stop.Overlap told can stood stops = absurd stops
+at_for_memory output between after stop.NoDirectory told can stood stops = absurd stops
 at_for_memory output between after stop.TooMany told can stood stops = absurd stops
 at_for_memory output between after (stop.Damaged path line) told can stood stops = absurd stops
 at_for_memory output between after (stop.ListFile trouble.Absent path) told can stood stops = absurd stops

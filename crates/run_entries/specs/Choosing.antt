@@ -1,6 +1,5 @@
 -- What is chosen of a list. After the tests of find and of mpiFileUtils' dfind.
-use Rattle.std.specs.Prelude.{ℕ, false, List, [], ◌∷◌, ◌++◌, map, filter, Option, Some, None}
-use Rattle.std.specs.List.{flat_map}
+use Rattle.std.specs.Prelude.{ℕ, List, [], ◌++◌, map, filter, Option, Some, None}
 use Rattle.flat_list.specs.declared.entries.Entry.{Entry}
 use Rattle.find_tests.specs.declared.testing.Test.{Test}
 use Rattle.find_tests.specs.declared.testing.Test.TheVariants as test
@@ -8,10 +7,6 @@ use Rattle.find_tests.specs.Tests.{is_selected}
 use Rattle.path_looks.specs.declared.looks.Look.{Look}
 use Rattle.path_looks.specs.declared.looks.Seen.{Seen}
 use Rattle.path_looks.specs.declared.looks.Seen.TheVariants as seen
-use Rattle.tool_text.specs.declared.noting.Note.{Note}
-use Rattle.tool_text.specs.declared.noting.Why.{Why}
-use Rattle.tool_text.specs.declared.noting.Why.TheVariants as why
-use Rattle.tool_text.specs.Notes.{notes_of}
 use Rattle.tool_words.specs.Asked.{Choice}
 
 -- the paths that are looked at

@@ -49,6 +49,8 @@ IsTooMuch (input path) before after = IfSome before.tree (λ files. (bytes : Lis
 -- the entries were not listed
 abbrev pub StopsListing : Origin → Side → Side → Stop → Type 0
 StopsListing start before after stop.OutOfMemory = Unit {0}
+StopsListing start before after stop.Overlap = ⊥
+StopsListing start before after stop.NoDirectory = ⊥
 StopsListing start before after stop.TooMany = IsTooMuch start before after
 StopsListing start before after (stop.Damaged path line) = IsDamagedList start before path line
 StopsListing start before after (stop.ListFile trouble.Absent path) = IsAbsent start before path
@@ -80,6 +82,8 @@ pub record FailedWrite (output : Output) (before after : Side) (path : List ℕ)
 -- it was not saved
 abbrev pub StopsAt : Output → Side → Side → Stop → Type 0
 StopsAt output before after stop.OutOfMemory = Unit {0}
+StopsAt output before after stop.Overlap = ⊥
+StopsAt output before after stop.NoDirectory = ⊥
 StopsAt output before after stop.TooMany = ⊥
 StopsAt output before after (stop.Damaged path line) = ⊥
 StopsAt output before after (stop.ListFile trouble.Absent path) = ⊥

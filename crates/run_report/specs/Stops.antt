@@ -15,6 +15,8 @@ use Rattle.run_report.specs.Sides.{Stream}
 -- the status of each reason
 abbrev pub status_of : Stop → Status
 status_of stop.OutOfMemory = status.Memory
+status_of stop.Overlap = status.Words
+status_of stop.NoDirectory = status.Words
 status_of stop.TooMany = status.TooMany
 status_of (stop.Damaged path line) = status.Damaged
 status_of (stop.ListFile why path) = status.ListFile
@@ -27,6 +29,8 @@ trouble_word trouble.Fault = codes "fault"
 -- and its line
 abbrev pub stop_line : Stop → List ℕ
 stop_line stop.OutOfMemory = memory_line
+stop_line stop.Overlap = codes "refused overlap" ++ 10 ∷ []
+stop_line stop.NoDirectory = codes "refused no directory" ++ 10 ∷ []
 stop_line stop.TooMany = codes "too many entries" ++ 10 ∷ []
 stop_line (stop.Damaged path line) = damaged_line path line
 stop_line (stop.ListFile why path) = list_line (trouble_word why) path

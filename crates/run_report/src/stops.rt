@@ -17,6 +17,11 @@ pub enum Trouble {
 pub enum Stop {
     /// No memory was found.
     OutOfMemory,
+    /// Of the sources and the targets of a copy two are equal, or one stands under another.
+    Overlap,
+    /// A copy of several sources is to go to what is no directory; or no directory is there to hold a target, or its path would be
+    /// too long.
+    NoDirectory,
     /// The list has more entries than a list may have.
     TooMany,
     /// The file at the path is no list file, which its line of this number, the first being 1, is the first to show.

@@ -99,6 +99,7 @@ fn status_of(stop: &Stop) -> Status
 {
     match stop {
         Stop::OutOfMemory => Status::Memory,
+        Stop::Overlap | Stop::NoDirectory => Status::Words,
         Stop::TooMany => Status::TooMany,
         Stop::Damaged(..) => Status::Damaged,
         Stop::ListFile(..) => Status::ListFile,
@@ -111,6 +112,8 @@ fn stop_line(alloc: Global, stop: &Stop) -> Result<Text, OutOfMemory>
 {
     match stop {
         Stop::OutOfMemory => Err(OutOfMemory),
+        Stop::Overlap => text_of(alloc, "refused overlap"),
+        Stop::NoDirectory => text_of(alloc, "refused no directory"),
         Stop::TooMany => text_of(alloc, "too many entries"),
         Stop::Damaged(path, line) => damaged_line(alloc, path, *line),
         Stop::ListFile(trouble, path) => list_line(alloc, trouble_word(*trouble), path),

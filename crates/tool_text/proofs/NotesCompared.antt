@@ -36,7 +36,12 @@ why_at place k =
     else if place == 5 then why.Unnamed k
     else if place == 6 then why.TooLong k
     else if place == 7 then why.FailedRead
-    else if place == 8 then why.FailedRemove
+    else if place == 8 then why.FailedCopy
+    else if place == 9 then why.Conflict
+    else if place == 10 then why.Skipped
+    else if place == 11 then why.Parent
+    else if place == 12 then why.LongTarget
+    else if place == 13 then why.FailedRemove
     else why.NotEmpty
 
 why_again : (w : Why) → why_at (why_place w) (why_number w) ≡ w
@@ -48,6 +53,11 @@ why_again why.Changed = refl
 why_again (why.Unnamed k) = refl
 why_again (why.TooLong k) = refl
 why_again why.FailedRead = refl
+why_again why.FailedCopy = refl
+why_again why.Conflict = refl
+why_again why.Skipped = refl
+why_again why.Parent = refl
+why_again why.LongTarget = refl
 why_again why.FailedRemove = refl
 why_again why.NotEmpty = refl
 

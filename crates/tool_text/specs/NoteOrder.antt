@@ -21,8 +21,13 @@ why_place why.Changed = 4
 why_place (why.Unnamed k) = 5
 why_place (why.TooLong k) = 6
 why_place why.FailedRead = 7
-why_place why.FailedRemove = 8
-why_place why.NotEmpty = 9
+why_place why.FailedCopy = 8
+why_place why.Conflict = 9
+why_place why.Skipped = 10
+why_place why.Parent = 11
+why_place why.LongTarget = 12
+why_place why.FailedRemove = 13
+why_place why.NotEmpty = 14
 
 -- the number that a reason tells, or 0
 abbrev pub why_number : Why → ℕ
@@ -34,6 +39,11 @@ why_number why.Changed = 0
 why_number (why.Unnamed k) = k
 why_number (why.TooLong k) = k
 why_number why.FailedRead = 0
+why_number why.FailedCopy = 0
+why_number why.Conflict = 0
+why_number why.Skipped = 0
+why_number why.Parent = 0
+why_number why.LongTarget = 0
 why_number why.FailedRemove = 0
 why_number why.NotEmpty = 0
 

@@ -43,6 +43,11 @@ why_text why.Changed path = codes "changed " ++ escape path
 why_text (why.Unnamed k) path = codes "unnamed " ++ escape path ++ 32 ∷ decimal k
 why_text (why.TooLong k) path = codes "too long " ++ escape path ++ 32 ∷ decimal k
 why_text why.FailedRead path = codes "failed read " ++ escape path
+why_text why.FailedCopy path = codes "failed copy " ++ escape path
+why_text why.Conflict path = codes "conflict " ++ escape path
+why_text why.Skipped path = codes "skipped " ++ escape path
+why_text why.Parent path = codes "parent " ++ escape path
+why_text why.LongTarget path = codes "long target " ++ escape path
 why_text why.FailedRemove path = codes "failed remove " ++ escape path
 why_text why.NotEmpty path = codes "not empty " ++ escape path
 

@@ -23,7 +23,8 @@ pub enum Why {
     FailedNewer,
     /// Its names failed.
     FailedList,
-    /// It was told to be a directory, or a file of some size, or there at all, and then was not.
+    /// It was told to be a directory, or a file of some size, or there at all, and then was not; or it was to be copied, and it
+    /// or its target had changed.
     Changed,
     /// So many names in it are no text.
     Unnamed(u64),
@@ -31,6 +32,16 @@ pub enum Why {
     TooLong(u64),
     /// A read of it failed.
     FailedRead,
+    /// Its copy failed.
+    FailedCopy,
+    /// What stands at its target is of another kind.
+    Conflict,
+    /// It is neither a file nor a directory, and so is not copied.
+    Skipped,
+    /// The directory above it was not copied, and so it was not touched.
+    Parent,
+    /// The path of its target would be too long.
+    LongTarget,
     /// Its removal failed.
     FailedRemove,
     /// It is a directory that was to be removed, and something is left in it.
@@ -139,6 +150,11 @@ fn add_why(draft: &mut Draft, why: Why, path: &Path) -> Result<(), OutOfMemory>
         Why::Unnamed(k) => add_counted(draft, "unnamed ", path, k),
         Why::TooLong(k) => add_counted(draft, "too long ", path, k),
         Why::FailedRead => add_named(draft, "failed read ", path),
+        Why::FailedCopy => add_named(draft, "failed copy ", path),
+        Why::Conflict => add_named(draft, "conflict ", path),
+        Why::Skipped => add_named(draft, "skipped ", path),
+        Why::Parent => add_named(draft, "parent ", path),
+        Why::LongTarget => add_named(draft, "long target ", path),
         Why::FailedRemove => add_named(draft, "failed remove ", path),
         Why::NotEmpty => add_named(draft, "not empty ", path),
     }

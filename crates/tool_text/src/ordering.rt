@@ -68,8 +68,13 @@ fn place_of(why: Why) -> u8
         Why::Unnamed(_) => 5,
         Why::TooLong(_) => 6,
         Why::FailedRead => 7,
-        Why::FailedRemove => 8,
-        Why::NotEmpty => 9,
+        Why::FailedCopy => 8,
+        Why::Conflict => 9,
+        Why::Skipped => 10,
+        Why::Parent => 11,
+        Why::LongTarget => 12,
+        Why::FailedRemove => 13,
+        Why::NotEmpty => 14,
     }
 }
 

@@ -4,7 +4,7 @@ use Rattle.std.proofs.Common.{List, [], ◌∷◌, ◌++◌, length, find}
 use Rattle.std.specs.Prelude.{◌==◌, Result, Ok, Err, All, IfSome, IfOk, is_none, is_some, nat_lt}
 use Rattle.std.specs.Option.{option_map, option_or}
 use Rattle.std.specs.List.{AllByRecursion, before_first, after_first, position_or_len}
-use Rattle.std.proofs.lemmas.List.Elements.{All-from_recursion}
+use Rattle.std.proofs.lemmas.List.Elements.{All-cons, All-from_recursion, All-take}
 use Rattle.std.proofs.lemmas.List.Folds.{find-append}
 use Rattle.std.proofs.lemmas.Bool.Decides.{nat_tests}
 use Rattle.path_text.specs.Path.{refusal}
@@ -28,7 +28,7 @@ use Rattle.tool_words.specs.Table.{tool_named, text_of, option_named, Set, set, 
 use Rattle.tool_words.specs.Value.{is, trimmed, number_in, split_in, path_in, lower_path_in, order_in, test_in, is_colon, if_expr, want_by, want_in}
 use Rattle.tool_words.specs.Words.{ends_options, is_option, name_in, value_in, Given, nothing, and_then, at_end, with_words}
 use Rattle.tool_words.specs.Words.{with_path, with_lower, with_number, with_plain, with_settings, is_repeated, with_another, with_own_value, with_next_value}
-use Rattle.tool_words.specs.Words.{with_flag, with_option, with_word, start_by, sides_by, targets_by, nodes_by, choice_of, list_by}
+use Rattle.tool_words.specs.Words.{with_flag, with_option, with_word, start_by, sides_by, sources_by, targets_by, nodes_by, choice_of, list_by}
 use Rattle.tool_words.specs.Words.{asked_of, unless_clash, command_of, reading_for, reading}
 
 one_of : {X : Type 0} (P : X → Type 0) (b : Bool) (x y : X) → P x → P y → P (cond b x y)
@@ -295,6 +295,7 @@ plain_fine : (tool : Tool) (given : Given) (place : ℕ) (word : List ℕ) → F
 plain_fine tool.Walk given place word f = path_fine given place (path_in word) f (path_valid word)
 plain_fine tool.Find given place word f = path_fine given place (path_in word) f (path_valid word)
 plain_fine tool.Cmp given place word f = path_fine given place (path_in word) f (path_valid word)
+plain_fine tool.Copy given place word f = path_fine given place (path_in word) f (path_valid word)
 plain_fine tool.Remove given place word f = lower_fine given place (lower_path_in word) f (path_lower word)
 plain_fine tool.Test given place word f = number_fine given place (number_in 1 1000000 word) f (number_fits word)
 
@@ -403,6 +404,23 @@ sides_fine wanting (left ∷ right ∷ paths) (first ∷ []) h = tt
 sides_fine wanting (left ∷ right ∷ paths) (first ∷ second ∷ []) h = (h.0, h.1.0)
 sides_fine wanting (left ∷ right ∷ paths) (first ∷ second ∷ another ∷ places) h = tt
 
+-- sources, one or more, and a destination
+record EndsWithin (ends : List (List ℕ) × List ℕ) : Type 0 where
+  sources : All Valid ends.0
+  dest : Valid ends.1
+  some : 1 ≤ length ends.0
+
+sources_fine : (wanting : ℕ) (paths : List (List ℕ)) → AllByRecursion Valid paths → IfOk (sources_by wanting paths) EndsWithin
+sources_fine wanting [] h = tt
+sources_fine wanting (source ∷ []) h = tt
+sources_fine wanting (source ∷ path ∷ paths) h =
+    let later : All Valid (path ∷ paths) = All-from_recursion Valid (path ∷ paths) h.1 in
+    record {
+      sources = All-cons Valid source _ h.0 (All-take Valid (length paths) (path ∷ paths) later);
+      dest = later (length paths) path (omega arith);
+      some = omega arith;
+    }
+
 targets_fine : (wanting : ℕ) (paths : List (List ℕ)) → AllByRecursion Lower paths → IfOk (targets_by wanting paths) (All Lower)
 targets_fine wanting [] h = tt
 targets_fine wanting (path ∷ paths) h = All-from_recursion Lower (path ∷ paths) h
@@ -464,6 +482,10 @@ asked_fine wanting tool.Cmp given f common =
       right = v.1;
       files = All-from_recursion FileValid given.settings.wants f.settings.wants;
     })
+asked_fine wanting tool.Copy given f common =
+    both EndsWithin Within (sources_by wanting given.paths) _
+    (sources_fine wanting given.paths f.paths)
+    (λ ends e. record { common = common; sources = e.sources; dest = e.dest; some = e.some })
 asked_fine wanting tool.Remove given f common =
     both (All Lower) Within (targets_by wanting given.lower) _
     (targets_fine wanting given.lower f.lower)

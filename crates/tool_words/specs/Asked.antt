@@ -41,6 +41,12 @@ pub record CompareAsked : Type 0 where
   pub right : List ℕ
   pub wants : List Want
 
+-- what dcp is asked for: how the walk is to go, what is copied, and where to
+pub record CopyAsked : Type 0 where
+  pub common : Common
+  pub sources : List (List ℕ)
+  pub dest : List ℕ
+
 -- what drm is asked for: how the walk is to go, the paths from which it goes, what is chosen of it, and whether nothing is to be removed
 pub record RemoveAsked : Type 0 where
   pub common : Common
@@ -51,6 +57,7 @@ pub record RemoveAsked : Type 0 where
 pub data Asked : Type 0 where
   list : ListAsked → Asked
   compare : CompareAsked → Asked
+  copy : CopyAsked → Asked
   remove : RemoveAsked → Asked
   test : TestAsked → Asked
 
@@ -66,5 +73,6 @@ abbrev pub asked_by : Command → Asked
 asked_by (command.Walk common start sort output) = list (record { common = common; start = start_in start; chosen = None; sort = sort; output = output })
 asked_by (command.Find common start tests sort output) = list (record { common = common; start = start_in start; chosen = Some (choice_in tests); sort = sort; output = output })
 asked_by (command.Cmp common left right wants) = compare (record { common = common; left = left; right = right; wants = wants.items })
+asked_by (command.Copy common sources dest) = copy (record { common = common; sources = sources.items; dest = dest })
 asked_by (command.Remove common paths tests dryrun) = remove (record { common = common; roots = paths.items; choice = choice_in tests; dryrun = dryrun })
 asked_by (command.Test common nodes tests) = test (record { common = common; nodes = nodes; choice = choice_in tests })

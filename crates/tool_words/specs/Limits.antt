@@ -2,7 +2,7 @@
 use Rattle.std.specs.Prelude.{◌≡◌, ◌≢◌, ℕ, ◌<◌, ◌≤◌, ◌^◌, List, [], ◌∷◌, length, All, Ok, None, IfSome, true}
 use Rattle.path_text.specs.Path.{refusal}
 use Rattle.tool_words.specs.declared.commands.Common.{Common}
-use Rattle.tool_words.specs.Asked.{Origin, roots, input, Choice, ListAsked, CompareAsked, RemoveAsked, TestAsked, Asked, list, compare, remove, test}
+use Rattle.tool_words.specs.Asked.{Origin, roots, input, Choice, ListAsked, CompareAsked, CopyAsked, RemoveAsked, TestAsked, Asked, list, compare, copy, remove, test}
 use Rattle.tool_words.specs.Words.{reading}
 
 abbrev pub Valid : List ℕ → Type 0
@@ -40,6 +40,13 @@ pub record WithinCompare (asked : CompareAsked) : Type 0 where
   pub right : Valid asked.right
   pub files : All (λ want. Valid want.file) asked.wants
 
+-- one source or more
+pub record WithinCopy (asked : CopyAsked) : Type 0 where
+  pub common : CommonWithin asked.common
+  pub sources : All Valid asked.sources
+  pub dest : Valid asked.dest
+  pub some : 1 ≤ length asked.sources
+
 -- nothing is removed at `/`
 pub record WithinRemove (asked : RemoveAsked) : Type 0 where
   pub common : CommonWithin asked.common
@@ -55,6 +62,7 @@ pub record WithinTest (asked : TestAsked) : Type 0 where
 abbrev pub Within : Asked → Type 0
 Within (list asked) = WithinList asked
 Within (compare asked) = WithinCompare asked
+Within (copy asked) = WithinCopy asked
 Within (remove asked) = WithinRemove asked
 Within (test asked) = WithinTest asked
 

@@ -1,4 +1,4 @@
--- The tools and their options: how each option is written, and what its value sets. Names of options are those of mpiFileUtils' dwalk, dfind, dcmp and drm and of libcircle, as far as these have them.
+-- The tools and their options: how each option is written, and what its value sets. Names of options are those of mpiFileUtils' dwalk, dfind, dcmp, dcp and drm and of libcircle, as far as these have them.
 use Rattle.std.specs.Prelude.{ℕ, ◌-◌, ◌^◌, Bool, true, List, [], ◌∷◌, ◌++◌, false, if◌then◌else◌, codes, find, Option, Some, None}
 use Rattle.std.specs.List.{flat_map}
 use Rattle.std.specs.Option.{option_map}
@@ -21,6 +21,7 @@ tool_named text =
     if is (codes "dwalk") text then Some tool.Walk
     else if is (codes "dfind") text then Some tool.Find
     else if is (codes "dcmp") text then Some tool.Cmp
+    else if is (codes "dcp") text then Some tool.Copy
     else if is (codes "drm") text then Some tool.Remove
     else if is (codes "dtest") text then Some tool.Test
     else None
@@ -64,6 +65,7 @@ abbrev pub groups_of : Tool → List Group
 groups_of tool.Walk = group.Common ∷ group.Telling ∷ group.Listing ∷ []
 groups_of tool.Find = group.Common ∷ group.Telling ∷ group.Listing ∷ group.Testing ∷ []
 groups_of tool.Cmp = group.Common ∷ group.Comparing ∷ []
+groups_of tool.Copy = group.Common ∷ []
 groups_of tool.Remove = group.Common ∷ group.Testing ∷ group.Removing ∷ []
 groups_of tool.Test = group.Common ∷ group.Telling ∷ group.Testing ∷ []
 

@@ -1,5 +1,5 @@
 -- The grammar of command lines: what the words ask for, or the first word that is refused. The tools are mpiFileUtils', `--` and values are as in POSIX's guidelines for utilities and GNU's long options; what is refused is our own.
-use Rattle.std.specs.Prelude.{ℕ, ◌+◌, Bool, ◌&&◌, not, List, [], ◌∷◌, ◌++◌, length, if◌then◌else◌, ◌==◌, nat_lt, slice_index, codes, Result, Ok, Err, Option, Some, None}
+use Rattle.std.specs.Prelude.{ℕ, ◌+◌, Bool, ◌&&◌, not, List, [], ◌∷◌, ◌++◌, length, take, if◌then◌else◌, ◌==◌, nat_lt, slice_index, slice_index_or, codes, Result, Ok, Err, Option, Some, None}
 use Rattle.std.specs.List.{list_any, before_first, after_first, position_or_len}
 use Rattle.tool_words.specs.declared.errors.Cause.TheVariants as cause
 use Rattle.tool_words.specs.declared.errors.Refusal.{Refusal}
@@ -9,7 +9,7 @@ use Rattle.tool_words.specs.declared.tables.Tool.{Tool}
 use Rattle.tool_words.specs.declared.tables.Tool.TheVariants as tool
 use Rattle.tool_words.specs.declared.turns.Turn.{Turn}
 use Rattle.tool_words.specs.declared.turns.Turn.TheVariants as turn
-use Rattle.tool_words.specs.Asked.{Origin, roots, input, Choice, Asked, list, compare, remove, test}
+use Rattle.tool_words.specs.Asked.{Origin, roots, input, Choice, Asked, list, compare, copy, remove, test}
 use Rattle.tool_words.specs.Clashes.{clash_in}
 use Rattle.tool_words.specs.Refusals.{refuse}
 use Rattle.tool_words.specs.Table.{tool_named, text_of, option_named, Set, unset, adds_up, set, raise}
@@ -72,6 +72,7 @@ abbrev pub with_plain : Tool → Given → ℕ → List ℕ → Result Given Ref
 with_plain tool.Walk given place word = with_path given place (path_in word)
 with_plain tool.Find given place word = with_path given place (path_in word)
 with_plain tool.Cmp given place word = with_path given place (path_in word)
+with_plain tool.Copy given place word = with_path given place (path_in word)
 with_plain tool.Remove given place word = with_lower given place (lower_path_in word)
 with_plain tool.Test given place word = with_number given place (number_in 1 1000000 word)
 
@@ -146,6 +147,12 @@ sides_by wanting paths (first ∷ second ∷ another ∷ places) = refuse anothe
 sides_by wanting (left ∷ right ∷ paths) (first ∷ second ∷ []) = Ok (left, right)
 sides_by wanting paths places = refuse wanting cause.NoPath
 
+-- one source or more, and a destination behind them, which is the last path
+abbrev pub sources_by : ℕ → List (List ℕ) → Result (List (List ℕ) × List ℕ) Refusal
+sources_by wanting [] = refuse wanting cause.NoPath
+sources_by wanting (source ∷ []) = refuse wanting cause.NoPath
+sources_by wanting (source ∷ path ∷ paths) = Ok (source ∷ take (length paths) (path ∷ paths), slice_index_or (path ∷ paths) (length paths) path)
+
 -- one root or more
 abbrev pub targets_by : ℕ → List (List ℕ) → Result (List (List ℕ)) Refusal
 targets_by wanting [] = refuse wanting cause.NoPath
@@ -166,6 +173,9 @@ list_of s chosen start = list (record { common = s.common; start = start; chosen
 abbrev pub compare_of : Set → List ℕ → List ℕ → Asked
 compare_of s left right = compare (record { common = s.common; left = left; right = right; wants = s.wants })
 
+abbrev pub copy_of : Set → List (List ℕ) → List ℕ → Asked
+copy_of s sources dest = copy (record { common = s.common; sources = sources; dest = dest })
+
 abbrev pub remove_of : Set → List (List ℕ) → Asked
 remove_of s paths = remove (record { common = s.common; roots = paths; choice = choice_of s; dryrun = s.dryrun })
 
@@ -182,6 +192,7 @@ abbrev pub asked_of : ℕ → Tool → Given → Result Asked Refusal
 asked_of wanting tool.Walk given = list_by wanting None given
 asked_of wanting tool.Find given = list_by wanting (Some (choice_of given.settings)) given
 asked_of wanting tool.Cmp given = and_then (sides_by wanting given.paths given.places) (λ sides. Ok (compare_of given.settings sides.0 sides.1))
+asked_of wanting tool.Copy given = and_then (sources_by wanting given.paths) (λ ends. Ok (copy_of given.settings ends.0 ends.1))
 asked_of wanting tool.Remove given = and_then (targets_by wanting given.lower) (λ paths. Ok (remove_of given.settings paths))
 asked_of wanting tool.Test given = and_then (nodes_by wanting given.numbers given.places) (λ nodes. Ok (test_of given.settings nodes))
 

@@ -112,6 +112,15 @@ pub enum Command {
         /// What is saved, in the order of the words.
         wants: Vec<Want>,
     },
+    /// A copy of what stands below the sources.
+    Copy {
+        /// How the walk is to go.
+        common: Common,
+        /// What is copied: one path or more, which may be nested or stand twice.
+        sources: Vec<Path>,
+        /// Where it is copied to.
+        dest: Path,
+    },
     /// The removal of what is chosen.
     Remove {
         /// How the walk is to go.

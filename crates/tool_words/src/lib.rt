@@ -1,15 +1,16 @@
 //! The words of a command line: what they ask for, or which of them is refused.
 //!
 //! [`read_words`] reads the words behind the program's name, of which word 0 names a tool, and gives a [`Command`]. There are
-//! five tools:
+//! six tools:
 //!
 //! - `dwalk` lists what stands below paths, one or more, or reads the list from a file.
 //! - `dfind` does the same, and keeps what meets all tests.
 //! - `dcmp` compares what stands below two paths, a source and a destination.
+//! - `dcp` copies what stands below paths, one or more, to the destination, which is one more path and the last.
 //! - `drm` removes what stands below paths, one or more and none of them `/`, and meets all tests.
 //! - `dtest` walks a made-up tree, and sums up what meets all tests. It takes one number, of nodes, 1 to 1,000,000.
 //!
-//! Each takes options. These are of all five:
+//! Each takes options. These are of all six:
 //!
 //! | Option | Value | Without it |
 //! |---|---|---|
@@ -55,6 +56,7 @@
 //! dfind --mtime +1 --mtime -7 /t        // what is two to six days old
 //! dfind --input /l --newer /stamp       // of the list in `/l` what changed after `/stamp`
 //! dcmp -o EXIST=ONLY_SRC:/l /p /q        // compares `/q` to `/p`, and saves what `/p` alone has
+//! dcp /p /q /r                          // copies `/p` and `/q` to `/r`
 //! drm --dryrun --name core.* /t          // names what it would remove of `/t`
 //! dtest --type d 100000                 // the directories of a tree of 100,000 nodes
 //! dwalk --x /t                          // UnknownOption(1)
@@ -70,6 +72,7 @@
 //! dwalk --input /l /t                   // TooManyPaths(3)
 //! dtest 10 20                           // TooManyPaths(2)
 //! dcmp /p                               // NoPath(2)
+//! dcp /p                                // NoPath(2)
 //! dcmp /p -o FOO=DIFFER:/r /q           // BadValue(3)
 //! drm /t /                              // BadValue(2)
 //! dwalk --                              // NoPath(2)

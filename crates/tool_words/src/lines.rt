@@ -6,7 +6,7 @@ ghost use Rattle.tool_words.specs.Clashes.{place_of, trace_on_hosts, clash_in};
 ghost use Rattle.tool_words.specs.Parts.{Tells};
 ghost use Rattle.tool_words.specs.Table.{option_named, text_of, Set, set, raise};
 ghost use Rattle.tool_words.specs.Value.{is, number_in, path_in, lower_path_in};
-ghost use Rattle.tool_words.specs.Words.{Given, nothing, ends_options, is_option, name_in, value_in, with_path, with_lower, with_number, with_plain, was_given, is_repeated, with_another, with_own_value, with_next_value, with_flag, with_option, with_word, at_end, start_by, sides_by, targets_by, nodes_by, asked_of, command_of};
+ghost use Rattle.tool_words.specs.Words.{Given, nothing, ends_options, is_option, name_in, value_in, with_path, with_lower, with_number, with_plain, was_given, is_repeated, with_another, with_own_value, with_next_value, with_flag, with_option, with_word, at_end, start_by, sides_by, sources_by, targets_by, nodes_by, asked_of, command_of};
 
 use crate::commands::{Command, Start, Tests};
 use crate::errors::WordsError;
@@ -196,7 +196,7 @@ impl Line {
         ensures refused { IfErr result (λ e. Tells (with_plain tool self.old place word.now) e) }
     {
         match tool {
-            Tool::Walk | Tool::Find | Tool::Cmp => self.read_path(alloc, word, place),
+            Tool::Walk | Tool::Find | Tool::Cmp | Tool::Copy => self.read_path(alloc, word, place),
             Tool::Remove => self.read_lower(alloc, word, place),
             Tool::Test => self.read_number(word, place),
         }
@@ -301,6 +301,7 @@ impl Line {
             Tool::Walk => self.walk(wanting),
             Tool::Find => self.find(wanting),
             Tool::Cmp => self.compare(wanting),
+            Tool::Copy => self.copy(wanting),
             Tool::Remove => self.remove(wanting),
             Tool::Test => self.test(wanting),
         }
@@ -378,6 +379,24 @@ impl Line {
             left,
             right,
             wants,
+        })
+    }
+
+    fn copy(self, wanting: usize) -> Result<Command, WordsError>
+        ensures asked { IfOk result (λ command. asked_of wanting Tool.Copy self ≡ Ok (asked_by command)) }
+        ensures refused { IfErr result (λ e. Tells (asked_of wanting Tool.Copy self) e) }
+    {
+        let Line {
+            settings,
+            paths,
+            ..
+        } = self;
+        let Settings { common, .. } = settings;
+        let (sources, dest) = sources_of(paths, wanting)?;
+        Ok(Command::Copy {
+            common,
+            sources,
+            dest,
         })
     }
 
@@ -463,6 +482,18 @@ fn sides_of(paths: Vec<Path>, places: &[usize], wanting: usize) -> Result<(Path,
     let mut paths = paths.into_iter();
     match (paths.next(), paths.next()) {
         (Some(left), Some(right)) => Ok((left, right)),
+        _ => Err(WordsError::NoPath(wanting)),
+    }
+}
+
+// The sources, one or more, and the destination, which is the last of the paths.
+fn sources_of(paths: Vec<Path>, wanting: usize) -> Result<(Vec<Path>, Path), WordsError>
+    ensures sources { IfOk result (λ ends. sources_by wanting paths.items ≡ Ok (ends.0.items, ends.1)) }
+    ensures refused { IfErr result (λ e. Tells (sources_by wanting paths.items) e) }
+{
+    let mut sources = paths;
+    match sources.pop() {
+        Some(dest) if !sources.is_empty() => Ok((sources, dest)),
         _ => Err(WordsError::NoPath(wanting)),
     }
 }

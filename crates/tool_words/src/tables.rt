@@ -14,6 +14,8 @@ pub(crate) enum Tool {
     Find,
     /// `dcmp`
     Cmp,
+    /// `dcp`
+    Copy,
     /// `drm`
     Remove,
     /// `dtest`
@@ -29,6 +31,7 @@ impl Tool {
             "dwalk" => Some(Tool::Walk),
             "dfind" => Some(Tool::Find),
             "dcmp" => Some(Tool::Cmp),
+            "dcp" => Some(Tool::Copy),
             "drm" => Some(Tool::Remove),
             "dtest" => Some(Tool::Test),
             _ => None,
@@ -47,6 +50,7 @@ impl Tool {
                 Group::Testing,
             ],
             Tool::Cmp => &[Group::Common, Group::Comparing],
+            Tool::Copy => &[Group::Common],
             Tool::Remove => &[Group::Common, Group::Testing, Group::Removing],
             Tool::Test => &[Group::Common, Group::Telling, Group::Testing],
         }

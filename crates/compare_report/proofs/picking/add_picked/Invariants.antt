@@ -1,4 +1,4 @@
-use Rattle.std.proofs.Common.{◌≡◌, ◌++◌, ℕ, ◌-◌, ◌<◌, ◌≤◌, length, take, filter, get_or}
+use Rattle.std.proofs.Common.{◌≡◌, ◌++◌, ◌-◌, ◌≤◌, length, take, filter}
 use Rattle.path_text.specs.Graft.{below_of}
 use Rattle.compare_report.specs.PrivatePicks.{picks_but, IsNext}
 use Rattle.compare_report.proofs.picking.add_picked.Given as goal

@@ -1,6 +1,6 @@
-use Rattle.std.proofs.Common.{◌≡◌, ◌+◌, ◌-◌, ◌<◌, ◌≤◌, ◌^◌, length, min, map, IfOk, IfSome, rules, arith, subst, sym, ap, ◌∙◌}
+use Rattle.std.proofs.Common.{◌≡◌, ◌+◌, ◌-◌, ◌<◌, ◌^◌, length, min, IfSome, rules, arith, subst, sym}
 use Rattle.std.specs.List.{sum_by}
-use Rattle.tree_cmp.specs.Readers.{first_told, StatsTold}
+use Rattle.tree_cmp.specs.Readers.{StatsTold}
 use Rattle.tree_cmp.specs.Rows.{IsComparison}
 use Rattle.tree_cmp.specs.Sides.{side}
 use Rattle.compare_report.proofs.Counted.{first_is, alike, counted}

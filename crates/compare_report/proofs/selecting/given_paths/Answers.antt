@@ -1,4 +1,3 @@
-use Rattle.std.proofs.Common.{◌≡◌, ◌∙◌, ap}
 use Rattle.compare_report.proofs.Chosen.{given_more}
 use Rattle.compare_report.proofs.selecting.given_paths.Goals as goal
 

@@ -1,4 +1,4 @@
-use Rattle.std.proofs.Common.{◌∷◌, [], subst}
+use Rattle.std.proofs.Common.{subst}
 use Rattle.run_report.specs.Sides.{side_of}
 use Rattle.run_entries.specs.Entries.{Walked}
 use Rattle.compare_report.proofs.Sided.{is_side}

@@ -1,4 +1,4 @@
-use Rattle.std.proofs.Common.{rules, ◌≡◌, ◌∙◌, ◌++◌, ap, length, subst}
+use Rattle.std.proofs.Common.{rules, ◌∙◌, ◌++◌, ap, length, subst}
 use Rattle.tool_text.specs.Lines.{lines_of}
 use Rattle.tool_text.specs.Notes.{note_lines}
 use Rattle.run_report.specs.Sides.{side_of}

@@ -1,4 +1,4 @@
-use Rattle.std.proofs.Common.{rules, ◌≡◌, ◌++◌, ◌∷◌, List, take, drop, suc, map, subst, sym, arith}
+use Rattle.std.proofs.Common.{rules, take, drop, suc, map, subst, sym, arith}
 use Rattle.std.proofs.lemmas.List.{take_all}
 use Rattle.run_report.specs.Sides.{side_of}
 use Rattle.run_entries.specs.declared.saving.Output.{Output}
