@@ -1,0 +1,338 @@
+-- Work from the top down by copiers copies: each entry has the fate that is due, and its target what that fate says.
+use Rattle.std.proofs.Common.{◌≡◌, ◌≢◌, ◌⊎◌, inl, inr, ℕ, ◌<◌, Bool, true, false, not, cond, ◌||◌, List, [], ◌∷◌, length, take, Option, Some, None, IfSome, refl, ap, ◌∙◌, sym, subst, arith, nat_eq, is_some}
+use Rattle.std.proofs.lemmas.Bool.{false≢true}
+use Rattle.std.proofs.lemmas.List.{take_all}
+use Rattle.std.proofs.lemmas.List.Elements.{All-from_recursion, recursion_from_All}
+use Rattle.std.specs.FinMap.{get, insert, get-insert, get-remove, get-retain_keys}
+use Rattle.std.specs.List.{AllByRecursion, zip}
+use Rattle.std.specs.Option.{option_map}
+use Rattle.std.specs.Cmp.Lexicographic.{pointwise, bytes_decides}
+use Rattle.path_text.specs.Order.{is_within}
+use Rattle.path_text.specs.Total.{path_cmp_total, path_cmp_ties, path_cmp_same}
+use Rattle.outside.specs.Tree.{Files, Node, Body, dir, file, link, other, is_dir, is_file, kind_of, content, stat_of}
+use Rattle.outside.specs.Writes.{empty_dir, new_file}
+use Rattle.outside.specs.declared.trees.Kind.{Kind}
+use Rattle.outside.specs.declared.trees.Kind.TheVariants as kind
+use Rattle.outside.specs.declared.trees.Stat.{Stat}
+use Rattle.flat_list.specs.declared.entries.Entry.{Entry}
+use Rattle.flat_list.specs.Entries.{is_kind, size_by}
+use Rattle.level_work.specs.Acts.{at_and_under}
+use Rattle.level_work.specs.Levels.{Acted, SameButItems, found, is_item, left, with_at}
+use Rattle.level_work.specs.declared.items.Item.{Item}
+use Rattle.level_work.specs.declared.items.Fate.{Fate}
+use Rattle.level_work.specs.declared.items.Fate.TheVariants as fate
+use Rattle.level_work.specs.declared.items.Order.TheVariants as order
+use Rattle.tree_copy.specs.declared.pairs.Pair.{Pair}
+use Rattle.tree_copy.specs.Copying.{Copied, FitsTree, IsCopied, IsCopyOf, IsLeft, SameButTargets, clashes, due, early, may_fail, or_else, target_of, treated}
+use Rattle.tree_copy.specs.PrivateDeeds.{CopyKind, CopyOne, CopyTold, Differ, MakeDir, MakeFile, PassOver}
+use Rattle.tree_copy.specs.PrivateSettling.{is_copied_kind, item_of, items_of, settled, settled_by}
+use Rattle.tree_copy.proofs.Comes.{Comes, Row, long, skipped_by, tried, under}
+use Rattle.tree_copy.proofs.Ends.{itself, same_some}
+use Rattle.tree_copy.proofs.Fits.{far_no_item, no_item, no_room_of}
+
+-- what an item finds and leaves at its path
+
+get_here : (p : List ℕ) (files : Files) → get (at_and_under p files) p ≡ get files p
+get_here p files =
+    get-retain_keys files (λ q. is_within q p) p (λ x e. ap (λ y. is_within y p) (sym (path_cmp_same p x e))) ∙ ap (λ b. cond b (get files p) None) (itself p)
+
+same_path : (p : List ℕ) → pointwise nat_eq p p ≡ true
+same_path p = (bytes_decides p p).1 refl
+
+get_with : (p : List ℕ) (o : Option Node) (files : Files) → get (with_at p o files) p ≡ o
+get_with p None files = get-remove path_cmp_total files p p ∙ ap (λ b. cond b None (get files p)) (sym (path_cmp_ties p p) ∙ same_path p)
+get_with p (Some n) files = get-insert path_cmp_total files p n p ∙ ap (λ b. cond b (Some n) (get files p)) (sym (path_cmp_ties p p) ∙ same_path p)
+
+put_here : (p : List ℕ) (n : Node) (files : Files) → get (insert files p n) p ≡ Some n
+put_here p n files = get-insert path_cmp_total files p n p ∙ ap (λ b. cond b (Some n) (get files p)) (sym (path_cmp_ties p p) ∙ same_path p)
+
+left_here : (p : List ℕ) (before after : Files) → get (left order.TopDown p before after) p ≡ get after p
+left_here p before after = get_with p (get after p) (at_and_under p before)
+
+same_here : (p : List ℕ) (before after : Files) → left order.TopDown p before after ≡ found order.TopDown p before after → get after p ≡ get before p
+same_here p before after e = sym (left_here p before after) ∙ ap (λ m. get m p) e ∙ get_here p before
+
+none_not : {X : Type 0} (o : Option X) → is_some o ≡ true → o ≡ None → ⊥
+none_not o s e = false≢true (sym (ap is_some e) ∙ s)
+
+-- the nodes at source and target, with the fate of the item: what is known of a directory or a file that is copied
+
+abbrev clash : Kind → Option Node → Bool
+clash k None = false
+clash k (Some n) = not (is_kind (kind_of n.body) k)
+
+abbrev Told : Kind → (source old new : Option Node) → Fate → Type 0
+Told k source old new fate.Done = (clash k old ≡ false) × IsCopyOf k source old new
+Told k source old new fate.Conflict = (clash k old ≡ true) × (new ≡ old)
+Told k source old new fate.Failed = Unit {0}
+Told k source old new fate.Changed = ⊥
+Told k source old new fate.Skipped = ⊥
+Told k source old new fate.NotEmpty = ⊥
+Told k source old new fate.TooLong = ⊥
+Told k source old new fate.ParentFailed = ⊥
+
+dir_clash : (o : Option Node) → is_some o ≡ true → clash kind.Dir o ≡ not (is_dir o)
+dir_clash None s = absurd (false≢true s)
+dir_clash (Some n) s = by n.body
+  where
+    by : (b : Body) → not (is_kind (kind_of b) kind.Dir) ≡ not (Rattle.outside.specs.Tree.is_dir_body b)
+    by (dir far) = refl
+    by (file bytes) = refl
+    by link = refl
+    by other = refl
+
+file_clash : (o : Option Node) → is_some o ≡ true → clash kind.File o ≡ not (is_file o)
+file_clash None s = absurd (false≢true s)
+file_clash (Some n) s = by n.body
+  where
+    by : (b : Body) → not (is_kind (kind_of b) kind.File) ≡ not (Rattle.outside.specs.Tree.is_file_body b)
+    by (dir far) = refl
+    by (file bytes) = refl
+    by link = refl
+    by other = refl
+
+file_some : (o : Option Node) → is_file o ≡ true → is_some o ≡ true
+file_some None e = absurd (false≢true e)
+file_some (Some n) e = refl
+
+not_both : (o : Option Node) → is_dir o ≡ true → is_file o ≡ true → ⊥
+not_both None d f = false≢true d
+not_both (Some n) d f = by n.body d f
+  where
+    by : (b : Body) → Rattle.outside.specs.Tree.is_dir_body b ≡ true → Rattle.outside.specs.Tree.is_file_body b ≡ true → ⊥
+    by (dir far) d f = false≢true f
+    by (file bytes) d f = false≢true d
+    by link d f = false≢true d
+    by other d f = false≢true d
+
+kept_dir : (source o : Option Node) → is_some o ≡ true → IsCopyOf kind.Dir source o o
+kept_dir source None s = absurd (false≢true s)
+kept_dir source (Some n) s = refl
+
+module _ (before after : Files) (e : Entry) (p : List ℕ) where
+  there : is_some (get (found order.TopDown p before after) p) ≡ true → is_some (get before p) ≡ true
+  there s = ap is_some (sym (get_here p before)) ∙ s
+
+  dir_told : (g : Fate) → g ≢ fate.ParentFailed → MakeDir before p e g (found order.TopDown p before after) (left order.TopDown p before after) →
+      Told kind.Dir (get before e.path) (get before p) (get after p) g
+  dir_told fate.Done off (inl d) =
+      let none : get before p ≡ None = sym (get_here p before) ∙ d.0 in
+      let is : get after p ≡ Some empty_dir = sym (left_here p before after) ∙ ap (λ m. get m p) d.1
+      ∙ put_here p empty_dir (found order.TopDown p before after) in
+      (ap (clash kind.Dir) none, subst (λ o. IsCopyOf kind.Dir (get before e.path) o (get after p)) (sym none) (ap (option_map (λ (n : Node). n.body)) is))
+  dir_told fate.Done off (inr d) =
+      let some = there d.0 in (
+        dir_clash (get before p) some ∙ ap not d.1,
+        subst (λ o. IsCopyOf kind.Dir (get before e.path) (get before p) o) (sym (same_here p before after d.2))
+            (kept_dir (get before e.path) (get before p) some),
+      )
+  dir_told fate.Conflict off d = (dir_clash (get before p) (there d.0) ∙ ap not d.2, same_here p before after d.3)
+  dir_told fate.Failed off d = tt
+  dir_told fate.Changed off d = absurd (none_not (get before p) (there d.0) d.1)
+  dir_told fate.Skipped off d = absurd d
+  dir_told fate.NotEmpty off d = absurd d
+  dir_told fate.TooLong off d = absurd d
+  dir_told fate.ParentFailed off d = absurd d
+
+  no_clash : (get (found order.TopDown p before after) p ≡ None) ⊎ (is_file (get before p) ≡ true) → clash kind.File (get before p) ≡ false
+  no_clash (inl n) = ap (clash kind.File) (sym (get_here p before) ∙ n)
+  no_clash (inr f) = file_clash (get before p) (file_some (get before p) f) ∙ ap not f
+
+  no_change : size_by e.stat ≡ length (content (get before e.path)) → (length (content (get before e.path)) < size_by e.stat) ⊎ Differ before p
+      (found order.TopDown p before after) → ⊥
+  no_change size (inl l) = absurd (omega (arith, l, size))
+  no_change size (inr (s, inl n)) = none_not (get before p) (there s) n
+  no_change size (inr (s, inr d)) = not_both (get before p) (ap is_dir (sym (get_here p before)) ∙ d.0) d.1
+
+  file_told : size_by e.stat ≡ length (content (get before e.path)) → (g : Fate) → g ≢ fate.ParentFailed →
+      MakeFile before p e g (found order.TopDown p before after) (left order.TopDown p before after) →
+      Told kind.File (get before e.path) (get before p) (get after p) g
+  file_told size fate.Done off d =
+      let source = content (get before e.path) in
+      let whole : take (size_by e.stat) source ≡ source = take_all (size_by e.stat) source (omega (arith, size)) in
+      let is : get after p ≡ Some (new_file source) = sym (left_here p before after) ∙ d.1.has ∙ ap (λ bytes. Some (new_file bytes)) whole in
+      (no_clash d.0, ap (option_map (λ (n : Node). n.body)) is)
+  file_told size fate.Conflict off d = (file_clash (get before p) (there d.0) ∙ ap not d.2, same_here p before after d.3)
+  file_told size fate.Failed off d = tt
+  file_told size fate.Changed off d = absurd (no_change size d)
+  file_told size fate.Skipped off d = absurd d
+  file_told size fate.NotEmpty off d = absurd d
+  file_told size fate.TooLong off d = absurd d
+  file_told size fate.ParentFailed off d = absurd d
+
+  passed_over : (g : Fate) → g ≢ fate.ParentFailed → PassOver p e g (found order.TopDown p before after) (left order.TopDown p before after) →
+      get after p ≡ get before p
+  passed_over fate.Skipped off d = same_here p before after d
+  passed_over fate.Done off d = absurd d
+  passed_over fate.Failed off d = absurd d
+  passed_over fate.Conflict off d = absurd d
+  passed_over fate.Changed off d = absurd d
+  passed_over fate.NotEmpty off d = absurd d
+  passed_over fate.TooLong off d = absurd d
+  passed_over fate.ParentFailed off d = absurd d
+
+clashes_by : (s : Option Stat) (stat : Stat) (k : Kind) (o : Option Node) → s ≡ Some stat → stat.kind ≡ k → clashes s o ≡ clash k o
+clashes_by s stat k o has is = ap (λ s. clashes s o) has ∙ by o ∙ ap (λ k. clash k o) is
+  where
+    by : (o : Option Node) → clashes (Some stat) o ≡ clash stat.kind o
+    by None = refl
+    by (Some n) = refl
+
+told_size : (o : Option Node) (stat : Stat) → option_map stat_of o ≡ Some stat → stat.size ≡ length (content o)
+told_size None stat e = cc
+told_size (Some n) stat e = ap (λ (s : Stat). s.size) (sym (same_some (stat_of n) stat e)) ∙ by n.body
+  where
+    by : (b : Body) → Rattle.outside.specs.Tree.size_of b ≡ length (Rattle.outside.specs.Tree.bytes_of b)
+    by (dir far) = refl
+    by (file bytes) = refl
+    by link = refl
+    by other = refl
+
+may : (b : Bool) → may_fail (cond b fate.Conflict fate.Done) ≡ true
+may true = refl
+may false = refl
+
+-- an entry with its fate
+module _ (before after : Files) (pairs : List Pair) (rows : List (List ℕ × Fate)) (e : Entry) where
+  due_by : (stat : Stat) (k : Kind) → e.stat ≡ Some stat → stat.kind ≡ k → early pairs rows e ≡ None →
+      due before pairs rows e ≡ cond (clash k (get before (target_of pairs e.path))) fate.Conflict fate.Done
+  due_by stat k has is now =
+      ap (λ x. or_else x (cond (clashes e.stat (get before (target_of pairs e.path))) fate.Conflict fate.Done)) now
+      ∙ ap (λ b. cond b fate.Conflict fate.Done) (clashes_by e.stat stat k (get before (target_of pairs e.path)) has is)
+
+  copied_by : (stat : Stat) (k : Kind) → e.stat ≡ Some stat → stat.kind ≡ k → early pairs rows e ≡ None → (g : Fate) →
+      Told k (get before e.path) (get before (target_of pairs e.path)) (get after (target_of pairs e.path)) g →
+      IsCopied before after pairs rows e (settled_by true g)
+  copied_by stat k has is now fate.Done t = record {
+    fate_of = inl (sym (due_by stat k has is now ∙ ap (λ b. cond b fate.Conflict fate.Done) t.0));
+    left = subst (λ s. IfSome s (λ stat. IsCopyOf stat.kind (get before e.path) (get before (target_of pairs e.path)) (get after (target_of pairs e.path))))
+        (sym has)
+        (subst (λ k. IsCopyOf k (get before e.path) (get before (target_of pairs e.path)) (get after (target_of pairs e.path))) (sym is) t.1);
+  }
+  copied_by stat k has is now fate.Conflict t =
+      record { fate_of = inl (sym (due_by stat k has is now ∙ ap (λ b. cond b fate.Conflict fate.Done) t.0)); left = t.1 }
+  copied_by stat k has is now fate.Failed t = record {
+    fate_of = inr (refl, ap may_fail (due_by stat k has is now) ∙ may (clash k (get before (target_of pairs e.path))));
+    left = tt;
+  }
+  copied_by stat k has is now fate.Changed t = absurd t
+  copied_by stat k has is now fate.Skipped t = absurd t
+  copied_by stat k has is now fate.NotEmpty t = absurd t
+  copied_by stat k has is now fate.TooLong t = absurd t
+  copied_by stat k has is now fate.ParentFailed t = absurd t
+
+  early_is : (f : Fate) → early pairs rows e ≡ Some f → f ≡ due before pairs rows e
+  early_is f now = sym (ap (λ x. or_else x (cond (clashes e.stat (get before (target_of pairs e.path))) fate.Conflict fate.Done)) now)
+
+  as_before : (f : Fate) → (f ≡ fate.Skipped) ⊎ ((f ≡ fate.ParentFailed) ⊎ (f ≡ fate.TooLong)) → early pairs rows e ≡ Some f →
+      get after (target_of pairs e.path) ≡ get before (target_of pairs e.path) →
+      IsCopied before after pairs rows e f
+  as_before f (inl is) now same = record { fate_of = inl (early_is f now); left = subst (λ f. IsLeft before after e (target_of pairs e.path) f) (sym is) same }
+  as_before f (inr (inl is)) now same =
+      record { fate_of = inl (early_is f now); left = subst (λ f. IsLeft before after e (target_of pairs e.path) f) (sym is) same }
+  as_before f (inr (inr is)) now same =
+      record { fate_of = inl (early_is f now); left = subst (λ f. IsLeft before after e (target_of pairs e.path) f) (sym is) same }
+
+  dir_or_file : (stat : Stat) (k : Kind) → e.stat ≡ Some stat → stat.kind ≡ k → (f g : Fate) → (is_kind kind.Dir k || is_kind kind.File k) ≡ true →
+      early pairs rows e ≡ cond (is_copied_kind e) None (Some fate.Skipped) → f ≡ settled e g →
+      Told k (get before e.path) (get before (target_of pairs e.path)) (get after (target_of pairs e.path)) g → IsCopied before after pairs rows e f
+  dir_or_file stat k has is f g some now end t =
+      let copied : is_copied_kind e ≡ true =
+      ap (λ s. Rattle.flat_list.specs.Entries.is_of kind.Dir s || Rattle.flat_list.specs.Entries.is_of kind.File s) has ∙ ap
+      (λ k. is_kind kind.Dir k || is_kind kind.File k) is ∙ some
+      in
+      subst (λ f. IsCopied before after pairs rows e f) (sym (end ∙ ap (λ b. settled_by b g) copied))
+      (copied_by stat k has is (now ∙ ap (λ b. cond b None (Some fate.Skipped)) copied) g t)
+
+  passed_by : (stat : Stat) (k : Kind) → e.stat ≡ Some stat → stat.kind ≡ k → (f g : Fate) → g ≢ fate.ParentFailed →
+      (is_kind kind.Dir k || is_kind kind.File k) ≡ false →
+      early pairs rows e ≡ cond (is_copied_kind e) None (Some fate.Skipped) → f ≡ settled e g →
+      get after (target_of pairs e.path) ≡ get before (target_of pairs e.path) →
+      IsCopied before after pairs rows e f
+  passed_by stat k has is f g off none now end same =
+      let over : is_copied_kind e ≡ false =
+      ap (λ s. Rattle.flat_list.specs.Entries.is_of kind.Dir s || Rattle.flat_list.specs.Entries.is_of kind.File s) has ∙ ap
+      (λ k. is_kind kind.Dir k || is_kind kind.File k) is ∙ none
+      in
+      let skipped : f ≡ fate.Skipped = end ∙ ap (λ b. settled_by b g) over ∙ skipped_by g off in
+      as_before f (inl skipped) (now ∙ ap (λ b. cond b None (Some fate.Skipped)) over ∙ ap (λ x. Some x) (sym skipped)) same
+
+  tried_by : (stat : Stat) (k : Kind) → e.stat ≡ Some stat → stat.kind ≡ k → option_map stat_of (get before e.path) ≡ Some stat → (f g : Fate) →
+      g ≢ fate.ParentFailed →
+      early pairs rows e ≡ cond (is_copied_kind e) None (Some fate.Skipped) → f ≡ settled e g →
+      CopyKind k before (target_of pairs e.path) e g (found order.TopDown (target_of pairs e.path) before after)
+      (left order.TopDown (target_of pairs e.path) before after) →
+      IsCopied before after pairs rows e f
+  tried_by stat kind.Dir has is told f g off now end d =
+      dir_or_file stat kind.Dir has is f g refl now end (dir_told before after e (target_of pairs e.path) g off d)
+  tried_by stat kind.File has is told f g off now end d =
+      let size : size_by e.stat ≡ length (content (get before e.path)) = ap size_by has ∙ told_size (get before e.path) stat told in
+      dir_or_file stat kind.File has is f g refl now end (file_told before after e (target_of pairs e.path) size g off d)
+  tried_by stat kind.Link has is told f g off now end d =
+      passed_by stat kind.Link has is f g off refl now end (passed_over before after e (target_of pairs e.path) g off d)
+  tried_by stat kind.Other has is told f g off now end d =
+      passed_by stat kind.Other has is f g off refl now end (passed_over before after e (target_of pairs e.path) g off d)
+
+  told_by : (s : Option Stat) → e.stat ≡ s → is_some s ≡ true → IfSome s (λ stat. option_map stat_of (get before e.path) ≡ Some stat) → (f g : Fate) →
+      g ≢ fate.ParentFailed →
+      early pairs rows e ≡ cond (is_copied_kind e) None (Some fate.Skipped) → f ≡ settled e g →
+      CopyTold s before (target_of pairs e.path) e g (found order.TopDown (target_of pairs e.path) before after)
+      (left order.TopDown (target_of pairs e.path) before after) →
+      IsCopied before after pairs rows e f
+  told_by None has some told f g off now end d = absurd (false≢true some)
+  told_by (Some stat) has some told f g off now end d = tried_by stat stat.kind has refl told f g off now end d
+
+  is_copied : (list : List Entry) (items : List Item) (outs : List Fate) → items ≡ items_of pairs list →
+      Acted (CopyOne before) order.TopDown items outs before after → is_some e.stat ≡ true →
+      IfSome e.stat (λ stat. option_map stat_of (get before e.path) ≡ Some stat) → (f : Fate) → Comes pairs rows items outs e f →
+      IsCopied before after pairs rows e f
+  is_copied list items outs are acted some told f (long now room is) =
+      let off = ap (λ xs. is_item xs (target_of pairs e.path)) are ∙ far_no_item pairs (treated list) (target_of pairs e.path) (no_room_of pairs e room) in
+      as_before f (inr (inr is)) (now ∙ ap (λ x. Some x) (sym is)) (acted.others (target_of pairs e.path) off)
+  is_copied list items outs are acted some told f (under k at has now is) =
+      as_before f (inr (inl is)) (now ∙ ap (λ x. Some x) (sym is)) ((acted.each k (item_of pairs e) fate.ParentFailed at has).untouched refl)
+  is_copied list items outs are acted some told f (tried k g at has off now is) =
+      told_by e.stat refl some told f g off now is ((acted.each k (item_of pairs e) g at has).touched off)
+
+-- all entries
+
+abbrev IsTold : Files → Entry → Type 0
+IsTold before e = (is_some e.stat ≡ true) × IfSome e.stat (λ stat. option_map stat_of (get before e.path) ≡ Some stat)
+
+told_treated : (before : Files) (list : List Entry) → AllByRecursion (λ e. IfSome e.stat (λ stat. option_map stat_of (get before e.path) ≡ Some stat))
+    list → AllByRecursion (IsTold before) (treated list)
+told_treated before [] h = tt
+told_treated before (e ∷ list) h =
+    elim (is_some e.stat) as (λ b. is_some e.stat ≡ b → AllByRecursion (IsTold before) (cond b (e ∷ treated list) (treated list))) [
+      | true ↦ λ some. ((some, h.0), told_treated before list h.1)
+      | false ↦ λ none. told_treated before list h.1
+    ] refl
+
+firsts : {X Y : Type 0} (P : X → Type 0) (xs : List X) (ys : List Y) → AllByRecursion P xs → AllByRecursion (λ (one : X × Y). P one.0) (zip xs ys)
+firsts P [] ys h = tt
+firsts P (x ∷ xs) [] h = tt
+firsts P (x ∷ xs) (y ∷ ys) h = (h.0, firsts P xs ys h.1)
+
+together : {X : Type 0} (P Q R : X → Type 0) (xs : List X) → ((x : X) → P x → Q x → R x) → AllByRecursion P xs → AllByRecursion Q xs → AllByRecursion R xs
+together P Q R [] h p q = tt
+together P Q R (x ∷ xs) h p q = (h x p.0 q.0, together P Q R xs h p.1 q.1)
+
+pub others : (list : List Entry) (pairs : List Pair) (items : List Item) (before after : Files) → items ≡ items_of pairs list →
+    SameButItems items before after → SameButTargets pairs list before after
+others list pairs items before after are same q off = same q (ap (λ xs. is_item xs q) are ∙ no_item pairs (treated list) q off)
+
+pub copied : (list : List Entry) (pairs : List Pair) (rows : List (List ℕ × Fate)) (items : List Item) (outs : List Fate) (before after : Files) →
+    items ≡ items_of pairs list → FitsTree list pairs before →
+    Acted (CopyOne before) order.TopDown items outs before after → AllByRecursion (λ (one : Row). Comes pairs rows items outs one.0 one.1.1)
+    (zip (treated list) rows) → Copied list pairs rows before after
+copied list pairs rows items outs before after are fits acted come = record {
+  others = others list pairs items before after are acted.others;
+  each =
+      All-from_recursion (λ (one : Row). IsCopied before after pairs rows one.0 one.1.1) (zip (treated list) rows)
+      (together (λ (one : Row). IsTold before one.0) (λ (one : Row). Comes pairs rows items outs one.0 one.1.1)
+      (λ (one : Row). IsCopied before after pairs rows one.0 one.1.1) (zip (treated list) rows)
+      (λ one told come. is_copied before after pairs rows one.0 list items outs are acted told.0 told.1 one.1.1 come)
+      (firsts (IsTold before) (treated list) rows
+      (told_treated before list (recursion_from_All (λ (e : Entry). IfSome e.stat (λ stat. option_map stat_of (get before e.path) ≡ Some stat)) list
+      fits.told))) come);
+}

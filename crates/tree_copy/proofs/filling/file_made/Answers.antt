@@ -1,0 +1,21 @@
+use Rattle.std.proofs.Common.{◌∙◌, sym, subst, IfSome}
+use Rattle.flat_list.specs.Entries.{size_by}
+use Rattle.tree_copy.specs.PrivateActs.{IsFilled}
+use Rattle.tree_copy.proofs.Copiers.{file_filled, file_refused}
+use Rattle.tree_copy.proofs.filling.file_made.Goals as goal
+
+pub returns-then-is_done-clause-told : goal.returns-then-is_done-clause-told
+returns-then-is_done-clause-told g c =
+    let entry = c.args.entry.now in
+    let path = c.args.path.now in
+    let after = g.P.Plot.tree c.filled.new.part in
+    file_filled (g.R.Tree.tree c.args.reader.now) path entry c.in_ok-fate.fate _ _ _ _ (sym c.is_done.ensures ∙ c.if-is_done.true) c.placed.ensures.tells
+    c.in_ok-fate.ensures.told c.filled.ensures.others
+    (subst (λ told. IfSome told (λ seen. IfSome after (IsFilled seen entry.path path (size_by entry.stat) c.filled.result))) c.placed.ensures.same
+    (subst (λ size. IfSome (g.R.Tree.tree c.placed.new.reader) (λ seen. IfSome after (IsFilled seen entry.path path size c.filled.result)))
+    c.size_of-size.ensures c.filled.ensures.told))
+
+pub returns-else-is_done-clause-told : goal.returns-else-is_done-clause-told
+returns-else-is_done-clause-told g c =
+    file_refused (g.R.Tree.tree c.args.reader.now) c.args.path.now c.args.entry.now c.in_ok-fate.fate _ _ (sym c.is_done.ensures ∙ c.if-is_done.false)
+    c.in_ok-fate.ensures.told

@@ -1,0 +1,9 @@
+use Rattle.std.proofs.Common.{sym, ap, ◌∙◌}
+use Rattle.path_text.specs.Path.{is_name}
+use Rattle.tree_copy.proofs.Overlaps.{not_one}
+use Rattle.tree_copy.proofs.placing.target.Goals as goal
+
+pub join-requires : goal.join-requires
+join-requires c =
+    let named = c.base.ensures.name (not_one c.args.source.now c.is_root.ensures.valid (sym c.is_root.ensures.root ∙ c.if-is_root.false)) in
+    ap is_name c.base.ensures.base ∙ named

@@ -1,0 +1,10 @@
+use Rattle.std.proofs.Common.{◌≡◌, length, map}
+use Rattle.tree_copy.specs.Placing.{overlap}
+use Rattle.tree_copy.proofs.placing.targets_overlap.Given as goal
+
+-- the targets that were passed overlap no other
+abbrev pub invariant-loop-rest : goal.invariant-loop-rest
+invariant-loop-rest l = overlap (map (λ pair. pair.target) l.pairs) ≡ overlap (map (λ pair. pair.target) l.rest)
+
+abbrev pub decreases-loop-rest : goal.decreases-loop-rest
+decreases-loop-rest l = length l.rest

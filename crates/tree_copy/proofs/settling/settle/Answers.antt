@@ -1,0 +1,127 @@
+use Rattle.std.proofs.Common.{◌≡◌, ◌∙◌, ◌+◌, ap, arith, length, drop, sym, not, false, subst, get_or, map, ◌∷◌, ◌++◌, [], length-append}
+use Rattle.std.proofs.lemmas.List.{length-map}
+use Rattle.std.specs.Vec.Iter.{into_iter_items}
+use Rattle.flat_list.specs.Spelling.{paths}
+use Rattle.std.proofs.lemmas.Option.{slice_get-get_or}
+use Rattle.tree_copy.specs.Copying.{treated}
+use Rattle.tree_copy.specs.PrivateSettling.{fitting}
+use Rattle.tree_copy.proofs.Tallies.{Tallied, ended, IsFate, IsNoted, few_more, has_mark, left_skipped, moved_on, path_step, some_left, next_of, off_end, passed, skipped}
+use Rattle.tree_copy.proofs.settling.settle.Goals as goal
+
+pub loop-cursor-preserved-then-is_none : goal.loop-cursor-preserved-then-is_none
+loop-cursor-preserved-then-is_none c =
+    let at = moved_on c.loop-cursor.cursor c.advance.new.self c.advance.result c.advance.ensures.passed c.loop-cursor-test.true in
+    let next = next_of c.args.list.now c.advance.new.self.0 c.loop-cursor.cursor.1 c.advance.new.self.1 c.entry-entry.result.now
+    (at.0 ∙ c.loop-cursor.invariant.of_list) c.entry-entry.ensures.at at.1 in
+    record {
+      of_list = at.0 ∙ c.loop-cursor.invariant.of_list;
+      inside = omega (arith, c.advance.ensures.inside, ap length (at.0 ∙ c.loop-cursor.invariant.of_list));
+      behind = c.loop-cursor.invariant.behind;
+      so_far = skipped (treated c.args.list.now) c.args.fits.now c.args.outcome.now (drop c.advance.new.self.1 c.args.list.now)
+          (drop c.loop-cursor.cursor.1 c.args.list.now) c.entry-entry.result.now
+          _ _ _ _ _ _ next (c.is_none.ensures ∙ ap not c.if-is_none.true) c.loop-cursor.invariant.so_far;
+      left = left_skipped (drop (length c.loop-cursor.tally.fates.items) c.args.fits.now) (drop c.loop-cursor.cursor.1 c.args.list.now)
+          (drop c.advance.new.self.1 c.args.list.now) c.entry-entry.result.now _ next (c.is_none.ensures ∙ ap not c.if-is_none.true)
+          c.loop-cursor.invariant.left;
+      left_len = c.loop-cursor.invariant.left_len;
+    }
+
+pub bounds-fits-len : goal.bounds-fits-len
+bounds-fits-len c =
+    let at = moved_on c.loop-cursor.cursor c.advance.new.self c.advance.result c.advance.ensures.passed c.loop-cursor-test.true in
+    let next = next_of c.args.list.now c.advance.new.self.0 c.loop-cursor.cursor.1 c.advance.new.self.1 c.entry-entry.result.now
+    (at.0 ∙ c.loop-cursor.invariant.of_list) c.entry-entry.ensures.at at.1 in
+    let here = has_mark (treated c.args.list.now) c.args.fits.now c.args.outcome.now (drop c.advance.new.self.1 c.args.list.now)
+    (drop c.loop-cursor.cursor.1 c.args.list.now) c.entry-entry.result.now
+    _ _ _ _ _ _ next (c.is_none.ensures ∙ ap not c.if-is_none.false) c.loop-cursor.invariant.so_far
+    in
+    omega (arith, here, c.len.ensures, c.loop-cursor.tally.fates.ok.0)
+
+pub path_of-requires : goal.path_of-requires
+path_of-requires c = λ on.
+    let at = moved_on c.loop-cursor.cursor c.advance.new.self c.advance.result c.advance.ensures.passed c.loop-cursor-test.true in
+    let next = next_of c.args.list.now c.advance.new.self.0 c.loop-cursor.cursor.1 c.advance.new.self.1 c.entry-entry.result.now
+    (at.0 ∙ c.loop-cursor.invariant.of_list) c.entry-entry.ensures.at at.1 in
+    let list = treated c.args.list.now in
+    let len : c.len.result ≡ length c.loop-cursor.tally.fates.items = omega (arith, c.len.ensures, c.loop-cursor.tally.fates.ok.0) in
+    let before = subst (λ n. Tallied list c.args.fits.now c.args.outcome.now (treated (drop c.loop-cursor.cursor.1 c.args.list.now))
+    (drop n c.args.fits.now) (drop c.loop-cursor.place c.args.outcome.now)
+    c.loop-cursor.tally.paths.items c.loop-cursor.tally.fates.items c.loop-cursor.tally.copied c.loop-cursor.tally.bytes) (sym len)
+    c.loop-cursor.invariant.so_far in
+    let some = c.is_none.ensures ∙ ap not c.if-is_none.false in
+    let here = has_mark list c.args.fits.now c.args.outcome.now (drop c.advance.new.self.1 c.args.list.now) (drop c.loop-cursor.cursor.1 c.args.list.now)
+    c.entry-entry.result.now
+    c.len.result c.loop-cursor.place _ _ _ _ next some before
+    in
+    let mark = slice_get-get_or c.args.fits.now c.len.result false here in
+    let left = c.loop-cursor.invariant.left ∙ ap (λ n. fitting (drop n c.args.fits.now) (paths (treated (drop c.loop-cursor.cursor.1 c.args.list.now))))
+    (sym len) in
+    omega (
+      arith,
+      some_left c.args.fits.now c.len.result (get_or c.args.fits.now c.len.result false) (drop c.loop-cursor.cursor.1 c.args.list.now)
+          (drop c.advance.new.self.1 c.args.list.now) c.entry-entry.result.now (map (λ x. x.entry.path) (into_iter_items c.loop-cursor.items))
+          next some mark left on,
+      c.loop-cursor.invariant.left_len,
+      length-map (into_iter_items c.loop-cursor.items) (λ x. x.entry.path),
+    )
+
+pub loop-cursor-preserved : goal.loop-cursor-preserved
+loop-cursor-preserved c =
+    let at = moved_on c.loop-cursor.cursor c.advance.new.self c.advance.result c.advance.ensures.passed c.loop-cursor-test.true in
+    let next = next_of c.args.list.now c.advance.new.self.0 c.loop-cursor.cursor.1 c.advance.new.self.1 c.entry-entry.result.now
+    (at.0 ∙ c.loop-cursor.invariant.of_list) c.entry-entry.ensures.at at.1 in
+    let list = treated c.args.list.now in
+    let len : c.len.result ≡ length c.loop-cursor.tally.fates.items = omega (arith, c.len.ensures, c.loop-cursor.tally.fates.ok.0) in
+    let before = subst (λ n. Tallied list c.args.fits.now c.args.outcome.now (treated (drop c.loop-cursor.cursor.1 c.args.list.now))
+    (drop n c.args.fits.now) (drop c.loop-cursor.place c.args.outcome.now)
+    c.loop-cursor.tally.paths.items c.loop-cursor.tally.fates.items c.loop-cursor.tally.copied c.loop-cursor.tally.bytes) (sym len)
+    c.loop-cursor.invariant.so_far in
+    let some = c.is_none.ensures ∙ ap not c.if-is_none.false in
+    let here = has_mark list c.args.fits.now c.args.outcome.now (drop c.advance.new.self.1 c.args.list.now) (drop c.loop-cursor.cursor.1 c.args.list.now)
+    c.entry-entry.result.now
+    c.len.result c.loop-cursor.place _ _ _ _ next some before
+    in
+    let mark = slice_get-get_or c.args.fits.now c.len.result false here in
+    let left = c.loop-cursor.invariant.left ∙ ap (λ n. fitting (drop n c.args.fits.now) (paths (treated (drop c.loop-cursor.cursor.1 c.args.list.now))))
+    (sym len) in
+    let one : length c.note.new.tally.fates.items ≡ c.len.result + 1 =
+    omega (arith, len, ap length c.in_ok-note.ensures.fates, length-append c.loop-cursor.tally.fates.items (c.in_ok-fate.fate ∷ [])) in
+    let lead = path_step c.args.fits.now c.len.result (length c.note.new.tally.fates.items) (get_or c.args.fits.now c.len.result false)
+    (drop c.loop-cursor.cursor.1 c.args.list.now) (drop c.advance.new.self.1 c.args.list.now) c.entry-entry.result.now c.in_ok-path.path
+    (map (λ x. x.entry.path) (into_iter_items c.loop-cursor.items)) (map (λ x. x.entry.path) (into_iter_items c.path_of.new.items)) next some mark one left
+    c.in_ok-path.ensures.taken c.in_ok-path.ensures.copied (λ off. ap (map (λ x. x.entry.path)) (c.in_ok-path.ensures.kept off))
+    in
+    let noted : IsNoted c.entry-entry.result.now c.in_ok-fate.fate c.loop-cursor.tally.paths.items c.loop-cursor.tally.fates.items
+    c.loop-cursor.tally.copied c.loop-cursor.tally.bytes
+    c.note.new.tally.paths.items c.note.new.tally.fates.items c.note.new.tally.copied c.note.new.tally.bytes = record {
+      told_is = c.in_ok-note.ensures.paths ∙ ap (λ p. c.loop-cursor.tally.paths.items ++ p ∷ []) lead.0;
+      fates_is = c.in_ok-note.ensures.fates;
+      copied_is = c.in_ok-note.ensures.copied;
+      bytes_is = c.in_ok-note.ensures.bytes;
+      gain_small = c.in_ok-note.ensures.small;
+    } in
+    let known : IsFate c.entry-entry.result.now c.args.outcome.now c.loop-cursor.place (get_or c.args.fits.now c.len.result false) c.in_ok-fate.fate = record {
+      fits = c.in_ok-fate.ensures.fits;
+      even = c.in_ok-fate.ensures.even;
+      long = c.in_ok-fate.ensures.long;
+    } in
+    record {
+      of_list = at.0 ∙ c.loop-cursor.invariant.of_list;
+      inside = omega (arith, c.advance.ensures.inside, ap length (at.0 ∙ c.loop-cursor.invariant.of_list));
+      behind = few_more (get_or c.args.fits.now c.len.result false) c.loop-cursor.place c.place_after-place.result c.len.result
+          (length c.note.new.tally.fates.items) c.place_after-place.ensures one
+          (omega (arith, len, c.loop-cursor.invariant.behind));
+      so_far = passed list c.args.fits.now c.args.outcome.now (drop c.advance.new.self.1 c.args.list.now) (drop c.loop-cursor.cursor.1 c.args.list.now)
+          c.entry-entry.result.now
+          c.len.result (length c.note.new.tally.fates.items) c.loop-cursor.place c.place_after-place.result (get_or c.args.fits.now c.len.result false)
+          c.in_ok-fate.fate _ _ _ _ _ _ _ _
+          next some mark known c.place_after-place.ensures one noted before;
+      left = lead.1;
+      left_len = c.in_ok-path.ensures.len c.loop-cursor.invariant.left_len;
+    }
+
+pub invariant_of-result : goal.invariant_of-result
+invariant_of-result c =
+    (ended (treated c.args.list.now) c.args.fits.now c.args.outcome.now _ _ _ _ _ _ _ c.requires.fits
+    (ap treated (off_end c.args.list.now c.loop-cursor.cursor c.advance.result c.loop-cursor.invariant.of_list c.advance.ensures.answer
+    c.loop-cursor-test.false)) c.loop-cursor.invariant.so_far).len

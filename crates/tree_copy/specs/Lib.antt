@@ -1,0 +1,6 @@
+pub mod Copying
+pub mod Looking
+pub mod Placing
+pub mod PrivateActs
+pub mod PrivateDeeds
+pub mod PrivateSettling

@@ -1,0 +1,202 @@
+//! A file is made anew, and filled with the bytes of its source.
+ghost use Rattle.std.specs.Prelude.{◌≡◌, ◌≢◌, ◌⊎◌, ◌≤◌, ◌<◌, [], Some, true, length, IsTrue, IfOk, IfSome, is_some};
+ghost use Rattle.std.specs.FinMap.{get};
+ghost use Rattle.outside.specs.Count.{RoseBy};
+ghost use Rattle.outside.specs.Writes.{is_top, is_open, new_file, SameBut};
+ghost use Rattle.flat_list.specs.Entries.{size_by};
+ghost use Rattle.level_work.specs.Acts.{IsDone};
+ghost use Rattle.tree_copy.specs.Copying.{is_done};
+ghost use Rattle.tree_copy.specs.PrivateActs.{ByReader, IsFilled, IsPlaced, IsReplaced};
+ghost use Rattle.tree_copy.specs.PrivateDeeds.{MakeFile};
+
+use crate::making::{fate_of, is_taken, look};
+use flat_list::Entry;
+use level_work::Fate;
+use outside::{Kind, Plot, ReadError, Tree};
+use path_text::{OutOfMemory, Path};
+use std::alloc::Global;
+
+// Makes a file anew at the path, with as many bytes of the entry's path as the entry tells.
+pub(crate) fn file_made<P: Plot, R: Tree>(
+    alloc: Global,
+    reader: &mut R,
+    buffer: &mut [u8],
+    part: &mut P,
+    path: &Path,
+    entry: &Entry,
+) -> Result<Fate, OutOfMemory>
+    requires top { IsTrue (is_top (P.area part.old) path.now) }
+    requires open { IsTrue (is_open (P.area part.old) path.now) }
+    requires buffer { 0 < length buffer.old }
+    ensures told { IfSome (P.tree part.old) (λ before. IfSome (P.tree part.new) (IsDone (ByReader MakeFile (R.tree reader.old)) path.now entry.now result before)) }
+    ensures named { IfOk result (λ fate. fate ≢ Fate.ParentFailed) }
+    ensures same { R.tree reader.new ≡ R.tree reader.old }
+    ensures tells { is_some (P.tree part.new) ≡ is_some (P.tree part.old) }
+    ensures area { P.area part.new ≡ P.area part.old }
+    ensures len { length buffer.new ≡ length buffer.old }
+    ensures count { RoseBy 0 (P.count part.old) (P.count part.new) }
+    ensures reader_count { RoseBy 0 (R.count reader.old) (R.count reader.new) }
+    ensures cause { IfOk result (λ fate. fate ≡ Fate.Failed → (RoseBy 1 (P.count part.old) (P.count part.new)) ⊎ (RoseBy 1 (R.count reader.old) (R.count reader.new))) }
+{
+    let size = size_of(entry);
+    let fate = placed(alloc, reader, part, path)?;
+    if is_done(fate) {
+        filled(alloc, reader, buffer, part, &entry.path, path, size)
+    } else {
+        Ok(fate)
+    }
+}
+
+// How many bytes the entry tells.
+fn size_of(entry: &Entry) -> u64
+    ensures { result ≡ size_by entry.now.stat }
+{
+    match &entry.stat {
+        Some(stat) => stat.size,
+        None => 0,
+    }
+}
+
+fn is_done(fate: Fate) -> bool
+    ensures { result ≡ is_done fate }
+{
+    fate == Fate::Done
+}
+
+// Makes an empty file at the path, in place of none or of a file. What is there is looked at before it is removed.
+fn placed<P: Plot, R: Tree>(
+    alloc: Global,
+    reader: &mut R,
+    part: &mut P,
+    path: &Path,
+) -> Result<Fate, OutOfMemory>
+    requires top { IsTrue (is_top (P.area part.old) path.now) }
+    requires open { IsTrue (is_open (P.area part.old) path.now) }
+    ensures told { IfSome (P.tree part.old) (λ before. IfSome (P.tree part.new) (IsPlaced (R.tree reader.old) path.now result before)) }
+    ensures named { IfOk result (λ fate. fate ≢ Fate.ParentFailed) }
+    ensures same { R.tree reader.new ≡ R.tree reader.old }
+    ensures tells { is_some (P.tree part.new) ≡ is_some (P.tree part.old) }
+    ensures area { P.area part.new ≡ P.area part.old }
+    ensures count { RoseBy 0 (P.count part.old) (P.count part.new) }
+    ensures reader_count { RoseBy 0 (R.count reader.old) (R.count reader.new) }
+    ensures cause { IfOk result (λ fate. fate ≡ Fate.Failed → (RoseBy 1 (P.count part.old) (P.count part.new)) ⊎ (RoseBy 1 (R.count reader.old) (R.count reader.new))) }
+{
+    match part.make_file(alloc, path) {
+        Ok(()) => Ok(Fate::Done),
+        Err(refused) => {
+            if is_taken(refused) {
+                placed_over(alloc, reader, part, path)
+            } else {
+                fate_of(refused)
+            }
+        }
+    }
+}
+
+// Makes an empty file at a path that is taken, in place of a file.
+fn placed_over<P: Plot, R: Tree>(
+    alloc: Global,
+    reader: &mut R,
+    part: &mut P,
+    path: &Path,
+) -> Result<Fate, OutOfMemory>
+    requires top { IsTrue (is_top (P.area part.old) path.now) }
+    requires open { IsTrue (is_open (P.area part.old) path.now) }
+    requires taken { IfSome (P.tree part.old) (λ before. is_some (get before path.now) ≡ true) }
+    ensures told { IfSome (P.tree part.old) (λ before. IfSome (P.tree part.new) (IsPlaced (R.tree reader.old) path.now result before)) }
+    ensures named { IfOk result (λ fate. fate ≢ Fate.ParentFailed) }
+    ensures same { R.tree reader.new ≡ R.tree reader.old }
+    ensures tells { is_some (P.tree part.new) ≡ is_some (P.tree part.old) }
+    ensures area { P.area part.new ≡ P.area part.old }
+    ensures count { RoseBy 0 (P.count part.old) (P.count part.new) }
+    ensures reader_count { RoseBy 0 (R.count reader.old) (R.count reader.new) }
+    ensures cause { IfOk result (λ fate. fate ≡ Fate.Failed → (RoseBy 1 (P.count part.old) (P.count part.new)) ⊎ (RoseBy 1 (R.count reader.old) (R.count reader.new))) }
+{
+    let seen = look(reader, path, Kind::File);
+    if is_done(seen) {
+        replaced(alloc, part, path)
+    } else {
+        Ok(seen)
+    }
+}
+
+// Removes a file and makes an empty one in its place. Something stands there.
+fn replaced<P: Plot>(alloc: Global, part: &mut P, path: &Path) -> Result<Fate, OutOfMemory>
+    requires top { IsTrue (is_top (P.area part.old) path.now) }
+    requires open { IsTrue (is_open (P.area part.old) path.now) }
+    requires taken { IfSome (P.tree part.old) (λ before. is_some (get before path.now) ≡ true) }
+    ensures told { IfSome (P.tree part.old) (λ before. IfSome (P.tree part.new) (IsReplaced path.now result before)) }
+    ensures named { IfOk result (λ fate. fate ≢ Fate.ParentFailed) }
+    ensures tells { is_some (P.tree part.new) ≡ is_some (P.tree part.old) }
+    ensures area { P.area part.new ≡ P.area part.old }
+    ensures count { RoseBy 0 (P.count part.old) (P.count part.new) }
+    ensures cause { IfOk result (λ fate. fate ≡ Fate.Failed → RoseBy 1 (P.count part.old) (P.count part.new)) }
+{
+    match part.remove_file(alloc, path) {
+        Ok(()) => {}
+        Err(refused) => return fate_of(refused),
+    }
+    match part.make_file(alloc, path) {
+        Ok(()) => Ok(Fate::Done),
+        Err(refused) => fate_of(refused),
+    }
+}
+
+// Copies the bytes of the source into the empty file at the path, in pieces that the buffer holds.
+fn filled<P: Plot, R: Tree>(
+    alloc: Global,
+    reader: &mut R,
+    buffer: &mut [u8],
+    part: &mut P,
+    source: &Path,
+    path: &Path,
+    size: u64,
+) -> Result<Fate, OutOfMemory>
+    requires open { IsTrue (is_open (P.area part.old) path.now) }
+    requires buffer { 0 < length buffer.old }
+    requires empty { IfSome (P.tree part.old) (λ before. get before path.now ≡ Some (new_file [])) }
+    ensures told { IfSome (R.tree reader.old) (λ seen. IfSome (P.tree part.new) (IsFilled seen source.now path.now size result)) }
+    ensures others { IfSome (P.tree part.old) (λ before. IfSome (P.tree part.new) (SameBut path.now before)) }
+    ensures named { IfOk result (λ fate. fate ≢ Fate.ParentFailed) }
+    ensures same { R.tree reader.new ≡ R.tree reader.old }
+    ensures tells { is_some (P.tree part.new) ≡ is_some (P.tree part.old) }
+    ensures area { P.area part.new ≡ P.area part.old }
+    ensures len { length buffer.new ≡ length buffer.old }
+    ensures count { RoseBy 0 (P.count part.old) (P.count part.new) }
+    ensures reader_count { RoseBy 0 (R.count reader.old) (R.count reader.new) }
+    ensures cause { IfOk result (λ fate. fate ≡ Fate.Failed → (RoseBy 1 (P.count part.old) (P.count part.new)) ⊎ (RoseBy 1 (R.count reader.old) (R.count reader.new))) }
+{
+    let mut at = 0u64;
+    while at < size {
+        let most = piece(size - at, buffer.len());
+        let count = match reader.read(source, at, &mut buffer[..most]) {
+            Ok(count) => count,
+            Err(ReadError::Failed) => return Ok(Fate::Failed),
+            Err(ReadError::NotFile) => return Ok(Fate::Changed),
+        };
+        if count == 0 {
+            return Ok(Fate::Changed);
+        }
+        match part.write_at(alloc, path, at, &buffer[..count]) {
+            Ok(()) => {}
+            Err(refused) => return fate_of(refused),
+        }
+        at += count as u64;
+    }
+    Ok(Fate::Done)
+}
+
+// How many bytes to read next: what is left, or a whole buffer.
+fn piece(left: u64, room: usize) -> usize
+    requires left { 0 < left }
+    requires room { 0 < room }
+    ensures some { 0 < result }
+    ensures most { result ≤ room }
+    ensures inside { result ≤ left }
+{
+    if left < room as u64 {
+        left as usize
+    } else {
+        room
+    }
+}

@@ -1,0 +1,58 @@
+//! The copy of trees.
+//!
+//! - [`place`] pairs sources with the paths to which they go ([`Pair`]), as cp does: into a directory under their last names, or one
+//!   source to a path of its own. [`PlaceError`] says why they can't.
+//! - [`copy`] takes the list of a walk of the sources and copies each entry to its target, level by level from the top down, by work
+//!   on levels ([`level_work`]). It answers a [`CopyReport`]: the paths with their fates, how many came to `Done`, and their bytes.
+//!
+//! ```text
+//! let pairs = place(alloc, &mut reader, &sources, &dest)?;
+//! let report = copy(rt, alloc, &list, &pairs, &mut ground, ranks, hosts)?;
+//! for k in 0..report.len() {
+//!     if report.fate(k) == Fate::Conflict {
+//!         // ..
+//!     }
+//! }
+//! ```
+//!
+//! A directory is made, or the one that is there is kept. A file is made anew, in place of a file that is there, and filled with as
+//! many bytes as its entry tells, in pieces of 64 KiB; it is opened once to be read and once to be written. What is made where
+//! nothing stood costs no look. What is of another kind than its source is a `Conflict`, and stays. Links and other nodes are
+//! `Skipped`. What stands under an entry that did not come to `Done` is not tried, and told `ParentFailed`.
+//!
+//! # Parts
+//!
+//! `placing` has the targets of sources, and `pairs` what they are. `targets` makes an item of each entry at its target; `working`
+//! hires actors, as many as there are threads, has them work and takes their readers back; `settling` puts the fates beside the entries and counts;
+//! `copying` is all of that. `acting` is the act at one target: `making` makes directories, and `filling` files. `reports` has
+//! what a copy answers, and `laws` what the pairs of a place are like.
+//!
+//! # What is proved
+//!
+//! [`place`] answers what `specs/Placing` says of what the looks told, over files that tell no tree too. Where the files tell their
+//! tree, [`copy`] meets the relation of `specs/Copying`: each entry has the first fate that applies, `Failed` alone may stand in
+//! place of `Done` and `Conflict`; a copied file has exactly the bytes of its source; and every path that is no target is as before,
+//! also after want of memory. Over all files each entry whose target is too long, whose parent was not copied, or that is
+//! no file and no directory is told so, and no other. Failed entries are no more than the files counted.
+//!
+//! Not claimed: what stands at the target of an entry that failed, or at any target after want of memory; that files are read in
+//! pieces; times of what is made; that threads ran side by side.
+#![tactic(auto)]
+
+mod acting;
+mod copying;
+mod filling;
+mod laws;
+mod making;
+mod pairs;
+mod placing;
+mod reports;
+mod settling;
+mod targets;
+mod working;
+
+pub use copying::copy;
+pub use laws::placed_are_apart;
+pub use pairs::{Pair, PlaceError};
+pub use placing::place;
+pub use reports::CopyReport;

@@ -1,0 +1,95 @@
+//! A directory is made, or the one that is there is kept.
+ghost use Rattle.std.specs.Prelude.{◌≡◌, ◌≢◌, ◌⊎◌, IsTrue, IfOk, IfSome, is_some};
+ghost use Rattle.std.specs.FinMap.{get};
+ghost use Rattle.std.specs.Option.{option_map};
+ghost use Rattle.outside.specs.Count.{RoseBy};
+ghost use Rattle.outside.specs.Tree.{stat_of};
+ghost use Rattle.outside.specs.Writes.{is_top, is_open};
+ghost use Rattle.flat_list.specs.Entries.{is_kind};
+ghost use Rattle.tree_copy.specs.PrivateActs.{IsDirMade, TellsFate, is_taken, look_fate};
+
+use level_work::Fate;
+use outside::{Kind, Plot, Tree, WriteError};
+use path_text::{OutOfMemory, Path};
+use std::alloc::Global;
+
+// Makes a directory at the path. Only where something is there already does the reader look at it.
+pub(crate) fn dir_made<P: Plot, R: Tree>(
+    alloc: Global,
+    reader: &mut R,
+    part: &mut P,
+    path: &Path,
+) -> Result<Fate, OutOfMemory>
+    requires top { IsTrue (is_top (P.area part.old) path.now) }
+    requires open { IsTrue (is_open (P.area part.old) path.now) }
+    ensures told { IfSome (P.tree part.old) (λ before. IfSome (P.tree part.new) (IsDirMade (R.tree reader.old) path.now result before)) }
+    ensures named { IfOk result (λ fate. fate ≢ Fate.ParentFailed) }
+    ensures same { R.tree reader.new ≡ R.tree reader.old }
+    ensures tells { is_some (P.tree part.new) ≡ is_some (P.tree part.old) }
+    ensures area { P.area part.new ≡ P.area part.old }
+    ensures count { RoseBy 0 (P.count part.old) (P.count part.new) }
+    ensures reader_count { RoseBy 0 (R.count reader.old) (R.count reader.new) }
+    ensures cause { IfOk result (λ fate. fate ≡ Fate.Failed → (RoseBy 1 (P.count part.old) (P.count part.new)) ⊎ (RoseBy 1 (R.count reader.old) (R.count reader.new))) }
+{
+    match part.make_dir(alloc, path) {
+        Ok(()) => Ok(Fate::Done),
+        Err(refused) => {
+            if is_taken(refused) {
+                Ok(look(reader, path, Kind::Dir))
+            } else {
+                fate_of(refused)
+            }
+        }
+    }
+}
+
+// What a look at a path that is taken means, where a node of this kind is wanted: `Done` where one is there.
+pub(crate) fn look<R: Tree>(reader: &mut R, path: &Path, wanted: Kind) -> Fate
+    ensures told { IfSome (R.tree reader.old) (λ seen. (result ≡ Fate.Failed) ⊎ (result ≡ look_fate wanted (option_map stat_of (get seen path.now)))) }
+    ensures same { R.tree reader.new ≡ R.tree reader.old }
+    ensures count { RoseBy 0 (R.count reader.old) (R.count reader.new) }
+    ensures cause { result ≡ Fate.Failed → RoseBy 1 (R.count reader.old) (R.count reader.new) }
+    ensures named { result ≢ Fate.ParentFailed }
+{
+    let Ok(answer) = reader.stat(path) else {
+        return Fate::Failed;
+    };
+    let Some(stat) = answer else {
+        return Fate::Changed;
+    };
+    if is_kind(wanted, stat.kind) {
+        Fate::Done
+    } else {
+        Fate::Conflict
+    }
+}
+
+fn is_kind(wanted: Kind, found: Kind) -> bool
+    ensures { result ≡ is_kind wanted found }
+{
+    wanted == found
+}
+
+// Whether a refusal says that a node is there already.
+pub(crate) fn is_taken(refused: WriteError) -> bool
+    ensures { result ≡ is_taken refused }
+{
+    refused == WriteError::Exists
+}
+
+// The fate that a refusal means.
+pub(crate) fn fate_of(refused: WriteError) -> Result<Fate, OutOfMemory>
+    ensures told { TellsFate refused result }
+    ensures named { IfOk result (λ fate. fate ≢ Fate.ParentFailed) }
+    ensures cause { IfOk result (λ fate. fate ≡ Fate.Failed → refused ≡ WriteError.Failed) }
+{
+    match refused {
+        WriteError::OutOfMemory => Err(OutOfMemory),
+        WriteError::Failed => Ok(Fate::Failed),
+        WriteError::Exists => Ok(Fate::Changed),
+        WriteError::NoParent => Ok(Fate::Changed),
+        WriteError::WrongKind => Ok(Fate::Changed),
+        WriteError::NotEmpty => Ok(Fate::Changed),
+        WriteError::Absent => Ok(Fate::Changed),
+    }
+}

@@ -1,0 +1,52 @@
+//! Sources with their targets, and why there are none.
+use path_text::{OutOfMemory, Path};
+use std::alloc::AllocError;
+use thiserror::Error;
+
+/// A source, and the path to which it is copied.
+#[derive(Debug, Drop)]
+pub struct Pair {
+    /// What is copied.
+    pub source: Path,
+    /// Where it goes.
+    pub target: Path,
+}
+
+/// Why sources can't be copied to a destination.
+#[derive(Debug, Drop, Error)]
+pub enum PlaceError {
+    /// Two of all sources and targets are equal, or one is under another.
+    #[error("sources and targets overlap")]
+    Overlap,
+    /// The destination is no directory, or not in one, or a target would be too long.
+    #[error("the destination is no directory")]
+    NoDest,
+    /// The look at this path failed.
+    #[error("the look at the destination failed")]
+    Failed(Path),
+    /// No memory was found.
+    #[error("out of memory")]
+    OutOfMemory,
+}
+
+impl From<OutOfMemory> for PlaceError {
+    ghost use Rattle.std.specs.Prelude.{◌≡◌};
+    ghost use Rattle.tree_copy.specs.declared.pairs.PlaceError.TheVariants as place;
+
+    ghost from_gives = { λ _ e. e ≡ place.OutOfMemory };
+
+    fn from(_: OutOfMemory) -> Self {
+        PlaceError::OutOfMemory
+    }
+}
+
+impl From<AllocError> for PlaceError {
+    ghost use Rattle.std.specs.Prelude.{◌≡◌};
+    ghost use Rattle.tree_copy.specs.declared.pairs.PlaceError.TheVariants as place;
+
+    ghost from_gives = { λ _ e. e ≡ place.OutOfMemory };
+
+    fn from(_: AllocError) -> Self {
+        PlaceError::OutOfMemory
+    }
+}

@@ -1,0 +1,194 @@
+//! The fates of the entries, by those of the items.
+ghost use Rattle.std.specs.Prelude.{◌≡◌, ◌+◌, ◌-◌, ◌^◌, ◌<◌, ◌≤◌, ◌++◌, ◌∷◌, [], Some, length, map, drop, slice_get, true, false, if◌then◌else◌, IfOk, OnOk, is_some};
+ghost use Rattle.std.specs.List.{count_by, zip};
+ghost use Rattle.std.specs.Vec.Iter.{into_iter_items, into_iter_len};
+ghost use Rattle.flat_list.specs.Entries.{is_of};
+ghost use Rattle.flat_list.specs.Spelling.{paths};
+ghost use Rattle.tree_copy.specs.Copying.{is_done, treated};
+ghost use Rattle.tree_copy.specs.PrivateSettling.{any_odd, bytes_of, fates_of, fitting, gain, is_copied_kind, is_odd, settled, settled_by};
+
+use crate::reports::CopyReport;
+use flat_list::{Entry, FlatList};
+use level_work::{Fate, Item, Outcome};
+use outside::Kind;
+use path_text::{OutOfMemory, Path};
+use std::alloc::Global;
+use std::vec::IntoIter;
+
+// What is known of the entries that were passed.
+#[derive(Drop)]
+struct Tally {
+    paths: Vec<Path>,
+    fates: Vec<Fate>,
+    copied: u64,
+    bytes: u128,
+}
+
+/// The report on the entries of a list: `fits` says which of those with a stat have an item, and the outcome has the fates of
+/// the items. The paths of the items go into the report.
+pub(crate) fn settle(
+    alloc: Global,
+    list: &FlatList,
+    items: Vec<Item>,
+    fits: &[bool],
+    outcome: &Outcome,
+) -> Result<CopyReport, OutOfMemory>
+    requires items { map (λ x. x.entry.path) items.items ≡ fitting fits.now (paths (treated list.now)) }
+    requires fits { length fits.now ≡ length (treated list.now) }
+    requires len { length outcome.now ≡ count_by (λ fit. fit) fits.now }
+    ensures rows { IfOk result (λ report. report.0 ≡ zip (paths (treated list.now)) (fates_of fits.now (treated list.now) outcome.now)) }
+    ensures even { IfOk result (λ report. any_odd fits.now (treated list.now) outcome.now ≡ false) }
+    ensures copied { IfOk result (λ report. report.1 ≡ count_by is_done (fates_of fits.now (treated list.now) outcome.now)) }
+    ensures bytes { IfOk result (λ report. report.2 ≡ bytes_of (treated list.now) (fates_of fits.now (treated list.now) outcome.now)) }
+{
+    let mut tally = Tally {
+        paths: Vec::with_capacity(alloc, fits.len())?,
+        fates: Vec::with_capacity(alloc, fits.len())?,
+        copied: 0,
+        bytes: 0,
+    };
+    let mut items = items.into_iter();
+    let mut place = 0;
+    let mut cursor = list.cursor();
+    while cursor.advance() {
+        let entry = cursor.entry();
+        if entry.stat.is_none() {
+            continue;
+        }
+        let fit = fits[tally.fates.len()];
+        let fate = fate_of(entry, fit, outcome, place)?;
+        place = place_after(place, fit);
+        let path = path_of(entry, fit, &mut items)?;
+        note(&mut tally, path, entry, fate)?;
+    }
+    Ok(CopyReport {
+        paths: tally.paths,
+        fates: tally.fates,
+        copied: tally.copied,
+        bytes: tally.bytes,
+    })
+}
+
+// The path of an entry: that of the next item, where the entry has one, and else a copy.
+fn path_of(
+    entry: &Entry,
+    fit: bool,
+    items: &mut IntoIter<Item, Global>,
+) -> Result<Path, OutOfMemory>
+    requires { fit ≡ true → 0 < into_iter_len items.old }
+    ensures taken { IfOk result (λ path. fit ≡ true → map (λ x. x.entry.path) (into_iter_items items.old) ≡ path ∷ map (λ x. x.entry.path) (into_iter_items items.new)) }
+    ensures copied { IfOk result (λ path. fit ≡ false → path ≡ entry.now.path) }
+    ensures kept { fit ≡ false → into_iter_items items.new ≡ into_iter_items items.old }
+    ensures len { into_iter_len items.old ≡ length (into_iter_items items.old) → into_iter_len items.new ≡ length (into_iter_items items.new) }
+{
+    if !fit {
+        return entry.path.copy();
+    }
+    let Some(item) = items.next() else {
+        unreachable!()
+    };
+    let Item { entry, .. } = item;
+    let Entry { path, .. } = entry;
+    Ok(path)
+}
+
+fn place_after(place: usize, fit: bool) -> usize
+    requires { place < 18446744073709551615 }
+    ensures { result ≡ (if fit then place + 1 else place) }
+{
+    if fit { place + 1 } else { place }
+}
+
+// The fate of an entry, whose item is the one at the place if it has one. No act says that it copied a link. If one did, the
+// entries under it would have been tried, and their fates could not be told: no report is made then.
+fn fate_of(entry: &Entry, fit: bool, outcome: &Outcome, place: usize) -> Result<Fate, OutOfMemory>
+    requires { fit ≡ true → place < length outcome.now }
+    ensures fits { IfOk result (λ fate. fit ≡ true → (f : _) → slice_get outcome.now place ≡ Some f → fate ≡ settled entry.now f) }
+    ensures even { IfOk result (λ fate. fit ≡ true → (f : _) → slice_get outcome.now place ≡ Some f → is_odd entry.now f ≡ false) }
+    ensures long { IfOk result (λ fate. fit ≡ false → fate ≡ Fate.TooLong) }
+{
+    if !fit {
+        return Ok(Fate::TooLong);
+    }
+    let fate = outcome.fate(place);
+    if is_odd(entry, fate) {
+        return Err(OutOfMemory);
+    }
+    Ok(settled_by(is_copied_kind(entry), fate))
+}
+
+fn is_copied_kind(entry: &Entry) -> bool
+    ensures { result ≡ is_copied_kind entry.now }
+{
+    match &entry.stat {
+        Some(stat) => stat.kind == Kind::Dir || stat.kind == Kind::File,
+        None => false,
+    }
+}
+
+fn is_odd(entry: &Entry, fate: Fate) -> bool
+    ensures { result ≡ is_odd entry.now fate }
+{
+    is_done(fate) && !is_copied_kind(entry)
+}
+
+fn is_done(fate: Fate) -> bool
+    ensures { result ≡ is_done fate }
+{
+    match fate {
+        Fate::Done => true,
+        Fate::Failed
+        | Fate::Conflict
+        | Fate::Skipped
+        | Fate::ParentFailed
+        | Fate::Changed
+        | Fate::NotEmpty
+        | Fate::TooLong => false,
+    }
+}
+
+fn settled_by(copied: bool, fate: Fate) -> Fate
+    ensures { result ≡ settled_by copied fate }
+{
+    match (copied, fate) {
+        (_, Fate::ParentFailed) => Fate::ParentFailed,
+        (true, Fate::Done) => Fate::Done,
+        (true, Fate::Failed) => Fate::Failed,
+        (true, Fate::Conflict) => Fate::Conflict,
+        (true, _) => Fate::Changed,
+        (false, _) => Fate::Skipped,
+    }
+}
+
+// One entry more with its fate.
+fn note(tally: &mut Tally, path: Path, entry: &Entry, fate: Fate) -> Result<(), OutOfMemory>
+    requires copied { tally.old.copied < 18446744073709551615 }
+    requires bytes { tally.old.bytes + 18446744073709551615 < 340282366920938463463374607431768211456 }
+    ensures paths { OnOk result (tally.new.paths.items ≡ tally.old.paths.items ++ path ∷ []) }
+    ensures fates { OnOk result (tally.new.fates.items ≡ tally.old.fates.items ++ fate ∷ []) }
+    ensures copied { OnOk result (tally.new.copied ≡ (if is_done fate then tally.old.copied + 1 else tally.old.copied)) }
+    ensures bytes { OnOk result (tally.new.bytes ≡ tally.old.bytes + gain entry.now fate) }
+    ensures small { OnOk result (gain entry.now fate ≤ 18446744073709551615) }
+{
+    tally.paths.push(path)?;
+    tally.fates.push(fate)?;
+    tally.copied = one_more(tally.copied, fate);
+    tally.bytes += gain(entry, fate) as u128;
+    Ok(())
+}
+
+fn one_more(copied: u64, fate: Fate) -> u64
+    requires { copied < 18446744073709551615 }
+    ensures { result ≡ (if is_done fate then copied + 1 else copied) }
+{
+    if is_done(fate) { copied + 1 } else { copied }
+}
+
+fn gain(entry: &Entry, fate: Fate) -> u64
+    ensures { result ≡ gain entry.now fate }
+{
+    match &entry.stat {
+        Some(stat) if stat.kind == Kind::File && is_done(fate) => stat.size,
+        _ => 0,
+    }
+}
