@@ -1,12 +1,13 @@
 -- What a run does, a line a tool. Each word stands in the tool's own room.
 use Rattle.std.specs.Prelude.{ℕ, Bool, true, false}
 use Rattle.tool_words.specs.Limits.{Within}
-use Rattle.tool_words.specs.Asked.{Asked, list, compare, remove, test}
+use Rattle.tool_words.specs.Asked.{Asked, list, compare, copy, remove, test}
 use Rattle.run_report.specs.declared.reports.Report.{Report}
 use Rattle.run_report.specs.declared.stops.Stop.{Stop}
 use Rattle.run_report.specs.Sides.{Side}
 use Rattle.run_report.specs.Stops.{Succeeds}
 use Rattle.compare_report.specs.Comparing.{ReportsCompare, StopsCompare, LeavesCompare, FineCompare}
+use Rattle.copy_report.specs.Copying.{ReportsCopy, StopsCopy, LeavesCopy, FineCopy}
 use Rattle.list_report.specs.Lists.{ReportsList, StopsList, LeavesList, FineList}
 use Rattle.list_report.specs.Tests.{ReportsTest, StopsTest, LeavesTest, FineTest}
 use Rattle.remove_report.specs.Removing.{ReportsRemove, StopsRemove, LeavesRemove, FineRemove}
@@ -15,6 +16,7 @@ use Rattle.remove_report.specs.Removing.{ReportsRemove, StopsRemove, LeavesRemov
 abbrev pub Reports : Asked → ℕ → Side → Side → Report → Type 0
 Reports (list asked) now before after report = ReportsList asked now before after report
 Reports (compare asked) now before after report = ReportsCompare asked before after report
+Reports (copy asked) now before after report = ReportsCopy asked before after report
 Reports (remove asked) now before after report = ReportsRemove asked now before after report
 Reports (test asked) now before after report = ReportsTest asked now report
 
@@ -22,6 +24,7 @@ Reports (test asked) now before after report = ReportsTest asked now report
 abbrev pub Stops : Asked → Side → Side → Stop → Type 0
 Stops (list asked) before after why = StopsList asked before after why
 Stops (compare asked) before after why = StopsCompare asked before after why
+Stops (copy asked) before after why = StopsCopy asked before after why
 Stops (remove asked) before after why = StopsRemove asked before after why
 Stops (test asked) before after why = StopsTest why
 
@@ -29,6 +32,7 @@ Stops (test asked) before after why = StopsTest why
 abbrev pub Leaves : Asked → ℕ → Side → Side → Type 0
 Leaves (list asked) now before after = LeavesList asked before.tree after.tree
 Leaves (compare asked) now before after = LeavesCompare asked before.tree after.tree
+Leaves (copy asked) now before after = LeavesCopy asked before after
 Leaves (remove asked) now before after = LeavesRemove asked now before after
 Leaves (test asked) now before after = LeavesTest before.tree after.tree
 
@@ -36,6 +40,7 @@ Leaves (test asked) now before after = LeavesTest before.tree after.tree
 abbrev pub is_apart : Asked → Bool
 is_apart (list asked) = false
 is_apart (compare asked) = false
+is_apart (copy asked) = false
 is_apart (remove asked) = false
 is_apart (test asked) = true
 
@@ -43,6 +48,7 @@ is_apart (test asked) = true
 abbrev pub Fine : Asked → ℕ → Side → Side → Type 0
 Fine (list asked) now before after = FineList asked before after
 Fine (compare asked) now before after = FineCompare asked before after
+Fine (copy asked) now before after = FineCopy asked before after
 Fine (remove asked) now before after = FineRemove asked now before after
 Fine (test asked) now before after = FineTest asked
 

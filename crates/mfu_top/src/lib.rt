@@ -5,7 +5,7 @@
 //!
 //! - `running` has the call.
 //! - `reporting` has what it does for each tool, a line a tool: each has a room of its own, as [`list_report`] is that of dwalk,
-//!   dfind and dtest, [`compare_report`] that of dcmp, and [`remove_report`] that of drm.
+//!   dfind and dtest, [`compare_report`] that of dcmp, [`copy_report`] that of dcp, and [`remove_report`] that of drm.
 //! - `laws` has when it succeeds.
 //!
 //! Proved: for all files, words and sinks, `run` meets its clauses. Where the files tell their tree, a run of status 0 or 1
@@ -13,7 +13,9 @@
 //! file spell. Each failed answer is named in a note, chosen or not, and counted by the files. A file that it wrote spells what
 //! was chosen in path order, and every other path is as before. dtest's tree is the map of its rule and never fails, and a run
 //! over it leaves the files alone. dcmp printed a row for each path that is to be shown of its two walks, with what the files tell
-//! of both, and each list that it saved spells the entries of the rows that were wanted. drm chose as dfind does, and of the chosen
+//! of both, and each list that it saved spells the entries of the rows that were wanted. dcp copied each entry of the walk of
+//! its sources, or named why not: a file at its target has the bytes of the source then, and every path but the targets is as
+//! before, whatever the status is. drm chose as dfind does, and of the chosen
 //! paths alone some are gone: each goes or stays as its line and its note say, and whatever the status is, every other path is as
 //! before. Each other status but 3 comes by its cause; where nothing stands against a run and no sink fails, it ends with status 0, or with 3 for want of memory.
 //! All this holds for any number of ranks, split rule and seed. The trace is that of a run of these ranks from the roots in

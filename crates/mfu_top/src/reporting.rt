@@ -8,6 +8,7 @@ ghost use Rattle.run_report.specs.Sides.{side_of};
 ghost use Rattle.mfu_top.specs.Run.{Reports, Stops, Leaves, is_apart};
 
 use compare_report::{CompareTask, report_of_compare};
+use copy_report::{CopyTask, report_of_copy};
 use list_report::{ListTask, TestTask, report_of_list, report_of_test};
 use outside::Ground;
 use remove_report::{RemoveTask, report_of_remove};
@@ -84,6 +85,18 @@ where
                 wants,
             };
             report_of_compare(rt, alloc, task, files)
+        }
+        Command::Copy {
+            common,
+            sources,
+            dest,
+        } => {
+            let task = CopyTask {
+                common,
+                sources,
+                dest,
+            };
+            report_of_copy(rt, alloc, task, files)
         }
         Command::Remove {
             common,

@@ -24,9 +24,9 @@ use std::sync::Wait;
 use std::thread::Threads;
 use tool_words::{Command, WordsError, read_words, words_ask_within_limits};
 
-/// Does all that the program does, in this order: reads the words; looks at the paths of `--newer`; reads a list, or walks;
-/// removes what is chosen of it, or writes it to a file, where that is asked for; writes `out`, and then `notes`. All memory is
-/// taken before the first byte goes to `out`. `now` is in seconds since 1970. The status's number is the program's exit status.
+/// Does all that the program does, in this order: reads the words; places the targets of a copy; looks at the paths of
+/// `--newer`; reads a list, or walks; copies it, removes what is chosen of it, or writes it to a file, where that is asked for;
+/// writes `out`, and then `notes`. All memory is taken before the first byte goes to `out`. `now` is in seconds since 1970. The status's number is the program's exit status.
 pub fn run<T: Threads + Wait + Sync, G: Ground + Send, O: Sink, E: Sink>(
     rt: &T,
     alloc: Global,

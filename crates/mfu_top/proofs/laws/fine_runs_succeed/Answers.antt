@@ -5,6 +5,7 @@ pub returns : goal.returns
 returns c = succeeds (record {
   lists = c.fine_list_succeeds.ensures;
   compares = c.fine_compare_succeeds.ensures;
+  copies = c.fine_copy_succeeds.ensures;
   removes = c.fine_remove_succeeds.ensures;
   tests = c.fine_test_succeeds.ensures;
 })

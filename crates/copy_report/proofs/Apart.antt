@@ -1,0 +1,174 @@
+-- What stands apart: the sources of pairs, and where the paths within them go.
+use Rattle.std.proofs.Common.{◌≡◌, ◌⊎◌, inl, inr, ⊎_elim, ℕ, ◌<◌, ◌≤◌, zero, suc, get_or, Bool, true, false, cond, ◌||◌, List, [], ◌∷◌}
+use Rattle.std.proofs.Common.{◌++◌, length, None, refl, ap, ◌∙◌, sym, subst, arith, length-append}
+use Rattle.std.proofs.lemmas.Bool.{false≢true}
+use Rattle.std.specs.Prelude.{nat_eq, ◌==◌}
+use Rattle.std.specs.List.{AllByRecursion, Contains, list_any}
+use Rattle.std.specs.Cmp.Lexicographic.{pointwise, bytes_decides}
+use Rattle.path_text.specs.Path.{refusal, parent_of}
+use Rattle.path_text.specs.Order.{front, is_under, is_within}
+use Rattle.path_text.specs.Graft.{grafted, below_of}
+use Rattle.path_text.proofs.Under.{names_under, is_under_by, contiguous}
+use Rattle.outside.specs.Tree.{is_root}
+use Rattle.tree_copy.specs.Copying.{target_of}
+use Rattle.tree_copy.specs.Placing.{overlap}
+use Rattle.tree_copy.specs.declared.pairs.Pair.{Pair}
+use Rattle.copy_report.proofs.Parents.{cut, or_under, under_no_root, goes_under, grafted_itself}
+
+-- ---- what stands in a list of paths
+
+abbrev pub In : List ℕ → List (List ℕ) → Type 0
+In x [] = ⊥
+In x (y ∷ ys) = (x ≡ y) ⊎ In x ys
+
+pub in_list : (xs : List (List ℕ)) (x : List ℕ) → Contains xs x → In x xs
+in_list xs x c = at xs c.0 x c.1 c.2
+  where
+    at : (xs : List (List ℕ)) (k : ℕ) (x : List ℕ) → k < length xs → get_or xs k x ≡ x → In x xs
+    at [] k x h e = absurd (omega (arith, h))
+    at (y ∷ ys) zero x h e = inl (sym e)
+    at (y ∷ ys) (suc k) x h e = inr (at ys k x (omega (arith, h)) e)
+
+pub in_front : (x : List ℕ) (xs ys : List (List ℕ)) → In x xs → In x (xs ++ ys)
+in_front x [] ys i = absurd i
+in_front x (z ∷ xs) ys i = ⊎_elim (λ e. inl e) (λ j. inr (in_front x xs ys j)) i
+
+pub neither : (a b : Bool) → (a || b) ≡ false → (a ≡ false) × (b ≡ false)
+neither true b e = absurd (false≢true (sym e))
+neither false b e = (refl, e)
+
+pub one_off : (f : List ℕ → Bool) (x : List ℕ) (xs : List (List ℕ)) → In x xs → list_any f xs ≡ false → f x ≡ false
+one_off f x [] i e = absurd i
+one_off f x (y ∷ ys) i e =
+    let n = neither (f y) (list_any f ys) e in ⊎_elim (λ is. ap f is ∙ n.0) (λ j. one_off f x ys j n.1) i
+
+not_under_itself : (x : List ℕ) → is_under x x ≡ true → ⊥
+not_under_itself x u = let n = names_under x x u in long x n.names n.some n.whole
+  where
+    long : (x r : List ℕ) → 0 < length r → x ≡ front x ++ r → ⊥
+    long x r some e = absurd (omega (arith, some, ap length e, length-append (front x) r, grows x))
+      where
+        grows : (x : List ℕ) → length x ≤ length (front x)
+        grows x = elim (length x == 1) as (λ b. length x ≤ length (cond b x (x ++ 47 ∷ [])))
+            [ true ↦ omega arith | false ↦ omega (arith, length-append x (47 ∷ [])) ]
+
+-- of paths that do not overlap none is under another
+pub none_under : (a b : List ℕ) (xs : List (List ℕ)) → overlap xs ≡ false → In a xs → In b xs → is_under a b ≡ true → ⊥
+none_under a b [] off i j u = absurd i
+none_under a b (x ∷ xs) off i j u =
+    let n = neither (list_any (λ other. is_within x other || is_within other x) xs) (overlap xs) off in
+    let within = or_under a b u in
+    ⊎_elim
+    (λ is. ⊎_elim
+    (λ same. not_under_itself a (subst (λ y. is_under a y ≡ true) (same ∙ sym is) u))
+    (λ later. false≢true (sym (neither (is_within x b) (is_within b x) (one_off (λ other. is_within x other || is_within other x) b xs later n.0)).0
+    ∙ subst (λ y. is_within y b ≡ true) is within)) j)
+    (λ later. ⊎_elim
+    (λ same. false≢true (sym (neither (is_within x a) (is_within a x) (one_off (λ other. is_within x other || is_within other x) a xs later n.0)).1
+    ∙ subst (λ y. is_within a y ≡ true) same within))
+    (λ other. none_under a b xs n.1 later other u) j) i
+
+pub in_back : (x : List ℕ) (xs ys : List (List ℕ)) → In x ys → In x (xs ++ ys)
+in_back x [] ys i = i
+in_back x (z ∷ xs) ys i = inr (in_back x xs ys i)
+
+-- and of two parts of them none is within one of the other part
+pub none_within : (a b : List ℕ) (xs ys : List (List ℕ)) → overlap (xs ++ ys) ≡ false → In a xs → In b ys → is_within a b ≡ false
+none_within a b [] ys off i j = absurd i
+none_within a b (x ∷ xs) ys off i j =
+    let n = neither (list_any (λ other. is_within x other || is_within other x) (xs ++ ys)) (overlap (xs ++ ys)) off in
+    ⊎_elim
+    (λ is. subst (λ y. is_within y b ≡ false) (sym is)
+    (neither (is_within x b) (is_within b x) (one_off (λ other. is_within x other || is_within other x) b (xs ++ ys) (in_back b xs ys j) n.0)).0)
+    (λ later. none_within a b xs ys n.1 later j) i
+
+-- ---- where a path goes
+
+-- the path is a source, and goes to its target
+pub record GoesFirst (P : Pair → Type 0) (pairs : List Pair) (p : List ℕ) : Type 0 where
+  pub pair : Pair
+  pub holds : P pair
+  pub is : p ≡ pair.source
+  pub goes : target_of pairs p ≡ pair.target
+
+-- the path is under a source, and goes into the target of its parent
+pub record GoesDeeper (P : Pair → Type 0) (pairs : List Pair) (p : List ℕ) : Type 0 where
+  pub pair : Pair
+  pub holds : P pair
+  pub under : is_under p pair.source ≡ true
+  pub lower : is_root p ≡ false
+  pub goes : parent_of (target_of pairs p) ≡ target_of pairs (parent_of p)
+
+abbrev pub AreValid : Pair → Type 0
+AreValid pair = (refusal pair.source ≡ None) × (refusal pair.target ≡ None)
+
+within_parts : (x p : List ℕ) → is_within x p ≡ true → (x ≡ p) ⊎ (is_under x p ≡ true)
+within_parts x p e = elim (pointwise nat_eq x p) as (λ b. pointwise nat_eq x p ≡ b → (b || is_under x p) ≡ true → (x ≡ p) ⊎ (is_under x p ≡ true)) [
+  | true ↦ λ is _. inl ((bytes_decides x p).0 is)
+  | false ↦ λ _ u. inr u
+] refl e
+
+-- a path is under its parent, and so within all that its parent is within
+pub under_parent : (p : List ℕ) → refusal p ≡ None → is_root p ≡ false → is_under p (parent_of p) ≡ true
+under_parent p v off = let c = cut p v off in is_under_by p (parent_of p) c.name c.whole c.some
+
+within_parent : (p s : List ℕ) → refusal p ≡ None → is_root p ≡ false → is_within (parent_of p) s ≡ true → is_within p s ≡ true
+within_parent p s v off w =
+    let u = under_parent p v off in
+    ⊎_elim (λ is. or_under p s (subst (λ y. is_under p y ≡ true) is u)) (λ d. or_under p s (contiguous.deeper p (parent_of p) s u d))
+    (within_parts (parent_of p) s w)
+
+chosen : (pair : Pair) (pairs : List Pair) (p : List ℕ) → is_within p pair.source ≡ true →
+    target_of (pair ∷ pairs) p ≡ grafted pair.target (below_of p pair.source)
+chosen pair pairs p w = ap (λ b. cond b (grafted pair.target (below_of p pair.source)) (target_of pairs p)) w
+
+passed : (pair : Pair) (pairs : List Pair) (p : List ℕ) → is_within p pair.source ≡ false → target_of (pair ∷ pairs) p ≡ target_of pairs p
+passed pair pairs p w = ap (λ b. cond b (grafted pair.target (below_of p pair.source)) (target_of pairs p)) w
+
+pub goes : (P : Pair → Type 0) (pairs : List Pair) (p : List ℕ) → refusal p ≡ None → (is_root p ≡ false → refusal (parent_of p) ≡ None) →
+    AllByRecursion AreValid pairs → AllByRecursion P pairs → list_any (λ pair. is_within p pair.source) pairs ≡ true →
+    GoesFirst P pairs p ⊎ GoesDeeper P pairs p
+goes P [] p v q valid holds e = absurd (false≢true e)
+goes P (pair ∷ pairs) p v q valid holds e =
+    elim (is_within p pair.source) as (λ b. is_within p pair.source ≡ b → (b || list_any (λ pair. is_within p pair.source) pairs) ≡ true →
+    GoesFirst P (pair ∷ pairs) p ⊎ GoesDeeper P (pair ∷ pairs) p) [
+      | true ↦ λ w _. ⊎_elim (λ is. inl (at is w)) (λ u. inr (deeper u w)) (within_parts p pair.source w)
+      | false ↦ λ w more. ⊎_elim (λ f. inl (first w f)) (λ d. inr (later w d)) (goes P pairs p v q valid.1 holds.1 more)
+    ] refl e
+  where
+    at : p ≡ pair.source → is_within p pair.source ≡ true → GoesFirst P (pair ∷ pairs) p
+    at is w = record {
+      pair = pair;
+      holds = holds.0;
+      is = is;
+      goes = chosen pair pairs p w ∙ ap (λ x. grafted pair.target (below_of x pair.source)) is ∙ grafted_itself pair.target pair.source;
+    }
+
+    deeper : is_under p pair.source ≡ true → is_within p pair.source ≡ true → GoesDeeper P (pair ∷ pairs) p
+    deeper u w =
+        let g = goes_under pair.target pair.source p valid.0.1 valid.0.0 v (q (under_no_root p pair.source valid.0.0 u)) u in
+        record {
+          pair = pair;
+          holds = holds.0;
+          under = u;
+          lower = under_no_root p pair.source valid.0.0 u;
+          goes = ap parent_of (chosen pair pairs p w) ∙ g.goes ∙ sym (chosen pair pairs (parent_of p) g.within);
+        }
+
+    first : is_within p pair.source ≡ false → GoesFirst P pairs p → GoesFirst P (pair ∷ pairs) p
+    first w f = record { pair = f.pair; holds = f.holds; is = f.is; goes = passed pair pairs p w ∙ f.goes }
+
+    later : is_within p pair.source ≡ false → GoesDeeper P pairs p → GoesDeeper P (pair ∷ pairs) p
+    later w d =
+        let off : is_within (parent_of p) pair.source ≡ false = elim
+        (is_within (parent_of p) pair.source) as (λ b. is_within (parent_of p) pair.source ≡ b → b ≡ false) [
+          | true ↦ λ is. absurd (false≢true (sym w ∙ within_parent p pair.source v d.lower is))
+          | false ↦ λ _. refl
+        ] refl in
+        record {
+          pair = d.pair;
+          holds = d.holds;
+          under = d.under;
+          lower = d.lower;
+          goes = ap parent_of (passed pair pairs p w) ∙ d.goes ∙ sym (passed pair pairs (parent_of p) off);
+        }

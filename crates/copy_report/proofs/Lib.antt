@@ -1,0 +1,10 @@
+pub mod Apart
+pub mod Fated
+pub mod Inside
+pub mod Listed
+pub mod Named
+pub mod Parents
+pub mod Placed
+pub mod Ready
+pub mod Steps
+pub mod Succeeds

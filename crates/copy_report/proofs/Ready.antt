@@ -1,0 +1,191 @@
+-- What is walked of placed sources can be copied to their targets.
+use Rattle.std.proofs.Common.{◌≡◌, ◌⊎◌, inl, inr, ⊎_elim, ℕ, ◌<◌, true, false, List, [], ◌∷◌, map, length, get_or, Option, Some, None}
+use Rattle.std.proofs.Common.{IfSome, refl, ap, ◌∙◌, sym, subst, arith}
+use Rattle.std.proofs.lemmas.Bool.{false≢true}
+use Rattle.std.proofs.lemmas.List.Elements.{All-filter, All-from_recursion, recursion_from_All}
+use Rattle.std.specs.Prelude.{is_some}
+use Rattle.std.specs.FinMap.{get}
+use Rattle.std.specs.List.{All, AllByRecursion, Contains, flat_map, list_any}
+use Rattle.std.specs.List.Sorted.{IsStrictlySortedBy}
+use Rattle.std.specs.Option.{option_map}
+use Rattle.path_text.specs.Order.{path_cmp, is_within}
+use Rattle.path_text.specs.Path.{refusal, parent_of}
+use Rattle.outside.specs.Tree.{Files, Node, IsTree, is_dir, stat_of, NodesHavePaths}
+use Rattle.outside.specs.declared.trees.Stat.{Stat}
+use Rattle.flat_list.specs.declared.entries.Entry.{Entry}
+use Rattle.flat_list.specs.declared.entries.Mark.{Mark}
+use Rattle.flat_list.specs.declared.entries.Mark.TheVariants as mark
+use Rattle.flat_list.specs.Spelling.{paths}
+use Rattle.tree_copy.specs.Copying.{CanCopy, FitsTree, ends_of, is_target, target_of}
+use Rattle.tree_copy.specs.Placing.{overlap}
+use Rattle.tree_copy.specs.declared.pairs.Pair.{Pair}
+use Rattle.tree_walk.specs.Roots.{is_in_some}
+use Rattle.tree_walk.specs.Told.{EntriesAreTold, IsTold, stat_by}
+use Rattle.tree_walk.specs.Walk.{answers_in, walk}
+use Rattle.run_report.specs.Sides.{Side}
+use Rattle.run_entries.specs.Entries.{Walked}
+use Rattle.copy_report.specs.PrivateSteps.{ArePlaced, HasPaths}
+use Rattle.copy_report.proofs.Apart.{In, in_list, in_front, none_under, AreValid, goes}
+use Rattle.copy_report.proofs.Inside.{root_of, within_source}
+use Rattle.copy_report.proofs.Listed.{Has, has_target, come}
+use Rattle.copy_report.proofs.Parents.{parent_valid}
+
+weaker : {X : Type 0} (P Q : X → Type 0) → ((x : X) → P x → Q x) → (xs : List X) → AllByRecursion P xs → AllByRecursion Q xs
+weaker P Q t [] h = h
+weaker P Q t (x ∷ xs) h = (t x h.0, weaker P Q t xs h.1)
+
+both : {X : Type 0} (P Q : X → Type 0) (xs : List X) → AllByRecursion P xs → AllByRecursion Q xs → AllByRecursion (λ x. P x × Q x) xs
+both P Q [] h g = tt
+both P Q (x ∷ xs) h g = ((h.0, g.0), both P Q xs h.1 g.1)
+
+of_all : (P : List ℕ → Type 0) (xs : List (List ℕ)) (x : List ℕ) → AllByRecursion P xs → In x xs → P x
+of_all P [] x h i = absurd i
+of_all P (y ∷ ys) x h i = ⊎_elim (λ e. subst P (sym e) h.0) (λ j. of_all P ys x h.1 j) i
+
+abbrev pub sources_of : List Pair → List (List ℕ)
+sources_of pairs = map (λ pair. pair.source) pairs
+
+-- what is known of the pairs, and of the roots of their sources
+pub record AreReady (pairs : List Pair) (roots : List (List ℕ)) : Type 0 where
+  pub valid : AllByRecursion AreValid pairs
+  pub apart : overlap (ends_of pairs) ≡ false
+  pub among : All (Contains (sources_of pairs)) roots
+
+in_sources : (pairs : List Pair) (roots : List (List ℕ)) → All (Contains (sources_of pairs)) roots → (x : List ℕ) → In x roots → In x (sources_of pairs)
+in_sources pairs roots among x i =
+    of_all (λ r. In r (sources_of pairs)) roots x
+    (weaker (Contains (sources_of pairs)) (λ r. In r (sources_of pairs)) (λ r c. in_list (sources_of pairs) r c) roots
+    (recursion_from_All (Contains (sources_of pairs)) roots among)) i
+
+-- ---- each entry is within a source
+
+abbrev IsSourced : List Pair → Entry → Type 0
+IsSourced pairs e = list_any (λ pair. is_within e.path pair.source) pairs ≡ true
+
+sourced : (pairs : List Pair) (roots : List (List ℕ)) → AreReady pairs roots → (es : List Entry) → AllByRecursion (λ e. refusal e.path ≡ None) es →
+    AllByRecursion (λ e. is_in_some roots e.path ≡ true) es → AllByRecursion (IsSourced pairs) es
+sourced pairs roots r [] valid h = tt
+sourced pairs roots r (e ∷ es) valid h =
+    let root = root_of e.path roots h.0 in (
+      within_source e.path root.path pairs valid.0 (weaker AreValid (λ pair. refusal pair.source ≡ None) (λ pair v. v.0) pairs r.valid)
+          (in_sources pairs roots r.among root.path root.stands) root.is,
+      sourced pairs roots r es valid.1 h.1,
+    )
+
+pub can_copy : (pairs : List Pair) (roots : List (List ℕ)) (list : List Entry) → AreReady pairs roots → All (λ e. refusal e.path ≡ None) list →
+    All (λ e. is_in_some roots e.path ≡ true) list → IsStrictlySortedBy path_cmp (paths list) → CanCopy list pairs
+can_copy pairs roots list r valid within ascend = record {
+  ascend = ascend;
+  in_source = All-from_recursion (IsSourced pairs) list
+      (sourced pairs roots r list (recursion_from_All (λ (e : Entry). refusal e.path ≡ None) list valid)
+      (recursion_from_All (λ (e : Entry). is_in_some roots e.path ≡ true) list within));
+  apart = r.apart;
+}
+
+-- ---- each entry tells what stands there
+
+stat_told : (m : Mark) (found : Option Node) (told : Option Stat) → told ≡ stat_by m found → IfSome told (λ stat. option_map stat_of found ≡ Some stat)
+stat_told m found None e = tt
+stat_told mark.StatFailed found (Some stat) e = absurd (cc)
+stat_told mark.Gone found (Some stat) e = sym e
+stat_told mark.Fine found (Some stat) e = sym e
+stat_told mark.ListFailed found (Some stat) e = sym e
+stat_told mark.Changed found (Some stat) e = sym e
+
+-- ---- each target stands in a directory, or in the target of an entry
+
+-- a target stands in a directory, and its source is an end
+abbrev Stands : Files → List Pair → Pair → Type 0
+Stands files pairs pair = (is_dir (get files (parent_of pair.target)) ≡ true) × In pair.source (ends_of pairs)
+
+own_sources : (pairs : List Pair) → AllByRecursion (λ pair. In pair.source (sources_of pairs)) pairs
+own_sources [] = tt
+own_sources (pair ∷ pairs) = (
+  inl refl,
+  weaker (λ p. In p.source (sources_of pairs)) (λ p. In p.source (sources_of (pair ∷ pairs))) (λ p i. inr i) pairs
+      (own_sources pairs),
+)
+
+abbrev StandsIn : Files → List Pair → List Entry → Entry → Type 0
+StandsIn files pairs list e =
+    is_target pairs list (parent_of (target_of pairs e.path)) ≡ false → is_dir (get files (parent_of (target_of pairs e.path))) ≡ true
+
+module _ (files : Files) (pairs : List Pair) (roots : List (List ℕ)) (r : AreReady pairs roots) (list : List Entry)
+    (stand : AllByRecursion (λ pair. is_dir (get files (parent_of pair.target)) ≡ true) pairs) where
+  ends : AllByRecursion (Stands files pairs) pairs
+  ends =
+      both (λ pair. is_dir (get files (parent_of pair.target)) ≡ true) (λ pair. In pair.source (ends_of pairs)) pairs stand
+      (weaker (λ pair. In pair.source (sources_of pairs)) (λ pair. In pair.source (ends_of pairs))
+      (λ pair i. in_front pair.source (sources_of pairs) (map (λ p. p.target) pairs) i) pairs
+      (own_sources pairs))
+
+  one : (e : Entry) → refusal e.path ≡ None → IsSourced pairs e → In e.path roots ⊎ Has list (parent_of e.path) → StandsIn files pairs list e
+  one e v s comes off =
+      ⊎_elim
+      (λ f. ap (λ q. is_dir (get files (parent_of q))) f.goes ∙ f.holds.0)
+      (λ d. ⊎_elim
+      (λ i. absurd (none_under e.path d.pair.source (ends_of pairs) r.apart
+      (in_front e.path (sources_of pairs) (map (λ p. p.target) pairs) (in_sources pairs roots r.among e.path i)) d.holds.1 d.under))
+      (λ has. absurd (false≢true (sym off ∙ ap (is_target pairs list) d.goes ∙ has_target pairs list (parent_of e.path) has)))
+      comes)
+      (goes (Stands files pairs) pairs e.path v (λ _. parent_valid e.path v) r.valid ends s)
+
+  all : (es : List Entry) → AllByRecursion (λ e. refusal e.path ≡ None) es → AllByRecursion (IsSourced pairs) es →
+      AllByRecursion (λ e. In e.path roots ⊎ Has list (parent_of e.path)) es → AllByRecursion (StandsIn files pairs list) es
+  all [] v s c = tt
+  all (e ∷ es) v s c = (one e v.0 s.0 c.0, all es v.1 s.1 c.1)
+
+no_walks : (files : Files) (es : List Entry) (roots : List (List ℕ)) → es ≡ flat_map (walk files (answers_in es)) roots → length roots ≡ 0 → es ≡ []
+no_walks files es [] is e = is
+no_walks files es (r ∷ rs) is e = absurd (omega (arith, e))
+
+pub fits_tree : NodesHavePaths → EntriesAreTold → (files : Files) (pairs : List Pair) (roots : List (List ℕ)) (list : List Entry) → AreReady pairs roots →
+    CanCopy list pairs →
+    All (λ e. refusal e.path ≡ None) list → All (λ pair. is_dir (get files (parent_of pair.target)) ≡ true) pairs →
+    list ≡ flat_map (walk files (answers_in list)) roots →
+    (0 < length roots → IsTree files) → FitsTree list pairs files
+fits_tree law told files pairs roots list r can valid stand is tree = record {
+  told = λ k d l. let e = get_or list k d in stat_told e.mark (get files e.path) e.stat (tells k d l).stat;
+  stand = All-filter (λ (e : Entry). is_some e.stat) (StandsIn files pairs list) list (All-from_recursion (StandsIn files pairs list) list every);
+}
+  where
+    tells : All (IsTold files (answers_in list)) list
+    tells = subst (All (IsTold files (answers_in list))) (sym is) (told.of_all files (answers_in list) roots)
+
+    comes : (rs : List (List ℕ)) → rs ≡ roots → AllByRecursion (λ e. In e.path roots ⊎ Has list (parent_of e.path)) list
+    comes [] e = subst (AllByRecursion (λ e. In e.path roots ⊎ Has list (parent_of e.path))) (sym (no_walks files list roots is (ap length (sym e)))) tt
+    comes (x ∷ rs) e =
+        let some : 0 < length roots = omega (arith, ap length e) in
+        subst (λ es. AllByRecursion (λ e. In e.path roots ⊎ Has es (parent_of e.path)) es) (sym is) (come law files (answers_in list) (tree some) roots)
+
+    every : AllByRecursion (StandsIn files pairs list) list
+    every =
+        all files pairs roots r list (recursion_from_All (λ pair. is_dir (get files (parent_of pair.target)) ≡ true) pairs stand) list
+        (recursion_from_All (λ (e : Entry). refusal e.path ≡ None) list valid) (recursion_from_All (IsSourced pairs) list can.in_source) (comes roots refl)
+
+-- ---- what a walk of placed sources gives
+
+ready_by : (given : List (List ℕ)) (pairs : List Pair) (list : List Entry) (before after : Side) → ArePlaced given before.tree pairs →
+    (w : Walked given list before after) → AreReady pairs w.roots
+ready_by given pairs list before after p w = record {
+  valid = weaker HasPaths AreValid (λ pair h. (h.source, h.target)) pairs (recursion_from_All HasPaths pairs p.valid);
+  apart = p.apart;
+  among = subst (λ ss. All (Contains ss) w.roots) (sym p.sources) w.are.among;
+}
+
+pub walk_can : (given : List (List ℕ)) (pairs : List Pair) (list : List Entry) (before after : Side) → ArePlaced given before.tree pairs →
+    Walked given list before after →
+    All (λ e. refusal e.path ≡ None) list → IsStrictlySortedBy path_cmp (paths list) → CanCopy list pairs
+walk_can given pairs list before after p w valid ascend = can_copy pairs w.roots list (ready_by given pairs list before after p w) valid w.within ascend
+
+pub walk_fits : NodesHavePaths → EntriesAreTold → (given : List (List ℕ)) (pairs : List Pair) (list : List Entry) (before after : Side) →
+    ArePlaced given before.tree pairs →
+    Walked given list before after → All (λ e. refusal e.path ≡ None) list → IsStrictlySortedBy path_cmp (paths list) → IfSome before.tree (FitsTree list pairs)
+walk_fits law told given pairs list before after p w valid ascend = by before.tree p.stand w.told w.valid
+  where
+    by : (t : Option Files) → IfSome t (λ files. All (λ pair. is_dir (get files (parent_of pair.target)) ≡ true) pairs) →
+        IfSome t (λ files. list ≡ flat_map (walk files (answers_in list)) w.roots) → (0 < length w.roots → IfSome t IsTree) → IfSome t (FitsTree list pairs)
+    by None stand is tree = tt
+    by (Some files) stand is tree =
+        fits_tree law told files pairs w.roots list (ready_by given pairs list before after p w) (walk_can given pairs list before after p w valid ascend)
+        valid stand is tree

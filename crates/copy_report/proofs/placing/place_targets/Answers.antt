@@ -1,0 +1,51 @@
+use Rattle.std.proofs.Common.{rules, ◌≡◌, ◌<◌, ◌^◌, Ok, IfSome, subst}
+use Rattle.std.specs.List.{All}
+use Rattle.outside.specs.Count.{capped}
+use Rattle.tree_copy.specs.Placing.{IsWhy, placed_over}
+use Rattle.run_report.specs.Sides.{side_of}
+use Rattle.copy_report.specs.PrivateSteps.{HasPaths}
+use Rattle.copy_report.proofs.Placed.{places, are_placed, stops_placing, taken_back}
+use Rattle.copy_report.proofs.placing.place_targets.Goals as goal
+
+pub returns-in_err-pairs-clause-stopped : goal.returns-in_err-pairs-clause-stopped
+returns-in_err-pairs-clause-stopped g c =
+    let tree = g.G.Plot.tree in
+    let count = g.G.Plot.count in
+    let seen = g.G.Reader.Tree.count in
+    let told = c.in_err-pairs.ensures in
+    let sources = c.args.sources.now in
+    let dest = c.args.dest.now in
+    let before = side_of (tree c.args.files.now) (count c.args.files.now) in
+    let after = side_of (tree c.take_reader.new.self) (count c.take_reader.new.self) in
+    let reader = c.in_ok-reader.reader in
+    let below : count c.args.files.now < 2 ^ 64 = search rules in
+    let why = subst (λ t. IfSome t (λ files. IsWhy (placed_over files dest sources) c.in_err-pairs.field-0.0)) c.in_ok-reader.ensures.told told.why in
+    let is = subst (λ n. count c.take_reader.new.self ≡ capped n (seen c.place-pairs.new.reader)) c.in_ok-reader.ensures.count c.take_reader.ensures.count in
+    let stops = stops_placing g.G.Reader.Tree.gives sources dest before after (seen reader) (seen c.place-pairs.new.reader) reader c.place-pairs.new.reader
+    c.in_err-pairs.field-0.0 why told.stopped
+    told.counted (taken_back (count c.args.files.now) (count c.take_reader.new.self) (seen reader) (seen c.place-pairs.new.reader) below
+    c.in_ok-reader.ensures.zero is)
+    in
+    search rules
+
+pub returns-clause-places : goal.returns-clause-places
+returns-clause-places g c =
+    let tree = g.G.Plot.tree in
+    let sources = c.args.sources.now in
+    let dest = c.args.dest.now in
+    let pairs = c.in_ok-pairs.pairs.items in
+    let told = c.in_ok-pairs.ensures in
+    let here = subst (λ t. IfSome t (λ files. placed_over files dest sources ≡ Ok pairs)) c.in_ok-reader.ensures.told told.told in
+    places sources dest (tree c.args.files.now) (Ok pairs) told.ended.in_dir told.ended.over_dir told.ended.is_due here
+
+pub returns-clause-placed : goal.returns-clause-placed
+returns-clause-placed g c =
+    let tree = g.G.Plot.tree in
+    let sources = c.args.sources.now in
+    let dest = c.args.dest.now in
+    let pairs = c.in_ok-pairs.pairs.items in
+    let told = c.in_ok-pairs.ensures in
+    let here = subst (λ t. IfSome t (λ files. placed_over files dest sources ≡ Ok pairs)) c.in_ok-reader.ensures.told told.told in
+    let all = places sources dest (tree c.args.files.now) (Ok pairs) told.ended.in_dir told.ended.over_dir told.ended.is_due here in
+    are_placed c.placed_are_apart.ensures sources dest (tree c.args.files.now) pairs c.text.ensures.valid all told.sources
+    (subst (All HasPaths) c.deref.ensures.value c.see_ends.ensures)

@@ -1,0 +1,4 @@
+pub mod Copying
+pub mod Laws
+pub mod Placing
+pub mod PrivateSteps

@@ -1,0 +1,69 @@
+//! What dcp does.
+ghost use Rattle.std.specs.Prelude.{◌≡◌, [], Ok, IfOk, IfErr};
+ghost use Rattle.outside.specs.Count.{RoseBy};
+ghost use Rattle.outside.specs.Writes.{all_but};
+ghost use Rattle.tool_words.specs.Limits.{WithinCopy};
+ghost use Rattle.run_report.specs.Sides.{side_of};
+ghost use Rattle.copy_report.specs.Copying.{copy_asked, ReportsCopy, StopsCopy, LeavesCopy};
+
+use crate::acting::copy_entries;
+use crate::naming::failures;
+use crate::placing::place_targets;
+use crate::printing::{copy_report, failed_report};
+use crate::walking::walk_sources;
+use outside::Ground;
+use path_text::Path;
+use run_report::{Report, Stop};
+use std::alloc::Global;
+use std::sync::Wait;
+use std::thread::Threads;
+use tool_words::Common;
+use tree_copy::PlaceError;
+
+/// What dcp is asked for.
+#[derive(Debug, Drop)]
+pub struct CopyTask {
+    /// How the walk is to go, and by how many ranks and hosts its entries are copied.
+    pub common: Common,
+    /// What is copied, with all that is below it.
+    pub sources: Vec<Path>,
+    /// Where it is copied to: into the directory that is there, or, of one source, to this path.
+    pub dest: Path,
+}
+
+/// Places the targets, walks the sources, copies what was found to its targets, and makes the texts.
+pub fn report_of_copy<T: Threads + Wait + Sync, G: Ground>(
+    rt: &T,
+    alloc: Global,
+    task: CopyTask,
+    files: &mut G,
+) -> Result<Report, Stop>
+where
+    G::Reader: Send,
+    G::Part: Send,
+    requires lent { G.area files.old ≡ all_but [] }
+    requires within { WithinCopy (copy_asked task) }
+    ensures reports { IfOk result (ReportsCopy (copy_asked task) (side_of (G.tree files.old) (G.count files.old)) (side_of (G.tree files.new) (G.count files.new))) }
+    ensures stops { IfErr result (StopsCopy (copy_asked task) (side_of (G.tree files.old) (G.count files.old)) (side_of (G.tree files.new) (G.count files.new))) }
+    ensures leaves { LeavesCopy (copy_asked task) (side_of (G.tree files.old) (G.count files.old)) (side_of (G.tree files.new) (G.count files.new)) }
+    ensures lent { G.area files.new ≡ all_but [] }
+    ensures count { RoseBy 0 (G.count files.old) (G.count files.new) }
+{
+    let CopyTask {
+        common,
+        sources,
+        dest,
+    } = task;
+    let pairs = match place_targets(alloc, &sources, &dest, files) {
+        Ok(pairs) => pairs,
+        Err(PlaceError::Failed(path)) => return Ok(failed_report(alloc, path)?),
+        Err(PlaceError::Overlap) => return Err(Stop::Overlap),
+        Err(PlaceError::NoDest) => return Err(Stop::NoDirectory),
+        Err(PlaceError::OutOfMemory) => return Err(Stop::OutOfMemory),
+    };
+    let list = walk_sources(rt, alloc, &common, sources, &pairs, files)?;
+    let copied = copy_entries(rt, alloc, &common, &list, &pairs, files)?;
+    let notes = failures(alloc, &list, &copied)?;
+    let report = copy_report(alloc, &copied, &notes)?;
+    Ok(report)
+}

@@ -1,0 +1,62 @@
+//! The walk of the sources.
+ghost use Rattle.std.specs.Prelude.{◌≡◌, ◌≤◌, All, length, IfOk, IfErr, IfSome, None};
+ghost use Rattle.path_text.specs.Path.{refusal};
+ghost use Rattle.outside.specs.Count.{RoseBy};
+ghost use Rattle.tree_copy.specs.Copying.{CanCopy, FitsTree};
+ghost use Rattle.tool_words.specs.Asked.{roots};
+ghost use Rattle.tool_words.specs.Limits.{CommonWithin};
+ghost use Rattle.run_report.specs.Sides.{side_of};
+ghost use Rattle.run_entries.specs.Entries.{Walked};
+ghost use Rattle.run_entries.specs.Stopping.{StopsListing};
+ghost use Rattle.copy_report.specs.PrivateSteps.{ArePlaced};
+
+use flat_list::FlatList;
+use outside::{Ground, nodes_have_paths};
+use path_text::Path;
+use run_entries::{Entries, walk_side};
+use run_report::Stop;
+use std::alloc::Global;
+use std::sync::Wait;
+use std::thread::Threads;
+use tool_words::Common;
+use tree_copy::Pair;
+use tree_walk::entries_are_told;
+
+/// Walks the sources, which are placed: entries that can be copied to their targets.
+pub(crate) fn walk_sources<T: Threads + Wait + Sync, G: Ground>(
+    rt: &T,
+    alloc: Global,
+    common: &Common,
+    sources: Vec<Path>,
+    pairs: &[Pair],
+    files: &mut G,
+) -> Result<FlatList, Stop>
+where
+    G::Reader: Send,
+    requires within { CommonWithin common.now }
+    requires placed { ArePlaced sources.items (G.tree files.old) pairs.now }
+    ensures walked { IfOk result (λ list. Walked sources.items list (side_of (G.tree files.old) (G.count files.old)) (side_of (G.tree files.new) (G.count files.new))) }
+    ensures few { IfOk result (λ list. length list ≤ 4194304) }
+    ensures can { IfOk result (λ list. CanCopy list pairs.now) }
+    ensures fits { IfOk result (λ list. IfSome (G.tree files.old) (FitsTree list pairs.now)) }
+    ensures stopped { IfErr result (StopsListing (roots sources.items) (side_of (G.tree files.old) (G.count files.old)) (side_of (G.tree files.new) (G.count files.new))) }
+    ensures same { G.tree files.new ≡ G.tree files.old }
+    ensures area { G.area files.new ≡ G.area files.old }
+    ensures count { RoseBy 0 (G.count files.old) (G.count files.new) }
+{
+    entries_are_told();
+    nodes_have_paths();
+    let Entries { list, .. } = walk_side(rt, alloc, common, sources, files)?;
+    see_paths(&list);
+    Ok(list)
+}
+
+// Each path of a list is a path, which the list does not tell of itself.
+fn see_paths(list: &FlatList)
+    ensures { All (λ e. refusal e.path ≡ None) list.now }
+{
+    let mut cursor = list.cursor();
+    while cursor.advance() {
+        let _ = cursor.entry().path.text();
+    }
+}
