@@ -5,6 +5,8 @@
 #![tactic(auto)]
 
 #[cfg(test)]
+mod of_blind;
+#[cfg(test)]
 mod of_files_mem;
 #[cfg(test)]
 mod of_outside;

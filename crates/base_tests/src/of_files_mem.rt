@@ -10,7 +10,7 @@ use std::process::Abort;
 const TIME: Option<u64> = Some(86400);
 
 // `/t` with the file `a`, the directory `b`, the file `b-x`, and the empty file `c` in `b`.
-fn tree_t(rt: &(impl Abort + AllocGlobal)) -> Whole<MemGround> {
+pub fn tree_t(rt: &(impl Abort + AllocGlobal)) -> Whole<MemGround> {
     let mut files = Whole::empty(rt);
     for (kind, at, bytes) in [
         (Kind::Dir, "/t", ""),

@@ -3,7 +3,7 @@ ghost use Rattle.std.specs.Prelude.{◌≡◌};
 ghost use Rattle.outside.specs.Tree.{is_root};
 
 use crate::shared::parsed;
-use files_mem::{Call, MemGround, MemReader, PutError};
+use files_mem::{Blind, Call, MemGround, MemReader, PutError};
 use outside::{
     Failed, Ground, Kind, ListError, Listing, LoadError, Plot, SaveError, Stat, Tree, WriteError,
     load, save,
@@ -54,6 +54,26 @@ impl Whole<MemGround> {
     /// Plans that a call fails at a path.
     pub fn plan(&mut self, call: Call, path: &Path) -> Result<(), OutOfMemory> {
         self.files.plan(call, path)
+    }
+}
+
+impl Whole<MemGround> {
+    /// The same files, but they tell no tree.
+    pub fn blind(self) -> Whole<Blind> {
+        let files = Blind::make(self.files);
+        Whole { files }
+    }
+}
+
+impl Whole<Blind> {
+    /// Lies about a path from now on.
+    pub fn lie(&mut self, path: &Path) -> Result<(), OutOfMemory> {
+        self.files.lie(path)
+    }
+
+    /// Lets looks at two paths wait for each other from now on.
+    pub fn meet(&mut self, one: &Path, other: &Path) -> Result<(), OutOfMemory> {
+        self.files.meet(one, other)
     }
 }
 

@@ -2,3 +2,4 @@ pub mod Stored
 pub mod Planned
 pub mod Memory
 pub mod PrivateHeld
+pub mod Blinded

@@ -2,8 +2,9 @@
 ghost use Rattle.std.specs.Prelude.{◌≡◌, ◌⊎◌, ◌≤◌, ◌++◌, ◌∷◌, [], Some, None, true, length, IsTrue, OnOk, OnErr, IfOk, IfErr, IsErrOf};
 ghost use Rattle.std.specs.Arc.{arc_value};
 ghost use Rattle.std.specs.FinMap as map;
+ghost use Rattle.std.specs.Option.{option_map};
 ghost use Rattle.outside.specs.Count.{RoseBy, capped};
-ghost use Rattle.outside.specs.Tree.{IsTree, dir, file, link, other, is_file, content};
+ghost use Rattle.outside.specs.Tree.{IsTree, dir, file, link, other, is_file, content, stat_of};
 ghost use Rattle.outside.specs.Lease.{CanLease, HaveParents, Joins, leased, kept, area_without, area_with, is_out, tops_of};
 ghost use Rattle.outside.specs.Laid.{laid};
 ghost use Rattle.outside.specs.Writes.{all_but, under, is_open, make_refusal, write_refusal, remove_file_refusal, remove_dir_refusal, empty_dir, new_file, written, HasPlace, Answers, may_make, may_change, may_empty};
@@ -18,7 +19,7 @@ use crate::parts::MemPart;
 use crate::plans::{Call, Plan};
 use crate::readers::MemReader;
 use crate::stores::Store;
-use outside::{Ground, Plot, Tree, WriteError};
+use outside::{Ground, Plot, Stat, Tree, WriteError};
 use path_text::{OutOfMemory, Path, PathError};
 use std::alloc::{AllocError, AllocFailed, Global};
 use std::marker::Model;
@@ -121,6 +122,19 @@ impl MemGround {
     {
         add_to(&mut self.plan, call, path.copy()?)?;
         Ok(())
+    }
+
+    // Where its memory comes from.
+    pub(crate) fn allocator(&self) -> Global {
+        self.plan.allocator()
+    }
+
+    // What stands at the path, whatever is planned.
+    pub(crate) fn look(&mut self, alloc: Global, path: &Path) -> Result<Option<Stat>, OutOfMemory>
+        ensures told { IfOk result (λ answer. answer ≡ option_map stat_of (map.get self.old.files path.now)) }
+        ensures same { self.new ≡ self.old }
+    {
+        Ok(self.held.store(alloc)?.stat(path))
     }
 
     // Whether the call is to fail at the path. Where it is, that is counted.

@@ -18,6 +18,13 @@
 //! reader.list(alloc, &t)                    // `Failed`, and the count of the reader is 1
 //! ```
 //!
+//! [`Blind`] is a ground round a [`MemGround`] that tells no tree, as that of a real disk tells none, so all that holds over it
+//! holds of files that may change under their reader. It passes every call on, but its readers may lie and meet:
+//! after [`Blind::lie`] they say of a path that a directory is there, and after [`Blind::meet`] a look at one of two paths
+//! waits for a look at the other, and fails where none comes. So contradicting answers can be tried, and whether two readers
+//! look at the same time. Proved of it: it meets what every ground is to meet, its counts rise and its areas change as those of
+//! the ground inside. What its readers answer is tested.
+//!
 //! Both types are seen as a `Memory`: the nodes by their paths, the calls that are planned to fail, and the count of faults.
 //! Proved: each call answers exactly what that tells, changes exactly what its clauses name, and leaves a tree; only want of
 //! memory may stand in place of an answer. Listing a directory costs its children and not what is under them, which is
@@ -30,16 +37,24 @@
 //! is); `PrivateHeld` (what a ground keeps while parts are out) is for private clauses.
 #![tactic(auto)]
 
+mod blind;
+mod blind_parts;
+mod blind_readers;
 mod child_names;
 mod errors;
 mod grounds;
 mod held;
+mod meetings;
 mod nodes;
 mod parts;
 mod plans;
 mod readers;
 mod stores;
+mod tricks;
 
+pub use blind::Blind;
+pub use blind_parts::BlindPart;
+pub use blind_readers::BlindReader;
 pub use errors::PutError;
 pub use grounds::MemGround;
 pub use parts::MemPart;

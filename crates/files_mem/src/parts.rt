@@ -2,8 +2,10 @@
 ghost use Rattle.std.specs.Prelude.{◌≡◌, [], Some, None, IsTrue, IfErr, IsErrOf};
 ghost use Rattle.std.specs.Arc.{arc_value};
 ghost use Rattle.std.specs.FinMap as map;
+ghost use Rattle.std.specs.Option.{option_map};
 ghost use Rattle.outside.specs.Count.{RoseBy, capped};
 ghost use Rattle.outside.specs.Parts.{IsPart};
+ghost use Rattle.outside.specs.Tree.{stat_of};
 ghost use Rattle.outside.specs.Writes.{under, is_open, is_top, make_refusal, write_refusal, remove_file_refusal, remove_dir_refusal, empty_dir, new_file, written, HasPlace, Answers, may_make, may_change, may_empty};
 ghost use Rattle.files_mem.specs.Stored.{node_of};
 ghost use Rattle.files_mem.specs.Planned.{is_planned};
@@ -12,7 +14,7 @@ ghost use Rattle.files_mem.specs.Memory.{answered, Acts};
 use crate::nodes::{Body, Node};
 use crate::plans::{Call, Plan};
 use crate::stores::Store;
-use outside::{Plot, Tops, WriteError};
+use outside::{Plot, Stat, Tops, WriteError};
 use path_text::Path;
 use std::alloc::Global;
 use std::marker::Model;
@@ -62,6 +64,13 @@ impl MemPart {
         ensures valid { IsPart result.1 result.0 }
     {
         (self.store, self.tops)
+    }
+
+    // What stands at the path, whatever is planned.
+    pub(crate) fn look(&self, path: &Path) -> Option<Stat>
+        ensures { result ≡ option_map stat_of (map.get self.now.files path.now) }
+    {
+        self.store.stat(path)
     }
 
     // Whether the call is to fail at the path. Where it is, that is counted.

@@ -1,5 +1,6 @@
 //! Files of which no part is lent.
-ghost use Rattle.std.specs.Prelude.{◌≡◌, IfOk};
+ghost use Rattle.std.specs.Prelude.{◌≡◌, [], IfOk};
+ghost use Rattle.outside.specs.Writes.{all_but};
 ghost use Rattle.files_mem.specs.Memory.{empty_files};
 
 use files_mem::{Call, MemGround, PutError};
@@ -38,6 +39,14 @@ impl WholeFiles {
     {
         let files = MemGround::empty(alloc)?;
         Ok(WholeFiles { files })
+    }
+
+    // The files, of which no part is lent.
+    pub(crate) fn into_files(self) -> MemGround
+        ensures same { result ≡ self }
+        ensures whole { result.area ≡ all_but [] }
+    {
+        self.files
     }
 
     /// Puts a directory, with so many children whose path would be too long.

@@ -1,0 +1,185 @@
+//! Files in memory that tell no tree.
+ghost use Rattle.std.specs.Prelude.{◌≡◌, ℕ, Option, Some, true, IsTrue, IfOk, IsErrOf};
+ghost use Rattle.std.specs.Option.{option_map};
+ghost use Rattle.std.specs.FinMap as map;
+ghost use Rattle.path_text.specs.Path.{parent_of};
+ghost use Rattle.outside.specs.Lease.{HaveParents};
+ghost use Rattle.outside.specs.Tree.{Node, is_dir, stat_of};
+
+use crate::blind_parts::{BlindPart, counted, has_place};
+use crate::blind_readers::BlindReader;
+use crate::grounds::MemGround;
+use crate::tricks::Tricks;
+use outside::{Ground, Kind, Plot, Stat, Tree, WriteError};
+use path_text::{OutOfMemory, Path};
+use std::alloc::Global;
+use std::marker::Model;
+
+/// Files in memory that tell no tree, and whose readers may lie and meet. They are seen as their count of faults and where they
+/// may be written. Every call is passed on to the ground inside, and answered as there.
+#[derive(Drop)]
+pub struct Blind {
+    ground: MemGround,
+    tricks: Tricks,
+    count: u64,
+}
+
+impl Model for Blind {
+    ghost use Rattle.files_mem.specs.Blinded.{Blinded, blinded_code};
+
+    ghost Value = { Blinded };
+
+    ghost coded = { blinded_code };
+
+    ghost view = { λ b. record { count = b.count; area = b.ground.area } };
+}
+
+impl Blind {
+    /// These files. They neither lie nor meet.
+    pub fn make(ground: MemGround) -> Blind
+        ensures { result ≡ record { count = ground.count; area = ground.area } }
+    {
+        let count = ground.faults();
+        Blind {
+            ground,
+            tricks: Tricks::none(),
+            count,
+        }
+    }
+
+    /// Later readers answer of the path, by `stat`, a directory of size 0 without a time.
+    pub fn lie(&mut self, path: &Path) -> Result<(), OutOfMemory>
+        ensures { self.new ≡ self.old }
+    {
+        self.tricks.lie(self.ground.allocator(), path)
+    }
+
+    /// The `stat` of a later reader, of one of the two paths, looks ten million times at most whether the other is asked for
+    /// too, or was before, by any reader. Where it never is, that `stat` fails. A later call takes the place of this one.
+    pub fn meet(&mut self, one: &Path, other: &Path) -> Result<(), OutOfMemory>
+        ensures { self.new ≡ self.old }
+    {
+        self.tricks.meet(self.ground.allocator(), one, other)
+    }
+
+    /// The files inside, which count the faults that came from there alone.
+    pub fn into_files(self) -> MemGround
+        ensures { result.area ≡ self.area }
+    {
+        self.ground
+    }
+}
+
+fn is_dir(told: Option<Stat>) -> bool
+    ensures { (node : Option Node) → told ≡ option_map stat_of node → IsTrue result → is_dir node ≡ true }
+{
+    match told {
+        Some(stat) => stat.kind == Kind::Dir,
+        None => false,
+    }
+}
+
+// Whether a directory stands over the path.
+fn has_parent(ground: &mut MemGround, alloc: Global, path: &Path) -> Result<bool, OutOfMemory>
+    ensures told { IfOk result (λ has. IsTrue has → is_dir (map.get ground.old.files (parent_of path.now)) ≡ true) }
+    ensures same { ground.new ≡ ground.old }
+{
+    match path.parent()? {
+        Some(parent) => Ok(is_dir(ground.look(alloc, &parent)?)),
+        None => Ok(false),
+    }
+}
+
+// Whether a directory stands over each of the paths.
+fn have_parents(ground: &mut MemGround, alloc: Global, tops: &[Path]) -> Result<bool, OutOfMemory>
+    ensures told { IfOk result (λ have. IsTrue have → HaveParents tops.now ground.old.files) }
+    ensures same { ground.new ≡ ground.old }
+{
+    for top in tops {
+        if !has_parent(ground, alloc, top)? {
+            return Ok(false);
+        }
+    }
+    Ok(true)
+}
+
+impl Plot for Blind {
+    ghost use Rattle.std.specs.Prelude.{None};
+
+    ghost tree = { λ _. None };
+
+    ghost count = { λ files. files.count };
+
+    ghost area = { λ files. files.area };
+
+    fn faults(&self) -> u64 {
+        self.count
+    }
+
+    fn make_dir(&mut self, alloc: Global, path: &Path) -> Result<(), WriteError> {
+        let told = self.ground.make_dir(alloc, path);
+        counted(&mut self.count, told)
+    }
+
+    fn make_file(&mut self, alloc: Global, path: &Path) -> Result<(), WriteError> {
+        let told = self.ground.make_file(alloc, path);
+        counted(&mut self.count, told)
+    }
+
+    /// A place past the end of the file is a fault.
+    fn write_at(
+        &mut self,
+        alloc: Global,
+        path: &Path,
+        at: u64,
+        bytes: &[u8],
+    ) -> Result<(), WriteError> {
+        let told = if has_place(self.ground.look(alloc, path)?, at) {
+            self.ground.write_at(alloc, path, at, bytes)
+        } else {
+            Err(WriteError::Failed)
+        };
+        counted(&mut self.count, told)
+    }
+
+    fn remove_file(&mut self, alloc: Global, path: &Path) -> Result<(), WriteError> {
+        let told = self.ground.remove_file(alloc, path);
+        counted(&mut self.count, told)
+    }
+
+    fn remove_dir(&mut self, alloc: Global, path: &Path) -> Result<(), WriteError> {
+        let told = self.ground.remove_dir(alloc, path);
+        counted(&mut self.count, told)
+    }
+}
+
+impl Ground for Blind {
+    type Reader = BlindReader;
+
+    type Part = BlindPart;
+
+    fn reader(&mut self, alloc: Global) -> Result<BlindReader, OutOfMemory> {
+        let tricks = self.tricks.share()?;
+        let reader = self.ground.reader(alloc)?;
+        Ok(BlindReader::make(reader, tricks))
+    }
+
+    fn take_reader(&mut self, reader: BlindReader) {
+        self.count = self.count.saturating_add(reader.faults());
+        self.ground.take_reader(reader.into_reader());
+    }
+
+    /// Where no directory stands over a top, it finds no memory: the ground inside lends no such part.
+    fn lease(&mut self, alloc: Global, tops: &[Path]) -> Result<BlindPart, OutOfMemory> {
+        if !have_parents(&mut self.ground, alloc, tops)? {
+            return Err(OutOfMemory);
+        }
+        let part = self.ground.lease(alloc, tops)?;
+        Ok(BlindPart::make(part))
+    }
+
+    fn give_back(&mut self, part: BlindPart) {
+        self.count = self.count.saturating_add(part.faults());
+        self.ground.give_back(part.into_part());
+    }
+}
