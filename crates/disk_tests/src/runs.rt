@@ -128,3 +128,61 @@ fn a_run_goes_by_the_time_of_the_system(rt: HostRuntime) {
     so(&rt, prints(&rt, rt, &words, &want), "the old one");
     room.remove().expect(&rt, "an empty room");
 }
+
+// A source with two levels, and a file of more than one piece.
+const SOURCE: [(&str, Node<'static>); 5] = [
+    ("from", Node::Dir),
+    ("from/deep", Node::Dir),
+    ("from/deep/empty", Node::File(b"")),
+    ("from/\u{e9} x", Node::File(b"name of two words")),
+    ("from/short", Node::File(b"new")),
+];
+
+// A directory that has some of the source already: a longer file of one name, and one more file.
+const DEST: [(&str, Node<'static>); 4] = [
+    ("to", Node::Dir),
+    ("to/from", Node::Dir),
+    ("to/from/short", Node::File(b"old and longer")),
+    ("to/from/other", Node::File(b"stays")),
+];
+
+#[test]
+fn a_run_copies_over_the_real_disk(rt: HostRuntime) {
+    let big = bytes(&rt, 200_000);
+    for ranks in ["1", "7"] {
+        let room = Room::with(rt, &SOURCE).expect(&rt, "a room");
+        room.put("from/deep/big", Node::File(&big))
+            .expect(&rt, "a file");
+        for (names, node) in DEST {
+            room.put(names, node).expect(&rt, "a node");
+        }
+        let from = room.at("from").expect(&rt, "a path");
+        let to = room.at("to").expect(&rt, "a path");
+        let words = [
+            "dcp",
+            "--ranks",
+            ranks,
+            "--hosts",
+            "3",
+            from.text(),
+            to.text(),
+        ];
+        let want = "copied 6 items 6 bytes 200020 failed 0\n";
+        so(&rt, prints(&rt, rt, &words, want), ranks);
+        so(
+            &rt,
+            room.holds("to/from/deep/big", &big),
+            "more than one piece",
+        );
+        so(&rt, room.holds("to/from/deep/empty", b""), "nothing");
+        so(
+            &rt,
+            room.holds("to/from/\u{e9} x", b"name of two words"),
+            "a name",
+        );
+        so(&rt, room.holds("to/from/short", b"new"), "made anew");
+        so(&rt, room.holds("to/from/other", b"stays"), "no target");
+        so(&rt, room.holds("from/short", b"new"), "the source");
+        room.remove().expect(&rt, "an empty room");
+    }
+}

@@ -140,10 +140,18 @@ fn tells_the_first_bad_line(rt: HostRuntime) -> Result<(), Fail> {
         ("mfu list 1\nd 1 - ok 0 0 /a\nend 1\n", 2),
         ("mfu list 1\nf 1 - ok 0 0 /a\\x41\nend 1\n", 2),
         ("mfu list 1\nf 1 - ok 0 0 /b\nf 1 - ok 0 0 /a\nend 2\n", 3),
+        ("mfu list 1\nf 5 - ok 0 0 /a\nf 5 - ok 0 0 /a\nend 2\n", 3),
+        ("mfu list 1\nf 18446744073709551616 - ok 0 0 /a\nend 1\n", 2),
+        ("mfu list 1\nd 3 - ok 0 0 /a\nend 1\n", 2),
+        ("mfu list 1\nf 5 - ok 0 0 /\\x61\nend 1\n", 2),
+        ("mfu list 1\nf 5 - ok 0 0 /a\nend 2\n", 3),
+        ("mfu list 1\nf 5 - ok 0 0 /a\nend 1\nx\n", 4),
     ] {
         assert!(rt; refusal(alloc, text) == Some(CacheError::Damaged(line)));
     }
     assert!(rt; refusal(alloc, "mfu list 1\nend 0\n").is_none());
+    let gone = FlatList::decode(alloc, b"mfu list 1\n- 0 - gone 0 0 /a\nend 1\n")?;
+    has_paths(&rt, &gone, &["/a"]);
     Ok(())
 }
 

@@ -5,7 +5,11 @@
 #![tactic(auto)]
 
 #[cfg(test)]
+mod of_blind;
+#[cfg(test)]
 mod of_dcmp;
+#[cfg(test)]
+mod of_dcp;
 #[cfg(test)]
 mod of_dfind;
 #[cfg(test)]
@@ -14,6 +18,8 @@ mod of_drm;
 mod of_dtest;
 #[cfg(test)]
 mod of_dwalk;
+#[cfg(test)]
+mod of_faults;
 #[cfg(test)]
 mod of_hosts;
 #[cfg(test)]

@@ -10,8 +10,8 @@ use std::sync::Wait;
 use std::test::Fail;
 use std::thread::Threads;
 
-// Two trees beside the others: both have a file `x`, of other bytes, and each has an empty file of its own.
-fn two_trees(alloc: Global) -> Result<WholeFiles, Fail> {
+/// Two trees beside the others: both have a file `x`, of other bytes, and each has an empty file of its own.
+pub fn two_trees(alloc: Global) -> Result<WholeFiles, Fail> {
     let mut files = trees(alloc)?;
     for dir in ["/p", "/q"] {
         files.put_dir(&Path::parse(alloc, dir)?, 0, None)?;

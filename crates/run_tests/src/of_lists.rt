@@ -67,6 +67,25 @@ fn tells_what_a_list_file_tells(rt: HostRuntime) -> Result<(), Fail> {
 }
 
 #[test]
+fn names_the_line_at_which_a_list_is_cut(rt: HostRuntime) -> Result<(), Fail> {
+    let alloc = rt.alloc();
+    let whole = LIST_T.as_bytes();
+    for len in 0..whole.len() {
+        let part = &whole[..len];
+        let line = part.iter().filter(|byte| **byte == b'\n').count() as u64 + 1;
+        let notes = format!(in alloc; "damaged /l line {line}\n")?;
+        let mut files = WholeFiles::empty(alloc)?;
+        files.put_file(&Path::parse(alloc, "/l")?, part, None)?;
+        let words = ["dwalk", "--input", "/l"];
+        let told = run_with(&rt, alloc, &mut files, &words, (AMPLE, AMPLE))?;
+        assert_eq!(rt; told.0, Status::Damaged, "{len}");
+        assert_eq!(rt; told.1.text(), b"".as_slice(), "{len}");
+        assert_eq!(rt; told.2.text(), notes.as_bytes(), "{len}");
+    }
+    Ok(())
+}
+
+#[test]
 fn refuses_a_list_file_of_no_use(rt: HostRuntime) -> Result<(), Fail> {
     let alloc = rt.alloc();
     let mut files = trees(alloc)?;

@@ -59,14 +59,20 @@ pub fn run_at<T: Abort + Threads + Wait + Sync>(
     takes: (u64, u64),
     now: u64,
 ) -> Result<(Status, MemSink, MemSink), Fail> {
-    let mut given = Vec::new(alloc);
-    for word in words {
-        given.push(String::from_str(alloc, word)?)?;
-    }
+    let given = strings(alloc, words)?;
     let mut out = MemSink::limited(alloc, takes.0)?;
     let mut notes = MemSink::limited(alloc, takes.1)?;
     let status = files.run(rt, alloc, &given, &mut out, &mut notes, now);
     Ok((status, out, notes))
+}
+
+/// The words as the run takes them.
+pub fn strings(alloc: Global, words: &[&str]) -> Result<Vec<String>, Fail> {
+    let mut given = Vec::new(alloc);
+    for word in words {
+        given.push(String::from_str(alloc, word)?)?;
+    }
+    Ok(given)
 }
 
 /// What is wanted of a run: its words, its status, and what it writes.
