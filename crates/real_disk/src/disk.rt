@@ -18,13 +18,17 @@ use std::os::unix::fs::{FileExt, MetadataExt};
 /// How many bytes of names are asked of the system at a time.
 const PIECE: usize = 32768;
 
+/// A file of which fewer bytes were read is closed at once: mostly they were all that it has.
+const LONG: usize = 65536;
+
 /// Looks at the files of a system, seen as its count of faults. It tells no tree.
 #[derive(Drop)]
 pub struct RealReader<R: Files> {
     system: R,
     // What the system writes names into, made once.
     buffer: Vec<u8>,
-    // The two files that were read last, the later one first, until the next look at a path. Two that are compared are read in turn.
+    // The two files of which long pieces were read last, the later one first, until the next look at a path. Two that are compared
+    // are read in turn.
     last: Option<Handle<R::File>>,
     before: Option<Handle<R::File>>,
     count: u64,
@@ -79,8 +83,10 @@ where
         }
         let file = to_read(&self.system, path)?;
         let n = file.read_at(into, at).map_err(|_| ReadError::Failed)?;
-        self.before = self.last.take();
-        self.last = Handle::keep(path, file);
+        if n >= LONG {
+            self.before = self.last.take();
+            self.last = Handle::keep(path, file);
+        }
         Ok(n)
     }
 

@@ -18,7 +18,7 @@ use std::alloc::Global;
 use std::thread::Threads;
 
 /// Removes what the entries tell, the deepest first: directories as such, and all else as files. The entries of a level are
-/// dealt to as many ranks, which work in as many threads as there are hosts.
+/// dealt to as many actors as there are hosts, and no more than there are ranks; each works in a thread of its own.
 pub fn remove<R: Threads + Sync, G: Ground>(
     rt: &R,
     alloc: Global,
@@ -47,19 +47,20 @@ where
     // The call tells that the nodes are a tree, before and after.
     let _faults = ground.faults();
     let items = items_of(alloc, chosen)?;
-    let mut removers = removers(alloc, ranks)?;
+    // Several actors in one thread would go through each directory as often as there are of them.
+    let mut removers = removers(alloc, ranks.min(hosts))?;
     let order = Order::BottomUp;
     let fates = on_levels(rt, alloc, &items, order, ground, &mut removers, hosts)?;
     let _faults = ground.faults();
     Ok(RemoveReport { items, fates })
 }
 
-// As many actors.
-fn removers(alloc: Global, ranks: u32) -> Result<Vec<Remove>, OutOfMemory>
-    ensures { IfOk result (λ actors. length actors.items ≡ ranks) }
+// So many actors.
+fn removers(alloc: Global, number: u32) -> Result<Vec<Remove>, OutOfMemory>
+    ensures { IfOk result (λ actors. length actors.items ≡ number) }
 {
-    let mut actors = Vec::with_capacity(alloc, ranks as usize)?;
-    for _ in 0..ranks {
+    let mut actors = Vec::with_capacity(alloc, number as usize)?;
+    for _ in 0..number {
         actors.push(Remove)?;
     }
     Ok(actors)
