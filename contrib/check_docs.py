@@ -3,8 +3,10 @@
 
 - The table contrib/tools.txt has the options that the program reads (tool_words/specs/Table.antt) and those of its help
   (mfu/src/help.rt), and what is made of it is not old.
+- Each help begins with one screen, 24 lines of 80 columns, that has the call, every status of its tool, and that paths are absolute.
 - Each option stands in the man page of its tool, and bash, zsh and fish offer it.
 - `man --warnings` has nothing to say, and each shell reads its completion.
+- Each wrong body stands in docs/PROMISES.md, and each definition, function and wrong body that this names stands in the crates.
 - Each link in a Markdown file leads to a file and a heading that are there.
 - Where the program is built, each command in README.md, docs/TOOLS.md, docs/RECIPES.md and docs/LISTS.md that begins with `$ ` prints what
   stands below it. A line `...` stands for any lines.
@@ -59,8 +61,29 @@ def options_are_read(table):
         said(f"the option {name} stands in {'contrib/tools.txt' if name in ours else 'tool_words/specs/Table.antt'} alone")
 
 
+def helps_of():
+    """The texts of the help, each by the name of its constant."""
+    texts = re.findall(r'^const ([A-Z]+): &str = "((?:[^"\\]|\\.)*)";', text_of("crates/mfu/src/help.rt"), re.M)
+    return {name: text.replace("\\\\", "\\") for name, text in texts if name != "VERSION"}
+
+
+def helps_begin_with_a_screen(table):
+    statuses = {"TOOLS": {b.name for b in table.of("status") if b.words("tools")}}
+    statuses.update({tool.name.upper(): {b.name for b in table.of_tool("status", tool)} for tool in table.tools})
+    for name, text in helps_of().items():
+        screen = text.split("\n")[:24]
+        told = re.search(r"^Exit status:\n((?:  .*\n)+)", "\n".join(screen) + "\n", re.M)
+        if not text.startswith("usage: ") or "absolute" not in "\n".join(screen):
+            said(f"the first 24 lines of the help {name} have no usage, or say nothing of absolute paths")
+        if told is None or set(re.findall(r"  ([0-9])  ", told.group(1))) != statuses.get(name):
+            said(f"the first 24 lines of the help {name} have other statuses than contrib/tools.txt")
+        for line in text.split("\n"):
+            if len(line) > 80:
+                said(f"a line of the help {name} has more than 80 columns: {line}")
+
+
 def options_are_in_help(table):
-    helps = dict(re.findall(r'^const ([A-Z]+): &str = "((?:[^"\\]|\\.)*)";', text_of("crates/mfu/src/help.rt"), re.M))
+    helps = helps_of()
     for tool in table.tools:
         told = set(re.findall(r"^  (--?[a-z]+)", helps.get(tool.name.upper(), ""), re.M))
         if not told and tool.name != "dtest":
@@ -120,6 +143,20 @@ def completions_offer(table):
         for tool in table.tools:
             for name in sorted(names(table, tool) - set(re.findall(OPTION, offered(tool.name)))):
                 said(f"{shell} does not offer {name} for {tool.name}")
+
+
+def promises_name_what_is_there():
+    files = [os.path.join(folder, name) for folder, _, names in os.walk(os.path.join(TOP, "crates")) for name in names if "/out/" not in folder + "/"]
+    edits = {os.path.basename(name).removesuffix(".edit") for name in files if name.endswith(".edit")}
+    there = edits | {os.path.basename(os.path.dirname(os.path.dirname(name))) for name in files}
+    for name in files:
+        if name.endswith((".rt", ".antt")):
+            there.update(re.findall(r"\w+", text_of(name)))
+    named = set(re.findall(r"`(?:\w+::)*([A-Za-z]\w+)`", text_of("docs/PROMISES.md")))
+    for name in sorted(edits - named):
+        said(f"docs/PROMISES.md says nothing of the wrong body {name}")
+    for name in sorted(name for name in named - there if "_" in name or name[0].isupper()):
+        said(f"docs/PROMISES.md names {name}, which is nowhere in crates/")
 
 
 def headings(text):
@@ -196,9 +233,11 @@ def main():
     table = make_pages.Table(os.path.join(TOP, "contrib/tools.txt"))
     options_are_read(table)
     options_are_in_help(table)
+    helps_begin_with_a_screen(table)
     options_are_in_pages(table)
     pages_are_sound()
     completions_offer(table)
+    promises_name_what_is_there()
     links_lead()
     commands_print()
     print(f"documents: {len(wrong)} wrong")

@@ -82,6 +82,18 @@ class Table:
     def of_tool(self, kind, tool):
         return [block for block in self.of(kind) if tool.name in block.words("tools")]
 
+    def meanings(self, kind, tool=None):
+        """Each note or status by its name with what it means: with this tool, or with all, and then those of few tools are named."""
+        found = {}
+        for block in self.of(kind):
+            if tool is None or tool.name in block.words("tools"):
+                found.setdefault(block.name, []).append(block)
+        joint = "; or " if kind == "note" else " "
+        return [(name, joint.join(self.meaning(block, block is blocks[0] or tool is not None) for block in blocks)) for name, blocks in found.items()]
+
+    def meaning(self, block, plain):
+        return block.one("say") if plain else f"{'with' if block.kind == 'note' else 'With'} {', '.join(block.words('tools'))}: {block.one('say')}"
+
     def title(self, group):
         return next(b.name.split(" ", 1)[1] for b in self.of("group") if b.name.split(" ")[0] == group)
 
@@ -139,8 +151,8 @@ def man_options(table, tool):
     return lines
 
 
-def man_terms(blocks):
-    return [line for b in blocks for line in (".TP", "\\fB" + roff(b.name) + "\\fR", prose(b.one("say")))]
+def man_terms(meanings):
+    return [line for name, text in meanings for line in (".TP", "\\fB" + roff(name) + "\\fR", prose(text))]
 
 
 def man_examples(tool):
@@ -160,20 +172,23 @@ def tool_page(table, tool):
     body += [".SH OPTIONS"] + man_options(table, tool)
     for title, block in table.more(tool):
         body += [f".SH {roff(title).upper()}"] + paragraphs(block.all("say"))
-    body += [".SH NOTES ON STANDARD ERROR"] + man_terms(table.of_tool("note", tool))
-    body += [".SH EXIT STATUS"] + man_terms(table.of_tool("status", tool))
-    body += man_examples(tool) + [".SH SEE ALSO", "\\fBmfu\\fR(1), \\fBfind\\fR(1)"]
+    body += [".SH NOTES ON STANDARD ERROR"] + man_terms(table.meanings("note", tool))
+    body += [".SH EXIT STATUS"] + man_terms(table.meanings("status", tool))
+    see = f", \\fB{tool.one('see')}\\fR(1)" if tool.has("see") else ""
+    body += man_examples(tool) + [".SH SEE ALSO", "\\fBmfu\\fR(1)" + see]
     return page(f"mfu-{tool.name}", tool.one("does"), body)
 
 
 def main_page(table):
     body = [".SH SYNOPSIS", "\\fBmfu\\fR \\fITOOL\\fR \\fIWORD\\fR..", ".PP", "\\fBmfu\\fR \\fITOOL\\fR \\fB\\-\\-help\\fR"]
-    body += [".PP", "\\fBmfu \\-\\-help\\fR | \\fB\\-\\-version\\fR", ".SH DESCRIPTION", "The first word is one of these tools:"]
+    body += [".PP", "\\fBmfu \\-\\-help\\fR | \\fB\\-\\-version\\fR", ".SH DESCRIPTION"]
+    body += ["For \\fB\\-\\-help\\fR there stand also \\fB\\-h\\fR and \\fBhelp\\fR, as in \\fBmfu help dwalk\\fR, and for",
+             "\\fB\\-\\-version\\fR also \\fB\\-V\\fR, where they are the whole command line.", ".PP", "The first word is one of these tools:"]
     for tool in table.tools:
         body += [".TP", f"\\fB{tool.name}\\fR", f"{roff(tool.one('does'))}; see \\fBmfu\\-{tool.name}\\fR(1)"]
     for topic in table.of("topic"):
         body += [f".SH {topic.name.upper()}"] + man_topic(topic)
-    body += [".SH EXIT STATUS"] + man_terms(table.of("status"))
+    body += [".SH EXIT STATUS"] + man_terms(table.meanings("status"))
     others = ", ".join(f"\\fBmfu\\-{tool.name}\\fR(1)" for tool in table.tools)
     return page("mfu", "tools for trees of files", body + [".SH SEE ALSO", others])
 
@@ -185,7 +200,7 @@ _mfu() {{
     local cur=${{COMP_WORDS[COMP_CWORD]}} prev=${{COMP_WORDS[COMP_CWORD-1]}} words
     COMPREPLY=()
     if [ "$COMP_CWORD" -eq 1 ]; then
-        mapfile -t COMPREPLY < <(compgen -W '{tools} --help --version' -- "$cur")
+        mapfile -t COMPREPLY < <(compgen -W '{tools} help --help --version' -- "$cur")
         return
     fi
     # A `=` between an option and its value is a word of its own.
@@ -195,6 +210,7 @@ _mfu() {{
         prev=${{COMP_WORDS[COMP_CWORD-2]}}
     fi
     case ${{COMP_WORDS[1]}}:$prev in
+        help:help) words='{tools}' ;;
 {cases}
         *) return ;;
     esac
@@ -258,7 +274,7 @@ _mfu() {{
     local -a tools=(
 {tools}
     )
-    local -a asks=('--help:say what the tools are' '--version:print the version')
+    local -a asks=('help:say what the tools are, or more of one' '--help:say what the tools are' '--version:print the version')
     if (( CURRENT == 2 )); then
         _describe -t tools tool tools -- asks
         return
@@ -267,6 +283,7 @@ _mfu() {{
     shift words
     (( CURRENT-- ))
     case $tool in
+        help) (( CURRENT == 2 )) && _describe -t tools tool tools ;;
 {cases}
     esac
 }}
@@ -309,7 +326,9 @@ def fish_completion(table):
     first = "__fish_use_subcommand"
     lines = [f"# fish completion for mfu. Made by {MADE}.", "complete -c mfu -f"]
     lines += [fish_line(first, f"-a {tool.name} -d {quoted(tool.one('does'))}") for tool in table.tools]
-    lines += [fish_line(first, "-l help -d 'say what the tools are'"), fish_line(first, "-l version -d 'print the version'")]
+    lines += [fish_line(first, "-a help -d 'say what the tools are, or more of one'"), fish_line(first, "-l help -d 'say what the tools are'")]
+    lines += [fish_line(first, "-l version -d 'print the version'")]
+    lines += [fish_line("__fish_seen_subcommand_from help", f"-a {tool.name} -d {quoted(tool.one('does'))}") for tool in table.tools]
     for tool in table.tools:
         when = f"__fish_seen_subcommand_from {tool.name}"
         lines.append(fish_line(when, "-l help -d 'say more of the tool'"))
@@ -359,8 +378,8 @@ def tool_part(table, tool):
     out = [f"## {tool.name}", "", "```"] + [f"mfu {tool.name} {takes}" for takes in tool.all("takes")] + ["```", ""]
     out += spread(tool.all("say"))
     links = ", ".join(f"[{table.title(g)[0].lower()}{table.title(g)[1:]}](#{anchor(table.title(g))})" for g in tool.words("groups"))
-    statuses = ", ".join(b.name for b in table.of_tool("status", tool))
-    notes = ", ".join(f"`{b.name}`" for b in table.of_tool("note", tool))
+    statuses = ", ".join(name for name, _ in table.meanings("status", tool))
+    notes = ", ".join(f"`{name}`" for name, _ in table.meanings("note", tool))
     out += [f"Options: {links}.", ""]
     for title, block in table.more(tool):
         out += [f"### {title}", ""] + spread(block.all("say"))
@@ -383,8 +402,8 @@ def tools_doc(table):
     for name, options in table.groups.items():
         out += [f"## {table.title(name)}", ""] + option_rows(options)
     out += ["## Notes", "", "A note is a line of standard error. Each stands once.", ""]
-    out += rows(("Note", "Means"), [(f"`{b.name}`", b.one("say")) for b in table.of("note")])
-    out += ["## Statuses", ""] + rows(("Status", "Means"), [(b.name, b.one("say")) for b in table.of("status")])
+    out += rows(("Note", "Means"), [(f"`{name}`", text) for name, text in table.meanings("note")])
+    out += ["## Statuses", ""] + rows(("Status", "Means"), table.meanings("status"))
     return "\n".join(out).rstrip("\n") + "\n"
 
 
