@@ -127,7 +127,7 @@ def wrong_in(tool, top, call, path, plain, now):
     source = path.replace(f"{top}/d/t", f"{top}/t", 1)
     if not any(is_near(source, one) or is_near(os.path.dirname(source), one) for one in named):
         return f"named are {named}"
-    off = lambda one: any(is_near(one.replace(f"{top}/d/t", f"{top}/t", 1), other) for other in named)
+    off = lambda one: any(is_near(of, other) for of in (one, one.replace(f"{top}/d/t", f"{top}/t", 1)) for other in named)
     differ = [one for one in {**before, **after} if before.get(one) != after.get(one) and not off(one) and one != f"{top}/o"]
     return f"on the disk differ {differ}" if differ else None
 
