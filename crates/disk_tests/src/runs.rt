@@ -129,60 +129,67 @@ fn a_run_goes_by_the_time_of_the_system(rt: HostRuntime) {
     room.remove().expect(&rt, "an empty room");
 }
 
-// A source with two levels, and a file of more than one piece.
-const SOURCE: [(&str, Node<'static>); 5] = [
-    ("from", Node::Dir),
-    ("from/deep", Node::Dir),
-    ("from/deep/empty", Node::File(b"")),
-    ("from/\u{e9} x", Node::File(b"name of two words")),
-    ("from/short", Node::File(b"new")),
-];
+// A source with two levels; and a directory that has some of it already: a longer file of one name, and one more file.
+fn to_be_copied(rt: &(impl Abort + AllocGlobal), host: HostRuntime) -> Room {
+    let nodes = [
+        ("from", Node::Dir),
+        ("from/deep", Node::Dir),
+        ("to", Node::Dir),
+        ("to/from", Node::Dir),
+        ("from/deep/empty", Node::File(b"")),
+        ("from/\u{e9} x", Node::File(b"name of two words")),
+        ("from/short", Node::File(b"new")),
+        ("to/from/short", Node::File(b"old and longer")),
+        ("to/from/other", Node::File(b"stays")),
+    ];
+    Room::with(host, &nodes).expect(rt, "a room")
+}
 
-// A directory that has some of the source already: a longer file of one name, and one more file.
-const DEST: [(&str, Node<'static>); 4] = [
-    ("to", Node::Dir),
-    ("to/from", Node::Dir),
-    ("to/from/short", Node::File(b"old and longer")),
-    ("to/from/other", Node::File(b"stays")),
-];
+// Whether each file has the bytes that a copy of the source leaves there.
+fn is_copied(room: &Room, big: &[u8]) -> bool {
+    room.holds("to/from/deep/big", big)
+        && room.holds("to/from/deep/empty", b"")
+        && room.holds("to/from/\u{e9} x", b"name of two words")
+        && room.holds("to/from/short", b"new")
+        && room.holds("to/from/other", b"stays")
+        && room.holds("from/short", b"new")
+}
+
+// The same of dcp by so many ranks, in three threads.
+fn dcp_prints<T>(rt: &T, host: HostRuntime, ranks: &str, from: &Path, to: &Path, text: &str) -> bool
+where
+    T: Abort + AllocGlobal + Clock + Threads + Wait + Sync,
+{
+    let (from, to) = (from.text(), to.text());
+    prints(
+        rt,
+        host,
+        &["dcp", "--ranks", ranks, "--hosts", "3", from, to],
+        text,
+    )
+}
+
+// Whether a run by so many ranks leaves the copies there, with a file of these bytes among them.
+fn copies<T>(rt: &T, host: HostRuntime, ranks: &str, big: &[u8]) -> bool
+where
+    T: Abort + AllocGlobal + Clock + Threads + Wait + Sync,
+{
+    let room = to_be_copied(rt, host);
+    let put = room.put("from/deep/big", Node::File(big));
+    put.expect(rt, "a file");
+    let from = room.at("from").expect(rt, "a path");
+    let to = room.at("to").expect(rt, "a path");
+    let want = "copied 6 items 6 bytes 200020 failed 0\n";
+    let is_said = dcp_prints(rt, host, ranks, &from, &to, want);
+    let is_done = is_copied(&room, big);
+    room.remove().expect(rt, "an empty room");
+    is_said && is_done
+}
 
 #[test]
 fn a_run_copies_over_the_real_disk(rt: HostRuntime) {
     let big = bytes(&rt, 200_000);
     for ranks in ["1", "7"] {
-        let room = Room::with(rt, &SOURCE).expect(&rt, "a room");
-        room.put("from/deep/big", Node::File(&big))
-            .expect(&rt, "a file");
-        for (names, node) in DEST {
-            room.put(names, node).expect(&rt, "a node");
-        }
-        let from = room.at("from").expect(&rt, "a path");
-        let to = room.at("to").expect(&rt, "a path");
-        let words = [
-            "dcp",
-            "--ranks",
-            ranks,
-            "--hosts",
-            "3",
-            from.text(),
-            to.text(),
-        ];
-        let want = "copied 6 items 6 bytes 200020 failed 0\n";
-        so(&rt, prints(&rt, rt, &words, want), ranks);
-        so(
-            &rt,
-            room.holds("to/from/deep/big", &big),
-            "more than one piece",
-        );
-        so(&rt, room.holds("to/from/deep/empty", b""), "nothing");
-        so(
-            &rt,
-            room.holds("to/from/\u{e9} x", b"name of two words"),
-            "a name",
-        );
-        so(&rt, room.holds("to/from/short", b"new"), "made anew");
-        so(&rt, room.holds("to/from/other", b"stays"), "no target");
-        so(&rt, room.holds("from/short", b"new"), "the source");
-        room.remove().expect(&rt, "an empty room");
+        so(&rt, copies(&rt, rt, ranks, &big), ranks);
     }
 }
