@@ -1,7 +1,8 @@
 //! Runs in which one call at one path fails, on one host and on four, and runs whose sink is full at any byte.
 use crate::of_dcmp::two_trees;
-use crate::rows::{AMPLE, LIST_T, TREE_T, do_as_wanted, run_with, trees};
+use crate::rows::{AMPLE, LIST_T, TREE_T, run_with, trees};
 use files_mem::Call;
+use memory_runs::WholeFiles;
 use mfu_top::Status;
 use path_text::Path;
 use std::alloc::Global;
@@ -87,7 +88,17 @@ const ROWS: [Row; 7] = [
     ),
 ];
 
-// Whether a run on so many hosts does as the row says, over the trees beside which the list `/l` stands, and raises the count.
+// The trees, and beside them the list `/l`, where this call at this path is planned to fail.
+fn faulty(alloc: Global, call: Call, at: &str) -> Result<WholeFiles, Fail> {
+    let mut files = two_trees(alloc)?;
+    let list = Path::parse(alloc, "/l")?;
+    files.put_file(&list, LIST_T.as_bytes(), None)?;
+    let at = Path::parse(alloc, at)?;
+    files.plan(call, &at)?;
+    Ok(files)
+}
+
+// Whether a run on so many hosts does as the row says, and raises the count.
 fn does_row<T: Abort + Threads + Wait + Sync>(
     rt: &T,
     alloc: Global,
@@ -95,15 +106,25 @@ fn does_row<T: Abort + Threads + Wait + Sync>(
     row: &Row,
 ) -> Result<(), Fail> {
     let ((call, at), tool, rest, (status, out, notes)) = *row;
-    let mut files = two_trees(alloc)?;
-    files.put_file(&Path::parse(alloc, "/l")?, LIST_T.as_bytes(), None)?;
-    files.plan(call, &Path::parse(alloc, at)?)?;
-    let mut words = vec![in alloc; tool, "--ranks", "8", "--hosts", hosts]?;
-    for word in rest {
-        words.push(*word)?;
-    }
-    do_as_wanted(rt, alloc, &mut files, &[(&words, status, out, notes)])?;
-    assert!(rt; files.faults() > 0, "{words:?}");
+    let mut files = faulty(alloc, call, at)?;
+    let told = match rest {
+        [word] => run_with(
+            rt,
+            alloc,
+            &mut files,
+            &[tool, "--ranks", "8", "--hosts", hosts, word],
+            (AMPLE, AMPLE),
+        )?,
+        [word, other] => {
+            let words = [tool, "--ranks", "8", "--hosts", hosts, word, other];
+            run_with(rt, alloc, &mut files, &words, (AMPLE, AMPLE))?
+        }
+        _ => return Ok(()),
+    };
+    assert_eq!(rt; told.0, status, "{at}");
+    assert_eq!(rt; told.1.text(), out.as_bytes(), "{at}");
+    assert_eq!(rt; told.2.text(), notes.as_bytes(), "{at}");
+    assert!(rt; files.faults() > 0, "{at}");
     Ok(())
 }
 
