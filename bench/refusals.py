@@ -69,8 +69,8 @@ def may_change(tool, top, path):
     return path == f"{top}/o" or (tool == "dcp" and path.startswith(f"{top}/d/t")) or (tool == "drm" and (path == f"{top}/t" or path.startswith(f"{top}/t/")))
 
 
-def wrong_in(tool, top, plain, now, first):
-    """What is wrong with a run in which an allocation was refused, or None."""
+def wrong_in(tool, top, plain, now, first, is_gathering):
+    """What is wrong with a run in which an allocation was refused, or None. While words are gathered no line is owed."""
     if now == plain:
         return None
     (status, out, notes), after = now
@@ -82,7 +82,7 @@ def wrong_in(tool, top, plain, now, first):
         return None if not notes else f"status 4 with {notes}"
     if status != 3:
         return f"status {status}"
-    if out or notes not in (b"out of memory\n", b""):
+    if out or not (notes == b"out of memory\n" or is_gathering and not notes):
         return f"status 3 with {out[:60]} and {notes}"
     differ = [one for one in {**first, **after} if first.get(one) != after.get(one) and not may_change(tool, top, one)]
     return f"on the disk differ {differ}" if differ else None
@@ -107,15 +107,20 @@ def main():
         *plain, count = run(program, words, shim, work, 10**9, True)
         plain = tuple(plain), state(top)
         print(f"{tool}: {count} allocations", flush=True)
+        is_gathering, silent = True, 0
         for refused in range(1, count + 1):
             fresh()
             *now, _ = run(program, words, shim, work, refused)
-            fault = wrong_in(tool, top, plain, (tuple(now), state(top)), first)
+            # (no refusal after the first one that had a line may be without one)
+            is_gathering = is_gathering and now[0] == 3 and not now[2]
+            silent += is_gathering
+            fault = wrong_in(tool, top, plain, (tuple(now), state(top)), first, is_gathering)
             tried += 1
             by_status[now[0]] = by_status.get(now[0], 0) + 1
             if fault:
                 wrong += 1
                 print(f"WRONG: {tool}: allocation {refused}: {fault}")
+        print(f"{tool}: {silent} without a line, the first ones, for {len(words)} words", flush=True)
     shutil.rmtree(work)
     print("statuses:", " ".join(f"{status}: {count}" for status, count in sorted(by_status.items())))
     print(f"tries: {tried} wrong: {wrong}")
