@@ -36,7 +36,7 @@ pub fn list(map: &BTreeMap<Path, Node>, alloc: Global, path: &Path) -> Result<Li
             return Ok(listing);
         };
         if is_one_name(name) {
-            listing.add(String::from_str(alloc, name)?)?;
+            listing.add_name(name)?;
             entries = behind(map, alloc, key, node, entries)?;
         }
     }

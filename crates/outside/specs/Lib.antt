@@ -9,3 +9,4 @@ pub mod Whole
 pub mod Lease
 pub mod Parts
 pub mod Laid
+pub mod Listed

@@ -10,24 +10,24 @@ ghost use Rattle.path_text.specs.Path.{joined, is_name};
 
 use outside::Listing;
 use path_text::{MAX_PATH, OutOfMemory, Path, valid_name};
-use std::alloc::Global;
+use std::alloc::{AllocError, Global};
 use std::marker::Model;
 use std::str;
 
 /// Names as the system gives them, in any order and maybe one of them twice: seen as (names, how many more are no text).
 #[derive(Drop)]
 pub struct FoundNames {
-    names: Vec<String>,
-    unnamed: u64,
+    alloc: Global,
+    // In the order in which the system gave them.
+    found: Listing,
 }
 
 impl Model for FoundNames {
-    ghost use Rattle.std.specs.Prelude.{List, ℕ, map};
-    ghost use Rattle.std.specs.String.{string_bytes};
+    ghost use Rattle.std.specs.Prelude.{List, ℕ};
 
     ghost Value = { List (List ℕ) × ℕ };
 
-    ghost view = { λ found. (map string_bytes found.names.items, found.unnamed) };
+    ghost view = { λ names. (names.found.0, names.found.1) };
 }
 
 impl FoundNames {
@@ -36,8 +36,8 @@ impl FoundNames {
         ensures { result ≡ ([], 0) }
     {
         FoundNames {
-            names: Vec::new(alloc),
-            unnamed: 0,
+            alloc,
+            found: Listing::make(alloc),
         }
     }
 
@@ -57,30 +57,50 @@ impl FoundNames {
         ensures other { ¬ (IsUtf8 name.now) → OnOk result (self.new ≡ (self.old.0, capped self.old.1 1)) }
     {
         match str::from_utf8(name) {
-            Ok(text) => {
-                let name = String::from_str(*self.names.allocator(), text)?;
-                self.names.push(name)?;
+            Ok(text) => self.found.add_name(text)?,
+            Err(_) => {
+                let unnamed = self.found.unnamed().saturating_add(1);
+                self.found.set_rest(unnamed, 0);
             }
-            Err(_) => self.unnamed = self.unnamed.saturating_add(1),
         }
         Ok(())
     }
 
     /// The listing of a directory at the path with these names.
-    pub fn listing(mut self, path: &Path) -> Result<Listing, OutOfMemory>
+    pub fn listing(self, path: &Path) -> Result<Listing, OutOfMemory>
         ensures names { IfOk result (λ listing. AreNames path.now listing.0) }
         ensures unnamed { IfOk result (λ listing. self.1 ≤ listing.1) }
     {
-        self.names.sort()?;
-        self.names.dedup();
-        let mut listing = Listing::make(*self.names.allocator());
-        for name in self.names {
+        let names = sorted(self.alloc, &self.found)?;
+        let mut listing = Listing::make(self.alloc);
+        listing.reserve(names.len(), bytes_of(&names))?;
+        for name in names {
             put_name(&mut listing, path, name)?;
         }
-        let unnamed = listing.unnamed().saturating_add(self.unnamed);
+        let unnamed = listing.unnamed().saturating_add(self.found.unnamed());
         listing.set_rest(unnamed, listing.far());
         Ok(listing)
     }
+}
+
+// The names in byte order, each once.
+fn sorted(alloc: Global, found: &Listing) -> Result<Vec<&str>, AllocError> {
+    let mut names = Vec::with_capacity(alloc, found.len())?;
+    for k in 0..found.len() {
+        names.push(found.name(k))?;
+    }
+    names.sort_unstable();
+    names.dedup();
+    Ok(names)
+}
+
+// How many bytes these names have together.
+fn bytes_of(names: &[&str]) -> usize {
+    let mut bytes: usize = 0;
+    for name in names {
+        bytes = bytes.saturating_add(name.len());
+    }
+    bytes
 }
 
 // What a directory names beside its children: nothing, itself and its parent.
@@ -89,17 +109,17 @@ fn is_self_or_parent(name: &[u8]) -> bool {
 }
 
 // Puts a name behind those of the listing, or counts why it can't stand there.
-fn put_name(listing: &mut Listing, path: &Path, name: String) -> Result<(), OutOfMemory>
+fn put_name(listing: &mut Listing, path: &Path, name: &str) -> Result<(), OutOfMemory>
     requires { AreNames path.now listing.old.0 }
     ensures { AreNames path.now listing.new.0 }
 {
     let (unnamed, far) = (listing.unnamed(), listing.far());
-    if !valid_name(name.as_str()) {
+    if !valid_name(name) {
         listing.set_rest(unnamed.saturating_add(1), far);
-    } else if is_far(path, name.as_str()) {
+    } else if is_far(path, name) {
         listing.set_rest(unnamed, far.saturating_add(1));
-    } else if ascends(listing, name.as_str()) {
-        listing.add(name)?;
+    } else if ascends(listing, name) {
+        listing.add_name(name)?;
     }
     Ok(())
 }

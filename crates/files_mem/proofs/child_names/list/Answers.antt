@@ -1,4 +1,4 @@
-use Rattle.std.proofs.Common.{◌≡◌, ◌++◌, ◌∷◌, [], false, true, nat_eq, ap, ◌∙◌, sym}
+use Rattle.std.proofs.Common.{◌≡◌, ◌++◌, ◌∷◌, [], false, true, nat_eq, refl, ap, ◌∙◌, sym}
 use Rattle.std.specs.List.{starts_with}
 use Rattle.path_text.specs.Order.{front}
 use Rattle.outside.specs.Tree.{is_one_name}
@@ -18,15 +18,16 @@ returns-in_default c =
 
 pub loop-key-init : goal.loop-key-init
 loop-key-init c =
-    let given : Listable c.args.path.now c.in-Some.least c.args.map.now.entries = record {
-      low = rw c.in-Some.is at c.in_ok-least.ensures.found;
+    let low = rw c.in-Some.is at c.in_ok-least.ensures.found in
+    let given : Listable c.args.path.now (front c.args.path.now ++ 1 ∷ []) c.args.map.now.entries = record {
+      low = refl;
       sorted = c.from-entries.ensures.ordered;
       valid = c.requires.valid;
     } in
     let made = c.make-listing.ensures in
     record {
       given = given;
-      reading = rw (c.from-entries.ensures.rest, ap (λ l. l.0) made) (reading_begins given);
+      reading = rw (c.from-entries.ensures.rest, low, ap (λ l. l.0) made) (reading_begins given);
       unnamed = ap (λ l. l.1) made;
       far = ap (λ l. l.2) made;
     }
@@ -57,9 +58,9 @@ loop-key-preserved-then-is_one_name c =
     let is : c.in-Some-next.key.now ≡ front c.args.path.now ++ name =
     sym c.text.ensures.text ∙ c.in-Some-strip.ensures.on ∙ ap (λ f. f ++ name) text in
     let one : is_one_name name ≡ true = sym c.is_one_name.ensures ∙ c.if-is_one_name.true in
-    let added = c.in_ok-add.ensures.ok in
+    let added = c.in_ok-add_name.ensures.ok in
     let before = c.loop-key.listing.0 in
-    let listed : c.add.new.self.0 ≡ before ++ name ∷ [] = ap (λ l. l.0) added ∙ ap (λ n. before ++ n ∷ []) c.in_ok-from_str.ensures.ok in
+    let listed : c.add_name.new.self.0 ≡ before ++ name ∷ [] = ap (λ l. l.0) added in
     record {
       given = inv.given;
       reading = rw listed (reading_child name inv.given inv.reading c.in-Some-next.ensures.steps is one c.in_ok-entries.ensures);
