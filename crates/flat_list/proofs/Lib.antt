@@ -11,3 +11,5 @@ pub mod Damage
 pub mod Decoded
 pub mod Encoded
 pub mod Unique
+pub mod Paired
+pub mod Halved

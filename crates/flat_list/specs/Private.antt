@@ -1,2 +1,3 @@
 -- What the crate's private functions answer: only their clauses cite it, and no public one rests on it.
 pub mod Reading
+pub mod Pairing

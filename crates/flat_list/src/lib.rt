@@ -4,7 +4,9 @@
 //! - A [`FlatList`] is seen as the list of its entries. How it keeps them is its own affair: no slice of entries leaves the
 //!   crate, so that they can be packed under the same contracts.
 //! - [`FlatList::from_jobs`] joins what several ranks found, by moving it, and puts it in path order.
-//! - A [`Cursor`] goes over the entries without copying them.
+//!   [`FlatList::from_logs`] does so in several threads: each puts a part of the logs in order, and lists that are in order are
+//!   brought together two and two.
+//! - A [`Cursor`] goes over the entries without copying them, and [`FlatList::retain`] drops some of them.
 //! - [`FlatList::sort_by`] sorts by a [`Field`], upwards or downwards, and always by path where the field ties.
 //! - [`FlatList::levels`] tells the places of each level, and [`FlatList::spread`] deals copies of the entries to pieces.
 //! - [`FlatList::encode`] writes a list as a list file, text that other tools read, and [`FlatList::decode`] reads it again, or
@@ -46,10 +48,12 @@ mod decoding;
 mod encoding;
 mod entries;
 mod errors;
+mod halving;
 mod laws;
 mod lists;
 mod merging;
 mod ordering;
+mod pairing;
 mod reading;
 mod summaries;
 

@@ -1,6 +1,8 @@
 //! Lists of entries.
 ghost use Rattle.std.specs.Prelude.{◌≡◌, ◌+◌, ◌-◌, ◌<◌, ◌≤◌, ◌++◌, ◌∷◌, [], true, false, ◌==◌, nat_lt, if◌then◌else◌, Some, length, map, take, slice_get, OnOk, OnErr, IfOk, IfErr, All};
 ghost use Rattle.std.specs.List.{flat_map, range_with_len};
+ghost use Rattle.std.specs.Fn.{CalledAt};
+ghost use Rattle.std.specs.List.Retain.{IsFiltered};
 ghost use Rattle.std.specs.List.Sorted.{IsPermutation, IsSorted, IsSortedByKey, IsStrictlySortedBy, IsStable, IsStableByKey};
 ghost use Rattle.path_text.specs.Order.{path_cmp};
 ghost use Rattle.flat_list.specs.Entries.{is_shaped, summary_of};
@@ -13,11 +15,14 @@ use crate::decoding::decode;
 use crate::encoding::encode;
 use crate::entries::{Entry, copy_of};
 use crate::errors::CacheError;
+use crate::halving::in_order;
 use crate::ordering::{Field, sort_order};
+use crate::pairing::paired;
 use crate::summaries::{Summary, summary_of};
 use path_text::{OutOfMemory, Path};
 use std::alloc::Global;
 use std::marker::Model;
+use std::thread::Threads;
 
 /// Entries, seen as their list.
 #[derive(Debug, Drop)]
@@ -77,6 +82,14 @@ impl FlatList {
         Ok(())
     }
 
+    /// Keeps the entries for which `keep` answers `true`, in their order, and drops the others. It takes no memory.
+    pub fn retain<F: FnMut(&Entry) -> bool>(&mut self, keep: F)
+        requires { F.IsAlwaysCallable keep }
+        ensures { IsFiltered (CalledAt F.FnMut) keep self.old self.new }
+    {
+        self.entries.retain(keep);
+    }
+
     // Whether a path comes after those of a list that ascends strictly.
     pub(crate) fn precedes(&self, path: &Path) -> bool
         requires { IsStrictlySortedBy path_cmp (paths self.now) }
@@ -101,6 +114,36 @@ impl FlatList {
         let mut list = FlatList { entries };
         list.sort_path()?;
         Ok(list)
+    }
+
+    /// All entries of the logs, in path order, as [`FlatList::from_jobs`] has them. The logs are put in order in up to `hosts`
+    /// threads, and what these put in order is brought together two and two.
+    pub fn from_logs<R: Threads + Sync>(
+        rt: &R,
+        alloc: Global,
+        logs: Vec<Vec<Entry>>,
+        hosts: u32,
+    ) -> Result<FlatList, OutOfMemory>
+        requires { 1 ≤ hosts }
+        ensures all { IfOk result (λ list. IsPermutation (flat_map (λ log. log.items) logs.items) list) }
+        ensures sorted { IfOk result (λ list. IsSortedByKey (λ e. e.path) path_cmp list) }
+    {
+        in_order(rt, alloc, logs, hosts)
+    }
+
+    // All entries of two lists that are in path order, in path order.
+    pub(crate) fn both(
+        alloc: Global,
+        one: FlatList,
+        other: FlatList,
+    ) -> Result<FlatList, OutOfMemory>
+        requires one { IsSortedByKey (λ e. e.path) path_cmp one }
+        requires other { IsSortedByKey (λ e. e.path) path_cmp other }
+        ensures all { IfOk result (λ list. IsPermutation (one ++ other) list) }
+        ensures sorted { IfOk result (λ list. IsSortedByKey (λ e. e.path) path_cmp list) }
+    {
+        let entries = paired(alloc, one.entries, other.entries)?;
+        Ok(FlatList { entries })
     }
 
     /// A copy of the entry at a place. To go over all entries take a [`FlatList::cursor`], which copies nothing.
@@ -225,7 +268,7 @@ fn ends_of(alloc: Global, logs: &[Vec<Entry>]) -> Result<Vec<usize>, OutOfMemory
 }
 
 // How many entries the logs have.
-fn len_of(logs: &[Vec<Entry>]) -> usize {
+pub(crate) fn len_of(logs: &[Vec<Entry>]) -> usize {
     let mut len = 0usize;
     for log in logs {
         len = len.saturating_add(log.len());

@@ -1,10 +1,13 @@
 //! Lists with what is known of them.
+ghost use Rattle.std.specs.Prelude.{◌≤◌};
+
 use flat_list::{CacheError, Entry, Field, FlatList, Mark, Summary};
 use outside::{Kind, Stat};
 use path_text::Path;
 use std::alloc::Global;
 use std::process::Abort;
 use std::test::Fail;
+use std::thread::Threads;
 
 // An entry of a kind, with a size, as it is.
 fn fine(alloc: Global, path: &str, kind: Kind, size: u64) -> Result<Entry, Fail> {
@@ -212,6 +215,68 @@ fn merges_what_ranks_found_in_turn(rt: HostRuntime) -> Result<(), Fail> {
             "/t/c/b", "/t/d", "/t/d/z", "/t/e", "/t/e/a", "/t/e/b",
         ],
     );
+    Ok(())
+}
+
+// A file whose path tells its number.
+fn numbered(alloc: Global, at: usize) -> Result<Entry, Fail>
+    requires { at ≤ 6000 }
+{
+    let path = format!(in alloc; "/t/{}", at + 100_000)?;
+    fine(alloc, path.as_str(), Kind::File, 1)
+}
+
+// The numbers below 6000, dealt to so many logs from the last number down, and 0 once more in the last log.
+fn dealt_logs(alloc: Global, ranks: usize) -> Result<Vec<Vec<Entry>>, Fail>
+    requires { 1 ≤ ranks }
+{
+    let mut logs = Vec::new(alloc);
+    for _ in 0..ranks {
+        logs.push(Vec::new(alloc))?;
+    }
+    for at in (0..6000).rev() {
+        let entry = numbered(alloc, at)?;
+        if let Some(log) = logs.get_mut(at % ranks) {
+            log.push(entry)?;
+        }
+    }
+    if let Some(log) = logs.last_mut() {
+        log.push(numbered(alloc, 0)?)?;
+    }
+    Ok(logs)
+}
+
+// Whether so many logs come to be one list in order.
+fn come_in_order<R: Threads + Sync + Abort>(
+    rt: &R,
+    alloc: Global,
+    ranks: usize,
+    hosts: u32,
+) -> Result<(), Fail>
+    requires ranks { 1 ≤ ranks }
+    requires hosts { 1 ≤ hosts }
+{
+    let list = FlatList::from_logs(rt, alloc, dealt_logs(alloc, ranks)?, hosts)?;
+    assert_eq!(rt; list.len(), 6001);
+    let mut cursor = list.cursor();
+    assert!(rt; cursor.advance());
+    assert!(rt; cursor.entry().path == numbered(alloc, 0)?.path);
+    for at in 0..6000 {
+        assert!(rt; cursor.advance());
+        assert!(rt; cursor.entry().path == numbered(alloc, at)?.path);
+    }
+    Ok(())
+}
+
+#[test]
+fn puts_logs_in_order_in_threads(rt: HostRuntime) -> Result<(), Fail> {
+    let alloc = rt.alloc();
+    come_in_order(&rt, alloc, 1, 4)?;
+    come_in_order(&rt, alloc, 2, 1)?;
+    come_in_order(&rt, alloc, 2, 2)?;
+    come_in_order(&rt, alloc, 3, 4)?;
+    come_in_order(&rt, alloc, 7, 3)?;
+    assert!(rt; FlatList::from_logs(&rt, alloc, Vec::new(alloc), 4)?.is_empty());
     Ok(())
 }
 

@@ -47,8 +47,8 @@ impl<R: Tree> WalkJob<R> {
         }
     }
 
-    // Its reader and its entries.
-    pub(crate) fn open(self) -> (R, Vec<Entry>)
+    // Its reader, its entries, and the names that it kept.
+    pub(crate) fn open(self) -> (R, Vec<Entry>, Vec<Listing>)
         ensures reader { result.0 ≡ self.0 }
         ensures entries { result.1.items ≡ entries_of self.1 }
         ensures holds { Holds (R.tree self.0) (R.count self.0) self.1 }
@@ -56,9 +56,9 @@ impl<R: Tree> WalkJob<R> {
         let WalkJob {
             reader,
             entries,
-            ..
+            names,
         } = self;
-        (reader, entries)
+        (reader, entries, names)
     }
 }
 

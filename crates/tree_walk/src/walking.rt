@@ -1,6 +1,9 @@
 //! The walk by ranks.
 ghost use Rattle.std.specs.Prelude.{◌≡◌, ◌≤◌, ◌<◌, ◌-◌, ◌^◌, [], true, false, length, map, min, sum_by, None, OnOk, IfOk, IfErr, IfSome};
 ghost use Rattle.std.specs.List.{flat_map, range_with_len, AllByRecursion};
+ghost use Rattle.std.specs.List.Sorted.{IsPermutation, IsSortedByKey};
+ghost use Rattle.path_text.specs.Order.{path_cmp};
+ghost use denote.Param.Send.{IsSync};
 ghost use Rattle.circle_run.specs.Traced.{share_in};
 ghost use Rattle.outside.specs.Count.{RoseBy};
 ghost use Rattle.tree_walk.specs.Walk.{weight_of};
@@ -14,10 +17,11 @@ use crate::jobs::WalkJob;
 use crate::reports::{WalkReport, Walked};
 use circle_run::{Options, begin};
 use flat_list::{Entry, FlatList};
-use outside::Ground;
+use outside::{Ground, Listing};
 use path_text::{OutOfMemory, Path};
 use std::alloc::Global;
 use std::sync::Wait;
+use std::thread;
 use std::thread::Threads;
 
 /// The most entries that a list may have.
@@ -102,8 +106,9 @@ where
 {
     let jobs = made(alloc, ground, options.ranks)?;
     let finished = begin(rt, alloc, options, starts, jobs)?;
-    let logs = opened(alloc, ground, finished.jobs)?;
-    let list = FlatList::from_jobs(alloc, logs)?;
+    let mut names = Vec::new(alloc);
+    let logs = opened(alloc, ground, finished.jobs, &mut names)?;
+    let list = listed(rt, alloc, logs, names, options.hosts)?;
     Ok(WalkReport {
         list,
         walked: Walked::Whole,
@@ -134,11 +139,36 @@ fn made<G: Ground>(
     Ok(jobs)
 }
 
-// The entries of each job, whose readers go back.
+// The list of all logs. Where there are several hosts, the names that the jobs kept are dropped meanwhile.
+fn listed<W: Threads + Sync>(
+    rt: &W,
+    alloc: Global,
+    logs: Vec<Vec<Entry>>,
+    names: Vec<Vec<Listing>>,
+    hosts: u32,
+) -> Result<FlatList, OutOfMemory>
+    requires { 1 ≤ hosts }
+    ensures all { IfOk result (λ list. IsPermutation (flat_map (λ log. log.items) logs.items) list) }
+    ensures sorted { IfOk result (λ list. IsSortedByKey (λ e. e.path) path_cmp list) }
+{
+    if hosts == 1 {
+        return FlatList::from_jobs(alloc, logs);
+    }
+    let sort = move || -> Result<FlatList, OutOfMemory>
+        requires { IsSync W.row × (1 ≤ hosts) }
+        ensures all { IfOk result (λ list. IsPermutation (flat_map (λ log. log.items) logs.items) list) }
+        ensures sorted { IfOk result (λ list. IsSortedByKey (λ e. e.path) path_cmp list) }
+    { FlatList::from_logs(rt, alloc, logs, hosts) };
+    let (_, list) = thread::join(rt, move || drop(names), sort);
+    list
+}
+
+// The entries of each job, whose readers go back, and the names that it kept.
 fn opened<G: Ground>(
     alloc: Global,
     ground: &mut G,
     jobs: Vec<WalkJob<G::Reader>>,
+    names: &mut Vec<Vec<Listing>>,
 ) -> Result<Vec<Vec<Entry>>, OutOfMemory>
     ensures logs { IfOk result (λ logs. flat_map (λ log. log.items) logs.items ≡ entries_of (flat_map (λ job. job.1) jobs.items)) }
     ensures holds { OnOk result (AllByRecursion (λ job. Holds (G.Reader.tree job.0) (G.Reader.count job.0) job.1) jobs.items) }
@@ -151,9 +181,10 @@ fn opened<G: Ground>(
     let _faults = ground.faults();
     let mut logs = Vec::new(alloc);
     for job in jobs {
-        let (reader, entries) = job.open();
+        let (reader, entries, kept) = job.open();
         ground.take_reader(reader);
         logs.push(entries)?;
+        names.push(kept)?;
     }
     Ok(logs)
 }
