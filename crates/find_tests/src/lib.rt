@@ -4,7 +4,7 @@
 //!   on its size or its age, or that it changed after a time. [`Test::holds`] answers.
 //! - [`parse_test`] makes a test from a [`TestName`] and a text, or tells by a [`TestError`] why it is none.
 //! - [`glob_match`] says whether a text matches a glob, both read in characters.
-//! - [`select`] keeps the entries of a `FlatList` that have a stat and meet every test.
+//! - [`select`] copies the entries of a `FlatList` that have a stat and meet every test, and [`select_from`] moves them.
 //!
 //! ```text
 //! let logs = parse_test(alloc, TestName::Name, "*.log")?;
@@ -41,5 +41,5 @@ pub use bounds::Bound;
 pub use errors::TestError;
 pub use globs::{Glob, glob_match};
 pub use laws::glob_by_cases;
-pub use selecting::select;
+pub use selecting::{select, select_from};
 pub use testing::{Test, TestName, parse_test};

@@ -29,6 +29,16 @@ pub fn select(
     Ok(selected)
 }
 
+/// The entries of a list that have a stat and meet every test, in their order, as [`select`] has them. They are moved, and no
+/// memory is taken.
+pub fn select_from(list: FlatList, tests: &[Test], now: u64) -> FlatList
+    ensures { result ≡ filter (is_selected tests.now now) list }
+{
+    let mut list = list;
+    list.retain(|entry| is_selected(entry, tests, now));
+    list
+}
+
 fn is_selected(entry: &Entry, tests: &[Test], now: u64) -> bool
     ensures { result ≡ is_selected tests.now now entry.now }
 {

@@ -3,25 +3,23 @@ ghost use Rattle.std.specs.Prelude.{◌≡◌, ◌++◌, map, filter, OnOk, IfOk
 ghost use Rattle.find_tests.specs.Tests.{is_selected};
 ghost use Rattle.run_entries.specs.Choosing.{newer_than};
 
-use find_tests::{Test, select};
+use find_tests::{Test, select_from};
 use flat_list::FlatList;
 use path_looks::{Look, Seen};
 use path_text::OutOfMemory;
-use std::alloc::Global;
 
-/// The entries that have a stat and meet every test, those that the looks give among them.
+/// The entries that have a stat and meet every test, those that the looks give among them. The entries are moved.
 pub(crate) fn choose(
-    alloc: Global,
-    list: &FlatList,
+    list: FlatList,
     tests: Vec<Test>,
     looks: &[Look],
     now: u64,
 ) -> Result<FlatList, OutOfMemory>
-    ensures { IfOk result (λ chosen. chosen ≡ filter (is_selected (tests.items ++ map (λ l. newer_than l.seen) looks.now) now) list.now) }
+    ensures { IfOk result (λ chosen. chosen ≡ filter (is_selected (tests.items ++ map (λ l. newer_than l.seen) looks.now) now) list) }
 {
     let mut tests = tests;
     add_tests(&mut tests, looks)?;
-    select(alloc, list, &tests, now)
+    Ok(select_from(list, &tests, now))
 }
 
 // Adds the test that each look gives.

@@ -120,7 +120,7 @@ where
     let looks = look_at_each(alloc, files, newer)?;
     let Entries { list, account } = list_from(rt, alloc, common, start, files)?;
     let notes = failures(alloc, &looks, &list)?;
-    let chosen = choose(alloc, &list, tests, &looks, now)?;
+    let chosen = choose(list, tests, &looks, now)?;
     Ok(Findings {
         chosen,
         notes,
