@@ -10,10 +10,14 @@ use ring_core::Event;
 /// What a rank writes down of what it did, and whether it found no memory at some time.
 #[derive(Drop)]
 pub struct Book {
-    pub(crate) events: Vec<Event>,
-    pub(crate) share: Share,
-    pub(crate) sums: Vec<u64>,
-    pub(crate) lost: bool,
+    /// The events, where they are kept.
+    pub events: Vec<Event>,
+    /// How many strings it handled, gave and took.
+    pub share: Share,
+    /// The numbers of progress.
+    pub sums: Vec<u64>,
+    /// Whether it found no memory at some time.
+    pub lost: bool,
 }
 
 impl Book {

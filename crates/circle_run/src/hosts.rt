@@ -132,10 +132,10 @@ impl<J: Job, S, T> Rank<J, S, T> {
         ensures moved { OnOk result (events.new.items ≡ events.old.items ++ self.old.book.events.items) }
         ensures emptied { OnOk result (self.new.book.events.items ≡ []) }
     {
-        if self.book.lost {
+        if self.state.book.lost {
             return Err(OutOfMemory);
         }
-        events.append(&mut self.book.events)?;
+        events.append(&mut self.state.book.events)?;
         Ok(())
     }
 }
@@ -143,7 +143,7 @@ impl<J: Job, S, T> Rank<J, S, T> {
 // Leaves the processor to other threads where no rank has a string.
 fn rest_if_idle<J, S, T>(ranks: &[Rank<J, S, T>]) {
     for rank in ranks {
-        if rank.queue.len() > 0 {
+        if rank.state.queue.len() > 0 {
             return;
         }
     }

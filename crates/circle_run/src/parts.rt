@@ -118,14 +118,7 @@ impl<J: Drop, S: Drop, T: Drop> Parts<J, S, T> {
         let mut shares = Vec::with_capacity(alloc, n)?;
         let mut numbers = Vec::new(alloc);
         for rank in ranks {
-            let Rank {
-                job,
-                seat,
-                sums_seat,
-                queue,
-                book,
-                ..
-            } = rank;
+            let (job, seat, sums_seat, queue, book) = rank.take_apart();
             let Book {
                 share,
                 mut sums,

@@ -11,12 +11,12 @@ ghost use Rattle.circle_run.specs.Private.Services.{Taken, Awaits, Answered};
 use crate::books::Book;
 use crate::jobs::Job;
 use crate::lots::Lot;
-use crate::ranks::Rank;
+use crate::ranks::RankState;
 use post_board::Post;
 use rank_queue::{Batch, RankQueue};
 use ring_core::{Colour, Event};
 
-impl<J: Job, S, T> Rank<J, S, T> {
+impl<J: Job, S, T> RankState<J, S, T> {
     /// Takes up all requests and answers each of them. Says whether there was one.
     pub(crate) fn serve<P: Post<Seat = S>>(&mut self, post: &mut P) -> bool
         requires seat { P.seats post.old self.old.seat }

@@ -12,7 +12,7 @@ ghost use Rattle.circle_run.specs.Private.Steps.{Follows};
 ghost use Rattle.circle_run.specs.declared.steps.Did.TheVariants.{Handled as DidHandle, Acted as DidAct, Waited as DidWait};
 
 use crate::jobs::Job;
-use crate::ranks::Rank;
+use crate::ranks::RankState;
 use post_board::{Answer, Post, Ring};
 use rank_queue::victim;
 use ring_core::{Colour, Event};
@@ -28,7 +28,7 @@ pub(crate) enum Did {
     Waited,
 }
 
-impl<J: Job, S, T> Rank<J, S, T> {
+impl<J: Job, S, T> RankState<J, S, T> {
     /// Reads the ring.
     pub(crate) fn hear<P: Post<Seat = S>>(&mut self, post: &mut P) -> Ring
         requires seat { P.seats post.old self.old.seat }

@@ -15,7 +15,7 @@ ghost use Rattle.circle_run.specs.declared.ranks.Turn.TheVariants.{Went as TurnW
 use crate::books::Book;
 use crate::jobs::Job;
 use crate::outcomes::Share;
-use crate::ranks::{Rank, Turn};
+use crate::ranks::{Rank, RankState, Turn};
 use crate::settings::Options;
 use crate::steps::Did;
 use post_board::{Post, Ring};
@@ -50,7 +50,7 @@ impl<J: Job, S, T> Rank<J, S, T> {
             sums: Vec::new(alloc),
             lost: false,
         };
-        Rank {
+        let state = RankState {
             job,
             seat,
             sums_seat,
@@ -65,56 +65,36 @@ impl<J: Job, S, T> Rank<J, S, T> {
             book,
             fresh: Batch::make(alloc),
             alloc,
-        }
+        };
+        Rank { state }
     }
 
     /// What it did so far, in order, where the options have a trace.
     pub fn events(&self) -> &[Event]
         ensures { result.now ≡ self.now.book.events.items }
     {
-        &self.book.events
+        &self.state.book.events
     }
 
     /// Its number.
     pub fn number(&self) -> u32
         ensures { result ≡ self.now.me }
     {
-        self.me
+        self.state.me
     }
 
     /// Whether it found no memory at some time.
     pub fn is_lost(&self) -> bool
         ensures { result ≡ self.now.book.lost }
     {
-        self.book.lost
+        self.state.book.lost
     }
 
     /// How many strings it handled, gave and took so far.
     pub fn share(&self) -> Share
         ensures { result ≡ self.now.book.share }
     {
-        self.book.share
-    }
-
-    /// What the rank does at the board in a turn before its end.
-    fn work<P: Post<Seat = S>>(&mut self, post: &mut P) -> Did
-        requires seat { P.seats post.old self.old.seat }
-        requires knows { Knows P.shows self.old }
-        requires none { ServesNone P.shows self.old }
-        requires live { self.old.ended ≡ false }
-        ensures came { Came J.log J.plain P.shows P.tells P.seats (Works J.heard P.shows P.tells result self.old post.old self.new) self.old post.old self.new post.new }
-        ensures waits { result ≡ DidWait → Waits self.old.me (P.tells post.new) }
-        ensures handled { result ≡ DidHandle → self.new.book.lost ≡ false → length (J.log self.new.job) ≡ length (J.log self.old.job) + 1 }
-        ensures other { result ≢ DidHandle → J.log self.new.job ≡ J.log self.old.job }
-    {
-        let ring = self.hear(post);
-        if let Ring::Over = ring {
-            return Did::Acted;
-        }
-        let some = self.serve(post);
-        settle(&mut self.queue, &self.book, self.alloc);
-        let did = self.go_on(post, ring);
-        in_all(some, did)
+        self.state.book.share
     }
 
     /// One turn.
@@ -138,13 +118,36 @@ impl<J: Job, S, T> Rank<J, S, T> {
         ensures sums { self.old.ended ≡ false → (IsLeaf (Q.shows self.old.sums_seat) → length (J.log self.old.job) < length (J.log self.new.job)) → IfSome (Q.tells sums.old) (AddsUp (Q.shows self.new.sums_seat)) }
         ensures over { self.old.ended ≡ true → (result ≢ TurnWent) × (self.new.ended ≡ true) × (post.new ≡ post.old) }
     {
-        if self.ended {
-            return self.finish(sums);
+        if self.state.ended {
+            return self.state.finish(sums);
         }
-        let did = self.work(post);
-        self.tally(sums, did);
-        settle(&mut self.queue, &self.book, self.alloc);
+        let did = self.state.work(post);
+        self.state.tally(sums, did);
+        settle(&mut self.state.queue, &self.state.book, self.state.alloc);
         as_turn(did)
+    }
+}
+
+impl<J: Job, S, T> RankState<J, S, T> {
+    /// What the rank does at the board in a turn before its end.
+    fn work<P: Post<Seat = S>>(&mut self, post: &mut P) -> Did
+        requires seat { P.seats post.old self.old.seat }
+        requires knows { Knows P.shows self.old }
+        requires none { ServesNone P.shows self.old }
+        requires live { self.old.ended ≡ false }
+        ensures came { Came J.log J.plain P.shows P.tells P.seats (Works J.heard P.shows P.tells result self.old post.old self.new) self.old post.old self.new post.new }
+        ensures waits { result ≡ DidWait → Waits self.old.me (P.tells post.new) }
+        ensures handled { result ≡ DidHandle → self.new.book.lost ≡ false → length (J.log self.new.job) ≡ length (J.log self.old.job) + 1 }
+        ensures other { result ≢ DidHandle → J.log self.new.job ≡ J.log self.old.job }
+    {
+        let ring = self.hear(post);
+        if let Ring::Over = ring {
+            return Did::Acted;
+        }
+        let some = self.serve(post);
+        settle(&mut self.queue, &self.book, self.alloc);
+        let did = self.go_on(post, ring);
+        in_all(some, did)
     }
 
     /// Counts a string that was handled, and shows what this rank and those below it counted.

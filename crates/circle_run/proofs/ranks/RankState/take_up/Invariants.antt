@@ -1,5 +1,5 @@
 use Rattle.circle_run.specs.Private.Services.{Taken, unserved}
-use Rattle.circle_run.proofs.ranks.Rank.take_up.Given as goal
+use Rattle.circle_run.proofs.ranks.RankState.take_up.Given as goal
 
 abbrev pub invariant-loop-to : goal.invariant-loop-to
 invariant-loop-to g l = Taken g.J.Job.log g.P.Post.shows g.P.Post.tells g.P.Post.seats l.initial.self l.initial.post l.self l.post l.asks l.count

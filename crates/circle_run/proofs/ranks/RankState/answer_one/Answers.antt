@@ -8,7 +8,7 @@ use Rattle.circle_run.specs.declared.books.Book.{Book}
 use Rattle.circle_run.proofs.Stepped.{tells_as}
 use Rattle.circle_run.proofs.Asked.{awaits_given, awaits_refused}
 use Rattle.circle_run.proofs.Answering.{answer_gives, writes_after, knows_gave, knows_refused}
-use Rattle.circle_run.proofs.ranks.Rank.answer_one.Goals as goal
+use Rattle.circle_run.proofs.ranks.RankState.answer_one.Goals as goal
 
 pub returns-in-Some : goal.returns-in-Some
 returns-in-Some g c =

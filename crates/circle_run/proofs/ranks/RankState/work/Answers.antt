@@ -5,7 +5,7 @@ use Rattle.circle_run.specs.Private.Steps.{Works}
 use Rattle.circle_run.specs.declared.steps.Did.{Did}
 use Rattle.circle_run.proofs.Stepped.{waited_alone, handled_still, handled_before}
 use Rattle.circle_run.proofs.Choosing.{came_worked}
-use Rattle.circle_run.proofs.ranks.Rank.work.Goals as goal
+use Rattle.circle_run.proofs.ranks.RankState.work.Goals as goal
 
 pub returns : goal.returns
 returns g c =

@@ -7,7 +7,7 @@ use Rattle.circle_run.specs.Choices.{to_look}
 use Rattle.circle_run.specs.Private.Steps.{Follows}
 use Rattle.circle_run.specs.declared.steps.Did.TheVariants.{Acted as DidAct}
 use Rattle.circle_run.proofs.Stepped.{tells_as, went_did, victim_is, waiting_told}
-use Rattle.circle_run.proofs.ranks.Rank.look.Goals as goal
+use Rattle.circle_run.proofs.ranks.RankState.look.Goals as goal
 
 pub returns-in-Pending-clause-waits : goal.returns-in-Pending-clause-waits
 returns-in-Pending-clause-waits g c = λ e. waiting_told (g.P.Post.shows c.args.self.now.seat).number c.args.self.now.me (victim_of (g.P.Post.shows c.args.self.now.seat)) (g.P.Post.tells c.args.post.now) (g.P.Post.tells c.answer.new.self) c.requires.knows.number c.in-Pending.ensures.told

@@ -1,7 +1,7 @@
 use Rattle.std.proofs.Common.{ap, ◌∙◌, arith, take}
 use Rattle.circle_run.proofs.Asked.{all_asked}
 use Rattle.circle_run.proofs.Requests.{taken_room, taken_less, taken_more, taken_none}
-use Rattle.circle_run.proofs.ranks.Rank.take_up.Goals as goal
+use Rattle.circle_run.proofs.ranks.RankState.take_up.Goals as goal
 
 pub loop-to-init : goal.loop-to-init
 loop-to-init g c = taken_none g.J.Job.log g.P.Post.shows g.P.Post.tells g.P.Post.seats c.args.self.now c.args.post.now c.args.asks.now c.requires.seat c.requires.knows c.requires.none c.told-asks

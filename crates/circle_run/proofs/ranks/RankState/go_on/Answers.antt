@@ -4,7 +4,7 @@ use Rattle.circle_run.specs.Private.Steps.{Follows}
 use Rattle.circle_run.specs.declared.steps.Did.TheVariants.{Handled as DidHandle}
 use Rattle.circle_run.proofs.Stepped.{came_handled}
 use Rattle.circle_run.proofs.Choosing.{follows_handled}
-use Rattle.circle_run.proofs.ranks.Rank.go_on.Goals as goal
+use Rattle.circle_run.proofs.ranks.RankState.go_on.Goals as goal
 
 pub returns-then-len-gt0-clause-came : goal.returns-then-len-gt0-clause-came
 returns-then-len-gt0-clause-came g c =

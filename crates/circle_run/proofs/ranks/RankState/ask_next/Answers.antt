@@ -5,7 +5,7 @@ use Rattle.circle_run.specs.Choices.{to_ask}
 use Rattle.circle_run.specs.Private.Steps.{Follows}
 use Rattle.circle_run.specs.declared.steps.Did.TheVariants.{Acted as DidAct}
 use Rattle.circle_run.proofs.Stepped.{tells_as, went_did}
-use Rattle.circle_run.proofs.ranks.Rank.ask_next.Goals as goal
+use Rattle.circle_run.proofs.ranks.RankState.ask_next.Goals as goal
 
 pub returns-clause-came : goal.returns-clause-came
 returns-clause-came g c = record {

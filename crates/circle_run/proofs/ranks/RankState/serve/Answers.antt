@@ -4,7 +4,7 @@ use Rattle.circle_run.specs.Moves.{amounts}
 use Rattle.circle_run.specs.Private.Services.{Fits}
 use Rattle.circle_run.proofs.Asked.{nobody, none_left}
 use Rattle.circle_run.proofs.Services.{serving_none, serving_more, came_served}
-use Rattle.circle_run.proofs.ranks.Rank.serve.Goals as goal
+use Rattle.circle_run.proofs.ranks.RankState.serve.Goals as goal
 
 pub loop-k-init : goal.loop-k-init
 loop-k-init g c =

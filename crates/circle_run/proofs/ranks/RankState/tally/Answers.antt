@@ -4,7 +4,7 @@ use Rattle.circle_run.specs.Private.Steps.{tallied}
 use Rattle.circle_run.specs.declared.steps.Did.{Did}
 use Rattle.circle_run.proofs.Adding.{adds_up_raised}
 use Rattle.circle_run.proofs.Tallied.{tallied_more, none_tallied}
-use Rattle.circle_run.proofs.ranks.Rank.tally.Goals as goal
+use Rattle.circle_run.proofs.ranks.RankState.tally.Goals as goal
 
 pub returns-in-Handled-clause-ready : goal.returns-in-Handled-clause-ready
 returns-in-Handled-clause-ready g c = λ strings old.
