@@ -74,12 +74,14 @@ fn all_is_put_in_pieces_up_to_a_fault(rt: HostRuntime) {
     }
 }
 
-// A listing of these names, with the two numbers 2 and 3.
-fn listing_of(rt: &(impl Abort + AllocGlobal), names: &[&str]) -> Listing {
+// A listing of these names, with the two numbers 2 and 3. The first of them is handed over, the others are lent.
+fn listing_of(rt: &(impl Abort + AllocGlobal), first: &str, names: &[&str]) -> Listing {
     let mut listing = Listing::make(rt.alloc());
+    let first = String::from_str(rt.alloc(), first).expect(rt, "room");
+    listing.add(first).expect(rt, "room");
+    listing.reserve(names.len(), 8).expect(rt, "room");
     for name in names {
-        let name = String::from_str(rt.alloc(), name).expect(rt, "room");
-        listing.add(name).expect(rt, "room");
+        listing.add_name(name).expect(rt, "room");
     }
     listing.set_rest(2, 3);
     listing
@@ -87,10 +89,16 @@ fn listing_of(rt: &(impl Abort + AllocGlobal), names: &[&str]) -> Listing {
 
 #[test]
 fn a_listing_gives_its_names_back(rt: HostRuntime) {
-    let listing = listing_of(&rt, &["a", "b-x"]);
+    let names = ["b-x", "", "\u{e9}\u{20ac}", "z"];
+    let listing = listing_of(&rt, "a", &names);
     same(&rt, &(listing.unnamed(), listing.far()), &(2, 3));
-    same_number(&rt, listing.len() as u64, 2);
-    same(&rt, &listing.name(1), &"b-x");
+    same_number(&rt, listing.len() as u64, 5);
+    same(&rt, &listing.name(0), &"a");
+    for (k, name) in names.iter().enumerate() {
+        if k + 1 < listing.len() {
+            same(&rt, &listing.name(k + 1), name);
+        }
+    }
 }
 
 /// A reader of one file that others change: it tells some size of it, gives two bytes at a time, fails at one of its calls, and

@@ -1,6 +1,7 @@
 //! Files of which no part is lent, as the tests write and read them.
-ghost use Rattle.std.specs.Prelude.{◌≡◌};
+ghost use Rattle.std.specs.Prelude.{◌≡◌, []};
 ghost use Rattle.outside.specs.Tree.{is_root};
+ghost use Rattle.outside.specs.Writes.{all_but};
 
 use crate::shared::parsed;
 use files_mem::{Blind, Call, MemGround, MemReader, PutError};
@@ -58,6 +59,20 @@ impl Whole<MemGround> {
 }
 
 impl Whole<MemGround> {
+    /// These files, which may be written at each path but `/`.
+    pub fn of(files: MemGround) -> Whole<MemGround>
+        requires { files.area ≡ all_but [] }
+    {
+        Whole { files }
+    }
+
+    /// The files inside.
+    pub fn into_files(self) -> MemGround
+        ensures { result.area ≡ all_but [] }
+    {
+        self.files
+    }
+
     /// The same files, but they tell no tree.
     pub fn blind(self) -> Whole<Blind> {
         let files = Blind::make(self.files);
@@ -137,7 +152,8 @@ impl<G: Ground> Whole<G> {
     }
 }
 
-fn is_root(path: &Path) -> bool
+/// Whether it is `/`.
+pub fn is_root(path: &Path) -> bool
     ensures { result ≡ is_root path.now }
 {
     path.text() == "/"
