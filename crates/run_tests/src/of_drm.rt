@@ -96,50 +96,217 @@ removed 4 of 5 failed 2
     do_as_wanted(&rt, alloc, &mut files, &wants)
 }
 
-// One run over the trees where a call at a path fails, what is left then, and how many faults the files count.
-fn do_with_plan<T: Abort + Threads + Wait + Sync>(
+// One thread does all, or four share the ranks; the work of a level goes to as many actors, each over a part of its own.
+const SHARES: [[&str; 4]; 3] = [
+    ["--ranks", "1", "--hosts", "1"],
+    ["--ranks", "4", "--hosts", "4"],
+    ["--ranks", "8", "--hosts", "4"],
+];
+
+// The calls that are to fail in a run of drm over `/t`; the lines, the last line and the notes that are wanted, and how many faults
+// the files then count; and what dwalk then tells of `/t`.
+type Planned<'p> = (
+    &'p [(Call, &'p str)],
+    (&'p str, &'p str, &'p str, u64),
+    (Status, &'p str, &'p str),
+);
+
+const PLANS: [Planned; 9] = [
+    (
+        &[(Call::RemoveFile, "/t/a")],
+        (
+            LINES_T,
+            "removed 3 of 5 failed 2\n",
+            "not empty /t\nfailed remove /t/a\n",
+            1,
+        ),
+        (
+            Status::Done,
+            "d            0 /t\nf            5 /t/a\nitems 2 dirs 1 files 1 links 0 others 0 bytes 5 failed 0\n",
+            "",
+        ),
+    ),
+    (
+        &[(Call::RemoveDir, "/t/b")],
+        (
+            LINES_T,
+            "removed 3 of 5 failed 2\n",
+            "not empty /t\nfailed remove /t/b\n",
+            1,
+        ),
+        (
+            Status::Done,
+            "d            0 /t\nd            0 /t/b\nitems 2 dirs 2 files 0 links 0 others 0 bytes 0 failed 0\n",
+            "",
+        ),
+    ),
+    (
+        &[(Call::RemoveFile, "/t/a"), (Call::RemoveFile, "/t/b-x")],
+        (
+            LINES_T,
+            "removed 2 of 5 failed 3\n",
+            "not empty /t\nfailed remove /t/a\nfailed remove /t/b-x\n",
+            2,
+        ),
+        (
+            Status::Done,
+            "d            0 /t\nf            5 /t/a\nf            1 /t/b-x\nitems 3 dirs 1 files 2 links 0 others 0 bytes 6 failed 0\n",
+            "",
+        ),
+    ),
+    (
+        &[(Call::RemoveFile, "/t/b/c"), (Call::RemoveFile, "/t/a")],
+        (
+            LINES_T,
+            "removed 1 of 5 failed 4\n",
+            "not empty /t\nfailed remove /t/a\nnot empty /t/b\nfailed remove /t/b/c\n",
+            2,
+        ),
+        (
+            Status::Done,
+            "d            0 /t\nf            5 /t/a\nd            0 /t/b\nf            0 /t/b/c\nitems 4 dirs 2 files 2 links 0 others 0 bytes 5 failed 0\n",
+            "",
+        ),
+    ),
+    (
+        &[(Call::RemoveDir, "/t")],
+        (
+            LINES_T,
+            "removed 4 of 5 failed 1\n",
+            "failed remove /t\n",
+            1,
+        ),
+        (
+            Status::Done,
+            "d            0 /t\nitems 1 dirs 1 files 0 links 0 others 0 bytes 0 failed 0\n",
+            "",
+        ),
+    ),
+    (
+        &[(Call::List, "/t/b")],
+        (
+            "d            0 /t\nf            5 /t/a\nd            0 /t/b\nf            1 /t/b-x\n",
+            "removed 2 of 4 failed 3\n",
+            "not empty /t\nfailed list /t/b\nnot empty /t/b\n",
+            1,
+        ),
+        (
+            Status::Named,
+            "d            0 /t\nd            0 /t/b\nitems 2 dirs 2 files 0 links 0 others 0 bytes 0 failed 1\n",
+            "failed list /t/b\n",
+        ),
+    ),
+    (
+        &[(Call::Stat, "/t/b")],
+        (
+            "d            0 /t\nf            5 /t/a\nf            1 /t/b-x\n",
+            "removed 2 of 3 failed 2\n",
+            "not empty /t\nfailed stat /t/b\n",
+            1,
+        ),
+        (
+            Status::Named,
+            "d            0 /t\nitems 1 dirs 1 files 0 links 0 others 0 bytes 0 failed 1\n",
+            "failed stat /t/b\n",
+        ),
+    ),
+    (
+        &[(Call::Name, "/t/b")],
+        (LINES_T, "removed 5 of 5 failed 1\n", "unnamed /t/b 1\n", 1),
+        (Status::Named, NOTHING, "gone /t\n"),
+    ),
+    (
+        &[(Call::Stat, "/t")],
+        ("", "removed 0 of 0 failed 1\n", "failed stat /t\n", 1),
+        (Status::Named, NOTHING, "failed stat /t\n"),
+    ),
+];
+
+// Whether a run of drm does as is planned, with these ranks and hosts.
+fn removes<T: Abort + Threads + Wait + Sync>(
     rt: &T,
     alloc: Global,
-    call: Call,
-    at: &str,
-    wants: &[Want],
-) -> Result<u64, Fail> {
+    shares: &[&str; 4],
+    planned: &Planned,
+) -> Result<(), Fail> {
+    let (calls, (lines, last, notes, faults), (left, text, after)) = *planned;
     let mut files = trees(alloc)?;
-    files.plan(call, &Path::parse(alloc, at)?)?;
-    do_as_wanted(rt, alloc, &mut files, wants)?;
-    Ok(files.faults())
+    for (call, at) in calls {
+        files.plan(*call, &Path::parse(alloc, at)?)?;
+    }
+    let out = joined(alloc, &[lines, last])?;
+    let words = ["drm", shares[0], shares[1], shares[2], shares[3], "/t"];
+    let want: [Want; 1] = [(&words, Status::Named, &out, notes)];
+    do_as_wanted(rt, alloc, &mut files, &want)?;
+    assert_eq!(rt; files.faults(), faults, "{last}");
+    let want: [Want; 1] = [(&["dwalk", "/t"], left, text, after)];
+    do_as_wanted(rt, alloc, &mut files, &want)
 }
 
 #[test]
 fn names_what_could_not_be_removed(rt: HostRuntime) -> Result<(), Fail> {
-    let alloc = rt.alloc();
-    let told = joined(alloc, &[LINES_T, "removed 3 of 5 failed 2\n"])?;
-    let a =
-        "d            0 /t\nf            5 /t/a\nitems 2 dirs 1 files 1 links 0 others 0 bytes 5 failed 0\n";
-    let b =
-        "d            0 /t\nd            0 /t/b\nitems 2 dirs 2 files 0 links 0 others 0 bytes 0 failed 0\n";
-    for (call, at, left, notes) in [
-        (
-            Call::RemoveFile,
-            "/t/a",
-            a,
-            "not empty /t\nfailed remove /t/a\n",
-        ),
-        (
-            Call::RemoveDir,
-            "/t/b",
-            b,
-            "not empty /t\nfailed remove /t/b\n",
-        ),
-    ] {
-        let shared: &[&str] = &["drm", "--ranks", "8", "--hosts", "4", "/t"];
-        for words in [&["drm", "/t"], shared] {
-            let wants: [Want; 2] = [
-                (words, Status::Named, &told, notes),
-                (&["dwalk", "/t"], Status::Done, left, ""),
-            ];
-            assert_eq!(rt; do_with_plan(&rt, alloc, call, at, &wants)?, 1);
+    for shares in &SHARES {
+        for planned in &PLANS {
+            removes(&rt, rt.alloc(), shares, planned)?;
         }
+    }
+    Ok(())
+}
+
+// So many files stand in a directory that several threads work on their level. Of the four parts each has one that can't be removed.
+const WIDE: [u32; 4] = [100, 201, 302, 503];
+
+fn wide_tree(alloc: Global) -> Result<WholeFiles, Fail> {
+    let mut files = WholeFiles::empty(alloc)?;
+    files.put_dir(&Path::parse(alloc, "/wide")?, 0, TIME)?;
+    for k in 100..700 {
+        let path = format!(in alloc; "/wide/f{k}")?;
+        files.put_file(&Path::parse(alloc, &path)?, b"", TIME)?;
+    }
+    for k in WIDE {
+        let path = format!(in alloc; "/wide/f{k}")?;
+        files.plan(Call::RemoveFile, &Path::parse(alloc, &path)?)?;
+    }
+    Ok(files)
+}
+
+// What drm is to print of it.
+fn wide_text(alloc: Global) -> Result<String, Fail> {
+    let mut text = String::new(alloc);
+    text.push_str("d            0 /wide\n")?;
+    for k in 100..700 {
+        text.push_str(&format!(in alloc; "f            0 /wide/f{k}\n")?)?;
+    }
+    text.push_str("removed 596 of 601 failed 5\n")?;
+    Ok(text)
+}
+
+#[test]
+fn each_part_of_a_wide_level_meets_what_is_planned(rt: HostRuntime) -> Result<(), Fail> {
+    let alloc = rt.alloc();
+    let out = wide_text(alloc)?;
+    let notes = "not empty /wide
+failed remove /wide/f100
+failed remove /wide/f201
+failed remove /wide/f302
+failed remove /wide/f503
+";
+    let left = "d            0 /wide
+f            0 /wide/f100
+f            0 /wide/f201
+f            0 /wide/f302
+f            0 /wide/f503
+items 5 dirs 1 files 4 links 0 others 0 bytes 0 failed 0
+";
+    for shares in &SHARES {
+        let mut files = wide_tree(alloc)?;
+        let words = ["drm", shares[0], shares[1], shares[2], shares[3], "/wide"];
+        let wants: [Want; 2] = [
+            (&words, Status::Named, &out, notes),
+            (&["dwalk", "/wide"], Status::Done, left, ""),
+        ];
+        do_as_wanted(&rt, alloc, &mut files, &wants)?;
+        assert_eq!(rt; files.faults(), 4);
     }
     Ok(())
 }
