@@ -29,14 +29,24 @@ SHIM = r"""
 #include <stdlib.h>
 #include <sys/syscall.h>
 #include <unistd.h>
-static atomic_long asked;
+static atomic_long asked, written;
 static long refused;
+static int is_between;
 static void *(*their_malloc)(size_t), *(*their_realloc)(void *, size_t), *(*their_aligned)(size_t, size_t);
-static int is_refused(void) { return refused && atomic_fetch_add(&asked, 1) + 1 == refused; }
+static int is_refused(void) {
+    if (is_between && atomic_load(&written) != 1) return 0;
+    return refused && atomic_fetch_add(&asked, 1) + 1 == refused;
+}
 __attribute__((constructor)) static void begin(void) {
     their_realloc = dlsym(RTLD_NEXT, "realloc");
     their_aligned = dlsym(RTLD_NEXT, "aligned_alloc");
     refused = atol(getenv("REFUSED"));
+    is_between = getenv("BETWEEN") != 0;
+}
+/* Where it is asked for, the allocations count that come between the first and the second write to standard output. */
+ssize_t write(int file, const void *bytes, size_t size) {
+    if (file == 1) atomic_fetch_add(&written, 1);
+    return syscall(SYS_write, file, bytes, size);
 }
 /* The program ends by this call. Where the allocations are counted, it tells how many there were. */
 void _exit(int status) {
