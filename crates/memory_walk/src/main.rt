@@ -1,4 +1,5 @@
-//! A program to measure with: `memory_walk N` walks a tree in memory of one root, N directories and 999 files in each.
+//! A program to measure with: `memory_walk N [WORD ..]` makes a tree in memory of one root, N directories and 999 files in each, and
+//! runs these words over it: `dwalk /` where there are none.
 //!
 //! Standard output has how many nodes the tree has, how the run ended and how many bytes it printed; standard error has the time
 //! that the tree took and the one that the run took. N is 1 where no number is given.
@@ -28,8 +29,12 @@ fn main(rt: HostRuntime) -> io::Result<()> {
     };
     eprintln!(rt; "made in {:?}", start.elapsed(&rt)?)?;
     let mut words = Vec::new(alloc);
-    for word in ["dwalk", "/"] {
-        words.push(String::from_str(alloc, word)?)?;
+    for word in env::args(&rt)?.skip(2) {
+        words.push(word)?;
+    }
+    if words.is_empty() {
+        words.push(String::from_str(alloc, "dwalk")?)?;
+        words.push(String::from_str(alloc, "/")?)?;
     }
     let (Ok(mut out), Ok(mut notes)) = (
         MemSink::limited(alloc, 1_000_000_000),
