@@ -312,15 +312,18 @@ items 5 dirs 1 files 4 links 0 others 0 bytes 0 failed 0
 }
 
 // The nodes of a small tree in path order: each with its letter and the place of its parent.
-const NODES: [(&str, char, usize); 8] = [
+const NODES: [(&str, char, usize); 11] = [
     ("/s", 'd', 0),
     ("/s/a", 'f', 0),
     ("/s/b", 'd', 0),
     ("/s/b/c", 'd', 2),
     ("/s/b/c/d", 'f', 3),
+    ("/s/b/c/g", 'l', 3),
     ("/s/b/e", 'l', 2),
     ("/s/b-x", 'o', 0),
     ("/s/f", 'd', 0),
+    ("/s/f/h", 'f', 8),
+    ("/s/f/i", 'd', 8),
 ];
 
 // The tree in which those nodes have a time whose bits are set: they are what a test of time chooses.
@@ -342,9 +345,9 @@ fn small_tree(alloc: Global, chosen: u32) -> Result<WholeFiles, Fail> {
 }
 
 // Which nodes are held: something stays under them. A node stays that is held or not chosen.
-fn held_by(chosen: u32) -> [bool; 8] {
-    let mut held = [false; 8];
-    for k in (0..8).rev() {
+fn held_by(chosen: u32) -> [bool; 11] {
+    let mut held = [false; 11];
+    for k in (0..11).rev() {
         let stays = held[k] || (chosen >> k) % 2 == 0;
         if stays && k > 0 {
             if let Some(parent) = held.get_mut(NODES[k].2) {
@@ -362,7 +365,7 @@ fn wanted_of(alloc: Global, chosen: u32) -> Result<(String, String), Fail> {
     let mut notes = String::new(alloc);
     let mut all = 0u32;
     let mut stay = 0u32;
-    for k in 0..8 {
+    for k in 0..11 {
         if (chosen >> k) % 2 == 1 {
             out.push_str(&format!(in alloc; "{}            0 {}\n", NODES[k].1, NODES[k].0)?)?;
             all = all.saturating_add(1);
@@ -381,7 +384,7 @@ fn wanted_of(alloc: Global, chosen: u32) -> Result<(String, String), Fail> {
 fn is_left(alloc: Global, listing: &[u8], chosen: u32) -> Result<bool, Fail> {
     let held = held_by(chosen);
     let mut want = String::new(alloc);
-    for k in 0..8 {
+    for k in 0..11 {
         if held[k] || (chosen >> k) % 2 == 0 {
             want.push_str(&format!(in alloc; "{}            0 {}\n", NODES[k].1, NODES[k].0)?)?;
         }
@@ -397,7 +400,7 @@ fn is_left(alloc: Global, listing: &[u8], chosen: u32) -> Result<bool, Fail> {
 #[test]
 fn each_choice_of_a_small_tree_goes_as_far_as_it_can(rt: HostRuntime) -> Result<(), Fail> {
     let alloc = rt.alloc();
-    for chosen in 0..256 {
+    for chosen in 0..2048 {
         let mut files = small_tree(alloc, chosen)?;
         let (out, notes) = wanted_of(alloc, chosen)?;
         let words = ["drm", "--ranks", "3", "--mtime", "2", "/s"];
