@@ -1,7 +1,9 @@
 //! Paths.
-ghost use Rattle.std.specs.Prelude.{◌≡◌, ◌≢◌, ◌==◌, ◌+◌, ◌<◌, ◌≤◌, ◌⊎◌, if◌then◌else◌, ◌∷◌, length, drop, IsTrue, IfOk, IfErr, OnOk, IsErrOf, Some, None};
+ghost use Rattle.std.specs.Prelude.{◌≡◌, ◌≢◌, ◌==◌, ◌+◌, ◌++◌, ◌<◌, ◌≤◌, ◌⊎◌, if◌then◌else◌, ◌∷◌, length, take, drop, true, OnErr, IsTrue, IfOk, IfErr, OnOk, IsErrOf, Some, None};
 ghost use Rattle.std.specs.List.{slice_split};
 ghost use Rattle.std.specs.String.{string_bytes};
+ghost use Rattle.std.specs.Str.{is_utf8};
+ghost use Rattle.std.specs.Vec.{vec_len, vec_capacity};
 ghost use Rattle.path_text.specs.Path.{is_slash, first_fault, refusal, is_name, joined, parent_of, base_of, level_of};
 ghost use Rattle.path_text.specs.Order.{path_cmp, is_under, is_within};
 ghost use Rattle.path_text.specs.Graft.{below_of, grafted};
@@ -13,6 +15,7 @@ use crate::ordering::compare;
 use std::alloc::{AllocError, Global};
 use std::cmp::Ordering;
 use std::marker::Model;
+use std::mem;
 
 /// The most bytes that a path has.
 pub const MAX_PATH: usize = 4095;
@@ -169,6 +172,17 @@ impl Path {
         top.extended(names(rest.text.as_str()))
     }
 
+    /// Becomes its first `shared` bytes with `rest` behind them, which are to make a path. Its text is rewritten in place. A
+    /// refusal leaves the path.
+    pub fn rewrite(&mut self, shared: usize, rest: &[u8]) -> Result<(), OutOfMemory>
+        requires path { refusal (take shared self.old ++ rest.now) ≡ None }
+        requires text { is_utf8 (take shared self.old ++ rest.now) ≡ true }
+        ensures ok { OnOk result (self.new ≡ take shared self.old ++ rest.now) }
+        ensures err { OnErr result (self.new ≡ self.old) }
+    {
+        rewrite_text(&mut self.text, shared, rest)
+    }
+
     // The path that a text is, which is kept and not copied.
     pub(crate) fn of_text(text: String) -> Path
         requires { refusal (string_bytes text) ≡ None }
@@ -176,6 +190,51 @@ impl Path {
     {
         Path { text }
     }
+}
+
+// A text becomes its first bytes with others behind them.
+fn rewrite_text(text: &mut String, shared: usize, rest: &[u8]) -> Result<(), OutOfMemory>
+    requires { is_utf8 (take shared (string_bytes text.old) ++ rest.now) ≡ true }
+    ensures ok { OnOk result (string_bytes text.new ≡ take shared (string_bytes text.old) ++ rest.now) }
+    ensures err { OnErr result (string_bytes text.new ≡ string_bytes text.old) }
+{
+    let mut bytes = bytes_out(text);
+    let put = rewrite_bytes(&mut bytes, shared, rest);
+    *text = unsafe { String::from_utf8_unchecked(bytes) };
+    put
+}
+
+// The bytes of a text, which is left empty.
+fn bytes_out(text: &mut String) -> Vec<u8>
+    ensures bytes { result.items ≡ string_bytes text.old }
+    ensures utf8 { is_utf8 result.items ≡ true }
+{
+    let empty = String::new(*text.allocator());
+    mem::replace(text, empty).into_bytes()
+}
+
+// Bytes become their first ones with others behind them. A refusal leaves them.
+fn rewrite_bytes(bytes: &mut Vec<u8>, shared: usize, rest: &[u8]) -> Result<(), OutOfMemory>
+    requires whole { is_utf8 bytes.old.items ≡ true }
+    requires made { is_utf8 (take shared bytes.old.items ++ rest.now) ≡ true }
+    ensures utf8 { is_utf8 bytes.new.items ≡ true }
+    ensures ok { OnOk result (bytes.new.items ≡ take shared bytes.old.items ++ rest.now) }
+    ensures err { OnErr result (bytes.new.items ≡ bytes.old.items) }
+{
+    bytes.reserve(rest.len())?;
+    bytes.truncate(shared);
+    extend_reserved(bytes, rest);
+    Ok(())
+}
+
+// Adds bytes for which there is room.
+fn extend_reserved(bytes: &mut Vec<u8>, rest: &[u8])
+    requires { vec_len bytes.old + length rest.now ≤ vec_capacity bytes.old }
+    ensures { bytes.new.items ≡ bytes.old.items ++ rest.now }
+{
+    let Ok(()) = bytes.extend_from_slice(rest) else {
+        unreachable!()
+    };
 }
 
 // The names of a path other than `/`.
