@@ -19,7 +19,8 @@ pub answer_gives : (to : ℕ) (batch : Strings) → 0 < length batch → answer_
 answer_gives to batch some = ap (λ (b : Bool). if b then refuse to else give to batch) (ne_eqb (length batch) 0 (λ e. absurd (omega (arith, e, some))))
 
 -- a book that may have been lost before the event
-pub writes_after : (trace : Bool) (es : List Event) (b b1 b2 : Book) → b1 ≡ record b { lost = b1.lost } → (b.lost ≡ true → b1.lost ≡ true) → Writes trace es b1 b2 → Writes trace es b b2
+pub writes_after : (trace : Bool) (es : List Event) (b b1 b2 : Book) → b1 ≡ record b { lost = b1.lost } → (b.lost ≡ true → b1.lost ≡ true)
+    → Writes trace es b1 b2 → Writes trace es b b2
 writes_after trace es b b1 b2 same lost w = record {
   sums = w.sums ∙ ap (λ (x : Book). x.sums) same;
   lost = λ l. w.lost (lost l);
@@ -29,12 +30,14 @@ writes_after trace es b b1 b2 same lost w = record {
 }
 
 module _ {J S T : Type 0} (shows : S → Shown) where
-  pub knows_gave : (r : Rank J S T) (seat : S) (queue : Strings) (c : Colour) (book : Book) (to : ℕ) (batch : Strings) → Knows shows r → r.ended ≡ false → shows seat ≡ given (shows r.seat) to batch → c ≡ (if nat_lt r.me to then Black else r.colour)
+  pub knows_gave : (r : Rank J S T) (seat : S) (queue : Strings) (c : Colour) (book : Book) (to : ℕ) (batch : Strings) → Knows shows r
+      → r.ended ≡ false → shows seat ≡ given (shows r.seat) to batch → c ≡ (if nat_lt r.me to then Black else r.colour)
       → r.queue ≡ batch ++ queue → 0 < length queue → Knows shows (record r { seat = seat; queue = queue; colour = c; book = book })
   knows_gave r seat queue c book to batch k live shown shade oldest some = record {
     number = ap (λ (s : Shown). s.number) shown ∙ k.number;
     ranks = ap (λ (s : Shown). s.n) shown ∙ k.ranks;
-    colour = ap (λ (s : Shown). s.colour) shown ∙ ap (λ (n : ℕ). if nat_lt n to then Black else (shows r.seat).colour) k.number ∙ ap (λ (z : Colour). if nat_lt r.me to then Black else z) k.colour ∙ sym shade;
+    colour = ap (λ (s : Shown). s.colour) shown ∙ ap (λ (n : ℕ). if nat_lt n to then Black else (shows r.seat).colour) k.number
+        ∙ ap (λ (z : Colour). if nat_lt r.me to then Black else z) k.colour ∙ sym shade;
     tried = ap (λ (s : Shown). s.tried) shown ∙ k.tried;
     asked = ap (λ (s : Shown). s.asked) shown ∙ k.asked;
     ended = ap (λ (s : Shown). s.ended) shown ∙ k.ended;
@@ -43,12 +46,14 @@ module _ {J S T : Type 0} (shows : S → Shown) where
     few = k.few;
     asks = k.asks;
     wide = ap (λ (s : Shown). length s.serves) shown ∙ length-set (shows r.seat).serves to false ∙ k.wide;
-    idle = λ e. absurd (let none : length r.queue ≡ 0 = ap length (k.idle (sym (ap (λ (s : Shown). s.busy) shown) ∙ e)) in let all : length r.queue ≡ length batch + length queue = ap length oldest ∙ length-append batch queue in omega arith);
+    idle = λ e. absurd (let none : length r.queue ≡ 0 = ap length (k.idle (sym (ap (λ (s : Shown). s.busy) shown) ∙ e)) in
+        let all : length r.queue ≡ length batch + length queue = ap length oldest ∙ length-append batch queue in omega arith);
     over = λ e. absurd (true_not_false r.ended e live);
     empty = k.empty;
   }
 
-  pub knows_refused : (r : Rank J S T) (seat : S) (queue : Strings) (book : Book) (to : ℕ) → Knows shows r → shows seat ≡ served (shows r.seat) to → queue ≡ r.queue → Knows shows (record r { seat = seat; queue = queue; book = book })
+  pub knows_refused : (r : Rank J S T) (seat : S) (queue : Strings) (book : Book) (to : ℕ) → Knows shows r
+      → shows seat ≡ served (shows r.seat) to → queue ≡ r.queue → Knows shows (record r { seat = seat; queue = queue; book = book })
   knows_refused r seat queue book to k shown same = record {
     number = ap (λ (s : Shown). s.number) shown ∙ k.number;
     ranks = ap (λ (s : Shown). s.n) shown ∙ k.ranks;

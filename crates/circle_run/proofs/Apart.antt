@@ -1,5 +1,6 @@
 -- What a rank's own moves do to the strings of its queue, its log and its seat's batches, whatever a string weighs.
-use Rattle.std.proofs.Common.{◌≡◌, ℕ, zero, suc, ◌+◌, ◌<◌, Bool, cond, List, [], ◌∷◌, ◌++◌, map, length, length-set, replicate, get_or, refl, sym, subst, ap, ◌∙◌, arith, Option, Some, None, All, eq-eqb, ne_eqb, append-nil, append_assoc}
+use Rattle.std.proofs.Common.{◌≡◌, ℕ, zero, suc, ◌+◌, ◌<◌, Bool, cond, List, [], ◌∷◌, ◌++◌, map, length, length-set, replicate, get_or, refl, sym}
+use Rattle.std.proofs.Common.{subst, ap, ◌∙◌, arith, Option, Some, None, All, eq-eqb, ne_eqb, append-nil, append_assoc}
 use Rattle.std.specs.List.{sum_by, flat_map}
 use Rattle.std.proofs.lemmas.List.{nil_from_length, length-replicate}
 use Rattle.std.proofs.lemmas.List.Concat.{flat_map-append}
@@ -64,10 +65,19 @@ record Served (n : ℕ) (strings : Strings) (b : Batches) (after : Option Batche
 
 one_answer : (n : ℕ) (x : ℕ × Strings) (b : Batches) → x.0 < n → length b.given ≡ n → Served n x.1 b (batches_after (answer_of x) (Some b))
 one_answer n x b h l = dite (ℕ_discrete (length x.1) 0)
-    (λ e. subst (λ (d : Deed). Served n x.1 b (batches_after d (Some b))) (sym (ap (λ (b : Bool). cond b (refuse x.0) (give x.0 x.1)) (eq-eqb (length x.1) 0 e)))
+    (λ e. subst (λ (d : Deed). Served n x.1 b (batches_after d (Some b)))
+    (sym (ap (λ (b : Bool). cond b (refuse x.0) (give x.0 x.1)) (eq-eqb (length x.1) 0 e)))
     (record { b' = b; is = refl; given = l; taken = refl; weighs = λ w. omega (arith, ap (sum_by w) (nil_from_length x.1 e)) }))
-    (λ ne. subst (λ (d : Deed). Served n x.1 b (batches_after d (Some b))) (sym (ap (λ (b : Bool). cond b (refuse x.0) (give x.0 x.1)) (ne_eqb (length x.1) 0 ne)))
-    (record { b' = record b { given = more b.given x.0 x.1 }; is = refl; given = length-set b.given x.0 (get_or b.given x.0 [] ++ x.1 ∷ []) ∙ l; taken = refl; weighs = λ w. more_weighs w b.given x.0 x.1 (omega arith) }))
+    (λ ne. subst (λ (d : Deed). Served n x.1 b (batches_after d (Some b)))
+    (sym (ap (λ (b : Bool). cond b (refuse x.0) (give x.0 x.1)) (ne_eqb (length x.1) 0 ne)))
+    (record {
+      b' = record b { given = more b.given x.0 x.1 };
+      is = refl;
+      given = length-set b.given x.0 (get_or b.given x.0 [] ++ x.1 ∷ [])
+          ∙ l;
+      taken = refl;
+      weighs = λ w. more_weighs w b.given x.0 x.1 (omega arith);
+    }))
 
 all_answers : (n : ℕ) (answers : List (ℕ × Strings)) (b : Batches) → All (λ x. x.0 < n) answers → length b.given ≡ n
     → Served n (flat_map (λ x. x.1) answers) b (batches_after_all (map answer_of answers) (Some b))
@@ -99,7 +109,8 @@ keeps n dealt done m s s' b f idle e l q = record {
   weighs = λ w. omega (arith, f.weighs w, q w, ap (balance.handled w) l, ap (balance.pushed w) l);
   gave = λ w. omega (arith, f.gave w, more_of given_in done m w, ap (sum_by w) idle.given);
   took = λ w. omega (arith, f.took w, more_of taken_in done m w, ap (sum_by w) idle.taken);
-  logged = l ∙ f.logged ∙ sym (one_more handled_in done m ∙ ap (λ (xs : Log). flat_map handled_in done ++ xs) idle.handled ∙ append-nil (flat_map handled_in done));
+  logged = l ∙ f.logged ∙ sym
+      (one_more handled_in done m ∙ ap (λ (xs : Log). flat_map handled_in done ++ xs) idle.handled ∙ append-nil (flat_map handled_in done));
 }
 
 both_none : (q q' : Strings) → (q ≡ []) × (q' ≡ []) → (w : List ℕ → ℕ) → sum_by w q' ≡ sum_by w q
@@ -133,7 +144,16 @@ step o me dealt done (served answers) s s' does b f =
         kept = does.batches ∙ ap (batches_after_all (map answer_of answers)) f.kept ∙ g.is;
         given = g.given;
         taken = ap length g.taken ∙ f.taken;
-        weighs = λ w. omega (arith, f.weighs w, g.weighs w, ap (of_all w) g.taken, ap (balance.handled w) does.log, ap (balance.pushed w) does.log, ap (sum_by w) does.oldest, sum_by-append w (flat_map (λ (y : ℕ × Strings). y.1) answers) s'.queue);
+        weighs = λ w. omega (
+          arith,
+          f.weighs w,
+          g.weighs w,
+          ap (of_all w) g.taken,
+          ap (balance.handled w) does.log,
+          ap (balance.pushed w) does.log,
+          ap (sum_by w) does.oldest,
+          sum_by-append w (flat_map (λ (y : ℕ × Strings). y.1) answers) s'.queue,
+        );
         gave = λ w. omega (arith, f.gave w, g.weighs w, more_of given_in done (served answers) w);
         took = λ w. omega (arith, f.took w, ap (of_all w) g.taken, more_of taken_in done (served answers) w);
         logged = does.log ∙ f.logged ∙ sym (one_more handled_in done (served answers) ∙ append-nil (flat_map handled_in done));
@@ -148,13 +168,23 @@ step o me dealt done (did (give to batch)) s s' does b f = absurd does.queue
 step o me dealt done (did (refuse to)) s s' does b f = absurd does.queue
 step o me dealt done (did (take from batch)) s s' does b f =
     let m : Move = did (take from batch) in
-    let more_taken : (w : List ℕ → ℕ) → of_all w (more b.taken from batch) ≡ of_all w b.taken + sum_by w batch = λ w. more_weighs w b.taken from batch (let l = f.taken in let h : from < o.ranks = does.names in omega arith) in (
+    let more_taken : (w : List ℕ → ℕ)
+    → of_all w (more b.taken from batch) ≡ of_all w b.taken + sum_by w batch =
+    λ w. more_weighs w b.taken from batch (let l = f.taken in let h : from < o.ranks = does.names in omega arith) in (
       record b { taken = more b.taken from batch },
       record {
         kept = does.batches ∙ ap (λ (x : Option Batches). with_taken x from batch) f.kept;
         given = f.given;
         taken = length-set b.taken from (get_or b.taken from [] ++ batch ∷ []) ∙ f.taken;
-        weighs = λ w. omega (arith, f.weighs w, more_taken w, ap (balance.handled w) does.log, ap (balance.pushed w) does.log, ap (sum_by w) does.queue, sum_by-append w s.queue batch);
+        weighs = λ w. omega (
+          arith,
+          f.weighs w,
+          more_taken w,
+          ap (balance.handled w) does.log,
+          ap (balance.pushed w) does.log,
+          ap (sum_by w) does.queue,
+          sum_by-append w s.queue batch,
+        );
         gave = λ w. omega (arith, f.gave w, more_of given_in done m w);
         took = λ w. omega (arith, f.took w, more_taken w, more_of taken_in done m w);
         logged = does.log ∙ f.logged ∙ sym (one_more handled_in done m ∙ append-nil (flat_map handled_in done));
@@ -188,7 +218,8 @@ step o me dealt done (did see_over) s s' does b f = (
 
 steps : (o : Options) (me : ℕ) (dealt : Strings) (done moves : List Move) (s s' : Side) → DoesAll o me moves s s' → (b : Batches)
     → Flows o.ranks dealt done s b → (b' : Batches) × Flows o.ranks dealt (done ++ moves) s' b'
-steps o me dealt done [] s s' does b f = (b, subst (λ x. Flows o.ranks dealt (done ++ []) x b) (sym does) (subst (λ ms. Flows o.ranks dealt ms s b) (sym (append-nil done)) f))
+steps o me dealt done [] s s' does b f =
+    (b, subst (λ x. Flows o.ranks dealt (done ++ []) x b) (sym does) (subst (λ ms. Flows o.ranks dealt ms s b) (sym (append-nil done)) f))
 steps o me dealt done (m ∷ moves) s s' (mid, one, rest) b f =
     let g = step o me dealt done m s mid one b f in
     let x = steps o me dealt (done ++ m ∷ []) moves mid s' rest g.0 g.1 in
@@ -238,7 +269,8 @@ whole o me dealt log b moves last does empty logged kept =
 
 -- all ranks
 
-module _ (o : Options) (starts : Strings) (logs : List Log) (batches : List Batches) (some : 0 < o.ranks) (all : AllRan o starts logs batches) (w : List ℕ → ℕ) where
+module _ (o : Options) (starts : Strings) (logs : List Log) (batches : List Batches) (some : 0 < o.ranks)
+    (all : AllRan o starts logs batches) (w : List ℕ → ℕ) where
   abbrev batches_at : ℕ → Batches
   batches_at k = get_or batches k (unused o.ranks)
 
@@ -261,7 +293,8 @@ module _ (o : Options) (starts : Strings) (logs : List Log) (batches : List Batc
   even =
       upto_same (λ i. of_all w (batches_at i).given) (λ i. upto (λ j. of_one w (get_or (batches_at i).given j [])) o.ranks) o.ranks given_by
       ∙ upto_swap (λ i j. of_one w (get_or (batches_at i).given j [])) o.ranks o.ranks
-      ∙ upto_same (λ j. upto (λ i. of_one w (get_or (batches_at i).given j [])) o.ranks) (λ j. upto (λ i. of_one w (get_or (batches_at j).taken i [])) o.ranks) o.ranks
+      ∙ upto_same (λ j. upto (λ i. of_one w (get_or (batches_at i).given j [])) o.ranks)
+      (λ j. upto (λ i. of_one w (get_or (batches_at j).taken i [])) o.ranks) o.ranks
       (λ j h. upto_same (λ i. of_one w (get_or (batches_at i).given j [])) (λ i. of_one w (get_or (batches_at j).taken i [])) o.ranks
       (λ i g. ap (of_one w) (sym (all.even i j (unused o.ranks) g h))))
       ∙ sym (upto_same (λ j. of_all w (batches_at j).taken) (λ j. upto (λ i. of_one w (get_or (batches_at j).taken i [])) o.ranks) o.ranks taken_by)
@@ -273,13 +306,15 @@ module _ (o : Options) (starts : Strings) (logs : List Log) (batches : List Batc
 
   -- each rank's equation, added up
   summed : upto (λ k. balance.handled w (get_or logs k [])) o.ranks + upto (λ k. of_all w (batches_at k).given) o.ranks
-      ≡ upto (λ k. sum_by w (dealt_to o.ranks starts k)) o.ranks + upto (λ k. balance.pushed w (get_or logs k [])) o.ranks + upto (λ k. of_all w (batches_at k).taken) o.ranks
+      ≡ upto (λ k. sum_by w (dealt_to o.ranks starts k)) o.ranks + upto (λ k. balance.pushed w (get_or logs k [])) o.ranks + upto
+      (λ k. of_all w (batches_at k).taken) o.ranks
   summed =
       sym (upto_add (λ k. balance.handled w (get_or logs k [])) (λ k. of_all w (batches_at k).given) o.ranks)
       ∙ upto_same (λ k. balance.handled w (get_or logs k []) + of_all w (batches_at k).given)
       (λ k. (sum_by w (dealt_to o.ranks starts k) + balance.pushed w (get_or logs k [])) + of_all w (batches_at k).taken) o.ranks (λ k h. (run k h).weighs w)
       ∙ upto_add (λ k. sum_by w (dealt_to o.ranks starts k) + balance.pushed w (get_or logs k [])) (λ k. of_all w (batches_at k).taken) o.ranks
-      ∙ ap (λ (x : ℕ). x + upto (λ k. of_all w (batches_at k).taken) o.ranks) (upto_add (λ k. sum_by w (dealt_to o.ranks starts k)) (λ k. balance.pushed w (get_or logs k [])) o.ranks)
+      ∙ ap (λ (x : ℕ). x + upto (λ k. of_all w (batches_at k).taken) o.ranks)
+      (upto_add (λ k. sum_by w (dealt_to o.ranks starts k)) (λ k. balance.pushed w (get_or logs k [])) o.ranks)
 
   pub balances : balance.handled w (flat_map (λ l. l) logs) + sum_by w [] ≡ sum_by w starts + balance.pushed w (flat_map (λ l. l) logs)
   balances =

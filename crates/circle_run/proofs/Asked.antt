@@ -1,5 +1,7 @@
 -- Who asks a rank, and who is being served.
-use Rattle.std.proofs.Common.{◌≡◌, ◌≢◌, ℕ, zero, suc, ◌+◌, ◌-◌, ◌<◌, ◌≤◌, ◌&&◌, ◌==◌, not, refl, sym, subst, ap, ◌∙◌, arith, Bool, true, false, List, [], ◌∷◌, ◌++◌, filter, length, append-nil, length-set, set, get_or, get_or-set_same, get_or-set_other, eq-eqb, ne_eqb, Option, Some, None}
+use Rattle.std.proofs.Common.{◌≡◌, ◌≢◌, ℕ, zero, suc, ◌+◌, ◌-◌, ◌<◌, ◌≤◌, ◌&&◌, ◌==◌, not, refl, sym, subst, ap, ◌∙◌, arith, Bool, true, false, List}
+use Rattle.std.proofs.Common.{[], ◌∷◌, ◌++◌, filter, length, append-nil, length-set, set, get_or, get_or-set_same, get_or-set_other, eq-eqb, ne_eqb}
+use Rattle.std.proofs.Common.{Option, Some, None}
 use Rattle.std.specs.List.{range_with_len}
 use Rattle.std.proofs.lemmas.List.Elements.{filter-append}
 use Rattle.std.proofs.lemmas.Bool.{eqb-true}
@@ -38,7 +40,8 @@ unserved_all (true ∷ xs) none = (let e : true ≡ false = none zero in cc)
 unserved_all (false ∷ xs) none = (let e : unserved xs ≡ length xs = unserved_all xs (λ k. none (suc k)) in omega arith)
 
 unset : (xs : List Bool) (r : ℕ) → get_or (set xs r false) r false ≡ false
-unset xs r = dite (dec_le (length xs) r) (λ past. get_or-eq_default (set xs r false) false (let e = length-set xs r false in omega arith)) (λ h. get_or-set_same xs r false false (omega arith))
+unset xs r = dite (dec_le (length xs) r) (λ past. get_or-eq_default (set xs r false) false (let e = length-set xs r false in omega arith))
+    (λ h. get_or-set_same xs r false false (omega arith))
 
 -- one request more was taken up
 pub serves_set : (s s' : Shown) (to : ℕ) → s'.serves ≡ set s.serves to true → to < length s.serves → is_served s' to ≡ true
@@ -52,7 +55,8 @@ serves_still s s' to r serves below e = dite (ℕ_discrete r to)
 pub served_before : (s s' : Shown) (to r : ℕ) → s'.serves ≡ set s.serves to true → r ≢ to → is_served s' r ≡ true → is_served s r ≡ true
 served_before s s' to r serves ne e = sym (get_or-set_other s.serves to r true false ne) ∙ sym (ap (λ (xs : List Bool). get_or xs r false) serves) ∙ e
 
-pub asks_more : (s s' : Shown) (asks : List ℕ) (count to : ℕ) → s'.serves ≡ set s.serves to true → to < length s.serves → is_served s to ≡ false → count < length asks → AsksOf s asks 0 count → AsksOf s' (set asks count to) 0 (count + 1)
+pub asks_more : (s s' : Shown) (asks : List ℕ) (count to : ℕ) → s'.serves ≡ set s.serves to true → to < length s.serves
+    → is_served s to ≡ false → count < length asks → AsksOf s asks 0 count → AsksOf s' (set asks count to) 0 (count + 1)
 asks_more s s' asks count to serves below fresh room old =
     let here : is_served s' to ≡ true = serves_set s s' to serves below in
     let last : get_or (set asks count to) count 0 ≡ to = get_or-set_same asks count to 0 room in
@@ -60,10 +64,12 @@ asks_more s s' asks count to serves below fresh room old =
     record {
       served = λ j low high. dite (ℕ_discrete j count)
           (λ e. subst (λ (k : ℕ). is_served s' k ≡ true) (sym (ap (λ (k : ℕ). get_or (set asks count to) k 0) e ∙ last)) here)
-          (λ ne. subst (λ (k : ℕ). is_served s' k ≡ true) (sym (early j ne)) (serves_still s s' to (get_or asks j 0) serves below (old.served j low (omega arith))));
+          (λ ne. subst (λ (k : ℕ). is_served s' k ≡ true) (sym (early j ne))
+          (serves_still s s' to (get_or asks j 0) serves below (old.served j low (omega arith))));
       all = λ r e. dite (ℕ_discrete r to)
           (λ q. (count, omega arith, omega arith, last ∙ sym q))
-          (λ ne. (let o = old.all r (served_before s s' to r serves ne e) in let low = o.1 in let high = o.2 in (o.0, omega arith, omega arith, early o.0 (λ q. absurd (omega arith)) ∙ o.3)));
+          (λ ne. (let o = old.all r (served_before s s' to r serves ne e) in let low = o.1 in let high = o.2 in
+          (o.0, omega arith, omega arith, early o.0 (λ q. absurd (omega arith)) ∙ o.3)));
       once = λ i j less high. dite (ℕ_discrete j count)
           (λ e q. (let a : get_or asks i 0 ≡ to = sym (early i (λ z. absurd (omega arith))) ∙ q ∙ ap (λ (k : ℕ). get_or (set asks count to) k 0) e ∙ last in
           let b : is_served s (get_or asks i 0) ≡ true = old.served i (omega arith) (omega arith) in
@@ -82,14 +88,18 @@ pub none_left : (s : Shown) (asks : List ℕ) (k count : ℕ) → AsksOf s asks 
 none_left s asks k count left done r = not_true (is_served s r) (λ e. (let o = left.all r e in let low = o.1 in let high = o.2 in absurd (omega arith)))
 
 -- one has its answer
-pub asks_less : (s s' : Shown) (asks : List ℕ) (k count : ℕ) → s'.serves ≡ set s.serves (get_or asks k 0) false → k < count → AsksOf s asks k count → AsksOf s' asks (k + 1) count
+pub asks_less : (s s' : Shown) (asks : List ℕ) (k count : ℕ) → s'.serves ≡ set s.serves (get_or asks k 0) false → k < count
+    → AsksOf s asks k count → AsksOf s' asks (k + 1) count
 asks_less s s' asks k count serves below old =
     let to : ℕ = get_or asks k 0 in
     let new : (r : ℕ) → is_served s' r ≡ get_or (set s.serves to false) r false = λ r. ap (λ (xs : List Bool). get_or xs r false) serves in
     record {
-      served = λ j low high. new (get_or asks j 0) ∙ get_or-set_other s.serves to (get_or asks j 0) false false (λ e. old.once k j (omega arith) high (sym e)) ∙ old.served j (omega arith) high;
+      served = λ j low high. new (get_or asks j 0)
+          ∙ get_or-set_other s.serves to (get_or asks j 0) false false (λ e. old.once k j (omega arith) high (sym e))
+          ∙ old.served j (omega arith) high;
       all = λ r e.
-          let ne : r ≢ to = λ q. true_not_false (get_or (set s.serves to false) to false) (subst (λ (z : ℕ). get_or (set s.serves to false) z false ≡ true) q (sym (new r) ∙ e)) (unset s.serves to) in
+          let ne : r ≢ to = λ q. true_not_false (get_or (set s.serves to false) to false)
+          (subst (λ (z : ℕ). get_or (set s.serves to false) z false ≡ true) q (sym (new r) ∙ e)) (unset s.serves to) in
           let o = old.all r (sym (get_or-set_other s.serves to r false false ne) ∙ sym (new r) ∙ e) in
           let low = o.1 in let apart : o.0 ≢ k = λ q. ne (sym o.3 ∙ ap (λ (z : ℕ). get_or asks z 0) q) in
           (o.0, omega arith, o.2, o.3);
@@ -121,7 +131,8 @@ range_more a zero = ap (λ (x : ℕ). x ∷ []) (omega arith)
 range_more a (suc k) = ap (λ (xs : List ℕ). a ∷ xs) (range_more (a + 1) k ∙ ap (λ (x : ℕ). range_with_len (a + 1) k ++ x ∷ []) (omega arith))
 
 askers_more : (me : ℕ) (t : Told) (k : ℕ) → askers_below me t (suc k) ≡ askers_below me t k ++ filter (is_asker me t) (k ∷ [])
-askers_more me t k = ap (filter (is_asker me t)) (range_more 0 k ∙ ap (λ (x : ℕ). range_with_len 0 k ++ x ∷ []) (omega arith)) ∙ filter-append (is_asker me t) (range_with_len 0 k) (k ∷ [])
+askers_more me t k = ap (filter (is_asker me t)) (range_more 0 k ∙ ap (λ (x : ℕ). range_with_len 0 k ++ x ∷ []) (omega arith))
+    ∙ filter-append (is_asker me t) (range_with_len 0 k) (k ∷ [])
 
 one_asker : (f : ℕ → Bool) (k : ℕ) → f k ≡ true → filter f (k ∷ []) ≡ k ∷ []
 one_asker f k e = rw e refl
@@ -152,7 +163,8 @@ in_order_none me s t none = record {
   all = λ r low e. absurd (omega arith);
 }
 
-in_order_more : (me : ℕ) (s s' : Shown) (t : Told) (ranks : List ℕ) (to : ℕ) → s.number ≡ me → s'.serves ≡ set s.serves to true → to < length s.serves → is_served s to ≡ false → to ≢ me → LookedFor s (Some to) t → to < length t.places
+in_order_more : (me : ℕ) (s s' : Shown) (t : Told) (ranks : List ℕ) (to : ℕ) → s.number ≡ me → s'.serves ≡ set s.serves to true
+    → to < length s.serves → is_served s to ≡ false → to ≢ me → LookedFor s (Some to) t → to < length t.places
     → InOrder me s t ranks → InOrder me s' t (ranks ++ to ∷ [])
 in_order_more me s s' t ranks to number serves below fresh other looked inside old =
     let mail : (place t to).mail ≡ asked me = looked.0 ∙ ap asked number in
@@ -172,24 +184,30 @@ in_order_more me s s' t ranks to number serves below fresh other looked inside o
           (λ ne. serves_still s s' to r serves below (earlier r (omega arith) e));
     }
 
-in_order_done : (me : ℕ) (s : Shown) (t : Told) (ranks : List ℕ) → s.number ≡ me → s.n ≡ length t.places → NoneAsks s s.n t → InOrder me s t ranks → ranks ≡ askers me t
+in_order_done : (me : ℕ) (s : Shown) (t : Told) (ranks : List ℕ) → s.number ≡ me → s.n ≡ length t.places → NoneAsks s s.n t
+    → InOrder me s t ranks → ranks ≡ askers me t
 in_order_done me s t ranks number n none old =
     old.are ∙ sym (askers_between me t old.upto (length t.places) old.within
-    (λ r from low. not_true (is_asker me t r) (λ e. (let f = asker_from me t r e in let z = old.below r (none r (omega arith) (λ q. f.0 (q ∙ number)) (f.1 ∙ ap asked (sym number))) in absurd (omega arith)))))
+    (λ r from low. not_true (is_asker me t r)
+    (λ e. (let f = asker_from me t r e in
+    let z = old.below r (none r (omega arith) (λ q. f.0 (q ∙ number)) (f.1 ∙ ap asked (sym number))) in absurd (omega arith)))))
 
 pub ordered_none : (me : ℕ) (s : Shown) (told : Option Told) → ((k : ℕ) → is_served s k ≡ false) → InOrderIfTold me s told []
 ordered_none me s None none = tt
 ordered_none me s (Some t) none = in_order_none me s t none
 
-pub ordered_more : (me : ℕ) (s s' : Shown) (told told' : Option Told) (ranks : List ℕ) (to : ℕ) → s.number ≡ me → s'.serves ≡ set s.serves to true → to < length s.serves → to < s.n → is_served s to ≡ false → to ≢ me
+pub ordered_more : (me : ℕ) (s s' : Shown) (told told' : Option Told) (ranks : List ℕ) (to : ℕ) → s.number ≡ me
+    → s'.serves ≡ set s.serves to true → to < length s.serves → to < s.n → is_served s to ≡ false → to ≢ me
     → Stays (LookedFor s (Some to)) told told' → AgreesIfTold told s → InOrderIfTold me s told ranks → InOrderIfTold me s' told' (ranks ++ to ∷ [])
-ordered_more me s s' None told' ranks to number serves below few fresh other stays agrees old = subst (λ (x : Option Told). InOrderIfTold me s' x (ranks ++ to ∷ [])) (sym stays) tt
+ordered_more me s s' None told' ranks to number serves below few fresh other stays agrees old =
+    subst (λ (x : Option Told). InOrderIfTold me s' x (ranks ++ to ∷ [])) (sym stays) tt
 ordered_more me s s' (Some t) told' ranks to number serves below few fresh other stays agrees old =
     subst (λ (x : Option Told). InOrderIfTold me s' x (ranks ++ to ∷ [])) (sym stays.1)
     (in_order_more me s s' t ranks to number serves below fresh other stays.0 (let n = agrees.ranks in omega arith) old)
 
 -- nobody asks any more
-pub nobody : (me : ℕ) (s : Shown) (told : Option Told) → s.number ≡ me → AgreesIfTold told s → Awaits s told → ((k : ℕ) → is_served s k ≡ false) → NobodyAsks me told
+pub nobody : (me : ℕ) (s : Shown) (told : Option Told) → s.number ≡ me → AgreesIfTold told s → Awaits s told
+    → ((k : ℕ) → is_served s k ≡ false) → NobodyAsks me told
 nobody me s None number agrees awaits none = tt
 nobody me s (Some t) number agrees awaits none =
     askers_between me t 0 (length t.places) (omega arith)
@@ -197,12 +215,15 @@ nobody me s (Some t) number agrees awaits none =
     true_not_false (is_served s r) (awaits r (omega arith) (λ q. f.0 (q ∙ number)) (f.1 ∙ ap asked (sym number))) (none r))))
 
 -- those being served are all that ask
-pub all_asked : (me : ℕ) (s : Shown) (told told' : Option Told) (ranks : List ℕ) → s.number ≡ me → AgreesIfTold told s → Stays (LookedFor s None) told told' → InOrderIfTold me s told ranks → AreAskers me told' ranks
+pub all_asked : (me : ℕ) (s : Shown) (told told' : Option Told) (ranks : List ℕ) → s.number ≡ me → AgreesIfTold told s
+    → Stays (LookedFor s None) told told' → InOrderIfTold me s told ranks → AreAskers me told' ranks
 all_asked me s None told' ranks number agrees stays order = subst (λ (x : Option Told). AreAskers me x ranks) (sym stays) tt
-all_asked me s (Some t) told' ranks number agrees stays order = subst (λ (x : Option Told). AreAskers me x ranks) (sym stays.1) (in_order_done me s t ranks number (sym agrees.ranks) stays.0 order)
+all_asked me s (Some t) told' ranks number agrees stays order =
+    subst (λ (x : Option Told). AreAskers me x ranks) (sym stays.1) (in_order_done me s t ranks number (sym agrees.ranks) stays.0 order)
 
 -- a mailbox in which an answer was laid does not ask
-awaits_less : (s s' : Shown) (t t' : Told) (to : ℕ) → s'.number ≡ s.number → s'.n ≡ s.n → s'.serves ≡ set s.serves to false → ((r : ℕ) → r ≢ to → r ≢ s.number → (place t' r).mail ≡ (place t r).mail)
+awaits_less : (s s' : Shown) (t t' : Told) (to : ℕ) → s'.number ≡ s.number → s'.n ≡ s.n → s'.serves ≡ set s.serves to false
+    → ((r : ℕ) → r ≢ to → r ≢ s.number → (place t' r).mail ≡ (place t r).mail)
     → ((place t' to).mail ≡ asked s.number → ⊥) → NoneAsks s s.n t → NoneAsks s' s'.n t'
 awaits_less s s' t t' to number n serves still answered none = λ r low other e.
     dite (ℕ_discrete r to)
@@ -222,26 +243,34 @@ is_empty (empty r) = true
 empty_asks_not : (a b : ℕ) → empty a ≡ asked b → ⊥
 empty_asks_not a b e = (let f : true ≡ false = ap is_empty e in cc)
 
-pub awaits_given : (s s' : Shown) (told told' : Option Told) (to : ℕ) (batch : Strings) → s' ≡ given s to batch → Tells s.number (give to batch) told told' → Awaits s told → Awaits s' told'
+pub awaits_given : (s s' : Shown) (told told' : Option Told) (to : ℕ) (batch : Strings) → s' ≡ given s to batch
+    → Tells s.number (give to batch) told told' → Awaits s told → Awaits s' told'
 awaits_given s s' None told' to batch shown tells awaits = subst (Awaits s') (sym tells) tt
 awaits_given s s' (Some t) told' to batch shown tells awaits =
     let legal = tells.0 in
     let inside : to < length t.places = legal.1.0 in
     let mine : List Place = set t.places s.number (blackened (place t s.number) s.number to) in
     let now : Place = record (place t to) { mail = full s.number batch } in
-    let there : get_or (set mine to now) to no_place ≡ now = get_or-set_same mine to now no_place (let l = length-set t.places s.number (blackened (place t s.number) s.number to) in omega arith) in
+    let there : get_or (set mine to now) to no_place ≡ now =
+    get_or-set_same mine to now no_place (let l = length-set t.places s.number (blackened (place t s.number) s.number to) in
+    omega arith) in
     subst (Awaits s') (sym tells.1)
-    (awaits_less s s' t (told_after s.number (give to batch) t) to (ap (λ (x : Shown). x.number) shown) (ap (λ (x : Shown). x.n) shown) (ap (λ (x : Shown). x.serves) shown)
-    (λ r ne other. ap (λ (x : Place). x.mail) (get_or-set_other mine to r now no_place ne ∙ get_or-set_other t.places s.number r (blackened (place t s.number) s.number to) no_place other))
+    (awaits_less s s' t (told_after s.number (give to batch) t) to (ap (λ (x : Shown). x.number) shown) (ap (λ (x : Shown). x.n) shown)
+    (ap (λ (x : Shown). x.serves) shown)
+    (λ r ne other. ap (λ (x : Place). x.mail)
+    (get_or-set_other mine to r now no_place ne
+    ∙ get_or-set_other t.places s.number r (blackened (place t s.number) s.number to) no_place other))
     (λ e. full_asks_not s.number s.number batch (sym (ap (λ (x : Place). x.mail) there) ∙ e)) awaits)
 
-pub awaits_refused : (s s' : Shown) (told told' : Option Told) (to : ℕ) → s' ≡ served s to → Tells s.number (refuse to) told told' → Awaits s told → Awaits s' told'
+pub awaits_refused : (s s' : Shown) (told told' : Option Told) (to : ℕ) → s' ≡ served s to → Tells s.number (refuse to) told told'
+    → Awaits s told → Awaits s' told'
 awaits_refused s s' None told' to shown tells awaits = subst (Awaits s') (sym tells) tt
 awaits_refused s s' (Some t) told' to shown tells awaits =
     let legal = tells.0 in
     let now : Place = record (place t to) { mail = empty s.number } in
     let there : get_or (set t.places to now) to no_place ≡ now = get_or-set_same t.places to now no_place legal.1.0 in
     subst (Awaits s') (sym tells.1)
-    (awaits_less s s' t (told_after s.number (refuse to) t) to (ap (λ (x : Shown). x.number) shown) (ap (λ (x : Shown). x.n) shown) (ap (λ (x : Shown). x.serves) shown)
+    (awaits_less s s' t (told_after s.number (refuse to) t) to (ap (λ (x : Shown). x.number) shown) (ap (λ (x : Shown). x.n) shown)
+    (ap (λ (x : Shown). x.serves) shown)
     (λ r ne other. ap (λ (x : Place). x.mail) (get_or-set_other t.places to r now no_place ne))
     (λ e. empty_asks_not s.number s.number (sym (ap (λ (x : Place). x.mail) there) ∙ e)) awaits)

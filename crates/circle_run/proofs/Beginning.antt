@@ -24,7 +24,8 @@ use Rattle.circle_run.proofs.Maps.{map_is}
 abbrev a_side : Strings → Log → Lcg → RankSide
 a_side queue log draws = record { queue = queue; log = log; draws = draws }
 
-module _ {J S T P Q : Type 0} (log : J → Log) (shows : S → Shown) (tells : P → Option Told) (seats : P → S → Type 0) (sums_shows : T → SumShown) (sums_seats : Q → T → Type 0) where
+module _ {J S T P Q : Type 0} (log : J → Log) (shows : S → Shown) (tells : P → Option Told) (seats : P → S → Type 0)
+    (sums_shows : T → SumShown) (sums_seats : Q → T → Type 0) where
   pub record Begins (o : Options) (starts : Strings) (ranks : List (Rank J S T)) (p : P) (q : Q) : Type 0 where
     pub order : IsAscending ranks
     pub ready : AllReady log shows seats sums_shows sums_seats ranks p q
@@ -32,9 +33,12 @@ module _ {J S T P Q : Type 0} (log : J → Log) (shows : S → Shown) (tells : P
     pub all : AreAll o ranks
     pub begun_is : stage_of log tells ranks (fresh_told o.ranks) ≡ begun o starts
 
-  pub begins : (o : Options) (starts : Strings) (jobs : List J) (all_seats : List S) (all_sums : List T) (queues : List Strings) (ranks : List (Rank J S T)) (p : P) (q : Q)
-      → AreNew log o jobs all_seats all_sums queues ranks → length jobs ≡ o.ranks → o.ranks ≤ 64 → o.width ≤ 64 → AllFresh shows (seats p) o.ranks None all_seats
-      → map sums_shows all_sums ≡ map (fresh_sums o.ranks o.width) (range_with_len 0 o.ranks) → ((k : ℕ) (d : T) → k < o.ranks → sums_seats q (get_or all_sums k d))
+  pub begins : (o : Options) (starts : Strings) (jobs : List J) (all_seats : List S) (all_sums : List T) (queues : List Strings)
+      (ranks : List (Rank J S T)) (p : P) (q : Q)
+      → AreNew log o jobs all_seats all_sums queues ranks → length jobs ≡ o.ranks → o.ranks ≤ 64 → o.width ≤ 64
+      → AllFresh shows (seats p) o.ranks None all_seats
+      → map sums_shows all_sums ≡ map (fresh_sums o.ranks o.width) (range_with_len 0 o.ranks)
+      → ((k : ℕ) (d : T) → k < o.ranks → sums_seats q (get_or all_sums k d))
       → queues ≡ map (dealt_to o.ranks starts) (range_with_len 0 o.ranks) → Begins o starts ranks p q
   begins o starts jobs all_seats all_sums queues ranks p q new count few narrow fresh_seats sums_shown sums_mine dealt =
       let long : length ranks ≡ o.ranks = sym (length-map ranks (λ (r : Rank J S T). r.job)) ∙ ap length new.jobs_are ∙ count in
@@ -47,7 +51,8 @@ module _ {J S T P Q : Type 0} (log : J → Log) (shows : S → Shown) (tells : P
       let sum_shown : (k : ℕ) (d : Rank J S T) → k < length ranks → sums_shows (get_or ranks k d).sums_seat ≡ fresh_sums o.ranks o.width k =
       λ k d h. (let none : SumShown = fresh_sums 0 0 0 in
       ap sums_shows (sym (sum_is k d h)) ∙ sym (get_or-map sums_shows all_sums k d.sums_seat none (omega (arith, h, long, sums_long)))
-      ∙ ap (λ (l : List SumShown). get_or l k none) sums_shown ∙ get_or-map-range_with_len (fresh_sums o.ranks o.width) 0 o.ranks k k none (omega (arith, h, long)) (omega arith)) in
+      ∙ ap (λ (l : List SumShown). get_or l k none) sums_shown
+      ∙ get_or-map-range_with_len (fresh_sums o.ranks o.width) 0 o.ranks k k none (omega (arith, h, long)) (omega arith)) in
       record {
         order = λ j k d below inside. (let a = me j d (omega arith) in let b = me k d inside in omega arith);
         ready = λ k d h. (let within : k < o.ranks = omega (arith, h, long) in
@@ -56,7 +61,8 @@ module _ {J S T P Q : Type 0} (log : J → Log) (shows : S → Shown) (tells : P
             let s = seat_is k d h in
             record {
               ready = ready_at_first log shows seats sums_shows sums_seats r.job r.seat r.sums_seat r.queue o k r p q None (new.new k d h) (new.unused k d h)
-                  (ap shows (sym s) ∙ first.1) (subst (seats p) s first.0) (sum_shown k d h) (subst (sums_seats q) (sum_is k d h) (sums_mine k d.sums_seat within)) within few narrow;
+                  (ap shows (sym s) ∙ first.1) (subst (seats p) s first.0) (sum_shown k d h)
+                  (subst (sums_seats q) (sum_is k d h) (sums_mine k d.sums_seat within)) within few narrow;
               over = λ e. absurd (true_not_false true refl (sym e));
               going = λ e. ap (λ (x : SumShown). x.answer) (sum_shown k d h);
             });

@@ -1,5 +1,6 @@
 -- The moves of a turn are a service and then the first that applies.
-use Rattle.std.proofs.Common.{◌≡◌, ◌≢◌, ℕ, zero, suc, ◌-◌, ◌<◌, refl, sym, subst, inl, inr, ap, ◌∙◌, arith, eq-eqb, Bool, true, false, List, [], ◌∷◌, ◌++◌, length, Option, Some, None}
+use Rattle.std.proofs.Common.{◌≡◌, ◌≢◌, ℕ, zero, suc, ◌-◌, ◌<◌, refl, sym, subst, inl, inr, ap, ◌∙◌, arith, eq-eqb, Bool, true, false, List, [], ◌∷◌}
+use Rattle.std.proofs.Common.{◌++◌, length, Option, Some, None}
 use Rattle.std.specs.Prelude.{if◌then◌else◌}
 use Rattle.std.specs.List.{flat_map}
 use Rattle.ring_core.specs.World.{darker, is_over}
@@ -20,7 +21,8 @@ use Rattle.circle_run.specs.Ranks.{DoesAll, side}
 use Rattle.circle_run.specs.Private.Steps.{Came}
 use Rattle.circle_run.specs.Turns.{Worked}
 use Rattle.circle_run.specs.Private.Steps.{Heard, Served, Acts, with_service}
-use Rattle.circle_run.specs.Choices.{Standing, Choice, to_handle, to_move, choice, moved_on, Chosen, ring_of, IsRing, held_after, heard_after, standing, Chooses}
+use Rattle.circle_run.specs.Choices.{Standing, Choice, to_handle, to_move, choice, moved_on, Chosen, ring_of, IsRing, held_after, heard_after}
+use Rattle.circle_run.specs.Choices.{standing, Chooses}
 use Rattle.circle_run.specs.Private.Steps.{Follows, Works}
 use Rattle.circle_run.specs.declared.steps.Did.{Did}
 use Rattle.circle_run.specs.declared.steps.Did.TheVariants.{Handled, Acted, Waited}

@@ -42,11 +42,18 @@ same_weight h (x ∷ xs) ys e =
 
 handled_weight : (h : List ℕ → ℕ) (log : Log) → sum_by h (handled_strings log) ≡ handled h log
 handled_weight h [] = refl
-handled_weight h (x ∷ log) = omega (arith, sum_by-cons h x.0 (handled_strings log), sum_by-cons (λ (x : List ℕ × List (List ℕ)). h x.0) x log, handled_weight h log)
+handled_weight h (x ∷ log) =
+    omega (arith, sum_by-cons h x.0 (handled_strings log), sum_by-cons (λ (x : List ℕ × List (List ℕ)). h x.0) x log, handled_weight h log)
 
 pushed_weight : (h : List ℕ → ℕ) (log : Log) → sum_by h (pushed_strings log) ≡ pushed h log
 pushed_weight h [] = refl
-pushed_weight h (x ∷ log) = omega (arith, sum_by-append h x.1 (pushed_strings log), sum_by-cons (λ (x : List ℕ × List (List ℕ)). sum_by h x.1) x log, pushed_weight h log)
+pushed_weight h (x ∷ log) =
+    omega (
+      arith,
+      sum_by-append h x.1 (pushed_strings log),
+      sum_by-cons (λ (x : List ℕ × List (List ℕ)). sum_by h x.1) x log,
+      pushed_weight h log,
+    )
 
 in_weight : (h : List ℕ → ℕ) (log : Log) (starts : List (List ℕ)) → sum_by h (starts ++ pushed_strings log) ≡ sum_by h starts + pushed h log
 in_weight h log starts = omega (arith, sum_by-append h starts (pushed_strings log), pushed_weight h log)
@@ -57,5 +64,8 @@ out_weight h log left = omega (arith, sum_by-append h (handled_strings log) left
 pub as_often : BalanceIsAsOften
 as_often log left starts = (
   λ b. record { often = λ s. out_weight (one s) log left ∙ b.weighs (one s) ∙ sym (in_weight (one s) log starts) },
-  λ a. record { weighs = λ h. sym (out_weight h log left) ∙ same_weight h (handled_strings log ++ left) (starts ++ pushed_strings log) a.often ∙ in_weight h log starts },
+  λ a. record {
+    weighs = λ h. sym (out_weight h log left)
+        ∙ same_weight h (handled_strings log ++ left) (starts ++ pushed_strings log) a.often ∙ in_weight h log starts;
+  },
 )

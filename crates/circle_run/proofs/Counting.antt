@@ -1,5 +1,6 @@
 -- What a rank counts is what the events of the run tell of it.
-use Rattle.std.proofs.Common.{◌≡◌, ℕ, ◌+◌, ◌-◌, ◌^◌, ◌==◌, ◌≢◌, min, refl, sym, subst, ap, ◌∙◌, arith, Bool, true, false, cond, List, [], ◌∷◌, ◌++◌, map, length, length-append, set, count_by, eq-eqb, ne_eqb}
+use Rattle.std.proofs.Common.{◌≡◌, ℕ, ◌+◌, ◌-◌, ◌^◌, ◌==◌, ◌≢◌, min, refl, sym, subst, ap, ◌∙◌, arith, Bool, true, false, cond, List, [], ◌∷◌, ◌++◌}
+use Rattle.std.proofs.Common.{map, length, length-append, set, count_by, eq-eqb, ne_eqb}
 use Rattle.std.proofs.lemmas.List.Sums.{sum_by-cons, sum_by-append}
 use Rattle.std.specs.List.{flat_map, sum_by}
 use mathlib.Core.Logic.{dite}
@@ -51,13 +52,16 @@ share_of h g t = record { handled = h; given = g; taken = t }
 
 one_counted : (e : Event) (a b c : ℕ) → counted_one e (capped a b c) ≡ capped (a + handles_one e) (b + gives_so e) (c + takes_so e)
 one_counted (Handle rank path kids) a b c =
-    ap (λ (x : ℕ). record (capped a b c) { handled = x }) (cap_more a 1 (2 ^ 64 - 1)) ∙ same_share (a + 1) b c (a + 1) (b + 0) (c + 0) refl (plus_none b) (plus_none c)
+    ap (λ (x : ℕ). record (capped a b c) { handled = x }) (cap_more a 1 (2 ^ 64 - 1))
+    ∙ same_share (a + 1) b c (a + 1) (b + 0) (c + 0) refl (plus_none b) (plus_none c)
 one_counted (Ask rank v) a b c = same_share a b c (a + 0) (b + 0) (c + 0) (plus_none a) (plus_none b) (plus_none c)
 one_counted (Give rank to k) a b c =
-    ap (λ (x : ℕ). record (capped a b c) { given = x }) (cap_more b k (2 ^ 128 - 1)) ∙ same_share a (b + k) c (a + 0) (b + k) (c + 0) (plus_none a) refl (plus_none c)
+    ap (λ (x : ℕ). record (capped a b c) { given = x }) (cap_more b k (2 ^ 128 - 1))
+    ∙ same_share a (b + k) c (a + 0) (b + k) (c + 0) (plus_none a) refl (plus_none c)
 one_counted (Refuse rank to) a b c = same_share a b c (a + 0) (b + 0) (c + 0) (plus_none a) (plus_none b) (plus_none c)
 one_counted (Take rank from k) a b c =
-    ap (λ (x : ℕ). record (capped a b c) { taken = x }) (cap_more c k (2 ^ 128 - 1)) ∙ same_share a b (c + k) (a + 0) (b + 0) (c + k) (plus_none a) (plus_none b) refl
+    ap (λ (x : ℕ). record (capped a b c) { taken = x }) (cap_more c k (2 ^ 128 - 1))
+    ∙ same_share a b (c + k) (a + 0) (b + 0) (c + k) (plus_none a) (plus_none b) refl
 one_counted (TakeNone rank from) a b c = same_share a b c (a + 0) (b + 0) (c + 0) (plus_none a) (plus_none b) (plus_none c)
 one_counted (Pass rank colour) a b c = same_share a b c (a + 0) (b + 0) (c + 0) (plus_none a) (plus_none b) (plus_none c)
 one_counted (Restart rank) a b c = same_share a b c (a + 0) (b + 0) (c + 0) (plus_none a) (plus_none b) (plus_none c)
@@ -79,7 +83,8 @@ record Tells (f : ℕ → Event → ℕ) (g : Event → ℕ) : Type 0 where
 
 own_told : (f : ℕ → Event → ℕ) (g : Event → ℕ) → Tells f g → (r : ℕ) (es : List Event) → By r es → sum_by (f r) es ≡ sum_by g es
 own_told f g tells r [] by = refl
-own_told f g tells r (e ∷ es) by = sum_by-cons (f r) e es ∙ ap (λ (x : ℕ). x + sum_by (f r) es) (tells.own r e by.0) ∙ ap (λ (x : ℕ). g e + x) (own_told f g tells r es by.1) ∙ sym (sum_by-cons g e es)
+own_told f g tells r (e ∷ es) by = sum_by-cons (f r) e es ∙ ap (λ (x : ℕ). x + sum_by (f r) es) (tells.own r e by.0)
+    ∙ ap (λ (x : ℕ). g e + x) (own_told f g tells r es by.1) ∙ sym (sum_by-cons g e es)
 
 other_told : (f : ℕ → Event → ℕ) (g : Event → ℕ) → Tells f g → (w r : ℕ) (es : List Event) → w ≢ r → By w es → sum_by (f r) es ≡ 0
 other_told f g tells w r [] ne by = refl
@@ -89,7 +94,8 @@ other_told f g tells w r (e ∷ es) ne by =
     let s = sum_by-cons (f r) e es in omega arith
 
 -- what all events tell of a rank is what its own events are
-told_by_all : (f : ℕ → Event → ℕ) (g : Event → ℕ) → Tells f g → (r : ℕ) (moves : List (ℕ × Move)) → sum_by (f r) (events_of_all moves) ≡ sum_by g (events_by r moves)
+told_by_all : (f : ℕ → Event → ℕ) (g : Event → ℕ) → Tells f g → (r : ℕ) (moves : List (ℕ × Move))
+    → sum_by (f r) (events_of_all moves) ≡ sum_by g (events_by r moves)
 told_by_all f g tells r [] = refl
 told_by_all f g tells r (m ∷ moves) =
     let here : List Event = events_of m.0 m.1 in
@@ -98,13 +104,15 @@ told_by_all f g tells r (m ∷ moves) =
     dite (ℕ_discrete m.0 r)
     (λ e.
     let mine : events_by r (m ∷ moves) ≡ here ++ events_by r moves =
-    ap (λ (b : Bool). flat_map (events_of r) (cond b (m.1 ∷ []) [] ++ moves_of r moves)) (eq-eqb m.0 r e) ∙ ap (λ (q : ℕ). events_of q m.1 ++ events_by r moves) (sym e) in
+    ap (λ (b : Bool). flat_map (events_of r) (cond b (m.1 ∷ []) [] ++ moves_of r moves)) (eq-eqb m.0 r e)
+    ∙ ap (λ (q : ℕ). events_of q m.1 ++ events_by r moves) (sym e) in
     let own : sum_by (f r) here ≡ sum_by g here = own_told f g tells r here (subst (λ (q : ℕ). By q here) e (move_by m.0 m.1)) in
     let all = ap (sum_by g) mine in
     let parts = sum_by-append g here (events_by r moves) in
     omega arith)
     (λ ne.
-    let mine : events_by r (m ∷ moves) ≡ events_by r moves = ap (λ (b : Bool). flat_map (events_of r) (cond b (m.1 ∷ []) [] ++ moves_of r moves)) (ne_eqb m.0 r ne) in
+    let mine : events_by r (m ∷ moves) ≡ events_by r moves =
+    ap (λ (b : Bool). flat_map (events_of r) (cond b (m.1 ∷ []) [] ++ moves_of r moves)) (ne_eqb m.0 r ne) in
     let none : sum_by (f r) here ≡ 0 = other_told f g tells m.0 r here ne (move_by m.0 m.1) in
     let all = ap (sum_by g) mine in
     omega arith)
@@ -189,13 +197,16 @@ pub share_told : (r : ℕ) (moves : List (ℕ × Move)) (s : Share) → s ≡ ca
 share_told r moves s none =
     let es : List Event = events_of_all moves in
     let mine : List Event = events_by r moves in
-    let h : sum_by (handled_at r) es ≡ sum_by handles_one mine = told_by_all handled_at handles_one (record { own = handled_own; other = handled_other }) r moves in
+    let h : sum_by (handled_at r) es ≡ sum_by handles_one mine =
+    told_by_all handled_at handles_one (record { own = handled_own; other = handled_other }) r moves in
     let g : sum_by (given_at r) es ≡ sum_by gives_so mine = told_by_all given_at gives_so (record { own = given_own; other = given_other }) r moves in
     let t : sum_by (taken_at r) es ≡ sum_by takes_so mine = told_by_all taken_at takes_so (record { own = taken_own; other = taken_other }) r moves in
     ap (counted mine) none ∙ all_counted mine 0 0 0
-    ∙ same_share (0 + sum_by handles_one mine) (0 + sum_by gives_so mine) (0 + sum_by takes_so mine) (count_by (handles r) es) (sum_by (given_at r) es) (sum_by (taken_at r) es) (omega arith) (omega arith) (omega arith)
+    ∙ same_share (0 + sum_by handles_one mine) (0 + sum_by gives_so mine) (0 + sum_by takes_so mine) (count_by (handles r) es)
+    (sum_by (given_at r) es) (sum_by (taken_at r) es) (omega arith) (omega arith) (omega arith)
 
-answer_tells : (me : ℕ) (x : ℕ × Strings) → (handles_one (event_of me (answer_of x)) ≡ 0) × (gives_so (event_of me (answer_of x)) ≡ length x.1) × (takes_so (event_of me (answer_of x)) ≡ 0)
+answer_tells : (me : ℕ) (x : ℕ × Strings) → (handles_one (event_of me (answer_of x)) ≡ 0)
+    × (gives_so (event_of me (answer_of x)) ≡ length x.1) × (takes_so (event_of me (answer_of x)) ≡ 0)
 answer_tells me (to, []) = (refl, refl, refl)
 answer_tells me (to, s ∷ batch) =
     let is : answer_of (to, s ∷ batch) ≡ give to (s ∷ batch) = answer_gives to (s ∷ batch) (omega arith) in
@@ -229,7 +240,8 @@ answers_tell me (x ∷ answers) =
     )
 
 deed_tells : (me : ℕ) (d : Deed) → Proper (did d)
-    → (sum_by handles_one (event_of me d ∷ []) ≡ 0) × (sum_by gives_so (event_of me d ∷ []) ≡ 0) × (sum_by takes_so (event_of me d ∷ []) ≡ length (taken_in (did d)))
+    → (sum_by handles_one (event_of me d ∷ []) ≡ 0) × (sum_by gives_so (event_of me d ∷ []) ≡ 0)
+    × (sum_by takes_so (event_of me d ∷ []) ≡ length (taken_in (did d)))
 deed_tells me (ask v) proper = (refl, refl, refl)
 deed_tells me (give to b) proper = absurd proper
 deed_tells me (refuse to) proper = (refl, refl, refl)
@@ -241,7 +253,8 @@ deed_tells me conclude proper = (refl, refl, refl)
 deed_tells me see_over proper = (refl, refl, refl)
 
 move_tells : (me : ℕ) (m : Move) → Proper m
-    → (sum_by handles_one (events_of me m) ≡ length (handled_in m)) × (sum_by gives_so (events_of me m) ≡ length (given_in m)) × (sum_by takes_so (events_of me m) ≡ length (taken_in m))
+    → (sum_by handles_one (events_of me m) ≡ length (handled_in m)) × (sum_by gives_so (events_of me m) ≡ length (given_in m))
+    × (sum_by takes_so (events_of me m) ≡ length (taken_in m))
 move_tells me (handled path kids) proper = (refl, refl, refl)
 move_tells me (served answers) proper = answers_tell me answers
 move_tells me (did d) proper =
@@ -256,9 +269,12 @@ moves_tell me (m ∷ moves) (one, proper) =
     let here : List Event = events_of me m in
     let later : List Event = flat_map (events_of me) moves in
     record {
-      handled = (let s = sum_by-append handles_one here later in let l = length-append (handled_in m) (flat_map handled_in moves) in let r = rest.handled in omega (arith, now.0));
-      given = (let s = sum_by-append gives_so here later in let l = length-append (given_in m) (flat_map given_in moves) in let r = rest.given in omega (arith, now.1));
-      taken = (let s = sum_by-append takes_so here later in let l = length-append (taken_in m) (flat_map taken_in moves) in let r = rest.taken in omega (arith, now.2));
+      handled = (let s = sum_by-append handles_one here later in let l = length-append (handled_in m) (flat_map handled_in moves) in
+          let r = rest.handled in omega (arith, now.0));
+      given = (let s = sum_by-append gives_so here later in let l = length-append (given_in m) (flat_map given_in moves) in
+          let r = rest.given in omega (arith, now.1));
+      taken = (let s = sum_by-append takes_so here later in let l = length-append (taken_in m) (flat_map taken_in moves) in
+          let r = rest.taken in omega (arith, now.2));
     }
 
 does_proper : (o : Options) (me : ℕ) (m : Move) (s s' : _) → Does o me m s s' → Proper m
@@ -285,7 +301,8 @@ if_proper false m proper = tt
 plays_proper : (o : Options) (r : ℕ) (moves : List (ℕ × Move)) (from to : Stage) → Plays o moves from to → AllProper (moves_of r moves)
 plays_proper o r [] from to plays = tt
 plays_proper o r (m ∷ moves) from to (x, t, does, plays) =
-    proper-append (cond (m.0 == r) (m.1 ∷ []) []) (moves_of r moves) (if_proper (m.0 == r) m.1 (does_proper o m.0 m.1 (side (rank_side from m.0) from.told) (side x t) does))
+    proper-append (cond (m.0 == r) (m.1 ∷ []) []) (moves_of r moves)
+    (if_proper (m.0 == r) m.1 (does_proper o m.0 m.1 (side (rank_side from m.0) from.told) (side x t) does))
     (plays_proper o r moves (record { ranks = set from.ranks m.0 x; told = t }) to plays)
 
 -- the share of a rank that began with nothing counts its moves
@@ -298,7 +315,8 @@ share_counts o r moves from to s plays none =
     let g = tell.given in
     let t = tell.taken in
     ap (counted mine) none ∙ all_counted mine 0 0 0
-    ∙ same_share (0 + sum_by handles_one mine) (0 + sum_by gives_so mine) (0 + sum_by takes_so mine) (handled_by r moves) (given_by r moves) (taken_by r moves) (omega arith) (omega arith) (omega arith)
+    ∙ same_share (0 + sum_by handles_one mine) (0 + sum_by gives_so mine) (0 + sum_by takes_so mine) (handled_by r moves) (given_by r moves)
+    (taken_by r moves) (omega arith) (omega arith) (omega arith)
 
 all_proper : (o : Options) (me : ℕ) (moves : List Move) (s s' : Side) → DoesAll o me moves s s' → AllProper moves
 all_proper o me [] s s' does = tt
@@ -306,7 +324,8 @@ all_proper o me (m ∷ moves) s s' (mid, one, rest) = (does_proper o me m s mid 
 
 -- the same of a rank's own moves, whatever the board tells
 pub share_alone : (o : Options) (me : ℕ) (moves : List Move) (s s' : Side) (share : Share) → DoesAll o me moves s s' → share ≡ capped 0 0 0
-    → counted (flat_map (events_of me) moves) share ≡ capped (length (flat_map handled_in moves)) (length (flat_map given_in moves)) (length (flat_map taken_in moves))
+    → counted (flat_map (events_of me) moves) share
+    ≡ capped (length (flat_map handled_in moves)) (length (flat_map given_in moves)) (length (flat_map taken_in moves))
 share_alone o me moves s s' share does none =
     let events : List Event = flat_map (events_of me) moves in
     let tell = moves_tell me moves (all_proper o me moves s s' does) in

@@ -30,17 +30,22 @@ holds_none (asked r) some none = refl
 holds_none (full r b) some none = absurd (omega arith)
 holds_none (empty r) some none = refl
 
-pub nothing_waits_at_end : (early : (n starts : ℕ) (events : List Event) (r : ℕ) → IsRun (started n starts) events → IsTrue (rank_of (after_all (started n starts) events).0 r).ended
+pub nothing_waits_at_end :
+    (early : (n starts : ℕ) (events : List Event) (r : ℕ) → IsRun (started n starts) events
+    → IsTrue (rank_of (after_all (started n starts) events).0 r).ended
     → (queued_in (after_all (started n starts) events).0 ≡ 0) × (on_way_in (after_all (started n starts) events).0 ≡ 0))
     → (start : (n starts : ℕ) → NoEmptyBatch (started n starts).0)
     → (kept : (world : Seen) (event : Event) → refused world event ≡ None → NoEmptyBatch world.0 → NoEmptyBatch (after world event).0)
-    → (o : Options) (starts : Strings) (moves : List (ℕ × Move)) (stage : Stage) (r : ℕ) → Plays o moves (begun o starts) stage → (place stage.told r).ended ≡ true → NothingWaits stage
+    → (o : Options) (starts : Strings) (moves : List (ℕ × Move)) (stage : Stage) (r : ℕ) → Plays o moves (begun o starts) stage
+    → (place stage.told r).ended ≡ true → NothingWaits stage
 nothing_waits_at_end early start kept o starts moves stage r plays ended =
     let f : FromStart o starts moves stage = from_start o starts moves stage plays in
     let end : Seen = after_all (started o.ranks (length starts)) (events_of_all moves) in
     let shape : Shape stage.told (queues stage.ranks) end.0 = f.reaches.shows.shape in
     let inside : r < length end.0 = ⊎_elim (λ h. h)
-    (λ past. (let e : true ≡ false = sym ended ∙ ap (λ (x : Place). x.ended) (get_or_past stage.told.places r no_place (let s = shape.sized in omega arith)) in cc)) (cases_lt r (length end.0)) in
+    (λ past. (let e : true ≡ false = sym ended
+    ∙ ap (λ (x : Place). x.ended) (get_or_past stage.told.places r no_place (let s = shape.sized in omega arith)) in cc))
+    (cases_lt r (length end.0)) in
     let none = early o.ranks (length starts) (events_of_all moves) r f.reaches.run (ap (λ (x : RankState). x.ended) (shape.states r inside) ∙ ended) in
     let some : NoEmptyBatch end.0 = some_kept kept (events_of_all moves) (started o.ranks (length starts)) f.reaches.run (start o.ranks (length starts)) in
     record {
@@ -54,5 +59,6 @@ nothing_waits_at_end early start kept o starts moves stage r plays ended =
           (subst (λ (x : RankState). HoldsSome x.desk) (shape.states k below) (some k))
           (let e : held (rank_of end.0 k).desk ≡ held (desk_of (place stage.told k).mail) = ap (λ (x : RankState). held x.desk) (shape.states k below) in
           let few = get_or-le-sum_by (λ (x : RankState). held x.desk) end.0 k (fresh 0) below in omega (arith, none.1)))
-          (λ past. ap (λ (x : Place). is_full x.mail) (get_or_past stage.told.places k no_place (let s = shape.sized in omega arith))) (cases_lt k (length end.0));
+          (λ past. ap (λ (x : Place). is_full x.mail) (get_or_past stage.told.places k no_place (let s = shape.sized in omega arith)))
+          (cases_lt k (length end.0));
     }

@@ -1,5 +1,6 @@
 -- Turns in rounds are fair.
-use Rattle.std.proofs.Common.{◌≡◌, ℕ, suc, ◌+◌, ◌-◌, ◌%◌, ◌<◌, ◌≤◌, ◌≢◌, ◌⊎◌, inl, inr, ⊎_elim, refl, sym, subst, ap, ◌∙◌, arith, true, false, List, [], ◌∷◌, ◌++◌, length, set, eq-eqb}
+use Rattle.std.proofs.Common.{◌≡◌, ℕ, suc, ◌+◌, ◌-◌, ◌%◌, ◌<◌, ◌≤◌, ◌≢◌, ◌⊎◌, inl, inr, ⊎_elim, refl, sym, subst, ap, ◌∙◌, arith, true, false, List}
+use Rattle.std.proofs.Common.{[], ◌∷◌, ◌++◌, length, set, eq-eqb}
 use Rattle.std.proofs.lemmas.List.Concat.{flat_map-append}
 use mathlib.Core.Logic.{dite}
 use native.Mathlib.Decide.{ℕ_discrete}
@@ -15,7 +16,8 @@ use Rattle.circle_run.specs.Moves.{Move, handled, served, did, Side, events_of, 
 use Rattle.circle_run.specs.Stages.{RankSide, Stage, rank_side, side, Plays, events_of_all, begun}
 use Rattle.circle_run.specs.Worlds.{desk_of}
 use Rattle.circle_run.specs.Waiting.{NothingWaitsAtEnd}
-use Rattle.circle_run.specs.Fair.{handles, ComesBefore, is_asking, LetsOthers, IsFair, is_handling, HandlesLast, moves_in, is_waiting, PlaysTurns, moves_of_turns, TurnsArePlayed, RoundsAreFair}
+use Rattle.circle_run.specs.Fair.{handles, ComesBefore, is_asking, LetsOthers, IsFair, is_handling, HandlesLast, moves_in, is_waiting, PlaysTurns}
+use Rattle.circle_run.specs.Fair.{moves_of_turns, TurnsArePlayed, RoundsAreFair}
 use Rattle.circle_run.specs.declared.settings.Options.{Options}
 use Rattle.circle_run.proofs.Deeds.{some_is}
 use Rattle.circle_run.proofs.Actors.{By, turn_by, comes_later, comes_now, NoHandle, NoHandle-append, nil_or_some, never_again, answers_handle, deed_handles}
@@ -23,7 +25,8 @@ use Rattle.circle_run.proofs.Lasting.{Plays-append, Ended, Waits, move_keeps_end
 use Rattle.circle_run.proofs.Reaching.{Reached, step, reached_at_start}
 use Rattle.circle_run.proofs.Rotation.{NextTurn, next_turn}
 
-turns_played : (o : Options) (turns : List (List Move)) (k : ℕ) (from to : Stage) → PlaysTurns o k turns from to → Plays o (moves_of_turns o.ranks k turns) from to
+turns_played : (o : Options) (turns : List (List Move)) (k : ℕ) (from to : Stage) → PlaysTurns o k turns from to
+    → Plays o (moves_of_turns o.ranks k turns) from to
 turns_played o [] k from to same = same
 turns_played o (turn ∷ turns) k from to (mid, last, plays, idle, rest) =
     Plays-append o (moves_in (k % o.ranks) turn) (moves_of_turns o.ranks (suc k) turns) from mid to plays (turns_played o turns (suc k) mid to rest)
@@ -32,7 +35,8 @@ pub turns_are_played : TurnsArePlayed
 turns_are_played o turns from to plays = turns_played o turns 0 from to plays
 
 module _ (at_end : NothingWaitsAtEnd) (o : Options) (starts : Strings) where
-  never_handles : (past moves : List (ℕ × Move)) (from to : Stage) (s : ℕ) → Plays o past (begun o starts) from → Plays o moves from to → Ended (place from.told s) → NoHandle (events_of_all moves)
+  never_handles : (past moves : List (ℕ × Move)) (from to : Stage) (s : ℕ) → Plays o past (begun o starts) from → Plays o moves from to
+      → Ended (place from.told s) → NoHandle (events_of_all moves)
   never_handles past [] from to s before plays ended = tt
   never_handles past (m ∷ moves) from to s before (x, t, does, plays) ended =
       let mid : Stage = record { ranks = set from.ranks m.0 x; told = t } in
@@ -42,7 +46,8 @@ module _ (at_end : NothingWaitsAtEnd) (o : Options) (starts : Strings) where
       (move_keeps_end o m.0 m.1 (rank_side from m.0) x from.told t s does ended))
 
   -- while turns go on, who is not the rank r and has a turn before it has an event before r handles a string, or waited from the beginning
-  owed : (turns : List (List Move)) (past : List (ℕ × Move)) (k : ℕ) (from to : Stage) (r s i : ℕ) → Plays o past (begun o starts) from → PlaysTurns o k turns from to
+  owed : (turns : List (List Move)) (past : List (ℕ × Move)) (k : ℕ) (from to : Stage) (r s i : ℕ) → Plays o past (begun o starts) from
+      → PlaysTurns o k turns from to
       → (k + i) % o.ranks ≡ s → ((j : ℕ) → j ≤ i → (k + j) % o.ranks ≢ r)
       → ComesBefore s r (events_of_all (moves_of_turns o.ranks k turns)) ⊎ Waits (place from.told s)
   owed [] past k from to r s i before plays own other = inl tt
@@ -51,7 +56,8 @@ module _ (at_end : NothingWaitsAtEnd) (o : Options) (starts : Strings) where
       let here : List (ℕ × Move) = moves_in a turn in
       let later : List (ℕ × Move) = moves_of_turns o.ranks (suc k) turns in
       let both : events_of_all (here ++ later) ≡ events_of_all here ++ events_of_all later = flat_map-append (λ (m : ℕ × Move). events_of m.0 m.1) here later in
-      let join : (ComesBefore s r (events_of_all here ++ events_of_all later)) → ComesBefore s r (events_of_all (here ++ later)) = λ c. subst (ComesBefore s r) (sym both) c in
+      let join : (ComesBefore s r (events_of_all here ++ events_of_all later))
+      → ComesBefore s r (events_of_all (here ++ later)) = λ c. subst (ComesBefore s r) (sym both) c in
       dite (ℕ_discrete a s)
       (λ e. ⊎_elim
       (λ none. ⊎_elim
@@ -115,7 +121,8 @@ module _ (at_end : NothingWaitsAtEnd) (o : Options) (starts : Strings) (some : 0
       let a : ℕ = k % o.ranks in
       let mid : Stage = record { ranks = set from.ranks a x; told = t } in
       let same : t ≡ from.told = some_is t from.told (ap (λ (z : Side). z.told) does.after) in
-      let plays : Plays o (past ++ (a, handled path kids) ∷ []) (begun o starts) mid = (step o starts past w from (a, handled path kids) x t reached does).plays in (
+      let plays : Plays o (past ++ (a, handled path kids) ∷ []) (begun o starts) mid =
+      (step o starts past w from (a, handled path kids) x t reached does).plays in (
         λ s below ne. (let turn : NextTurn o.ranks k s = next_turn o.ranks k s some (subst (λ (n : ℕ). s < n) reached.sized below) ne in
             ⊎_elim (λ comes. inl comes)
             (λ waits. inr (ap (λ (z : RankState). is_asking z.desk) (reached.shows.shape.states s below)
@@ -131,7 +138,8 @@ module _ (at_end : NothingWaitsAtEnd) (o : Options) (starts : Strings) (some : 0
   -- the moves of a turn, with the turns after it
   turn_is_fair : (turns : List (List Move)) (k : ℕ) (mid to : Stage) → PlaysTurns o (suc k) turns mid to
       → ((past : List (ℕ × Move)) (w : Seen) → Reached o starts past w mid → IsFair w (later_events k turns))
-      → (turn : List Move) (past : List (ℕ × Move)) (w : Seen) (from : Stage) → HandlesLast turn → Reached o starts past w from → Plays o (moves_in (k % o.ranks) turn) from mid
+      → (turn : List Move) (past : List (ℕ × Move)) (w : Seen) (from : Stage) → HandlesLast turn → Reached o starts past w from
+      → Plays o (moves_in (k % o.ranks) turn) from mid
       → IsFair w (events_of_all (moves_in (k % o.ranks) turn ++ moves_of_turns o.ranks (suc k) turns))
   turn_is_fair turns k mid to rest later [] past w from last reached same = later past w (subst (Reached o starts past w) (sym same) reached)
   turn_is_fair turns k mid to rest later (m ∷ []) past w from last reached (x, t, does, same) =
@@ -139,14 +147,17 @@ module _ (at_end : NothingWaitsAtEnd) (o : Options) (starts : Strings) (some : 0
       let after_it : Stage = record { ranks = set from.ranks a x; told = t } in
       let reached' : Reached o starts (past ++ (a, m) ∷ []) (after_all w (events_of a m)) after_it = step o starts past w from (a, m) x t reached does in
       last_is_fair turns past k w from to m x t reached does (subst (λ (z : Stage). PlaysTurns o (suc k) turns z to) same rest)
-      (later (past ++ (a, m) ∷ []) (after_all w (events_of a m)) (subst (Reached o starts (past ++ (a, m) ∷ []) (after_all w (events_of a m))) (sym same) reached'))
+      (later (past ++ (a, m) ∷ []) (after_all w (events_of a m))
+      (subst (Reached o starts (past ++ (a, m) ∷ []) (after_all w (events_of a m))) (sym same) reached'))
   turn_is_fair turns k mid to rest later (m ∷ (next ∷ turn)) past w from (calm, last) reached (x, t, does, plays) =
       let a : ℕ = k % o.ranks in
       let after_it : Stage = record { ranks = set from.ranks a x; told = t } in
       IsFair-append (events_of a m) (events_of_all (moves_in a (next ∷ turn) ++ moves_of_turns o.ranks (suc k) turns)) w (calm_handles a m calm)
-      (turn_is_fair turns k mid to rest later (next ∷ turn) (past ++ (a, m) ∷ []) (after_all w (events_of a m)) after_it last (step o starts past w from (a, m) x t reached does) plays)
+      (turn_is_fair turns k mid to rest later (next ∷ turn) (past ++ (a, m) ∷ []) (after_all w (events_of a m)) after_it last
+      (step o starts past w from (a, m) x t reached does) plays)
 
-  turns_are_fair : (turns : List (List Move)) (past : List (ℕ × Move)) (k : ℕ) (w : Seen) (from to : Stage) → Reached o starts past w from → PlaysTurns o k turns from to
+  turns_are_fair : (turns : List (List Move)) (past : List (ℕ × Move)) (k : ℕ) (w : Seen) (from to : Stage) → Reached o starts past w from
+      → PlaysTurns o k turns from to
       → IsFair w (events_of_all (moves_of_turns o.ranks k turns))
   turns_are_fair [] past k w from to reached same = tt
   turns_are_fair (turn ∷ turns) past k w from to reached (mid, last, plays, idle, rest) =

@@ -21,7 +21,8 @@ module _ {J S T P Q D : Type 0} (log : J → Log) (plain : J → D) (shows : S �
       → Ending log plain shows seats sums_shows sums_seats whole final p q
   ending whole ranks final p q done perm up none numbers =
       let count : length final ≡ length whole = length_permutation ranks final perm ∙ sym (ones ranks) ∙ numbers (λ (k : ℕ). 1) ∙ ones whole in
-      let ends : All (EndOf log plain shows seats sums_shows sums_seats whole p q) final = All-permutation (EndOf log plain shows seats sums_shows sums_seats whole p q) ranks final perm done.ends in
+      let ends : All (EndOf log plain shows seats sums_shows sums_seats whole p q) final =
+      All-permutation (EndOf log plain shows seats sums_shows sums_seats whole p q) ranks final perm done.ends in
       let had : NoneLost ranks = All-permutation (λ (r : Rank J S T). r.book.lost ≡ false) final ranks (IsPermutation-sym ranks final perm) none in
       record {
         count = count;

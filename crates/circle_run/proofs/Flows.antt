@@ -1,5 +1,6 @@
 -- What a move does to the strings of a rank and of the mailboxes, whatever a string weighs, and what a run of moves does to those of all ranks.
-use Rattle.std.proofs.Common.{◌≡◌, ℕ, ◌+◌, ◌<◌, ◌≤◌, refl, sym, subst, ap, ◌∙◌, arith, Bool, true, false, cond, List, [], ◌∷◌, ◌++◌, map, length, length-set, get_or-set_other, append-nil, Option, Some, eq-eqb, ne_eqb}
+use Rattle.std.proofs.Common.{◌≡◌, ℕ, ◌+◌, ◌<◌, ◌≤◌, refl, sym, subst, ap, ◌∙◌, arith, Bool, true, false, cond, List, [], ◌∷◌, ◌++◌, map, length}
+use Rattle.std.proofs.Common.{length-set, get_or-set_other, append-nil, Option, Some, eq-eqb, ne_eqb}
 use Rattle.std.specs.List.{sum_by, flat_map}
 use Rattle.std.proofs.lemmas.List.{nil_from_length}
 use Rattle.std.proofs.lemmas.List.Sums.{sum_by-append, sum_by_push}
@@ -62,17 +63,25 @@ module _ (w : Weight) where
   holds x m e = ap (λ (n : Mail). sum_by w (batch_in n)) e
 
   deed_mail : (me : ℕ) (d : Deed) (t : Told) → Legal me d t → mailed w (told_after me d t) + sum_by w (taken_in (did d)) ≡ mailed w t + sum_by w (given d)
-  deed_mail me (ask v) t (acts, other, was) = omega (arith, put_mail t me (record (place t me) { busy = false; mail = asked v }) acts.0, holds (place t me) vacant was)
+  deed_mail me (ask v) t (acts, other, was) =
+      omega (arith, put_mail t me (record (place t me) { busy = false; mail = asked v }) acts.0, holds (place t me) vacant was)
   deed_mail me (give to b) t (acts, other, busy, was) =
       let x : Place = blackened (place t me) me to in
       let mid : Told = put_place t me x in
       let inside : to < length mid.places = (let h = other.0 in simp length-set (omega arith)) in
       let same : place mid to ≡ place t to = get_or-set_other t.places me to x no_place (λ e. other.1 (sym e)) in
-      omega (arith, put_mail t me x acts.0, put_mail mid to (record (place t to) { mail = full me b }) inside, holds (place mid to) (asked me) (ap (λ (p : Place). p.mail) same ∙ was))
-  deed_mail me (refuse to) t (acts, other, was) = omega (arith, put_mail t to (record (place t to) { mail = empty me }) other.0, holds (place t to) (asked me) was)
+      omega (
+        arith,
+        put_mail t me x acts.0,
+        put_mail mid to (record (place t to) { mail = full me b }) inside,
+        holds (place mid to) (asked me) (ap (λ (p : Place). p.mail) same ∙ was),
+      )
+  deed_mail me (refuse to) t (acts, other, was) =
+      omega (arith, put_mail t to (record (place t to) { mail = empty me }) other.0, holds (place t to) (asked me) was)
   deed_mail me (take from b) t (acts, other, was) =
       omega (arith, put_mail t me (record (place t me) { busy = true; tried = false; mail = vacant }) acts.0, holds (place t me) (full from b) was)
-  deed_mail me (take_none from) t (acts, other, was) = omega (arith, put_mail t me (record (place t me) { tried = true; mail = vacant }) acts.0, holds (place t me) (empty from) was)
+  deed_mail me (take_none from) t (acts, other, was) =
+      omega (arith, put_mail t me (record (place t me) { tried = true; mail = vacant }) acts.0, holds (place t me) (empty from) was)
   deed_mail me (pass c) t (acts, above, idle, was, held, tried) = omega (arith, put_mail t me (record (place t me) { colour = White }) acts.0)
   deed_mail me restart t (acts, first, free, was, held) = omega (arith, put_mail t me (record (place t me) { busy = false; colour = White }) acts.0)
   deed_mail me conclude t (acts, first, idle, was, here, white, tried) = omega (arith, put_mail t me (record (place t me) { ended = true }) acts.0)
@@ -80,9 +89,11 @@ module _ (w : Weight) where
 
   answer_mail : (me : ℕ) (x : ℕ × Strings) (t : Told) → Legal me (answer_of x) t → mailed w (told_after me (answer_of x) t) ≡ mailed w t + sum_by w x.1
   answer_mail me x t = dite (ℕ_discrete (length x.1) 0)
-      (λ e. subst (λ (d : Deed). Legal me d t → mailed w (told_after me d t) ≡ mailed w t + sum_by w x.1) (sym (ap (λ (b : Bool). cond b (refuse x.0) (give x.0 x.1)) (eq-eqb (length x.1) 0 e)))
+      (λ e. subst (λ (d : Deed). Legal me d t → mailed w (told_after me d t) ≡ mailed w t + sum_by w x.1)
+      (sym (ap (λ (b : Bool). cond b (refuse x.0) (give x.0 x.1)) (eq-eqb (length x.1) 0 e)))
       (λ legal. omega (arith, deed_mail me (refuse x.0) t legal, ap (sum_by w) (nil_from_length x.1 e))))
-      (λ ne. subst (λ (d : Deed). Legal me d t → mailed w (told_after me d t) ≡ mailed w t + sum_by w x.1) (sym (ap (λ (b : Bool). cond b (refuse x.0) (give x.0 x.1)) (ne_eqb (length x.1) 0 ne)))
+      (λ ne. subst (λ (d : Deed). Legal me d t → mailed w (told_after me d t) ≡ mailed w t + sum_by w x.1)
+      (sym (ap (λ (b : Bool). cond b (refuse x.0) (give x.0 x.1)) (ne_eqb (length x.1) 0 ne)))
       (λ legal. omega (arith, deed_mail me (give x.0 x.1) t legal)))
 
 -- all answers of a service
@@ -106,7 +117,9 @@ answered (x ∷ xs) me t u (mid, (legal, same), told) =
 -- what a move leaves, where the side was x and t was told, and the side is y and u is told
 pub record Moved (me : ℕ) (m : Move) (x y : RankSide) (t u : Told) : Type 0 where
   pub log : y.log ≡ x.log ++ handled_in m
-  pub queue : (w : List ℕ → ℕ) → (sum_by w y.queue + sum_by w (given_in m)) + balance.handled w (handled_in m) ≡ (sum_by w x.queue + sum_by w (taken_in m)) + balance.pushed w (handled_in m)
+  pub queue : (w : List ℕ → ℕ)
+      → (sum_by w y.queue + sum_by w (given_in m)) + balance.handled w (handled_in m)
+      ≡ (sum_by w x.queue + sum_by w (taken_in m)) + balance.pushed w (handled_in m)
   pub mail : (w : List ℕ → ℕ) → mailed w u + sum_by w (taken_in m) ≡ mailed w t + sum_by w (given_in m)
   pub places : length u.places ≡ length t.places
   -- who is none of the ranks serves nobody, which changes nothing
@@ -134,7 +147,8 @@ nothing_given restart q q' queue = refl
 nothing_given conclude q q' queue = refl
 nothing_given see_over q q' queue = refl
 
-serves_nobody : (answers : List (ℕ × Strings)) (me : ℕ) (t u : Told) → length t.places ≤ me → TellsAll me (map answer_of answers) (Some t) (Some u) → served answers ≡ served []
+serves_nobody : (answers : List (ℕ × Strings)) (me : ℕ) (t u : Told) → length t.places ≤ me
+    → TellsAll me (map answer_of answers) (Some t) (Some u) → served answers ≡ served []
 serves_nobody [] me t u past told = refl
 serves_nobody (x ∷ xs) me t u past (mid, (legal, same), told) = let h : me < length t.places = acts me (answer_of x) t legal in absurd (omega arith)
 

@@ -1,5 +1,6 @@
 -- Ranks that came back from threads.
-use Rattle.std.proofs.Common.{◌≡◌, ℕ, ◌+◌, ◌<◌, sym, subst, ap, ◌∙◌, arith, Bool, true, false, List, [], ◌++◌, length, length-append, get_or, All, IfOk, Result, Ok, Err}
+use Rattle.std.proofs.Common.{◌≡◌, ℕ, ◌+◌, ◌<◌, sym, subst, ap, ◌∙◌, arith, Bool, true, false, List, [], ◌++◌, length, length-append, get_or, All}
+use Rattle.std.proofs.Common.{IfOk, Result, Ok, Err}
 use Rattle.std.specs.List.{sum_by}
 use Rattle.std.proofs.lemmas.List.{get_or_default, get_or_append_left, get_or-append-add}
 use Rattle.std.proofs.lemmas.List.Elements.{All-append}
@@ -46,26 +47,32 @@ module _ {J S T P Q D : Type 0} (log : J → Log) (plain : J → D) (shows : S �
   lost_left xs ys none k d h = ap (λ (r : Rank J S T). r.book.lost) (sym (get_or_append_left xs ys d k h)) ∙ none k d (omega (arith, length-append xs ys))
 
   lost_right : (xs ys : List (Rank J S T)) → NoneLost (xs ++ ys) → NoneLost ys
-  lost_right xs ys none k d h = ap (λ (r : Rank J S T). r.book.lost) (sym (get_or-append-add xs ys k d)) ∙ none (length xs + k) d (omega (arith, length-append xs ys))
+  lost_right xs ys none k d h = ap (λ (r : Rank J S T). r.book.lost) (sym (get_or-append-add xs ys k d))
+      ∙ none (length xs + k) d (omega (arith, length-append xs ys))
 
   pub done_append : (whole : List (Rank J S T)) (p : P) (q : Q) (xs ys : List (Rank J S T))
       → AreDone log plain shows seats sums_shows sums_seats whole p q xs → AreDone log plain shows seats sums_shows sums_seats whole p q ys
       → AreDone log plain shows seats sums_shows sums_seats whole p q (xs ++ ys)
   done_append whole p q xs ys a b = record {
     ends = All-append (EndOf log plain shows seats sums_shows sums_seats whole p q) xs ys a.ends b.ends;
-    alone = λ none. All-append (λ (r : Rank J S T). Alone log shows (get_or whole r.me r) r) xs ys (a.alone (lost_left xs ys none)) (b.alone (lost_right xs ys none));
+    alone = λ none. All-append (λ (r : Rank J S T). Alone log shows (get_or whole r.me r) r) xs ys (a.alone (lost_left xs ys none))
+        (b.alone (lost_right xs ys none));
   }
 
   pub done_none : (whole : List (Rank J S T)) (p : P) (q : Q) (xs : List (Rank J S T)) → xs ≡ []
       → AreDone log plain shows seats sums_shows sums_seats whole p q xs
-  done_none whole p q xs e = (let l : length xs ≡ 0 = ap length e in record { ends = λ k d h. absurd (omega arith); alone = λ none k d h. absurd (omega arith) })
+  done_none whole p q xs e =
+      (let l : length xs ≡ 0 = ap length e in record { ends = λ k d h. absurd (omega arith); alone = λ none k d h. absurd (omega arith) })
 
   pub done_same : (whole : List (Rank J S T)) (p p' : P) (q q' : Q) (xs : List (Rank J S T)) → p' ≡ p → q' ≡ q
       → AreDone log plain shows seats sums_shows sums_seats whole p' q' xs → AreDone log plain shows seats sums_shows sums_seats whole p q xs
-  done_same whole p p' q q' xs e f done = subst (λ (y : Q). AreDone log plain shows seats sums_shows sums_seats whole p y xs) f (subst (λ (x : P). AreDone log plain shows seats sums_shows sums_seats whole x q' xs) e done)
+  done_same whole p p' q q' xs e f done =
+      subst (λ (y : Q). AreDone log plain shows seats sums_shows sums_seats whole p y xs) f
+      (subst (λ (x : P). AreDone log plain shows seats sums_shows sums_seats whole x q' xs) e done)
 
   -- the same, seen at another value of the same board and sums
-  pub placed_as : {P' Q' : Type 0} (seats' : P' → S → Type 0) (sums_seats' : Q' → T → Type 0) (b : Bool) (r : Rank J S T) (p : P) (q : Q) (p' : P') (q' : Q') → ((s : S) → seats p s → seats' p' s) → ((t : T) → sums_seats q t → sums_seats' q' t)
+  pub placed_as : {P' Q' : Type 0} (seats' : P' → S → Type 0) (sums_seats' : Q' → T → Type 0) (b : Bool) (r : Rank J S T) (p : P) (q : Q)
+      (p' : P') (q' : Q') → ((s : S) → seats p s → seats' p' s) → ((t : T) → sums_seats q t → sums_seats' q' t)
       → Placed log shows seats sums_shows sums_seats b r p q → Placed log shows seats' sums_shows sums_seats' b r p' q'
   placed_as seats' sums_seats' b r p q p' q' f g x =
       let y = x.ready in
@@ -76,16 +83,31 @@ module _ {J S T P Q D : Type 0} (log : J → Log) (plain : J → D) (shows : S �
           none = y.none;
           mine = f r.seat y.mine;
           lost = y.lost;
-          sums = record { mine = g r.sums_seat z.mine; number = z.number; ranks = z.ranks; width = z.width; narrow = z.narrow; counted = z.counted; progress = z.progress };
+          sums = record {
+            mine = g r.sums_seat z.mine;
+            number = z.number;
+            ranks = z.ranks;
+            width = z.width;
+            narrow = z.narrow;
+            counted = z.counted;
+            progress = z.progress;
+          };
         };
         over = x.over;
         going = x.going;
       }
 
-  pub done_as : {P' Q' : Type 0} (seats' : P' → S → Type 0) (sums_seats' : Q' → T → Type 0) (whole xs : List (Rank J S T)) (p : P) (q : Q) (p' : P') (q' : Q') → ((s : S) → seats p s → seats' p' s) → ((t : T) → sums_seats q t → sums_seats' q' t)
+  pub done_as : {P' Q' : Type 0} (seats' : P' → S → Type 0) (sums_seats' : Q' → T → Type 0) (whole xs : List (Rank J S T)) (p : P) (q : Q)
+      (p' : P') (q' : Q') → ((s : S) → seats p s → seats' p' s) → ((t : T) → sums_seats q t → sums_seats' q' t)
       → AreDone log plain shows seats sums_shows sums_seats whole p q xs → AreDone log plain shows seats' sums_shows sums_seats' whole p' q' xs
   done_as seats' sums_seats' whole xs p q p' q' f g done = record {
-    ends = λ k d h. (let e = done.ends k d h in record { inside = e.inside; options = e.options; facts = e.facts; over = placed_as seats' sums_seats' true (get_or xs k d) p q p' q' f g e.over });
+    ends = λ k d h. (let e = done.ends k d h in
+        record {
+          inside = e.inside;
+          options = e.options;
+          facts = e.facts;
+          over = placed_as seats' sums_seats' true (get_or xs k d) p q p' q' f g e.over;
+        });
     alone = done.alone;
   }
 

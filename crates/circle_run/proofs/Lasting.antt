@@ -1,5 +1,6 @@
 -- What lasts while moves are played: who has seen the end has seen it, and who waits after moves of others waited before them.
-use Rattle.std.proofs.Common.{◌≡◌, ℕ, ◌+◌, ◌<◌, ◌≢◌, refl, sym, subst, ap, ◌∙◌, arith, true, false, List, [], ◌∷◌, ◌++◌, map, length, length-append, length-set, set, get_or-set_same, get_or-set_other, Option, Some}
+use Rattle.std.proofs.Common.{◌≡◌, ℕ, ◌+◌, ◌<◌, ◌≢◌, refl, sym, subst, ap, ◌∙◌, arith, true, false, List, [], ◌∷◌, ◌++◌, map, length, length-append}
+use Rattle.std.proofs.Common.{length-set, set, get_or-set_same, get_or-set_other, Option, Some}
 use mathlib.Core.Logic.{dite}
 use native.Mathlib.Decide.{ℕ_discrete}
 use Rattle.post_board.specs.Shown.{Strings}
@@ -17,7 +18,8 @@ Plays-append o [] ys a b c first next = subst (λ (s : Stage). Plays o ys s c) f
 Plays-append o (m ∷ xs) ys a b c (x, t, does, plays) next = (x, t, does, Plays-append o xs ys (record { ranks = set a.ranks m.0 x; told = t }) b c plays next)
 
 -- what holds of each place that a deed leaves, where it held before
-pub place-set : (P : Place → Type 0) (t : Told) (r : ℕ) (x : Place) (s : ℕ) → r < length t.places → (r ≡ s → P x) → P (place t s) → P (place (put_place t r x) s)
+pub place-set : (P : Place → Type 0) (t : Told) (r : ℕ) (x : Place) (s : ℕ) → r < length t.places → (r ≡ s → P x) → P (place t s)
+    → P (place (put_place t r x) s)
 place-set P t r x s inside new old = dite (ℕ_discrete r s)
     (λ e. subst (λ (k : ℕ). P (place (put_place t r x) k)) e (subst P (sym (get_or-set_same t.places r x no_place inside)) (new e)))
     (λ ne. subst P (sym (get_or-set_other t.places r s x no_place (λ e. ne (sym e)))) old)
@@ -35,9 +37,12 @@ deed_keeps_end me (give to b) t s (acts, other, busy, was) ended =
     (place-set Ended t me _ s acts.0 (λ e. subst (λ (k : ℕ). Ended (place t k)) (sym e) ended) ended)
 deed_keeps_end me (refuse to) t s (acts, other, was) ended = place-set Ended t to _ s other.0 (λ e. subst (λ (k : ℕ). Ended (place t k)) (sym e) ended) ended
 deed_keeps_end me (take from b) t s (acts, other, was) ended = place-set Ended t me _ s acts.0 (λ e. subst (λ (k : ℕ). Ended (place t k)) (sym e) ended) ended
-deed_keeps_end me (take_none from) t s (acts, other, was) ended = place-set Ended t me _ s acts.0 (λ e. subst (λ (k : ℕ). Ended (place t k)) (sym e) ended) ended
-deed_keeps_end me (pass c) t s (acts, above, idle, was, held, tried) ended = place-set Ended t me _ s acts.0 (λ e. subst (λ (k : ℕ). Ended (place t k)) (sym e) ended) ended
-deed_keeps_end me restart t s (acts, first, free, was, held) ended = place-set Ended t me _ s acts.0 (λ e. subst (λ (k : ℕ). Ended (place t k)) (sym e) ended) ended
+deed_keeps_end me (take_none from) t s (acts, other, was) ended =
+    place-set Ended t me _ s acts.0 (λ e. subst (λ (k : ℕ). Ended (place t k)) (sym e) ended) ended
+deed_keeps_end me (pass c) t s (acts, above, idle, was, held, tried) ended =
+    place-set Ended t me _ s acts.0 (λ e. subst (λ (k : ℕ). Ended (place t k)) (sym e) ended) ended
+deed_keeps_end me restart t s (acts, first, free, was, held) ended =
+    place-set Ended t me _ s acts.0 (λ e. subst (λ (k : ℕ). Ended (place t k)) (sym e) ended) ended
 deed_keeps_end me conclude t s (acts, first, idle, was, here, white, tried) ended = place-set Ended t me _ s acts.0 (λ e. refl) ended
 deed_keeps_end me see_over t s (acts, over) ended = place-set Ended t me _ s acts.0 (λ e. refl) ended
 
@@ -55,7 +60,8 @@ deed_waited me (give to b) t s (acts, other, busy, was) ne =
     let inside : to < length mid.places = (let h = other.0 in simp length-set (omega arith)) in
     place-set (Waited t s) mid to (record (place t to) { mail = full me b }) s inside (λ e w. (let h : false ≡ true = w in cc))
     (place-set (Waited t s) t me (blackened (place t me) me to) s acts.0 (λ e. absurd (ne e)) (λ w. w))
-deed_waited me (refuse to) t s (acts, other, was) ne = place-set (Waited t s) t to (record (place t to) { mail = empty me }) s other.0 (λ e w. (let h : false ≡ true = w in cc)) (λ w. w)
+deed_waited me (refuse to) t s (acts, other, was) ne =
+    place-set (Waited t s) t to (record (place t to) { mail = empty me }) s other.0 (λ e w. (let h : false ≡ true = w in cc)) (λ w. w)
 deed_waited me (take from b) t s (acts, other, was) ne = place-set (Waited t s) t me _ s acts.0 (λ e. absurd (ne e)) (λ w. w)
 deed_waited me (take_none from) t s (acts, other, was) ne = place-set (Waited t s) t me _ s acts.0 (λ e. absurd (ne e)) (λ w. w)
 deed_waited me (pass c) t s (acts, above, idle, was, held, tried) ne = place-set (Waited t s) t me _ s acts.0 (λ e. absurd (ne e)) (λ w. w)
@@ -63,25 +69,32 @@ deed_waited me restart t s (acts, first, free, was, held) ne = place-set (Waited
 deed_waited me conclude t s (acts, first, idle, was, here, white, tried) ne = place-set (Waited t s) t me _ s acts.0 (λ e. absurd (ne e)) (λ w. w)
 deed_waited me see_over t s (acts, over) ne = place-set (Waited t s) t me _ s acts.0 (λ e. absurd (ne e)) (λ w. w)
 
-pub answers_keep_end : (answers : List (ℕ × Strings)) (me : ℕ) (t u : Told) (s : ℕ) → TellsAll me (map answer_of answers) (Some t) (Some u) → Ended (place t s) → Ended (place u s)
+pub answers_keep_end : (answers : List (ℕ × Strings)) (me : ℕ) (t u : Told) (s : ℕ) → TellsAll me (map answer_of answers) (Some t) (Some u)
+    → Ended (place t s) → Ended (place u s)
 answers_keep_end [] me t u s told ended = subst (λ (v : Told). Ended (place v s)) (sym (some_is u t told)) ended
 answers_keep_end (x ∷ xs) me t u s (mid, (legal, same), told) ended =
-    answers_keep_end xs me (told_after me (answer_of x) t) u s (subst (λ (m : Option Told). TellsAll me (map answer_of xs) m (Some u)) same told) (deed_keeps_end me (answer_of x) t s legal ended)
+    answers_keep_end xs me (told_after me (answer_of x) t) u s
+    (subst (λ (m : Option Told). TellsAll me (map answer_of xs) m (Some u)) same told) (deed_keeps_end me (answer_of x) t s legal ended)
 
-pub answers_waited : (answers : List (ℕ × Strings)) (me : ℕ) (t u : Told) (s : ℕ) → me ≢ s → TellsAll me (map answer_of answers) (Some t) (Some u) → Waits (place u s) → Waits (place t s)
+pub answers_waited : (answers : List (ℕ × Strings)) (me : ℕ) (t u : Told) (s : ℕ) → me ≢ s
+    → TellsAll me (map answer_of answers) (Some t) (Some u) → Waits (place u s) → Waits (place t s)
 answers_waited [] me t u s ne told waits = subst (λ (v : Told). Waits (place v s)) (some_is u t told) waits
 answers_waited (x ∷ xs) me t u s ne (mid, (legal, same), told) waits =
     deed_waited me (answer_of x) t s legal ne
     (answers_waited xs me (told_after me (answer_of x) t) u s ne (subst (λ (m : Option Told). TellsAll me (map answer_of xs) m (Some u)) same told) waits)
 
-pub move_keeps_end : (o : Options) (me : ℕ) (m : Move) (x y : RankSide) (t u : Told) (s : ℕ) → Does o me m (side x t) (side y u) → Ended (place t s) → Ended (place u s)
-move_keeps_end o me (handled path kids) x y t u s does ended = subst (λ (v : Told). Ended (place v s)) (sym (some_is u t (ap (λ (z : Side). z.told) does.after))) ended
+pub move_keeps_end : (o : Options) (me : ℕ) (m : Move) (x y : RankSide) (t u : Told) (s : ℕ) → Does o me m (side x t) (side y u)
+    → Ended (place t s) → Ended (place u s)
+move_keeps_end o me (handled path kids) x y t u s does ended =
+    subst (λ (v : Told). Ended (place v s)) (sym (some_is u t (ap (λ (z : Side). z.told) does.after))) ended
 move_keeps_end o me (served answers) x y t u s does ended = answers_keep_end answers me t u s does.told ended
 move_keeps_end o me (did d) x y t u s does ended =
     subst (λ (v : Told). Ended (place v s)) (sym (some_is u (told_after me d t) does.told.1)) (deed_keeps_end me d t s does.told.0 ended)
 
-pub move_waited : (o : Options) (me : ℕ) (m : Move) (x y : RankSide) (t u : Told) (s : ℕ) → me ≢ s → Does o me m (side x t) (side y u) → Waits (place u s) → Waits (place t s)
-move_waited o me (handled path kids) x y t u s ne does waits = subst (λ (v : Told). Waits (place v s)) (some_is u t (ap (λ (z : Side). z.told) does.after)) waits
+pub move_waited : (o : Options) (me : ℕ) (m : Move) (x y : RankSide) (t u : Told) (s : ℕ) → me ≢ s → Does o me m (side x t) (side y u)
+    → Waits (place u s) → Waits (place t s)
+move_waited o me (handled path kids) x y t u s ne does waits =
+    subst (λ (v : Told). Waits (place v s)) (some_is u t (ap (λ (z : Side). z.told) does.after)) waits
 move_waited o me (served answers) x y t u s ne does waits = answers_waited answers me t u s ne does.told waits
 move_waited o me (did d) x y t u s ne does waits =
     deed_waited me d t s does.told.0 ne (subst (λ (v : Told). Waits (place v s)) (some_is u (told_after me d t) does.told.1) waits)
@@ -95,13 +108,16 @@ pub turn_others : (a s : ℕ) (turn : List Move) → a ≢ s → Others s (moves
 turn_others a s [] ne = tt
 turn_others a s (m ∷ turn) ne = (ne, turn_others a s turn ne)
 
-pub plays_waited : (o : Options) (moves : List (ℕ × Move)) (from to : Stage) (s : ℕ) → Others s moves → Plays o moves from to → Waits (place to.told s) → Waits (place from.told s)
+pub plays_waited : (o : Options) (moves : List (ℕ × Move)) (from to : Stage) (s : ℕ) → Others s moves → Plays o moves from to
+    → Waits (place to.told s) → Waits (place from.told s)
 plays_waited o [] from to s others same waits = subst (λ (z : Stage). Waits (place z.told s)) same waits
 plays_waited o (m ∷ moves) from to s (ne, others) (x, t, does, plays) waits =
-    move_waited o m.0 m.1 (rank_side from m.0) x from.told t s ne does (plays_waited o moves (record { ranks = set from.ranks m.0 x; told = t }) to s others plays waits)
+    move_waited o m.0 m.1 (rank_side from m.0) x from.told t s ne does
+    (plays_waited o moves (record { ranks = set from.ranks m.0 x; told = t }) to s others plays waits)
 
 -- where nothing waits no string is handled
-pub move_handles : (o : Options) (me : ℕ) (m : Move) (x y : RankSide) (t u : Told) → Does o me m (side x t) (side y u) → x.queue ≡ [] → NoHandle (events_of me m)
+pub move_handles : (o : Options) (me : ℕ) (m : Move) (x y : RankSide) (t u : Told) → Does o me m (side x t) (side y u) → x.queue ≡ []
+    → NoHandle (events_of me m)
 move_handles o me (handled path kids) x y t u does none =
     let e : 0 ≡ length does.rest + 1 = ap length (sym none ∙ does.newest) ∙ length-append does.rest (path ∷ []) in absurd (omega arith)
 move_handles o me (served answers) x y t u does none = answers_handle me answers

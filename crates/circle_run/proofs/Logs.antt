@@ -1,5 +1,6 @@
 -- The log of a rank is what it handled, in order, and so do the events of a run tell it.
-use Rattle.std.proofs.Common.{◌≡◌, ℕ, ◌≤◌, ◌≢◌, ⊎_elim, refl, sym, subst, ap, ◌∙◌, arith, Bool, cond, List, [], ◌∷◌, ◌++◌, map, length, length-set, set, get_or, get_or-set_same, get_or-set_other, append-nil, append_assoc, eq-eqb, ne_eqb}
+use Rattle.std.proofs.Common.{◌≡◌, ℕ, ◌≤◌, ◌≢◌, ⊎_elim, refl, sym, subst, ap, ◌∙◌, arith, Bool, cond, List, [], ◌∷◌, ◌++◌, map, length, length-set}
+use Rattle.std.proofs.Common.{set, get_or, get_or-set_same, get_or-set_other, append-nil, append_assoc, eq-eqb, ne_eqb}
 use Rattle.std.specs.List.{flat_map}
 use Rattle.std.proofs.lemmas.Bool.{cases_lt}
 use Rattle.std.proofs.lemmas.List.{set_past, get_or_past, map-append}
@@ -20,10 +21,12 @@ abbrev log_of : List RankSide → ℕ → Log
 log_of ranks r = (get_or ranks r no_side).log
 
 -- the log at the place that is written, where one that is past the end gets nothing
-log-set : (ranks : List RankSide) (me : ℕ) (y : RankSide) (more : Log) → y.log ≡ log_of ranks me ++ more → (length ranks ≤ me → more ≡ []) → log_of (set ranks me y) me ≡ log_of ranks me ++ more
+log-set : (ranks : List RankSide) (me : ℕ) (y : RankSide) (more : Log) → y.log ≡ log_of ranks me ++ more → (length ranks ≤ me → more ≡ [])
+    → log_of (set ranks me y) me ≡ log_of ranks me ++ more
 log-set ranks me y more log past = ⊎_elim
     (λ inside. ap (λ (x : RankSide). x.log) (get_or-set_same ranks me y no_side inside) ∙ log)
-    (λ h. ap (λ (xs : List RankSide). log_of xs me) (set_past ranks me y h) ∙ sym (ap (λ (l : Log). log_of ranks me ++ l) (past h) ∙ append-nil (log_of ranks me))) (cases_lt me (length ranks))
+    (λ h. ap (λ (xs : List RankSide). log_of xs me) (set_past ranks me y h)
+    ∙ sym (ap (λ (l : Log). log_of ranks me ++ l) (past h) ∙ append-nil (log_of ranks me))) (cases_lt me (length ranks))
 
 -- the moves of a rank, where the next is its own or another's
 moves_of-own : (m : ℕ × Move) (moves : List (ℕ × Move)) (r : ℕ) → m.0 ≡ r → moves_of r (m ∷ moves) ≡ m.1 ∷ moves_of r moves
@@ -35,7 +38,8 @@ moves_of-other m moves r ne = ap (λ (b : Bool). cond b (m.1 ∷ []) [] ++ moves
 abbrev logged : ℕ → List (ℕ × Move) → Log
 logged r moves = flat_map handled_in (moves_of r moves)
 
-logs : (o : Options) (n : ℕ) (moves : List (ℕ × Move)) (from to : Stage) (r : ℕ) → length from.ranks ≡ n → length from.told.places ≡ n → Plays o moves from to → log_of to.ranks r ≡ log_of from.ranks r ++ logged r moves
+logs : (o : Options) (n : ℕ) (moves : List (ℕ × Move)) (from to : Stage) (r : ℕ) → length from.ranks ≡ n → length from.told.places ≡ n
+    → Plays o moves from to → log_of to.ranks r ≡ log_of from.ranks r ++ logged r moves
 logs o n [] from to r ranks places same = ap (λ (s : Stage). log_of s.ranks r) same ∙ sym (append-nil (log_of from.ranks r))
 logs o n (m ∷ moves) from to r ranks places (y, u, does, plays) =
     let mid : Stage = record { ranks = set from.ranks m.0 y; told = u } in
@@ -80,7 +84,8 @@ deed_handles_nothing r me see_over = refl
 answers_handle_nothing : (r me : ℕ) (answers : List (ℕ × Strings)) → flat_map (handled_at r) (map (λ x. event_of me (answer_of x)) answers) ≡ []
 answers_handle_nothing r me [] = refl
 answers_handle_nothing r me (x ∷ xs) =
-    ap (λ (l : List (List ℕ × ℕ)). l ++ flat_map (handled_at r) (map (λ x. event_of me (answer_of x)) xs)) (deed_handles_nothing r me (answer_of x)) ∙ answers_handle_nothing r me xs
+    ap (λ (l : List (List ℕ × ℕ)). l ++ flat_map (handled_at r) (map (λ x. event_of me (answer_of x)) xs))
+    (deed_handles_nothing r me (answer_of x)) ∙ answers_handle_nothing r me xs
 
 own_handled : (r me : ℕ) (m : Move) → me ≡ r → flat_map (handled_at r) (events_of me m) ≡ map pair_of (handled_in m)
 own_handled r me (handled path kids) e = ap (λ (b : Bool). cond b ((path, length kids) ∷ []) [] ++ []) (eq-eqb me r e)

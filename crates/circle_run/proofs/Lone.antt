@@ -79,5 +79,6 @@ module _ {J S T P D : Type 0} (log : J → Log) (plain : J → D) (shows : S →
         let me : r.me ≡ (get_or ranks0 k d).me = ap (λ (x : Rank J S T). x.me) (sym was) ∙ same.me k d (omega arith) in
         let options : r.options ≡ (get_or ranks0 k d).options = ap (λ (x : Rank J S T). x.options) (sym was) ∙ same.options k d (omega arith) in
         each-set (λ (i : ℕ) (x : Rank J S T). Alone log shows (get_or ranks0 i d) x) ranks k r' (alone_more (get_or ranks0 k d) r r' p p' me options here w e)
-        (λ i d' b ne. subst (λ (x : Rank J S T). Alone log shows (get_or ranks0 i d) x) (get_or_default ranks i d d' b) (all i d (omega arith))) j d (omega (arith, long)),
+        (λ i d' b ne. subst (λ (x : Rank J S T). Alone log shows (get_or ranks0 i d) x) (get_or_default ranks i d d' b)
+        (all i d (omega arith))) j d (omega (arith, long)),
   )

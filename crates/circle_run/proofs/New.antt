@@ -15,15 +15,18 @@ use Rattle.circle_run.specs.declared.settings.Options.{Options}
 use Rattle.circle_run.specs.declared.ranks.Rank.{Rank}
 
 pub none_served : (n k : ℕ) → get_or (replicate n false) k false ≡ false
-none_served n k = dite (dec_le n k) (λ past. get_or-eq_default (replicate n false) false (let l = length-replicate n false in omega arith)) (λ h. get_or-replicate n k false false (omega arith))
+none_served n k = dite (dec_le n k) (λ past. get_or-eq_default (replicate n false) false (let l = length-replicate n false in omega arith))
+    (λ h. get_or-replicate n k false false (omega arith))
 
 keeps_nothing : (numbers : List ℕ) (n width me : ℕ) → numbers ≡ [] → Keeps numbers 0 (fresh_sums n width me)
 keeps_nothing numbers n width me none = subst (λ (xs : List ℕ). Keeps xs 0 (fresh_sums n width me)) (sym none)
     (record { rises = tt; within = omega arith; next = omega arith; alone = λ one. (refl, tt) })
 
 module _ {J S T P Q : Type 0} (log : J → Log) (shows : S → Shown) (seats : P → S → Type 0) (sums_shows : T → SumShown) (sums_seats : Q → T → Type 0) where
-  pub ready_at_first : (job : J) (seat : S) (sums_seat : T) (queue : Strings) (o : Options) (me : ℕ) (r : Rank J S T) (p : P) (q : Q) (batches : Option Batches) → IsNew job seat sums_seat queue o me r → log job ≡ []
-      → shows seat ≡ fresh o.ranks me batches → seats p seat → sums_shows sums_seat ≡ fresh_sums o.ranks o.width me → sums_seats q sums_seat → me < o.ranks → o.ranks ≤ 64 → o.width ≤ 64 → Ready log shows seats sums_shows sums_seats r p q
+  pub ready_at_first : (job : J) (seat : S) (sums_seat : T) (queue : Strings) (o : Options) (me : ℕ) (r : Rank J S T) (p : P) (q : Q)
+      (batches : Option Batches) → IsNew job seat sums_seat queue o me r → log job ≡ []
+      → shows seat ≡ fresh o.ranks me batches → seats p seat → sums_shows sums_seat ≡ fresh_sums o.ranks o.width me → sums_seats q sums_seat
+      → me < o.ranks → o.ranks ≤ 64 → o.width ≤ 64 → Ready log shows seats sums_shows sums_seats r p q
   ready_at_first job seat sums_seat queue o me r p q batches new unused shown mine sums_shown sums_mine inside few narrow =
       let is = new.same in
       let is_me : r.me ≡ me = ap (λ (x : Rank J S T). x.me) is in
@@ -70,7 +73,8 @@ module _ {J S T P Q : Type 0} (log : J → Log) (shows : S → Shown) (seats : P
 
 module _ {J S T : Type 0} where
   -- a new rank by what it has
-  pub new_own : (job : J) (seat : S) (sums_seat : T) (queue : Strings) (o : Options) (me k : ℕ) (r : Rank J S T) → me ≡ k → IsNew job seat sums_seat queue o me r → IsNew r.job r.seat r.sums_seat r.queue o k r
+  pub new_own : (job : J) (seat : S) (sums_seat : T) (queue : Strings) (o : Options) (me k : ℕ) (r : Rank J S T) → me ≡ k
+      → IsNew job seat sums_seat queue o me r → IsNew r.job r.seat r.sums_seat r.queue o k r
   new_own job seat sums_seat queue o me k r at new =
       let is = new.same in
       let a = subst (λ (n : ℕ). IsNew job seat sums_seat queue o n r) at new in

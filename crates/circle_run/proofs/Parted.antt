@@ -30,7 +30,8 @@ module _ {J S T : Type 0} where
         (λ e. (let a : (get_or (xs ++ r ∷ []) j d).me ≡ (get_or xs j d).me = ap (λ (x : Rank J S T). x.me) (get_or_append_left xs (r ∷ []) d j (omega arith)) in
         let b : (get_or (xs ++ r ∷ []) k d).me ≡ r.me = ap (λ (i : ℕ). (get_or (xs ++ r ∷ []) i d).me) e ∙ ap (λ (x : Rank J S T). x.me) (seam xs r d) in
         let q = below j d (omega arith) in omega (arith, a, b, q)))
-        (λ ne. (let a : (get_or (xs ++ r ∷ []) j d).me ≡ (get_or xs j d).me = ap (λ (x : Rank J S T). x.me) (get_or_append_left xs (r ∷ []) d j (omega arith)) in
+        (λ ne. (let a : (get_or (xs ++ r ∷ []) j d).me ≡ (get_or xs j d).me =
+        ap (λ (x : Rank J S T). x.me) (get_or_append_left xs (r ∷ []) d j (omega arith)) in
         let b : (get_or (xs ++ r ∷ []) k d).me ≡ (get_or xs k d).me = ap (λ (x : Rank J S T). x.me) (get_or_append_left xs (r ∷ []) d k (omega arith)) in
         let q = host.order j k d lt (omega arith) in omega (arith, a, b, q))));
     ones = All-append (IsOne whole) xs (r ∷ []) host.ones (All-cons (IsOne whole) r [] one (All-nil (IsOne whole)));
@@ -41,8 +42,11 @@ module _ {J S T : Type 0} where
       → ((k : ℕ) (d : Rank J S T) → k < length left → r.me < (get_or left k d).me)
       → (j k : ℕ) (d : Rank J S T) → j < length (xs ++ r ∷ []) → k < length left → (get_or (xs ++ r ∷ []) j d).me < (get_or left k d).me
   below_more xs left r below least j k d h g = (let n = length-append xs (r ∷ []) in dite (ℕ_discrete j (length xs))
-      (λ e. (let b : (get_or (xs ++ r ∷ []) j d).me ≡ r.me = ap (λ (i : ℕ). (get_or (xs ++ r ∷ []) i d).me) e ∙ ap (λ (x : Rank J S T). x.me) (seam xs r d) in let q = least k d g in omega (arith, b, q)))
-      (λ ne. (let a : (get_or (xs ++ r ∷ []) j d).me ≡ (get_or xs j d).me = ap (λ (x : Rank J S T). x.me) (get_or_append_left xs (r ∷ []) d j (omega arith)) in let q = below j k d (omega arith) g in omega (arith, a, q))))
+      (λ e. (let b : (get_or (xs ++ r ∷ []) j d).me ≡ r.me = ap (λ (i : ℕ). (get_or (xs ++ r ∷ []) i d).me) e
+      ∙ ap (λ (x : Rank J S T). x.me) (seam xs r d) in let q = least k d g in omega (arith, b, q)))
+      (λ ne. (let a : (get_or (xs ++ r ∷ []) j d).me ≡ (get_or xs j d).me =
+      ap (λ (x : Rank J S T). x.me) (get_or_append_left xs (r ∷ []) d j (omega arith)) in let q = below j k d (omega arith) g in
+      omega (arith, a, q))))
 
   tail_host : (whole left : List (Rank J S T)) (r : Rank J S T) → IsHost whole (r ∷ left) → IsHost whole left
   tail_host whole left r host = record {
@@ -65,7 +69,12 @@ module _ {J S T : Type 0} where
         rest_is = record { order = λ j k d lt h. absurd (omega arith); ones = λ k d h. absurd (omega arith) };
         chosen_below = λ j k d h g. absurd (omega arith);
         rest_below = λ j k d h g. absurd (omega arith);
-        numbers = λ h. omega (arith, ap (sum_by (λ (r : Rank J S T). h r.me)) none, ap (sum_by (λ (r : Rank J S T). h r.me)) no_rest, ap (sum_by (λ (r : Rank J S T). h r.me)) all);
+        numbers = λ h. omega (
+          arith,
+          ap (sum_by (λ (r : Rank J S T). h r.me)) none,
+          ap (sum_by (λ (r : Rank J S T). h r.me)) no_rest,
+          ap (sum_by (λ (r : Rank J S T). h r.me)) all,
+        );
       }
 
   pub parted_chosen : (whole before chosen rest left left' new : List (Rank J S T)) (r : Rank J S T) → left ≡ r ∷ left' → new ≡ chosen ++ r ∷ []
@@ -79,7 +88,13 @@ module _ {J S T : Type 0} where
         rest_is = p.rest_is;
         chosen_below = below_more chosen left' r (λ j k d h g. p.chosen_below j (suc k) d h (omega arith)) least;
         rest_below = λ j k d h g. p.rest_below j (suc k) d h (omega arith);
-        numbers = λ h. omega (arith, p.numbers h, sum_by-cons (λ (x : Rank J S T). h x.me) r left', sum_by-append (λ (x : Rank J S T). h x.me) chosen (r ∷ []), sum_by-cons (λ (x : Rank J S T). h x.me) r []);
+        numbers = λ h. omega (
+          arith,
+          p.numbers h,
+          sum_by-cons (λ (x : Rank J S T). h x.me) r left',
+          sum_by-append (λ (x : Rank J S T). h x.me) chosen (r ∷ []),
+          sum_by-cons (λ (x : Rank J S T). h x.me) r [],
+        );
       }
 
   pub parted_rest : (whole before chosen rest left left' new : List (Rank J S T)) (r : Rank J S T) → left ≡ r ∷ left' → new ≡ rest ++ r ∷ []
@@ -93,5 +108,11 @@ module _ {J S T : Type 0} where
         rest_is = host_more whole rest r p.rest_is (λ j d h. p.rest_below j 0 d h (omega arith)) (p.left_is.ones 0 r (omega arith));
         chosen_below = λ j k d h g. p.chosen_below j (suc k) d h (omega arith);
         rest_below = below_more rest left' r (λ j k d h g. p.rest_below j (suc k) d h (omega arith)) least;
-        numbers = λ h. omega (arith, p.numbers h, sum_by-cons (λ (x : Rank J S T). h x.me) r left', sum_by-append (λ (x : Rank J S T). h x.me) rest (r ∷ []), sum_by-cons (λ (x : Rank J S T). h x.me) r []);
+        numbers = λ h. omega (
+          arith,
+          p.numbers h,
+          sum_by-cons (λ (x : Rank J S T). h x.me) r left',
+          sum_by-append (λ (x : Rank J S T). h x.me) rest (r ∷ []),
+          sum_by-cons (λ (x : Rank J S T). h x.me) r [],
+        );
       }

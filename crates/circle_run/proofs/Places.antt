@@ -18,7 +18,8 @@ module _ {J S T : Type 0} where
   counts_here v x xs e = sum_by-cons (λ (r : Rank J S T). one_if (r.me == v)) x xs ∙ ap (λ (b : Bool). one_if b + counts v xs) (eq-eqb x.me v e)
 
   counts_else : (v : ℕ) (x : Rank J S T) (xs : List (Rank J S T)) → (x.me ≡ v → ⊥) → counts v (x ∷ xs) ≡ counts v xs
-  counts_else v x xs ne = (let a = sum_by-cons (λ (r : Rank J S T). one_if (r.me == v)) x xs in let b : one_if (x.me == v) ≡ 0 = ap one_if (ne_eqb x.me v ne) in omega arith)
+  counts_else v x xs ne = (let a = sum_by-cons (λ (r : Rank J S T). one_if (r.me == v)) x xs in
+      let b : one_if (x.me == v) ≡ 0 = ap one_if (ne_eqb x.me v ne) in omega arith)
 
   counts_more : (v : ℕ) (x : Rank J S T) (xs : List (Rank J S T)) → counts v xs ≤ counts v (x ∷ xs)
   counts_more v x xs = (let e = sum_by-cons (λ (r : Rank J S T). one_if (r.me == v)) x xs in omega arith)
@@ -33,7 +34,8 @@ module _ {J S T : Type 0} where
   stands_twice v [] j k d lt h e f = absurd (omega arith)
   stands_twice v (x ∷ xs) j zero d lt h e f = absurd (omega arith)
   stands_twice v (x ∷ xs) zero (suc k) d lt h e f = (let a = counts_here v x xs e in let b = stands v xs k d (omega arith) f in omega arith)
-  stands_twice v (x ∷ xs) (suc j) (suc k) d lt h e f = (let a = stands_twice v xs j k d (omega arith) (omega arith) e f in let b = counts_more v x xs in omega arith)
+  stands_twice v (x ∷ xs) (suc j) (suc k) d lt h e f =
+      (let a = stands_twice v xs j k d (omega arith) (omega arith) e f in let b = counts_more v x xs in omega arith)
 
   pub ascends : (xs : List (Rank J S T)) → IsNonDecreasingBy (λ (r : Rank J S T). r.me) xs → ((v : ℕ) → counts v xs ≤ 1) → IsAscending xs
   ascends xs up once j k d lt h =
@@ -51,7 +53,8 @@ module _ {J S T : Type 0} where
 
   none_before : (a v : ℕ) (xs : List (Rank J S T)) → From a xs → v < a → counts v xs ≡ 0
   none_before a v [] f lt = refl
-  none_before a v (x ∷ xs) f lt = counts_else v x xs (λ e. (let g : x.me ≡ a + 0 = f 0 x (omega arith) in absurd (omega arith))) ∙ none_before (suc a) v xs (from_tail a x xs f) (omega arith)
+  none_before a v (x ∷ xs) f lt = counts_else v x xs (λ e. (let g : x.me ≡ a + 0 = f 0 x (omega arith) in absurd (omega arith)))
+      ∙ none_before (suc a) v xs (from_tail a x xs f) (omega arith)
 
   once_from : (a v : ℕ) (xs : List (Rank J S T)) → From a xs → counts v xs ≤ 1
   once_from a v [] f = omega arith

@@ -31,7 +31,8 @@ module _ {J S T P Q : Type 0} where
 
 module _ {J S T P Q D : Type 0} (log : J → Log) (plain : J → D) (shows : S → Shown) (seats : P → S → Type 0)
     (sums_shows : T → SumShown) (sums_seats : Q → T → Type 0) where
-  pub pooled_start : (whole : List (Rank J S T)) (p : P) (q : Q) (pool : Pool J S T P Q) (started : Vec (Started J S T P Q) Global) (host : Started J S T P Q) (ranks : List (Rank J S T))
+  pub pooled_start : (whole : List (Rank J S T)) (p : P) (q : Q) (pool : Pool J S T P Q) (started : Vec (Started J S T P Q) Global)
+      (host : Started J S T P Q) (ranks : List (Rank J S T))
       → Pooled log plain shows seats sums_shows sums_seats whole p q pool → IsHost whole ranks → host.before.value.items ≡ ranks
       → host.child.promise.1.value ≡ p → host.child.promise.2.value ≡ q
       → started.items ≡ pool.started.items ++ host ∷ [] → Pooled log plain shows seats sums_shows sums_seats whole p q (record pool { started = started })

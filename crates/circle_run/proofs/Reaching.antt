@@ -20,11 +20,13 @@ pub record Reached (o : Options) (starts : Strings) (past : List (ℕ × Move)) 
   pub sized : length w.0 ≡ o.ranks
 
 module _ (o : Options) (starts : Strings) where
-  pub step : (past : List (ℕ × Move)) (w : Seen) (from : Stage) (m : ℕ × Move) (x : RankSide) (t : Told) → Reached o starts past w from → Does o m.0 m.1 (side (rank_side from m.0) from.told) (side x t)
+  pub step : (past : List (ℕ × Move)) (w : Seen) (from : Stage) (m : ℕ × Move) (x : RankSide) (t : Told) → Reached o starts past w from
+      → Does o m.0 m.1 (side (rank_side from m.0) from.told) (side x t)
       → Reached o starts (past ++ m ∷ []) (after_all w (events_of m.0 m.1)) (record { ranks = set from.ranks m.0 x; told = t })
   step past w from m x t reached does =
       let next : Stage = record { ranks = set from.ranks m.0 x; told = t } in
-      let reaches : Reaches w (events_of m.0 m.1) t (queues (set from.ranks m.0 x)) = step_reaches o m w from x t reached.shows (reached.ranks ∙ sym reached.sized) does in
+      let reaches : Reaches w (events_of m.0 m.1) t (queues (set from.ranks m.0 x)) =
+      step_reaches o m w from x t reached.shows (reached.ranks ∙ sym reached.sized) does in
       record {
         plays = Plays-append o past (m ∷ []) (begun o starts) from next reached.plays (x, t, does, refl);
         shows = reaches.shows;

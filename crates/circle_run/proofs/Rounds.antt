@@ -1,5 +1,6 @@
 -- Ranks that have their turns in rounds: what one turn keeps of all of them.
-use Rattle.std.proofs.Common.{◌≡◌, ℕ, zero, suc, ◌<◌, ◌≤◌, ◌≢◌, ⊎_elim, refl, sym, subst, ap, ◌∙◌, arith, Bool, true, false, List, [], ◌∷◌, length, length-set, set, get_or, take, get_or-set_same, get_or-set_other}
+use Rattle.std.proofs.Common.{◌≡◌, ℕ, zero, suc, ◌<◌, ◌≤◌, ◌≢◌, ⊎_elim, refl, sym, subst, ap, ◌∙◌, arith, Bool, true, false, List, [], ◌∷◌, length}
+use Rattle.std.proofs.Common.{length-set, set, get_or, take, get_or-set_same, get_or-set_other}
 use Rattle.std.proofs.lemmas.Bool.{cases_lt}
 use Rattle.std.proofs.lemmas.List.{get_or_read, get_or_default, get_or-take, length-take-le}
 use mathlib.Core.Logic.{dite}
@@ -22,7 +23,8 @@ module _ {J S T : Type 0} where
   at_place ranks k r d inside is = sym (get_or_read ranks k r inside is d)
 
   -- what holds of each place, where it holds of the one that is written and held of the others
-  pub each-set : (X : ℕ → Rank J S T → Type 0) (ranks : List (Rank J S T)) (k : ℕ) (r' : Rank J S T) → X k r' → ((j : ℕ) (d : Rank J S T) → j < length ranks → j ≢ k → X j (get_or ranks j d))
+  pub each-set : (X : ℕ → Rank J S T → Type 0) (ranks : List (Rank J S T)) (k : ℕ) (r' : Rank J S T) → X k r'
+      → ((j : ℕ) (d : Rank J S T) → j < length ranks → j ≢ k → X j (get_or ranks j d))
       → (j : ℕ) (d : Rank J S T) → j < length (set ranks k r') → X j (get_or (set ranks k r') j d)
   each-set X ranks k r' here there j d inside =
       let within : j < length ranks = subst (λ (n : ℕ). j < n) (length-set ranks k r') inside in
@@ -31,29 +33,36 @@ module _ {J S T : Type 0} where
       (subst (X k) (sym (get_or-set_same ranks k r' d (subst (λ (i : ℕ). i < length ranks) e within))) here))
       (λ ne. subst (X j) (sym (get_or-set_other ranks k j r' d ne)) (there j d within ne))
 
-  pub lost_before : (ranks : List (Rank J S T)) (k : ℕ) (r r' : Rank J S T) → k < length ranks → r ≡ get_or ranks k r → (r.book.lost ≡ true → r'.book.lost ≡ true) → NoneLost (set ranks k r') → NoneLost ranks
+  pub lost_before : (ranks : List (Rank J S T)) (k : ℕ) (r r' : Rank J S T) → k < length ranks → r ≡ get_or ranks k r
+      → (r.book.lost ≡ true → r'.book.lost ≡ true) → NoneLost (set ranks k r') → NoneLost ranks
   lost_before ranks k r r' below is lost none j d inside =
       let within : j < length (set ranks k r') = subst (λ (n : ℕ). j < n) (sym (length-set ranks k r')) inside in
       dite (ℕ_discrete j k)
       (λ e.
-      let here : r'.book.lost ≡ false = ap (λ (x : Rank J S T). x.book.lost) (sym (get_or-set_same ranks k r' r' below)) ∙ none k r' (subst (λ (n : ℕ). k < n) (sym (length-set ranks k r')) below) in
-      ap (λ (i : ℕ). (get_or ranks i d).book.lost) e ∙ ap (λ (x : Rank J S T). x.book.lost) (at_place ranks k r d below is) ∙ not_true r.book.lost (λ l. true_not_false r'.book.lost (lost l) here))
+      let here : r'.book.lost ≡ false = ap (λ (x : Rank J S T). x.book.lost) (sym (get_or-set_same ranks k r' r' below))
+      ∙ none k r' (subst (λ (n : ℕ). k < n) (sym (length-set ranks k r')) below) in
+      ap (λ (i : ℕ). (get_or ranks i d).book.lost) e ∙ ap (λ (x : Rank J S T). x.book.lost) (at_place ranks k r d below is)
+      ∙ not_true r.book.lost (λ l. true_not_false r'.book.lost (lost l) here))
       (λ ne. ap (λ (x : Rank J S T). x.book.lost) (sym (get_or-set_other ranks k j r' d ne)) ∙ none j d within)
 
   pub lost_here : (ranks : List (Rank J S T)) (k : ℕ) (r' : Rank J S T) → k < length ranks → NoneLost (set ranks k r') → r'.book.lost ≡ false
   lost_here ranks k r' below none =
-      ap (λ (x : Rank J S T). x.book.lost) (sym (get_or-set_same ranks k r' r' below)) ∙ none k r' (subst (λ (n : ℕ). k < n) (sym (length-set ranks k r')) below)
+      ap (λ (x : Rank J S T). x.book.lost) (sym (get_or-set_same ranks k r' r' below))
+      ∙ none k r' (subst (λ (n : ℕ). k < n) (sym (length-set ranks k r')) below)
 
-  pub wrote_more : (ranks : List (Rank J S T)) (k : ℕ) (r1 r2 : Rank J S T) → moved_on r1 r2 → r1.book.lost ≡ false → r2.book.events.items ≡ [] → NoneWrote ranks → NoneWrote (set ranks k r2)
+  pub wrote_more : (ranks : List (Rank J S T)) (k : ℕ) (r1 r2 : Rank J S T) → moved_on r1 r2 → r1.book.lost ≡ false
+      → r2.book.events.items ≡ [] → NoneWrote ranks → NoneWrote (set ranks k r2)
   wrote_more ranks k r1 r2 moved found none old =
       each-set (λ (j : ℕ) (x : Rank J S T). (x.book.lost ≡ false) × (x.book.events.items ≡ [])) ranks k r2
       (ap (λ (x : Rank J S T). x.book.lost) moved ∙ found, none) (λ j d below ne. old j d below)
 
   at_least : (ranks : List (Rank J S T)) (d : Rank J S T) → IsAscending ranks → (k : ℕ) → k < length ranks → k ≤ (get_or ranks k d).me
   at_least ranks d order zero inside = omega arith
-  at_least ranks d order (suc k) inside = let below = order k (suc k) d (omega arith) inside in let least = at_least ranks d order k (omega arith) in omega arith
+  at_least ranks d order (suc k) inside = let below = order k (suc k) d (omega arith) inside in
+      let least = at_least ranks d order k (omega arith) in omega arith
 
-  other_number : (ranks : List (Rank J S T)) (j k : ℕ) (d : Rank J S T) → IsAscending ranks → j < length ranks → k < length ranks → j ≢ k → (get_or ranks j d).me ≢ (get_or ranks k d).me
+  other_number : (ranks : List (Rank J S T)) (j k : ℕ) (d : Rank J S T) → IsAscending ranks → j < length ranks → k < length ranks → j ≢ k
+      → (get_or ranks j d).me ≢ (get_or ranks k d).me
   other_number ranks j k d order inside within ne same = ⊎_elim
       (λ below. (let h = order j k d below within in absurd (omega arith)))
       (λ above. (let h = order k j d (omega arith) inside in absurd (omega arith)))
@@ -66,15 +75,18 @@ module _ {J S T D : Type 0} (plain : J → D) where
   pub same_order : (ranks ranks' : List (Rank J S T)) → Same plain ranks ranks' → IsAscending ranks → IsAscending ranks'
   same_order ranks ranks' same order j k d below inside =
       let n = same.count in
-      subst (λ (x : ℕ). x < (get_or ranks' k d).me) (sym (same.me j d (omega arith))) (subst (λ (x : ℕ). (get_or ranks j d).me < x) (sym (same.me k d (omega arith))) (order j k d below (omega arith)))
+      subst (λ (x : ℕ). x < (get_or ranks' k d).me) (sym (same.me j d (omega arith)))
+      (subst (λ (x : ℕ). (get_or ranks j d).me < x) (sym (same.me k d (omega arith))) (order j k d below (omega arith)))
 
   pub same_all : (o : Options) (ranks ranks' : List (Rank J S T)) → Same plain ranks ranks' → AreAll o ranks → AreAll o ranks'
   same_all o ranks ranks' same all = record {
     count = same.count ∙ all.count;
-    each = λ k d inside. (let within : k < length ranks = (let n = same.count in omega arith) in (same.me k d within ∙ (all.each k d within).0, same.options k d within ∙ (all.each k d within).1));
+    each = λ k d inside. (let within : k < length ranks = (let n = same.count in omega arith) in
+        (same.me k d within ∙ (all.each k d within).0, same.options k d within ∙ (all.each k d within).1));
   }
 
-  pub same_more : (ranks0 ranks : List (Rank J S T)) (k : ℕ) (r r' : Rank J S T) → k < length ranks → r ≡ get_or ranks k r → r'.me ≡ r.me → r'.options ≡ r.options → plain r'.job ≡ plain r.job
+  pub same_more : (ranks0 ranks : List (Rank J S T)) (k : ℕ) (r r' : Rank J S T) → k < length ranks → r ≡ get_or ranks k r → r'.me ≡ r.me
+      → r'.options ≡ r.options → plain r'.job ≡ plain r.job
       → Same plain ranks0 ranks → Same plain ranks0 (set ranks k r')
   same_more ranks0 ranks k r r' inside is me options facts same =
       let long : length (set ranks k r') ≡ length ranks0 = length-set ranks k r' ∙ same.count in
@@ -84,16 +96,22 @@ module _ {J S T D : Type 0} (plain : J → D) where
       record {
         count = long;
         me = λ j d h. each-set (λ (i : ℕ) (x : Rank J S T). x.me ≡ (get_or ranks0 i d).me) ranks k r'
-            (me ∙ ap (λ (x : Rank J S T). x.me) (sym (was d)) ∙ same.me k d (inner k inside)) (λ i e b ne. ap (λ (x : Rank J S T). x.me) (get_or_default ranks i e d b) ∙ same.me i d (inner i b)) j d (within j h);
+            (me ∙ ap (λ (x : Rank J S T). x.me) (sym (was d)) ∙ same.me k d (inner k inside))
+            (λ i e b ne. ap (λ (x : Rank J S T). x.me) (get_or_default ranks i e d b) ∙ same.me i d (inner i b)) j d (within j h);
         options = λ j d h. each-set (λ (i : ℕ) (x : Rank J S T). x.options ≡ (get_or ranks0 i d).options) ranks k r'
-            (options ∙ ap (λ (x : Rank J S T). x.options) (sym (was d)) ∙ same.options k d (inner k inside)) (λ i e b ne. ap (λ (x : Rank J S T). x.options) (get_or_default ranks i e d b) ∙ same.options i d (inner i b)) j d (within j h);
+            (options ∙ ap (λ (x : Rank J S T). x.options) (sym (was d)) ∙ same.options k d (inner k inside))
+            (λ i e b ne. ap (λ (x : Rank J S T). x.options) (get_or_default ranks i e d b) ∙ same.options i d (inner i b)) j d
+            (within j h);
         facts = λ j d h. each-set (λ (i : ℕ) (x : Rank J S T). plain x.job ≡ plain (get_or ranks0 i d).job) ranks k r'
-            (facts ∙ ap (λ (x : Rank J S T). plain x.job) (sym (was d)) ∙ same.facts k d (inner k inside)) (λ i e b ne. ap (λ (x : Rank J S T). plain x.job) (get_or_default ranks i e d b) ∙ same.facts i d (inner i b)) j d (within j h);
+            (facts ∙ ap (λ (x : Rank J S T). plain x.job) (sym (was d)) ∙ same.facts k d (inner k inside))
+            (λ i e b ne. ap (λ (x : Rank J S T). plain x.job) (get_or_default ranks i e d b) ∙ same.facts i d (inner i b)) j d
+            (within j h);
       }
 
 module _ {J S T P Q : Type 0} (log : J → Log) (shows : S → Shown) (seats : P → S → Type 0) (sums_shows : T → SumShown) (sums_seats : Q → T → Type 0) where
   -- a rank whose seats are still those of the board and the sums
-  placed_still : (done : Bool) (r : Rank J S T) (p p' : P) (q q' : Q) → seats p' r.seat → sums_seats q' r.sums_seat → Placed log shows seats sums_shows sums_seats done r p q → Placed log shows seats sums_shows sums_seats done r p' q'
+  placed_still : (done : Bool) (r : Rank J S T) (p p' : P) (q q' : Q) → seats p' r.seat → sums_seats q' r.sums_seat
+      → Placed log shows seats sums_shows sums_seats done r p q → Placed log shows seats sums_shows sums_seats done r p' q'
   placed_still done r p p' q q' mine sums_mine old =
       let sums = old.ready.sums in
       record {
@@ -102,21 +120,33 @@ module _ {J S T P Q : Type 0} (log : J → Log) (shows : S → Shown) (seats : P
           none = old.ready.none;
           mine = mine;
           lost = old.ready.lost;
-          sums = record { mine = sums_mine; number = sums.number; ranks = sums.ranks; width = sums.width; narrow = sums.narrow; counted = sums.counted; progress = sums.progress };
+          sums = record {
+            mine = sums_mine;
+            number = sums.number;
+            ranks = sums.ranks;
+            width = sums.width;
+            narrow = sums.narrow;
+            counted = sums.counted;
+            progress = sums.progress;
+          };
         };
         over = old.over;
         going = old.going;
       }
 
-  pub placed_more : (flags : List Bool) (ranks : List (Rank J S T)) (p p' : P) (q q' : Q) (k : ℕ) (r r' : Rank J S T) (done' : Bool) → IsAscending ranks → k < length ranks → k < length flags → r ≡ get_or ranks k r
-      → ((other : S) → (shows other).number ≢ r.me → seats p other → seats p' other) → ((other : T) → (sums_shows other).number ≢ r.me → sums_seats q other → sums_seats q' other)
-      → Placed log shows seats sums_shows sums_seats done' r' p' q' → AllPlaced log shows seats sums_shows sums_seats flags ranks p q → AllPlaced log shows seats sums_shows sums_seats (set flags k done') (set ranks k r') p' q'
+  pub placed_more : (flags : List Bool) (ranks : List (Rank J S T)) (p p' : P) (q q' : Q) (k : ℕ) (r r' : Rank J S T) (done' : Bool)
+      → IsAscending ranks → k < length ranks → k < length flags → r ≡ get_or ranks k r
+      → ((other : S) → (shows other).number ≢ r.me → seats p other → seats p' other)
+      → ((other : T) → (sums_shows other).number ≢ r.me → sums_seats q other → sums_seats q' other)
+      → Placed log shows seats sums_shows sums_seats done' r' p' q' → AllPlaced log shows seats sums_shows sums_seats flags ranks p q
+      → AllPlaced log shows seats sums_shows sums_seats (set flags k done') (set ranks k r') p' q'
   placed_more flags ranks p p' q q' k r r' done' order inside flagged is others sums_others new all =
       each-set (λ (j : ℕ) (x : Rank J S T). Placed log shows seats sums_shows sums_seats (get_or (set flags k done') j false) x p' q') ranks k r'
       (subst (λ (b : Bool). Placed log shows seats sums_shows sums_seats b r' p' q') (sym (get_or-set_same flags k done' false flagged)) new)
       (λ j d below ne.
       let old = all j d below in
-      let away : (get_or ranks j d).me ≢ r.me = λ e. other_number ranks j k d order below inside ne (e ∙ ap (λ (x : Rank J S T). x.me) (sym (at_place ranks k r d inside is))) in
+      let away : (get_or ranks j d).me ≢ r.me =
+      λ e. other_number ranks j k d order below inside ne (e ∙ ap (λ (x : Rank J S T). x.me) (sym (at_place ranks k r d inside is))) in
       subst (λ (b : Bool). Placed log shows seats sums_shows sums_seats b (get_or ranks j d) p' q') (sym (get_or-set_other flags k j done' false ne))
       (placed_still (get_or flags j false) (get_or ranks j d) p p' q q'
       (others (get_or ranks j d).seat (λ e. away (sym old.ready.knows.number ∙ e)) old.ready.mine)
@@ -131,21 +161,27 @@ module _ {J S T P Q : Type 0} (log : J → Log) (shows : S → Shown) (seats : P
       let few = last.ready.knows.few in
       omega arith
 
-  pub at_most_64 : (ranks : List (Rank J S T)) (p : P) (q : Q) → IsAscending ranks → AllReady log shows seats sums_shows sums_seats ranks p q → length ranks ≤ 64
+  pub at_most_64 : (ranks : List (Rank J S T)) (p : P) (q : Q) → IsAscending ranks
+      → AllReady log shows seats sums_shows sums_seats ranks p q → length ranks ≤ 64
   at_most_64 ranks p q order ready = few_ranks ranks p q order ready
 
-  pub placed_first : (flags : List Bool) (ranks : List (Rank J S T)) (p : P) (q : Q) → ((k : ℕ) → get_or flags k false ≡ false) → AllReady log shows seats sums_shows sums_seats ranks p q → AllPlaced log shows seats sums_shows sums_seats flags ranks p q
-  placed_first flags ranks p q unset ready k d inside = subst (λ (b : Bool). Placed log shows seats sums_shows sums_seats b (get_or ranks k d) p q) (sym (unset k)) (ready k d inside)
+  pub placed_first : (flags : List Bool) (ranks : List (Rank J S T)) (p : P) (q : Q) → ((k : ℕ) → get_or flags k false ≡ false)
+      → AllReady log shows seats sums_shows sums_seats ranks p q → AllPlaced log shows seats sums_shows sums_seats flags ranks p q
+  placed_first flags ranks p q unset ready k d inside =
+      subst (λ (b : Bool). Placed log shows seats sums_shows sums_seats b (get_or ranks k d) p q) (sym (unset k)) (ready k d inside)
 
-  pub placed_last : (flags : List Bool) (ranks : List (Rank J S T)) (p : P) (q : Q) (n : ℕ) → n ≡ length ranks → n ≤ length flags → ((k : ℕ) → k < length (take n flags) → get_or (take n flags) k false ≡ true)
+  pub placed_last : (flags : List Bool) (ranks : List (Rank J S T)) (p : P) (q : Q) (n : ℕ) → n ≡ length ranks → n ≤ length flags
+      → ((k : ℕ) → k < length (take n flags) → get_or (take n flags) k false ≡ true)
       → AllPlaced log shows seats sums_shows sums_seats flags ranks p q → AllEnded log shows seats sums_shows sums_seats ranks p q
   placed_last flags ranks p q n is few set all k d inside =
       let below : k < n = omega arith in
       let within : k < length (take n flags) = (let l = length-take-le n flags few in omega arith) in
-      subst (λ (b : Bool). Placed log shows seats sums_shows sums_seats b (get_or ranks k d) p q) (sym (get_or-take n flags k false below) ∙ set k within) (all k d inside)
+      subst (λ (b : Bool). Placed log shows seats sums_shows sums_seats b (get_or ranks k d) p q)
+      (sym (get_or-take n flags k false below) ∙ set k within) (all k d inside)
 
   -- a rank whose events were taken away
-  pub placed_moved : (done : Bool) (r r' : Rank J S T) (p : P) (q : Q) → moved_on r r' → Placed log shows seats sums_shows sums_seats done r p q → Placed log shows seats sums_shows sums_seats done r' p q
+  pub placed_moved : (done : Bool) (r r' : Rank J S T) (p : P) (q : Q) → moved_on r r'
+      → Placed log shows seats sums_shows sums_seats done r p q → Placed log shows seats sums_shows sums_seats done r' p q
   placed_moved done r r' p q same old =
       let knows = old.ready.knows in
       let sums = old.ready.sums in
@@ -170,7 +206,15 @@ module _ {J S T P Q : Type 0} (log : J → Log) (shows : S → Shown) (seats : P
           none = old.ready.none;
           mine = old.ready.mine;
           lost = old.ready.lost;
-          sums = record { mine = sums.mine; number = sums.number; ranks = sums.ranks; width = sums.width; narrow = sums.narrow; counted = sums.counted; progress = sums.progress };
+          sums = record {
+            mine = sums.mine;
+            number = sums.number;
+            ranks = sums.ranks;
+            width = sums.width;
+            narrow = sums.narrow;
+            counted = sums.counted;
+            progress = sums.progress;
+          };
         };
         over = old.over;
         going = old.going;

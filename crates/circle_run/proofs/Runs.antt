@@ -1,5 +1,7 @@
 -- What is played is a legal run of the ranks' world, to the world of the stage.
-use Rattle.std.proofs.Common.{◌≡◌, ℕ, suc, ◌+◌, ◌<◌, ◌^◌, ◌==◌, ◌%◌, refl, sym, subst, ap, ◌∙◌, arith, Bool, true, false, cond, List, [], ◌∷◌, ◌++◌, map, length, length-append, append_assoc, length-set, set, get_or, get_or-set_same, get_or-set_other, Option, Some, None, eq-eqb, ne_eqb, count_by}
+use Rattle.std.proofs.Common.{◌≡◌, ℕ, suc, ◌+◌, ◌<◌, ◌^◌, ◌==◌, ◌%◌, refl, sym, subst, ap, ◌∙◌, arith, Bool, true, false, cond, List, [], ◌∷◌, ◌++◌}
+use Rattle.std.proofs.Common.{map, length, length-append, append_assoc, length-set, set, get_or, get_or-set_same, get_or-set_other, Option, Some}
+use Rattle.std.proofs.Common.{None, eq-eqb, ne_eqb, count_by}
 use Rattle.std.proofs.lemmas.List.{get_or-replicate, length-replicate, nil_from_length}
 use Rattle.std.proofs.lemmas.List.FromFn.{length-map-range_with_len, get_or-map-range_with_len, fill_by_all}
 use Rattle.std.proofs.lemmas.List.Sums.{sum_by-cons}
@@ -21,7 +23,8 @@ use Rattle.circle_run.specs.Moves.{Move, handled, served, did, Side, answer_of, 
 use Rattle.circle_run.specs.Stages.{RankSide, Stage, no_side, rank_side, side, Plays, events_of_all, dealt_from, new_place, begun}
 use Rattle.circle_run.specs.Worlds.{state_of, world_of, MovesAreLegalRun}
 use Rattle.circle_run.specs.declared.settings.Options.{Options}
-use Rattle.circle_run.proofs.Deeds.{put_here, put_elsewhere, put_all, Shape, LeavesQueue, requeue, deed_legal, deed_leaves, handle_legal, handle_leaves, token_same, some_is}
+use Rattle.circle_run.proofs.Deeds.{put_here, put_elsewhere, put_all, Shape, LeavesQueue, requeue, deed_legal, deed_leaves, handle_legal}
+use Rattle.circle_run.proofs.Deeds.{handle_leaves, token_same, some_is}
 use Rattle.circle_run.proofs.Begun.{ranks_begun, side_begun}
 use Rattle.circle_run.proofs.Shared.{one_stays}
 
@@ -69,7 +72,8 @@ reaches_more w xs ys t u q p first next = record {
 shows_queues : (w : Seen) (t : Told) (p q : ℕ → Strings) → ((k : ℕ) → k < length w.0 → p k ≡ q k) → Shows w t q → Shows w t p
 shows_queues w t p q same shows = record { shape = requeue t p q w.0 same shows.shape; token = shows.token }
 
-reaches_queues : (w : Seen) (events : List Event) (t : Told) (p q : ℕ → Strings) → ((k : ℕ) → k < length w.0 → p k ≡ q k) → Reaches w events t q → Reaches w events t p
+reaches_queues : (w : Seen) (events : List Event) (t : Told) (p q : ℕ → Strings) → ((k : ℕ) → k < length w.0 → p k ≡ q k)
+    → Reaches w events t q → Reaches w events t p
 reaches_queues w events t p q same r = record {
   run = r.run;
   shows = shows_queues (after_all w events) t p q (λ k below. same k (subst (λ (n : ℕ). k < n) r.sized below)) r.shows;
@@ -112,9 +116,12 @@ answers_reach [] w t u q me rest shows oldest stays told =
 answers_reach (x ∷ xs) w t u q me rest shows oldest stays (mid, (legal, same), told) =
     let left : Strings = flat_map (λ (x : ℕ × Strings). x.1) xs ++ rest in
     let first : q me ≡ x.1 ++ left = oldest ∙ append_assoc x.1 (flat_map (λ (x : ℕ × Strings). x.1) xs) rest in
-    let split : length (x.1 ++ flat_map (λ (x : ℕ × Strings). x.1) xs) ≡ length x.1 + length (flat_map (λ (x : ℕ × Strings). x.1) xs) = length-append x.1 (flat_map (λ (x : ℕ × Strings). x.1) xs) in
+    let split : length (x.1 ++ flat_map (λ (x : ℕ × Strings). x.1) xs) ≡ length x.1 + length (flat_map (λ (x : ℕ × Strings). x.1) xs) =
+    length-append x.1 (flat_map (λ (x : ℕ × Strings). x.1) xs) in
     let keeps : 0 < length x.1 → 0 < length left =
-    λ some. (let r : 0 < length rest = stays (omega arith) in let e : length left ≡ length (flat_map (λ (x : ℕ × Strings). x.1) xs) + length rest = length-append (flat_map (λ (x : ℕ × Strings). x.1) xs) rest in omega arith) in
+    λ some. (let r : 0 < length rest = stays (omega arith) in
+    let e : length left ≡ length (flat_map (λ (x : ℕ × Strings). x.1) xs) + length rest =
+    length-append (flat_map (λ (x : ℕ × Strings). x.1) xs) rest in omega arith) in
     let one : Reaches w (event_of me (answer_of x) ∷ []) (told_after me (answer_of x) t) (put q me left) =
     deed_reaches w t q me (answer_of x) left shows legal (answer_moves x (q me) left first keeps) in
     let more : Reaches (after_all w (event_of me (answer_of x) ∷ [])) (map (λ x. event_of me (answer_of x)) xs) u (put (put q me left) me rest) =
@@ -122,7 +129,8 @@ answers_reach (x ∷ xs) w t u q me rest shows oldest stays (mid, (legal, same),
     (put_here q me left) (λ some. stays (omega arith))
     (subst (λ (m : Option Told). TellsAll me (map answer_of xs) m (Some u)) same told) in
     reaches_queues w (map (λ x. event_of me (answer_of x)) (x ∷ xs)) u (put q me rest) (put (put q me left) me rest) (λ k below. put_twice q me left rest k)
-    (reaches_more w (event_of me (answer_of x) ∷ []) (map (λ x. event_of me (answer_of x)) xs) (told_after me (answer_of x) t) u (put q me left) (put (put q me left) me rest) one more)
+    (reaches_more w (event_of me (answer_of x) ∷ []) (map (λ x. event_of me (answer_of x)) xs) (told_after me (answer_of x) t) u
+    (put q me left) (put (put q me left) me rest) one more)
 
 -- what a deed by itself does to the queue
 deed_moves : (d : Deed) (q q' : Strings) → Queues d q q' → length q' < 2 ^ 64 → LeavesQueue d q q'
@@ -144,12 +152,14 @@ handle_reaches w t u q x y me path kids shows here handles =
     let same : u ≡ t = some_is u t (ap (λ (s : Side). s.told) handles.after) in
     let queue : y.queue ≡ handles.rest ++ kids = ap (λ (s : Side). s.queue) handles.after in
     let state : rank_of w.0 me ≡ state_of (q me) (place t me) = shows.shape.states me inside in
-    let count : (rank_of w.0 me).queued ≡ length handles.rest + 1 = ap (λ (s : RankState). s.queued) state ∙ ap length newest ∙ length-append handles.rest (path ∷ []) in
+    let count : (rank_of w.0 me).queued ≡ length handles.rest + 1 = ap (λ (s : RankState). s.queued) state ∙ ap length newest
+    ∙ length-append handles.rest (path ∷ []) in
     let both : length (handles.rest ++ kids) ≡ length handles.rest + length kids = length-append handles.rest kids in
     let few : length (handles.rest ++ kids) < 2 ^ 64 = handles.few in
     let legal : refusal w.0 w.1 (Handle me path (length kids)) ≡ None =
     handle_legal w.0 w.1 me path (length kids) inside (ap (λ (s : RankState). s.ended) state ∙ handles.live.1) (omega arith) (omega arith) in
-    let leaves : Shape t (put q me (handles.rest ++ kids)) (ranks_after w.0 (Handle me path (length kids))) = handle_leaves t q w.0 shows.shape me path kids handles.rest handles.live.0 newest in
+    let leaves : Shape t (put q me (handles.rest ++ kids)) (ranks_after w.0 (Handle me path (length kids))) =
+    handle_leaves t q w.0 shows.shape me path kids handles.rest handles.live.0 newest in
     record {
       run = (legal, tt);
       shows = record {
@@ -168,7 +178,8 @@ move_reaches o (served answers) w t u q x y me shows here does =
 move_reaches o (did d) w t u q x y me shows here does =
     let told : Tells me d (Some t) (Some u) = does.told in
     let moves : LeavesQueue d (q me) y.queue = subst (λ (l : Strings). LeavesQueue d l y.queue) (sym here) (deed_moves d x.queue y.queue does.queue does.few) in
-    subst (λ (v : Told). Reaches w (event_of me d ∷ []) v (put q me y.queue)) (sym (some_is u (told_after me d t) told.1)) (deed_reaches w t q me d y.queue shows told.0 moves)
+    subst (λ (v : Told). Reaches w (event_of me d ∷ []) v (put q me y.queue)) (sym (some_is u (told_after me d t) told.1))
+    (deed_reaches w t q me d y.queue shows told.0 moves)
 
 abbrev pub queues : List RankSide → ℕ → Strings
 queues ranks r = (get_or ranks r no_side).queue
@@ -186,7 +197,8 @@ pub record Played (w : Seen) (moves : List (ℕ × Move)) (from to : Stage) : Ty
   pub ranks : length to.ranks ≡ length from.ranks
 
 -- one move of a run
-pub step_reaches : (o : Options) (m : ℕ × Move) (w : Seen) (from : Stage) (x : RankSide) (t : Told) → Shows w from.told (queues from.ranks) → length from.ranks ≡ length w.0
+pub step_reaches : (o : Options) (m : ℕ × Move) (w : Seen) (from : Stage) (x : RankSide) (t : Told) → Shows w from.told (queues from.ranks)
+    → length from.ranks ≡ length w.0
     → Does o m.0 m.1 (side (rank_side from m.0) from.told) (side x t) → Reaches w (events_of m.0 m.1) t (queues (set from.ranks m.0 x))
 step_reaches o m w from x t shows sized does =
     reaches_queues w (events_of m.0 m.1) t (queues (set from.ranks m.0 x)) (put (queues from.ranks) m.0 x.queue)
@@ -249,11 +261,13 @@ pub record FromStart (o : Options) (starts : Strings) (moves : List (ℕ × Move
   pub reaches : Reaches (started o.ranks (length starts)) (events_of_all moves) stage.told (queues stage.ranks)
   pub as_many : length (after_all (started o.ranks (length starts)) (events_of_all moves)).0 ≡ length stage.ranks
 
-pub from_start : (o : Options) (starts : Strings) (moves : List (ℕ × Move)) (stage : Stage) → Plays o moves (begun o starts) stage → FromStart o starts moves stage
+pub from_start : (o : Options) (starts : Strings) (moves : List (ℕ × Move)) (stage : Stage) → Plays o moves (begun o starts) stage
+    → FromStart o starts moves stage
 from_start o starts moves stage plays =
     let w : Seen = started o.ranks (length starts) in
     let sized : length w.0 ≡ o.ranks = length-map-range_with_len (λ r. fresh (dealt o.ranks (length starts) r)) 0 o.ranks in
-    let played : Played w moves (begun o starts) stage = moves_reach o moves w (begun o starts) stage (shows_begun o starts) (ranks_begun o starts ∙ sym sized) plays in
+    let played : Played w moves (begun o starts) stage =
+    moves_reach o moves w (begun o starts) stage (shows_begun o starts) (ranks_begun o starts ∙ sym sized) plays in
     record { reaches = played.reaches; as_many = played.reaches.sized ∙ sized ∙ sym (ranks_begun o starts) ∙ sym played.ranks }
 
 pub moves_are_legal_run : MovesAreLegalRun

@@ -1,5 +1,6 @@
 -- A service, one answer after the other, and what it comes to.
-use Rattle.std.proofs.Common.{◌≡◌, ℕ, All, zero, suc, ◌+◌, ◌-◌, ◌<◌, ◌≤◌, ◌⊎◌, refl, sym, subst, ap, ◌∙◌, arith, Bool, true, false, List, [], ◌∷◌, ◌++◌, map, take, length, length-append, append_assoc, append-nil, get_or, Option}
+use Rattle.std.proofs.Common.{◌≡◌, ℕ, All, zero, suc, ◌+◌, ◌-◌, ◌<◌, ◌≤◌, ◌⊎◌, refl, sym, subst, ap, ◌∙◌, arith, Bool, true, false, List, [], ◌∷◌}
+use Rattle.std.proofs.Common.{◌++◌, map, take, length, length-append, append_assoc, append-nil, get_or, Option}
 use Rattle.std.specs.Prelude.{if◌then◌else◌}
 use Rattle.std.specs.List.{flat_map}
 use Rattle.std.proofs.lemmas.List.{map-append, length-map, length-take-le, get_or-take, get_or-map}
@@ -50,12 +51,29 @@ kept_of_none true xs = sym (append-nil xs)
 kept_of_none false xs = sym (append-nil xs)
 
 module _ {J S T P : Type 0} (log : J → Log) (shows : S → Shown) (tells : P → Option Told) (seats : P → S → Type 0) where
-  pub serving_none : (r : Rank J S T) (p : P) (asks : List ℕ) (lot : Lot) (count : ℕ) → Knows shows r → seats p r.seat → Awaits (shows r.seat) (tells p) → AsksOf (shows r.seat) asks 0 count → Fits lot count (length r.queue)
+  pub serving_none : (r : Rank J S T) (p : P) (asks : List ℕ) (lot : Lot) (count : ℕ) → Knows shows r → seats p r.seat
+      → Awaits (shows r.seat) (tells p) → AsksOf (shows r.seat) asks 0 count → Fits lot count (length r.queue)
       → Serving log shows tells seats r p r p asks lot lot 0 count
   serving_none r p asks lot count knows mine awaits asked fits =
       let all : count ≡ count - 0 = omega arith in
       record {
-        on = record { knows = knows; mine = mine; others = λ o ne s. s; still = λ e. refl; me = refl; options = refl; sums_seat = refl; sums = refl; job = refl; ended = refl; asked = refl; tried = refl; here = refl; lost = λ l. l; awaits = awaits };
+        on = record {
+          knows = knows;
+          mine = mine;
+          others = λ o ne s. s;
+          still = λ e. refl;
+          me = refl;
+          options = refl;
+          sums_seat = refl;
+          sums = refl;
+          job = refl;
+          ended = refl;
+          asked = refl;
+          tried = refl;
+          here = refl;
+          lost = λ l. l;
+          awaits = awaits;
+        };
         left = asked;
         went = λ found. subst (λ (m : ℕ). SoFar log shows tells seats r p r p [] lot lot count m) all (record {
           had = found;
@@ -72,9 +90,11 @@ module _ {J S T P : Type 0} (log : J → Log) (shows : S → Shown) (tells : P �
         });
       }
 
-  so_far_more : (r : Rank J S T) (p : P) (r1 : Rank J S T) (p1 : P) (r2 : Rank J S T) (p2 : P) (asks : List ℕ) (lot lot1 lot2 : Lot) (k count m share : ℕ) (d : Lcg)
+  so_far_more : (r : Rank J S T) (p : P) (r1 : Rank J S T) (p1 : P) (r2 : Rank J S T) (p2 : P) (asks : List ℕ) (lot lot1 lot2 : Lot)
+      (k count m share : ℕ) (d : Lcg)
       → k < length asks → r1.me ≡ r.me → r1.options ≡ r.options → r2.draws ≡ d
-      → (amounts_of lot1 (suc m) r1.draws).0 ≡ share ∷ (amounts_of lot2 m d).0 → (amounts_of lot1 (suc m) r1.draws).1 ≡ (amounts_of lot2 m d).1 → ((q : ℕ) → Fits lot1 (suc m) (q + share) → Fits lot2 m q)
+      → (amounts_of lot1 (suc m) r1.draws).0 ≡ share ∷ (amounts_of lot2 m d).0
+      → (amounts_of lot1 (suc m) r1.draws).1 ≡ (amounts_of lot2 m d).1 → ((q : ℕ) → Fits lot1 (suc m) (q + share) → Fits lot2 m q)
       → r2.book.lost ≡ false → Gave log shows tells seats (get_or asks k 0) share (record r1 { draws = d }) p1 r2 p2
       → SoFar log shows tells seats r p r1 p1 (take k asks) lot lot1 count (suc m) → SoFar log shows tells seats r p r2 p2 (take (k + 1) asks) lot lot2 count m
   so_far_more r p r1 p1 r2 p2 asks lot lot1 lot2 k count m share d room me options draws first drawn fits found gave old =
@@ -85,33 +105,42 @@ module _ {J S T P : Type 0} (log : J → Log) (shows : S → Shown) (tells : P �
       let e : Event = event_of r.me (answer_of x) in
       let more : k + 1 ≡ suc k = omega arith in
       let trace : r1.options.trace ≡ r.options.trace = ap (λ (o : Options). o.trace) options in
-      let events : events_of r.me (served (old.answers ++ one)) ≡ es ++ e ∷ [] = map-append (λ (y : ℕ × Strings). event_of r.me (answer_of y)) old.answers one in
+      let events : events_of r.me (served (old.answers ++ one)) ≡ es ++ e ∷ [] =
+      map-append (λ (y : ℕ × Strings). event_of r.me (answer_of y)) old.answers one in
       let deeds : map answer_of (old.answers ++ one) ≡ map answer_of old.answers ++ answer_of x ∷ [] = map-append answer_of old.answers one in
       let strings : flat_map (λ (y : ℕ × Strings). y.1) (old.answers ++ one) ≡ flat_map (λ (y : ℕ × Strings). y.1) old.answers ++ gave.batch =
-      flat_map-append (λ (y : ℕ × Strings). y.1) old.answers one ∙ ap (λ (q : Strings). flat_map (λ (y : ℕ × Strings). y.1) old.answers ++ q) (append-nil gave.batch) in
+      flat_map-append (λ (y : ℕ × Strings). y.1) old.answers one
+      ∙ ap (λ (q : Strings). flat_map (λ (y : ℕ × Strings). y.1) old.answers ++ q) (append-nil gave.batch) in
       let lengths : map (λ (y : ℕ × Strings). length y.1) (old.answers ++ one) ≡ map (λ (y : ℕ × Strings). length y.1) old.answers ++ share ∷ [] =
       map-append (λ (y : ℕ × Strings). length y.1) old.answers one ∙ ap (λ (n : ℕ). map (λ (y : ℕ × Strings). length y.1) old.answers ++ n ∷ []) gave.amount in
       record {
         had = old.had;
         answers = old.answers ++ one;
-        are = map-append (λ (y : ℕ × Strings). y.0) old.answers one ∙ ap (λ (xs : List ℕ). xs ++ to ∷ []) old.are ∙ sym (take-suc asks k 0 room) ∙ ap (λ (i : ℕ). take i asks) (sym more);
+        are = map-append (λ (y : ℕ × Strings). y.0) old.answers one ∙ ap (λ (xs : List ℕ). xs ++ to ∷ []) old.are
+            ∙ sym (take-suc asks k 0 room) ∙ ap (λ (i : ℕ). take i asks) (sym more);
         shares = old.shares ∙ ap (λ (xs : List ℕ). map (λ (y : ℕ × Strings). length y.1) old.answers ++ xs) first
             ∙ sym (append_assoc (map (λ (y : ℕ × Strings). length y.1) old.answers) (share ∷ []) (amounts_of lot2 m d).0)
             ∙ ap (λ (xs : List ℕ). xs ++ (amounts_of lot2 m d).0) (sym lengths)
             ∙ ap (λ (f : Lcg). map (λ (y : ℕ × Strings). length y.1) (old.answers ++ one) ++ (amounts_of lot2 m f).0) (sym draws);
         drawn = old.drawn ∙ drawn ∙ ap (λ (f : Lcg). (amounts_of lot2 m f).1) (sym draws);
-        fits = fits (length r2.queue) (let all : length r1.queue ≡ length r2.queue + share = (let h : length r1.queue ≡ length gave.batch + length r2.queue = ap length gave.oldest ∙ length-append gave.batch r2.queue in let a = gave.amount in omega arith) in subst (Fits lot1 (suc m)) all old.fits);
+        fits = fits (length r2.queue)
+            (let all : length r1.queue ≡ length r2.queue + share =
+            (let h : length r1.queue ≡ length gave.batch + length r2.queue = ap length gave.oldest ∙ length-append gave.batch r2.queue in
+            let a = gave.amount in omega arith) in subst (Fits lot1 (suc m)) all old.fits);
         oldest = old.oldest ∙ ap (λ (q : Strings). flat_map (λ (y : ℕ × Strings). y.1) old.answers ++ q) gave.oldest
             ∙ sym (append_assoc (flat_map (λ (y : ℕ × Strings). y.1) old.answers) gave.batch r2.queue) ∙ ap (λ (q : Strings). q ++ r2.queue) (sym strings);
-        batches = gave.batches ∙ ap (batches_after (answer_of x)) old.batches ∙ sym (batches_push (map answer_of old.answers) (answer_of x) (shows r.seat).batches)
+        batches = gave.batches ∙ ap (batches_after (answer_of x)) old.batches
+            ∙ sym (batches_push (map answer_of old.answers) (answer_of x) (shows r.seat).batches)
             ∙ ap (λ (ds : List Deed). batches_after_all ds (shows r.seat).batches) (sym deeds);
         told = subst (λ (ds : List Deed). TellsAll r.me ds (tells p) (tells p2)) (sym deeds)
-            (told_push r.me (map answer_of old.answers) (answer_of x) (tells p) (tells p1) (tells p2) old.told (subst (λ (i : ℕ). Tells i (answer_of x) (tells p1) (tells p2)) me gave.told));
+            (told_push r.me (map answer_of old.answers) (answer_of x) (tells p) (tells p1) (tells p2) old.told
+            (subst (λ (i : ℕ). Tells i (answer_of x) (tells p1) (tells p2)) me gave.told));
         kept = gave.writes.kept found
             ∙ ap (λ (xs : List Event). xs ++ (if r1.options.trace then event_of r1.me (answer_of x) ∷ [] else [])) old.kept
             ∙ append_assoc r.book.events.items (if r.options.trace then es else []) (if r1.options.trace then event_of r1.me (answer_of x) ∷ [] else [])
             ∙ ap (λ (t : Bool). r.book.events.items ++ ((if r.options.trace then es else []) ++ (if t then event_of r1.me (answer_of x) ∷ [] else []))) trace
-            ∙ ap (λ (i : ℕ). r.book.events.items ++ ((if r.options.trace then es else []) ++ (if r.options.trace then event_of i (answer_of x) ∷ [] else []))) me
+            ∙ ap (λ (i : ℕ). r.book.events.items ++
+            ((if r.options.trace then es else []) ++ (if r.options.trace then event_of i (answer_of x) ∷ [] else []))) me
             ∙ ap (λ (xs : List Event). r.book.events.items ++ xs) (sym (kept_then r.options.trace es (e ∷ [])))
             ∙ ap (λ (xs : List Event). r.book.events.items ++ (if r.options.trace then xs else [])) (sym events);
         share = gave.writes.share found
@@ -121,9 +150,11 @@ module _ {J S T P : Type 0} (log : J → Log) (shows : S → Shown) (tells : P �
             ∙ ap (λ (xs : List Event). counted xs r.book.share) (sym events);
       }
 
-  pub serving_more : (r : Rank J S T) (p : P) (r1 : Rank J S T) (p1 : P) (r2 : Rank J S T) (p2 : P) (asks : List ℕ) (lot lot1 lot2 : Lot) (k count share : ℕ) (d : Lcg)
+  pub serving_more : (r : Rank J S T) (p : P) (r1 : Rank J S T) (p1 : P) (r2 : Rank J S T) (p2 : P) (asks : List ℕ) (lot lot1 lot2 : Lot)
+      (k count share : ℕ) (d : Lcg)
       → k < count → count ≤ length asks
-      → ((m : ℕ) → (amounts_of lot1 (suc m) r1.draws).0 ≡ share ∷ (amounts_of lot2 m d).0) → ((m : ℕ) → (amounts_of lot1 (suc m) r1.draws).1 ≡ (amounts_of lot2 m d).1)
+      → ((m : ℕ) → (amounts_of lot1 (suc m) r1.draws).0 ≡ share ∷ (amounts_of lot2 m d).0)
+      → ((m : ℕ) → (amounts_of lot1 (suc m) r1.draws).1 ≡ (amounts_of lot2 m d).1)
       → ((m q : ℕ) → Fits lot1 (suc m) q → (share ≡ 0) ⊎ (share < q)) → ((m q : ℕ) → Fits lot1 (suc m) (q + share) → Fits lot2 m q)
       → Answered log shows tells seats (get_or asks k 0) share (record r1 { draws = d }) p1 r2 p2
       → Serving log shows tells seats r p r1 p1 asks lot lot1 k count → Serving log shows tells seats r p r2 p2 asks lot lot2 (k + 1) count
@@ -153,11 +184,14 @@ module _ {J S T P : Type 0} (log : J → Log) (shows : S → Shown) (tells : P �
         left = asks_less (shows r1.seat) (shows r2.seat) asks k count answered.serves more old.left;
         went = λ found.
             let before : r1.book.lost ≡ false = not_true r1.book.lost (λ l. true_not_false r2.book.lost (a.lost l) found) in
-            let far : SoFar log shows tells seats r p r1 p1 (take k asks) lot lot1 count (suc m) = subst (λ (i : ℕ). SoFar log shows tells seats r p r1 p1 (take k asks) lot lot1 count i) next (old.went before) in
-            so_far_more r p r1 p1 r2 p2 asks lot lot1 lot2 k count m share d (omega arith) b.me b.options answered.draws (first m) (drawn m) (λ q. fits m q) found (answered.went found (less m (length r1.queue) far.fits)) far;
+            let far : SoFar log shows tells seats r p r1 p1 (take k asks) lot lot1 count (suc m) =
+            subst (λ (i : ℕ). SoFar log shows tells seats r p r1 p1 (take k asks) lot lot1 count i) next (old.went before) in
+            so_far_more r p r1 p1 r2 p2 asks lot lot1 lot2 k count m share d (omega arith) b.me b.options answered.draws (first m) (drawn m)
+            (λ q. fits m q) found (answered.went found (less m (length r1.queue) far.fits)) far;
       }
 
-names_of : (answers : List (ℕ × Strings)) (asks : List ℕ) (count n : ℕ) → map (λ (y : ℕ × Strings). y.0) answers ≡ take count asks → length answers ≡ count → ((j : ℕ) → j < count → get_or asks j 0 < n) → All (λ (y : ℕ × Strings). y.0 < n) answers
+names_of : (answers : List (ℕ × Strings)) (asks : List ℕ) (count n : ℕ) → map (λ (y : ℕ × Strings). y.0) answers ≡ take count asks
+    → length answers ≡ count → ((j : ℕ) → j < count → get_or asks j 0 < n) → All (λ (y : ℕ × Strings). y.0 < n) answers
 names_of answers asks count n are total below k d h =
     let e : get_or asks k 0 ≡ (get_or answers k d).0 =
     sym (get_or-take count asks k 0 (omega arith)) ∙ ap (λ (xs : List ℕ). get_or xs k 0) (sym are) ∙ get_or-map (λ (y : ℕ × Strings). y.0) answers k d 0 h
@@ -169,15 +203,19 @@ served_below xs r e = dite (dec_le (length xs) r) (λ past. absurd (true_not_fal
 
 module _ {J S T P Q : Type 0} (log : J → Log) (plain : J → Q) (shows : S → Shown) (tells : P → Option Told) (seats : P → S → Type 0) where
   -- what was done from one rank on was done from another that is as much
-  went_from : (A : List Move → Type 0) (r0 : Rank J S T) (p0 : P) (r : Rank J S T) (p : P) (r1 : Rank J S T) (p1 : P) → r.me ≡ r0.me → r.options ≡ r0.options → r.book ≡ r0.book
-      → side log plain shows tells seats r p ≡ side log plain shows tells seats r0 p0 → Went log plain shows tells seats A r p r1 p1 → Went log plain shows tells seats A r0 p0 r1 p1
+  went_from : (A : List Move → Type 0) (r0 : Rank J S T) (p0 : P) (r : Rank J S T) (p : P) (r1 : Rank J S T) (p1 : P) → r.me ≡ r0.me
+      → r.options ≡ r0.options → r.book ≡ r0.book
+      → side log plain shows tells seats r p ≡ side log plain shows tells seats r0 p0 → Went log plain shows tells seats A r p r1 p1
+      → Went log plain shows tells seats A r0 p0 r1 p1
   went_from A r0 p0 r p r1 p1 me options book same w =
       let last : Side = side log plain shows tells seats r1 p1 in
       record {
         had = sym (ap (λ (b : Book). b.lost) book) ∙ w.had;
         moves = w.moves;
         are = w.are;
-        does = subst (λ (s : Side). DoesAll r0.options r0.me w.moves s last) same (subst (λ (k : ℕ). DoesAll r0.options k w.moves (side log plain shows tells seats r p) last) me (subst (λ (o : Options). DoesAll o r.me w.moves (side log plain shows tells seats r p) last) options w.does));
+        does = subst (λ (s : Side). DoesAll r0.options r0.me w.moves s last) same
+            (subst (λ (k : ℕ). DoesAll r0.options k w.moves (side log plain shows tells seats r p) last) me
+            (subst (λ (o : Options). DoesAll o r.me w.moves (side log plain shows tells seats r p) last) options w.does));
         kept = w.kept
             ∙ ap (λ (b : Book). b.events.items ++ (if r.options.trace then flat_map (events_of r.me) w.moves else [])) book
             ∙ ap (λ (o : Options). r0.book.events.items ++ (if o.trace then flat_map (events_of r.me) w.moves else [])) options
@@ -187,14 +225,18 @@ module _ {J S T P Q : Type 0} (log : J → Log) (plain : J → Q) (shows : S →
             ∙ ap (λ (k : ℕ). counted (flat_map (events_of k) w.moves) r0.book.share) me;
       }
 
-  went_served : (b : Bool) (r : Rank J S T) (p : P) (r1 : Rank J S T) (p1 : P) (asks : List ℕ) (lot lot1 : Lot) (count m : ℕ) → (b ≡ false → count ≡ 0) → (b ≡ true → 0 < count) → m ≡ 0 → count ≤ length asks
-      → ((from : Lcg) → amounts_of lot count from ≡ amounts r.options.split (length r.queue) count from) → AreAskers r.me (tells p) (take count asks) → ((j : ℕ) → j < count → get_or asks j 0 < r.options.ranks) → r1.job ≡ r.job
+  went_served : (b : Bool) (r : Rank J S T) (p : P) (r1 : Rank J S T) (p1 : P) (asks : List ℕ) (lot lot1 : Lot) (count m : ℕ)
+      → (b ≡ false → count ≡ 0) → (b ≡ true → 0 < count) → m ≡ 0 → count ≤ length asks
+      → ((from : Lcg) → amounts_of lot count from ≡ amounts r.options.split (length r.queue) count from)
+      → AreAskers r.me (tells p) (take count asks) → ((j : ℕ) → j < count → get_or asks j 0 < r.options.ranks) → r1.job ≡ r.job
       → SoFar log shows tells seats r p r1 p1 (take count asks) lot lot1 count m → Went log plain shows tells seats (Served b) r p r1 p1
   went_served b r p r1 p1 asks lot lot1 count m none some done room are askers below job far =
       let total : length far.answers ≡ count = sym (length-map far.answers (λ (y : ℕ × Strings). y.0)) ∙ ap length far.are ∙ length-take-le count asks room in
       let rest : amounts_of lot1 m r1.draws ≡ ([], r1.draws) = ap (λ (i : ℕ). amounts_of lot1 i r1.draws) done ∙ none_more lot1 r1.draws in
-      let all : amounts r.options.split (length r.queue) (length far.answers) r.draws ≡ amounts_of lot count r.draws = ap (λ (i : ℕ). amounts r.options.split (length r.queue) i r.draws) total ∙ sym (are r.draws) in
-      let events : flat_map (events_of r.me) (served far.answers ∷ []) ≡ events_of r.me (served far.answers) = append-nil (events_of r.me (served far.answers)) in
+      let all : amounts r.options.split (length r.queue) (length far.answers) r.draws ≡ amounts_of lot count r.draws =
+      ap (λ (i : ℕ). amounts r.options.split (length r.queue) i r.draws) total ∙ sym (are r.draws) in
+      let events : flat_map (events_of r.me) (served far.answers ∷ []) ≡ events_of r.me (served far.answers) =
+      append-nil (events_of r.me (served far.answers)) in
       record {
         had = far.had;
         moves = served far.answers ∷ [];
@@ -204,7 +246,9 @@ module _ {J S T P Q : Type 0} (log : J → Log) (plain : J → Q) (shows : S →
           record {
             ranks = subst (AreAskers r.me (tells p)) (sym far.are) askers;
             names = names_of far.answers asks count r.options.ranks far.are total below;
-            shares = sym (append-nil (map (λ (y : ℕ × Strings). length y.1) far.answers)) ∙ ap (λ (x : List ℕ × Lcg). map (λ (y : ℕ × Strings). length y.1) far.answers ++ x.0) (sym rest) ∙ sym far.shares ∙ ap (λ (x : List ℕ × Lcg). x.0) (sym all);
+            shares = sym (append-nil (map (λ (y : ℕ × Strings). length y.1) far.answers))
+                ∙ ap (λ (x : List ℕ × Lcg). map (λ (y : ℕ × Strings). length y.1) far.answers ++ x.0) (sym rest) ∙ sym far.shares
+                ∙ ap (λ (x : List ℕ × Lcg). x.0) (sym all);
             oldest = far.oldest;
             drawn = ap (λ (x : List ℕ × Lcg). x.1) (sym rest) ∙ sym far.drawn ∙ ap (λ (x : List ℕ × Lcg). x.1) (sym all);
             log = ap log job;
@@ -217,9 +261,11 @@ module _ {J S T P Q : Type 0} (log : J → Log) (plain : J → Q) (shows : S →
         share = far.share ∙ ap (λ (xs : List Event). counted xs r.book.share) (sym events);
       }
 
-  pub came_served : (b : Bool) (r0 : Rank J S T) (p0 : P) (r : Rank J S T) (p : P) (r1 : Rank J S T) (p1 : P) (asks : List ℕ) (lot lot1 : Lot) (k count : ℕ) → (b ≡ false → count ≡ 0) → (b ≡ true → 0 < count) → k ≡ count → count ≤ length asks
+  pub came_served : (b : Bool) (r0 : Rank J S T) (p0 : P) (r : Rank J S T) (p : P) (r1 : Rank J S T) (p1 : P) (asks : List ℕ)
+      (lot lot1 : Lot) (k count : ℕ) → (b ≡ false → count ≡ 0) → (b ≡ true → 0 < count) → k ≡ count → count ≤ length asks
       → ((from : Lcg) → amounts_of lot count from ≡ amounts r.options.split (length r.queue) count from) → AreAskers r0.me (tells p) (take count asks)
-      → Taken log shows tells seats r0 p0 r p asks count → Serving log shows tells seats r p r1 p1 asks lot lot1 k count → Came log plain shows tells seats (Served b) r0 p0 r1 p1
+      → Taken log shows tells seats r0 p0 r p asks count → Serving log shows tells seats r p r1 p1 asks lot lot1 k count
+      → Came log plain shows tells seats (Served b) r0 p0 r1 p1
   came_served b r0 p0 r p r1 p1 asks lot lot1 k count none some done room are askers taken serving =
       let on = serving.on in
       let me : r.me ≡ r0.me = ap (λ (x : Rank J S T). x.me) taken.rest in
@@ -239,8 +285,11 @@ module _ {J S T P Q : Type 0} (log : J → Log) (plain : J → Q) (shows : S →
         facts = ap plain (on.job ∙ job);
         lost = λ l. on.lost (ap (λ (x : Book). x.lost) book ∙ l);
         went = λ found. went_from (Served b) r0 p0 r p r1 p1 me options book
-            (side_as log plain shows tells seats r0 p0 r p (ap (λ (x : Rank J S T). x.queue) taken.rest) (ap log job) (ap (λ (x : Rank J S T). x.draws) taken.rest) taken.batches taken.told)
-            (went_served b r p r1 p1 asks lot lot1 count (count - k) none some (omega arith) room are (subst (λ (i : ℕ). AreAskers i (tells p) (take count asks)) (sym me) askers)
-            (λ j h. (let w = taken.knows.wide in let b = served_below (shows r.seat).serves (get_or asks j 0) (taken.asked.served j (omega arith) h) in omega arith)) on.job
+            (side_as log plain shows tells seats r0 p0 r p (ap (λ (x : Rank J S T). x.queue) taken.rest) (ap log job)
+            (ap (λ (x : Rank J S T). x.draws) taken.rest) taken.batches taken.told)
+            (went_served b r p r1 p1 asks lot lot1 count (count - k) none some (omega arith) room are
+            (subst (λ (i : ℕ). AreAskers i (tells p) (take count asks)) (sym me) askers)
+            (λ j h. (let w = taken.knows.wide in
+            let b = served_below (shows r.seat).serves (get_or asks j 0) (taken.asked.served j (omega arith) h) in omega arith)) on.job
             (subst (λ (i : ℕ). SoFar log shows tells seats r p r1 p1 (take i asks) lot lot1 count (count - k)) done (serving.went found)));
       }

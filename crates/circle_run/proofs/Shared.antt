@@ -1,5 +1,6 @@
 -- What a rank gives to those that ask it is less than it has: one string stays.
-use Rattle.std.proofs.Common.{◌≡◌, ℕ, zero, suc, ◌+◌, ◌-◌, ◌*◌, ◌/◌, ◌<◌, ◌≤◌, ◌^◌, ◌==◌, min, cond, Bool, true, false, List, ◌++◌, length, map, replicate, sym, ap, ◌∙◌, arith, mul-zero, length-append}
+use Rattle.std.proofs.Common.{◌≡◌, ℕ, zero, suc, ◌+◌, ◌-◌, ◌*◌, ◌/◌, ◌<◌, ◌≤◌, ◌^◌, ◌==◌, min, cond, Bool, true, false, List, ◌++◌, length, map}
+use Rattle.std.proofs.Common.{replicate, sym, ap, ◌∙◌, arith, mul-zero, length-append}
 use Rattle.std.specs.List.{sum_by, flat_map}
 use Rattle.std.proofs.Math.Nat.{mul-div-le, suc-mul, mod-lt}
 use Rattle.std.proofs.lemmas.List.Folds.{sum_by-replicate}
@@ -25,7 +26,8 @@ few_lots (suc r) left from =
 
 less_by_one : (k r q : ℕ) → (r + 1) * k ≤ q → r * k ≤ q - 1
 less_by_one zero r q all = let e = mul-zero r in omega arith
-less_by_one (suc k) r q all = let e = suc-mul r (suc k) in let n : r + 1 ≡ suc r = omega arith in let f : (r + 1) * suc k ≡ suc r * suc k = ap (λ m. m * suc k) n in omega arith
+less_by_one (suc k) r q all = let e = suc-mul r (suc k) in let n : r + 1 ≡ suc r = omega arith in
+    let f : (r + 1) * suc k ≡ suc r * suc k = ap (λ m. m * suc k) n in omega arith
 
 few_equal : (q r : ℕ) → total (replicate r (equal_share q r)) ≤ q - 1
 few_equal q r =
@@ -46,5 +48,6 @@ pub one_stays : (split : Split) (answers : List (ℕ × Strings)) (queue rest : 
 one_stays split answers queue rest from shares oldest some =
     let given : length (flat_map (λ (x : ℕ × Strings). x.1) answers) ≡ total (map (λ (x : ℕ × Strings). length x.1) answers) =
     length-flat_map (λ (x : ℕ × Strings). x.1) answers ∙ sym (sum-map (λ (x : ℕ × Strings). length x.1) answers) in
-    let all : length queue ≡ length (flat_map (λ (x : ℕ × Strings). x.1) answers) + length rest = ap length oldest ∙ length-append (flat_map (λ (x : ℕ × Strings). x.1) answers) rest in
+    let all : length queue ≡ length (flat_map (λ (x : ℕ × Strings). x.1) answers) + length rest = ap length oldest
+    ∙ length-append (flat_map (λ (x : ℕ × Strings). x.1) answers) rest in
     omega (arith, given, ap total shares, all, few_amounts split (length queue) (length answers) from)

@@ -1,5 +1,6 @@
 -- What steps of a rank come to, one after the other.
-use Rattle.std.proofs.Common.{◌≡◌, ℕ, ◌<◌, refl, sym, subst, ap, ◌∙◌, arith, Bool, true, false, List, [], ◌∷◌, ◌++◌, length, append_assoc, append-nil, Option, Some, None}
+use Rattle.std.proofs.Common.{◌≡◌, ℕ, ◌<◌, refl, sym, subst, ap, ◌∙◌, arith, Bool, true, false, List, [], ◌∷◌, ◌++◌, length, append_assoc, append-nil}
+use Rattle.std.proofs.Common.{Option, Some, None}
 use Rattle.std.specs.Prelude.{if◌then◌else◌}
 use Rattle.std.specs.List.{flat_map}
 use Rattle.std.proofs.lemmas.Grind.{flat_map-append}
@@ -68,7 +69,8 @@ pub still_then : {P X : Type 0} (tells : P → Option X) (p p1 p2 : P) → (tell
 still_then tells p p1 p2 a b e = b (ap tells (a e) ∙ e) ∙ a e
 
 module _ {J S T P Q : Type 0} (log : J → Log) (plain : J → Q) (shows : S → Shown) (tells : P → Option Told) (seats : P → S → Type 0) where
-  went_then : (A B C : List Move → Type 0) (r : Rank J S T) (p : P) (r1 : Rank J S T) (p1 : P) (r2 : Rank J S T) (p2 : P) → ((a b : List Move) → A a → B b → C (a ++ b)) → r1.me ≡ r.me → r1.options ≡ r.options
+  went_then : (A B C : List Move → Type 0) (r : Rank J S T) (p : P) (r1 : Rank J S T) (p1 : P) (r2 : Rank J S T) (p2 : P)
+      → ((a b : List Move) → A a → B b → C (a ++ b)) → r1.me ≡ r.me → r1.options ≡ r.options
       → Went log plain shows tells seats A r p r1 p1 → Went log plain shows tells seats B r1 p1 r2 p2 → Went log plain shows tells seats C r p r2 p2
   went_then A B C r p r1 p1 r2 p2 both me options a b =
       let es : List Event = flat_map (events_of r.me) a.moves in
@@ -80,7 +82,8 @@ module _ {J S T P Q : Type 0} (log : J → Log) (plain : J → Q) (shows : S →
         had = a.had;
         moves = a.moves ++ b.moves;
         are = both a.moves b.moves a.are b.are;
-        does = does_then r.options r.me a.moves b.moves (side log plain shows tells seats r p) (side log plain shows tells seats r1 p1) (side log plain shows tells seats r2 p2) a.does
+        does = does_then r.options r.me a.moves b.moves (side log plain shows tells seats r p) (side log plain shows tells seats r1 p1)
+            (side log plain shows tells seats r2 p2) a.does
             (subst (λ (o : Options). DoesAll o r.me b.moves (side log plain shows tells seats r1 p1) (side log plain shows tells seats r2 p2)) options
             (subst (λ (k : ℕ). DoesAll r1.options k b.moves (side log plain shows tells seats r1 p1) (side log plain shows tells seats r2 p2)) me b.does));
         kept = b.kept
@@ -97,7 +100,8 @@ module _ {J S T P Q : Type 0} (log : J → Log) (plain : J → Q) (shows : S →
             ∙ ap (λ (xs : List Event). counted xs r.book.share) (sym all);
       }
 
-  pub came_then : (A B C : List Move → Type 0) (r : Rank J S T) (p : P) (r1 : Rank J S T) (p1 : P) (r2 : Rank J S T) (p2 : P) → ((a b : List Move) → A a → B b → C (a ++ b))
+  pub came_then : (A B C : List Move → Type 0) (r : Rank J S T) (p : P) (r1 : Rank J S T) (p1 : P) (r2 : Rank J S T) (p2 : P)
+      → ((a b : List Move) → A a → B b → C (a ++ b))
       → Came log plain shows tells seats A r p r1 p1 → Came log plain shows tells seats B r1 p1 r2 p2 → Came log plain shows tells seats C r p r2 p2
   came_then A B C r p r1 p1 r2 p2 both a b = record {
     knows = b.knows;
@@ -144,7 +148,8 @@ module _ {J S T P Q : Type 0} (log : J → Log) (plain : J → Q) (shows : S →
   }
 
   -- nothing was done
-  pub went_still : (A : List Move → Type 0) (r : Rank J S T) (p : P) (r1 : Rank J S T) (p1 : P) → A [] → r1.book ≡ r.book → r1.book.lost ≡ false → side log plain shows tells seats r1 p1 ≡ side log plain shows tells seats r p
+  pub went_still : (A : List Move → Type 0) (r : Rank J S T) (p : P) (r1 : Rank J S T) (p1 : P) → A [] → r1.book ≡ r.book
+      → r1.book.lost ≡ false → side log plain shows tells seats r1 p1 ≡ side log plain shows tells seats r p
       → Went log plain shows tells seats A r p r1 p1
   went_still A r p r1 p1 a book found same = record {
     had = sym (ap (λ (b : _). b.lost) book) ∙ found;
@@ -155,13 +160,16 @@ module _ {J S T P Q : Type 0} (log : J → Log) (plain : J → Q) (shows : S →
     share = ap (λ (b : _). b.share) book;
   }
 
-  pub side_as : (r : Rank J S T) (p : P) (r1 : Rank J S T) (p1 : P) → r1.queue ≡ r.queue → log r1.job ≡ log r.job → r1.draws ≡ r.draws → (shows r1.seat).batches ≡ (shows r.seat).batches → tells p1 ≡ tells p
+  pub side_as : (r : Rank J S T) (p : P) (r1 : Rank J S T) (p1 : P) → r1.queue ≡ r.queue → log r1.job ≡ log r.job → r1.draws ≡ r.draws
+      → (shows r1.seat).batches ≡ (shows r.seat).batches → tells p1 ≡ tells p
       → side log plain shows tells seats r1 p1 ≡ side log plain shows tells seats r p
   side_as r p r1 p1 queue logs draws batches told = cc
 
   -- one deed was done and noted
-  pub went_did : (A : List Move → Type 0) (r : Rank J S T) (p : P) (r1 : Rank J S T) (p1 : P) (d : Deed) → A (did d ∷ []) → Writes r.options.trace (event_of r.me d ∷ []) r.book r1.book
-      → DoesDeed r.options r.me d (side log plain shows tells seats r p) (side log plain shows tells seats r1 p1) → r1.book.lost ≡ false → Went log plain shows tells seats A r p r1 p1
+  pub went_did : (A : List Move → Type 0) (r : Rank J S T) (p : P) (r1 : Rank J S T) (p1 : P) (d : Deed) → A (did d ∷ [])
+      → Writes r.options.trace (event_of r.me d ∷ []) r.book r1.book
+      → DoesDeed r.options r.me d (side log plain shows tells seats r p) (side log plain shows tells seats r1 p1) → r1.book.lost ≡ false
+      → Went log plain shows tells seats A r p r1 p1
   went_did A r p r1 p1 d a writes does found = record {
     had = writes.had found;
     moves = did d ∷ [];
@@ -172,7 +180,8 @@ module _ {J S T P Q : Type 0} (log : J → Log) (plain : J → Q) (shows : S →
   }
 
   -- the newest string was handled
-  pub went_handled : (A : List Move → Type 0) (r : Rank J S T) (p : P) (r1 : Rank J S T) → ((path : List ℕ) (kids : List (List ℕ)) → A (handled path kids ∷ [])) → IsLive r.me (tells p) → NobodyAsks r.me (tells p)
+  pub went_handled : (A : List Move → Type 0) (r : Rank J S T) (p : P) (r1 : Rank J S T)
+      → ((path : List ℕ) (kids : List (List ℕ)) → A (handled path kids ∷ [])) → IsLive r.me (tells p) → NobodyAsks r.me (tells p)
       → HandledNewest log plain r r1 → r1.book.lost ≡ false → Went log plain shows tells seats A r p r1 p
   went_handled A r p r1 a live unasked newest found =
       let n = newest.done found in
@@ -189,7 +198,8 @@ module _ {J S T P Q : Type 0} (log : J → Log) (plain : J → Q) (shows : S →
             unasked = unasked;
             few = n.few;
             after =
-                (let same = newest.same in let seat : r1.seat ≡ r.seat = ap (λ (x : Rank J S T). x.seat) same in let draws : r1.draws ≡ r.draws = ap (λ (x : Rank J S T). x.draws) same in
+                (let same = newest.same in let seat : r1.seat ≡ r.seat = ap (λ (x : Rank J S T). x.seat) same in
+                let draws : r1.draws ≡ r.draws = ap (λ (x : Rank J S T). x.draws) same in
                 let pushed = n.pushed in let logged = n.logged in cc);
           },
           refl,
@@ -222,8 +232,10 @@ module _ {J S T P Q : Type 0} (log : J → Log) (plain : J → Q) (shows : S →
         empty = newest.empty;
       }
 
-  pub came_handled : (A : List Move → Type 0) (r : Rank J S T) (p : P) (r1 : Rank J S T) → ((path : List ℕ) (kids : List (List ℕ)) → A (handled path kids ∷ [])) → Knows shows r → seats p r.seat → ServesNone shows r
-      → r.ended ≡ false → 0 < length r.queue → AgreesIfTold (tells p) (shows r.seat) → NobodyAsks r.me (tells p) → HandledNewest log plain r r1 → Came log plain shows tells seats A r p r1 p
+  pub came_handled : (A : List Move → Type 0) (r : Rank J S T) (p : P) (r1 : Rank J S T)
+      → ((path : List ℕ) (kids : List (List ℕ)) → A (handled path kids ∷ [])) → Knows shows r → seats p r.seat → ServesNone shows r
+      → r.ended ≡ false → 0 < length r.queue → AgreesIfTold (tells p) (shows r.seat) → NobodyAsks r.me (tells p)
+      → HandledNewest log plain r r1 → Came log plain shows tells seats A r p r1 p
   came_handled A r p r1 a k mine none live some agrees unasked newest =
       let seat : r1.seat ≡ r.seat = ap (λ (x : Rank J S T). x.seat) newest.same in
       record {
@@ -242,11 +254,14 @@ module _ {J S T P Q : Type 0} (log : J → Log) (plain : J → Q) (shows : S →
       }
 
   -- a rank that found no memory has dropped its strings
-  pub came_settled : (A : List Move → Type 0) (r : Rank J S T) (p : P) (r1 : Rank J S T) (p1 : P) (queue : List (List ℕ)) → (r1.book.lost ≡ true → queue ≡ []) → (r1.book.lost ≡ false → queue ≡ r1.queue)
+  pub came_settled : (A : List Move → Type 0) (r : Rank J S T) (p : P) (r1 : Rank J S T) (p1 : P) (queue : List (List ℕ))
+      → (r1.book.lost ≡ true → queue ≡ []) → (r1.book.lost ≡ false → queue ≡ r1.queue)
       → Came log plain shows tells seats A r p r1 p1 → Came log plain shows tells seats A r p (record r1 { queue = queue }) p1
   came_settled A r p r1 p1 queue lost kept a =
       let k = a.knows in
-      let none : r1.queue ≡ [] → queue ≡ [] = λ q. elim r1.book.lost as (λ (b : Bool). r1.book.lost ≡ b → queue ≡ []) [ true ↦ λ e. lost e | false ↦ λ e. kept e ∙ q ] refl in
+      let none : r1.queue ≡ []
+      → queue ≡ [] = λ q. elim r1.book.lost as
+      (λ (b : Bool). r1.book.lost ≡ b → queue ≡ []) [ true ↦ λ e. lost e | false ↦ λ e. kept e ∙ q ] refl in
       record {
         knows = record {
           number = k.number;
@@ -278,7 +293,9 @@ module _ {J S T P Q : Type 0} (log : J → Log) (plain : J → Q) (shows : S →
           had = w.had;
           moves = w.moves;
           are = w.are;
-          does = subst (λ (q : List (List ℕ)). DoesAll r.options r.me w.moves (side log plain shows tells seats r p) (side log plain shows tells seats (record r1 { queue = q }) p1)) (sym (kept found)) w.does;
+          does = subst (λ (q : List (List ℕ)).
+              DoesAll r.options r.me w.moves (side log plain shows tells seats r p)
+              (side log plain shows tells seats (record r1 { queue = q }) p1)) (sym (kept found)) w.does;
           kept = w.kept;
           share = w.share;
         });

@@ -26,8 +26,10 @@ use Rattle.circle_run.proofs.Stepped.{kept_none, side_as}
 use Rattle.circle_run.proofs.Choosing.{chooses_as}
 
 -- a word that rose is kept where it is far enough above the last number
-pub keeps_more : (numbers numbers' : List ℕ) (s s' : SumShown) → s'.n ≡ s.n → Keeps numbers s.word s → s.word ≤ s'.word → (s.n ≡ 1 → s'.word ≡ s'.count) → s'.count ≤ s.count + 1
-    → (newest 0 numbers + 1000 ≤ s'.word → numbers' ≡ numbers ++ s'.word ∷ []) → (s'.word < newest 0 numbers + 1000 → numbers' ≡ numbers) → Keeps numbers' s'.word s'
+pub keeps_more : (numbers numbers' : List ℕ) (s s' : SumShown) → s'.n ≡ s.n → Keeps numbers s.word s → s.word ≤ s'.word
+    → (s.n ≡ 1 → s'.word ≡ s'.count) → s'.count ≤ s.count + 1
+    → (newest 0 numbers + 1000 ≤ s'.word → numbers' ≡ numbers ++ s'.word ∷ []) → (s'.word < newest 0 numbers + 1000 → numbers' ≡ numbers)
+    → Keeps numbers' s'.word s'
 keeps_more numbers numbers' s s' n old rises leaf slow more few =
     dite (dec_le (newest 0 numbers + 1000) s'.word)
     (λ high.
@@ -62,8 +64,10 @@ keeps_of : (numbers : List ℕ) (s : SumShown) → s.answer ≡ None → KeptOf 
 keeps_of numbers s e kept = subst (λ (o : Option ℕ). KeptOf o numbers s) e kept
 
 -- the same for the rank with this number
-progress_more : (me : ℕ) (numbers numbers' : List ℕ) (s s' : SumShown) → s.answer ≡ None → s'.answer ≡ None → s'.n ≡ s.n → Progress me numbers s → s.word ≤ s'.word → (s.n ≡ 1 → s'.word ≡ s'.count) → s'.count ≤ s.count + 1
-    → (me ≡ 0 → newest 0 numbers + 1000 ≤ s'.word → numbers' ≡ numbers ++ s'.word ∷ []) → (me ≡ 0 → s'.word < newest 0 numbers + 1000 → numbers' ≡ numbers) → (me ≢ 0 → numbers' ≡ numbers) → Progress me numbers' s'
+progress_more : (me : ℕ) (numbers numbers' : List ℕ) (s s' : SumShown) → s.answer ≡ None → s'.answer ≡ None → s'.n ≡ s.n
+    → Progress me numbers s → s.word ≤ s'.word → (s.n ≡ 1 → s'.word ≡ s'.count) → s'.count ≤ s.count + 1
+    → (me ≡ 0 → newest 0 numbers + 1000 ≤ s'.word → numbers' ≡ numbers ++ s'.word ∷ [])
+    → (me ≡ 0 → s'.word < newest 0 numbers + 1000 → numbers' ≡ numbers) → (me ≢ 0 → numbers' ≡ numbers) → Progress me numbers' s'
 progress_more me numbers numbers' s s' unended unended' n old rises leaf slow more few rest = record {
   first = λ z. kept_of numbers' s' unended' (keeps_more numbers numbers' s s' n (keeps_of numbers s unended (old.first z)) rises leaf slow (more z) (few z));
   rest = λ ne. rest ne ∙ old.rest ne;
@@ -73,10 +77,12 @@ module _ {J S T Q : Type 0} (shows : T → SumShown) (seats : Q → T → Type 0
   -- a rank counted so many strings more, one or none, and showed its count
   pub tallied_more : (strings strings' : ℕ) (r r' : Rank J S T) (q q' : Q) → (shows r.sums_seat).answer ≡ None
       → r' ≡ record r { sums_seat = r'.sums_seat; book = r'.book } → (r.book.lost ≡ true → r'.book.lost ≡ true) → seats q' r'.sums_seat
-      → (shows r'.sums_seat).number ≡ (shows r.sums_seat).number → (shows r'.sums_seat).n ≡ (shows r.sums_seat).n → (shows r'.sums_seat).width ≡ (shows r.sums_seat).width → (shows r'.sums_seat).answer ≡ None
+      → (shows r'.sums_seat).number ≡ (shows r.sums_seat).number → (shows r'.sums_seat).n ≡ (shows r.sums_seat).n
+      → (shows r'.sums_seat).width ≡ (shows r.sums_seat).width → (shows r'.sums_seat).answer ≡ None
       → (shows r'.sums_seat).count ≤ (shows r.sums_seat).count + 1 → (Counts strings (shows r.sums_seat) → Counts strings' (shows r'.sums_seat))
       → (shows r.sums_seat).word ≤ (shows r'.sums_seat).word → (IsLeaf (shows r.sums_seat) → (shows r'.sums_seat).word ≡ (shows r'.sums_seat).count)
-      → (r.me ≡ 0 → r'.book.lost ≡ false → newest 0 r.book.sums.items + 1000 ≤ (shows r'.sums_seat).word → r'.book.sums.items ≡ r.book.sums.items ++ (shows r'.sums_seat).word ∷ [])
+      → (r.me ≡ 0 → r'.book.lost ≡ false → newest 0 r.book.sums.items + 1000 ≤ (shows r'.sums_seat).word
+      → r'.book.sums.items ≡ r.book.sums.items ++ (shows r'.sums_seat).word ∷ [])
       → (r.me ≡ 0 → r'.book.lost ≡ false → (shows r'.sums_seat).word < newest 0 r.book.sums.items + 1000 → r'.book.sums.items ≡ r.book.sums.items)
       → (r.me ≢ 0 → r'.book ≡ r.book)
       → SumsReady shows seats strings r q → SumsReady shows seats strings' r' q'
@@ -92,7 +98,8 @@ module _ {J S T Q : Type 0} (shows : T → SumShown) (seats : Q → T → Type 0
         narrow = subst (λ (o : Options). o.width ≤ 64) (sym options) old.narrow;
         counted = λ found. counts (old.counted (had found));
         progress = λ found. subst (λ (k : ℕ). Progress k r'.book.sums.items (shows r'.sums_seat)) (sym me)
-            (progress_more r.me r.book.sums.items r'.book.sums.items (shows r.sums_seat) (shows r'.sums_seat) unended unended' n (old.progress (had found)) rises
+            (progress_more r.me r.book.sums.items r'.book.sums.items (shows r.sums_seat) (shows r'.sums_seat) unended unended' n
+            (old.progress (had found)) rises
             (λ one. leaf (omega (arith, one))) slow
             (λ z. keeps z found) (λ z. passes z found) (λ ne. ap (λ (b : Book). b.sums.items) (rest ne)));
       }
@@ -110,10 +117,13 @@ none_tallied Waited strings ne = refl
 as_turn : (ended : Bool) (done : Did) (moves : List Move) → ended ≡ false → Worked done moves → IsTurn ended (turn_of done) moves
 as_turn ended done moves live w = subst (λ (b : Bool). IsTurn b (turn_of done) moves) (sym live) (by_did done moves w)
 
-module _ {J S T P D : Type 0} (log : J → Log) (heard : J → Option (List ℕ)) (plain : J → D) (shows : S → Shown) (tells : P → Option Told) (seats : P → S → Type 0) where
+module _ {J S T P D : Type 0} (log : J → Log) (heard : J → Option (List ℕ)) (plain : J → D) (shows : S → Shown) (tells : P → Option Told)
+    (seats : P → S → Type 0) where
   -- a turn before the end
-  pub turned : (done : Did) (turn : Turn) (r : Rank J S T) (p : P) (r1 : Rank J S T) (p1 : P) (r2 : Rank J S T) (queue : List (List ℕ)) → turn ≡ turn_of done → r.ended ≡ false → Came log plain shows tells seats (Works heard shows tells done r p r1) r p r1 p1
-      → r2 ≡ record r1 { sums_seat = r2.sums_seat; book = r2.book } → r2.book ≡ record r1.book { sums = r2.book.sums; lost = r2.book.lost } → (r1.book.lost ≡ true → r2.book.lost ≡ true) → (r2.book.lost ≡ false → queue ≡ r2.queue)
+  pub turned : (done : Did) (turn : Turn) (r : Rank J S T) (p : P) (r1 : Rank J S T) (p1 : P) (r2 : Rank J S T) (queue : List (List ℕ))
+      → turn ≡ turn_of done → r.ended ≡ false → Came log plain shows tells seats (Works heard shows tells done r p r1) r p r1 p1
+      → r2 ≡ record r1 { sums_seat = r2.sums_seat; book = r2.book } → r2.book ≡ record r1.book { sums = r2.book.sums; lost = r2.book.lost }
+      → (r1.book.lost ≡ true → r2.book.lost ≡ true) → (r2.book.lost ≡ false → queue ≡ r2.queue)
       → Turned log heard plain shows tells seats turn r p (record r2 { queue = queue }) p1
   turned done turn r p r1 p1 r2 queue is live came same book lost kept =
       record {
@@ -135,7 +145,8 @@ module _ {J S T P D : Type 0} (log : J → Log) (heard : J → Option (List ℕ)
               are = record {
                 kind = subst (λ (t : Turn). IsTurn r.ended t w.moves) (sym is) (as_turn r.ended done w.moves live w.are.worked);
                 chosen = λ going.
-                    chooses_as log heard plain shows tells seats r p r1 (record r2 { queue = queue }) w.moves s (ap (λ (x : Rank J S T). x.ended) same) j w.are.chosen;
+                    chooses_as log heard plain shows tells seats r p r1 (record r2 { queue = queue }) w.moves s
+                    (ap (λ (x : Rank J S T). x.ended) same) j w.are.chosen;
               };
               does = subst (DoesAll r.options r.me w.moves (side log plain shows tells seats r p)) (sym sides) w.does;
               kept = ap (λ (b : Book). b.events.items) book ∙ w.kept;
@@ -145,7 +156,8 @@ module _ {J S T P D : Type 0} (log : J → Log) (heard : J → Option (List ℕ)
 
   -- a turn after the end
   pub turned_after : (turn : Turn) (r : Rank J S T) (p : P) (r' : Rank J S T) → r.ended ≡ true → r' ≡ record r { sums_seat = r'.sums_seat; book = r'.book }
-      → r'.book ≡ record r.book { sums = r'.book.sums; lost = r'.book.lost } → (r.book.lost ≡ true → r'.book.lost ≡ true) → Turned log heard plain shows tells seats turn r p r' p
+      → r'.book ≡ record r.book { sums = r'.book.sums; lost = r'.book.lost } → (r.book.lost ≡ true → r'.book.lost ≡ true)
+      → Turned log heard plain shows tells seats turn r p r' p
   turned_after turn r p r' ended same book lost =
       let job : r'.job ≡ r.job = ap (λ (x : Rank J S T). x.job) same in
       let seat : r'.seat ≡ r.seat = ap (λ (x : Rank J S T). x.seat) same in

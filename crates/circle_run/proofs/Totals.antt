@@ -1,5 +1,6 @@
 -- A run of moves is balanced, and what was given in it was taken or lies in a mailbox.
-use Rattle.std.proofs.Common.{◌≡◌, ℕ, zero, suc, ◌+◌, ◌%◌, ◌<◌, ◌≤◌, ◌==◌, ⊎_elim, refl, sym, subst, ap, ◌∙◌, arith, Bool, true, false, cond, List, [], ◌∷◌, ◌++◌, length, length-set, set, get_or, mul-zero, append-nil}
+use Rattle.std.proofs.Common.{◌≡◌, ℕ, zero, suc, ◌+◌, ◌%◌, ◌<◌, ◌≤◌, ◌==◌, ⊎_elim, refl, sym, subst, ap, ◌∙◌, arith, Bool, true, false, cond, List}
+use Rattle.std.proofs.Common.{[], ◌∷◌, ◌++◌, length, length-set, set, get_or, mul-zero, append-nil}
 use Rattle.std.specs.List.{sum_by, flat_map, range_with_len}
 use Rattle.std.proofs.Math.Nat.{mod-lt}
 use Rattle.std.proofs.lemmas.Bool.{cases_lt}
@@ -36,7 +37,8 @@ come w ranks = sum_by (λ x. balance.pushed w x.log) ranks
 abbrev shared : ℕ → (Move → Strings) → Weight → List (ℕ × Move) → ℕ
 shared n kind w moves = sum_by (λ r. sum_by w (flat_map kind (moves_of r moves))) (range_with_len 0 n)
 
-one_move : (b : Bool) (kind : Move → Strings) (w : Weight) (m : Move) (moves : List Move) → sum_by w (flat_map kind (cond b (m ∷ []) [] ++ moves)) ≡ cond b (sum_by w (kind m)) 0 + sum_by w (flat_map kind moves)
+one_move : (b : Bool) (kind : Move → Strings) (w : Weight) (m : Move) (moves : List Move)
+    → sum_by w (flat_map kind (cond b (m ∷ []) [] ++ moves)) ≡ cond b (sum_by w (kind m)) 0 + sum_by w (flat_map kind moves)
 one_move true kind w m moves = sum_by-append w (kind m) (flat_map kind moves)
 one_move false kind w m moves = omega arith
 
@@ -55,23 +57,34 @@ at_its_rank n m k past = ⊎_elim (λ inside. sum_by-at_one m k 0 n (omega arith
 shared_more : (n : ℕ) (kind : Move → Strings) (w : Weight) (m : ℕ × Move) (moves : List (ℕ × Move)) → (n ≤ m.0 → sum_by w (kind m.1) ≡ 0)
     → shared n kind w (m ∷ moves) ≡ sum_by w (kind m.1) + shared n kind w moves
 shared_more n kind w m moves past =
-    sum_by-same (λ r. sum_by w (flat_map kind (moves_of r (m ∷ moves)))) (λ r. cond (m.0 == r) (sum_by w (kind m.1)) 0 + sum_by w (flat_map kind (moves_of r moves)))
+    sum_by-same (λ r. sum_by w (flat_map kind (moves_of r (m ∷ moves))))
+    (λ r. cond (m.0 == r) (sum_by w (kind m.1)) 0 + sum_by w (flat_map kind (moves_of r moves)))
     (λ r. one_move (m.0 == r) kind w m.1 (moves_of r moves)) (range_with_len 0 n)
     ∙ sum_by-both (λ r. cond (m.0 == r) (sum_by w (kind m.1)) 0) (λ r. sum_by w (flat_map kind (moves_of r moves))) (range_with_len 0 n)
     ∙ ap (λ k. k + shared n kind w moves) (at_its_rank n m.0 (sum_by w (kind m.1)) past)
 
 -- the totals after a run of moves, against those before it
 pub record Totals (n : ℕ) (moves : List (ℕ × Move)) (from to : Stage) : Type 0 where
-  pub weighs : (w : List ℕ → ℕ) → ((queued w to.ranks + mailed w to.told) + done w to.ranks) + come w from.ranks ≡ ((queued w from.ranks + mailed w from.told) + done w from.ranks) + come w to.ranks
+  pub weighs : (w : List ℕ → ℕ)
+      → ((queued w to.ranks + mailed w to.told) + done w to.ranks) + come w from.ranks
+      ≡ ((queued w from.ranks + mailed w from.told) + done w from.ranks) + come w to.ranks
   pub shares : (w : List ℕ → ℕ) → mailed w to.told + shared n taken_in w moves ≡ mailed w from.told + shared n given_in w moves
 
 -- one rank's side is replaced
-changed : (ranks : List RankSide) (me : ℕ) (y : RankSide) (f : RankSide → ℕ) → (length ranks ≤ me → f y ≡ f (get_or ranks me no_side)) → sum_by f (set ranks me y) + f (get_or ranks me no_side) ≡ sum_by f ranks + f y
+changed : (ranks : List RankSide) (me : ℕ) (y : RankSide) (f : RankSide → ℕ) → (length ranks ≤ me → f y ≡ f (get_or ranks me no_side))
+    → sum_by f (set ranks me y) + f (get_or ranks me no_side) ≡ sum_by f ranks + f y
 changed ranks me y f past = sum_by-set f ranks me y no_side (λ h. past h ∙ ap f (get_or_past ranks me no_side h))
 
-pub totals : (o : Options) (n : ℕ) (moves : List (ℕ × Move)) (from to : Stage) → length from.ranks ≡ n → length from.told.places ≡ n → Plays o moves from to → Totals n moves from to
+pub totals : (o : Options) (n : ℕ) (moves : List (ℕ × Move)) (from to : Stage) → length from.ranks ≡ n → length from.told.places ≡ n
+    → Plays o moves from to → Totals n moves from to
 totals o n [] from to ranks places same = record {
-  weighs = λ w. omega (arith, ap (λ (s : Stage). queued w s.ranks) same, ap (λ (s : Stage). mailed w s.told) same, ap (λ (s : Stage). done w s.ranks) same, ap (λ (s : Stage). come w s.ranks) same);
+  weighs = λ w. omega (
+    arith,
+    ap (λ (s : Stage). queued w s.ranks) same,
+    ap (λ (s : Stage). mailed w s.told) same,
+    ap (λ (s : Stage). done w s.ranks) same,
+    ap (λ (s : Stage). come w s.ranks) same,
+  );
   shares = λ w. (let e : mailed w to.told ≡ mailed w from.told = ap (λ (s : Stage). mailed w s.told) same in
       let a : shared n taken_in w [] ≡ 0 = nothing (λ (r : ℕ). 0) (λ r. refl) (range_with_len 0 n) in
       let b : shared n given_in w [] ≡ 0 = nothing (λ (r : ℕ). 0) (λ r. refl) (range_with_len 0 n) in
@@ -93,13 +106,17 @@ totals o n (m ∷ moves) from to ranks places (y, u, does, plays) =
           let p : balance.pushed w (handled_in m.1) ≡ 0 = ap (λ (k : Move). balance.pushed w (handled_in k)) e in
           omega (arith, step.queue w))) in
           let log : y.log ≡ x.log ++ handled_in m.1 = step.log in
-          let same_log : length from.ranks ≤ m.0 → y.log ≡ x.log = λ past. (let e = idle (omega arith) in log ∙ ap (λ (k : Move). x.log ++ handled_in k) e ∙ append-nil x.log) in
+          let same_log : length from.ranks ≤ m.0
+          → y.log ≡ x.log = λ past. (let e = idle (omega arith) in
+          log ∙ ap (λ (k : Move). x.log ++ handled_in k) e ∙ append-nil x.log) in
           let d : done w mid.ranks + balance.handled w x.log ≡ done w from.ranks + balance.handled w y.log =
           changed from.ranks m.0 y (λ s. balance.handled w s.log) (λ past. ap (balance.handled w) (same_log past)) in
           let p : come w mid.ranks + balance.pushed w x.log ≡ come w from.ranks + balance.pushed w y.log =
           changed from.ranks m.0 y (λ s. balance.pushed w s.log) (λ past. ap (balance.pushed w) (same_log past)) in
-          let d' : balance.handled w y.log ≡ balance.handled w x.log + balance.handled w (handled_in m.1) = ap (balance.handled w) log ∙ sum_by-append (λ (z : List ℕ × Strings). w z.0) x.log (handled_in m.1) in
-          let p' : balance.pushed w y.log ≡ balance.pushed w x.log + balance.pushed w (handled_in m.1) = ap (balance.pushed w) log ∙ sum_by-append (λ (z : List ℕ × Strings). sum_by w z.1) x.log (handled_in m.1) in
+          let d' : balance.handled w y.log ≡ balance.handled w x.log + balance.handled w (handled_in m.1) = ap (balance.handled w) log
+          ∙ sum_by-append (λ (z : List ℕ × Strings). w z.0) x.log (handled_in m.1) in
+          let p' : balance.pushed w y.log ≡ balance.pushed w x.log + balance.pushed w (handled_in m.1) = ap (balance.pushed w) log
+          ∙ sum_by-append (λ (z : List ℕ × Strings). sum_by w z.1) x.log (handled_in m.1) in
           omega (arith, q, d, p, d', p', step.queue w, step.mail w, rest.weighs w)
           );
       shares = λ w. omega (
@@ -111,7 +128,8 @@ totals o n (m ∷ moves) from to ranks places (y, u, does, plays) =
       );
     }
 
-of_new : (o : Options) (starts : Strings) (f : RankSide → ℕ) → sum_by f (begun o starts).ranks ≡ sum_by (λ r. f (new_side o starts r)) (range_with_len 0 o.ranks)
+of_new : (o : Options) (starts : Strings) (f : RankSide → ℕ)
+    → sum_by f (begun o starts).ranks ≡ sum_by (λ r. f (new_side o starts r)) (range_with_len 0 o.ranks)
 of_new o starts f = fold-map (λ (a : ℕ) (x : RankSide). a + f x) (new_side o starts) 0 (range_with_len 0 o.ranks)
 
 one_dealt : (b : Bool) (w : Weight) (s : List ℕ) (rest : Strings) → sum_by w (cond b (s ∷ []) [] ++ rest) ≡ cond b (w s) 0 + sum_by w rest
@@ -130,7 +148,8 @@ all_dealt w n k (s ∷ starts) some =
     ∙ ap (λ j. w s + j) (all_dealt w n (suc k) starts some)
     ∙ sym (sum_by-cons w s starts)
 
-from_begun : (o : Options) (starts : Strings) (moves : List (ℕ × Move)) (stage : Stage) → Plays o moves (begun o starts) stage → Totals o.ranks moves (begun o starts) stage
+from_begun : (o : Options) (starts : Strings) (moves : List (ℕ × Move)) (stage : Stage) → Plays o moves (begun o starts) stage
+    → Totals o.ranks moves (begun o starts) stage
 from_begun o starts moves stage plays =
     totals o o.ranks moves (begun o starts) stage (ranks_begun o starts) (places_begun o starts) plays
 
@@ -165,7 +184,9 @@ not_full (full r b) e = cc
 not_full (empty r) e = refl
 
 pub nothing_mailed : (stage : Stage) → NothingWaits stage → all_mailed stage ≡ []
-nothing_mailed stage nothing_waits = all_empty (λ (x : Place). batch_in x.mail) no_place stage.told.places (λ r. not_full (place stage.told r).mail (nothing_waits.mailboxes r))
+nothing_mailed stage nothing_waits =
+    all_empty (λ (x : Place). batch_in x.mail) no_place stage.told.places
+    (λ r. not_full (place stage.told r).mail (nothing_waits.mailboxes r))
 
 pub all_is_handled : AllIsHandled
 all_is_handled o starts moves stage some plays nothing_waits =
@@ -187,7 +208,8 @@ given_weighs o starts moves stage plays w = omega (
 )
 
 -- a list of strings by the number of each rank's
-counted : (n : ℕ) (kind : Move → Strings) (moves : List (ℕ × Move)) → sum_by (λ x. 1) (of_all n kind moves) ≡ sum_by (λ r. length (flat_map kind (moves_of r moves))) (range_with_len 0 n)
+counted : (n : ℕ) (kind : Move → Strings) (moves : List (ℕ × Move))
+    → sum_by (λ x. 1) (of_all n kind moves) ≡ sum_by (λ r. length (flat_map kind (moves_of r moves))) (range_with_len 0 n)
 counted n kind moves =
     sum_by-flat_map (λ (x : List ℕ). 1) (λ (r : ℕ). flat_map kind (moves_of r moves)) (range_with_len 0 n)
     ∙ sum_by-same (λ (r : ℕ). sum_by (λ (x : List ℕ). 1) (flat_map kind (moves_of r moves))) (λ (r : ℕ). length (flat_map kind (moves_of r moves)))
@@ -196,5 +218,11 @@ counted n kind moves =
 pub given_is_taken_or_mailed : GivenIsTakenOrMailed
 given_is_taken_or_mailed o starts moves stage plays = record {
   weighs = given_weighs o starts moves stage plays;
-  counts = omega (arith, given_weighs o starts moves stage plays (λ (x : List ℕ). 1), counted o.ranks given_in moves, counted o.ranks taken_in moves, sum_by-ones (all_mailed stage));
+  counts = omega (
+    arith,
+    given_weighs o starts moves stage plays (λ (x : List ℕ). 1),
+    counted o.ranks given_in moves,
+    counted o.ranks taken_in moves,
+    sum_by-ones (all_mailed stage),
+  );
 }

@@ -1,5 +1,6 @@
 -- What a turn of a rank is: moves of which the last alone may handle a string, with an event save where the rank waits or has seen the end.
-use Rattle.std.proofs.Common.{◌≡◌, ℕ, ◌⊎◌, inl, inr, refl, sym, subst, ap, ◌∙◌, arith, Bool, true, false, cond, List, [], ◌∷◌, ◌++◌, map, length, length-append, append-nil, Option, Some, None}
+use Rattle.std.proofs.Common.{◌≡◌, ℕ, ◌⊎◌, inl, inr, refl, sym, subst, ap, ◌∙◌, arith, Bool, true, false, cond, List, [], ◌∷◌, ◌++◌, map, length}
+use Rattle.std.proofs.Common.{length-append, append-nil, Option, Some, None}
 use Rattle.std.proofs.lemmas.List.{length-map}
 use Rattle.std.specs.List.{flat_map}
 use Rattle.ring_core.specs.declared.events.Event.{Event}
@@ -58,7 +59,8 @@ served_none o me moves s s' is does =
     let (mid, one, same) = subst (λ (ms : List Move). DoesAll o me ms s s') is does in
     ap (λ (z : Side). z.told) same ∙ one.told
 
-live_idles : (turn : Turn) (o : Options) (me : ℕ) (moves : List Move) (s s' : Side) → IsTurn false turn moves → DoesAll o me moves s s' → (turn ≡ TurnWaited → Waits me s'.told)
+live_idles : (turn : Turn) (o : Options) (me : ℕ) (moves : List Move) (s s' : Side) → IsTurn false turn moves → DoesAll o me moves s s'
+    → (turn ≡ TurnWaited → Waits me s'.told)
     → flat_map (events_of me) moves ≡ [] → MayIdleIfTold me s.told
 live_idles TurnWent o me moves s s' is does waits none = absurd (worked_some me moves is none)
 live_idles TurnWaited o me moves s s' is does waits none = waits_idles me s.told (subst (Waits me) (served_none o me moves s s' is does) (waits refl))
@@ -73,14 +75,16 @@ nothing_more true xs = sym (append-nil xs)
 nothing_more false xs = sym (append-nil xs)
 
 module _ {J S T P D : Type 0} (log : J → Log) (plain : J → D) (shows : S → Shown) (tells : P → Option Told) (seats : P → S → Type 0) where
-  idles : (turn : Turn) (b : Bool) (r : Rank J S T) (p : P) (r' : Rank J S T) (p' : P) (moves : List Move) → r.ended ≡ b → AgreesIfTold (tells p) (shows r.seat) → Knows shows r → IsTurn b turn moves
+  idles : (turn : Turn) (b : Bool) (r : Rank J S T) (p : P) (r' : Rank J S T) (p' : P) (moves : List Move) → r.ended ≡ b
+      → AgreesIfTold (tells p) (shows r.seat) → Knows shows r → IsTurn b turn moves
       → DoesAll r.options r.me moves (side log plain shows tells seats r p) (side log plain shows tells seats r' p')
       → (turn ≡ TurnWaited → b ≡ false → Waits r.me (tells p')) → flat_map (events_of r.me) moves ≡ [] → MayIdleIfTold r.me (tells p)
   idles turn true r p r' p' moves ended agrees knows is does waits none = ended_idles (tells p) (shows r.seat) r.me agrees knows.number (knows.ended ∙ ended)
   idles turn false r p r' p' moves ended agrees knows is does waits none =
       live_idles turn r.options r.me moves (side log plain shows tells seats r p) (side log plain shows tells seats r' p') is does (λ w. waits w refl) none
 
-  pub took : (heard : J → Option (List ℕ)) (turn : Turn) (r : Rank J S T) (p : P) (r' : Rank J S T) (p' : P) → AgreesIfTold (tells p) (shows r.seat) → Knows shows r → Turned log heard plain shows tells seats turn r p r' p'
+  pub took : (heard : J → Option (List ℕ)) (turn : Turn) (r : Rank J S T) (p : P) (r' : Rank J S T) (p' : P)
+      → AgreesIfTold (tells p) (shows r.seat) → Knows shows r → Turned log heard plain shows tells seats turn r p r' p'
       → (turn ≡ TurnWaited → r.ended ≡ false → Waits r.me (tells p')) → Took log plain shows tells seats r p r' p'
   took heard turn r p r' p' agrees knows turned waits = record {
     me = turned.me;

@@ -24,7 +24,8 @@ upto_none (suc n) = omega (arith, upto_none n)
 
 pub upto_swap : (f : ℕ → ℕ → ℕ) (m n : ℕ) → upto (λ i. upto (λ j. f i j) n) m ≡ upto (λ j. upto (λ i. f i j) m) n
 upto_swap f zero n = sym (upto_none n)
-upto_swap f (suc m) n = ap (λ (x : ℕ). upto (λ j. f 0 j) n + x) (upto_swap (λ i j. f (suc i) j) m n) ∙ sym (upto_add (λ j. f 0 j) (λ j. upto (λ i. f (suc i) j) m) n)
+upto_swap f (suc m) n = ap (λ (x : ℕ). upto (λ j. f 0 j) n + x) (upto_swap (λ i j. f (suc i) j) m n)
+    ∙ sym (upto_add (λ j. f 0 j) (λ j. upto (λ i. f (suc i) j) m) n)
 
 pub upto_list : {X : Type 0} (f : X → ℕ) (xs : List X) (d : X) → sum_by f xs ≡ upto (λ k. f (get_or xs k d)) (length xs)
 upto_list f [] d = refl
@@ -44,9 +45,11 @@ past k a = grind (arith, nat_tests)
 
 pub upto_one : (m n a : ℕ) → m < n → upto (λ k. cond (m == k) a 0) n ≡ a
 upto_one m zero a h = absurd (omega arith)
-upto_one zero (suc n) a h = let e : upto (λ k. cond (0 == suc k) a 0) n ≡ 0 = upto_same (λ k. cond (0 == suc k) a 0) (λ k. 0) n (λ k b. past k a) ∙ upto_none n in omega (arith, e)
+upto_one zero (suc n) a h = let e : upto (λ k. cond (0 == suc k) a 0) n ≡ 0 =
+    upto_same (λ k. cond (0 == suc k) a 0) (λ k. 0) n (λ k b. past k a) ∙ upto_none n in omega (arith, e)
 upto_one (suc m) (suc n) a h =
-    let e : upto (λ k. cond (suc m == suc k) a 0) n ≡ a = upto_same (λ k. cond (suc m == suc k) a 0) (λ k. cond (m == k) a 0) n (λ k b. next m k a) ∙ upto_one m n a (omega arith) in
+    let e : upto (λ k. cond (suc m == suc k) a 0) n ≡ a =
+    upto_same (λ k. cond (suc m == suc k) a 0) (λ k. cond (m == k) a 0) n (λ k b. next m k a) ∙ upto_one m n a (omega arith) in
     omega (arith, e, other m a)
 
 -- what is dealt to all ranks
@@ -61,7 +64,8 @@ pub dealt_all : (w : List ℕ → ℕ) (n k : ℕ) (starts : Strings) → 0 < n 
 dealt_all w n k [] h = upto_none n
 dealt_all w n k (s ∷ starts) h =
     upto_same (λ r. sum_by w (dealt_from n r k (s ∷ starts))) (λ r. cond (k % n == r) (w s) 0 + sum_by w (dealt_from n r (suc k) starts)) n
-    (λ r b. sum_by-append w (cond (k % n == r) (s ∷ []) []) (dealt_from n r (suc k) starts) ∙ ap (λ (x : ℕ). x + sum_by w (dealt_from n r (suc k) starts)) (one_weighs w (k % n == r) s))
+    (λ r b. sum_by-append w (cond (k % n == r) (s ∷ []) []) (dealt_from n r (suc k) starts)
+    ∙ ap (λ (x : ℕ). x + sum_by w (dealt_from n r (suc k) starts)) (one_weighs w (k % n == r) s))
     ∙ upto_add (λ r. cond (k % n == r) (w s) 0) (λ r. sum_by w (dealt_from n r (suc k) starts)) n
     ∙ (λ i. upto_one (k % n) n (w s) (below k n h) i + dealt_all w n (suc k) starts h i)
     ∙ sym (sum_by-cons w s starts)
@@ -69,4 +73,5 @@ dealt_all w n k (s ∷ starts) h =
 -- the logs of all ranks
 pub flat_weighs : {X : Type 0} (f : X → ℕ) (xss : List (List X)) → sum_by f (flat_map (λ l. l) xss) ≡ sum_by (sum_by f) xss
 flat_weighs f [] = refl
-flat_weighs f (xs ∷ xss) = sum_by-append f xs (flat_map (λ l. l) xss) ∙ ap (λ (n : ℕ). sum_by f xs + n) (flat_weighs f xss) ∙ sym (sum_by-cons (sum_by f) xs xss)
+flat_weighs f (xs ∷ xss) = sum_by-append f xs (flat_map (λ l. l) xss) ∙ ap (λ (n : ℕ). sum_by f xs + n) (flat_weighs f xss)
+    ∙ sym (sum_by-cons (sum_by f) xs xss)

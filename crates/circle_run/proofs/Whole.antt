@@ -50,7 +50,8 @@ module _ {J S T : Type 0} where
   }
 
 module _ {J S T P Q : Type 0} (log : J → Log) (shows : S → Shown) (seats : P → S → Type 0) (sums_shows : T → SumShown) (sums_seats : Q → T → Type 0) where
-  pub starting : (o : Options) (starts : Strings) (jobs : List J) (all_seats : List S) (all_sums : List T) (queues : List Strings) (whole : List (Rank J S T)) (p : P) (q : Q)
+  pub starting : (o : Options) (starts : Strings) (jobs : List J) (all_seats : List S) (all_sums : List T) (queues : List Strings)
+      (whole : List (Rank J S T)) (p : P) (q : Q)
       → AreNew log o jobs all_seats all_sums queues whole → length jobs ≡ o.ranks → o.ranks ≤ 64 → o.width ≤ 64
       → AllFresh shows (seats p) o.ranks (Some (unused o.ranks)) all_seats
       → ((k : ℕ) (d : T) → k < o.ranks → sums_seats q (get_or all_sums k d) × (sums_shows (get_or all_sums k d) ≡ fresh_sums o.ranks o.width k))
@@ -74,8 +75,10 @@ module _ {J S T P Q : Type 0} (log : J → Log) (shows : S → Shown) (seats : P
         ready = λ k d h. (let within : k < o.ranks = omega (arith, h, long) in
             let r : Rank J S T = get_or whole k d in
             record {
-              ready = ready_at_first log shows seats sums_shows sums_seats r.job r.seat r.sums_seat r.queue o k r p q (Some (unused o.ranks)) (new.new k d h) (new.unused k d h)
-                  (shown k d h) (subst (seats p) (seat_is k d h) (fresh_seats.each k d.seat within).0) (sum_shown k d h) (subst (sums_seats q) (sum_is k d h) (fresh_all k d.sums_seat within).0) within few narrow;
+              ready = ready_at_first log shows seats sums_shows sums_seats r.job r.seat r.sums_seat r.queue o k r p q
+                  (Some (unused o.ranks)) (new.new k d h) (new.unused k d h)
+                  (shown k d h) (subst (seats p) (seat_is k d h) (fresh_seats.each k d.seat within).0) (sum_shown k d h)
+                  (subst (sums_seats q) (sum_is k d h) (fresh_all k d.sums_seat within).0) within few narrow;
               over = λ e. (let f : false ≡ true = e in cc);
               going = λ e. ap (λ (x : SumShown). x.answer) (sum_shown k d h);
             });
@@ -98,7 +101,14 @@ module _ {J S T P Q D : Type 0} (log : J → Log) (plain : J → D) (shows : S �
   -- a rank's own moves, and its share
   record Own (o : Options) (starts : Strings) (k : ℕ) (r : Rank J S T) : Type 0 where
     moves : List Move
-    does : DoesAll o k moves (record { queue = dealt_to o.ranks starts k; log = []; draws = generator_of o.seed k; batches = Some (unused o.ranks); told = None }) (lone_side log shows r)
+    does : DoesAll o k moves
+        (record {
+          queue = dealt_to o.ranks starts k;
+          log = [];
+          draws = generator_of o.seed k;
+          batches = Some (unused o.ranks);
+          told = None;
+        }) (lone_side log shows r)
     share : r.book.share ≡ capped (length (flat_map handled_in moves)) (length (flat_map given_in moves)) (length (flat_map taken_in moves))
 
   own : (o : Options) (starts : Strings) (whole final : List (Rank J S T)) (p : P) (q : Q)
@@ -150,7 +160,8 @@ module _ {J S T P Q D : Type 0} (log : J → Log) (plain : J → D) (shows : S �
   rank_share o starts whole final p q kept keeps first last k d h =
       let r : Rank J S T = get_or final k d in
       let x = own o starts whole final p q first last k d h in
-      let w = apart_whole o k (dealt_to o.ranks starts k) (log r.job) (kept r.seat) x.moves (lone_side log shows r) x.does (empty_at whole final p q last k d h) refl (keeps r.seat) in
+      let w = apart_whole o k (dealt_to o.ranks starts k) (log r.job) (kept r.seat) x.moves (lone_side log shows r) x.does
+      (empty_at whole final p q last k d h) refl (keeps r.seat) in
       let one : List ℕ → ℕ = λ s. 1 in
       let handled : length (flat_map handled_in x.moves) ≡ length (log r.job) = ap length (sym w.logged) in
       let given : length (flat_map given_in x.moves) ≡ of_all one (kept r.seat).given = sym (one_each (flat_map given_in x.moves)) ∙ sym (w.gave one) in
@@ -175,7 +186,8 @@ module _ {J S T P Q D : Type 0} (log : J → Log) (plain : J → D) (shows : S �
         as_many = length-map final (λ (r : Rank J S T). kept r.seat) ∙ long;
         each = λ k l b h. (let g : k < length final = omega (arith, h, long) in
             subst (λ (x : Log). RankRan o k (dealt_to o.ranks starts k) x (get_or bs k b)) (sym (get_or-map (λ (r : Rank J S T). log r.job) final k d l g))
-            (subst (λ (x : Batches). RankRan o k (dealt_to o.ranks starts k) (log (get_or final k d).job) x) (sym (get_or-map (λ (r : Rank J S T). kept r.seat) final k d b g))
+            (subst (λ (x : Batches). RankRan o k (dealt_to o.ranks starts k) (log (get_or final k d).job) x)
+            (sym (get_or-map (λ (r : Rank J S T). kept r.seat) final k d b g))
             (rank_ran o starts whole final p q kept keeps first last k d g)));
         even = λ i j b h g. (let hi : i < length final = omega (arith, h, long) in let hj : j < length final = omega (arith, g, long) in
             let size : length all_seats ≡ length final = ap length seats_are ∙ length-map final (λ (r : Rank J S T). r.seat) in
@@ -190,7 +202,8 @@ module _ {J S T P Q D : Type 0} (log : J → Log) (plain : J → D) (shows : S �
       }
 
   -- what is known of a run over several threads once its ranks were taken apart
-  pub record Closing (o : Options) (starts : Strings) (jobs : List J) (whole final : List (Rank J S T)) (p : P) (q : Q) (kept : S → Batches) (all_seats : List S) (total : ℕ)
+  pub record Closing (o : Options) (starts : Strings) (jobs : List J) (whole final : List (Rank J S T)) (p : P) (q : Q) (kept : S → Batches)
+      (all_seats : List S) (total : ℕ)
       (f : Finished J) : Type 0 where
     pub law : HostsAreBalanced
     pub keeps : (s : S) → (shows s).batches ≡ Some (kept s)
@@ -219,7 +232,8 @@ module _ {J S T P Q D : Type 0} (log : J → Log) (plain : J → D) (shows : S �
   abbrev share_of : Rank J S T → Share
   share_of r = r.book.share
 
-  pub outcome : (o : Options) (starts : Strings) (jobs : List J) (whole final : List (Rank J S T)) (p : P) (q : Q) (kept : S → Batches) (all_seats : List S) (total : ℕ) (f : Finished J)
+  pub outcome : (o : Options) (starts : Strings) (jobs : List J) (whole final : List (Rank J S T)) (p : P) (q : Q) (kept : S → Batches)
+      (all_seats : List S) (total : ℕ) (f : Finished J)
       → Closing o starts jobs whole final p q kept all_seats total f → IsOutcome log plain o starts jobs f
   outcome o starts jobs whole final p q kept all_seats total f x =
       let ran : AllRan o starts (map (λ (r : Rank J S T). log r.job) final) (map (λ (r : Rank J S T). kept r.seat) final) =
@@ -242,15 +256,20 @@ module _ {J S T P Q D : Type 0} (log : J → Log) (plain : J → D) (shows : S �
       let taken : Share → ℕ = λ s. s.taken in
       let gave : Batches → ℕ = λ b. of_all one b.given in
       let took : Batches → ℕ = λ b. of_all one b.taken in
-      let shared : (k : ℕ) (d : Rank J S T) → k < length final → (get_or final k d).book.share ≡ capped (many (get_or final k d).job) (gave (kept (get_or final k d).seat)) (took (kept (get_or final k d).seat)) =
+      let shared : (k : ℕ) (d : Rank J S T) → k < length final
+      → (get_or final k d).book.share
+      ≡ capped (many (get_or final k d).job) (gave (kept (get_or final k d).seat)) (took (kept (get_or final k d).seat)) =
       rank_share o starts whole final p q kept x.keeps x.first x.last in
-      let total_of : (count : Share → ℕ) (of : Batches → ℕ) → ((k : ℕ) (d : Rank J S T) → k < length final → count (get_or final k d).book.share ≡ min (of (kept (get_or final k d).seat)) cap)
+      let total_of : (count : Share → ℕ) (of : Batches → ℕ)
+      → ((k : ℕ) (d : Rank J S T) → k < length final
+      → count (get_or final k d).book.share ≡ min (of (kept (get_or final k d).seat)) cap)
       → min (sum_by count f.shares.items) cap ≡ min (sum_by of bs) cap =
       λ count of each. ap (λ (xs : List Share). min (sum_by count xs) cap) x.shares_are ∙ ap (λ (n : ℕ). min n cap) (sum_by-map count share_of final)
       ∙ ap (λ (n : ℕ). min n cap) (sum_same (λ (r : Rank J S T). count r.book.share) (λ (r : Rank J S T). min (of (kept r.seat)) cap) final each)
       ∙ capped_sum (λ (r : Rank J S T). of (kept r.seat)) cap final
       ∙ ap (λ (n : ℕ). min n cap) (sym (sum_by-map of (λ (r : Rank J S T). kept r.seat) final)) in
-      let counted : length f.left.items ≡ length final = sym (length-map f.left.items (λ (l : Vec (List ℕ) _). l.items)) ∙ ap length x.left_are ∙ length-map final queue_of in
+      let counted : length f.left.items ≡ length final = sym (length-map f.left.items (λ (l : Vec (List ℕ) _). l.items))
+      ∙ ap length x.left_are ∙ length-map final queue_of in
       let as_many : length final ≡ length jobs = x.last.count ∙ sym (length-map whole job_of) ∙ ap length x.given_jobs in
       record {
         balance = subst (λ (l : Log). Balanced l (all_left f.left.items) starts) all_logs

@@ -29,4 +29,5 @@ pub record AllRan (o : Options) (starts : Strings) (logs : List Log) (batches : 
 
 -- where each rank made moves of its own to its end, and what each took from each other is what that one gave, the run is balanced
 abbrev pub HostsAreBalanced : Type 0
-HostsAreBalanced = (o : Options) (starts : Strings) (logs : List Log) (batches : List Batches) → 0 < o.ranks → AllRan o starts logs batches → Balanced (flat_map (λ l. l) logs) [] starts
+HostsAreBalanced = (o : Options) (starts : Strings) (logs : List Log) (batches : List Batches) → 0 < o.ranks → AllRan o starts logs batches
+    → Balanced (flat_map (λ l. l) logs) [] starts

@@ -1,5 +1,7 @@
 -- Which move a rank makes once all that ask it have their answers.
--- That a rank works on its own strings and asks another once it has none is from LaFon, Misra and Bringhurst, On Distributed File Tree Walk of Parallel File Systems (SC 2012); that only an idle rank moves the token is EWD840's. The order of these, and that a rank was refused once before it moves the token, are our own.
+-- That a rank works on its own strings and asks another once it has none is from LaFon, Misra and Bringhurst, On Distributed File Tree Walk
+-- of Parallel File Systems (SC 2012); that only an idle rank moves the token is EWD840's. The order of these, and that a rank was refused
+-- once before it moves the token, are our own.
 use Rattle.std.specs.Prelude.{◌≡◌, ◌≢◌, ℕ, zero, suc, ◌-◌, ◌==◌, ◌||◌, ◌⊎◌, Bool, true, if◌then◌else◌, List, length, [], ◌∷◌, ◌++◌, Option, Some, None}
 use Rattle.std.specs.List.{flat_map}
 use Rattle.std.specs.Option.{option_map}

@@ -42,7 +42,8 @@ is_asking _ = false
 
 -- where the event handles a string: each other rank comes before that rank handles one again, save a rank that is asking
 abbrev pub LetsOthers : Seen → Event → List Event → Type 0
-LetsOthers world (Handle rank path kids) events = (s : ℕ) → s < length world.0 → s ≢ rank → ComesBefore s rank events ⊎ (is_asking (rank_of world.0 s).desk ≡ true)
+LetsOthers world (Handle rank path kids) events = (s : ℕ) → s < length world.0 → s ≢ rank → ComesBefore s rank events
+    ⊎ (is_asking (rank_of world.0 s).desk ≡ true)
 LetsOthers world _ events = Unit {0}
 
 -- between two strings that one rank handles every other rank has an event of its own, save a rank that is asking at the earlier of the two

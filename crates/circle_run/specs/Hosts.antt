@@ -30,7 +30,8 @@ module _ {J S T : Type 0} where
 
   -- no rank was refused memory or has an event
   abbrev pub NoneWrote : List (Rank J S T) → Type 0
-  NoneWrote ranks = (k : ℕ) (d : Rank J S T) → k < length ranks → ((slice_index_or ranks k d).book.lost ≡ false) × ((slice_index_or ranks k d).book.events.items ≡ [])
+  NoneWrote ranks = (k : ℕ) (d : Rank J S T) → k < length ranks → ((slice_index_or ranks k d).book.lost ≡ false)
+      × ((slice_index_or ranks k d).book.events.items ≡ [])
 
   -- these are all ranks of a run, in order
   pub record AreAll (o : Options) (ranks : List (Rank J S T)) : Type 0 where

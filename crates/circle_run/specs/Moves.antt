@@ -1,6 +1,9 @@
--- What one rank does, one move after the other, and what each move does to its side: its queue, its log, the words that it draws, the batches that its seat keeps, and what its board tells.
--- Handling, asking and giving are those of LaFon, Misra and Bringhurst, On Distributed File Tree Walk of Parallel File Systems (SC 2012), the token is EWD840's; amounts, the order in a queue and the victims are our own.
-use Rattle.std.specs.Prelude.{◌≡◌, ℕ, zero, suc, ◌-◌, ◌<◌, ◌^◌, ◌==◌, ◌&&◌, Bool, false, not, if◌then◌else◌, min, All, List, length, [], ◌∷◌, ◌++◌, map, filter, replicate, Option, Some, None}
+-- What one rank does, one move after the other, and what each move does to its side: its queue, its log, the words that it draws, the
+-- batches that its seat keeps, and what its board tells.
+-- Handling, asking and giving are those of LaFon, Misra and Bringhurst, On Distributed File Tree Walk of Parallel File Systems (SC 2012),
+-- the token is EWD840's; amounts, the order in a queue and the victims are our own.
+use Rattle.std.specs.Prelude.{◌≡◌, ℕ, zero, suc, ◌-◌, ◌<◌, ◌^◌, ◌==◌, ◌&&◌, Bool, false, not, if◌then◌else◌, min, All, List, length, [], ◌∷◌, ◌++◌}
+use Rattle.std.specs.Prelude.{map, filter, replicate, Option, Some, None}
 use Rattle.std.specs.List.{flat_map, range_with_len}
 use Rattle.rand_pcg.specs.Lcg.{Lcg}
 use Rattle.rank_queue.specs.Shares.{word, after_word, equal_share, random_share, victim}

@@ -18,7 +18,22 @@ use Rattle.circle_run.specs.declared.ranks.Turn.{Turn}
 
 -- a rank that has done nothing
 pub record IsNew {J S T : Type 0} (job : J) (seat : S) (sums_seat : T) (queue : Strings) (options : Options) (me : ℕ) (r : Rank J S T) : Type 0 where
-  pub same : r ≡ record { job = job; seat = seat; sums_seat = sums_seat; queue = queue; draws = generator_of options.seed me; me = me; options = options; colour = White; tried = false; asked = None; ended = false; book = r.book; fresh = []; alloc = r.alloc }
+  pub same : r ≡ record {
+    job = job;
+    seat = seat;
+    sums_seat = sums_seat;
+    queue = queue;
+    draws = generator_of options.seed me;
+    me = me;
+    options = options;
+    colour = White;
+    tried = false;
+    asked = None;
+    ended = false;
+    book = r.book;
+    fresh = [];
+    alloc = r.alloc;
+  }
   pub events : r.book.events.items ≡ []
   pub share : r.book.share ≡ record { handled = 0; given = 0; taken = 0 }
   pub sums : r.book.sums.items ≡ []
@@ -44,7 +59,8 @@ module _ {J S T P Q : Type 0} (log : J → Log) (shows : S → Shown) (seats : P
     pub lost : r.book.lost ≡ true → r.queue ≡ []
     pub sums : SumsReady sums_shows sums_seats (length (log r.job)) r q
 
-module _ {J S T P D : Type 0} (log : J → Log) (heard : J → Option (List ℕ)) (plain : J → D) (shows : S → Shown) (tells : P → Option Told) (seats : P → S → Type 0) where
+module _ {J S T P D : Type 0} (log : J → Log) (heard : J → Option (List ℕ)) (plain : J → D) (shows : S → Shown) (tells : P → Option Told)
+    (seats : P → S → Type 0) where
   -- the moves of a turn: what came of it says which there are, and before the end each is the first that applies
   pub record TurnMoves (turn : Turn) (r : Rank J S T) (p : P) (r' : Rank J S T) (moves : List Move) : Type 0 where
     pub kind : IsTurn r.ended turn moves

@@ -59,7 +59,8 @@ EventsTellLogs = (o : Options) (starts : Strings) (moves : List (ℕ × Move)) (
 
 -- what was given was taken or lies in a mailbox: whatever a string weighs, these weigh the same, and there are as many
 pub record IsTakenOrMailed (o : Options) (moves : List (ℕ × Move)) (stage : Stage) : Type 0 where
-  pub weighs : (weight : List ℕ → ℕ) → sum_by weight (of_all o.ranks given_in moves) ≡ sum_by weight (of_all o.ranks taken_in moves) + sum_by weight (all_mailed stage)
+  pub weighs : (weight : List ℕ → ℕ)
+      → sum_by weight (of_all o.ranks given_in moves) ≡ sum_by weight (of_all o.ranks taken_in moves) + sum_by weight (all_mailed stage)
   pub counts : sum_by (λ r. given_by r moves) (range_with_len 0 o.ranks) ≡ sum_by (λ r. taken_by r moves) (range_with_len 0 o.ranks) + length (all_mailed stage)
 
 abbrev pub GivenIsTakenOrMailed : Type 0

@@ -1,5 +1,6 @@
 -- A traced run, and what the numbers of progress of a run may be.
--- A trace is a run of ring_core's world, whose token is EWD840's; who takes which strings and in which order the ranks act are our own, after libcircle (LaFon et al., SC 2012).
+-- A trace is a run of ring_core's world, whose token is EWD840's; who takes which strings and in which order the ranks act are our own,
+-- after libcircle (LaFon et al., SC 2012).
 use Rattle.std.specs.Prelude.{◌≡◌, ℕ, ◌+◌, ◌-◌, ◌^◌, ◌<◌, ◌≤◌, ◌==◌, if◌then◌else◌, min, sum, All, true, List, length, [], ◌∷◌, ◌++◌, map, count_by, sum_by}
 use Rattle.std.specs.List.{range_with_len}
 use Rattle.ring_core.specs.declared.states.Token.TheVariants.{Over}
@@ -17,7 +18,8 @@ use Rattle.circle_run.specs.Progress.{Rises, Thousands, newest}
 use Rattle.circle_run.specs.declared.outcomes.Share.{Share}
 use Rattle.circle_run.specs.declared.settings.Options.{Options}
 
--- the events of a whole run: those of moves that are played from the deal of the starts on, by the rules of queues, amounts and victims, until all ranks have seen the end
+-- the events of a whole run: those of moves that are played from the deal of the starts on, by the rules of queues, amounts and victims,
+-- until all ranks have seen the end
 pub record IsTraced (o : Options) (starts : Strings) (logs : List Log) (events : List Event) : Type 0 where
   pub moves : List (ℕ × Move)
   pub last : Stage
@@ -51,7 +53,8 @@ share_in events r = record {
   taken = min (sum_by (taken_at r) events) (2 ^ 128 - 1);
 }
 
--- the numbers of progress of a run in which each rank handled so many strings. They never fall, and each but the last is at least 1,000 above the one before it.
+-- the numbers of progress of a run in which each rank handled so many strings. They never fall, and each but the last is at least 1,000
+-- above the one before it.
 -- The last is the number of strings handled in all, and of one rank the others are the thousands up to it
 pub record IsProgress (handled : List ℕ) (numbers : List ℕ) : Type 0 where
   pub front : List ℕ

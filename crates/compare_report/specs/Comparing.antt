@@ -1,4 +1,5 @@
--- What dcmp does: what it reports, why it stops, what it may have changed, and when nothing stands against it. The tool is mpiFileUtils'; the texts, notes and statuses are our own.
+-- What dcmp does: what it reports, why it stops, what it may have changed, and when nothing stands against it. The tool is mpiFileUtils';
+-- the texts, notes and statuses are our own.
 use Rattle.std.specs.Prelude.{◌≡◌, ◌⊎◌, ℕ, ◌≤◌, true, false, List, [], ◌∷◌, ◌++◌, length, map, Option, All}
 use Rattle.outside.specs.Count.{RoseBy}
 use Rattle.outside.specs.Tree.{Files}
@@ -100,10 +101,12 @@ pub record StopsAfterComparing (asked : CompareAsked) (before after : Side) (why
   pub later : compared ≤ after.count
   pub stops : StopsSaving outputs (side_of before.tree compared) after why
 
--- why it stops: for want of memory; or a walk was too long, that of the source or then that of the destination, and the files are as before; or a list was not saved
+-- why it stops: for want of memory; or a walk was too long, that of the source or then that of the destination, and the files are as
+-- before; or a list was not saved
 abbrev pub StopsCompare : CompareAsked → Side → Side → Stop → Type 0
 StopsCompare asked before after why =
-    (why ≡ stop.OutOfMemory) ⊎ ((StopsWalking asked.left asked.right before after why × (after.tree ≡ before.tree)) ⊎ StopsAfterComparing asked before after why)
+    (why ≡ stop.OutOfMemory)
+    ⊎ ((StopsWalking asked.left asked.right before after why × (after.tree ≡ before.tree)) ⊎ StopsAfterComparing asked before after why)
 
 -- what it may have changed: the files that are to be written, and nothing else
 abbrev pub LeavesCompare : CompareAsked → Option Files → Option Files → Type 0

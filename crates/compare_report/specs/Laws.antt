@@ -8,4 +8,5 @@ use Rattle.compare_report.specs.Comparing.{ReportsCompare, StopsCompare, FineCom
 -- where nothing stands against dcmp it names nothing, and stops for want of memory alone
 abbrev pub FineCompareSucceeds : Type 0
 FineCompareSucceeds =
-    (asked : CompareAsked) (before after : Side) → WithinCompare asked → FineCompare asked before after → Succeeds (ReportsCompare asked before after) (StopsCompare asked before after)
+    (asked : CompareAsked) (before after : Side) → WithinCompare asked → FineCompare asked before after
+    → Succeeds (ReportsCompare asked before after) (StopsCompare asked before after)

@@ -1,4 +1,5 @@
--- What dcmp saves of a comparison. That it saves lists of the entries whose rows meet an expression is mpiFileUtils'; of which side they are, and that each path stands once, is our own.
+-- What dcmp saves of a comparison. That it saves lists of the entries whose rows meet an expression is mpiFileUtils'; of which side they
+-- are, and that each path stands once, is our own.
 use Rattle.std.specs.Prelude.{◌≡◌, ℕ, Bool, true, false, not, ◌&&◌, if◌then◌else◌, List, ◌++◌, map, filter, nat_eq}
 use Rattle.std.specs.Cmp.Lexicographic.{pointwise}
 use Rattle.std.specs.List.{list_any, AllZip}

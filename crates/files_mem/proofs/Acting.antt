@@ -5,7 +5,7 @@ use Rattle.std.specs.Prelude.{Result, Err}
 use Rattle.std.specs.FinMap.{get}
 use Rattle.path_text.specs.Path.{parent_of}
 use Rattle.outside.specs.Tree.{Files, Node, is_file, is_dir}
-use Rattle.outside.specs.Writes.{all_but, under, is_top, make_refusal, write_refusal, Answers, may_change, may_make}
+use Rattle.outside.specs.Writes.{all_but, under, is_top, make_refusal, write_refusal, Answers, may_change}
 use Rattle.outside.specs.declared.plots.WriteError.{WriteError}
 use Rattle.outside.specs.declared.plots.WriteError.TheVariants as e
 use Rattle.files_mem.specs.declared.plans.Call.{Call}
@@ -24,7 +24,9 @@ is_named e.Absent = true
 is_named e.WrongKind = true
 is_named e.NotEmpty = true
 
-pub acts_refused : (call : Call) (path : List ℕ) (refusal : Option WriteError) (after : Files) (before new : Memory) (r : WriteError) → is_named r ≡ true → is_planned call path before.planned ≡ false → refusal ≡ Some r → new ≡ before → Acts call path refusal after before (Err r) new
+pub acts_refused : (call : Call) (path : List ℕ) (refusal : Option WriteError) (after : Files) (before new : Memory) (r : WriteError)
+    → is_named r ≡ true → is_planned call path before.planned ≡ false → refusal ≡ Some r → new ≡ before
+    → Acts call path refusal after before (Err r) new
 acts_refused call path refusal after before new e.Failed n p is same = absurd (false≢true n)
 acts_refused call path refusal after before new e.OutOfMemory n p is same = (p, same)
 acts_refused call path refusal after before new e.Exists n p is same = (p, (is, same))
@@ -33,7 +35,8 @@ acts_refused call path refusal after before new e.Absent n p is same = (p, (is, 
 acts_refused call path refusal after before new e.WrongKind n p is same = (p, (is, same))
 acts_refused call path refusal after before new e.NotEmpty n p is same = (p, (is, same))
 
-pub answers_refused : (path : List ℕ) (refusal : Option WriteError) (before after : Files) (new : Option Files) (r : WriteError) → is_named r ≡ true → refusal ≡ Some r → new ≡ Some before → Answers path refusal before after (Err r) new
+pub answers_refused : (path : List ℕ) (refusal : Option WriteError) (before after : Files) (new : Option Files) (r : WriteError)
+    → is_named r ≡ true → refusal ≡ Some r → new ≡ Some before → Answers path refusal before after (Err r) new
 answers_refused path refusal before after new e.Failed n is same = absurd (false≢true n)
 answers_refused path refusal before after new e.OutOfMemory n is same = same
 answers_refused path refusal before after new e.Exists n is same = (is, same)
@@ -77,7 +80,8 @@ never_failed e.NotEmpty n f = cc
 
 -- a refusal to make a node, as that to put one says it
 
-like : (o b : Bool) (r : PutError) → cond o (Some put.Exists) (cond b None (Some put.NoParent)) ≡ Some r → (cond o (Some e.Exists) (cond b None (Some e.NoParent)) ≡ Some (write_error r)) × (is_named (write_error r) ≡ true)
+like : (o b : Bool) (r : PutError) → cond o (Some put.Exists) (cond b None (Some put.NoParent)) ≡ Some r
+    → (cond o (Some e.Exists) (cond b None (Some e.NoParent)) ≡ Some (write_error r)) × (is_named (write_error r) ≡ true)
 like true b put.Exists h = (refl, refl)
 like true b put.NoParent h = cc
 like true b put.OutOfMemory h = cc
@@ -91,20 +95,28 @@ none_like true b h = cc
 none_like false true h = refl
 none_like false false h = cc
 
-pub made_refused : (call : Call) (path : List ℕ) (tops : List (List ℕ)) (after : Files) (before new : Memory) (r : PutError) (w : WriteError) → put_refusal_at (is_top (under tops) path) before.files path ≡ Some r → before.area ≡ under tops → w ≡ write_error r →
+pub made_refused : (call : Call) (path : List ℕ) (tops : List (List ℕ)) (after : Files) (before new : Memory) (r : PutError)
+    (w : WriteError) → put_refusal_at (is_top (under tops) path) before.files path ≡ Some r → before.area ≡ under tops → w ≡ write_error r →
     is_planned call path before.planned ≡ false → new ≡ before → Acts call path (make_refusal before.area before.files path) after before (Err w) new
 made_refused call path tops after before new r w h area is planned same =
     let l = like (is_some (get before.files path)) (is_top (under tops) path || is_dir (get before.files (parent_of path))) r h in
     subst (λ x. Acts call path (make_refusal before.area before.files path) after before (Err x) new) (sym is)
-    (acts_refused call path (make_refusal before.area before.files path) after before new (write_error r) l.1 planned (ap (λ a. make_refusal a before.files path) area ∙ l.0) same)
+    (acts_refused call path (make_refusal before.area before.files path) after before new (write_error r) l.1 planned
+    (ap (λ a. make_refusal a before.files path) area ∙ l.0) same)
 
-pub made_free : (path : List ℕ) (tops : List (List ℕ)) (before : Memory) → put_refusal_at (is_top (under tops) path) before.files path ≡ None → before.area ≡ under tops → make_refusal before.area before.files path ≡ None
-made_free path tops before h area = ap (λ a. make_refusal a before.files path) area ∙ none_like (is_some (get before.files path)) (is_top (under tops) path || is_dir (get before.files (parent_of path))) h
+pub made_free : (path : List ℕ) (tops : List (List ℕ)) (before : Memory)
+    → put_refusal_at (is_top (under tops) path) before.files path ≡ None → before.area ≡ under tops
+    → make_refusal before.area before.files path ≡ None
+made_free path tops before h area = ap (λ a. make_refusal a before.files path) area
+    ∙ none_like (is_some (get before.files path)) (is_top (under tops) path || is_dir (get before.files (parent_of path))) h
 
-pub ground_refused : (call : Call) (path : List ℕ) (out : List (List (List ℕ))) (after : Files) (before new : Memory) (r : PutError) → (put_refusal before.files path ≡ Some r) ⊎ (r ≡ put.OutOfMemory) → before.area ≡ all_but out →
-    is_planned call path before.planned ≡ false → new ≡ before → Acts call path (make_refusal before.area before.files path) after before (Err (write_error r)) new
+pub ground_refused : (call : Call) (path : List ℕ) (out : List (List (List ℕ))) (after : Files) (before new : Memory) (r : PutError)
+    → (put_refusal before.files path ≡ Some r) ⊎ (r ≡ put.OutOfMemory) → before.area ≡ all_but out →
+    is_planned call path before.planned ≡ false → new ≡ before
+    → Acts call path (make_refusal before.area before.files path) after before (Err (write_error r)) new
 ground_refused call path out after before new r (inl h) area planned same =
     let l = like (is_some (get before.files path)) (is_dir (get before.files (parent_of path))) r h in
-    acts_refused call path (make_refusal before.area before.files path) after before new (write_error r) l.1 planned (ap (λ a. make_refusal a before.files path) area ∙ l.0) same
+    acts_refused call path (make_refusal before.area before.files path) after before new (write_error r) l.1 planned
+    (ap (λ a. make_refusal a before.files path) area ∙ l.0) same
 ground_refused call path out after before new r (inr h) area planned same =
     subst (λ x. Acts call path (make_refusal before.area before.files path) after before (Err (write_error x)) new) (sym h) (planned, same)

@@ -1,5 +1,6 @@
 -- Where the children of a path stand among keys in path order.
-use Rattle.std.proofs.Common.{◌≡◌, ℕ, ◌<◌, ◌≤◌, Bool, true, false, ◌&&◌, ◌||◌, ◌⊎◌, inl, inr, List, [], ◌∷◌, ◌++◌, length, refl, ap, ◌∙◌, sym, subst, arith, cond, eqb, Some, None, append_assoc, length-append}
+use Rattle.std.proofs.Common.{◌≡◌, ℕ, ◌<◌, ◌≤◌, Bool, true, false, ◌&&◌, ◌||◌, ◌⊎◌, inl, inr, List, [], ◌∷◌, ◌++◌, length, refl, ap, ◌∙◌, sym, subst}
+use Rattle.std.proofs.Common.{arith, cond, eqb, Some, None, append_assoc, length-append}
 use Rattle.std.proofs.lemmas.Bool.{false≢true}
 use Rattle.std.specs.Prelude.{◌==◌, nat_lt}
 use Rattle.std.specs.List.{list_any, starts_with}
@@ -26,14 +27,16 @@ pub below_past : (k : List ℕ) → path_cmp k (k ++ 1 ∷ []) ≡ Less
 below_past [] = refl
 below_past (a ∷ k) = self_equal a (path_cmp k (k ++ 1 ∷ [])) ∙ below_past k
 
-low_byte : (c : ℕ) (rest : Ordering) → (rest ≡ Less) ⊎ (rest ≡ Equal) → ordering_then (nat_cmp (byte_rank 1) (byte_rank c)) rest ≡ Greater → (c == 0) ≡ false → c ≡ 47
+low_byte : (c : ℕ) (rest : Ordering) → (rest ≡ Less) ⊎ (rest ≡ Equal) → ordering_then (nat_cmp (byte_rank 1) (byte_rank c)) rest ≡ Greater
+    → (c == 0) ≡ false → c ≡ 47
 low_byte c rest h e n = grind (arith, nat_tests)
 
 of_nil : (x : List ℕ) → (path_cmp [] x ≡ Less) ⊎ (path_cmp [] x ≡ Equal)
 of_nil [] = inr refl
 of_nil (c ∷ x) = inl refl
 
-same_byte : (a c : ℕ) (r s : Ordering) → ordering_then (nat_cmp (byte_rank a) (byte_rank c)) r ≡ Less → ordering_then (nat_cmp (byte_rank a) (byte_rank c)) s ≡ Greater → (c ≡ a) × ((r ≡ Less) × (s ≡ Greater))
+same_byte : (a c : ℕ) (r s : Ordering) → ordering_then (nat_cmp (byte_rank a) (byte_rank c)) r ≡ Less
+    → ordering_then (nat_cmp (byte_rank a) (byte_rank c)) s ≡ Greater → (c ≡ a) × ((r ≡ Less) × (s ≡ Greater))
 same_byte a c r s e f = (grind (arith, nat_tests), (grind (arith, nat_tests), grind (arith, nat_tests)))
 
 neither : (a b : Bool) → (a || b) ≡ false → (a ≡ false) × (b ≡ false)
@@ -61,10 +64,12 @@ not_one name e = grind (arith, nat_tests)
 pub none_between : (p k m x : List ℕ) → k ≡ front p ++ m → path_cmp k x ≡ Less → path_cmp (k ++ 1 ∷ []) x ≡ Greater → refusal x ≡ None → name_below p x ≡ None
 none_between p k m x e l g v =
     let r = between k x l g (no_nul x v) in
-    name_below-front p x (m ++ 47 ∷ r.0) (r.1 ∙ ap (λ k. k ++ 47 ∷ r.0) e ∙ append_assoc (front p) m (47 ∷ r.0)) ∙ ap (λ b. cond b (Some (m ++ 47 ∷ r.0)) None) (not_one (m ++ 47 ∷ r.0) (has_slash m r.0))
+    name_below-front p x (m ++ 47 ∷ r.0) (r.1 ∙ ap (λ k. k ++ 47 ∷ r.0) e ∙ append_assoc (front p) m (47 ∷ r.0))
+    ∙ ap (λ b. cond b (Some (m ++ 47 ∷ r.0)) None) (not_one (m ++ 47 ∷ r.0) (has_slash m r.0))
 
 -- what is past a front
-past_first : (a c : ℕ) (p q : Bool) (r s : Ordering) → is_le (ordering_then (nat_cmp (byte_rank a) (byte_rank c)) r) ≡ true → (a == c && p) ≡ false → (p ≡ false → is_le r ≡ true → q ≡ true) → (nat_lt (byte_rank a) (byte_rank c) || (a == c && q)) ≡ true
+past_first : (a c : ℕ) (p q : Bool) (r s : Ordering) → is_le (ordering_then (nat_cmp (byte_rank a) (byte_rank c)) r) ≡ true
+    → (a == c && p) ≡ false → (p ≡ false → is_le r ≡ true → q ≡ true) → (nat_lt (byte_rank a) (byte_rank c) || (a == c && q)) ≡ true
 past_first a c p q r s e n h = grind (arith, nat_tests)
 
 pub past_front : (f t k : List ℕ) → is_le (path_cmp (f ++ t) k) ≡ true → starts_with eqb k f ≡ false → before_all f k ≡ true
@@ -72,7 +77,9 @@ past_front [] t k e n = cc
 past_front (a ∷ f) t [] e n = cc
 past_front (a ∷ f) t (c ∷ k) e n = past_first a c (starts_with eqb k f) (before_all f k) (path_cmp (f ++ t) k) Less e n (λ m l. past_front f t k l m)
 
-later : (a b c : ℕ) (p q : Bool) (r : Ordering) → (nat_lt (byte_rank a) (byte_rank b) || (a == b && p)) ≡ true → ordering_then (nat_cmp (byte_rank b) (byte_rank c)) r ≡ Less → (p ≡ true → r ≡ Less → q ≡ true) → (nat_lt (byte_rank a) (byte_rank c) || (a == c && q)) ≡ true
+later : (a b c : ℕ) (p q : Bool) (r : Ordering) → (nat_lt (byte_rank a) (byte_rank b) || (a == b && p)) ≡ true
+    → ordering_then (nat_cmp (byte_rank b) (byte_rank c)) r ≡ Less → (p ≡ true → r ≡ Less → q ≡ true)
+    → (nat_lt (byte_rank a) (byte_rank c) || (a == c && q)) ≡ true
 later a b c p q r e l h = grind (arith, nat_tests)
 
 pub past_more : (f k x : List ℕ) → before_all f k ≡ true → path_cmp k x ≡ Less → before_all f x ≡ true

@@ -1,12 +1,13 @@
 -- What stands at and under a path, as a loop over the entries from that path on finds it.
-use Rattle.std.proofs.Common.{◌≡◌, ◌≢◌, ℕ, Bool, true, false, cond, not, ◌&&◌, ◌||◌, ◌⊎◌, inl, inr, List, [], ◌∷◌, ◌++◌, map, Option, Some, None, refl, ap, ◌∙◌, sym, subst, nat_eq, is_some, length, arith}
+use Rattle.std.proofs.Common.{◌≡◌, ℕ, Bool, true, false, cond, ◌||◌, List, [], ◌∷◌, ◌++◌, map, Option, Some, None}
+use Rattle.std.proofs.Common.{refl, ap, ◌∙◌, sym, subst, nat_eq, is_some, length, arith}
 use Rattle.std.proofs.lemmas.Bool.{false≢true}
 use Rattle.std.specs.Prelude.{Result, Ok, Err, OnErr}
 use Rattle.std.specs.List.{AllByRecursion}
 use Rattle.std.specs.List.Sorted.{IsStrictlySortedBy}
 use Rattle.std.specs.Map.{keys_of}
 use Rattle.std.specs.FinMap.{get, find, insert, remove, get-insert, get-remove, get-from_entries}
-use Rattle.std.specs.Ordering.{eq_by_cmp, is_le, ordering_reverse}
+use Rattle.std.specs.Ordering.{eq_by_cmp, is_le}
 use Rattle.std.specs.declared.cmp.Ordering.{Ordering}
 use Rattle.std.specs.declared.cmp.Ordering.TheVariants.{Less, Equal, Greater}
 use Rattle.std.specs.Cmp.Lexicographic.{pointwise, bytes_decides}
@@ -35,7 +36,8 @@ abbrev pub over : Entries → List ℕ → Option Node → Option Node
 over [] q o = o
 over (e ∷ es) q o = over es q (cond (eq_by_cmp path_cmp q e.0) (Some (node_of e.1)) o)
 
-over_more : (es : Entries) (e : List ℕ × stored.Node) (q : List ℕ) (o : Option Node) → over (es ++ e ∷ []) q o ≡ cond (eq_by_cmp path_cmp q e.0) (Some (node_of e.1)) (over es q o)
+over_more : (es : Entries) (e : List ℕ × stored.Node) (q : List ℕ) (o : Option Node)
+    → over (es ++ e ∷ []) q o ≡ cond (eq_by_cmp path_cmp q e.0) (Some (node_of e.1)) (over es q o)
 over_more [] e q o = refl
 over_more (x ∷ es) e q o = over_more es e q (cond (eq_by_cmp path_cmp q x.0) (Some (node_of x.1)) o)
 
@@ -56,7 +58,8 @@ pub record Copying (top : List ℕ) (from_files : Files) (es : Entries) (old new
   pub within : AllByRecursion (λ e. is_within e.0 top ≡ true) done
   pub put : (q : List ℕ) → get new q ≡ over done q (get old q)
 
-pub copying_begins : (top : List ℕ) (all es : Entries) (files old : Files) → files_of all ≡ files → IsSorted all → AllValid all → es ≡ from top all → Copying top files es old old
+pub copying_begins : (top : List ℕ) (all es : Entries) (files old : Files) → files_of all ≡ files → IsSorted all → AllValid all
+    → es ≡ from top all → Copying top files es old old
 copying_begins top all es files old view s v e = record { all = all; view = view; sorted = s; valid = v; done = []; is = sym e; within = tt; put = λ q. refl }
 
 all_more : (P : List ℕ × stored.Node → Type 0) (es : Entries) (e : List ℕ × stored.Node) → AllByRecursion P es → P e → AllByRecursion P (es ++ e ∷ [])
@@ -67,7 +70,8 @@ append_one : (xs : Entries) (e : List ℕ × stored.Node) (ys : Entries) → xs 
 append_one [] e ys = refl
 append_one (x ∷ xs) e ys = ap (λ r. x ∷ r) (append_one xs e ys)
 
-pub copying_step : (top : List ℕ) (files : Files) (es rest : Entries) (k : List ℕ) (n m : stored.Node) (old new next : Files) → Copying top files es old new → es ≡ (k, n) ∷ rest → is_within k top ≡ true →
+pub copying_step : (top : List ℕ) (files : Files) (es rest : Entries) (k : List ℕ) (n m : stored.Node) (old new next : Files)
+    → Copying top files es old new → es ≡ (k, n) ∷ rest → is_within k top ≡ true →
     node_of m ≡ node_of n → next ≡ insert new k (node_of m) → Copying top files rest old next
 copying_step top files es rest k n m old new next c e on same is = record {
   all = c.all;
@@ -82,7 +86,8 @@ copying_step top files es rest k n m old new next c e on same is = record {
 }
 
 -- what is not within the top was not put
-over_off : (top : List ℕ) (es : Entries) (q : List ℕ) (o : Option Node) → AllByRecursion (λ e. is_within e.0 top ≡ true) es → is_within q top ≡ false → over es q o ≡ o
+over_off : (top : List ℕ) (es : Entries) (q : List ℕ) (o : Option Node) → AllByRecursion (λ e. is_within e.0 top ≡ true) es
+    → is_within q top ≡ false → over es q o ≡ o
 over_off top [] q o a off = refl
 over_off top (e ∷ es) q o a off = ap (λ b. over es q (cond b (Some (node_of e.1)) o)) other ∙ over_off top es q o a.1 off
   where
@@ -92,7 +97,8 @@ over_off top (e ∷ es) q o a off = ap (λ b. over es q (cond b (Some (node_of e
       | false ↦ λ _. refl
     ] refl
 
-pub copying_off : (top : List ℕ) (files : Files) (es : Entries) (old new : Files) → Copying top files es old new → (q : List ℕ) → is_within q top ≡ false → get new q ≡ get old q
+pub copying_off : (top : List ℕ) (files : Files) (es : Entries) (old new : Files) → Copying top files es old new → (q : List ℕ)
+    → is_within q top ≡ false → get new q ≡ get old q
 copying_off top files es old new c q off = c.put q ∙ over_off top c.done q (get old q) c.within off
 
 -- of distinct keys the first is the last
@@ -120,10 +126,14 @@ over_after k q (x ∷ es) o e a = ap (λ b. over es q (cond b (Some (node_of x.1
 
 over_has : (es : Entries) (q : List ℕ) (o : Option Node) → IsSorted es → over es q o ≡ cond (is_some (has q es)) (has q es) o
 over_has [] q o s = refl
-over_has (e ∷ es) q o s = elim (eq_by_cmp path_cmp q e.0) as (λ b. eq_by_cmp path_cmp q e.0 ≡ b → over es q (cond b (Some (node_of e.1)) o) ≡ cond (is_some (cond b (Some (node_of e.1)) (has q es))) (cond b (Some (node_of e.1)) (has q es)) o) [
-  | true ↦ λ is. over_after e.0 q es (Some (node_of e.1)) (same_path q e.0 is) (sorted_head path_cmp e.0 (keys_of es) s)
-  | false ↦ λ _. over_has es q o (sorted_tail path_cmp e.0 (keys_of es) s)
-] refl
+over_has (e ∷ es) q o s =
+    elim (eq_by_cmp path_cmp q e.0) as
+    (λ b. eq_by_cmp path_cmp q e.0 ≡ b
+    → over es q (cond b (Some (node_of e.1)) o)
+    ≡ cond (is_some (cond b (Some (node_of e.1)) (has q es))) (cond b (Some (node_of e.1)) (has q es)) o) [
+      | true ↦ λ is. over_after e.0 q es (Some (node_of e.1)) (same_path q e.0 is) (sorted_head path_cmp e.0 (keys_of es) s)
+      | false ↦ λ _. over_has es q o (sorted_tail path_cmp e.0 (keys_of es) s)
+    ] refl
 
 has_front : (done es : Entries) (q : List ℕ) → has q es ≡ None → has q (done ++ es) ≡ has q done
 has_front [] es q e = e
@@ -143,7 +153,8 @@ has_from top q (e ∷ es) l = elim (reach top e.0) as (λ b. reach top e.0 ≡ b
     ] refl
 
 -- what comes after one that is not within the top is not within it either
-after_off : (top x q : List ℕ) → refusal top ≡ None → refusal x ≡ None → path_cmp top x ≡ Less → is_within x top ≡ false → is_within q top ≡ true → path_cmp x q ≡ Less → ⊥
+after_off : (top x q : List ℕ) → refusal top ≡ None → refusal x ≡ None → path_cmp top x ≡ Less → is_within x top ≡ false
+    → is_within q top ≡ true → path_cmp x q ≡ Less → ⊥
 after_off top x q ft fx l off on m =
     elim (pointwise nat_eq q top) as (λ b. pointwise nat_eq q top ≡ b → (b || is_under q top) ≡ true → ⊥) [
       | true ↦ λ is _. clash (sym (path_cmp_total.trans top x top l (ap (path_cmp x) (sym ((bytes_decides q top).0 is)) ∙ m)) ∙ itself top)
@@ -163,14 +174,17 @@ not_here top x q off on = elim (eq_by_cmp path_cmp q x) as (λ b. eq_by_cmp path
   | false ↦ λ _. refl
 ] refl
 
-none_after : (top x q : List ℕ) (es : Entries) → refusal top ≡ None → refusal x ≡ None → path_cmp top x ≡ Less → is_within x top ≡ false → is_within q top ≡ true → AllAfter x es → has q es ≡ None
+none_after : (top x q : List ℕ) (es : Entries) → refusal top ≡ None → refusal x ≡ None → path_cmp top x ≡ Less → is_within x top ≡ false
+    → is_within q top ≡ true → AllAfter x es → has q es ≡ None
 none_after top x q [] ft fx l off on a = refl
-none_after top x q (e ∷ es) ft fx l off on a = elim (eq_by_cmp path_cmp q e.0) as (λ b. eq_by_cmp path_cmp q e.0 ≡ b → cond b (Some (node_of e.1)) (has q es) ≡ None) [
-  | true ↦ λ is. absurd (after_off top x q ft fx l off on (ap (path_cmp x) (same_path q e.0 is) ∙ a.0))
-  | false ↦ λ _. none_after top x q es ft fx l off on a.1
-] refl
+none_after top x q (e ∷ es) ft fx l off on a =
+    elim (eq_by_cmp path_cmp q e.0) as (λ b. eq_by_cmp path_cmp q e.0 ≡ b → cond b (Some (node_of e.1)) (has q es) ≡ None) [
+      | true ↦ λ is. absurd (after_off top x q ft fx l off on (ap (path_cmp x) (same_path q e.0 is) ∙ a.0))
+      | false ↦ λ _. none_after top x q es ft fx l off on a.1
+    ] refl
 
-pub stops : (top k q : List ℕ) (n : stored.Node) (rest : Entries) → refusal top ≡ None → refusal k ≡ None → is_le (path_cmp top k) ≡ true → is_within k top ≡ false → is_within q top ≡ true →
+pub stops : (top k q : List ℕ) (n : stored.Node) (rest : Entries) → refusal top ≡ None → refusal k ≡ None → is_le (path_cmp top k) ≡ true
+    → is_within k top ≡ false → is_within q top ≡ true →
     IsSorted ((k, n) ∷ rest) → has q ((k, n) ∷ rest) ≡ None
 stops top k q n rest ft fk le off on s =
     ap (λ b. cond b (Some (node_of n)) (has q rest)) (not_here top k q off on)
@@ -204,32 +218,40 @@ front_sorted (x ∷ xs) ys s = (front_after xs ys s.0, front_sorted xs ys s.1)
     front_after (e ∷ es) fs a = (a.0, front_after es fs a.1)
 
 -- at an entry that is not within the top nothing more is
-stop_none : (top : List ℕ) (files : Files) (es rest : Entries) (k : List ℕ) (n : stored.Node) (old new : Files) → refusal top ≡ None → Copying top files es old new → es ≡ (k, n) ∷ rest →
+stop_none : (top : List ℕ) (files : Files) (es rest : Entries) (k : List ℕ) (n : stored.Node) (old new : Files) → refusal top ≡ None
+    → Copying top files es old new → es ≡ (k, n) ∷ rest →
     is_within k top ≡ false → (q : List ℕ) → is_within q top ≡ true → has q es ≡ None
 stop_none top files es rest k n old new ft c e off q on =
     let r = from_end top c.all c.sorted in
     let tail : from top c.all ≡ c.done ++ ((k, n) ∷ rest) = c.is ∙ ap (λ x. c.done ++ x) e in
     let sorted = sorted_end c.done ((k, n) ∷ rest) (subst IsSorted tail (sorted_end r.0 (from top c.all) (subst IsSorted r.1 c.sorted))) in
-    let valid = all_end (λ x. refusal x.0 ≡ None) c.done ((k, n) ∷ rest) (subst AllValid tail (all_end (λ x. refusal x.0 ≡ None) r.0 (from top c.all) (subst AllValid r.1 c.valid))) in
+    let valid = all_end (λ x. refusal x.0 ≡ None) c.done ((k, n) ∷ rest)
+    (subst AllValid tail (all_end (λ x. refusal x.0 ≡ None) r.0 (from top c.all) (subst AllValid r.1 c.valid))) in
     let ready = all_end (λ x. is_le (path_cmp top x.0) ≡ true) c.done ((k, n) ∷ rest) (subst (AllReady top) tail (ready_from top c.all)) in
     ap (has q) e ∙ stops top k q n rest ft valid.0 ready.0 off on sorted
 
-copying_ends : (top : List ℕ) (files : Files) (es : Entries) (old new : Files) → Copying top files es old new → ((q : List ℕ) → is_within q top ≡ true → has q es ≡ None) →
+copying_ends : (top : List ℕ) (files : Files) (es : Entries) (old new : Files) → Copying top files es old new
+    → ((q : List ℕ) → is_within q top ≡ true → has q es ≡ None) →
     (q : List ℕ) → get new q ≡ copied (is_within q top) (get files q) (get old q)
 copying_ends top files es old new c none q = elim (is_within q top) as (λ b. is_within q top ≡ b → get new q ≡ copied b (get files q) (get old q)) [
   | false ↦ λ off. copying_off top files es old new c q off
   | true ↦ λ on. c.put q ∙ over_has c.done q (get old q) done_sorted
-      ∙ ap (λ o. cond (is_some o) o (get old q)) (sym (has_front c.done es q (none q on)) ∙ ap (has q) (sym c.is) ∙ has_from top q c.all (within_after top q on) ∙ sym (has_is q c.all) ∙ ap (λ f. get f q) c.view)
+      ∙ ap (λ o. cond (is_some o) o (get old q))
+      (sym (has_front c.done es q (none q on)) ∙ ap (has q) (sym c.is) ∙ has_from top q c.all (within_after top q on)
+      ∙ sym (has_is q c.all) ∙ ap (λ f. get f q) c.view)
 ] refl
   where
     done_sorted : IsSorted c.done
-    done_sorted = front_sorted c.done es (subst IsSorted c.is (let r = from_end top c.all c.sorted in sorted_end r.0 (from top c.all) (subst IsSorted r.1 c.sorted)))
+    done_sorted = front_sorted c.done es
+        (subst IsSorted c.is (let r = from_end top c.all c.sorted in sorted_end r.0 (from top c.all) (subst IsSorted r.1 c.sorted)))
 
-pub copying_stops : (top : List ℕ) (files : Files) (es rest : Entries) (k : List ℕ) (n : stored.Node) (old new : Files) → refusal top ≡ None → Copying top files es old new → es ≡ (k, n) ∷ rest →
+pub copying_stops : (top : List ℕ) (files : Files) (es rest : Entries) (k : List ℕ) (n : stored.Node) (old new : Files) → refusal top ≡ None
+    → Copying top files es old new → es ≡ (k, n) ∷ rest →
     is_within k top ≡ false → (q : List ℕ) → get new q ≡ copied (is_within q top) (get files q) (get old q)
 copying_stops top files es rest k n old new ft c e off = copying_ends top files es old new c (stop_none top files es rest k n old new ft c e off)
 
-pub copying_done : (top : List ℕ) (files : Files) (es : Entries) (old new : Files) → Copying top files es old new → length es ≡ 0 → (q : List ℕ) → get new q ≡ copied (is_within q top) (get files q) (get old q)
+pub copying_done : (top : List ℕ) (files : Files) (es : Entries) (old new : Files) → Copying top files es old new → length es ≡ 0
+    → (q : List ℕ) → get new q ≡ copied (is_within q top) (get files q) (get old q)
 copying_done top files es old new c z = copying_ends top files es old new c (λ q on. nothing es z q)
   where
     nothing : (es : Entries) → length es ≡ 0 → (q : List ℕ) → has q es ≡ None
@@ -250,9 +272,14 @@ gone_is es q o = by es o ∙ ap (λ x. cond (is_some x) None o) (sym (has_is q e
   where
     by : (es : Entries) (o : Option Node) → gone es q o ≡ cond (is_some (has q es)) None o
     by [] o = refl
-    by (e ∷ es) o = elim (eq_by_cmp path_cmp q e.0) as (λ b. gone es q (cond b None o) ≡ cond (is_some (cond b (Some (node_of e.1)) (has q es))) None o) [ true ↦ gone_none es q | false ↦ by es o ]
+    by (e ∷ es) o = elim (eq_by_cmp path_cmp q e.0) as
+        (λ b. gone es q (cond b None o) ≡ cond (is_some (cond b (Some (node_of e.1)) (has q es))) None o) [
+          | true ↦ gone_none es q
+          | false ↦ by es o
+        ]
 
-pub gone_step : (es rest : Entries) (k : List ℕ) (n : stored.Node) (now next : Files) (q : List ℕ) → es ≡ (k, n) ∷ rest → next ≡ remove now k → gone rest q (get next q) ≡ gone es q (get now q)
+pub gone_step : (es rest : Entries) (k : List ℕ) (n : stored.Node) (now next : Files) (q : List ℕ) → es ≡ (k, n) ∷ rest
+    → next ≡ remove now k → gone rest q (get next q) ≡ gone es q (get now q)
 gone_step es rest k n now next q e is = ap (gone rest q) (ap (λ f. get f q) is ∙ get-remove path_cmp_total now k q) ∙ sym (ap (λ x. gone x q (get now q)) e)
 
 pub gone_end : (es : Entries) (q : List ℕ) (o : Option Node) → length es ≡ 0 → gone es q o ≡ o

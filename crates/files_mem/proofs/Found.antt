@@ -10,10 +10,13 @@ use Rattle.path_text.specs.Total.{path_cmp_total}
 use Rattle.files_mem.specs.declared.nodes.Node as stored
 use Rattle.files_mem.specs.Stored.{node_of, files_of}
 
-found : (q : List ℕ) (es : List (List ℕ × stored.Node)) → find path_cmp q (map (λ e. (e.0, node_of e.1)) es) ≡ option_map node_of (lookup (is_at (path_cmp q)) es)
+found : (q : List ℕ) (es : List (List ℕ × stored.Node))
+    → find path_cmp q (map (λ e. (e.0, node_of e.1)) es) ≡ option_map node_of (lookup (is_at (path_cmp q)) es)
 found q [] = refl
 found q (e ∷ es) =
-    elim (eq_by_cmp path_cmp q e.0) as (λ b. cond b (Some (node_of e.1)) (find path_cmp q (map (λ e. (e.0, node_of e.1)) es)) ≡ option_map node_of (cond b (Some e.1) (lookup (is_at (path_cmp q)) es))) [ true ↦ refl | false ↦ found q es ]
+    elim (eq_by_cmp path_cmp q e.0) as
+    (λ b. cond b (Some (node_of e.1)) (find path_cmp q (map (λ e. (e.0, node_of e.1)) es))
+    ≡ option_map node_of (cond b (Some e.1) (lookup (is_at (path_cmp q)) es))) [ true ↦ refl | false ↦ found q es ]
 
 -- the node at a path
 pub get_is : (q : List ℕ) (es : List (List ℕ × stored.Node)) → get (files_of es) q ≡ option_map node_of (lookup (is_at (path_cmp q)) es)

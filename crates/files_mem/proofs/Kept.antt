@@ -22,7 +22,8 @@ use Rattle.path_text.specs.Path.{refusal}
 use Rattle.path_text.specs.Total.{path_cmp_total, path_cmp_same, path_cmp_ties}
 
 pub inserted : (old new : List (List ℕ × stored.Node)) (p : List ℕ) (n : stored.Node) →
-    ((q : List ℕ) → lookup (is_at (path_cmp q)) new ≡ cond (is_at (path_cmp p) q) (Some n) (lookup (is_at (path_cmp q)) old)) → files_of new ≡ insert (files_of old) p (node_of n)
+    ((q : List ℕ) → lookup (is_at (path_cmp q)) new ≡ cond (is_at (path_cmp p) q) (Some n) (lookup (is_at (path_cmp q)) old))
+    → files_of new ≡ insert (files_of old) p (node_of n)
 inserted old new p n h =
     same_map path_cmp_total path_cmp_same (files_of new) (insert (files_of old) p (node_of n))
     (λ q. get_is q new ∙ ap (option_map node_of) (h q) ∙ through (is_at (path_cmp p) q) (lookup (is_at (path_cmp q)) old)
@@ -35,7 +36,8 @@ inserted old new p n h =
     through false o = refl
 
 -- what a look-up in the map finds, the tree has
-pub node_here : (es : List (List ℕ × stored.Node)) (f : Files) (p : List ℕ) (n : stored.Node) → Some n ≡ lookup (is_at (path_cmp p)) es → files_of es ≡ f → get f p ≡ Some (node_of n)
+pub node_here : (es : List (List ℕ × stored.Node)) (f : Files) (p : List ℕ) (n : stored.Node) → Some n ≡ lookup (is_at (path_cmp p)) es
+    → files_of es ≡ f → get f p ≡ Some (node_of n)
 node_here es f p n found view = ap (λ f. get f p) (sym view) ∙ get_is p es ∙ ap (option_map node_of) (sym found)
 
 pub none_here : (es : List (List ℕ × stored.Node)) (f : Files) (p : List ℕ) → None ≡ lookup (is_at (path_cmp p)) es → files_of es ≡ f → get f p ≡ None
@@ -54,19 +56,23 @@ insert_same f p n here =
       | false ↦ λ e. refl
     ] refl)
 
-pub wrote : {B : Type 0} (r : Result (Unit {0}) B) (es ns : List (List ℕ × stored.Node)) (f : Files) (p : List ℕ) (n w : stored.Node) (at : ℕ) (bytes : List ℕ) → files_of es ≡ f → get f p ≡ Some (node_of n) → Through es ns p w →
+pub wrote : {B : Type 0} (r : Result (Unit {0}) B) (es ns : List (List ℕ × stored.Node)) (f : Files) (p : List ℕ) (n w : stored.Node)
+    (at : ℕ) (bytes : List ℕ) → files_of es ≡ f → get f p ≡ Some (node_of n) → Through es ns p w →
     OnOk r (node_of w ≡ record { body = file (spliced (bytes_of (body_of n.body)) at bytes); mtime = n.mtime }) → OnOk r (files_of ns ≡ written f p at bytes)
 wrote (Ok x) es ns f p n w at bytes view here t done =
     inserted es ns p w t ∙ ap (λ f. insert f p (node_of w)) view ∙ ap (insert f p) done
     ∙ ap (λ o. insert f p (record { body = file (spliced (content o) at bytes); mtime = time_of o })) (sym here)
 wrote (Err x) es ns f p n w at bytes view here t done = tt
 
-pub wrote_not : {B : Type 0} (r : Result (Unit {0}) B) (es ns : List (List ℕ × stored.Node)) (f : Files) (p : List ℕ) (n w : stored.Node) → files_of es ≡ f → get f p ≡ Some (node_of n) → Through es ns p w → OnErr r (node_of w ≡ node_of n) → OnErr r (files_of ns ≡ f)
+pub wrote_not : {B : Type 0} (r : Result (Unit {0}) B) (es ns : List (List ℕ × stored.Node)) (f : Files) (p : List ℕ) (n w : stored.Node)
+    → files_of es ≡ f → get f p ≡ Some (node_of n) → Through es ns p w → OnErr r (node_of w ≡ node_of n) → OnErr r (files_of ns ≡ f)
 wrote_not (Ok x) es ns f p n w view here t kept = tt
-wrote_not (Err x) es ns f p n w view here t kept = inserted es ns p w t ∙ ap (λ f. insert f p (node_of w)) view ∙ ap (insert f p) kept ∙ insert_same f p (node_of n) here
+wrote_not (Err x) es ns f p n w view here t kept = inserted es ns p w t ∙ ap (λ f. insert f p (node_of w)) view ∙ ap (insert f p) kept
+    ∙ insert_same f p (node_of n) here
 
 pub removed : (old new : List (List ℕ × stored.Node)) (p : List ℕ) →
-    ((q : List ℕ) → lookup (is_at (path_cmp q)) new ≡ cond (is_at (path_cmp p) q) None (lookup (is_at (path_cmp q)) old)) → files_of new ≡ remove (files_of old) p
+    ((q : List ℕ) → lookup (is_at (path_cmp q)) new ≡ cond (is_at (path_cmp p) q) None (lookup (is_at (path_cmp q)) old))
+    → files_of new ≡ remove (files_of old) p
 removed old new p h =
     same_map path_cmp_total path_cmp_same (files_of new) (remove (files_of old) p)
     (λ q. get_is q new ∙ ap (option_map node_of) (h q) ∙ through (is_at (path_cmp p) q) (lookup (is_at (path_cmp q)) old)
@@ -89,11 +95,16 @@ valid_insert (e ∷ es) p n v a =
 
 pub valid_remove : (test : List ℕ → Bool) (es : List (List ℕ × stored.Node)) → AllValid es → AllValid (remove_entry test es)
 valid_remove test [] a = tt
-valid_remove test (e ∷ es) a = elim (test e.0) as (λ b. AllValid (cond b es (e ∷ remove_entry test es))) [ true ↦ a.1 | false ↦ (a.0, valid_remove test es a.1) ]
+valid_remove test (e ∷ es) a =
+    elim (test e.0) as (λ b. AllValid (cond b es (e ∷ remove_entry test es))) [ true ↦ a.1 | false ↦ (a.0, valid_remove test es a.1) ]
 
 pub valid_set : (test : List ℕ → Bool) (es : List (List ℕ × stored.Node)) (n : stored.Node) → AllValid es → AllValid (set_value test es n)
 valid_set test [] n a = tt
-valid_set test (e ∷ es) n a = elim (test e.0) as (λ b. AllValid (cond b ((e.0, n) ∷ es) (e ∷ set_value test es n))) [ true ↦ a | false ↦ (a.0, valid_set test es n a.1) ]
+valid_set test (e ∷ es) n a =
+    elim (test e.0) as (λ b. AllValid (cond b ((e.0, n) ∷ es) (e ∷ set_value test es n))) [
+      | true ↦ a
+      | false ↦ (a.0, valid_set test es n a.1)
+    ]
 
 abbrev pub IsCopy : List (List ℕ × stored.Node) → List (List ℕ × stored.Node) → Type 0
 IsCopy es fs = AllZip (λ p q. (q.0 ≡ p.0) × (node_of q.1 ≡ node_of p.1)) es fs

@@ -1,5 +1,6 @@
 -- A part copied, and laid over what was kept.
-use Rattle.std.proofs.Common.{◌≡◌, ℕ, ◌+◌, ◌<◌, ◌≤◌, Bool, true, false, cond, not, ◌&&◌, ◌||◌, List, [], ◌∷◌, ◌++◌, take, get_or, length, Option, Some, None, refl, ap, ◌∙◌, sym, subst, is_some, arith, zero, suc}
+use Rattle.std.proofs.Common.{◌≡◌, ℕ, ◌+◌, ◌<◌, ◌≤◌, Bool, true, false, cond, not, ◌||◌, List, [], ◌∷◌, ◌++◌, take, get_or, length, Option}
+use Rattle.std.proofs.Common.{Some, None, refl, ap, ◌∙◌, sym, is_some, arith, zero, suc}
 use Rattle.std.proofs.lemmas.Bool.{false≢true}
 use Rattle.std.specs.Prelude.{Result, Ok, Err, OnOk, OnErr}
 use Rattle.std.proofs.lemmas.List.{take_more, take_all}
@@ -19,8 +20,12 @@ pub kept_is : (tops : List (List ℕ)) (files : Files) (q : List ℕ) → get (k
 kept_is tops files q = get-retain_keys files (λ x. not (in_tops tops x)) q (λ x e. ap (λ y. not (in_tops tops y)) (sym (path_cmp_same q x e)))
 
 -- what is copied into nothing is what is leased
-pub all_leased : (tops : List (List ℕ)) (files part : Files) → ((q : List ℕ) → get part q ≡ copied (in_tops tops q) (get files q) (get {R = path_cmp} empty q)) → part ≡ leased tops files
-all_leased tops files part h = same_map path_cmp_total path_cmp_same part (leased tops files) (λ q. h q ∙ ap (copied (in_tops tops q) (get files q)) (get-empty path_cmp q) ∙ by (in_tops tops q) (get files q) ∙ sym (leased_is tops files q))
+pub all_leased : (tops : List (List ℕ)) (files part : Files)
+    → ((q : List ℕ) → get part q ≡ copied (in_tops tops q) (get files q) (get {R = path_cmp} empty q)) → part ≡ leased tops files
+all_leased tops files part h =
+    same_map path_cmp_total path_cmp_same part (leased tops files)
+    (λ q. h q ∙ ap (copied (in_tops tops q) (get files q)) (get-empty path_cmp q) ∙ by (in_tops tops q) (get files q)
+    ∙ sym (leased_is tops files q))
   where
     by : (b : Bool) (o : Option Node) → copied b o None ≡ cond b o None
     by true None = refl
@@ -28,8 +33,12 @@ all_leased tops files part h = same_map path_cmp_total path_cmp_same part (lease
     by false o = refl
 
 -- without what is leased there is what is kept
-pub all_kept : (tops : List (List ℕ)) (files new : Files) → ((q : List ℕ) → get new q ≡ cond (is_some (get (leased tops files) q)) None (get files q)) → new ≡ kept tops files
-all_kept tops files new h = same_map path_cmp_total path_cmp_same new (kept tops files) (λ q. h q ∙ ap (λ o. cond (is_some o) None (get files q)) (leased_is tops files q) ∙ by (in_tops tops q) (get files q) ∙ sym (kept_is tops files q))
+pub all_kept : (tops : List (List ℕ)) (files new : Files)
+    → ((q : List ℕ) → get new q ≡ cond (is_some (get (leased tops files) q)) None (get files q)) → new ≡ kept tops files
+all_kept tops files new h =
+    same_map path_cmp_total path_cmp_same new (kept tops files)
+    (λ q. h q ∙ ap (λ o. cond (is_some o) None (get files q)) (leased_is tops files q) ∙ by (in_tops tops q) (get files q)
+    ∙ sym (kept_is tops files q))
   where
     by : (b : Bool) (o : Option Node) → cond (is_some (cond b o None)) None o ≡ cond (not b) o None
     by true None = refl
@@ -39,7 +48,9 @@ all_kept tops files new h = same_map path_cmp_total path_cmp_same new (kept tops
 -- first what is there is taken away, and then the part is copied
 pub joins : (tops : List (List ℕ)) (own rest mid after : Files) → ((q : List ℕ) → get mid q ≡ cond (is_some (get (leased tops rest) q)) None (get rest q)) →
     ((q : List ℕ) → get after q ≡ copied (in_tops tops q) (get own q) (get mid q)) → Joins tops own rest after
-joins tops own rest mid after h k q = k q ∙ ap (copied (in_tops tops q) (get own q)) (h q ∙ ap (λ o. cond (is_some o) None (get rest q)) (leased_is tops rest q)) ∙ by (in_tops tops q) (get own q) (get rest q)
+joins tops own rest mid after h k q = k q
+    ∙ ap (copied (in_tops tops q) (get own q)) (h q ∙ ap (λ o. cond (is_some o) None (get rest q)) (leased_is tops rest q))
+    ∙ by (in_tops tops q) (get own q) (get rest q)
   where
     by : (b : Bool) (o r : Option Node) → copied b o (cond (is_some (cond b r None)) None r) ≡ cond b o r
     by true None None = refl
@@ -47,7 +58,9 @@ joins tops own rest mid after h k q = k q ∙ ap (copied (in_tops tops q) (get o
     by true (Some n) r = refl
     by false o r = refl
 
-pub still : (tops : List (List ℕ)) (rest mid : Files) → ((q : List ℕ) → get mid q ≡ cond (is_some (get (leased tops rest) q)) None (get rest q)) → (q : List ℕ) → in_tops tops q ≡ false → get mid q ≡ get rest q
+pub still : (tops : List (List ℕ)) (rest mid : Files)
+    → ((q : List ℕ) → get mid q ≡ cond (is_some (get (leased tops rest) q)) None (get rest q)) → (q : List ℕ) → in_tops tops q ≡ false
+    → get mid q ≡ get rest q
 still tops rest mid h q off = h q ∙ ap (λ o. cond (is_some o) None (get rest q)) (leased_is tops rest q ∙ ap (λ b. cond b (get rest q) None) off)
 
 -- one map joins
@@ -55,8 +68,11 @@ pub laid_is : (tops : List (List ℕ)) (own rest after : Files) → Joins tops o
 laid_is tops own rest after j = same_map path_cmp_total path_cmp_same after (laid tops own rest) (λ q. j q ∙ sym (get_laid tops own rest q))
 
 -- what stands at and under the tops before does not matter
-pub laid_same : (tops : List (List ℕ)) (own old new : Files) → ((q : List ℕ) → in_tops tops q ≡ false → get new q ≡ get old q) → laid tops own new ≡ laid tops own old
-laid_same tops own old new h = same_map path_cmp_total path_cmp_same (laid tops own new) (laid tops own old) (λ q. get_laid tops own new q ∙ by q (in_tops tops q) refl ∙ sym (get_laid tops own old q))
+pub laid_same : (tops : List (List ℕ)) (own old new : Files) → ((q : List ℕ) → in_tops tops q ≡ false → get new q ≡ get old q)
+    → laid tops own new ≡ laid tops own old
+laid_same tops own old new h =
+    same_map path_cmp_total path_cmp_same (laid tops own new) (laid tops own old)
+    (λ q. get_laid tops own new q ∙ by q (in_tops tops q) refl ∙ sym (get_laid tops own old q))
   where
     by : (q : List ℕ) (b : Bool) → in_tops tops q ≡ b → cond b (get own q) (get new q) ≡ cond b (get own q) (get old q)
     by q true e = refl
@@ -86,43 +102,60 @@ copied_more false b o p = refl
 abbrev pub CopiedFirst : List (List ℕ) → ℕ → Files → Files → Files → Type 0
 CopiedFirst tops k from old now = (q : List ℕ) → get now q ≡ copied (in_tops (take k tops) q) (get from q) (get old q)
 
-pub first_more : (tops : List (List ℕ)) (k : ℕ) (top : List ℕ) (from old now next : Files) → k < length tops → top ≡ get_or tops k top → CopiedFirst tops k from old now →
+pub first_more : (tops : List (List ℕ)) (k : ℕ) (top : List ℕ) (from old now next : Files) → k < length tops → top ≡ get_or tops k top
+    → CopiedFirst tops k from old now →
     ((q : List ℕ) → get next q ≡ copied (is_within q top) (get from q) (get now q)) → CopiedFirst tops (k + 1) from old next
 first_more tops k top from old now next l at h c q =
     c q ∙ ap (copied (is_within q top) (get from q)) (h q) ∙ copied_more (in_tops (take k tops) q) (is_within q top) (get from q) (get old q)
-    ∙ ap (λ b. copied b (get from q) (get old q)) (sym (in_more (take k tops) top q) ∙ ap (λ xs. in_tops xs q) (sym (take_more tops k top l ∙ ap (λ x. take k tops ++ x ∷ []) (sym at))))
+    ∙ ap (λ b. copied b (get from q) (get old q))
+    (sym (in_more (take k tops) top q)
+    ∙ ap (λ xs. in_tops xs q) (sym (take_more tops k top l ∙ ap (λ x. take k tops ++ x ∷ []) (sym at))))
 
-pub first_all : (tops : List (List ℕ)) (k : ℕ) (from old now : Files) → length tops ≤ k → CopiedFirst tops k from old now → (q : List ℕ) → get now q ≡ copied (in_tops tops q) (get from q) (get old q)
+pub first_all : (tops : List (List ℕ)) (k : ℕ) (from old now : Files) → length tops ≤ k → CopiedFirst tops k from old now → (q : List ℕ)
+    → get now q ≡ copied (in_tops tops q) (get from q) (get old q)
 first_all tops k from old now l c q = c q ∙ ap (λ xs. copied (in_tops xs q) (get from q) (get old q)) (take_all k tops l)
 
 none_first : (xs : List (List ℕ)) (k : ℕ) (q : List ℕ) → in_tops xs q ≡ false → in_tops (take k xs) q ≡ false
 none_first [] zero q e = refl
 none_first [] (suc k) q e = refl
 none_first (x ∷ xs) zero q e = refl
-none_first (x ∷ xs) (suc k) q e = elim (is_within q x) as (λ b. (b || in_tops xs q) ≡ false → (b || in_tops (take k xs) q) ≡ false) [ true ↦ λ h. absurd (false≢true (sym h)) | false ↦ none_first xs k q ] e
+none_first (x ∷ xs) (suc k) q e =
+    elim (is_within q x) as (λ b. (b || in_tops xs q) ≡ false
+    → (b || in_tops (take k xs) q) ≡ false) [ true ↦ λ h. absurd (false≢true (sym h)) | false ↦ none_first xs k q ] e
 
 not_at : (xs : List (List ℕ)) (k : ℕ) (x q : List ℕ) → k < length xs → x ≡ get_or xs k x → in_tops xs q ≡ false → is_within q x ≡ false
-not_at xs k x q l at e = last (in_tops (take k xs) q) (is_within q x) (sym (ap (λ ys. in_tops ys q) (take_more xs k x l ∙ ap (λ y. take k xs ++ y ∷ []) (sym at)) ∙ in_more (take k xs) x q) ∙ none_first xs (k + 1) q e)
+not_at xs k x q l at e =
+    last (in_tops (take k xs) q) (is_within q x)
+    (sym (ap (λ ys. in_tops ys q) (take_more xs k x l ∙ ap (λ y. take k xs ++ y ∷ []) (sym at)) ∙ in_more (take k xs) x q)
+    ∙ none_first xs (k + 1) q e)
   where
     last : (a b : Bool) → (a || b) ≡ false → b ≡ false
     last true b e = absurd (false≢true (sym e))
     last false b e = e
 
-pub first_off : (tops : List (List ℕ)) (k : ℕ) (top : List ℕ) (from old now next : Files) → k < length tops → top ≡ get_or tops k top → CopiedFirst tops k from old now →
+pub first_off : (tops : List (List ℕ)) (k : ℕ) (top : List ℕ) (from old now next : Files) → k < length tops → top ≡ get_or tops k top
+    → CopiedFirst tops k from old now →
     ((q : List ℕ) → is_within q top ≡ false → get next q ≡ get now q) → (q : List ℕ) → in_tops tops q ≡ false → get next q ≡ get old q
-first_off tops k top from old now next l at c h q off = h q (not_at tops k top q l at off) ∙ c q ∙ ap (λ b. copied b (get from q) (get old q)) (none_first tops k q off)
+first_off tops k top from old now next l at c h q off = h q (not_at tops k top q l at off) ∙ c q
+    ∙ ap (λ b. copied b (get from q) (get old q)) (none_first tops k q off)
 
-pub lay_ok : {B : Type 0} (r : Result (Unit {0}) B) (tops : List (List ℕ)) (own rest old mid after : Files) → old ≡ leased tops rest → ((q : List ℕ) → get mid q ≡ cond (is_some (get old q)) None (get rest q)) →
+pub lay_ok : {B : Type 0} (r : Result (Unit {0}) B) (tops : List (List ℕ)) (own rest old mid after : Files) → old ≡ leased tops rest
+    → ((q : List ℕ) → get mid q ≡ cond (is_some (get old q)) None (get rest q)) →
     OnOk r ((q : List ℕ) → get after q ≡ copied (in_tops tops q) (get own q) (get mid q)) → OnOk r (after ≡ laid tops own rest)
-lay_ok (Ok x) tops own rest old mid after e h k = laid_is tops own rest after (joins tops own rest mid after (λ q. h q ∙ ap (λ f. cond (is_some (get f q)) None (get rest q)) e) k)
+lay_ok (Ok x) tops own rest old mid after e h k =
+    laid_is tops own rest after (joins tops own rest mid after (λ q. h q ∙ ap (λ f. cond (is_some (get f q)) None (get rest q)) e) k)
 lay_ok (Err x) tops own rest old mid after e h k = tt
 
-pub lay_err : {B : Type 0} (r : Result (Unit {0}) B) (tops : List (List ℕ)) (own rest old mid after : Files) → old ≡ leased tops rest → ((q : List ℕ) → get mid q ≡ cond (is_some (get old q)) None (get rest q)) →
+pub lay_err : {B : Type 0} (r : Result (Unit {0}) B) (tops : List (List ℕ)) (own rest old mid after : Files) → old ≡ leased tops rest
+    → ((q : List ℕ) → get mid q ≡ cond (is_some (get old q)) None (get rest q)) →
     OnErr r ((q : List ℕ) → in_tops tops q ≡ false → get after q ≡ get mid q) → OnErr r (laid tops own after ≡ laid tops own rest)
 lay_err (Ok x) tops own rest old mid after e h k = tt
-lay_err (Err x) tops own rest old mid after e h k = laid_same tops own rest after (λ q off. k q off ∙ still tops rest mid (λ q. h q ∙ ap (λ f. cond (is_some (get f q)) None (get rest q)) e) q off)
+lay_err (Err x) tops own rest old mid after e h k =
+    laid_same tops own rest after
+    (λ q off. k q off ∙ still tops rest mid (λ q. h q ∙ ap (λ f. cond (is_some (get f q)) None (get rest q)) e) q off)
 
-pub divided : (tops : List (List ℕ)) (files part new : Files) → part ≡ leased tops files → ((q : List ℕ) → get new q ≡ cond (is_some (get part q)) None (get files q)) → new ≡ kept tops files
+pub divided : (tops : List (List ℕ)) (files part new : Files) → part ≡ leased tops files
+    → ((q : List ℕ) → get new q ≡ cond (is_some (get part q)) None (get files q)) → new ≡ kept tops files
 divided tops files part new e h = all_kept tops files new (λ q. h q ∙ ap (λ f. cond (is_some (get f q)) None (get files q)) e)
 
 -- one part more came back
@@ -138,14 +171,19 @@ pub first_none : (tops : List (List ℕ)) (from old : Files) → CopiedFirst top
 first_none [] from old q = refl
 first_none (x ∷ tops) from old q = refl
 
-pub one_less : (tops : List (List ℕ)) (out : List (List (List ℕ))) → list_any (λ one. same_tops one tops) out ≡ true → length (without_tops tops out) + 1 ≡ length out
+pub one_less : (tops : List (List ℕ)) (out : List (List (List ℕ))) → list_any (λ one. same_tops one tops) out ≡ true
+    → length (without_tops tops out) + 1 ≡ length out
 one_less tops [] e = absurd (false≢true e)
-one_less tops (one ∷ out) e = elim (same_tops one tops) as (λ b. (b || list_any (λ one. same_tops one tops) out) ≡ true → length (cond b out (one ∷ without_tops tops out)) + 1 ≡ length (one ∷ out)) [
-  | true ↦ λ _. omega arith
-  | false ↦ λ h. let r = one_less tops out h in omega (arith, r)
-] e
+one_less tops (one ∷ out) e =
+    elim (same_tops one tops) as
+    (λ b. (b || list_any (λ one. same_tops one tops) out) ≡ true
+    → length (cond b out (one ∷ without_tops tops out)) + 1 ≡ length (one ∷ out)) [
+      | true ↦ λ _. omega arith
+      | false ↦ λ h. let r = one_less tops out h in omega (arith, r)
+    ] e
 
-pub given_back : (bs new : List Back) (b : Back) (base : Files) (out lent : List (List (List ℕ))) (now : Lending) → new ≡ bs ++ b ∷ [] → ◌≡◌ {A = Lending} (record { files = laid_all bs base; out = out }) now → lent ≡ without_tops b.tops out →
+pub given_back : (bs new : List Back) (b : Back) (base : Files) (out lent : List (List (List ℕ))) (now : Lending) → new ≡ bs ++ b ∷ []
+    → ◌≡◌ {A = Lending} (record { files = laid_all bs base; out = out }) now → lent ≡ without_tops b.tops out →
     ◌≡◌ {A = Lending} (record { files = laid_all new base; out = lent }) (record { files = laid b.tops b.files now.files; out = without_tops b.tops now.out })
 given_back bs new b base out lent now e v l = λ i. record {
   files = (ap (λ x. laid_all x base) e ∙ laid_more bs b base ∙ ap (λ h. laid b.tops b.files h.files) v) i;
@@ -153,10 +191,12 @@ given_back bs new b base out lent now e v l = λ i. record {
 }
 
 -- what came back first is laid, and is no longer waiting
-pub laid_first : (bs : List Back) (b : Back) (now next : Files) → 0 < length bs → b ≡ get_or bs 0 b → next ≡ laid b.tops b.files now → laid_all (remove bs 0) next ≡ laid_all bs now
+pub laid_first : (bs : List Back) (b : Back) (now next : Files) → 0 < length bs → b ≡ get_or bs 0 b → next ≡ laid b.tops b.files now
+    → laid_all (remove bs 0) next ≡ laid_all bs now
 laid_first [] b now next l is e = absurd (omega arith)
 laid_first (x ∷ bs) b now next l is e = ap (laid_all bs) (e ∙ ap (λ y. laid y.tops y.files now) is)
 
-pub laid_lost : (bs : List Back) (b : Back) (now next : Files) → 0 < length bs → b ≡ get_or bs 0 b → laid b.tops b.files next ≡ laid b.tops b.files now → laid_all bs next ≡ laid_all bs now
+pub laid_lost : (bs : List Back) (b : Back) (now next : Files) → 0 < length bs → b ≡ get_or bs 0 b
+    → laid b.tops b.files next ≡ laid b.tops b.files now → laid_all bs next ≡ laid_all bs now
 laid_lost [] b now next l is e = absurd (omega arith)
 laid_lost (x ∷ bs) b now next l is e = ap (laid_all bs) (ap (λ y. laid y.tops y.files next) (sym is) ∙ e ∙ ap (λ y. laid y.tops y.files now) is)

@@ -1,32 +1,34 @@
 -- What is out can come back, whatever a ground does meanwhile.
-use Rattle.std.proofs.Common.{◌≡◌, ◌≢◌, ℕ, zero, suc, ◌<◌, ◌≤◌, Bool, true, false, cond, not, ◌&&◌, ◌||◌, ◌⊎◌, inl, inr, List, [], ◌∷◌, ◌++◌, length, Option, Some, None, refl, ap, ◌∙◌, sym, subst, nat_eq, is_some, slice_get, arith}
+use Rattle.std.proofs.Common.{◌≡◌, ℕ, zero, suc, Bool, true, false, cond, not, ◌||◌, List, [], ◌∷◌, ◌++◌}
+use Rattle.std.proofs.Common.{Some, None, refl, ap, ◌∙◌, sym, subst, nat_eq, slice_get}
 use Rattle.std.proofs.lemmas.Bool.{false≢true}
-use Rattle.std.proofs.lemmas.Option.{slice_get_within, get_or_from_slice_get}
-use Rattle.std.proofs.lemmas.List.Folds.{list_any_at}
 use Rattle.std.specs.Prelude.{IsTrue, Result, Ok, Err, OnOk, OnErr}
 use Rattle.std.specs.List.{list_any, list_all, AllByRecursion}
 use Rattle.std.specs.FinMap.{get, insert, remove}
 use Rattle.std.specs.Ordering.{eq_by_cmp}
 use Rattle.std.specs.Cmp.Lexicographic.{pointwise, bytes_decides}
-use Rattle.path_text.specs.Order.{path_cmp, is_within, is_under}
+use Rattle.path_text.specs.Order.{path_cmp, is_within}
 use Rattle.path_text.specs.Path.{refusal, parent_of}
-use Rattle.outside.specs.Tree.{Files, Node, IsTree, is_dir, is_file, is_root}
-use Rattle.outside.specs.Writes.{all_but, under, is_open, in_area, is_apart, written, write_refusal, remove_file_refusal, remove_dir_refusal}
-use Rattle.outside.specs.Lease.{in_tops, leased, kept, Joins, HaveParents, CanLease, same_tops, without_tops}
+use Rattle.outside.specs.Tree.{Files, Node, is_dir, is_root}
+use Rattle.outside.specs.Writes.{all_but, is_open, is_apart, written, write_refusal, remove_file_refusal, remove_dir_refusal}
+use Rattle.outside.specs.Lease.{in_tops, leased, kept, HaveParents, CanLease, same_tops, without_tops}
 use Rattle.outside.specs.Parts.{AreTops, IsPart}
 use Rattle.outside.specs.Laid.{laid, get_laid}
-use Rattle.outside.proofs.Leased.{parent_under, within_up, not_in_up, over_top, a_top, Standing}
+use Rattle.outside.proofs.Leased.{parent_under, within_up, not_in_up, over_top, a_top}
 use Rattle.outside.proofs.PartTrees.{leases_keep_trees}
 use Rattle.files_mem.specs.PrivateHeld.{Lending, IsLent, IsClear, AreClear, Lends, IsGround}
-use Rattle.files_mem.specs.Memory.{put_refusal, put_refusal_at}
+use Rattle.files_mem.specs.Memory.{put_refusal_at}
 use Rattle.files_mem.proofs.Laying.{kept_is}
-use Rattle.files_mem.proofs.Treed.{keeps_dir, same_path, put_tree, write_tree, take_file, take_dir, not_root, file_there, no_dir, refused_not, off_here, both_parts, can_write}
+use Rattle.files_mem.proofs.Treed.{keeps_dir, same_path, put_tree, write_tree, take_file, take_dir, not_root, file_there, refused_not}
+use Rattle.files_mem.proofs.Treed.{off_here, both_parts, can_write}
 
 -- a write
 
-lends_dirs : (old new : Files) (out : List (List (List ℕ))) → ((x : List ℕ) → is_dir (get old x) ≡ true → is_dir (get new x) ≡ true) → Lends old out → Lends new out
+lends_dirs : (old new : Files) (out : List (List (List ℕ))) → ((x : List ℕ) → is_dir (get old x) ≡ true → is_dir (get new x) ≡ true)
+    → Lends old out → Lends new out
 lends_dirs old new [] k l = tt
-lends_dirs old new (tops ∷ out) k l = (record { are = l.0.are; parents = λ i x at. k (parent_of x) (l.0.parents i x at) }, (l.1.0, lends_dirs old new out k l.1.1))
+lends_dirs old new (tops ∷ out) k l =
+    (record { are = l.0.are; parents = λ i x at. k (parent_of x) (l.0.parents i x at) }, (l.1.0, lends_dirs old new out k l.1.1))
 
 all_at : (test : List ℕ → Bool) (xs : List (List ℕ)) (i : ℕ) (x : List ℕ) → slice_get xs i ≡ Some x → list_all test xs ≡ true → test x ≡ true
 all_at test [] i x at e = cc
@@ -49,7 +51,8 @@ parent_within x fine off = ap (λ b. pointwise nat_eq x (parent_of x) || b) (par
     or_true true = refl
     or_true false = refl
 
-lends_apart : (old new : Files) (p : List ℕ) (out : List (List (List ℕ))) → list_all (is_apart p) out ≡ true → ((x : List ℕ) → eq_by_cmp path_cmp x p ≡ false → get new x ≡ get old x) → Lends old out → Lends new out
+lends_apart : (old new : Files) (p : List ℕ) (out : List (List (List ℕ))) → list_all (is_apart p) out ≡ true
+    → ((x : List ℕ) → eq_by_cmp path_cmp x p ≡ false → get new x ≡ get old x) → Lends old out → Lends new out
 lends_apart old new p [] a k l = tt
 lends_apart old new p (tops ∷ out) a k l =
     let s = both_parts (is_apart p tops) (list_all (is_apart p) out) a in (
@@ -59,7 +62,8 @@ lends_apart old new p (tops ∷ out) a k l =
   where
     other : (i : ℕ) (x : List ℕ) → slice_get tops i ≡ Some x → is_apart p tops ≡ true → eq_by_cmp path_cmp (parent_of x) p ≡ false
     other i x at c = elim (eq_by_cmp path_cmp (parent_of x) p) as (λ b. eq_by_cmp path_cmp (parent_of x) p ≡ b → b ≡ false) [
-      | true ↦ λ is. absurd (false≢true (sym (apart_parts (is_within p x) (is_within x p) (all_at (λ top. not (is_within p top || is_within top p)) tops i x at c)).1
+      | true ↦ λ is. absurd (false≢true
+          (sym (apart_parts (is_within p x) (is_within x p) (all_at (λ top. not (is_within p top || is_within top p)) tops i x at c)).1
           ∙ ap (is_within x) (sym (same_path (parent_of x) p is)) ∙ parent_within x (l.0.are.valid i x at) (l.0.are.no_root i x at)))
       | false ↦ λ _. refl
     ] refl
@@ -67,23 +71,28 @@ lends_apart old new p (tops ∷ out) a k l =
 in_area_of : (out : List (List (List ℕ))) (p : List ℕ) → IsTrue (is_open (all_but out) p) → list_all (is_apart p) out ≡ true
 in_area_of out p o = (both_parts (list_all (is_apart p) out) (not (is_root p)) o).0
 
-pub put_ground : {B : Type 0} (r : Result (Unit {0}) B) (old new : Lending) (p : List ℕ) (n : Node) → IsGround old → put_refusal_at false old.files p ≡ None → refusal p ≡ None →
+pub put_ground : {B : Type 0} (r : Result (Unit {0}) B) (old new : Lending) (p : List ℕ) (n : Node) → IsGround old
+    → put_refusal_at false old.files p ≡ None → refusal p ≡ None →
     OnOk r (new ≡ record old { files = insert old.files p n }) → OnErr r (new ≡ old) → IsGround new
 put_ground (Ok x) old new p n g free fine done same = subst IsGround (sym done) (record {
   tree = put_tree {B = ⊥} (Ok x) old.files (insert old.files p n) p n g.tree free fine refl tt;
-  lends = lends_dirs old.files (insert old.files p n) old.out (λ x. keeps_dir old.files p x n (ap is_dir (refused_not (get old.files p) (is_dir (get old.files (parent_of p))) free).0)) g.lends;
+  lends = lends_dirs old.files (insert old.files p n) old.out
+      (λ x. keeps_dir old.files p x n (ap is_dir (refused_not (get old.files p) (is_dir (get old.files (parent_of p))) free).0)) g.lends;
 })
 put_ground (Err x) old new p n g free fine done same = subst IsGround (sym same) g
 
-pub write_ground : {B : Type 0} (r : Result (Unit {0}) B) (old new : Lending) (p : List ℕ) (at : ℕ) (bytes : List ℕ) → IsGround old → OnOk r (write_refusal (get old.files p) ≡ None) →
+pub write_ground : {B : Type 0} (r : Result (Unit {0}) B) (old new : Lending) (p : List ℕ) (at : ℕ) (bytes : List ℕ) → IsGround old
+    → OnOk r (write_refusal (get old.files p) ≡ None) →
     OnOk r (new ≡ record old { files = written old.files p at bytes }) → OnErr r (new ≡ old) → IsGround new
 write_ground (Ok x) old new p at bytes g free done same = subst IsGround (sym done) (record {
   tree = write_tree {B = ⊥} (Ok x) old.files (written old.files p at bytes) p at bytes g.tree (can_write (get old.files p) free) refl tt;
-  lends = lends_dirs old.files (written old.files p at bytes) old.out (λ x. keeps_dir old.files p x _ (file_there (get old.files p) (can_write (get old.files p) free)).1) g.lends;
+  lends = lends_dirs old.files (written old.files p at bytes) old.out
+      (λ x. keeps_dir old.files p x _ (file_there (get old.files p) (can_write (get old.files p) free)).1) g.lends;
 })
 write_ground (Err x) old new p at bytes g free done same = subst IsGround (sym same) g
 
-pub remove_file_ground : {B : Type 0} (r : Result (Unit {0}) B) (old new : Lending) (p : List ℕ) → IsGround old → IsTrue (is_open (all_but old.out) p) → OnOk r (remove_file_refusal (get old.files p) ≡ None) →
+pub remove_file_ground : {B : Type 0} (r : Result (Unit {0}) B) (old new : Lending) (p : List ℕ) → IsGround old
+    → IsTrue (is_open (all_but old.out) p) → OnOk r (remove_file_refusal (get old.files p) ≡ None) →
     OnOk r (new ≡ record old { files = remove old.files p }) → OnErr r (new ≡ old) → IsGround new
 remove_file_ground (Ok x) old new p g o free done same = subst IsGround (sym done) (record {
   tree = take_file {B = ⊥} (Ok x) old.files (remove old.files p) p g.tree (not_root (all_but old.out) p o) free refl tt;
@@ -91,7 +100,8 @@ remove_file_ground (Ok x) old new p g o free done same = subst IsGround (sym don
 })
 remove_file_ground (Err x) old new p g o free done same = subst IsGround (sym same) g
 
-pub remove_dir_ground : {B : Type 0} (r : Result (Unit {0}) B) (old new : Lending) (p : List ℕ) → IsGround old → IsTrue (is_open (all_but old.out) p) → OnOk r (remove_dir_refusal old.files p ≡ None) →
+pub remove_dir_ground : {B : Type 0} (r : Result (Unit {0}) B) (old new : Lending) (p : List ℕ) → IsGround old
+    → IsTrue (is_open (all_but old.out) p) → OnOk r (remove_dir_refusal old.files p ≡ None) →
     OnOk r (new ≡ record old { files = remove old.files p }) → OnErr r (new ≡ old) → IsGround new
 remove_dir_ground (Ok x) old new p g o free done same = subst IsGround (sym done) (record {
   tree = take_dir {B = ⊥} (Ok x) old.files (remove old.files p) p g.tree (not_root (all_but old.out) p o) free refl tt;
@@ -101,7 +111,8 @@ remove_dir_ground (Err x) old new p g o free done same = subst IsGround (sym sam
 
 -- a lease
 
-pub are_tops : (out : List (List (List ℕ))) (tops : List (List ℕ)) → CanLease (all_but out) tops → ((i : ℕ) (x : List ℕ) → slice_get tops i ≡ Some x → refusal x ≡ None) → AreTops tops
+pub are_tops : (out : List (List (List ℕ))) (tops : List (List ℕ)) → CanLease (all_but out) tops
+    → ((i : ℕ) (x : List ℕ) → slice_get tops i ≡ Some x → refusal x ≡ None) → AreTops tops
 are_tops out tops can valid = record { valid = valid; no_root = λ i x at. not_root (all_but out) x (can.are_open i x at); one_level = can.one_level }
 
 all_more : (P : List (List ℕ) → Type 0) (xs : List (List (List ℕ))) (x : List (List ℕ)) → AllByRecursion P xs → P x → AllByRecursion P (xs ++ x ∷ [])
@@ -117,13 +128,18 @@ not_in (t ∷ tops) x a =
     let s = both_parts (not (is_within x t || is_within t x)) (is_apart x tops) a in
     ap (λ b. b || in_tops tops x) (apart_parts (is_within x t) (is_within t x) s.0).0 ∙ not_in tops x s.1
 
-lends_lease : (files : Files) (tops : List (List ℕ)) (out : List (List (List ℕ))) → AreTops tops → HaveParents tops files → ((i : ℕ) (x : List ℕ) → slice_get tops i ≡ Some x → list_all (is_apart x) out ≡ true) →
+lends_lease : (files : Files) (tops : List (List ℕ)) (out : List (List (List ℕ))) → AreTops tops → HaveParents tops files
+    → ((i : ℕ) (x : List ℕ) → slice_get tops i ≡ Some x → list_all (is_apart x) out ≡ true) →
     Lends files out → Lends (kept tops files) (out ++ tops ∷ [])
-lends_lease files tops [] t dirs apart l = (record { are = t; parents = λ i x at. ap is_dir (kept_off tops files (parent_of x) (over_top tops t x i at)) ∙ dirs i x at }, (tt, tt))
+lends_lease files tops [] t dirs apart l =
+    (record { are = t; parents = λ i x at. ap is_dir (kept_off tops files (parent_of x) (over_top tops t x i at)) ∙ dirs i x at }, (tt, tt))
 lends_lease files tops (one ∷ out) t dirs apart l = (
   record { are = l.0.are; parents = λ i y at. ap is_dir (kept_off tops files (parent_of y) (clear i y at)) ∙ l.0.parents i y at },
   (
-    all_more (AreClear one) out tops l.1.0 (λ i x at. not_in_up one x (parent_of x) (parent_under x (t.valid i x at) (t.no_root i x at)) (not_in one x (split i x at).0), clear),
+    all_more (AreClear one) out tops l.1.0 (
+      λ i x at. not_in_up one x (parent_of x) (parent_under x (t.valid i x at) (t.no_root i x at)) (not_in one x (split i x at).0),
+      clear,
+    ),
     lends_lease files tops out t dirs (λ i x at. (split i x at).1) l.1.1,
   ),
 )
@@ -134,16 +150,21 @@ lends_lease files tops (one ∷ out) t dirs apart l = (
     clear : IsClear tops one
     clear i y at = elim (in_tops tops (parent_of y)) as (λ b. in_tops tops (parent_of y) ≡ b → b ≡ false) [
       | true ↦ λ on. absurd (let s = a_top tops (parent_of y) on in
-          false≢true (sym (apart_parts (is_within s.top y) (is_within y s.top) (all_at (λ top. not (is_within s.top top || is_within top s.top)) one i y at (split s.place s.top s.at).0)).1
+          false≢true (sym (apart_parts (is_within s.top y) (is_within y s.top)
+          (all_at (λ top. not (is_within s.top top || is_within top s.top)) one i y at (split s.place s.top s.at).0)).1
           ∙ within_up y (parent_of y) s.top (parent_under y (l.0.are.valid i y at) (l.0.are.no_root i y at)) s.on))
       | false ↦ λ _. refl
     ] refl
 
-pub lease_ground : (old : Lending) (tops : List (List ℕ)) → IsGround old → CanLease (all_but old.out) tops → HaveParents tops old.files → ((i : ℕ) (x : List ℕ) → slice_get tops i ≡ Some x → refusal x ≡ None) →
+pub lease_ground : (old : Lending) (tops : List (List ℕ)) → IsGround old → CanLease (all_but old.out) tops → HaveParents tops old.files
+    → ((i : ℕ) (x : List ℕ) → slice_get tops i ≡ Some x → refusal x ≡ None) →
     IsGround (record { files = kept tops old.files; out = old.out ++ tops ∷ [] }) × IsPart tops (leased tops old.files)
 lease_ground old tops g can dirs valid =
     let t = are_tops old.out tops can valid in (
-      record { tree = leases_keep_trees.rest tops old.files t g.tree; lends = lends_lease old.files tops old.out t dirs (λ i x at. in_area_of old.out x (can.are_open i x at)) g.lends },
+      record {
+        tree = leases_keep_trees.rest tops old.files t g.tree;
+        lends = lends_lease old.files tops old.out t dirs (λ i x at. in_area_of old.out x (can.are_open i x at)) g.lends;
+      },
       leases_keep_trees.part tops old.files t g.tree,
     )
 
@@ -155,7 +176,8 @@ same_is [] (y ∷ ys) e = absurd (false≢true e)
 same_is (x ∷ xs) [] e = absurd (false≢true e)
 same_is (x ∷ xs) (y ∷ ys) e = let s = both_parts (pointwise nat_eq x y) (same_tops xs ys) e in λ i. (bytes_decides x y).0 s.0 i ∷ same_is xs ys s.1 i
 
-among : (P : List (List ℕ) → Type 0) (tops : List (List ℕ)) (out : List (List (List ℕ))) → AllByRecursion P out → list_any (λ one. same_tops one tops) out ≡ true → P tops
+among : (P : List (List ℕ) → Type 0) (tops : List (List ℕ)) (out : List (List (List ℕ))) → AllByRecursion P out
+    → list_any (λ one. same_tops one tops) out ≡ true → P tops
 among P tops [] a e = absurd (false≢true e)
 among P tops (one ∷ out) a e = elim (same_tops one tops) as (λ b. same_tops one tops ≡ b → (b || list_any (λ one. same_tops one tops) out) ≡ true → P tops) [
   | true ↦ λ is _. subst P (same_is one tops is) a.0
@@ -164,25 +186,34 @@ among P tops (one ∷ out) a e = elim (same_tops one tops) as (λ b. same_tops o
 
 all_without : (P : List (List ℕ) → Type 0) (tops : List (List ℕ)) (out : List (List (List ℕ))) → AllByRecursion P out → AllByRecursion P (without_tops tops out)
 all_without P tops [] a = tt
-all_without P tops (one ∷ out) a = elim (same_tops one tops) as (λ b. AllByRecursion P (cond b out (one ∷ without_tops tops out))) [ true ↦ a.1 | false ↦ (a.0, all_without P tops out a.1) ]
+all_without P tops (one ∷ out) a =
+    elim (same_tops one tops) as
+    (λ b. AllByRecursion P (cond b out (one ∷ without_tops tops out))) [ true ↦ a.1 | false ↦ (a.0, all_without P tops out a.1) ]
 
 all_mapped : (P Q : List (List ℕ) → Type 0) (xs : List (List (List ℕ))) → ((x : List (List ℕ)) → P x → Q x) → AllByRecursion P xs → AllByRecursion Q xs
 all_mapped P Q [] f a = tt
 all_mapped P Q (x ∷ xs) f a = (f x a.0, all_mapped P Q xs f a.1)
 
-its_tops : (files : Files) (tops : List (List ℕ)) (out : List (List (List ℕ))) → Lends files out → list_any (λ one. same_tops one tops) out ≡ true → IsLent files tops
+its_tops : (files : Files) (tops : List (List ℕ)) (out : List (List (List ℕ))) → Lends files out
+    → list_any (λ one. same_tops one tops) out ≡ true → IsLent files tops
 its_tops files tops [] l e = absurd (false≢true e)
-its_tops files tops (one ∷ out) l e = elim (same_tops one tops) as (λ b. same_tops one tops ≡ b → (b || list_any (λ one. same_tops one tops) out) ≡ true → IsLent files tops) [
-  | true ↦ λ is _. subst (IsLent files) (same_is one tops is) l.0
-  | false ↦ λ _ e. its_tops files tops out l.1.1 e
-] refl e
+its_tops files tops (one ∷ out) l e =
+    elim (same_tops one tops) as
+    (λ b. same_tops one tops ≡ b → (b || list_any (λ one. same_tops one tops) out) ≡ true → IsLent files tops) [
+      | true ↦ λ is _. subst (IsLent files) (same_is one tops is) l.0
+      | false ↦ λ _ e. its_tops files tops out l.1.1 e
+    ] refl e
 
-others_clear : (files : Files) (tops : List (List ℕ)) (out : List (List (List ℕ))) → Lends files out → list_any (λ one. same_tops one tops) out ≡ true → AllByRecursion (IsClear tops) (without_tops tops out)
+others_clear : (files : Files) (tops : List (List ℕ)) (out : List (List (List ℕ))) → Lends files out
+    → list_any (λ one. same_tops one tops) out ≡ true → AllByRecursion (IsClear tops) (without_tops tops out)
 others_clear files tops [] l e = absurd (false≢true e)
-others_clear files tops (one ∷ out) l e = elim (same_tops one tops) as (λ b. same_tops one tops ≡ b → (b || list_any (λ one. same_tops one tops) out) ≡ true → AllByRecursion (IsClear tops) (cond b out (one ∷ without_tops tops out))) [
-  | true ↦ λ is _. all_mapped (AreClear one) (IsClear tops) out (λ u c. subst (λ t. IsClear t u) (same_is one tops is) c.0) l.1.0
-  | false ↦ λ _ e. ((among (AreClear one) tops out l.1.0 e).1, others_clear files tops out l.1.1 e)
-] refl e
+others_clear files tops (one ∷ out) l e =
+    elim (same_tops one tops) as
+    (λ b. same_tops one tops ≡ b → (b || list_any (λ one. same_tops one tops) out) ≡ true
+    → AllByRecursion (IsClear tops) (cond b out (one ∷ without_tops tops out))) [
+      | true ↦ λ is _. all_mapped (AreClear one) (IsClear tops) out (λ u c. subst (λ t. IsClear t u) (same_is one tops is) c.0) l.1.0
+      | false ↦ λ _ e. ((among (AreClear one) tops out l.1.0 e).1, others_clear files tops out l.1.1 e)
+    ] refl e
 
 lends_without : (files : Files) (tops : List (List ℕ)) (out : List (List (List ℕ))) → Lends files out → Lends files (without_tops tops out)
 lends_without files tops [] l = tt
@@ -191,14 +222,22 @@ lends_without files tops (one ∷ out) l = elim (same_tops one tops) as (λ b. L
   | false ↦ (l.0, (all_without (AreClear one) tops out l.1.0, lends_without files tops out l.1.1))
 ]
 
-lends_joined : (tops : List (List ℕ)) (rest after : Files) (out : List (List (List ℕ))) → ((q : List ℕ) → in_tops tops q ≡ false → get after q ≡ get rest q) → AllByRecursion (IsClear tops) out → Lends rest out → Lends after out
+lends_joined : (tops : List (List ℕ)) (rest after : Files) (out : List (List (List ℕ)))
+    → ((q : List ℕ) → in_tops tops q ≡ false → get after q ≡ get rest q) → AllByRecursion (IsClear tops) out → Lends rest out
+    → Lends after out
 lends_joined tops rest after [] h c l = tt
-lends_joined tops rest after (one ∷ out) h c l = (record { are = l.0.are; parents = λ i x at. ap is_dir (h (parent_of x) (c.0 i x at)) ∙ l.0.parents i x at }, (l.1.0, lends_joined tops rest after out h c.1 l.1.1))
+lends_joined tops rest after (one ∷ out) h c l = (
+  record { are = l.0.are; parents = λ i x at. ap is_dir (h (parent_of x) (c.0 i x at)) ∙ l.0.parents i x at },
+  (l.1.0, lends_joined tops rest after out h c.1 l.1.1),
+)
 
-pub back_ground : (old : Lending) (tops : List (List ℕ)) (own : Files) → IsGround old → IsPart tops own → list_any (λ one. same_tops one tops) old.out ≡ true → IsGround (record { files = laid tops own old.files; out = without_tops tops old.out })
+pub back_ground : (old : Lending) (tops : List (List ℕ)) (own : Files) → IsGround old → IsPart tops own
+    → list_any (λ one. same_tops one tops) old.out ≡ true
+    → IsGround (record { files = laid tops own old.files; out = without_tops tops old.out })
 back_ground old tops own g part out =
     let mine = its_tops old.files tops old.out g.lends out in record {
       tree = leases_keep_trees.back tops own old.files (laid tops own old.files) mine.are part g.tree mine.parents (get_laid tops own old.files);
       lends = lends_joined tops old.files (laid tops own old.files) (without_tops tops old.out)
-          (λ q off. get_laid tops own old.files q ∙ ap (λ b. cond b (get own q) (get old.files q)) off) (others_clear old.files tops old.out g.lends out) (lends_without old.files tops old.out g.lends);
+          (λ q off. get_laid tops own old.files q ∙ ap (λ b. cond b (get own q) (get old.files q)) off)
+          (others_clear old.files tops old.out g.lends out) (lends_without old.files tops old.out g.lends);
     }

@@ -15,12 +15,16 @@ some_part xs = omega (arith, length-slice_split is_slash xs)
 
 any_onto : (x : ℕ) (ps : List (List ℕ)) → 0 < length ps → list_any (list_any is_nul) (onto_first x ps) ≡ (is_nul x || list_any (list_any is_nul) ps)
 any_onto x [] h = absurd (omega arith)
-any_onto x (p ∷ ps) h = elim (is_nul x) as (λ b. ((b || list_any is_nul p) || list_any (list_any is_nul) ps) ≡ (b || (list_any is_nul p || list_any (list_any is_nul) ps))) [ true ↦ refl | false ↦ refl ]
+any_onto x (p ∷ ps) h = elim (is_nul x) as
+    (λ b. ((b || list_any is_nul p) || list_any (list_any is_nul) ps)
+    ≡ (b || (list_any is_nul p || list_any (list_any is_nul) ps))) [ true ↦ refl | false ↦ refl ]
 
 any_split : (xs : List ℕ) → list_any (list_any is_nul) (slice_split is_slash xs) ≡ list_any is_nul xs
 any_split [] = refl
 any_split (x ∷ xs) =
-    elim (is_slash x) as (λ b. is_slash x ≡ b → list_any (list_any is_nul) (cond b ([] ∷ slice_split is_slash xs) (onto_first x (slice_split is_slash xs))) ≡ (is_nul x || list_any is_nul xs)) [
+    elim (is_slash x) as (λ b. is_slash x ≡ b
+    → list_any (list_any is_nul) (cond b ([] ∷ slice_split is_slash xs) (onto_first x (slice_split is_slash xs)))
+    ≡ (is_nul x || list_any is_nul xs)) [
       | true ↦ λ e. any_split xs ∙ ap (λ b. b || list_any is_nul xs) (sym (slash_no_nul x e))
       | false ↦ λ e. any_onto x (slice_split is_slash xs) (some_part xs) ∙ ap (λ b. is_nul x || b) (any_split xs)
     ] refl
@@ -34,7 +38,8 @@ fine_name name e = grind (arith, nat_tests)
 no_fault : (names : List (List ℕ)) → first_fault names ≡ None → list_any (list_any is_nul) names ≡ false
 no_fault [] e = refl
 no_fault (n ∷ names) e =
-    elim (name_fault n) as (λ f. name_fault n ≡ f → cond (is_none f) (first_fault names) f ≡ None → (list_any is_nul n || list_any (list_any is_nul) names) ≡ false) [
+    elim (name_fault n) as (λ f. name_fault n ≡ f → cond (is_none f) (first_fault names) f ≡ None
+    → (list_any is_nul n || list_any (list_any is_nul) names) ≡ false) [
       | None ↦ λ is e. ap (λ b. b || list_any (list_any is_nul) names) (fine_name n is) ∙ no_fault names e
       | Some x ↦ λ is e. cc
     ] refl e
@@ -51,4 +56,6 @@ or_no a b p q = ap (λ x. x || b) p ∙ q
 pub no_nul : (x : List ℕ) → refusal x ≡ None → list_any is_nul x ≡ false
 no_nul [] h = refl
 no_nul (b ∷ []) h = or_no (b == 0) false (first_slash b [] h) refl
-no_nul (b ∷ c ∷ bytes) h = or_no (b == 0) (list_any is_nul (c ∷ bytes)) (first_slash b (c ∷ bytes) h) (sym (any_split (c ∷ bytes)) ∙ no_fault (slice_split is_slash (c ∷ bytes)) (names_fine b c bytes h))
+no_nul (b ∷ c ∷ bytes) h =
+    or_no (b == 0) (list_any is_nul (c ∷ bytes)) (first_slash b (c ∷ bytes) h)
+    (sym (any_split (c ∷ bytes)) ∙ no_fault (slice_split is_slash (c ∷ bytes)) (names_fine b c bytes h))

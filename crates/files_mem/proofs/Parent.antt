@@ -1,5 +1,6 @@
 -- The path over a path.
-use Rattle.std.proofs.Common.{◌≡◌, ◌≢◌, ℕ, ◌+◌, ◌-◌, ◌<◌, true, false, not, cond, List, [], ◌∷◌, length, take, get_or, length-take, Option, Some, None, refl, ap, ◌∙◌, sym, arith, eqb}
+use Rattle.std.proofs.Common.{◌≡◌, ◌≢◌, ℕ, ◌+◌, ◌-◌, ◌<◌, true, false, not, cond, List, [], ◌∷◌, length, take, get_or, length-take, Option, Some}
+use Rattle.std.proofs.Common.{None, refl, ap, ◌∙◌, sym, arith, eqb}
 use Rattle.std.specs.Option.{MatchOption, option_map}
 use Rattle.std.specs.List.{before_last, suffix_len}
 use Rattle.std.proofs.lemmas.List.Sums.{suffix_len_is}
@@ -23,9 +24,12 @@ off b e = grind (arith, nat_tests)
 on : (b : ℕ) → b ≡ 47 → not (is_slash b) ≡ false
 on b e = grind (arith, nat_tests)
 
-before_is : (xs : List ℕ) (k : ℕ) → k < length xs → get_or xs k 0 ≡ 47 → ((i : ℕ) → k < i → i < length xs → get_or xs i 0 ≢ 47) → before_last is_slash xs ≡ take k xs
+before_is : (xs : List ℕ) (k : ℕ) → k < length xs → get_or xs k 0 ≡ 47 → ((i : ℕ) → k < i → i < length xs → get_or xs i 0 ≢ 47)
+    → before_last is_slash xs ≡ take k xs
 before_is xs k l e h =
-    let n : suffix_len (λ x. not (is_slash x)) xs ≡ length xs - (k + 1) = suffix_len_is (λ x. not (is_slash x)) xs (k + 1) 0 (omega arith) (λ i p q. off (get_or xs i 0) (h i (omega arith) q)) (λ _. on (get_or xs (k + 1 - 1) 0) (ap (λ i. get_or xs i 0) (back k) ∙ e)) in
+    let n : suffix_len (λ x. not (is_slash x)) xs ≡ length xs - (k + 1) =
+    suffix_len_is (λ x. not (is_slash x)) xs (k + 1) 0 (omega arith) (λ i p q. off (get_or xs i 0) (h i (omega arith) q))
+    (λ _. on (get_or xs (k + 1 - 1) 0) (ap (λ i. get_or xs i 0) (back k) ∙ e)) in
     ap (λ i. take i xs) (omega arith)
   where
     back : (k : ℕ) → k + 1 - 1 ≡ k
@@ -33,7 +37,8 @@ before_is xs k l e h =
 
 before_none : (xs : List ℕ) → ((i : ℕ) → i < length xs → get_or xs i 0 ≢ 47) → before_last is_slash xs ≡ []
 before_none xs h =
-    let n : suffix_len (λ x. not (is_slash x)) xs ≡ length xs - 0 = suffix_len_is (λ x. not (is_slash x)) xs 0 0 (omega arith) (λ i p q. off (get_or xs i 0) (h i q)) (λ z. absurd (omega arith)) in
+    let n : suffix_len (λ x. not (is_slash x)) xs ≡ length xs - 0 =
+    suffix_len_is (λ x. not (is_slash x)) xs 0 0 (omega arith) (λ i p q. off (get_or xs i 0) (h i q)) (λ z. absurd (omega arith)) in
     ap (λ i. take i xs) (the_zero (length xs) (suffix_len (λ x. not (is_slash x)) xs) n)
   where
     the_zero : (a b : ℕ) → b ≡ a - 0 → a - b - 1 ≡ 0
@@ -61,7 +66,9 @@ none_at es q e a r = get_is q es ∙ ap (option_map node_of) (not_found es a)
         clash h = cc
 
 -- by what `rfind` answers
-pub parent_is : (xs : List ℕ) (r : Option ℕ) → MatchOption r ((i : ℕ) → i < length xs → get_or xs i 0 ≢ 47) (λ k. (k < length xs) × (get_or xs k 0 ≡ 47) × ((i : ℕ) → k < i → i < length xs → get_or xs i 0 ≢ 47)) →
+pub parent_is : (xs : List ℕ) (r : Option ℕ)
+    → MatchOption r ((i : ℕ) → i < length xs → get_or xs i 0 ≢ 47)
+    (λ k. (k < length xs) × (get_or xs k 0 ≡ 47) × ((i : ℕ) → k < i → i < length xs → get_or xs i 0 ≢ 47)) →
     parent_of xs ≡ elim r [ None ↦ 47 ∷ [] | Some k ↦ cond (eqb k 0) (47 ∷ []) (take k xs) ]
 parent_is xs None h = ap or_root (before_none xs h)
 parent_is xs (Some k) h = ap or_root (before_is xs k h.0 h.1 h.2) ∙ ap (λ n. cond (eqb n 0) (47 ∷ []) (take k xs)) (short_take xs k h.0)

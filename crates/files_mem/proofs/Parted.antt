@@ -1,14 +1,14 @@
 -- A part stays one, whatever is written in it.
-use Rattle.std.proofs.Common.{◌≡◌, ℕ, Bool, true, false, cond, not, ◌&&◌, ◌||◌, List, Option, Some, None, refl, ap, ◌∙◌, sym, subst, is_some, is_none}
+use Rattle.std.proofs.Common.{◌≡◌, ℕ, Bool, true, false, cond, not, ◌||◌, List, Option, Some, None, refl, ap, ◌∙◌, sym, subst, is_some, is_none}
 use Rattle.std.proofs.lemmas.Bool.{false≢true}
 use Rattle.std.specs.Prelude.{IsTrue, Result, Ok, Err, OnOk, OnErr}
-use Rattle.std.specs.FinMap.{get, insert, remove, get-insert, get-remove}
+use Rattle.std.specs.FinMap.{get, insert, remove, get-remove}
 use Rattle.std.specs.Ordering.{eq_by_cmp}
 use Rattle.std.specs.Cmp.Lexicographic.{bytes_decides}
 use Rattle.path_text.specs.Order.{path_cmp}
 use Rattle.path_text.specs.Path.{refusal, parent_of}
 use Rattle.path_text.specs.Total.{path_cmp_total, path_cmp_ties}
-use Rattle.outside.specs.Tree.{Files, Node, is_dir, is_file, is_root}
+use Rattle.outside.specs.Tree.{Files, Node, is_dir, is_root}
 use Rattle.outside.specs.Writes.{under, is_open, is_top, written, write_refusal, remove_file_refusal, remove_dir_refusal}
 use Rattle.outside.specs.Lease.{in_tops}
 use Rattle.outside.specs.Parts.{IsPart}
@@ -29,12 +29,14 @@ record Here (tops : List (List ℕ)) (new : Files) (p : List ℕ) : Type 0 where
   parents : (is_top (under tops) p || is_dir (get new (parent_of p))) ≡ true
 
 step : (tops : List (List ℕ)) (old new : Files) (p : List ℕ) → IsPart tops old → ((q : List ℕ) → eq_by_cmp path_cmp q p ≡ false → get new q ≡ get old q) →
-    ((q : List ℕ) → is_some (get old q) ≡ true → parent_of q ≡ p → is_dir (get old p) ≡ true → is_dir (get new p) ≡ true) → (is_some (get new p) ≡ true → Here tops new p) → IsPart tops new
+    ((q : List ℕ) → is_some (get old q) ≡ true → parent_of q ≡ p → is_dir (get old p) ≡ true → is_dir (get new p) ≡ true)
+    → (is_some (get new p) ≡ true → Here tops new p) → IsPart tops new
 step tops old new p part other over here = record {
   inside = λ q s. by (λ q. in_tops tops q ≡ true) q s (λ h. h.inside) (λ t. part.inside q t);
   no_root = λ q s. by (λ q. is_root q ≡ false) q s (λ h. h.no_root) (λ t. part.no_root q t);
   valid = λ q s. by (λ q. refusal q ≡ None) q s (λ h. h.valid) (λ t. part.valid q t);
-  parents = λ q s. by (λ q. (is_top (under tops) q || is_dir (get new (parent_of q))) ≡ true) q s (λ h. h.parents) (λ t. kept q t (is_top (under tops) q) (part.parents q t));
+  parents = λ q s. by (λ q. (is_top (under tops) q || is_dir (get new (parent_of q))) ≡ true) q s (λ h. h.parents)
+      (λ t. kept q t (is_top (under tops) q) (part.parents q t));
 }
   where
     by : (P : List ℕ → Type 0) (q : List ℕ) → is_some (get new q) ≡ true → (Here tops new p → P p) → (is_some (get old q) ≡ true → P q) → P q
@@ -61,16 +63,19 @@ refused_not (Some n) b e = cc
 open_in : (tops : List (List ℕ)) (p : List ℕ) → IsTrue (is_open (under tops) p) → in_tops tops p ≡ true
 open_in tops p o = (both_parts (in_tops tops p) (not (is_root p)) o).0
 
-pub put_part : {B : Type 0} (r : Result (Unit {0}) B) (tops : List (List ℕ)) (old new : Files) (p : List ℕ) (n : Node) → IsPart tops old → IsTrue (is_open (under tops) p) → put_refusal_at (is_top (under tops) p) old p ≡ None → refusal p ≡ None →
+pub put_part : {B : Type 0} (r : Result (Unit {0}) B) (tops : List (List ℕ)) (old new : Files) (p : List ℕ) (n : Node) → IsPart tops old
+    → IsTrue (is_open (under tops) p) → put_refusal_at (is_top (under tops) p) old p ≡ None → refusal p ≡ None →
     OnOk r (new ≡ insert old p n) → OnErr r (new ≡ old) → IsPart tops new
 put_part (Ok x) tops old new p n part o free fine done kept =
     let f = refused_not (get old p) (is_top (under tops) p || is_dir (get old (parent_of p))) free in
     let off : is_dir (get old p) ≡ false = ap is_dir f.0 in
-    subst (IsPart tops) (sym done) (step tops old (insert old p n) p part (λ q. elsewhere old p q n) (λ q s e d. absurd (false≢true (sym off ∙ d))) (λ _. record {
+    subst (IsPart tops) (sym done)
+    (step tops old (insert old p n) p part (λ q. elsewhere old p q n) (λ q s e d. absurd (false≢true (sym off ∙ d))) (λ _. record {
       inside = open_in tops p o;
       no_root = not_root (under tops) p o;
       valid = fine;
-      parents = or_kept (is_top (under tops) p) (is_dir (get old (parent_of p))) (is_dir (get (insert old p n) (parent_of p))) (keeps_dir old p (parent_of p) n off) f.1;
+      parents = or_kept (is_top (under tops) p) (is_dir (get old (parent_of p))) (is_dir (get (insert old p n) (parent_of p)))
+          (keeps_dir old p (parent_of p) n off) f.1;
     }))
   where
     or_kept : (b c d : Bool) → (c ≡ true → d ≡ true) → (b || c) ≡ true → (b || d) ≡ true
@@ -78,16 +83,20 @@ put_part (Ok x) tops old new p n part o free fine done kept =
     or_kept false c d k e = k e
 put_part (Err x) tops old new p n part o free fine done kept = subst (IsPart tops) (sym kept) part
 
-pub write_part : {B : Type 0} (r : Result (Unit {0}) B) (tops : List (List ℕ)) (old new : Files) (p : List ℕ) (at : ℕ) (bytes : List ℕ) → IsPart tops old → OnOk r (write_refusal (get old p) ≡ None) →
+pub write_part : {B : Type 0} (r : Result (Unit {0}) B) (tops : List (List ℕ)) (old new : Files) (p : List ℕ) (at : ℕ) (bytes : List ℕ)
+    → IsPart tops old → OnOk r (write_refusal (get old p) ≡ None) →
     OnOk r (new ≡ written old p at bytes) → OnErr r (new ≡ old) → IsPart tops new
 write_part (Ok x) tops old new p at bytes part free done kept =
     let f = file_there (get old p) (can_write (get old p) free) in
     let there = some_of (get old p) f.0 in
-    subst (IsPart tops) (sym done) (step tops old (written old p at bytes) p part (λ q. elsewhere old p q _) (λ q s e d. absurd (false≢true (sym f.1 ∙ d))) (λ _. record {
+    subst (IsPart tops) (sym done)
+    (step tops old (written old p at bytes) p part (λ q. elsewhere old p q _) (λ q s e d. absurd (false≢true (sym f.1 ∙ d)))
+    (λ _. record {
       inside = part.inside p there;
       no_root = part.no_root p there;
       valid = part.valid p there;
-      parents = or_kept (is_top (under tops) p) (is_dir (get old (parent_of p))) (is_dir (get (written old p at bytes) (parent_of p))) (keeps_dir old p (parent_of p) _ f.1) (part.parents p there);
+      parents = or_kept (is_top (under tops) p) (is_dir (get old (parent_of p))) (is_dir (get (written old p at bytes) (parent_of p)))
+          (keeps_dir old p (parent_of p) _ f.1) (part.parents p there);
     }))
   where
     some_of : (o : Option Node) → is_none o ≡ false → is_some o ≡ true
@@ -105,14 +114,20 @@ gone old p = get-remove path_cmp_total old p p ∙ ap (λ b. cond b None (get ol
 never : (P : Type 0) (old : Files) (p : List ℕ) → is_some (get (remove old p) p) ≡ true → P
 never P old p s = absurd (false≢true (sym (ap is_some (gone old p)) ∙ s))
 
-pub remove_file_part : {B : Type 0} (r : Result (Unit {0}) B) (tops : List (List ℕ)) (old new : Files) (p : List ℕ) → IsPart tops old → OnOk r (remove_file_refusal (get old p) ≡ None) →
+pub remove_file_part : {B : Type 0} (r : Result (Unit {0}) B) (tops : List (List ℕ)) (old new : Files) (p : List ℕ) → IsPart tops old
+    → OnOk r (remove_file_refusal (get old p) ≡ None) →
     OnOk r (new ≡ remove old p) → OnErr r (new ≡ old) → IsPart tops new
 remove_file_part (Ok x) tops old new p part free done kept =
-    subst (IsPart tops) (sym done) (step tops old (remove old p) p part (off_here old p) (λ q s e d. absurd (false≢true (sym (no_dir (get old p) free) ∙ d))) (never _ old p))
+    subst (IsPart tops) (sym done)
+    (step tops old (remove old p) p part (off_here old p) (λ q s e d. absurd (false≢true (sym (no_dir (get old p) free) ∙ d)))
+    (never _ old p))
 remove_file_part (Err x) tops old new p part free done kept = subst (IsPart tops) (sym kept) part
 
-pub remove_dir_part : {B : Type 0} (r : Result (Unit {0}) B) (tops : List (List ℕ)) (old new : Files) (p : List ℕ) → IsPart tops old → OnOk r (remove_dir_refusal old p ≡ None) →
+pub remove_dir_part : {B : Type 0} (r : Result (Unit {0}) B) (tops : List (List ℕ)) (old new : Files) (p : List ℕ) → IsPart tops old
+    → OnOk r (remove_dir_refusal old p ≡ None) →
     OnOk r (new ≡ remove old p) → OnErr r (new ≡ old) → IsPart tops new
 remove_dir_part (Ok x) tops old new p part free done kept =
-    subst (IsPart tops) (sym done) (step tops old (remove old p) p part (off_here old p) (λ q s e d. absurd (no_child old p q (no_name old p free) (part.valid q s) (part.no_root q s) s e)) (never _ old p))
+    subst (IsPart tops) (sym done)
+    (step tops old (remove old p) p part (off_here old p)
+    (λ q s e d. absurd (no_child old p q (no_name old p free) (part.valid q s) (part.no_root q s) s e)) (never _ old p))
 remove_dir_part (Err x) tops old new p part free done kept = subst (IsPart tops) (sym kept) part

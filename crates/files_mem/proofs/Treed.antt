@@ -25,7 +25,8 @@ same_path q p e = (bytes_decides q p).0 (path_cmp_ties q p ∙ e)
 pub elsewhere : (files : Files) (p q : List ℕ) (n : Node) → eq_by_cmp path_cmp q p ≡ false → get (insert files p n) q ≡ get files q
 elsewhere files p q n e = get-insert path_cmp_total files p n q ∙ ap (λ b. cond b (Some n) (get files q)) e
 
-pub keeps_dir : (files : Files) (p x : List ℕ) (n : Node) → is_dir (get files p) ≡ false → is_dir (get files x) ≡ true → is_dir (get (insert files p n) x) ≡ true
+pub keeps_dir : (files : Files) (p x : List ℕ) (n : Node) → is_dir (get files p) ≡ false → is_dir (get files x) ≡ true
+    → is_dir (get (insert files p n) x) ≡ true
 keeps_dir files p x n off d =
     elim (eq_by_cmp path_cmp x p) as (λ b. eq_by_cmp path_cmp x p ≡ b → is_dir (get (insert files p n) x) ≡ true) [
       | true ↦ λ e. absurd (false≢true (sym off ∙ ap is_dir (ap (get files) (sym (same_path x p e))) ∙ d))
@@ -49,21 +50,27 @@ still true b c d k e = refl
 still false true c d k e = k e
 still false false c d k e = e
 
-placed_new : (files : Files) (p q : List ℕ) (n : Node) → get files p ≡ None → refusal p ≡ None → is_dir (get files (parent_of p)) ≡ true → IsPlaced files q → IsPlaced (insert files p n) q
+placed_new : (files : Files) (p q : List ℕ) (n : Node) → get files p ≡ None → refusal p ≡ None → is_dir (get files (parent_of p)) ≡ true
+    → IsPlaced files q → IsPlaced (insert files p n) q
 placed_new files p q n none fine above h =
     elim (eq_by_cmp path_cmp q p) as (λ b. eq_by_cmp path_cmp q p ≡ b → IsPlaced (insert files p n) q) [
       | true ↦ λ e. let is = same_path q p e in
-          or_right (is_none (get (insert files p n) q)) _ (both (is_none (refusal q)) _ (ap is_none (ap refusal is ∙ fine)) (keeps_dir files p (parent_of q) n (ap is_dir none) (ap (λ x. is_dir (get files (parent_of x))) is ∙ above)))
+          or_right (is_none (get (insert files p n) q)) _
+          (both (is_none (refusal q)) _ (ap is_none (ap refusal is ∙ fine))
+          (keeps_dir files p (parent_of q) n (ap is_dir none) (ap (λ x. is_dir (get files (parent_of x))) is ∙ above)))
       | false ↦ λ e.
           ap (λ o. is_none o || (is_none (refusal q) && is_dir (get (insert files p n) (parent_of q)))) (elsewhere files p q n e)
-          ∙ still (is_none (get files q)) (is_none (refusal q)) (is_dir (get files (parent_of q))) (is_dir (get (insert files p n) (parent_of q))) (keeps_dir files p (parent_of q) n (ap is_dir none)) h
+          ∙ still (is_none (get files q)) (is_none (refusal q)) (is_dir (get files (parent_of q)))
+          (is_dir (get (insert files p n) (parent_of q))) (keeps_dir files p (parent_of q) n (ap is_dir none)) h
     ] refl
 
-insert_tree : (files : Files) (p : List ℕ) (n : Node) → IsTree files → get files p ≡ None → refusal p ≡ None → is_dir (get files (parent_of p)) ≡ true → IsTree (insert files p n)
+insert_tree : (files : Files) (p : List ℕ) (n : Node) → IsTree files → get files p ≡ None → refusal p ≡ None
+    → is_dir (get files (parent_of p)) ≡ true → IsTree (insert files p n)
 unfolding IsTree
 insert_tree files p n h none fine above q =
     elim (is_root q) as (λ b. cond b (is_dir (get files q)) (is_none (get files q) || (is_none (refusal q) && is_dir (get files (parent_of q)))) ≡ true →
-    cond b (is_dir (get (insert files p n) q)) (is_none (get (insert files p n) q) || (is_none (refusal q) && is_dir (get (insert files p n) (parent_of q)))) ≡ true) [
+    cond b (is_dir (get (insert files p n) q))
+    (is_none (get (insert files p n) q) || (is_none (refusal q) && is_dir (get (insert files p n) (parent_of q)))) ≡ true) [
       | true ↦ keeps_dir files p q n (ap is_dir none)
       | false ↦ placed_new files p q n none fine above
     ] (h q)
@@ -74,7 +81,8 @@ refused_not None false e = cc
 refused_not (Some n) b e = cc
 
 -- after a node was put where that is not refused, or was not put
-pub put_tree : {B : Type 0} (r : Result (Unit {0}) B) (old new : Files) (p : List ℕ) (n : Node) → IsTree old → put_refusal old p ≡ None → refusal p ≡ None → OnOk r (new ≡ insert old p n) → OnErr r (new ≡ old) → IsTree new
+pub put_tree : {B : Type 0} (r : Result (Unit {0}) B) (old new : Files) (p : List ℕ) (n : Node) → IsTree old → put_refusal old p ≡ None
+    → refusal p ≡ None → OnOk r (new ≡ insert old p n) → OnErr r (new ≡ old) → IsTree new
 put_tree (Ok x) old new p n t e fine done kept =
     let h = refused_not (get old p) (is_dir (get old (parent_of p))) e in
     subst IsTree (sym done) (insert_tree old p n t h.0 fine h.1)
@@ -85,30 +93,37 @@ pub empty_tree : IsTree empty_files
 unfolding IsTree
 empty_tree q =
     let n : Node = record { body = dir 0; mtime = None } in
-    let here : get empty_files q ≡ cond (is_root q) (Some n) (get {R = path_cmp} empty q) = get-insert path_cmp_total empty (47 ∷ []) n q ∙ ap (λ b. cond b (Some n) (get {R = path_cmp} empty q)) (sym (path_cmp_ties q (47 ∷ []))) in
-    elim (is_root q) as (λ b. get empty_files q ≡ cond b (Some n) (get {R = path_cmp} empty q) → cond b (is_dir (get empty_files q)) (is_none (get empty_files q) || (is_none (refusal q) && is_dir (get empty_files (parent_of q)))) ≡ true) [
+    let here : get empty_files q ≡ cond (is_root q) (Some n) (get {R = path_cmp} empty q) = get-insert path_cmp_total empty (47 ∷ []) n q
+    ∙ ap (λ b. cond b (Some n) (get {R = path_cmp} empty q)) (sym (path_cmp_ties q (47 ∷ []))) in
+    elim (is_root q) as (λ b. get empty_files q ≡ cond b (Some n) (get {R = path_cmp} empty q)
+    → cond b (is_dir (get empty_files q))
+    (is_none (get empty_files q) || (is_none (refusal q) && is_dir (get empty_files (parent_of q)))) ≡ true) [
       | true ↦ λ e. ap is_dir e
       | false ↦ λ e. ap (λ o. is_none o || (is_none (refusal q) && is_dir (get empty_files (parent_of q)))) (e ∙ get-empty path_cmp q)
     ] here
 
 -- a node that is no directory takes the place of one that is none
 
-placed_again : (files : Files) (p q : List ℕ) (n : Node) → is_none (get files p) ≡ false → is_dir (get files p) ≡ false → IsPlaced files q → IsPlaced (insert files p n) q
+placed_again : (files : Files) (p q : List ℕ) (n : Node) → is_none (get files p) ≡ false → is_dir (get files p) ≡ false → IsPlaced files q
+    → IsPlaced (insert files p n) q
 placed_again files p q n some off h =
     elim (eq_by_cmp path_cmp q p) as (λ b. eq_by_cmp path_cmp q p ≡ b → IsPlaced (insert files p n) q) [
       | true ↦ λ e. or_right (is_none (get (insert files p n) q)) _
-          (still false (is_none (refusal q)) (is_dir (get files (parent_of q))) (is_dir (get (insert files p n) (parent_of q))) (keeps_dir files p (parent_of q) n off)
+          (still false (is_none (refusal q)) (is_dir (get files (parent_of q))) (is_dir (get (insert files p n) (parent_of q)))
+          (keeps_dir files p (parent_of q) n off)
           (ap (λ b. b || (is_none (refusal q) && is_dir (get files (parent_of q)))) (sym (ap is_none (ap (get files) (same_path q p e)) ∙ some)) ∙ h))
       | false ↦ λ e.
           ap (λ o. is_none o || (is_none (refusal q) && is_dir (get (insert files p n) (parent_of q)))) (elsewhere files p q n e)
-          ∙ still (is_none (get files q)) (is_none (refusal q)) (is_dir (get files (parent_of q))) (is_dir (get (insert files p n) (parent_of q))) (keeps_dir files p (parent_of q) n off) h
+          ∙ still (is_none (get files q)) (is_none (refusal q)) (is_dir (get files (parent_of q)))
+          (is_dir (get (insert files p n) (parent_of q))) (keeps_dir files p (parent_of q) n off) h
     ] refl
 
 again_tree : (files : Files) (p : List ℕ) (n : Node) → IsTree files → is_none (get files p) ≡ false → is_dir (get files p) ≡ false → IsTree (insert files p n)
 unfolding IsTree
 again_tree files p n h some off q =
     elim (is_root q) as (λ b. cond b (is_dir (get files q)) (is_none (get files q) || (is_none (refusal q) && is_dir (get files (parent_of q)))) ≡ true →
-    cond b (is_dir (get (insert files p n) q)) (is_none (get (insert files p n) q) || (is_none (refusal q) && is_dir (get (insert files p n) (parent_of q)))) ≡ true) [
+    cond b (is_dir (get (insert files p n) q))
+    (is_none (get (insert files p n) q) || (is_none (refusal q) && is_dir (get (insert files p n) (parent_of q)))) ≡ true) [
       | true ↦ keeps_dir files p q n off
       | false ↦ placed_again files p q n some off
     ] (h q)
@@ -124,7 +139,8 @@ file_there (Some n) e = (refl, by_body n.body e)
     by_body other e = refl
 
 -- after bytes were written to a file, or were not
-pub write_tree : {B : Type 0} (r : Result (Unit {0}) B) (old new : Files) (p : List ℕ) (at : ℕ) (bytes : List ℕ) → IsTree old → is_file (get old p) ≡ true → OnOk r (new ≡ written old p at bytes) → OnErr r (new ≡ old) → IsTree new
+pub write_tree : {B : Type 0} (r : Result (Unit {0}) B) (old new : Files) (p : List ℕ) (at : ℕ) (bytes : List ℕ) → IsTree old
+    → is_file (get old p) ≡ true → OnOk r (new ≡ written old p at bytes) → OnErr r (new ≡ old) → IsTree new
 write_tree (Ok x) old new p at bytes t f done kept = let h = file_there (get old p) f in subst IsTree (sym done) (again_tree old p _ t h.0 h.1)
 write_tree (Err x) old new p at bytes t f done kept = subst IsTree (sym kept) t
 
@@ -152,8 +168,10 @@ both_parts false b e = absurd (false≢true e)
 placed_left : (files : Files) (p q : List ℕ) → IsBare files p → is_root q ≡ false → IsPlaced files q → IsPlaced (remove files p) q
 placed_left files p q bare off h =
     elim (eq_by_cmp path_cmp q p) as (λ b. eq_by_cmp path_cmp q p ≡ b → IsPlaced (remove files p) q) [
-      | true ↦ λ e. ap (λ o. is_none o || (is_none (refusal q) && is_dir (get (remove files p) (parent_of q)))) (get-remove path_cmp_total files p q ∙ ap (λ b. cond b None (get files q)) e)
-      | false ↦ λ e. ap (λ o. is_none o || (is_none (refusal q) && is_dir (get (remove files p) (parent_of q)))) (off_here files p q e) ∙ there (is_none (get files q)) refl
+      | true ↦ λ e. ap (λ o. is_none o || (is_none (refusal q) && is_dir (get (remove files p) (parent_of q))))
+          (get-remove path_cmp_total files p q ∙ ap (λ b. cond b None (get files q)) e)
+      | false ↦ λ e. ap (λ o. is_none o || (is_none (refusal q) && is_dir (get (remove files p) (parent_of q)))) (off_here files p q e)
+          ∙ there (is_none (get files q)) refl
     ] refl
   where
     over : is_none (get files q) ≡ false → is_none (refusal q) ≡ true → eq_by_cmp path_cmp (parent_of q) p ≡ false
@@ -166,7 +184,8 @@ placed_left files p q bare off h =
     there : (b : Bool) → is_none (get files q) ≡ b → (is_none (get files q) || (is_none (refusal q) && is_dir (get (remove files p) (parent_of q)))) ≡ true
     there true e = ap (λ b. b || (is_none (refusal q) && is_dir (get (remove files p) (parent_of q)))) e
     there false e =
-        let parts = both_parts (is_none (refusal q)) (is_dir (get files (parent_of q))) (ap (λ b. b || (is_none (refusal q) && is_dir (get files (parent_of q)))) (sym e) ∙ h) in
+        let parts = both_parts (is_none (refusal q)) (is_dir (get files (parent_of q)))
+        (ap (λ b. b || (is_none (refusal q) && is_dir (get files (parent_of q)))) (sym e) ∙ h) in
         or_right (is_none (get files q)) _ (both (is_none (refusal q)) _ parts.0 (ap is_dir (off_here files p (parent_of q) (over e parts.0)) ∙ parts.1))
 
 root_off : (p q : List ℕ) → is_root p ≡ false → is_root q ≡ true → eq_by_cmp path_cmp q p ≡ false
@@ -179,8 +198,10 @@ root_off p q off on =
 remove_tree : (files : Files) (p : List ℕ) → IsTree files → is_root p ≡ false → IsBare files p → IsTree (remove files p)
 unfolding IsTree
 remove_tree files p h off bare q =
-    elim (is_root q) as (λ b. is_root q ≡ b → cond b (is_dir (get files q)) (is_none (get files q) || (is_none (refusal q) && is_dir (get files (parent_of q)))) ≡ true →
-    cond b (is_dir (get (remove files p) q)) (is_none (get (remove files p) q) || (is_none (refusal q) && is_dir (get (remove files p) (parent_of q)))) ≡ true) [
+    elim (is_root q) as (λ b. is_root q ≡ b
+    → cond b (is_dir (get files q)) (is_none (get files q) || (is_none (refusal q) && is_dir (get files (parent_of q)))) ≡ true →
+    cond b (is_dir (get (remove files p) q))
+    (is_none (get (remove files p) q) || (is_none (refusal q) && is_dir (get (remove files p) (parent_of q)))) ≡ true) [
       | true ↦ λ is d. ap is_dir (off_here files p q (root_off p q off is)) ∙ d
       | false ↦ λ is. placed_left files p q bare is
     ] refl (h q)
@@ -191,7 +212,9 @@ unfolding IsTree
 bare_file files p h off q fine root here over =
     false≢true (sym off ∙ ap (λ x. is_dir (get files x)) (sym over) ∙ dir_over (is_root q) root (get files q) here (h q))
   where
-    dir_over : (b : Bool) → b ≡ false → (o : Option Node) → is_some o ≡ true → cond b (is_dir o) (is_none o || (is_none (refusal q) && is_dir (get files (parent_of q)))) ≡ true → is_dir (get files (parent_of q)) ≡ true
+    dir_over : (b : Bool) → b ≡ false → (o : Option Node) → is_some o ≡ true
+        → cond b (is_dir o) (is_none o || (is_none (refusal q) && is_dir (get files (parent_of q)))) ≡ true
+        → is_dir (get files (parent_of q)) ≡ true
     dir_over true e o s c = absurd (false≢true (sym e))
     dir_over false e None s c = absurd (false≢true s)
     dir_over false e (Some n) s c = (both_parts (is_none (refusal q)) (is_dir (get files (parent_of q))) c).1
@@ -217,10 +240,13 @@ not_root a p o = by (in_area a p) (is_root p) o
 
 -- after a node was removed as that is not refused, or was not
 
-pub take_file : {B : Type 0} (r : Result (Unit {0}) B) (old new : Files) (p : List ℕ) → IsTree old → is_root p ≡ false → remove_file_refusal (get old p) ≡ None → OnOk r (new ≡ remove old p) → OnErr r (new ≡ old) → IsTree new
+pub take_file : {B : Type 0} (r : Result (Unit {0}) B) (old new : Files) (p : List ℕ) → IsTree old → is_root p ≡ false
+    → remove_file_refusal (get old p) ≡ None → OnOk r (new ≡ remove old p) → OnErr r (new ≡ old) → IsTree new
 take_file (Ok x) old new p t o e done kept = subst IsTree (sym done) (remove_tree old p t o (bare_file old p t (no_dir (get old p) e)))
 take_file (Err x) old new p t o e done kept = subst IsTree (sym kept) t
 
-pub take_dir : {B : Type 0} (r : Result (Unit {0}) B) (old new : Files) (p : List ℕ) → IsTree old → is_root p ≡ false → remove_dir_refusal old p ≡ None → OnOk r (new ≡ remove old p) → OnErr r (new ≡ old) → IsTree new
-take_dir (Ok x) old new p t o e done kept = subst IsTree (sym done) (remove_tree old p t o (λ q fine off here over. no_child old p q (no_name old p e) fine off here over))
+pub take_dir : {B : Type 0} (r : Result (Unit {0}) B) (old new : Files) (p : List ℕ) → IsTree old → is_root p ≡ false
+    → remove_dir_refusal old p ≡ None → OnOk r (new ≡ remove old p) → OnErr r (new ≡ old) → IsTree new
+take_dir (Ok x) old new p t o e done kept =
+    subst IsTree (sym done) (remove_tree old p t o (λ q fine off here over. no_child old p q (no_name old p e) fine off here over))
 take_dir (Err x) old new p t o e done kept = subst IsTree (sym kept) t

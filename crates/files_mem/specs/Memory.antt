@@ -1,5 +1,6 @@
 -- Files in memory: the tree, what is planned to fail in it, and how often it has failed. Our own.
-use Rattle.std.specs.Prelude.{◌≡◌, ℕ, ◌-◌, min, length, take, drop, true, false, Bool, ◌||◌, Result, Ok, Err, List, [], ◌∷◌, ◌++◌, Option, Some, None, if◌then◌else◌, is_some, refl}
+use Rattle.std.specs.Prelude.{◌≡◌, ℕ, ◌-◌, min, length, take, drop, true, false, Bool, ◌||◌, Result, Ok, Err, List, [], ◌∷◌, ◌++◌, Option, Some, None}
+use Rattle.std.specs.Prelude.{if◌then◌else◌, is_some, refl}
 use Rattle.std.specs.Coded.{Coded, code_by, coded×, coded_ℕ}
 use Rattle.std.specs.FinMap.{get, insert, empty}
 use Rattle.outside.specs.Tree.{Files, Node, Body, dir, file, link, other, is_dir, is_file, content}
@@ -86,7 +87,10 @@ Acts call path refusal after before (Ok _) new = (is_planned call path before.pl
 Acts call path refusal after before (Err write.Failed) new = (is_planned call path before.planned ≡ true) × (new ≡ answered true before)
 Acts call path refusal after before (Err write.OutOfMemory) new = (is_planned call path before.planned ≡ false) × (new ≡ before)
 Acts call path refusal after before (Err write.Exists) new = (is_planned call path before.planned ≡ false) × ((refusal ≡ Some write.Exists) × (new ≡ before))
-Acts call path refusal after before (Err write.NoParent) new = (is_planned call path before.planned ≡ false) × ((refusal ≡ Some write.NoParent) × (new ≡ before))
+Acts call path refusal after before (Err write.NoParent) new = (is_planned call path before.planned ≡ false)
+    × ((refusal ≡ Some write.NoParent) × (new ≡ before))
 Acts call path refusal after before (Err write.Absent) new = (is_planned call path before.planned ≡ false) × ((refusal ≡ Some write.Absent) × (new ≡ before))
-Acts call path refusal after before (Err write.WrongKind) new = (is_planned call path before.planned ≡ false) × ((refusal ≡ Some write.WrongKind) × (new ≡ before))
-Acts call path refusal after before (Err write.NotEmpty) new = (is_planned call path before.planned ≡ false) × ((refusal ≡ Some write.NotEmpty) × (new ≡ before))
+Acts call path refusal after before (Err write.WrongKind) new = (is_planned call path before.planned ≡ false)
+    × ((refusal ≡ Some write.WrongKind) × (new ≡ before))
+Acts call path refusal after before (Err write.NotEmpty) new = (is_planned call path before.planned ≡ false)
+    × ((refusal ≡ Some write.NotEmpty) × (new ≡ before))

@@ -1,10 +1,9 @@
 -- What a ground in memory keeps, with parts out and parts that came back. Our own.
-use Rattle.std.specs.Prelude.{◌≡◌, ℕ, Bool, true, false, ◌&&◌, List, [], ◌∷◌, if◌then◌else◌, Option, Some, is_some, slice_get, refl}
+use Rattle.std.specs.Prelude.{◌≡◌, ℕ, Bool, false, ◌&&◌, List, [], ◌∷◌, if◌then◌else◌, Option, Some, is_some, slice_get, refl}
 use Rattle.std.specs.List.{AllByRecursion}
 use Rattle.std.specs.Coded.{Coded, code_by, coded×, coded_list, coded_ℕ}
-use Rattle.std.specs.FinMap.{get}
 use Rattle.path_text.specs.Path.{parent_of}
-use Rattle.outside.specs.Tree.{Files, Node, IsTree, is_dir}
+use Rattle.outside.specs.Tree.{Files, Node, IsTree}
 use Rattle.outside.specs.Codes.{files_code}
 use Rattle.outside.specs.Lease.{in_tops, HaveParents}
 use Rattle.outside.specs.Parts.{AreTops}
@@ -20,7 +19,8 @@ pub record Back : Type 0 where
   pub files : Files
 
 abbrev pub back_code : Coded Back
-back_code = code_by (List (List ℕ) × Files) (coded× (coded_list (coded_list coded_ℕ)) files_code) (λ b. (b.tops, b.files)) (λ p. record { tops = p.0; files = p.1 }) (λ _. refl)
+back_code = code_by (List (List ℕ) × Files) (coded× (coded_list (coded_list coded_ℕ)) files_code) (λ b. (b.tops, b.files))
+    (λ p. record { tops = p.0; files = p.1 }) (λ _. refl)
 
 -- what came back laid over what was kept, the first first
 abbrev pub laid_all : List Back → Files → Files
@@ -33,7 +33,8 @@ pub record Lending : Type 0 where
   pub out : List (List (List ℕ))
 
 abbrev pub lending_code : Coded Lending
-lending_code = code_by (Files × List (List (List ℕ))) (coded× files_code (coded_list (coded_list (coded_list coded_ℕ)))) (λ h. (h.files, h.out)) (λ p. record { files = p.0; out = p.1 }) (λ _. refl)
+lending_code = code_by (Files × List (List (List ℕ))) (coded× files_code (coded_list (coded_list (coded_list coded_ℕ))))
+    (λ h. (h.files, h.out)) (λ p. record { files = p.0; out = p.1 }) (λ _. refl)
 
 -- each top stands in a directory that the ground has
 pub record IsLent (files : Files) (tops : List (List ℕ)) : Type 0 where

@@ -27,9 +27,12 @@ pub record GlobByCases : Type 0 where
   pub nothing : (text : List ℕ) → (chars_match [] text ≡ true) ↔ (text ≡ [])
   pub star : (rest text : List ℕ) → (chars_match (42 ∷ rest) text ≡ true) ↔ HasDivision (λ t. chars_match rest t) text
   pub question : (rest text : List ℕ) → (chars_match (63 ∷ rest) text ≡ true) ↔ FirstAndRest (λ c. true) (λ t. chars_match rest t) text
-  pub literal : (c : ℕ) (rest text : List ℕ) → is_special c ≡ false → (chars_match (c ∷ rest) text ≡ true) ↔ FirstAndRest (λ d. d == c) (λ t. chars_match rest t) text
+  pub literal : (c : ℕ) (rest text : List ℕ) → is_special c ≡ false → (chars_match (c ∷ rest) text ≡ true)
+      ↔ FirstAndRest (λ d. d == c) (λ t. chars_match rest t) text
   pub escaped : (c : ℕ) (rest text : List ℕ) → (chars_match (92 ∷ c ∷ rest) text ≡ true) ↔ FirstAndRest (λ d. d == c) (λ t. chars_match rest t) text
   pub last_backslash : (text : List ℕ) → (chars_match (92 ∷ []) text ≡ true) ↔ FirstAndRest (λ d. d == 92) (λ t. chars_match [] t) text
   -- a bracket, negated or not, which is closed
-  pub closed : (rest text : List ℕ) → is_closed (behind_negation (signs_of rest)) ≡ true → (chars_match (91 ∷ rest) text ≡ true) ↔ FirstAndRest (takes (bracket (signs_of rest))) (λ t. matches (pieces_of (behind_members (behind_negation (signs_of rest)))) t) text
-  pub not_closed : (rest text : List ℕ) → is_closed (behind_negation (signs_of rest)) ≡ false → (chars_match (91 ∷ rest) text ≡ true) ↔ FirstAndRest (λ d. d == 91) (λ t. chars_match rest t) text
+  pub closed : (rest text : List ℕ) → is_closed (behind_negation (signs_of rest)) ≡ true → (chars_match (91 ∷ rest) text ≡ true)
+      ↔ FirstAndRest (takes (bracket (signs_of rest))) (λ t. matches (pieces_of (behind_members (behind_negation (signs_of rest)))) t) text
+  pub not_closed : (rest text : List ℕ) → is_closed (behind_negation (signs_of rest)) ≡ false → (chars_match (91 ∷ rest) text ≡ true)
+      ↔ FirstAndRest (λ d. d == 91) (λ t. chars_match rest t) text

@@ -29,7 +29,8 @@ size_by (Some stat) = stat.size
 abbrev pub is_sized : Option Stat → Bool
 is_sized stat = is_of kind.File stat || size_by stat == 0
 
--- the shape of an entry, by its mark: where the stat failed or nothing was there it has none; a directory whose names failed or that changed tells no number; and only a directory tells one
+-- the shape of an entry, by its mark: where the stat failed or nothing was there it has none; a directory whose names failed or that
+-- changed tells no number; and only a directory tells one
 abbrev pub shape_by : Mark → Option Stat → Bool → Bool
 shape_by mark.StatFailed stat none = is_none stat && none
 shape_by mark.Gone stat none = is_none stat && none

@@ -1,4 +1,5 @@
--- The orders of a list by a field, and how places and entries are dealt. Our own, after the sort fields of mpiFileUtils' dwalk and the spread of its flat lists over ranks.
+-- The orders of a list by a field, and how places and entries are dealt. Our own, after the sort fields of mpiFileUtils' dwalk and the
+-- spread of its flat lists over ranks.
 use Rattle.std.specs.Prelude.{ℕ, ◌+◌, ◌%◌, Bool, true, false, List, [], ◌∷◌, max, Option, Some, None, if◌then◌else◌, ◌==◌, nat_eq}
 use Rattle.std.specs.List.{position}
 use Rattle.std.specs.Option.{option_cmp}
@@ -65,7 +66,8 @@ level_count (e ∷ entries) = max (level_of e.path + 1) (level_count entries)
 -- the places of the entries of one level, where so many entries come before
 abbrev pub places_from : ℕ → ℕ → List Entry → List ℕ
 places_from before level [] = []
-places_from before level (e ∷ entries) = if level_of e.path == level then before ∷ places_from (before + 1) level entries else places_from (before + 1) level entries
+places_from before level (e ∷ entries) =
+    if level_of e.path == level then before ∷ places_from (before + 1) level entries else places_from (before + 1) level entries
 
 abbrev pub places_at : ℕ → List Entry → List ℕ
 places_at level entries = places_from 0 level entries

@@ -48,7 +48,9 @@ mark_word mark.Changed = codes "changed"
 -- the text of an entry: kind, size, time, mark, unnamed names, children too far, and the path, divided by single spaces
 abbrev pub text_of : Entry → List ℕ
 text_of e =
-    kind_word (kind_by e.stat) ++ 32 ∷ (decimal (size_by e.stat) ++ 32 ∷ (time_word (time_of e.stat) ++ 32 ∷ (mark_word e.mark ++ 32 ∷ (decimal e.unnamed ++ 32 ∷ (decimal e.far ++ 32 ∷ escape e.path)))))
+    kind_word (kind_by e.stat) ++ 32 ∷
+    (decimal (size_by e.stat) ++ 32 ∷
+    (time_word (time_of e.stat) ++ 32 ∷ (mark_word e.mark ++ 32 ∷ (decimal e.unnamed ++ 32 ∷ (decimal e.far ++ 32 ∷ escape e.path)))))
 
 -- a line is a text and its line feed
 abbrev pub line : List ℕ → List ℕ

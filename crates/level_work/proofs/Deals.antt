@@ -1,5 +1,6 @@
 -- How the items of a level are dealt.
-use Rattle.std.proofs.Common.{◌≡◌, ◌⊎◌, inl, inr, ℕ, zero, suc, ◌+◌, ◌<◌, ◌≤◌, Bool, true, false, ◌||◌, List, [], ◌∷◌, ◌++◌, length, map, Some, None, refl, ap, ◌∙◌, sym, subst, arith, eqb, nat_eq, nat_lt, slice_get}
+use Rattle.std.proofs.Common.{◌≡◌, ◌⊎◌, inl, inr, ℕ, zero, suc, ◌+◌, ◌<◌, ◌≤◌, Bool, true, false, ◌||◌, List, [], ◌∷◌, ◌++◌, length, map, Some, None}
+use Rattle.std.proofs.Common.{refl, ap, ◌∙◌, sym, subst, arith, eqb, nat_eq, nat_lt, slice_get}
 use Rattle.std.specs.Prelude.{slice_set}
 use Rattle.std.proofs.lemmas.Bool.{false≢true}
 use Rattle.std.proofs.lemmas.Option.{slice_get_within}
@@ -26,15 +27,19 @@ use Rattle.level_work.proofs.Leases.{Written, written_here, written_there, writt
 use Rattle.level_work.proofs.Running.{some_bytes}
 use Rattle.level_work.proofs.Working.{same_some, get_more}
 
-pub failed_parent : (items : List Item) (fates : List Fate) (paths : List (List ℕ)) (x : Item) → AreFailed items fates paths → has_path paths (parent_of x.path) ≡ true → HasFailedParent items fates x
+pub failed_parent : (items : List Item) (fates : List Fate) (paths : List (List ℕ)) (x : Item) → AreFailed items fates paths
+    → has_path paths (parent_of x.path) ≡ true → HasFailedParent items fates x
 failed_parent items fates paths x w e = let f = w.sound (parent_of x.path) e in
     record { place = f.place; item = f.item; fate_of = f.fate_of; at = f.at; has = f.has; is_parent = f.is_path; not_done = f.not_done }
 
-pub no_failed_parent : (items : List Item) (fates : List Fate) (paths : List (List ℕ)) (x : Item) → AreFailed items fates paths → has_path paths (parent_of x.path) ≡ false → HasFailedParent items fates x → ⊥
-no_failed_parent items fates paths x w e h = false≢true (sym e ∙ ap (has_path paths) (sym h.is_parent) ∙ w.complete h.place h.item h.fate_of h.at h.has h.not_done)
+pub no_failed_parent : (items : List Item) (fates : List Fate) (paths : List (List ℕ)) (x : Item) → AreFailed items fates paths
+    → has_path paths (parent_of x.path) ≡ false → HasFailedParent items fates x → ⊥
+no_failed_parent items fates paths x w e h =
+    false≢true (sym e ∙ ap (has_path paths) (sym h.is_parent) ∙ w.complete h.place h.item h.fate_of h.at h.has h.not_done)
 
 -- two paths of one level have nothing at and under both but where they are the same
-pub one_over : IsPreorder → UnderIsContiguous → (x y q : List ℕ) → refusal x ≡ None → refusal y ≡ None → level_of x ≡ level_of y → is_within q x ≡ true → is_within q y ≡ true → x ≡ y
+pub one_over : IsPreorder → UnderIsContiguous → (x y q : List ℕ) → refusal x ≡ None → refusal y ≡ None → level_of x ≡ level_of y
+    → is_within q x ≡ true → is_within q y ≡ true → x ≡ y
 one_over pre cont x y q fx fy lev on on' = by (pointwise nat_eq x y) (pointwise nat_eq y x) (pointwise nat_eq q x) (pointwise nat_eq q y) refl refl refl refl
   where
     apart : (a b : List ℕ) → refusal b ≡ None → pointwise nat_eq a b ≡ false → level_of a ≡ level_of b → is_under a b ≡ true → ⊥
@@ -66,7 +71,8 @@ widen n places k a = record { place = a.place; at = a.at; early = omega (arith, 
 
 module _ {A P : Type 0} where
   -- no share has a place
-  pub dealt_none : (o : Order) (items : List Item) (fates : List Fate) (places : List ℕ) (lots : List (Lot A P)) → ((i : ℕ) (lot : Lot A P) → slice_get lots i ≡ Some lot → lot.places.items ≡ []) → DealtTo 0 o items fates places lots
+  pub dealt_none : (o : Order) (items : List Item) (fates : List Fate) (places : List ℕ) (lots : List (Lot A P))
+      → ((i : ℕ) (lot : Lot A P) → slice_get lots i ≡ Some lot → lot.places.items ≡ []) → DealtTo 0 o items fates places lots
   dealt_none o items fates places lots empty = record {
     from = λ i j k e. absurd (none i j k e);
     can = λ i j k x e at fails. none i j k e;
@@ -86,8 +92,10 @@ module _ {A P : Type 0} where
     was_in : In lots j t n → Taken lots i k lot j t n
     put_in : j ≡ i → t ≡ length lot.places.items → n ≡ k → Taken lots i k lot j t n
 
-  module _ (o : Order) (items : List Item) (fates : List Fate) (places : List ℕ) (lots : List (Lot A P)) (n i k : ℕ) (lot new : Lot A P) (at : slice_get lots i ≡ Some lot) (more : new.places.items ≡ lot.places.items ++ k ∷ [])
-      (next : slice_get places n ≡ Some k) (unique : (a b c : ℕ) → slice_get places a ≡ Some c → slice_get places b ≡ Some c → a ≡ b) (d : DealtTo n o items fates places lots) where
+  module _ (o : Order) (items : List Item) (fates : List Fate) (places : List ℕ) (lots : List (Lot A P)) (n i k : ℕ) (lot new : Lot A P)
+      (at : slice_get lots i ≡ Some lot) (more : new.places.items ≡ lot.places.items ++ k ∷ [])
+      (next : slice_get places n ≡ Some k) (unique : (a b c : ℕ) → slice_get places a ≡ Some c → slice_get places b ≡ Some c → a ≡ b)
+      (d : DealtTo n o items fates places lots) where
     inside : i < length lots
     inside = slice_get_within lots i lot at
 
@@ -96,7 +104,9 @@ module _ {A P : Type 0} where
       where
         by : Written lots i new j e.lot → Taken lots i k lot j t m
         by (written_there off w) = was_in (record { lot = e.lot; is_lot = w; at = e.at })
-        by (written_here s w) = last (get_more lot.places.items k t m (ap (λ ps. slice_get ps t) (sym more) ∙ ap (λ (l : Lot A P). slice_get l.places.items t) w ∙ e.at))
+        by (written_here s w) = last
+            (get_more lot.places.items k t m
+            (ap (λ ps. slice_get ps t) (sym more) ∙ ap (λ (l : Lot A P). slice_get l.places.items t) w ∙ e.at))
           where
             last : (slice_get lot.places.items t ≡ Some m) ⊎ ((t ≡ length lot.places.items) × (k ≡ m)) → Taken lots i k lot j t m
             last (inl h) = was_in (record { lot = lot; is_lot = ap (slice_get lots) s ∙ at; at = h })
@@ -108,12 +118,31 @@ module _ {A P : Type 0} where
     still : (m : ℕ) → Dealt lots m → Dealt (slice_set lots i new) m
     still m e = elim (eqb e.share i) as (λ b. eqb e.share i ≡ b → Dealt (slice_set lots i new) m) [
       | true ↦ λ is. let s = same_number e.share i is in let same : e.lot ≡ lot = same_some e.lot lot (sym e.is_lot ∙ ap (slice_get lots) s ∙ at) in
-          record { share = i; place = e.place; lot = new; is_lot = new_here; at = ap (λ ps. slice_get ps e.place) more ∙ get_front lot.places.items k m e.place (ap (λ (l : Lot A P). slice_get l.places.items e.place) (sym same) ∙ e.at) }
-      | false ↦ λ off. record { share = e.share; place = e.place; lot = e.lot; is_lot = get_set_other lots i e.share new (other_number e.share i off) ∙ e.is_lot; at = e.at }
+          record {
+            share = i;
+            place = e.place;
+            lot = new;
+            is_lot = new_here;
+            at = ap (λ ps. slice_get ps e.place) more
+                ∙ get_front lot.places.items k m e.place (ap (λ (l : Lot A P). slice_get l.places.items e.place) (sym same) ∙ e.at);
+          }
+      | false ↦ λ off. record {
+        share = e.share;
+        place = e.place;
+        lot = e.lot;
+        is_lot = get_set_other lots i e.share new (other_number e.share i off) ∙ e.is_lot;
+        at = e.at;
+      }
     ] refl
 
     added : Dealt (slice_set lots i new) k
-    added = record { share = i; place = length lot.places.items; lot = new; is_lot = new_here; at = ap (λ ps. slice_get ps (length lot.places.items)) more ∙ get_end lot.places.items k }
+    added = record {
+      share = i;
+      place = length lot.places.items;
+      lot = new;
+      is_lot = new_here;
+      at = ap (λ ps. slice_get ps (length lot.places.items)) more ∙ get_end lot.places.items k;
+    }
 
     fresh : (j t : ℕ) → In lots j t k → ⊥
     fresh j t e = let a = d.from j t k e in omega (arith, unique a.place n k a.at next, a.early)
@@ -123,7 +152,11 @@ module _ {A P : Type 0} where
       from = λ j t m e. from j t m (taken j t m e);
       can = λ j t m x e is. may j t m x is (taken j t m e);
       once = λ j t s u m e f. once j t s u m (taken j t m e) (taken s u m f);
-      all = λ t m x l is it. all t m x is it (elim (eqb t n) as (λ b. eqb t n ≡ b → (t ≡ n) ⊎ (t < n)) [ true ↦ λ e. inl (same_number t n e) | false ↦ λ e. inr (early t l (other_number t n e)) ] refl);
+      all = λ t m x l is it. all t m x is it
+          (elim (eqb t n) as (λ b. eqb t n ≡ b → (t ≡ n) ⊎ (t < n)) [
+            | true ↦ λ e. inl (same_number t n e)
+            | false ↦ λ e. inr (early t l (other_number t n e))
+          ] refl);
     }
       where
         early : (t : ℕ) → t < n + 1 → (t ≡ n → ⊥) → t < n
@@ -146,7 +179,8 @@ module _ {A P : Type 0} where
         once j t s u m (put_in a b c) (was_in f) = absurd (fresh s u (subst (λ z. In lots s u z) c f))
         once j t s u m (put_in a b c) (put_in a' b' c') = (a ∙ sym a', b ∙ sym b')
 
-        all : (t m : ℕ) (x : Item) → slice_get places t ≡ Some m → slice_get items m ≡ Some x → (t ≡ n) ⊎ (t < n) → FailsWith o items fates x ⊎ Dealt (slice_set lots i new) m
+        all : (t m : ℕ) (x : Item) → slice_get places t ≡ Some m → slice_get items m ≡ Some x → (t ≡ n) ⊎ (t < n)
+            → FailsWith o items fates x ⊎ Dealt (slice_set lots i new) m
         all t m x is it (inl s) = inr (subst (Dealt (slice_set lots i new)) (same_some k m (sym next ∙ ap (slice_get places) (sym s) ∙ is)) added)
         all t m x is it (inr l) = by (d.all t m x l is it)
           where
@@ -155,7 +189,8 @@ module _ {A P : Type 0} where
             by (inr e) = inr (still m e)
 
   -- an item whose parent failed is in no share
-  pub dealt_skip : (o : Order) (items : List Item) (fates : List Fate) (places : List ℕ) (lots : List (Lot A P)) (n k : ℕ) → slice_get places n ≡ Some k → ((x : Item) → slice_get items k ≡ Some x → FailsWith o items fates x) →
+  pub dealt_skip : (o : Order) (items : List Item) (fates : List Fate) (places : List ℕ) (lots : List (Lot A P)) (n k : ℕ)
+      → slice_get places n ≡ Some k → ((x : Item) → slice_get items k ≡ Some x → FailsWith o items fates x) →
       DealtTo n o items fates places lots → DealtTo (n + 1) o items fates places lots
   dealt_skip o items fates places lots n k next fails d = record {
     from = λ j t m e. widen n places m (d.from j t m e);
@@ -170,7 +205,8 @@ module _ {A P : Type 0} where
       last : (t : ℕ) → t < n + 1 → n ≤ t → n ≡ t
       last t l m = omega (arith, l, m)
 
-  pub all_dealt : (o : Order) (level n : ℕ) (items : List Item) (fates : List Fate) (places : List ℕ) (lots : List (Lot A P)) → IsPreorder → UnderIsContiguous → AreItems items → AreOnLevel (length items) level items places → length places ≤ n →
+  pub all_dealt : (o : Order) (level n : ℕ) (items : List Item) (fates : List Fate) (places : List ℕ) (lots : List (Lot A P)) → IsPreorder
+      → UnderIsContiguous → AreItems items → AreOnLevel (length items) level items places → length places ≤ n →
       DealtTo n o items fates places lots → AreShares o level items fates lots
   all_dealt o level n items fates places lots pre cont are on l d = record {
     inside = λ i j k lot is e. let a = d.from i j k (record { lot = lot; is_lot = is; at = e }) in on.below a.place k a.at;
@@ -189,9 +225,12 @@ module _ {A P : Type 0} where
       lev : (i t : ℕ) (x : Item) → InLot items lots i t x → level_of x.path ≡ level
       lev i t x e = let a = d.from i t e.at.place (dealt i t x e) in on.on_level a.place e.at.place x a.at e.at.is
 
-      same : (i j t s : ℕ) (x y : Item) (q : List ℕ) → InLot items lots i t x → InLot items lots j s y → is_within q x.path ≡ true → is_within q y.path ≡ true → (i ≡ j) × (t ≡ s)
+      same : (i j t s : ℕ) (x y : Item) (q : List ℕ) → InLot items lots i t x → InLot items lots j s y → is_within q x.path ≡ true
+          → is_within q y.path ≡ true → (i ≡ j) × (t ≡ s)
       same i j t s x y q e f within within' =
-          let over : x.path ≡ y.path = one_over pre cont x.path y.path q (are.valid e.at.place x e.at.is) (are.valid f.at.place y f.at.is) (lev i t x e ∙ sym (lev j s y f)) within within' in
+          let over : x.path ≡ y.path =
+          one_over pre cont x.path y.path q (are.valid e.at.place x e.at.is) (are.valid f.at.place y f.at.is)
+          (lev i t x e ∙ sym (lev j s y f)) within within' in
           let place : e.at.place ≡ f.at.place = are.distinct e.at.place f.at.place x y e.at.is f.at.is over in
           d.once i t j s e.at.place (dealt i t x e) (subst (λ m. In lots j s m) (sym place) (dealt j s y f))
 
@@ -207,14 +246,17 @@ mapped f [] i y e = cc
 mapped f (x ∷ xs) zero y e = record { it = x; is_it = refl; same = same_some (f x) y e }
 mapped f (x ∷ xs) (suc i) y e = let r = mapped f xs i y e in record { it = r.it; is_it = r.is_it; same = r.same }
 
-pub no_levels : {V : Type 0} (f : V → List ℕ) (items : List Item) (levels : List V) → ((i : ℕ) (v : V) → slice_get levels i ≡ Some v → f v ≡ []) → AreByLevel 0 items (map f levels)
+pub no_levels : {V : Type 0} (f : V → List ℕ) (items : List Item) (levels : List V)
+    → ((i : ℕ) (v : V) → slice_get levels i ≡ Some v → f v ≡ []) → AreByLevel 0 items (map f levels)
 no_levels f items levels empty l places e = let m = mapped f levels l places e in by places (sym m.same ∙ empty l m.it m.is_it)
   where
     by : (places : List ℕ) → places ≡ [] → AreOnLevel 0 l items places
     by [] s = record { on_level = λ j k x e is. cc; below = λ j k e. cc; once = λ i j k e h. cc; all = λ k x less is lev. absurd (omega (arith, less)) }
     by (p ∷ ps) s = cc
 
-pub one_place_more : {V : Type 0} (f : V → List ℕ) (n level : ℕ) (items : List Item) (x : Item) (levels : List V) (v v' : V) → slice_get items n ≡ Some x → level ≡ level_of x.path → slice_get levels level ≡ Some v → f v' ≡ f v ++ n ∷ [] → AreByLevel n items (map f levels) →
+pub one_place_more : {V : Type 0} (f : V → List ℕ) (n level : ℕ) (items : List Item) (x : Item) (levels : List V) (v v' : V)
+    → slice_get items n ≡ Some x → level ≡ level_of x.path → slice_get levels level ≡ Some v → f v' ≡ f v ++ n ∷ []
+    → AreByLevel n items (map f levels) →
     AreByLevel (n + 1) items (map f (slice_set levels level v'))
 one_place_more f n level items x levels v v' at lev has more w l places e = by (mapped f (slice_set levels level v') l places e)
   where
@@ -226,7 +268,11 @@ one_place_more f n level items x levels v v' at lev has more w l places e = by (
       on_level = λ j k y e' is. case_level j k y is (get_more (f v) n j k e');
       below = λ j k e'. case_below j k (get_more (f v) n j k e');
       once = λ i j k e' h. case_once i j k (get_more (f v) n i k e') (get_more (f v) n j k h);
-      all = λ k y less is le. case_all k y is le (elim (eqb k n) as (λ b. eqb k n ≡ b → (k ≡ n) ⊎ (k < n)) [ true ↦ λ s. inl (same_number k n s) | false ↦ λ s. inr (smaller k less (other_number k n s)) ] refl);
+      all = λ k y less is le. case_all k y is le
+          (elim (eqb k n) as (λ b. eqb k n ≡ b → (k ≡ n) ⊎ (k < n)) [
+            | true ↦ λ s. inl (same_number k n s)
+            | false ↦ λ s. inr (smaller k less (other_number k n s))
+          ] refl);
     }
       where
         d : AreOnLevel n level items (f v)
@@ -246,21 +292,27 @@ one_place_more f n level items x levels v v' at lev has more w l places e = by (
         case_below j k (inl old) = let b = d.below j k old in omega (arith, b)
         case_below j k (inr new) = omega (arith, new.1)
 
-        case_once : (i j k : ℕ) → (slice_get (f v) i ≡ Some k) ⊎ ((i ≡ length (f v)) × (n ≡ k)) → (slice_get (f v) j ≡ Some k) ⊎ ((j ≡ length (f v)) × (n ≡ k)) → i ≡ j
+        case_once : (i j k : ℕ) → (slice_get (f v) i ≡ Some k) ⊎ ((i ≡ length (f v)) × (n ≡ k)) → (slice_get (f v) j ≡ Some k)
+            ⊎ ((j ≡ length (f v)) × (n ≡ k)) → i ≡ j
         case_once i j k (inl a) (inl b) = d.once i j k a b
         case_once i j k (inl a) (inr b) = absurd (let s = d.below i k a in omega (arith, s, b.1))
         case_once i j k (inr a) (inl b) = absurd (let s = d.below j k b in omega (arith, s, a.1))
         case_once i j k (inr a) (inr b) = a.0 ∙ sym b.0
 
-        case_all : (k : ℕ) (y : Item) → slice_get items k ≡ Some y → level_of y.path ≡ level → (k ≡ n) ⊎ (k < n) → IsAmong (length (f v ++ n ∷ [])) (f v ++ n ∷ []) k
-        case_all k y is le (inl s) = let e' = get_end (f v) n ∙ ap Some (sym s) in record { place = length (f v); at = e'; early = slice_get_within (f v ++ n ∷ []) (length (f v)) k e' }
-        case_all k y is le (inr less) = let a = d.all k y less is le in let e' = get_front (f v) n k a.place a.at in record { place = a.place; at = e'; early = slice_get_within (f v ++ n ∷ []) a.place k e' }
+        case_all : (k : ℕ) (y : Item) → slice_get items k ≡ Some y → level_of y.path ≡ level → (k ≡ n) ⊎ (k < n)
+            → IsAmong (length (f v ++ n ∷ [])) (f v ++ n ∷ []) k
+        case_all k y is le (inl s) = let e' = get_end (f v) n ∙ ap Some (sym s) in
+            record { place = length (f v); at = e'; early = slice_get_within (f v ++ n ∷ []) (length (f v)) k e' }
+        case_all k y is le (inr less) = let a = d.all k y less is le in let e' = get_front (f v) n k a.place a.at in
+            record { place = a.place; at = e'; early = slice_get_within (f v ++ n ∷ []) a.place k e' }
 
     by : Mapped f (slice_set levels level v') l places → AreOnLevel (n + 1) l items places
     by m = case (written levels level v' l m.it (slice_get_within levels level v has) m.is_it)
       where
         case : Written levels level v' l m.it → AreOnLevel (n + 1) l items places
-        case (written_here s same) = subst (AreOnLevel (n + 1) l items) (sym more ∙ ap f same ∙ m.same) (subst (λ z. AreOnLevel (n + 1) z items (f v ++ n ∷ [])) (sym s) here_more)
+        case (written_here s same) =
+            subst (AreOnLevel (n + 1) l items) (sym more ∙ ap f same ∙ m.same)
+            (subst (λ z. AreOnLevel (n + 1) z items (f v ++ n ∷ [])) (sym s) here_more)
         case (written_there off is_it) = record {
           on_level = d.on_level;
           below = λ j k e'. let b = d.below j k e' in omega (arith, b);
@@ -276,30 +328,42 @@ one_place_more f n level items x levels v v' at lev has more w l places e = by (
 
 -- lots of which one was written, with the same actor and the same part
 
-pub same_seats : {A P : Type 0} (lots now : List (Lot A P)) (i : ℕ) (lot new : Lot A P) → slice_get now i ≡ Some lot → new.actor ≡ lot.actor → new.part ≡ lot.part → SameSeats lots now → SameSeats lots (slice_set now i new)
+pub same_seats : {A P : Type 0} (lots now : List (Lot A P)) (i : ℕ) (lot new : Lot A P) → slice_get now i ≡ Some lot → new.actor ≡ lot.actor
+    → new.part ≡ lot.part → SameSeats lots now → SameSeats lots (slice_set now i new)
 same_seats lots now i lot new at actor part s = record {
   len = length_set now i new ∙ s.len;
   actor = map_set (λ l. l.actor) now i lot new at actor ∙ s.actor;
   part = map_set (λ l. l.part) now i lot new at part ∙ s.part;
 }
 
-pub all_empty : {A P : Type 0} (i : ℕ) (now : List (Lot A P)) (new : Lot A P) → i < length now → (new.places.items ≡ []) × (new.fates.items ≡ []) × (new.lost ≡ false) → ((j : ℕ) (lot : Lot A P) → j < i → slice_get now j ≡ Some lot → (lot.places.items ≡ []) × (lot.fates.items ≡ []) × (lot.lost ≡ false)) →
+pub all_empty : {A P : Type 0} (i : ℕ) (now : List (Lot A P)) (new : Lot A P) → i < length now → (new.places.items ≡ [])
+    × (new.fates.items ≡ []) × (new.lost ≡ false)
+    → ((j : ℕ) (lot : Lot A P) → j < i → slice_get now j ≡ Some lot → (lot.places.items ≡ []) × (lot.fates.items ≡ []) × (lot.lost ≡ false))
+    →
     (j : ℕ) (lot : Lot A P) → j < i + 1 → slice_get (slice_set now i new) j ≡ Some lot → (lot.places.items ≡ []) × (lot.fates.items ≡ []) × (lot.lost ≡ false)
 all_empty i now new l here_empty before j lot less e = by (written now i new j lot l e)
   where
     by : Written now i new j lot → (lot.places.items ≡ []) × (lot.fates.items ≡ []) × (lot.lost ≡ false)
     by (written_here s same) = subst (λ (z : Lot _ _). (z.places.items ≡ []) × (z.fates.items ≡ []) × (z.lost ≡ false)) same here_empty
-    by (written_there off is) = before j lot (elim (nat_lt j i) as (λ b. nat_lt j i ≡ b → j < i) [ true ↦ λ s. is_less j i s | false ↦ λ s. absurd (off (let q = not_less j i s in omega (arith, q, less))) ] refl) is
+    by (written_there off is) =
+        before j lot (elim (nat_lt j i) as
+        (λ b. nat_lt j i ≡ b → j < i) [
+          | true ↦ λ s. is_less j i s
+          | false ↦ λ s. absurd (off (let q = not_less j i s in omega (arith, q, less)))
+        ] refl) is
 
-pub all_fresh : {A P : Type 0} (i : ℕ) (now : List (Lot A P)) (lot new : Lot A P) → slice_get now i ≡ Some lot → new.fates ≡ lot.fates → new.lost ≡ lot.lost → ((j : ℕ) (l : Lot A P) → slice_get now j ≡ Some l → (l.fates.items ≡ []) × (l.lost ≡ false)) →
+pub all_fresh : {A P : Type 0} (i : ℕ) (now : List (Lot A P)) (lot new : Lot A P) → slice_get now i ≡ Some lot → new.fates ≡ lot.fates
+    → new.lost ≡ lot.lost → ((j : ℕ) (l : Lot A P) → slice_get now j ≡ Some l → (l.fates.items ≡ []) × (l.lost ≡ false)) →
     (j : ℕ) (l : Lot A P) → slice_get (slice_set now i new) j ≡ Some l → (l.fates.items ≡ []) × (l.lost ≡ false)
 all_fresh i now lot new at fates lost fresh j l e = by (written now i new j l (slice_get_within now i lot at) e)
   where
     by : Written now i new j l → (l.fates.items ≡ []) × (l.lost ≡ false)
-    by (written_here s same) = let f = fresh i lot at in subst (λ (z : Lot _ _). (z.fates.items ≡ []) × (z.lost ≡ false)) same (ap (λ v. v.items) fates ∙ f.0, lost ∙ f.1)
+    by (written_here s same) = let f = fresh i lot at in
+        subst (λ (z : Lot _ _). (z.fates.items ≡ []) × (z.lost ≡ false)) same (ap (λ v. v.items) fates ∙ f.0, lost ∙ f.1)
     by (written_there off is) = fresh j l is
 
-pub set_below : {V : Type 0} (items : List Item) (levels : List V) (i : ℕ) (v : V) → AllBelow (length levels) items → AllBelow (length (slice_set levels i v)) items
+pub set_below : {V : Type 0} (items : List Item) (levels : List V) (i : ℕ) (v : V) → AllBelow (length levels) items
+    → AllBelow (length (slice_set levels i v)) items
 set_below items levels i v w = subst (λ n. AllBelow n items) (sym (length_set levels i v)) w
 
 pub seats_on : {A P : Type 0} (lots now next : List (Lot A P)) → SameSeats lots now → SameSeats now next → SameSeats lots next
@@ -309,24 +373,34 @@ pub seats_here : {A P : Type 0} (lots : List (Lot A P)) → SameSeats lots lots
 seats_here lots = record { len = refl; actor = refl; part = refl }
 
 -- one place more is dealt
-module _ {A P : Type 0} (o : Order) (items : List Item) (fates : List Fate) (places : List ℕ) (lots next : List (Lot A P)) (n k : ℕ) (at : slice_get places n ≡ Some k) (unique : (a b c : ℕ) → slice_get places a ≡ Some c → slice_get places b ≡ Some c → a ≡ b) where
+module _ {A P : Type 0} (o : Order) (items : List Item) (fates : List Fate) (places : List ℕ) (lots next : List (Lot A P)) (n k : ℕ)
+    (at : slice_get places n ≡ Some k) (unique : (a b c : ℕ) → slice_get places a ≡ Some c → slice_get places b ≡ Some c → a ≡ b) where
   pub dealt_on : DealsOne o items fates k lots next → DealtTo n o items fates places lots → DealtTo (n + 1) o items fates places next
   dealt_on (left_out fails same) d = subst (DealtTo (n + 1) o items fates places) (sym same) (dealt_skip o items fates places lots n k at fails d)
-  dealt_on (dealt_to i lot new at' can more fates' lost same) d = subst (DealtTo (n + 1) o items fates places) (sym same) (dealt_more o items fates places lots n i k lot new at' more at unique d can)
+  dealt_on (dealt_to i lot new at' can more fates' lost same) d =
+      subst (DealtTo (n + 1) o items fates places) (sym same) (dealt_more o items fates places lots n i k lot new at' more at unique d can)
 
-  pub fresh_on : DealsOne o items fates k lots next → ((j : ℕ) (l : Lot A P) → slice_get lots j ≡ Some l → (l.fates.items ≡ []) × (l.lost ≡ false)) → (j : ℕ) (l : Lot A P) → slice_get next j ≡ Some l → (l.fates.items ≡ []) × (l.lost ≡ false)
+  pub fresh_on : DealsOne o items fates k lots next
+      → ((j : ℕ) (l : Lot A P) → slice_get lots j ≡ Some l → (l.fates.items ≡ []) × (l.lost ≡ false)) → (j : ℕ) (l : Lot A P)
+      → slice_get next j ≡ Some l → (l.fates.items ≡ []) × (l.lost ≡ false)
   fresh_on (left_out fails same) fresh j l e = fresh j l (ap (λ ls. slice_get ls j) (sym same) ∙ e)
-  fresh_on (dealt_to i lot new at' can more fates' lost same) fresh j l e = all_fresh i lots lot new at' fates' lost fresh j l (ap (λ ls. slice_get ls j) (sym same) ∙ e)
+  fresh_on (dealt_to i lot new at' can more fates' lost same) fresh j l e =
+      all_fresh i lots lot new at' fates' lost fresh j l (ap (λ ls. slice_get ls j) (sym same) ∙ e)
 
 -- the paths that failed say what is left out
-pub left_out_by : (o : Order) (items : List Item) (fates : List Fate) (paths : List (List ℕ)) (k : ℕ) (y : Item) → o ≡ order.TopDown → slice_get items k ≡ Some y → Knows o items fates paths → (has : Bool) → has ≡ has_path paths (parent_of y.path) → has ≡ true →
+pub left_out_by : (o : Order) (items : List Item) (fates : List Fate) (paths : List (List ℕ)) (k : ℕ) (y : Item) → o ≡ order.TopDown
+    → slice_get items k ≡ Some y → Knows o items fates paths → (has : Bool) → has ≡ has_path paths (parent_of y.path) → has ≡ true →
     (x : Item) → slice_get items k ≡ Some x → FailsWith o items fates x
-left_out_by order.TopDown items fates paths k y e at w has h on x at' = failed_parent items fates paths x w (ap (λ (z : Item). has_path paths (parent_of z.path)) (same_some x y (sym at' ∙ at)) ∙ sym h ∙ on)
+left_out_by order.TopDown items fates paths k y e at w has h on x at' =
+    failed_parent items fates paths x w (ap (λ (z : Item). has_path paths (parent_of z.path)) (same_some x y (sym at' ∙ at)) ∙ sym h ∙ on)
 left_out_by order.BottomUp items fates paths k y e at w has h on x at' = cc
 
-pub not_left_out : (o : Order) (items : List Item) (fates : List Fate) (paths : List (List ℕ)) (k : ℕ) (y : Item) → o ≡ order.TopDown → slice_get items k ≡ Some y → Knows o items fates paths → (has : Bool) → has ≡ has_path paths (parent_of y.path) → has ≡ false →
+pub not_left_out : (o : Order) (items : List Item) (fates : List Fate) (paths : List (List ℕ)) (k : ℕ) (y : Item) → o ≡ order.TopDown
+    → slice_get items k ≡ Some y → Knows o items fates paths → (has : Bool) → has ≡ has_path paths (parent_of y.path) → has ≡ false →
     (x : Item) → slice_get items k ≡ Some x → FailsWith o items fates x → ⊥
-not_left_out order.TopDown items fates paths k y e at w has h off x at' fails = no_failed_parent items fates paths x w (ap (λ (z : Item). has_path paths (parent_of z.path)) (same_some x y (sym at' ∙ at)) ∙ sym h ∙ off) fails
+not_left_out order.TopDown items fates paths k y e at w has h off x at' fails =
+    no_failed_parent items fates paths x w
+    (ap (λ (z : Item). has_path paths (parent_of z.path)) (same_some x y (sym at' ∙ at)) ∙ sym h ∙ off) fails
 not_left_out order.BottomUp items fates paths k y e at w has h off x at' fails = fails
 
 -- a level that is taken is one of the levels

@@ -20,10 +20,11 @@ get_here p files = get_at p files p ∙ ap (λ b. cond b (get files p) None) (it
 
 -- where the maps agree at and under the path
 pub same_at : (p : List ℕ) (a b : Files) → ((q : List ℕ) → is_within q p ≡ true → get b q ≡ get a q) → at_and_under p b ≡ at_and_under p a
-same_at p a b h = same_map path_cmp_total path_cmp_same (at_and_under p b) (at_and_under p a) (λ q. get_at p b q ∙ elim (is_within q p) as (λ c. is_within q p ≡ c → cond c (get b q) None ≡ cond c (get a q) None) [
-  | true ↦ h q
-  | false ↦ λ _. refl
-] refl ∙ sym (get_at p a q))
+same_at p a b h = same_map path_cmp_total path_cmp_same (at_and_under p b) (at_and_under p a)
+    (λ q. get_at p b q ∙ elim (is_within q p) as (λ c. is_within q p ≡ c → cond c (get b q) None ≡ cond c (get a q) None) [
+      | true ↦ h q
+      | false ↦ λ _. refl
+    ] refl ∙ sym (get_at p a q))
 
 -- a path that is not within another is not that one
 pub apart_is_other : (q p y : List ℕ) → is_within y p ≡ false → is_within q p ≡ true → pointwise nat_eq q y ≡ false

@@ -1,5 +1,6 @@
 -- Parts that are taken back, one after the other.
-use Rattle.std.proofs.Common.{◌≡◌, ◌⊎◌, inl, inr, ℕ, zero, suc, ◌+◌, ◌-◌, ◌^◌, ◌<◌, ◌≤◌, true, false, cond, ◌||◌, List, [], ◌∷◌, ◌++◌, length, map, take, drop, Option, Some, None, IfSome, refl, ap, ◌∙◌, sym, subst, arith, is_some, slice_get, eqb}
+use Rattle.std.proofs.Common.{◌≡◌, ◌⊎◌, inl, inr, ℕ, zero, suc, ◌+◌, ◌-◌, ◌^◌, ◌<◌, ◌≤◌, true, false, cond, ◌||◌, List, [], ◌∷◌, ◌++◌, length, map}
+use Rattle.std.proofs.Common.{take, drop, Option, Some, None, IfSome, refl, ap, ◌∙◌, sym, subst, arith, is_some, slice_get, eqb}
 use Rattle.std.proofs.lemmas.Bool.{false≢true}
 use Rattle.std.proofs.lemmas.Bool.Decides.{nat_tests}
 use Rattle.std.proofs.lemmas.Option.{slice_get_within}
@@ -66,71 +67,108 @@ get_set_other (y ∷ xs) (suc i) zero x n = refl
 get_set_other (y ∷ xs) (suc i) (suc j) x n = get_set_other xs i j x (λ e. n (ap suc e))
 
 module _ {A P : Type 0} (tree : P → Option Files) (area : P → Area) (count : P → ℕ) where
-  out_first : (lots : List (Lot A P)) (i : ℕ) (lot : Lot A P) (p : P) (a : Area) → slice_get lots i ≡ Some lot → lot.part ≡ Some p → part_area area lot.part ≡ under (tops_of (part_area area lot.part)) → a ≡ all_but (tops_out (part_area area) (drop i lots)) →
+  out_first : (lots : List (Lot A P)) (i : ℕ) (lot : Lot A P) (p : P) (a : Area) → slice_get lots i ≡ Some lot → lot.part ≡ Some p
+      → part_area area lot.part ≡ under (tops_of (part_area area lot.part)) → a ≡ all_but (tops_out (part_area area) (drop i lots)) →
       (area p ≡ under (tops_of (area p))) × (a ≡ all_but (tops_of (area p) ∷ tops_out (part_area area) (drop (i + 1) lots)))
   out_first lots i lot p a at is own e =
-      let u : area p ≡ under (tops_of (area p)) = subst (λ o. part_area area o ≡ under (tops_of (part_area area o))) is own in
-      (u, e ∙ ap (λ l. all_but (tops_out (part_area area) l)) (split_drop lots i lot at) ∙ ap (λ o. all_but (tops_in (part_area area o) ++ tops_out (part_area area) (drop (i + 1) lots))) is ∙ ap (λ x. all_but (tops_in x ++ tops_out (part_area area) (drop (i + 1) lots))) u)
+      let u : area p ≡ under (tops_of (area p)) = subst (λ o. part_area area o ≡ under (tops_of (part_area area o))) is own in (
+        u,
+        e ∙ ap (λ l. all_but (tops_out (part_area area) l)) (split_drop lots i lot at)
+            ∙ ap (λ o. all_but (tops_in (part_area area o) ++ tops_out (part_area area) (drop (i + 1) lots))) is
+            ∙ ap (λ x. all_but (tops_in x ++ tops_out (part_area area) (drop (i + 1) lots))) u,
+      )
 
-  pub is_out_now : (lots : List (Lot A P)) (i : ℕ) (lot : Lot A P) (p : P) (a : Area) → slice_get lots i ≡ Some lot → lot.part ≡ Some p → part_area area lot.part ≡ under (tops_of (part_area area lot.part)) → a ≡ all_but (tops_out (part_area area) (drop i lots)) → IsTrue (is_out (area p) a)
+  pub is_out_now : (lots : List (Lot A P)) (i : ℕ) (lot : Lot A P) (p : P) (a : Area) → slice_get lots i ≡ Some lot → lot.part ≡ Some p
+      → part_area area lot.part ≡ under (tops_of (part_area area lot.part)) → a ≡ all_but (tops_out (part_area area) (drop i lots))
+      → IsTrue (is_out (area p) a)
   is_out_now lots i lot p a at is own e = let w = out_first lots i lot p a at is own e in
-      (λ k. is_out (w.0 k) (w.1 k)) ∙ ap (λ b. b || list_any (λ one. same_tops one (tops_of (area p))) (tops_out (part_area area) (drop (i + 1) lots))) (same_tops_self (tops_of (area p)))
+      (λ k. is_out (w.0 k) (w.1 k))
+      ∙ ap (λ b. b || list_any (λ one. same_tops one (tops_of (area p))) (tops_out (part_area area) (drop (i + 1) lots)))
+      (same_tops_self (tops_of (area p)))
 
-  pub area_next : (lots : List (Lot A P)) (i : ℕ) (lot : Lot A P) (p : P) (a a' : Area) → slice_get lots i ≡ Some lot → lot.part ≡ Some p → part_area area lot.part ≡ under (tops_of (part_area area lot.part)) → a ≡ all_but (tops_out (part_area area) (drop i lots)) →
+  pub area_next : (lots : List (Lot A P)) (i : ℕ) (lot : Lot A P) (p : P) (a a' : Area) → slice_get lots i ≡ Some lot → lot.part ≡ Some p
+      → part_area area lot.part ≡ under (tops_of (part_area area lot.part)) → a ≡ all_but (tops_out (part_area area) (drop i lots)) →
       a' ≡ area_with (tops_of (area p)) a → a' ≡ all_but (tops_out (part_area area) (drop (i + 1) lots))
   area_next lots i lot p a a' at is own e s = let w = out_first lots i lot p a at is own e in
-      s ∙ ap (area_with (tops_of (area p))) w.1 ∙ ap (λ b. all_but (cond b (tops_out (part_area area) (drop (i + 1) lots)) (tops_of (area p) ∷ without_tops (tops_of (area p)) (tops_out (part_area area) (drop (i + 1) lots))))) (same_tops_self (tops_of (area p)))
+      s ∙ ap (area_with (tops_of (area p))) w.1
+      ∙ ap (λ b. all_but (cond b (tops_out (part_area area) (drop (i + 1) lots))
+      (tops_of (area p) ∷ without_tops (tops_of (area p)) (tops_out (part_area area) (drop (i + 1) lots)))))
+      (same_tops_self (tops_of (area p)))
 
-  pub area_skip : (lots : List (Lot A P)) (i : ℕ) (lot : Lot A P) (a : Area) → slice_get lots i ≡ Some lot → lot.part ≡ None → a ≡ all_but (tops_out (part_area area) (drop i lots)) → a ≡ all_but (tops_out (part_area area) (drop (i + 1) lots))
-  area_skip lots i lot a at is e = e ∙ ap (λ l. all_but (tops_out (part_area area) l)) (split_drop lots i lot at) ∙ ap (λ o. all_but (tops_in (part_area area o) ++ tops_out (part_area area) (drop (i + 1) lots))) is
+  pub area_skip : (lots : List (Lot A P)) (i : ℕ) (lot : Lot A P) (a : Area) → slice_get lots i ≡ Some lot → lot.part ≡ None
+      → a ≡ all_but (tops_out (part_area area) (drop i lots)) → a ≡ all_but (tops_out (part_area area) (drop (i + 1) lots))
+  area_skip lots i lot a at is e = e ∙ ap (λ l. all_but (tops_out (part_area area) l)) (split_drop lots i lot at)
+      ∙ ap (λ o. all_but (tops_in (part_area area o) ++ tops_out (part_area area) (drop (i + 1) lots))) is
 
-  none_more : (done : List (Lot A P)) (lot : Lot A P) (q : List ℕ) → InNone (part_area area) done q → in_tops (tops_of (part_area area lot.part)) q ≡ false → InNone (part_area area) (done ++ lot ∷ []) q
+  none_more : (done : List (Lot A P)) (lot : Lot A P) (q : List ℕ) → InNone (part_area area) done q
+      → in_tops (tops_of (part_area area lot.part)) q ≡ false → InNone (part_area area) (done ++ lot ∷ []) q
   none_more done lot q n off i one at = by (get_more done lot i one at)
     where
       by : (slice_get done i ≡ Some one) ⊎ ((i ≡ length done) × (lot ≡ one)) → in_tops (tops_of (part_area area one.part)) q ≡ false
       by (inl old) = n i one old
       by (inr new) = subst (λ (l : Lot A P). in_tops (tops_of (part_area area l.part)) q ≡ false) new.1 off
 
-  back_more : (done : List (Lot A P)) (lot : Lot A P) (p : P) (own rest now next : Files) → lot.part ≡ Some p → tree p ≡ Some own → Joins (tops_of (area p)) own now next → AllBack (part_tree tree) (part_area area) done rest now → AllBack (part_tree tree) (part_area area) (done ++ lot ∷ []) rest next
-  back_more done lot p own rest now next is tells j all q = elim (in_tops (tops_of (area p)) q) as (λ b. in_tops (tops_of (area p)) q ≡ b → Comes (part_tree tree) (part_area area) (done ++ lot ∷ []) rest next q) [
-    | true ↦ λ on. comes (length done) lot own (get_end done lot) (ap (part_tree tree) is ∙ tells) (ap (λ o. in_tops (tops_of (part_area area o)) q) is ∙ on) (j q ∙ ap (λ b. cond b (get own q) (get now q)) on)
-    | false ↦ λ off. by (j q ∙ ap (λ b. cond b (get own q) (get now q)) off) (ap (λ o. in_tops (tops_of (part_area area o)) q) is ∙ off) (all q)
-  ] refl
+  back_more : (done : List (Lot A P)) (lot : Lot A P) (p : P) (own rest now next : Files) → lot.part ≡ Some p → tree p ≡ Some own
+      → Joins (tops_of (area p)) own now next → AllBack (part_tree tree) (part_area area) done rest now
+      → AllBack (part_tree tree) (part_area area) (done ++ lot ∷ []) rest next
+  back_more done lot p own rest now next is tells j all q =
+      elim (in_tops (tops_of (area p)) q) as
+      (λ b. in_tops (tops_of (area p)) q ≡ b → Comes (part_tree tree) (part_area area) (done ++ lot ∷ []) rest next q) [
+        | true ↦ λ on. comes (length done) lot own (get_end done lot) (ap (part_tree tree) is ∙ tells)
+            (ap (λ o. in_tops (tops_of (part_area area o)) q) is ∙ on) (j q ∙ ap (λ b. cond b (get own q) (get now q)) on)
+        | false ↦ λ off. by (j q ∙ ap (λ b. cond b (get own q) (get now q)) off) (ap (λ o. in_tops (tops_of (part_area area o)) q) is ∙ off) (all q)
+      ] refl
     where
-      by : get next q ≡ get now q → in_tops (tops_of (part_area area lot.part)) q ≡ false → Comes (part_tree tree) (part_area area) done rest now q → Comes (part_tree tree) (part_area area) (done ++ lot ∷ []) rest next q
+      by : get next q ≡ get now q → in_tops (tops_of (part_area area lot.part)) q ≡ false
+          → Comes (part_tree tree) (part_area area) done rest now q → Comes (part_tree tree) (part_area area) (done ++ lot ∷ []) rest next q
       by same off (stays none e) = stays (none_more done lot q none off) (same ∙ e)
       by same off (comes i one his at shows on e) = comes i one his (get_front done lot one i at) shows on (same ∙ e)
 
-  pub told_next : (lots : List (Lot A P)) (i : ℕ) (lot : Lot A P) (p : P) (t0 t t' : Option Files) → slice_get lots i ≡ Some lot → lot.part ≡ Some p → is_some (tree p) ≡ is_some t → IfSome t0 (λ r. IfSome t (AllBack (part_tree tree) (part_area area) (take i lots) r)) → is_some t ≡ is_some t0 →
-      IfSome t (λ rest. IfSome (tree p) (λ own. IfSome t' (Joins (tops_of (area p)) own rest))) → IfSome t0 (λ r. IfSome t' (AllBack (part_tree tree) (part_area area) (take (i + 1) lots) r))
+  pub told_next : (lots : List (Lot A P)) (i : ℕ) (lot : Lot A P) (p : P) (t0 t t' : Option Files) → slice_get lots i ≡ Some lot
+      → lot.part ≡ Some p → is_some (tree p) ≡ is_some t
+      → IfSome t0 (λ r. IfSome t (AllBack (part_tree tree) (part_area area) (take i lots) r)) → is_some t ≡ is_some t0 →
+      IfSome t (λ rest. IfSome (tree p) (λ own. IfSome t' (Joins (tops_of (area p)) own rest)))
+      → IfSome t0 (λ r. IfSome t' (AllBack (part_tree tree) (part_area area) (take (i + 1) lots) r))
   told_next lots i lot p None t t' at is tp all same j = tt
   told_next lots i lot p (Some r) None t' at is tp all same j = absurd (false≢true same)
   told_next lots i lot p (Some r) (Some now) None at is tp all same j = tt
   told_next lots i lot p (Some r) (Some now) (Some next) at is tp all same j = by (tree p) refl tp j
     where
-      by : (o : Option Files) → tree p ≡ o → is_some o ≡ true → IfSome o (λ own. Joins (tops_of (area p)) own now next) → AllBack (part_tree tree) (part_area area) (take (i + 1) lots) r next
+      by : (o : Option Files) → tree p ≡ o → is_some o ≡ true → IfSome o (λ own. Joins (tops_of (area p)) own now next)
+          → AllBack (part_tree tree) (part_area area) (take (i + 1) lots) r next
       by None e s j = absurd (false≢true s)
-      by (Some own) e s j = subst (λ l. AllBack (part_tree tree) (part_area area) l r next) (sym (split_take lots i lot at)) (back_more (take i lots) lot p own r now next is e j all)
+      by (Some own) e s j = subst (λ l. AllBack (part_tree tree) (part_area area) l r next) (sym (split_take lots i lot at))
+          (back_more (take i lots) lot p own r now next is e j all)
 
-  skip_more : (done : List (Lot A P)) (lot : Lot A P) (rest now : Files) → lot.part ≡ None → AllBack (part_tree tree) (part_area area) done rest now → AllBack (part_tree tree) (part_area area) (done ++ lot ∷ []) rest now
+  skip_more : (done : List (Lot A P)) (lot : Lot A P) (rest now : Files) → lot.part ≡ None
+      → AllBack (part_tree tree) (part_area area) done rest now → AllBack (part_tree tree) (part_area area) (done ++ lot ∷ []) rest now
   skip_more done lot rest now is all q = by (all q)
     where
       by : Comes (part_tree tree) (part_area area) done rest now q → Comes (part_tree tree) (part_area area) (done ++ lot ∷ []) rest now q
       by (stays none e) = stays (none_more done lot q none (ap (λ o. in_tops (tops_of (part_area area o)) q) is)) e
       by (comes i one his at shows on e) = comes i one his (get_front done lot one i at) shows on e
 
-  pub told_skip : (lots : List (Lot A P)) (i : ℕ) (lot : Lot A P) (t0 t t' : Option Files) → slice_get lots i ≡ Some lot → lot.part ≡ None → t' ≡ t → IfSome t0 (λ r. IfSome t (AllBack (part_tree tree) (part_area area) (take i lots) r)) → IfSome t0 (λ r. IfSome t' (AllBack (part_tree tree) (part_area area) (take (i + 1) lots) r))
+  pub told_skip : (lots : List (Lot A P)) (i : ℕ) (lot : Lot A P) (t0 t t' : Option Files) → slice_get lots i ≡ Some lot → lot.part ≡ None
+      → t' ≡ t → IfSome t0 (λ r. IfSome t (AllBack (part_tree tree) (part_area area) (take i lots) r))
+      → IfSome t0 (λ r. IfSome t' (AllBack (part_tree tree) (part_area area) (take (i + 1) lots) r))
   told_skip lots i lot None t t' at is s all = tt
   told_skip lots i lot (Some r) t t' at is s all = subst (λ o. IfSome o (AllBack (part_tree tree) (part_area area) (take (i + 1) lots) r)) (sym s) (by t all)
     where
-      by : (t : Option Files) → IfSome t (AllBack (part_tree tree) (part_area area) (take i lots) r) → IfSome t (AllBack (part_tree tree) (part_area area) (take (i + 1) lots) r)
+      by : (t : Option Files) → IfSome t (AllBack (part_tree tree) (part_area area) (take i lots) r)
+          → IfSome t (AllBack (part_tree tree) (part_area area) (take (i + 1) lots) r)
       by None all = tt
-      by (Some now) all = subst (λ l. AllBack (part_tree tree) (part_area area) l r now) (sym (split_take lots i lot at)) (skip_more (take i lots) lot r now is all)
+      by (Some now) all = subst (λ l. AllBack (part_tree tree) (part_area area) l r now) (sym (split_take lots i lot at))
+          (skip_more (take i lots) lot r now is all)
 
-  pub sum_next : (lots : List (Lot A P)) (i : ℕ) (lot : Lot A P) → slice_get lots i ≡ Some lot → sum_by (λ l. part_count count l.part) (take (i + 1) lots) ≡ sum_by (λ l. part_count count l.part) (take i lots) + part_count count lot.part
-  sum_next lots i lot at = ap (sum_by (λ l. part_count count l.part)) (split_take lots i lot at) ∙ sum_by-append (λ l. part_count count l.part) (take i lots) (lot ∷ []) ∙ ap (λ k. sum_by (λ l. part_count count l.part) (take i lots) + k) (omega arith)
+  pub sum_next : (lots : List (Lot A P)) (i : ℕ) (lot : Lot A P) → slice_get lots i ≡ Some lot
+      → sum_by (λ l. part_count count l.part) (take (i + 1) lots)
+      ≡ sum_by (λ l. part_count count l.part) (take i lots) + part_count count lot.part
+  sum_next lots i lot at = ap (sum_by (λ l. part_count count l.part)) (split_take lots i lot at)
+      ∙ sum_by-append (λ l. part_count count l.part) (take i lots) (lot ∷ [])
+      ∙ ap (λ k. sum_by (λ l. part_count count l.part) (take i lots) + k) (omega arith)
 
-pub start : {A P : Type 0} (tree : Option P → Option Files) (area : Option P → Area) (count : Option P → ℕ) (lots : List (Lot A P)) (a : Area) (t : Option Files) (g : ℕ) → a ≡ all_but (tops_out area lots) → Giving tree area count 0 lots lots a t t g g
+pub start : {A P : Type 0} (tree : Option P → Option Files) (area : Option P → Area) (count : Option P → ℕ) (lots : List (Lot A P))
+    (a : Area) (t : Option Files) (g : ℕ) → a ≡ all_but (tops_out area lots) → Giving tree area count 0 lots lots a t t g g
 start tree area count lots a t g e = record {
   len = refl;
   shares = record { actor = refl; places = refl; fates = refl; lost = refl };
@@ -159,12 +197,14 @@ map_set f (z ∷ xs) zero x y at e = ap (λ v. v ∷ map f xs) (e ∙ ap f (sym 
 map_set f (z ∷ xs) (suc i) x y at e = ap (λ r. f z ∷ r) (map_set f xs i x y at e)
 
 module _ {A P : Type 0} (tree : P → Option Files) (area : P → Area) (count : P → ℕ) where
-  pub step : (i : ℕ) (lots now : List (Lot A P)) (lot new : Lot A P) (a a' : Area) (t0 t t' : Option Files) (g0 g g' : ℕ) → slice_get now i ≡ Some lot → new ≡ record lot { part = None } → AreUnder (part_area area) lots → AllTell (part_tree tree) t0 lots →
+  pub step : (i : ℕ) (lots now : List (Lot A P)) (lot new : Lot A P) (a a' : Area) (t0 t t' : Option Files) (g0 g g' : ℕ)
+      → slice_get now i ≡ Some lot → new ≡ record lot { part = None } → AreUnder (part_area area) lots → AllTell (part_tree tree) t0 lots →
       (lot.part ≡ None → (t' ≡ t) × (a' ≡ a) × (g' ≡ g)) →
       ((p : P) → lot.part ≡ Some p → IfSome t (λ rest. IfSome (tree p) (λ own. IfSome t' (Joins (tops_of (area p)) own rest)))) →
       ((p : P) → lot.part ≡ Some p → a' ≡ area_with (tops_of (area p)) a) →
       ((p : P) → lot.part ≡ Some p → g' ≡ capped g (count p)) → g ≤ g' → is_some t' ≡ is_some t →
-      Giving (part_tree tree) (part_area area) (part_count count) i lots now a t0 t g0 g → Giving (part_tree tree) (part_area area) (part_count count) (i + 1) lots (slice_set now i new) a' t0 t' g0 g'
+      Giving (part_tree tree) (part_area area) (part_count count) i lots now a t0 t g0 g
+      → Giving (part_tree tree) (part_area area) (part_count count) (i + 1) lots (slice_set now i new) a' t0 t' g0 g'
   step i lots now lot new a a' t0 t t' g0 g g' here is unders tell none joins areas counts up tells v = by lot.part refl
     where
       at : slice_get lots i ≡ Some lot
@@ -183,7 +223,9 @@ module _ {A P : Type 0} (tree : P → Option Files) (area : P → Area) (count :
 
       home : (j : ℕ) (one : Lot A P) → j < i + 1 → slice_get (slice_set now i new) j ≡ Some one → one.part ≡ None
       home j one l e = elim (eqb j i) as (λ b. eqb j i ≡ b → one.part ≡ None) [
-        | true ↦ λ h. ap (λ (l : Lot A P). l.part) (sym (same_some new one (sym (get_set_same now i new inside) ∙ subst (λ k. slice_get (slice_set now i new) k ≡ Some one) (same j i h) e)) ∙ is)
+        | true ↦ λ h. ap (λ (l : Lot A P). l.part)
+            (sym (same_some new one (sym (get_set_same now i new inside)
+            ∙ subst (λ k. slice_get (slice_set now i new) k ≡ Some one) (same j i h) e)) ∙ is)
         | false ↦ λ h. v.home j one (before j i l h) (sym (get_set_other now i j new (other j i h)) ∙ e)
       ] refl
         where
@@ -199,7 +241,9 @@ module _ {A P : Type 0} (tree : P → Option Files) (area : P → Area) (count :
       rest : (j : ℕ) → i + 1 ≤ j → slice_get (slice_set now i new) j ≡ slice_get lots j
       rest j l = get_set_other now i j new (λ e. absurd (omega (arith, e, l))) ∙ v.rest j (omega (arith, l))
 
-      below_more : (k : ℕ) → part_count count lot.part < k → ((j : ℕ) (one : Lot A P) → slice_get (take i lots) j ≡ Some one → part_count count one.part < k) → (j : ℕ) (one : Lot A P) → slice_get (take (i + 1) lots) j ≡ Some one → part_count count one.part < k
+      below_more : (k : ℕ) → part_count count lot.part < k
+          → ((j : ℕ) (one : Lot A P) → slice_get (take i lots) j ≡ Some one → part_count count one.part < k) → (j : ℕ) (one : Lot A P)
+          → slice_get (take (i + 1) lots) j ≡ Some one → part_count count one.part < k
       below_more k l all j one e = case (get_more (take i lots) lot j one (subst (λ xs. slice_get xs j ≡ Some one) (split_take lots i lot at) e))
         where
           case : (slice_get (take i lots) j ≡ Some one) ⊎ ((j ≡ length (take i lots)) × (lot ≡ one)) → part_count count one.part < k
@@ -226,7 +270,8 @@ module _ {A P : Type 0} (tree : P → Option Files) (area : P → Area) (count :
         rest = rest;
         at = area_next tree area count lots i lot p a a' at e (unders i lot p at e) v.at (areas p e);
         tells = tells ∙ v.tells;
-        told = told_next tree area count lots i lot p t0 t t' at e (ap (λ o. is_some (part_tree tree o)) (sym e) ∙ tell i lot p at e ∙ sym v.tells) v.told v.tells (joins p e);
+        told = told_next tree area count lots i lot p t0 t t' at e
+            (ap (λ o. is_some (part_tree tree o)) (sym e) ∙ tell i lot p at e ∙ sym v.tells) v.told v.tells (joins p e);
         kept = omega (arith, up, v.kept);
         counts = λ l. omega (arith, v.counts (omega (arith, l, up)), l, counts p e, sum_next tree area count lots i lot at, ap (part_count count) e);
         below = λ l. below_more (2 ^ 64 - 1) (omega (arith, l, counts p e, ap (part_count count) e)) (v.below (omega (arith, l, up)));

@@ -1,5 +1,6 @@
 -- Actors that become lots.
-use Rattle.std.proofs.Common.{◌≡◌, ◌⊎◌, inl, inr, ℕ, List, [], ◌∷◌, ◌++◌, map, length, take, drop, append-nil, append_assoc, arith, Some, None, ap, ◌∙◌, sym, subst, slice_get}
+use Rattle.std.proofs.Common.{◌≡◌, ◌⊎◌, inl, inr, ℕ, List, [], ◌∷◌, ◌++◌, map, length, take, drop, append-nil, append_assoc, arith, Some, None, ap}
+use Rattle.std.proofs.Common.{◌∙◌, sym, subst, slice_get}
 use Rattle.std.specs.Prelude.{Result, Ok, Err, IfOk}
 use Rattle.std.proofs.lemmas.List.{map_push, nil_from_length, length-drop, take_all}
 use Rattle.level_work.specs.Private.Crews.{AtHome}
@@ -7,7 +8,8 @@ use Rattle.level_work.specs.declared.lots.Lot.{Lot}
 use Rattle.level_work.proofs.Working.{get_more}
 
 -- a list of which the first are taken, with one more
-pub rest_more : {X Y : Type 0} (f : X → Y) (all : List Y) (xs xs' : List X) (x : X) (y : Y) (rest rest' : List Y) → rest ≡ y ∷ rest' → f x ≡ y → xs' ≡ xs ++ x ∷ [] → all ≡ map f xs ++ rest → all ≡ map f xs' ++ rest'
+pub rest_more : {X Y : Type 0} (f : X → Y) (all : List Y) (xs xs' : List X) (x : X) (y : Y) (rest rest' : List Y) → rest ≡ y ∷ rest'
+    → f x ≡ y → xs' ≡ xs ++ x ∷ [] → all ≡ map f xs ++ rest → all ≡ map f xs' ++ rest'
 rest_more f all xs xs' x y rest rest' next is new old =
     old ∙ ap (λ ys. map f xs ++ ys) next ∙ sym (append_assoc (map f xs) (y ∷ []) rest')
     ∙ ap (λ ys. ys ++ rest') (ap (λ z. map f xs ++ z ∷ []) (sym is) ∙ sym (map_push f xs x) ∙ ap (map f) (sym new))

@@ -13,7 +13,8 @@ module _ {A P : Type 0} (tree : P → Option Files) (area : P → Area) (count :
 
   pub none_counted : (lots : List (Lot A P)) → AtHome lots → map (λ lot. part_count count lot.part) lots ≡ map (λ _. 0) lots
   none_counted [] h = refl
-  none_counted (lot ∷ lots) h = ap (λ o. part_count count o ∷ map (λ lot. part_count count lot.part) lots) (h 0 lot refl) ∙ ap (λ r. 0 ∷ r) (none_counted lots (λ i one at. h (suc i) one at))
+  none_counted (lot ∷ lots) h = ap (λ o. part_count count o ∷ map (λ lot. part_count count lot.part) lots) (h 0 lot refl)
+      ∙ ap (λ r. 0 ∷ r) (none_counted lots (λ i one at. h (suc i) one at))
 
   pub all_left : (lots : List (Lot A P)) (t : Option Files) → AtHome lots → IfSome t (λ before. IfSome t (AreOut (part_tree tree) (part_area area) lots before))
   all_left lots None h = tt

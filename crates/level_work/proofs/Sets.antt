@@ -18,10 +18,16 @@ turn q p = by (pointwise nat_eq q p) (pointwise nat_eq p q) refl refl
 
 pub is_there : (paths : List (List ℕ)) (q : List ℕ) → list_any (λ p. is_eq (path_cmp q p)) paths ≡ has_path paths q
 is_there [] q = refl
-is_there (p ∷ paths) q = ap (λ b. b || list_any (λ p. is_eq (path_cmp q p)) paths) (sym (path_cmp_ties q p)) ∙ ap (λ b. pointwise nat_eq q p || b) (is_there paths q)
+is_there (p ∷ paths) q = ap (λ b. b || list_any (λ p. is_eq (path_cmp q p)) paths) (sym (path_cmp_ties q p))
+    ∙ ap (λ b. pointwise nat_eq q p || b) (is_there paths q)
 
-pub is_added : (old new : List (List ℕ)) (path : List ℕ) → ((q : List ℕ) → list_any (λ p. is_eq (path_cmp q p)) new ≡ cond (is_eq (path_cmp path q)) true (list_any (λ p. is_eq (path_cmp q p)) old)) → (q : List ℕ) → has_path new q ≡ (pointwise nat_eq q path || has_path old q)
-is_added old new path h q = sym (is_there new q) ∙ h q ∙ ap (λ b. cond b true (list_any (λ p. is_eq (path_cmp q p)) old)) (sym (path_cmp_ties path q) ∙ turn path q) ∙ either (pointwise nat_eq q path) ∙ ap (λ b. pointwise nat_eq q path || b) (is_there old q)
+pub is_added : (old new : List (List ℕ)) (path : List ℕ)
+    → ((q : List ℕ) → list_any (λ p. is_eq (path_cmp q p)) new
+    ≡ cond (is_eq (path_cmp path q)) true (list_any (λ p. is_eq (path_cmp q p)) old)) → (q : List ℕ)
+    → has_path new q ≡ (pointwise nat_eq q path || has_path old q)
+is_added old new path h q = sym (is_there new q) ∙ h q
+    ∙ ap (λ b. cond b true (list_any (λ p. is_eq (path_cmp q p)) old)) (sym (path_cmp_ties path q) ∙ turn path q)
+    ∙ either (pointwise nat_eq q path) ∙ ap (λ b. pointwise nat_eq q path || b) (is_there old q)
   where
     either : (b : Bool) → cond b true (list_any (λ p. is_eq (path_cmp q p)) old) ≡ (b || list_any (λ p. is_eq (path_cmp q p)) old)
     either true = refl

@@ -1,5 +1,6 @@
 -- The work on a share, item by item.
-use Rattle.std.proofs.Common.{◌≡◌, ◌≢◌, ◌⊎◌, inl, inr, ℕ, zero, suc, ◌+◌, ◌<◌, ◌≤◌, true, false, cond, List, [], ◌∷◌, ◌++◌, length, Option, Some, None, IfSome, Ok, refl, ap, ◌∙◌, sym, subst, arith, length-append, is_some, slice_get}
+use Rattle.std.proofs.Common.{◌≡◌, ◌≢◌, ◌⊎◌, inl, inr, ℕ, zero, suc, ◌+◌, ◌<◌, ◌≤◌, true, false, cond, List, [], ◌∷◌, ◌++◌, length, Option, Some}
+use Rattle.std.proofs.Common.{None, IfSome, Ok, refl, ap, ◌∙◌, sym, subst, arith, length-append, is_some, slice_get}
 use Rattle.std.proofs.lemmas.Bool.{false≢true}
 use Rattle.std.proofs.lemmas.Option.{slice_get_within}
 use Rattle.std.proofs.lemmas.List.Sums.{sum_by-append}
@@ -24,7 +25,8 @@ pub same_some : {X : Type 0} (x y : X) → Some x ≡ Some y → x ≡ y
 unfolding held
 same_some x y e = ap (held x) e
 
-pub get_more : {X : Type 0} (xs : List X) (y : X) (j : ℕ) (f : X) → slice_get (xs ++ y ∷ []) j ≡ Some f → (slice_get xs j ≡ Some f) ⊎ ((j ≡ length xs) × (y ≡ f))
+pub get_more : {X : Type 0} (xs : List X) (y : X) (j : ℕ) (f : X) → slice_get (xs ++ y ∷ []) j ≡ Some f → (slice_get xs j ≡ Some f)
+    ⊎ ((j ≡ length xs) × (y ≡ f))
 get_more [] y zero f e = inr (refl, same_some y f e)
 get_more [] y (suc j) f e = cc
 get_more (x ∷ xs) y zero f e = inl e
@@ -39,7 +41,8 @@ some_at [] k l = absurd (omega arith)
 some_at (x ∷ xs) zero l = (x, refl)
 some_at (x ∷ xs) (suc k) l = some_at xs k (omega arith)
 
-pub item_at : (items : List Item) (places : List ℕ) (j : ℕ) → j < length places → ((j k : ℕ) → slice_get places j ≡ Some k → k < length items) → (x : Item) × IsAt items places j x
+pub item_at : (items : List Item) (places : List ℕ) (j : ℕ) → j < length places
+    → ((j k : ℕ) → slice_get places j ≡ Some k → k < length items) → (x : Item) × IsAt items places j x
 item_at items places j l inside =
     let p = some_at places j l in
     let i = some_at items p.0 (inside j p.0 p.1) in
@@ -51,23 +54,30 @@ same_item items places j x y a b =
     same_some x y (sym a.is ∙ ap (slice_get items) same ∙ b.is)
 
 -- one item more, over a map that is told
-worked_more : (deed : Deed) (items : List Item) (places : List ℕ) (fates : List Fate) (f : Fate) (x : Item) (a b c : Files) → AreApart items places → IsAt items places (length fates) x →
+worked_more : (deed : Deed) (items : List Item) (places : List ℕ) (fates : List Fate) (f : Fate) (x : Item) (a b c : Files)
+    → AreApart items places → IsAt items places (length fates) x →
     WorkedOn deed items places fates a b → IsDone deed x.path x.entry (Ok f) b c → WorkedOn deed items places (fates ++ f ∷ []) a c
 worked_more deed items places fates f x a b c apart here w d = record {
-  others = λ q off. d.others q (off (length fates) x (omega (arith, length-append fates (f ∷ []))) here) ∙ w.others q (λ j y l is. off j y (omega (arith, l, length-append fates (f ∷ []))) is);
+  others = λ q off. d.others q (off (length fates) x (omega (arith, length-append fates (f ∷ []))) here)
+      ∙ w.others q (λ j y l is. off j y (omega (arith, l, length-append fates (f ∷ []))) is);
   each = λ j y g is at. step j y g is (get_more fates f j g at);
 }
   where
-    step : (j : ℕ) (y : Item) (g : Fate) → IsAt items places j y → (slice_get fates j ≡ Some g) ⊎ ((j ≡ length fates) × (f ≡ g)) → deed y.path y.entry g (at_and_under y.path a) (at_and_under y.path c)
+    step : (j : ℕ) (y : Item) (g : Fate) → IsAt items places j y → (slice_get fates j ≡ Some g) ⊎ ((j ≡ length fates) × (f ≡ g))
+        → deed y.path y.entry g (at_and_under y.path a) (at_and_under y.path c)
     step j y g is (inl old) =
         let l : j < length fates = slice_get_within fates j g old in
         let off : is_within x.path y.path ≡ false = apart (length fates) j x y (λ e. omega (arith, e, l)) here is in
         subst (deed y.path y.entry g (at_and_under y.path a)) (sym (one_elsewhere y.path x.path b c off d.others)) (w.each j y g is old)
     step j y g is (inr new) =
         let same : x ≡ y = same_item items places (length fates) x y here (subst (λ k. IsAt items places k y) new.0 is) in
-        let under : at_and_under x.path b ≡ at_and_under x.path a = same_at x.path a b (λ q on. w.others q (λ k z l at. apart_is_other q x.path z.path (apart k (length fates) z x (λ e. omega (arith, e, l)) at here) on)) in
-        let now : deed x.path x.entry f (at_and_under x.path a) (at_and_under x.path c) = subst (λ m. deed x.path x.entry f m (at_and_under x.path c)) under d.answers in
-        subst (λ g. deed y.path y.entry g (at_and_under y.path a) (at_and_under y.path c)) new.1 (subst (λ (y : Item). deed y.path y.entry f (at_and_under y.path a) (at_and_under y.path c)) same now)
+        let under : at_and_under x.path b ≡ at_and_under x.path a =
+        same_at x.path a b (λ q on.
+        w.others q (λ k z l at. apart_is_other q x.path z.path (apart k (length fates) z x (λ e. omega (arith, e, l)) at here) on)) in
+        let now : deed x.path x.entry f (at_and_under x.path a) (at_and_under x.path c) =
+        subst (λ m. deed x.path x.entry f m (at_and_under x.path c)) under d.answers in
+        subst (λ g. deed y.path y.entry g (at_and_under y.path a) (at_and_under y.path c)) new.1
+        (subst (λ (y : Item). deed y.path y.entry f (at_and_under y.path a) (at_and_under y.path c)) same now)
 
 -- where the map may not be told
 pub both_told : (R S W : Files → Files → Type 0) (t0 t1 t2 : Option Files) → is_some t1 ≡ is_some t0 → ((a b c : Files) → R a b → S b c → W a c) →
@@ -88,14 +98,28 @@ count_more xs f = sum_by-append (λ x. cond (is_failed x) 1 0) xs (f ∷ []) ∙
     none_plus k = omega arith
 
 blamed_more : (m n a p b q c r : ℕ) → Blamed m a p b q → Blamed n b q c r → Blamed (m + n) a p c r
-blamed_more m n a p b q c r x y = record { part = omega (arith, x.part, y.part); actor = omega (arith, x.actor, y.actor); some = λ l k. omega (arith, x.some (omega (arith, y.part, l)) (omega (arith, y.actor, k)), y.some l k) }
+blamed_more m n a p b q c r x y =
+    record {
+      part = omega (arith, x.part, y.part);
+      actor = omega (arith, x.actor, y.actor);
+      some = λ l k. omega (arith, x.some (omega (arith, y.part, l)) (omega (arith, y.actor, k)), y.some l k);
+    }
 
-module _ {A P D : Type 0} (tree : Option P → Option Files) (area : Option P → Area) (part_count : Option P → ℕ) (plain : A → D) (count : A → ℕ) (deed : D → Deed) where
+module _ {A P D : Type 0} (tree : Option P → Option Files) (area : Option P → Area) (part_count : Option P → ℕ) (plain : A → D)
+    (count : A → ℕ) (deed : D → Deed) where
   keeps_none : (lot : Lot A P) → Keeps tree area part_count plain count deed lot lot
   keeps_none lot = record { places = refl; same_area = refl; same_plain = refl; tells = refl; there = refl }
 
-  keeps_on : (lot mid lot' : Lot A P) → Keeps tree area part_count plain count deed lot mid → Keeps tree area part_count plain count deed mid lot' → Keeps tree area part_count plain count deed lot lot'
-  keeps_on lot mid lot' a b = record { places = b.places ∙ a.places; same_area = b.same_area ∙ a.same_area; same_plain = b.same_plain ∙ a.same_plain; tells = b.tells ∙ a.tells; there = b.there ∙ a.there }
+  keeps_on : (lot mid lot' : Lot A P) → Keeps tree area part_count plain count deed lot mid
+      → Keeps tree area part_count plain count deed mid lot' → Keeps tree area part_count plain count deed lot lot'
+  keeps_on lot mid lot' a b =
+      record {
+        places = b.places ∙ a.places;
+        same_area = b.same_area ∙ a.same_area;
+        same_plain = b.same_plain ∙ a.same_plain;
+        tells = b.tells ∙ a.tells;
+        there = b.there ∙ a.there;
+      }
 
   pub begun : (items : List Item) (lot : Lot A P) → Ready area items lot → Upto tree area part_count plain count deed 0 items lot lot
   begun items lot r = record {
@@ -103,25 +127,33 @@ module _ {A P D : Type 0} (tree : Option P → Option Files) (area : Option P �
     lost = r.found;
     so_many = ap length r.fresh;
     named = λ j f e. absurd (none j f (subst (λ fs. slice_get fs j ≡ Some f) r.fresh e));
-    blamed = subst (λ fs. Blamed (count_by is_failed fs) (part_count lot.part) (count lot.actor) (part_count lot.part) (count lot.actor)) (sym r.fresh) (record { part = omega arith; actor = omega arith; some = λ l k. omega arith });
-    told = same_told (WorkedOn (deed (plain lot.actor)) items lot.places.items lot.fates.items) (tree lot.part) (λ a. record { others = λ q off. refl; each = λ j x f is e. absurd (none j f (subst (λ fs. slice_get fs j ≡ Some f) r.fresh e)) });
+    blamed = subst (λ fs. Blamed (count_by is_failed fs) (part_count lot.part) (count lot.actor) (part_count lot.part) (count lot.actor))
+        (sym r.fresh) (record { part = omega arith; actor = omega arith; some = λ l k. omega arith });
+    told = same_told (WorkedOn (deed (plain lot.actor)) items lot.places.items lot.fates.items) (tree lot.part)
+        (λ a. record { others = λ q off. refl; each = λ j x f is e. absurd (none j f (subst (λ fs. slice_get fs j ≡ Some f) r.fresh e)) });
   }
     where
       none : (j : ℕ) (f : Fate) → slice_get [] j ≡ Some f → ⊥
       none j f e = cc
 
-  pub stepped : (items : List Item) (n : ℕ) (lot mid lot' : Lot A P) → Ready area items lot → n < length lot.places.items → Upto tree area part_count plain count deed n items lot mid → Stepped tree area part_count plain count deed items n mid lot' →
+  pub stepped : (items : List Item) (n : ℕ) (lot mid lot' : Lot A P) → Ready area items lot → n < length lot.places.items
+      → Upto tree area part_count plain count deed n items lot mid → Stepped tree area part_count plain count deed items n mid lot' →
       Upto tree area part_count plain count deed (n + 1) items lot lot'
   stepped items n lot mid lot' r l u s = record {
     keeps = keeps_on lot mid lot' u.keeps s.keeps;
     lost = s.lost ∙ u.lost;
     so_many = ap length s.fates ∙ length-append mid.fates.items (s.now ∷ []) ∙ ap (λ k. k + 1) u.so_many;
     named = λ j f e. named j f (get_more mid.fates.items s.now j f (subst (λ fs. slice_get fs j ≡ Some f) s.fates e));
-    blamed = subst (λ k. Blamed k (part_count lot.part) (count lot.actor) (part_count lot'.part) (count lot'.actor)) (sym (ap (count_by is_failed) s.fates ∙ count_more mid.fates.items s.now)) (blamed_more _ _ _ _ _ _ _ _ u.blamed s.blamed);
-    told = both_told (WorkedOn acts items places mid.fates.items) (λ b. IsDone acts item.0.path item.0.entry (Ok s.now) b) (WorkedOn acts items places lot'.fates.items) (tree lot.part) (tree mid.part) (tree lot'.part) u.keeps.tells
-        (λ a b c w d. subst (λ fs. WorkedOn acts items places fs a c) (sym s.fates) (worked_more acts items places mid.fates.items s.now item.0 a b c r.apart (subst (λ k. IsAt items places k item.0) (sym u.so_many) item.1) w d))
+    blamed = subst (λ k. Blamed k (part_count lot.part) (count lot.actor) (part_count lot'.part) (count lot'.actor))
+        (sym (ap (count_by is_failed) s.fates ∙ count_more mid.fates.items s.now)) (blamed_more _ _ _ _ _ _ _ _ u.blamed s.blamed);
+    told = both_told (WorkedOn acts items places mid.fates.items) (λ b. IsDone acts item.0.path item.0.entry (Ok s.now) b)
+        (WorkedOn acts items places lot'.fates.items) (tree lot.part) (tree mid.part) (tree lot'.part) u.keeps.tells
+        (λ a b c w d. subst (λ fs. WorkedOn acts items places fs a c) (sym s.fates)
+        (worked_more acts items places mid.fates.items s.now item.0 a b c r.apart
+        (subst (λ k. IsAt items places k item.0) (sym u.so_many) item.1) w d))
         u.told
-        (subst (λ d. IfSome (tree mid.part) (λ b. IfSome (tree lot'.part) (IsDone (deed d) item.0.path item.0.entry (Ok s.now) b))) u.keeps.same_plain (s.told item.0 (subst (λ p. IsAt items p n item.0) (sym same_places) item.1)));
+        (subst (λ d. IfSome (tree mid.part) (λ b. IfSome (tree lot'.part) (IsDone (deed d) item.0.path item.0.entry (Ok s.now) b)))
+        u.keeps.same_plain (s.told item.0 (subst (λ p. IsAt items p n item.0) (sym same_places) item.1)));
   }
     where
       places : List ℕ
@@ -143,27 +175,36 @@ module _ {A P D : Type 0} (tree : Option P → Option Files) (area : Option P �
   first_of_all : (items : List Item) (n m : ℕ) (places : List ℕ) (a b : Files) → n ≤ m → SameButFirst n items places a b → SameButFirst m items places a b
   first_of_all items n m places a b l s q off = s q (λ j x k is. off j x (omega (arith, k, l)) is)
 
-  pub finished : (items : List Item) (n : ℕ) (lot lot' : Lot A P) → n ≡ length lot.places.items → Upto tree area part_count plain count deed n items lot lot' → HasWorked tree area part_count plain count deed items lot lot'
+  pub finished : (items : List Item) (n : ℕ) (lot lot' : Lot A P) → n ≡ length lot.places.items
+      → Upto tree area part_count plain count deed n items lot lot' → HasWorked tree area part_count plain count deed items lot lot'
   finished items n lot lot' e u = record {
     keeps = u.keeps;
     blamed = u.blamed;
     named = u.named;
     all = λ _. u.so_many ∙ e;
     told = λ _. u.told;
-    rest = both_told (λ a b. a ≡ b) (WorkedOn (deed (plain lot.actor)) items lot.places.items lot'.fates.items) (SameButFirst (length lot.places.items) items lot.places.items) (tree lot.part) (tree lot.part) (tree lot'.part) refl
-        (λ a b c s w. subst (λ k. SameButFirst k items lot.places.items a c) (u.so_many ∙ e) (subst (λ x. SameButFirst (length lot'.fates.items) items lot.places.items x c) (sym s) w.others))
+    rest = both_told (λ a b. a ≡ b) (WorkedOn (deed (plain lot.actor)) items lot.places.items lot'.fates.items)
+        (SameButFirst (length lot.places.items) items lot.places.items) (tree lot.part) (tree lot.part) (tree lot'.part) refl
+        (λ a b c s w. subst (λ k. SameButFirst k items lot.places.items a c) (u.so_many ∙ e)
+        (subst (λ x. SameButFirst (length lot'.fates.items) items lot.places.items x c) (sym s) w.others))
         (same_told (λ a b. a ≡ b) (tree lot.part) (λ a. refl)) u.told;
   }
 
-  pub lost_at : (items : List Item) (n : ℕ) (lot mid lot' : Lot A P) → Ready area items lot → n < length lot.places.items → Upto tree area part_count plain count deed n items lot mid → Stopped tree area part_count plain count deed items n mid lot' →
+  pub lost_at : (items : List Item) (n : ℕ) (lot mid lot' : Lot A P) → Ready area items lot → n < length lot.places.items
+      → Upto tree area part_count plain count deed n items lot mid → Stopped tree area part_count plain count deed items n mid lot' →
       HasWorked tree area part_count plain count deed items lot (record lot' { lost = true })
   lost_at items n lot mid lot' r l u s = record {
-    keeps = let k = keeps_on lot mid lot' u.keeps s.keeps in record { places = k.places; same_area = k.same_area; same_plain = k.same_plain; tells = k.tells; there = k.there };
-    blamed = subst (λ k. Blamed k (part_count lot.part) (count lot.actor) (part_count lot'.part) (count lot'.actor)) (sym (ap (count_by is_failed) s.fates)) (subst (λ k. Blamed k (part_count lot.part) (count lot.actor) (part_count lot'.part) (count lot'.actor)) (plus_none (count_by is_failed mid.fates.items)) (blamed_more _ _ _ _ _ _ _ _ u.blamed s.blamed));
+    keeps = let k = keeps_on lot mid lot' u.keeps s.keeps in
+        record { places = k.places; same_area = k.same_area; same_plain = k.same_plain; tells = k.tells; there = k.there };
+    blamed = subst (λ k. Blamed k (part_count lot.part) (count lot.actor) (part_count lot'.part) (count lot'.actor))
+        (sym (ap (count_by is_failed) s.fates))
+        (subst (λ k. Blamed k (part_count lot.part) (count lot.actor) (part_count lot'.part) (count lot'.actor))
+        (plus_none (count_by is_failed mid.fates.items)) (blamed_more _ _ _ _ _ _ _ _ u.blamed s.blamed));
     named = λ j f e. u.named j f (subst (λ fs. slice_get fs j ≡ Some f) s.fates e);
     all = λ e. absurd (false≢true (sym e));
     told = λ e. absurd (false≢true (sym e));
-    rest = both_told (WorkedOn acts items places mid.fates.items) (SameBut item.0.path) (SameButFirst (length places) items places) (tree lot.part) (tree mid.part) (tree lot'.part) u.keeps.tells
+    rest = both_told (WorkedOn acts items places mid.fates.items) (SameBut item.0.path) (SameButFirst (length places) items places)
+        (tree lot.part) (tree mid.part) (tree lot'.part) u.keeps.tells
         (λ a b c w o q off. o q (off n item.0 l item.1) ∙ w.others q (λ j y k is. off j y (omega (arith, k, u.so_many, l)) is))
         u.told
         (s.rest item.0 (subst (λ p. IsAt items p n item.0) (sym (ap (λ v. v.items) u.keeps.places)) item.1));

@@ -34,9 +34,13 @@ is_done order.BottomUp t level = nat_le t level
 
 -- what the work on one level does
 pub record OneLevel (deed : Deed) (level : ℕ) (items : List Item) (fates : List Fate) (old new : Files) : Type 0 where
-  pub others : (q : List ℕ) → ((k : ℕ) (x : Item) → slice_get items k ≡ Some x → level_of x.path ≡ level → pointwise nat_eq q x.path ≡ false) → get new q ≡ get old q
-  pub touched : (k : ℕ) (x : Item) (f : Fate) → slice_get items k ≡ Some x → slice_get fates k ≡ Some f → level_of x.path ≡ level → f ≢ fate.ParentFailed → deed x.path x.entry f (at_and_under x.path old) (at_and_under x.path new)
-  pub untouched : (k : ℕ) (x : Item) (f : Fate) → slice_get items k ≡ Some x → slice_get fates k ≡ Some f → level_of x.path ≡ level → f ≡ fate.ParentFailed → get new x.path ≡ get old x.path
+  pub others : (q : List ℕ)
+      → ((k : ℕ) (x : Item) → slice_get items k ≡ Some x → level_of x.path ≡ level → pointwise nat_eq q x.path ≡ false)
+      → get new q ≡ get old q
+  pub touched : (k : ℕ) (x : Item) (f : Fate) → slice_get items k ≡ Some x → slice_get fates k ≡ Some f → level_of x.path ≡ level
+      → f ≢ fate.ParentFailed → deed x.path x.entry f (at_and_under x.path old) (at_and_under x.path new)
+  pub untouched : (k : ℕ) (x : Item) (f : Fate) → slice_get items k ≡ Some x → slice_get fates k ≡ Some f → level_of x.path ≡ level
+      → f ≡ fate.ParentFailed → get new x.path ≡ get old x.path
 
 -- the path of an item whose level is done
 abbrev pub is_done_path : Order → ℕ → List Item → List ℕ → Bool
@@ -50,7 +54,10 @@ stage o t items before after = put_all (entries (retain_keys after (is_done_path
 pub record IsChain (deed : Deed) (o : Order) (top : ℕ) (items : List Item) (fates : List Fate) (before after : Files) : Type 0 where
   pub first : stage o (mark_at o top 0) items before after ≡ before
   pub last : stage o (mark_at o top top) items before after ≡ after
-  pub steps : (turn : ℕ) → turn < top → OneLevel deed (level_at o top turn) items fates (stage o (mark_at o top turn) items before after) (stage o (mark_at o top (turn + 1)) items before after)
+  pub steps : (turn : ℕ) → turn < top
+      → OneLevel deed (level_at o top turn) items fates (stage o (mark_at o top turn) items before after)
+      (stage o (mark_at o top (turn + 1)) items before after)
 
 abbrev pub ActedIsChain : Deed → Type 0
-ActedIsChain deed = (o : Order) (top : ℕ) (items : List Item) (fates : List Fate) (before after : Files) → AreItems items → AllBelow top items → Acted deed o items fates before after → IsChain deed o top items fates before after
+ActedIsChain deed = (o : Order) (top : ℕ) (items : List Item) (fates : List Fate) (before after : Files) → AreItems items
+    → AllBelow top items → Acted deed o items fates before after → IsChain deed o top items fates before after

@@ -23,7 +23,8 @@ is_item items q = list_any (λ item. pointwise nat_eq q item.path) items
 
 -- where the items stand: in a directory, and from the top down it may also be another item
 abbrev pub StandIn : Order → List Item → Files → Type 0
-StandIn order.TopDown items files = (k : ℕ) (x : Item) → slice_get items k ≡ Some x → is_item items (parent_of x.path) ≡ false → is_dir (get files (parent_of x.path)) ≡ true
+StandIn order.TopDown items files = (k : ℕ) (x : Item) → slice_get items k ≡ Some x → is_item items (parent_of x.path) ≡ false
+    → is_dir (get files (parent_of x.path)) ≡ true
 StandIn order.BottomUp items files = (k : ℕ) (x : Item) → slice_get items k ≡ Some x → is_dir (get files (parent_of x.path)) ≡ true
 
 -- a map with this at one path, a node or none
@@ -71,4 +72,5 @@ FailsWith order.BottomUp items fates x = ⊥
 
 -- exactly the items under one that did not come to `Done` are told so
 abbrev pub ParentsFail : Order → List Item → List Fate → Type 0
-ParentsFail o items fates = (k : ℕ) (x : Item) (f : Fate) → slice_get items k ≡ Some x → slice_get fates k ≡ Some f → (f ≡ fate.ParentFailed) ↔ FailsWith o items fates x
+ParentsFail o items fates = (k : ℕ) (x : Item) (f : Fate) → slice_get items k ≡ Some x → slice_get fates k ≡ Some f
+    → (f ≡ fate.ParentFailed) ↔ FailsWith o items fates x

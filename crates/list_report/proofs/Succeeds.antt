@@ -61,7 +61,8 @@ list_stops_for_memory finds places asked before after within fine why stops =
     (λ s.
     let survey = s.survey in
     let more : before.count ≤ s.between = omega (arith, survey.looked.counted.kept, survey.later) in
-    places (output_of asked.output (chosen_of (tests_in asked.chosen) s.looks s.now s.entries)) fine.side.files (side_of before.tree s.between) after why fine.side.told
+    places (output_of asked.output (chosen_of (tests_in asked.chosen) s.looks s.now s.entries)) fine.side.files
+    (side_of before.tree s.between) after why fine.side.told
     (has_place fine.side.files asked.output _ fine.place)
     (stood_after before.count s.between after.count more s.later fine.side.stood) s.stops))
     stops

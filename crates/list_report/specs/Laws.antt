@@ -12,7 +12,8 @@ use Rattle.list_report.specs.Tests.{made_root, ReportsTest, StopsTest, FineTest}
 -- where nothing stands against dwalk or dfind it names nothing, and stops for want of memory alone
 abbrev pub FineListSucceeds : Type 0
 FineListSucceeds =
-    (asked : ListAsked) (now : ℕ) (before after : Side) → WithinList asked → FineList asked before after → Succeeds (ReportsList asked now before after) (StopsList asked before after)
+    (asked : ListAsked) (now : ℕ) (before after : Side) → WithinList asked → FineList asked before after
+    → Succeeds (ReportsList asked now before after) (StopsList asked before after)
 
 -- and so does dtest
 abbrev pub FineTestSucceeds : Type 0

@@ -1,4 +1,5 @@
--- What dwalk and dfind do: what they report, why they stop, what they may have changed, and when nothing stands against them. The tools are mpiFileUtils'; the texts and statuses are our own.
+-- What dwalk and dfind do: what they report, why they stop, what they may have changed, and when nothing stands against them. The tools are
+-- mpiFileUtils'; the texts and statuses are our own.
 use Rattle.std.specs.Prelude.{◌≡◌, ◌⊎◌, ℕ, ◌≤◌, ◌++◌, List, length, Option, IfSome, true}
 use Rattle.std.specs.Option.{option_map, option_to_list}
 use Rattle.outside.specs.Tree.{Files}
@@ -47,7 +48,8 @@ pub record ReportsList (asked : ListAsked) (now : ℕ) (before after : Side) (re
 abbrev pub StopsList : ListAsked → Side → Side → Stop → Type 0
 StopsList asked before after why =
     (why ≡ stop.OutOfMemory)
-    ⊎ ((StopsAfterLooks asked.start asked.chosen before after why × (after.tree ≡ before.tree)) ⊎ StopsAfterListing asked.start asked.chosen asked.output before after why)
+    ⊎ ((StopsAfterLooks asked.start asked.chosen before after why × (after.tree ≡ before.tree))
+    ⊎ StopsAfterListing asked.start asked.chosen asked.output before after why)
 
 -- what it may have changed: the file that is to be written, and nothing else
 abbrev pub LeavesList : ListAsked → Option Files → Option Files → Type 0

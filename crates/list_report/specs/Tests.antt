@@ -1,4 +1,5 @@
--- What dtest does: what it reports, why it stops, what it may have changed, and when nothing stands against it. A walk of a made-up tree is libcircle's own benchmark (LaFon et al., SC 2012); the rest is our own.
+-- What dtest does: what it reports, why it stops, what it may have changed, and when nothing stands against it. A walk of a made-up tree is
+-- libcircle's own benchmark (LaFon et al., SC 2012); the rest is our own.
 use Rattle.std.specs.Prelude.{◌≡◌, ℕ, List, [], ◌∷◌, length, codes, Option, Some}
 use Rattle.outside.specs.Tree.{Files}
 use Rattle.flat_list.specs.declared.entries.Entry.{Entry}

@@ -54,4 +54,5 @@ Fine (test asked) now before after = FineTest asked
 
 -- where nothing stands against it, it names nothing, and stops for want of memory alone
 abbrev pub FineRunsSucceed : Type 0
-FineRunsSucceed = (asked : Asked) (now : ℕ) (before after : Side) → Within asked → Fine asked now before after → Succeeds (Reports asked now before after) (Stops asked before after)
+FineRunsSucceed = (asked : Asked) (now : ℕ) (before after : Side) → Within asked → Fine asked now before after
+    → Succeeds (Reports asked now before after) (Stops asked before after)

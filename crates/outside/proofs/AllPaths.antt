@@ -1,5 +1,5 @@
 -- The first of some paths, one after the other.
-use Rattle.std.proofs.Common.{◌≡◌, ◌<◌, ◌≤◌, ℕ, ◌+◌, Bool, true, false, List, Some, None, refl, ap, ◌∙◌, sym, subst, arith, eqb, slice_get, get_or, length}
+use Rattle.std.proofs.Common.{◌≡◌, ◌<◌, ◌≤◌, ℕ, ◌+◌, true, false, List, Some, None, refl, ap, ◌∙◌, sym, subst, arith, eqb, slice_get, get_or, length}
 use Rattle.std.proofs.lemmas.Bool.Decides.{nat_tests}
 use Rattle.std.proofs.lemmas.Option.{slice_get_within, get_or_from_slice_get}
 use Rattle.path_text.specs.Path.{refusal}

@@ -1,23 +1,25 @@
 -- Leases keep trees.
-use Rattle.std.proofs.Common.{◌≡◌, ◌≢◌, ◌⊎◌, inl, inr, ℕ, zero, suc, ◌+◌, ◌<◌, ◌≤◌, Bool, true, false, cond, not, ◌||◌, ◌&&◌, List, [], ◌∷◌, ◌++◌, length, drop, take, Option, Some, None, refl, ap, ◌∙◌, sym, subst, arith, nat_eq, nat_lt, eqb, is_some, is_none, slice_get, append_assoc, length-append}
+use Rattle.std.proofs.Common.{◌≡◌, ◌⊎◌, inl, inr, ℕ, suc, ◌<◌, Bool, true, false, cond, not, ◌||◌, ◌&&◌, List, [], ◌∷◌, ◌++◌}
+use Rattle.std.proofs.Common.{length, drop, take, Option, Some, None, refl, ap, ◌∙◌, sym, subst, arith, nat_eq, nat_lt, is_some, is_none}
+use Rattle.std.proofs.Common.{slice_get, append_assoc, length-append}
 use Rattle.std.specs.Prelude.{IsTrue, ◌==◌}
 use Rattle.std.proofs.lemmas.Bool.{false≢true}
 use Rattle.std.proofs.lemmas.Bool.Decides.{nat_tests}
 use Rattle.std.proofs.lemmas.List.{take_at}
-use Rattle.std.specs.List.{list_any, starts_with}
+use Rattle.std.specs.List.{starts_with}
 use Rattle.std.specs.FinMap.{get, get-retain_keys}
 use Rattle.std.specs.Cmp.Lexicographic.{pointwise, bytes_decides}
-use Rattle.path_text.specs.Order.{path_cmp, is_within, is_under, front}
+use Rattle.path_text.specs.Order.{is_within, is_under, front}
 use Rattle.path_text.specs.Path.{refusal, parent_of, level_of}
 use Rattle.path_text.specs.Total.{path_cmp_same}
 use Rattle.path_text.specs.declared.errors.PathError.{PathError}
 use Rattle.outside.specs.Tree.{Files, Node, IsTree, is_placed, is_dir, is_root}
-use Rattle.outside.proofs.Children.{name_below-front, goes_on}
+use Rattle.outside.proofs.Children.{goes_on}
 use Rattle.outside.proofs.Parents.{child_of_parent}
 use Rattle.outside.specs.Lease.{in_tops, leased, kept, Joins, HaveParents}
-use Rattle.outside.specs.Parts.{IsPart, AreTops, LeasesKeepTrees}
+use Rattle.outside.specs.Parts.{IsPart, AreTops}
 use Rattle.outside.specs.Writes.{under as under_tops, is_top}
-use Rattle.outside.proofs.Depth.{as_deep, deeper, name_is_under, parent_above}
+use Rattle.outside.proofs.Depth.{as_deep, name_is_under, parent_above}
 
 parts : (a b : Bool) → (a && b) ≡ true → (a ≡ true) × (b ≡ true)
 parts true b e = (refl, e)
@@ -35,7 +37,8 @@ true_lt a b e = grind (arith, nat_tests)
 
 -- a text that goes on behind the front of a path is under it
 pub begins : (q p r : List ℕ) → q ≡ front p ++ r → 0 < length r → is_under q p ≡ true
-begins q p r e l = ap (λ b. b && nat_lt (length (front p)) (length q)) (starts_of q (front p) r e) ∙ true_lt (length (front p)) (length q) (omega (arith, l, ap length e, length-append (front p) r))
+begins q p r e l = ap (λ b. b && nat_lt (length (front p)) (length q)) (starts_of q (front p) r e)
+    ∙ true_lt (length (front p)) (length q) (omega (arith, l, ap length e, length-append (front p) r))
 
 pub record Under (q p : List ℕ) : Type 0 where
   pub rest : List ℕ
@@ -49,7 +52,11 @@ pub under : (q p : List ℕ) → is_under q p ≡ true → Under q p
 under q p u =
     let s = parts (starts_with nat_eq q (front p)) _ u in
     let whole : q ≡ front p ++ drop (length (front p)) q = goes_on (front p) q s.0 in
-    record { rest = drop (length (front p)) q; whole = whole; some = omega (arith, is_longer _ _ s.1, ap length whole, length-append (front p) (drop (length (front p)) q)) }
+    record {
+      rest = drop (length (front p)) q;
+      whole = whole;
+      some = omega (arith, is_longer _ _ s.1, ap length whole, length-append (front p) (drop (length (front p)) q));
+    }
 
 -- what is under a path that is under another
 under_under : (q p t : List ℕ) → is_under q p ≡ true → is_under p t ≡ true → is_under q t ≡ true
@@ -57,8 +64,11 @@ under_under q p t a b = by (under q p a) (under p t b)
   where
     by : Under q p → Under p t → is_under q t ≡ true
     by u v = elim (length p == 1) as (λ c. q ≡ cond c p (p ++ 47 ∷ []) ++ u.rest → is_under q t ≡ true) [
-      | true ↦ λ e. begins q t (v.rest ++ u.rest) (e ∙ ap (λ x. x ++ u.rest) v.whole ∙ append_assoc (front t) v.rest u.rest) (omega (arith, u.some, length-append v.rest u.rest))
-      | false ↦ λ e. begins q t (v.rest ++ (47 ∷ u.rest)) (e ∙ append_assoc p (47 ∷ []) u.rest ∙ ap (λ x. x ++ (47 ∷ u.rest)) v.whole ∙ append_assoc (front t) v.rest (47 ∷ u.rest)) (omega (arith, length-append v.rest (47 ∷ u.rest)))
+      | true ↦ λ e. begins q t (v.rest ++ u.rest) (e ∙ ap (λ x. x ++ u.rest) v.whole ∙ append_assoc (front t) v.rest u.rest)
+          (omega (arith, u.some, length-append v.rest u.rest))
+      | false ↦ λ e. begins q t (v.rest ++ (47 ∷ u.rest))
+          (e ∙ append_assoc p (47 ∷ []) u.rest ∙ ap (λ x. x ++ (47 ∷ u.rest)) v.whole ∙ append_assoc (front t) v.rest (47 ∷ u.rest))
+          (omega (arith, length-append v.rest (47 ∷ u.rest)))
     ] u.whole
 
 pub within_up : (q p t : List ℕ) → is_under q p ≡ true → is_within p t ≡ true → is_within q t ≡ true
@@ -71,7 +81,8 @@ or_cases : (a b : Bool) → (a || b) ≡ true → (a ≡ true) ⊎ (b ≡ true)
 or_cases true b e = inl refl
 or_cases false b e = inr e
 
-in_one : (tops : List (List ℕ)) (q p t : List ℕ) → is_under q p ≡ true → (in_tops tops p ≡ true → in_tops tops q ≡ true) → (is_within p t ≡ true) ⊎ (in_tops tops p ≡ true) → (is_within q t || in_tops tops q) ≡ true
+in_one : (tops : List (List ℕ)) (q p t : List ℕ) → is_under q p ≡ true → (in_tops tops p ≡ true → in_tops tops q ≡ true)
+    → (is_within p t ≡ true) ⊎ (in_tops tops p ≡ true) → (is_within q t || in_tops tops q) ≡ true
 in_one tops q p t u more (inl on) = ap (λ b. b || in_tops tops q) (within_up q p t u on)
 in_one tops q p t u more (inr on) = ap (λ b. is_within q t || b) (more on) ∙ or_true (is_within q t)
 
@@ -122,13 +133,18 @@ pub record Placed (files : Files) (q : List ℕ) : Type 0 where
   pub in_dir : is_root q ≡ false → is_some (get files q) ≡ true → is_dir (get files (parent_of q)) ≡ true
 
 placed : (files : Files) (q : List ℕ) → IsTrue (is_placed files q) → Placed files q
-placed files q e = record { root = λ r. by_root (is_root q) _ _ r e; fine = λ r s. fine_of (is_root q) _ (get files q) (refusal q) _ r s e; in_dir = λ r s. dir_of (is_root q) _ (get files q) (is_none (refusal q)) _ r s e }
+placed files q e = record {
+  root = λ r. by_root (is_root q) _ _ r e;
+  fine = λ r s. fine_of (is_root q) _ (get files q) (refusal q) _ r s e;
+  in_dir = λ r s. dir_of (is_root q) _ (get files q) (is_none (refusal q)) _ r s e;
+}
   where
     by_root : (r a b : Bool) → r ≡ true → cond r a b ≡ true → a ≡ true
     by_root true a b is e = e
     by_root false a b is e = absurd (false≢true is)
 
-    fine_of : (r a : Bool) (o : Option Node) (f : Option PathError) (d : Bool) → r ≡ false → is_some o ≡ true → cond r a (is_none o || (is_none f && d)) ≡ true → f ≡ None
+    fine_of : (r a : Bool) (o : Option Node) (f : Option PathError) (d : Bool) → r ≡ false → is_some o ≡ true
+        → cond r a (is_none o || (is_none f && d)) ≡ true → f ≡ None
     fine_of true a o f d r s e = absurd (false≢true (sym r))
     fine_of false a None f d r s e = absurd (false≢true s)
     fine_of false a (Some n) None d r s e = refl
@@ -141,10 +157,12 @@ placed files q e = record { root = λ r. by_root (is_root q) _ _ r e; fine = λ 
     dir_of false a (Some n) false d r s e = absurd (false≢true e)
 
 unplaced : (files : Files) (q : List ℕ) → Placed files q → IsTrue (is_placed files q)
-unplaced files q p = elim (is_root q) as (λ r. is_root q ≡ r → cond r (is_dir (get files q)) (is_none (get files q) || (is_none (refusal q) && is_dir (get files (parent_of q)))) ≡ true) [
-  | true ↦ λ is. p.root is
-  | false ↦ λ off. by (get files q) refl off
-] refl
+unplaced files q p = elim (is_root q) as
+    (λ r. is_root q ≡ r → cond r (is_dir (get files q)) (is_none (get files q) || (is_none (refusal q) && is_dir (get files (parent_of q))))
+    ≡ true) [
+      | true ↦ λ is. p.root is
+      | false ↦ λ off. by (get files q) refl off
+    ] refl
   where
     by : (o : Option Node) → get files q ≡ o → is_root q ≡ false → (is_none o || (is_none (refusal q) && is_dir (get files (parent_of q)))) ≡ true
     by None e off = refl
@@ -161,7 +179,12 @@ root_off tops q t r = elim (in_tops tops q) as (λ b. in_tops tops q ≡ b → b
     q_is = (bytes_decides q (47 ∷ [])).0 r
 
     never : Standing tops q → ⊥
-    never s = omega (arith, as_deep q s.top (not_empty s.top (t.valid s.place s.top s.at)) s.on, ap level_of q_is, above_root s.top (t.valid s.place s.top s.at) (t.no_root s.place s.top s.at))
+    never s = omega (
+      arith,
+      as_deep q s.top (not_empty s.top (t.valid s.place s.top s.at)) s.on,
+      ap level_of q_is,
+      above_root s.top (t.valid s.place s.top s.at) (t.no_root s.place s.top s.at),
+    )
 
 pub at_tree : (files : Files) → IsTree files → (q : List ℕ) → Placed files q
 unfolding IsTree
@@ -191,10 +214,12 @@ rest_is_tree tops files t tree = as_tree (kept tops files) (λ q. record {
 
 the_top : (tops : List (List ℕ)) (q : List ℕ) → is_top (under_tops tops) q ≡ true → (i : ℕ) × (slice_get tops i ≡ Some q)
 the_top [] q e = absurd (false≢true e)
-the_top (t ∷ tops) q e = elim (pointwise nat_eq t q) as (λ b. pointwise nat_eq t q ≡ b → (b || is_top (under_tops tops) q) ≡ true → (i : ℕ) × (slice_get (t ∷ tops) i ≡ Some q)) [
-  | true ↦ λ is e. (0, ap Some ((bytes_decides t q).0 is))
-  | false ↦ λ _ e. let r = the_top tops q e in (suc r.0, r.1)
-] refl e
+the_top (t ∷ tops) q e =
+    elim (pointwise nat_eq t q) as
+    (λ b. pointwise nat_eq t q ≡ b → (b || is_top (under_tops tops) q) ≡ true → (i : ℕ) × (slice_get (t ∷ tops) i ≡ Some q)) [
+      | true ↦ λ is e. (0, ap Some ((bytes_decides t q).0 is))
+      | false ↦ λ _ e. let r = the_top tops q e in (suc r.0, r.1)
+    ] refl e
 
 pub dir_is_there : (o : Option Node) → is_dir o ≡ true → is_some o ≡ true
 dir_is_there None e = absurd (false≢true e)
@@ -203,12 +228,15 @@ dir_is_there (Some n) e = refl
 -- what a top stands in is neither a top nor under one
 pub over_top : (tops : List (List ℕ)) → AreTops tops → (q : List ℕ) (i : ℕ) → slice_get tops i ≡ Some q → in_tops tops (parent_of q) ≡ false
 over_top tops t q i at = elim (in_tops tops (parent_of q)) as (λ b. in_tops tops (parent_of q) ≡ b → b ≡ false) [
-  | true ↦ λ on. absurd (let s = a_top tops (parent_of q) on in let a = as_deep (parent_of q) s.top (not_empty s.top (t.valid s.place s.top s.at)) s.on in let b = parent_above q (t.valid i q at) (t.no_root i q at) in
+  | true ↦ λ on. absurd (let s = a_top tops (parent_of q) on in
+      let a = as_deep (parent_of q) s.top (not_empty s.top (t.valid s.place s.top s.at)) s.on in
+      let b = parent_above q (t.valid i q at) (t.no_root i q at) in
       omega (arith, a, b, t.one_level i s.place q s.top at s.at))
   | false ↦ λ _. refl
 ] refl
 
-pub back_is_tree : (tops : List (List ℕ)) (own rest after : Files) → AreTops tops → IsPart tops own → IsTree rest → HaveParents tops rest → Joins tops own rest after → IsTree after
+pub back_is_tree : (tops : List (List ℕ)) (own rest after : Files) → AreTops tops → IsPart tops own → IsTree rest → HaveParents tops rest
+    → Joins tops own rest after → IsTree after
 back_is_tree tops own rest after t part tree dirs j = as_tree after (λ q. record {
   root = λ r. ap is_dir (off_is q (root_off tops q t r)) ∙ (at_tree rest tree q).root r;
   fine = λ r s. elim (in_tops tops q) as (λ b. in_tops tops q ≡ b → refusal q ≡ None) [
@@ -228,6 +256,7 @@ back_is_tree tops own rest after t part tree dirs j = as_tree after (λ q. recor
     off_is : (q : List ℕ) → in_tops tops q ≡ false → get after q ≡ get rest q
     off_is q off = j q ∙ ap (λ b. cond b (get own q) (get rest q)) off
 
-    inner : (q : List ℕ) → is_root q ≡ false → refusal q ≡ None → (is_top (under_tops tops) q ≡ true) ⊎ (is_dir (get own (parent_of q)) ≡ true) → is_dir (get after (parent_of q)) ≡ true
+    inner : (q : List ℕ) → is_root q ≡ false → refusal q ≡ None → (is_top (under_tops tops) q ≡ true)
+        ⊎ (is_dir (get own (parent_of q)) ≡ true) → is_dir (get after (parent_of q)) ≡ true
     inner q r fine (inl top) = let i = the_top tops q top in ap is_dir (off_is (parent_of q) (over_top tops t q i.0 i.1)) ∙ dirs i.0 q i.1
     inner q r fine (inr dir) = ap is_dir (on_is (parent_of q) (part.inside (parent_of q) (dir_is_there (get own (parent_of q)) dir))) ∙ dir

@@ -1,5 +1,6 @@
 -- The names of the children of a directory are names, and ascend in byte order.
-use Rattle.std.proofs.Common.{◌≡◌, ℕ, ◌<◌, ◌≤◌, Bool, true, false, not, cond, ◌&&◌, ◌||◌, List, [], ◌∷◌, ◌++◌, map, length, Option, Some, None, refl, ap, ◌∙◌, sym, subst, arith, length-append, append_assoc}
+use Rattle.std.proofs.Common.{◌≡◌, ℕ, ◌<◌, ◌≤◌, Bool, true, false, not, cond, ◌&&◌, ◌||◌, List, [], ◌∷◌, ◌++◌, map, length, Option, Some, None, refl}
+use Rattle.std.proofs.Common.{ap, ◌∙◌, sym, subst, arith, length-append, append_assoc}
 use Rattle.std.proofs.lemmas.Bool.{false≢true}
 use Rattle.std.specs.Prelude.{IsTrue, T}
 use Rattle.std.specs.Option.{is_none, is_some}
@@ -34,9 +35,12 @@ none_is (Some x) e = cc
 pub placed_path : (files : Files) (q : List ℕ) → IsTree files → is_none (get files q) ≡ false → refusal q ≡ None
 unfolding IsTree
 placed_path files q t some =
-    elim (is_root q) as (λ b. is_root q ≡ b → cond b (is_dir (get files q)) (is_none (get files q) || (is_none (refusal q) && is_dir (get files (parent_of q)))) ≡ true → refusal q ≡ None) [
+    elim (is_root q) as (λ b. is_root q ≡ b
+    → cond b (is_dir (get files q)) (is_none (get files q) || (is_none (refusal q) && is_dir (get files (parent_of q)))) ≡ true
+    → refusal q ≡ None) [
       | true ↦ λ e h. ap refusal ((bytes_decides q (47 ∷ [])).0 e)
-      | false ↦ λ e h. none_is (refusal q) (first_so (is_none (refusal q)) _ (ap (λ b. b || (is_none (refusal q) && is_dir (get files (parent_of q)))) (sym some) ∙ h))
+      | false ↦ λ e h. none_is (refusal q)
+          (first_so (is_none (refusal q)) _ (ap (λ b. b || (is_none (refusal q) && is_dir (get files (parent_of q)))) (sym some) ∙ h))
     ] refl (t q)
 
 not_none : (o : Option Node) → is_some o ≡ true → is_none o ≡ false
@@ -53,7 +57,8 @@ AllPaths qs = AllByRecursion (λ q. refusal q ≡ None) qs
 pub all_paths : (files : Files) → IsTree files → AllPaths (keys files)
 all_paths files t =
     all_weaker (Contains (keys files)) (λ q. refusal q ≡ None)
-    (λ q c. placed_path files q t (not_none (get files q) (contains_key-keys files q ∙ list_any-from_Contains (eq_by_cmp_equiv path_cmp_total) q (keys files) c)))
+    (λ q c. placed_path files q t
+    (not_none (get files q) (contains_key-keys files q ∙ list_any-from_Contains (eq_by_cmp_equiv path_cmp_total) q (keys files) c)))
     (keys files) (recursion_from_All (Contains (keys files)) (keys files) (All-contains_itself (keys files)))
 
 -- the paths of a tree ascend
@@ -92,7 +97,8 @@ pub split_more : (xs ys : List ℕ) → slice_split is_slash (xs ++ 47 ∷ ys) �
 split_more [] ys = refl
 split_more (x ∷ xs) ys =
     let rest = split_more xs ys in
-    elim (is_slash x) as (λ b. cond b ([] ∷ slice_split is_slash (xs ++ 47 ∷ ys)) (onto_first x (slice_split is_slash (xs ++ 47 ∷ ys))) ≡ cond b ([] ∷ slice_split is_slash xs) (onto_first x (slice_split is_slash xs)) ++ slice_split is_slash ys) [
+    elim (is_slash x) as (λ b. cond b ([] ∷ slice_split is_slash (xs ++ 47 ∷ ys)) (onto_first x (slice_split is_slash (xs ++ 47 ∷ ys)))
+    ≡ cond b ([] ∷ slice_split is_slash xs) (onto_first x (slice_split is_slash xs)) ++ slice_split is_slash ys) [
       | true ↦ ap (λ r. [] ∷ r) rest
       | false ↦ ap (onto_first x) rest ∙ onto_append x _ _ (some_part xs)
     ]
@@ -100,14 +106,20 @@ split_more (x ∷ xs) ys =
 pub split_name : (n : List ℕ) → list_any is_slash n ≡ false → slice_split is_slash n ≡ n ∷ []
 split_name [] h = refl
 split_name (x ∷ n) h =
-    elim (is_slash x) as (λ b. (b || list_any is_slash n) ≡ false → cond b ([] ∷ slice_split is_slash n) (onto_first x (slice_split is_slash n)) ≡ (x ∷ n) ∷ []) [
+    elim (is_slash x) as (λ b. (b || list_any is_slash n) ≡ false
+    → cond b ([] ∷ slice_split is_slash n) (onto_first x (slice_split is_slash n)) ≡ (x ∷ n) ∷ []) [
       | true ↦ λ e. cc
       | false ↦ λ e. ap (onto_first x) (split_name n e)
     ] h
 
 pub last_fine : (parts : List (List ℕ)) (m : List ℕ) → first_fault (parts ++ m ∷ []) ≡ None → name_fault m ≡ None
 last_fine [] m h = elim (name_fault m) as (λ f. cond (is_none f) None f ≡ None → f ≡ None) [ None ↦ λ e. refl | Some x ↦ λ e. e ] h
-last_fine (p ∷ parts) m h = last_fine parts m (elim (name_fault p) as (λ f. cond (is_none f) (first_fault (parts ++ m ∷ [])) f ≡ None → first_fault (parts ++ m ∷ []) ≡ None) [ None ↦ λ e. e | Some x ↦ λ e. cc ] h)
+last_fine (p ∷ parts) m h =
+    last_fine parts m (elim (name_fault p) as
+    (λ f. cond (is_none f) (first_fault (parts ++ m ∷ [])) f ≡ None → first_fault (parts ++ m ∷ []) ≡ None) [
+      | None ↦ λ e. e
+      | Some x ↦ λ e. cc
+    ] h)
 
 pub after_slash : (b : ℕ) (bytes : List ℕ) → refusal (b ∷ bytes) ≡ None → 0 < length bytes → first_fault (slice_split is_slash bytes) ≡ None
 after_slash b bytes h l = grind (arith, nat_tests)
@@ -117,7 +129,8 @@ name_fine [] m h l s = last_fine [] m (ap first_fault (sym (split_name m s)) ∙
 name_fine (a ∷ []) m h l s = last_fine [] m (ap first_fault (sym (split_name m s)) ∙ after_slash a m h l)
 name_fine (a ∷ b ∷ p) m h l s =
     let whole : front (a ∷ b ∷ p) ++ m ≡ a ∷ ((b ∷ p) ++ 47 ∷ m) = grind (arith, nat_tests, append_assoc {A = ℕ}) in
-    last_fine (slice_split is_slash (b ∷ p)) m (ap (λ r. first_fault (slice_split is_slash (b ∷ p) ++ r)) (sym (split_name m s)) ∙ ap first_fault (sym (split_more (b ∷ p) m))
+    last_fine (slice_split is_slash (b ∷ p)) m
+    (ap (λ r. first_fault (slice_split is_slash (b ∷ p) ++ r)) (sym (split_name m s)) ∙ ap first_fault (sym (split_more (b ∷ p) m))
     ∙ after_slash a ((b ∷ p) ++ 47 ∷ m) (ap refusal (sym whole) ∙ h) (omega (arith, length-append {A = ℕ})))
 
 name_by_parts : (m : List ℕ) → list_any is_slash m ≡ false → name_fault m ≡ None → is_name m ≡ true
@@ -140,8 +153,13 @@ fine_names p (q ∷ qs) v =
     elim (name_below p q) as (λ o. name_below p q ≡ o → AllByRecursion (IsFine p) (cons_option o (names_among p qs))) [
       | None ↦ λ is. fine_names p qs v.1
       | Some m ↦ λ is.
-          let c = child_is p q m is in let o = one_name_parts m c.1 in
-          ((name_by_parts m o.1 (name_fine p m (ap refusal (sym c.0) ∙ v.0) o.0 o.1), subst (λ x. length x ≤ 4095) (c.0 ∙ front-joined p m) (not_long q v.0)), fine_names p qs v.1)
+          let c = child_is p q m is in let o = one_name_parts m c.1 in (
+            (
+              name_by_parts m o.1 (name_fine p m (ap refusal (sym c.0) ∙ v.0) o.0 o.1),
+              subst (λ x. length x ≤ 4095) (c.0 ∙ front-joined p m) (not_long q v.0),
+            ),
+            fine_names p qs v.1,
+          )
     ] refl
 
 -- behind the same front path order is the order of the names
@@ -157,7 +175,8 @@ neither : (a b : Bool) → (a || b) ≡ false → (a ≡ false) × (b ≡ false)
 neither true b e = absurd (false≢true (sym e))
 neither false b e = (refl, e)
 
-one_byte : (a b : ℕ) (r s : Ordering) → is_slash a ≡ false → is_slash b ≡ false → ordering_then (nat_cmp (byte_rank a) (byte_rank b)) r ≡ Less → (r ≡ Less → s ≡ Less) → ordering_then (nat_cmp a b) s ≡ Less
+one_byte : (a b : ℕ) (r s : Ordering) → is_slash a ≡ false → is_slash b ≡ false
+    → ordering_then (nat_cmp (byte_rank a) (byte_rank b)) r ≡ Less → (r ≡ Less → s ≡ Less) → ordering_then (nat_cmp a b) s ≡ Less
 one_byte a b r s p q e h = grind (arith, nat_tests)
 
 by_bytes : (m n : List ℕ) → list_any is_slash m ≡ false → list_any is_slash n ≡ false → path_cmp m n ≡ Less → slice_cmp nat_cmp m n ≡ Less
@@ -168,7 +187,8 @@ by_bytes (a ∷ m) (b ∷ n) s t e =
     let l = neither (is_slash a) (list_any is_slash m) s in let r = neither (is_slash b) (list_any is_slash n) t in
     one_byte a b (path_cmp m n) (slice_cmp nat_cmp m n) l.0 r.0 e (by_bytes m n l.1 r.1)
 
-later_names : (p m k : List ℕ) (qs : List (List ℕ)) → k ≡ front p ++ m → list_any is_slash m ≡ false → AllByRecursion (λ y. path_cmp k y ≡ Less) qs → AllByRecursion (λ n. slice_cmp nat_cmp m n ≡ Less) (names_among p qs)
+later_names : (p m k : List ℕ) (qs : List (List ℕ)) → k ≡ front p ++ m → list_any is_slash m ≡ false
+    → AllByRecursion (λ y. path_cmp k y ≡ Less) qs → AllByRecursion (λ n. slice_cmp nat_cmp m n ≡ Less) (names_among p qs)
 later_names p m k [] e s a = tt
 later_names p m k (x ∷ qs) e s a =
     elim (name_below p x) as (λ o. name_below p x ≡ o → AllByRecursion (λ n. slice_cmp nat_cmp m n ≡ Less) (cons_option o (names_among p qs))) [
@@ -193,8 +213,10 @@ names_ascend p (q ∷ qs) s =
 -- among paths in path order
 pub are_names : (p : List ℕ) (qs : List (List ℕ)) → AllPaths qs → IsStrictlySortedBy path_cmp qs → AreNames p (names_among p qs)
 are_names p qs v s = record {
-  valid = All-from_recursion (λ m. IsTrue (is_name m)) (names_among p qs) (all_weaker (IsFine p) (λ m. IsTrue (is_name m)) (λ m h. h.0) (names_among p qs) (fine_names p qs v));
-  short = All-from_recursion (λ m. length (joined p m) ≤ 4095) (names_among p qs) (all_weaker (IsFine p) (λ m. length (joined p m) ≤ 4095) (λ m h. h.1) (names_among p qs) (fine_names p qs v));
+  valid = All-from_recursion (λ m. IsTrue (is_name m)) (names_among p qs)
+      (all_weaker (IsFine p) (λ m. IsTrue (is_name m)) (λ m h. h.0) (names_among p qs) (fine_names p qs v));
+  short = All-from_recursion (λ m. length (joined p m) ≤ 4095) (names_among p qs)
+      (all_weaker (IsFine p) (λ m. length (joined p m) ≤ 4095) (λ m h. h.1) (names_among p qs) (fine_names p qs v));
   ascend = names_ascend p qs s;
 }
 

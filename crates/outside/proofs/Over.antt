@@ -1,15 +1,17 @@
 -- In a tree all that a path is under is a directory.
-use Rattle.std.proofs.Common.{◌≡◌, ◌≢◌, ◌⊎◌, inl, inr, ℕ, zero, suc, ◌+◌, ◌<◌, ◌≤◌, Bool, true, false, cond, not, ◌||◌, ◌&&◌, List, [], ◌∷◌, ◌++◌, length, drop, get_or, Option, Some, None, refl, ap, ◌∙◌, sym, subst, arith, nat_eq, is_some, append-nil, append_assoc, length-append}
+use Rattle.std.proofs.Common.{◌≡◌, ℕ, zero, suc, ◌+◌, ◌<◌, ◌≤◌, Bool, true, false, cond, ◌||◌, List, [], ◌∷◌, ◌++◌}
+use Rattle.std.proofs.Common.{length, drop, get_or, Option, Some, None, refl, ap, ◌∙◌, sym, subst, arith, nat_eq, is_some, append-nil}
+use Rattle.std.proofs.Common.{length-append}
 use Rattle.std.proofs.lemmas.Bool.{false≢true}
 use Rattle.std.proofs.lemmas.Bool.Decides.{nat_tests}
 use Rattle.std.proofs.lemmas.List.{append_cancel_right}
-use Rattle.std.specs.Prelude.{◌==◌, IsTrue}
+use Rattle.std.specs.Prelude.{◌==◌}
 use Rattle.std.specs.List.{list_any, slice_split}
 use Rattle.std.specs.FinMap.{get}
 use Rattle.std.specs.Cmp.Lexicographic.{pointwise, bytes_decides}
 use Rattle.path_text.specs.Order.{is_within, is_under, front}
 use Rattle.path_text.specs.Path.{refusal, parent_of, is_slash, first_fault, name_fault}
-use Rattle.outside.specs.Tree.{Files, Node, IsTree, is_dir, is_root, name_below}
+use Rattle.outside.specs.Tree.{Files, IsTree, is_dir, is_root, name_below}
 use Rattle.outside.proofs.Children.{child_is, one_name_parts}
 use Rattle.outside.proofs.Names.{split_more, last_fine, after_slash}
 use Rattle.outside.proofs.Parents.{child_of_parent}
@@ -69,7 +71,8 @@ has_slash a w x u e = by (cut w (47 ∷ []) a (x ∷ u) e)
     by (shorter y v f g) = absurd (let l : 1 ≡ length ((y ∷ v) ++ (x ∷ u)) = ap length g in omega (arith, l, length-append (y ∷ v) (x ∷ u)))
 
 no_end : (a b : ℕ) (p : List ℕ) → refusal ((a ∷ b ∷ p) ++ 47 ∷ []) ≡ None → ⊥
-no_end a b p h = clash (last_fine (slice_split is_slash (b ∷ p)) [] (ap first_fault (sym (split_more (b ∷ p) [])) ∙ after_slash a ((b ∷ p) ++ 47 ∷ []) h (omega arith)))
+no_end a b p h = clash (last_fine (slice_split is_slash (b ∷ p)) []
+    (ap first_fault (sym (split_more (b ∷ p) [])) ∙ after_slash a ((b ∷ p) ++ 47 ∷ []) h (omega arith)))
   where
     clash : name_fault [] ≡ None → ⊥
     clash e = cc
@@ -89,7 +92,9 @@ fronts : (r p u : List ℕ) → refusal r ≡ None → refusal p ≡ None → fr
 fronts [] p u fr fp e = cc
 fronts r [] u fr fp e = cc
 fronts (a ∷ []) (b ∷ []) u fr fp e = same_within (a ∷ []) (b ∷ []) (ap (λ c. c ∷ []) (slash_first a [] fr ∙ sym (slash_first b [] fp)))
-fronts (a ∷ []) (b ∷ c ∷ p) u fr fp e = absurd (let l : 1 ≡ length (front (b ∷ c ∷ p) ++ u) = ap length e in omega (arith, l, length-append (front (b ∷ c ∷ p)) u, ap length (front_long b c p), length-append (b ∷ c ∷ p) (47 ∷ [])))
+fronts (a ∷ []) (b ∷ c ∷ p) u fr fp e =
+    absurd (let l : 1 ≡ length (front (b ∷ c ∷ p) ++ u) = ap length e in
+    omega (arith, l, length-append (front (b ∷ c ∷ p)) u, ap length (front_long b c p), length-append (b ∷ c ∷ p) (47 ∷ [])))
 fronts (a ∷ d ∷ r) p u fr fp e = by p fp (cut (a ∷ d ∷ r) (47 ∷ []) (front p) u (sym (front_long a d r) ∙ e))
   where
     whole : (p v : List ℕ) → refusal p ≡ None → a ∷ d ∷ r ≡ front p ++ v → is_within (a ∷ d ∷ r) p ≡ true
@@ -98,11 +103,16 @@ fronts (a ∷ d ∷ r) p u fr fp e = by p fp (cut (a ∷ d ∷ r) (47 ∷ []) (f
     whole (b ∷ []) [] fp f = absurd (let l : length (a ∷ d ∷ r) ≡ 1 = ap length f in omega (arith, l))
     whole (b ∷ c ∷ p) [] fp f = absurd (no_end b c p (subst (λ x. refusal x ≡ None) (f ∙ append-nil (front (b ∷ c ∷ p)) ∙ front_long b c p) fr))
 
-    shorter_end : (p : List ℕ) (x : ℕ) (v w : List ℕ) → refusal p ≡ None → front p ≡ (a ∷ d ∷ r) ++ (x ∷ v) → 47 ∷ [] ≡ (x ∷ v) ++ w → is_within (a ∷ d ∷ r) p ≡ true
+    shorter_end : (p : List ℕ) (x : ℕ) (v w : List ℕ) → refusal p ≡ None → front p ≡ (a ∷ d ∷ r) ++ (x ∷ v) → 47 ∷ [] ≡ (x ∷ v) ++ w
+        → is_within (a ∷ d ∷ r) p ≡ true
     shorter_end [] x v w fp f g = cc
-    shorter_end (b ∷ []) x v w fp f g = absurd (let l : 1 ≡ length ((a ∷ d ∷ r) ++ (x ∷ v)) = ap length f in omega (arith, l, length-append (a ∷ d ∷ r) (x ∷ v)))
+    shorter_end (b ∷ []) x v w fp f g =
+        absurd (let l : 1 ≡ length ((a ∷ d ∷ r) ++ (x ∷ v)) = ap length f in omega (arith, l, length-append (a ∷ d ∷ r) (x ∷ v)))
     shorter_end (b ∷ c ∷ p) x (y ∷ v) w fp f g = absurd (let l : 1 ≡ length ((x ∷ y ∷ v) ++ w) = ap length g in omega (arith, l, length-append (x ∷ y ∷ v) w))
-    shorter_end (b ∷ c ∷ p) x [] w fp f g = same_within (a ∷ d ∷ r) (b ∷ c ∷ p) (sym (append_cancel_right (b ∷ c ∷ p) (a ∷ d ∷ r) (47 ∷ []) (sym (front_long b c p) ∙ f ∙ ap (λ z. (a ∷ d ∷ r) ++ z ∷ []) (sym (ap (λ l. get_or l 0 0) g)))))
+    shorter_end (b ∷ c ∷ p) x [] w fp f g =
+        same_within (a ∷ d ∷ r) (b ∷ c ∷ p)
+        (sym (append_cancel_right (b ∷ c ∷ p) (a ∷ d ∷ r) (47 ∷ [])
+        (sym (front_long b c p) ∙ f ∙ ap (λ z. (a ∷ d ∷ r) ++ z ∷ []) (sym (ap (λ l. get_or l 0 0) g)))))
 
     by : (p : List ℕ) → refusal p ≡ None → Cut (a ∷ d ∷ r) (47 ∷ []) (front p) u → is_within (a ∷ d ∷ r) p ≡ true
     by p fp (longer v f g) = whole p v fp f
@@ -113,16 +123,21 @@ is_the None e = absurd (false≢true e)
 is_the (Some m) e = (m, refl)
 
 -- the parent of what is under a path is that path, or is under it
-pub parent_within : (q p : List ℕ) → refusal q ≡ None → is_root q ≡ false → refusal (parent_of q) ≡ None → refusal p ≡ None → is_under q p ≡ true → is_within (parent_of q) p ≡ true
+pub parent_within : (q p : List ℕ) → refusal q ≡ None → is_root q ≡ false → refusal (parent_of q) ≡ None → refusal p ≡ None
+    → is_under q p ≡ true → is_within (parent_of q) p ≡ true
 parent_within q p fine off fr fp u =
     let n = is_the (name_below (parent_of q) q) (child_of_parent q fine off) in
     let c = child_is (parent_of q) q n.0 n.1 in
     let v = under q p u in
     by n.0 c.0 (one_name_parts n.0 c.1).1 v (cut (front (parent_of q)) n.0 (front p) v.rest (sym c.0 ∙ v.whole))
   where
-    by : (n : List ℕ) → q ≡ front (parent_of q) ++ n → list_any is_slash n ≡ false → (v : Under q p) → Cut (front (parent_of q)) n (front p) v.rest → is_within (parent_of q) p ≡ true
+    by : (n : List ℕ) → q ≡ front (parent_of q) ++ n → list_any is_slash n ≡ false → (v : Under q p)
+        → Cut (front (parent_of q)) n (front p) v.rest → is_within (parent_of q) p ≡ true
     by n e bare v (longer w f g) = fronts (parent_of q) p w fr fp f
-    by n e bare v (shorter x w f g) = absurd (let d = ends p fp in false≢true (sym bare ∙ ap (list_any is_slash) g ∙ any_left (x ∷ w) v.rest (has_slash (front (parent_of q)) d.before x w (sym d.whole ∙ f))))
+    by n e bare v (shorter x w f g) =
+        absurd (let d = ends p fp in
+        false≢true (sym bare ∙ ap (list_any is_slash) g
+        ∙ any_left (x ∷ w) v.rest (has_slash (front (parent_of q)) d.before x w (sym d.whole ∙ f))))
 
 root_fine : (r : List ℕ) → is_root r ≡ true → refusal r ≡ None
 root_fine r e = subst (λ x. refusal x ≡ None) (sym ((bytes_decides r (47 ∷ [])).0 e)) refl
@@ -132,7 +147,9 @@ some_front p fp = let d = ends p fp in omega (arith, ap length d.whole, length-a
 
 not_root : (q p : List ℕ) → refusal p ≡ None → is_under q p ≡ true → is_root q ≡ false
 not_root q p fp u = elim (is_root q) as (λ b. is_root q ≡ b → b ≡ false) [
-  | true ↦ λ is. absurd (let v = under q p u in let l : length q ≡ 1 = ap length ((bytes_decides q (47 ∷ [])).0 is) in let m : length q ≡ length (front p) + length v.rest = ap length v.whole ∙ length-append (front p) v.rest in omega (arith, l, m, v.some, some_front p fp))
+  | true ↦ λ is. absurd (let v = under q p u in let l : length q ≡ 1 = ap length ((bytes_decides q (47 ∷ [])).0 is) in
+      let m : length q ≡ length (front p) + length v.rest = ap length v.whole ∙ length-append (front p) v.rest in
+      omega (arith, l, m, v.some, some_front p fp))
   | false ↦ λ _. refl
 ] refl
 
@@ -144,9 +161,12 @@ valid_there files tree r there = elim (is_root r) as (λ b. is_root r ≡ b → 
 ] refl
 
 shorter_parent : (q r : List ℕ) → is_under q r ≡ true → length r < length q
-shorter_parent q r u = let v = under q r u in let m : length q ≡ length (front r) + length v.rest = ap length v.whole ∙ length-append (front r) v.rest in omega (arith, m, v.some, front_longer r)
+shorter_parent q r u = let v = under q r u in
+    let m : length q ≡ length (front r) + length v.rest = ap length v.whole ∙ length-append (front r) v.rest in
+    omega (arith, m, v.some, front_longer r)
 
-over : (n : ℕ) (files : Files) → IsTree files → (q p : List ℕ) → length q ≤ n → refusal p ≡ None → is_under q p ≡ true → is_some (get files q) ≡ true → is_dir (get files p) ≡ true
+over : (n : ℕ) (files : Files) → IsTree files → (q p : List ℕ) → length q ≤ n → refusal p ≡ None → is_under q p ≡ true
+    → is_some (get files q) ≡ true → is_dir (get files p) ≡ true
 over zero files tree q p l fp u there = absurd (let m = shorter_parent q p u in omega (arith, l, m))
 over (suc n) files tree q p l fp u there =
     let off = not_root q p fp u in
@@ -154,10 +174,12 @@ over (suc n) files tree q p l fp u there =
     let dir = (at_tree files tree q).in_dir off there in
     let some = dir_is_there (get files (parent_of q)) dir in
     let on = parent_within q p fine off (valid_there files tree (parent_of q) some) fp u in
-    elim (pointwise nat_eq (parent_of q) p) as (λ b. pointwise nat_eq (parent_of q) p ≡ b → (b || is_under (parent_of q) p) ≡ true → is_dir (get files p) ≡ true) [
+    elim (pointwise nat_eq (parent_of q) p) as
+    (λ b. pointwise nat_eq (parent_of q) p ≡ b → (b || is_under (parent_of q) p) ≡ true → is_dir (get files p) ≡ true) [
       | true ↦ λ is _. subst (λ x. is_dir (get files x) ≡ true) ((bytes_decides (parent_of q) p).0 is) dir
       | false ↦ λ _ v. over n files tree (parent_of q) p (let m = shorter_parent q (parent_of q) (parent_under q fine off) in omega (arith, m, l)) fp v some
     ] refl on
 
-pub under_dirs : (files : Files) → IsTree files → (q p : List ℕ) → refusal p ≡ None → is_under q p ≡ true → is_some (get files q) ≡ true → is_dir (get files p) ≡ true
+pub under_dirs : (files : Files) → IsTree files → (q p : List ℕ) → refusal p ≡ None → is_under q p ≡ true → is_some (get files q) ≡ true
+    → is_dir (get files p) ≡ true
 under_dirs files tree q p = over (length q) files tree q p (omega arith)

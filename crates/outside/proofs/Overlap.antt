@@ -1,13 +1,12 @@
 -- Two leases at once.
-use Rattle.std.proofs.Common.{◌≡◌, ℕ, Bool, true, false, cond, not, List, Option, Some, None, refl, ap, ◌∙◌, sym}
+use Rattle.std.proofs.Common.{◌≡◌, ℕ, Bool, true, false, cond, not, List, None, refl, ap, ◌∙◌, sym}
 use Rattle.std.proofs.lemmas.Bool.{false≢true}
 use Rattle.std.specs.FinMap.{get, get-retain_keys, same_map}
-use Rattle.path_text.specs.Order.{path_cmp}
 use Rattle.path_text.specs.Total.{path_cmp_total, path_cmp_same}
-use Rattle.outside.specs.Tree.{Files, Node}
-use Rattle.outside.specs.Lease.{in_tops, leased, kept, Joins}
+use Rattle.outside.specs.Tree.{Files}
+use Rattle.outside.specs.Lease.{in_tops, leased, kept}
 use Rattle.outside.specs.Laid.{laid, get_laid}
-use Rattle.outside.specs.Parts.{AreApartTops, Between, LeasesOverlap}
+use Rattle.outside.specs.Parts.{LeasesOverlap}
 
 get_part : (tops : List (List ℕ)) (files : Files) (q : List ℕ) → get (leased tops files) q ≡ cond (in_tops tops q) (get files q) None
 get_part tops files q = get-retain_keys files (in_tops tops) q (λ x e. ap (in_tops tops) (sym (path_cmp_same q x e)))
@@ -20,19 +19,22 @@ leases_overlap one two own own' files next last apart first second = record {
   mid = mid;
   first = get_laid one own (kept one files);
   second = λ q. second q ∙ by_second q (in_tops two q) refl;
-  same_part = same_map path_cmp_total path_cmp_same (leased two mid) (leased two (kept one files)) (λ q. get_part two mid q ∙ by_part q (in_tops two q) refl ∙ sym (get_part two (kept one files) q));
+  same_part = same_map path_cmp_total path_cmp_same (leased two mid) (leased two (kept one files))
+      (λ q. get_part two mid q ∙ by_part q (in_tops two q) refl ∙ sym (get_part two (kept one files) q));
 }
   where
     mid : Files
     mid = laid one own (kept one files)
 
     -- outside the second tops both are what the first return made
-    by_second : (q : List ℕ) (b : Bool) → in_tops two q ≡ b → cond b (get own' q) (get next q) ≡ cond b (get own' q) (get (kept two (laid one own (kept one files))) q)
+    by_second : (q : List ℕ) (b : Bool) → in_tops two q ≡ b
+        → cond b (get own' q) (get next q) ≡ cond b (get own' q) (get (kept two (laid one own (kept one files))) q)
     by_second q true on = refl
     by_second q false off =
         first q
         ∙ ap (λ o. cond (in_tops one q) (get own q) o) (get_rest two (kept one files) q ∙ ap (λ b. cond (not b) (get (kept one files) q) None) off)
-        ∙ sym (get_rest two (laid one own (kept one files)) q ∙ ap (λ b. cond (not b) (get (laid one own (kept one files)) q) None) off ∙ get_laid one own (kept one files) q)
+        ∙ sym (get_rest two (laid one own (kept one files)) q ∙ ap (λ b. cond (not b) (get (laid one own (kept one files)) q) None) off
+        ∙ get_laid one own (kept one files) q)
 
     by_part : (q : List ℕ) (b : Bool) → in_tops two q ≡ b → cond b (get (laid one own (kept one files)) q) None ≡ cond b (get (kept one files) q) None
     by_part q false off = refl

@@ -1,5 +1,6 @@
 -- A path is a child of its parent.
-use Rattle.std.proofs.Common.{◌≡◌, ◌≢◌, ℕ, ◌+◌, ◌-◌, ◌<◌, ◌≤◌, zero, suc, Bool, true, false, not, cond, ◌&&◌, ◌||◌, List, [], ◌∷◌, ◌++◌, length, take, get_or, Option, Some, None, refl, ap, ◌∙◌, sym, arith, length-append, append_assoc, eqb}
+use Rattle.std.proofs.Common.{◌≡◌, ◌≢◌, ℕ, ◌+◌, ◌-◌, ◌<◌, ◌≤◌, zero, suc, Bool, true, false, not, cond, ◌&&◌, ◌||◌, List, [], ◌∷◌, ◌++◌, length, take}
+use Rattle.std.proofs.Common.{get_or, Option, Some, None, refl, ap, ◌∙◌, sym, arith, length-append, append_assoc, eqb}
 use Rattle.std.proofs.lemmas.Bool.{false≢true}
 use Rattle.std.proofs.lemmas.Bool.Decides.{nat_tests}
 use Rattle.std.proofs.lemmas.List.{take_at, get_or-append_right}
@@ -46,14 +47,16 @@ neither false b e = (refl, e)
 
 all_bare : (y : List ℕ) (k : ℕ) → list_any is_slash y ≡ false → k < length y → not (is_slash (get_or y k 0)) ≡ true
 all_bare [] k e l = absurd (omega arith)
-all_bare (b ∷ y) k e l = let n = neither (is_slash b) (list_any is_slash y) e in elim k as (λ k. k < length (b ∷ y) → not (is_slash (get_or (b ∷ y) k 0)) ≡ true) [
-  | zero ↦ λ l. ap not n.0
-  | suc j ↦ λ l. all_bare y j n.1 (omega arith)
-] l
+all_bare (b ∷ y) k e l = let n = neither (is_slash b) (list_any is_slash y) e in
+    elim k as (λ k. k < length (b ∷ y) → not (is_slash (get_or (b ∷ y) k 0)) ≡ true) [
+      | zero ↦ λ l. ap not n.0
+      | suc j ↦ λ l. all_bare y j n.1 (omega arith)
+    ] l
 
 before_is : (before base : List ℕ) → list_any is_slash base ≡ false → before_last is_slash (before ++ 47 ∷ base) ≡ before
 before_is before base bare =
-    let n : suffix_len (λ x. not (is_slash x)) all ≡ length all - (length before + 1) = suffix_len_is (λ x. not (is_slash x)) all (length before + 1) 0 (omega (arith, len)) later at in
+    let n : suffix_len (λ x. not (is_slash x)) all ≡ length all - (length before + 1) =
+    suffix_len_is (λ x. not (is_slash x)) all (length before + 1) 0 (omega (arith, len)) later at in
     ap (λ k. take k all) (omega (arith, len, n)) ∙ take_at before (47 ∷ base) (length before) refl
   where
     all : List ℕ
@@ -86,7 +89,8 @@ no_more parts h = clash (last_fine parts [] h)
     clash e = cc
 
 one_name : (x : ℕ) (base : List ℕ) → list_any is_slash (x ∷ base) ≡ false → is_one_name (x ∷ base) ≡ true
-one_name x base b = let some : (length (x ∷ base) == 0) ≡ false = grind (arith, nat_tests) in ap (λ s. not (length (x ∷ base) == 0) && not s) b ∙ ap (λ s. not s && true) some
+one_name x base b = let some : (length (x ∷ base) == 0) ≡ false = grind (arith, nat_tests) in
+    ap (λ s. not (length (x ∷ base) == 0) && not s) b ∙ ap (λ s. not s && true) some
 
 alone : (base : List ℕ) → length base ≡ 0 → length (47 ∷ base) ≡ 1
 alone base z = omega arith
@@ -97,7 +101,8 @@ front_long a b before = grind (arith, nat_tests)
 over_long : (a b : ℕ) (before : List ℕ) → cond (eqb (length (a ∷ b ∷ before)) 0) (47 ∷ []) (a ∷ b ∷ before) ≡ a ∷ b ∷ before
 over_long a b before = let e : eqb (length (a ∷ b ∷ before)) 0 ≡ false = grind (arith, nat_tests) in ap (λ r. cond r (47 ∷ []) (a ∷ b ∷ before)) e
 
-child_at : (q before base : List ℕ) → q ≡ before ++ 47 ∷ base → list_any is_slash base ≡ false → refusal q ≡ None → length q ≢ 1 → name_below (parent_of q) q ≡ Some base
+child_at : (q before base : List ℕ) → q ≡ before ++ 47 ∷ base → list_any is_slash base ≡ false → refusal q ≡ None → length q ≢ 1
+    → name_below (parent_of q) q ≡ Some base
 child_at q [] base e bare fine long =
     ap (λ p. name_below p q) (ap parent_of e ∙ ap (λ b. cond (eqb (length b) 0) (47 ∷ []) b) (before_is [] base bare))
     ∙ name_below-front (47 ∷ []) q base e
@@ -116,9 +121,11 @@ child_at q (a ∷ b ∷ before) base e bare fine long =
     ∙ ap (λ b. cond b (Some base) None) (named base bare parts)
   where
     parts : first_fault (slice_split is_slash (b ∷ before) ++ slice_split is_slash base) ≡ None
-    parts = ap first_fault (sym (split_more (b ∷ before) base)) ∙ after_slash a ((b ∷ before) ++ 47 ∷ base) (ap refusal (sym e) ∙ fine) (omega (arith, length-append (b ∷ before) (47 ∷ base)))
+    parts = ap first_fault (sym (split_more (b ∷ before) base))
+        ∙ after_slash a ((b ∷ before) ++ 47 ∷ base) (ap refusal (sym e) ∙ fine) (omega (arith, length-append (b ∷ before) (47 ∷ base)))
 
-    named : (base : List ℕ) → list_any is_slash base ≡ false → first_fault (slice_split is_slash (b ∷ before) ++ slice_split is_slash base) ≡ None → is_one_name base ≡ true
+    named : (base : List ℕ) → list_any is_slash base ≡ false
+        → first_fault (slice_split is_slash (b ∷ before) ++ slice_split is_slash base) ≡ None → is_one_name base ≡ true
     named [] n h = absurd (no_more (slice_split is_slash (b ∷ before)) h)
     named (x ∷ base) n h = one_name x base n
 
@@ -139,10 +146,13 @@ child_of_parent q fine off =
 
 -- so where no name is in a directory, no path has it as its parent
 
-some_name : (p q : List ℕ) (qs : List (List ℕ)) → list_any (eq_by_cmp path_cmp q) qs ≡ true → is_some (name_below p q) ≡ true → 0 < length (filter_map (name_below p) qs)
+some_name : (p q : List ℕ) (qs : List (List ℕ)) → list_any (eq_by_cmp path_cmp q) qs ≡ true → is_some (name_below p q) ≡ true
+    → 0 < length (filter_map (name_below p) qs)
 some_name p q [] e s = absurd (false≢true e)
 some_name p q (x ∷ qs) e s =
-    elim (eq_by_cmp path_cmp q x) as (λ b. eq_by_cmp path_cmp q x ≡ b → (b || list_any (eq_by_cmp path_cmp q) qs) ≡ true → 0 < length (cons_option (name_below p x) (filter_map (name_below p) qs))) [
+    elim (eq_by_cmp path_cmp q x) as
+    (λ b. eq_by_cmp path_cmp q x ≡ b → (b || list_any (eq_by_cmp path_cmp q) qs) ≡ true
+    → 0 < length (cons_option (name_below p x) (filter_map (name_below p) qs))) [
       | true ↦ λ is h. first (name_below p x) (ap (λ y. is_some (name_below p y)) (sym ((bytes_decides q x).0 (path_cmp_ties q x ∙ is))) ∙ s)
       | false ↦ λ is h. later (name_below p x) (some_name p q qs h s)
     ] refl e
@@ -155,7 +165,8 @@ some_name p q (x ∷ qs) e s =
     later None h = h
     later (Some n) h = omega arith
 
-pub no_child : (files : Files) (p q : List ℕ) → length (names_in files p) ≡ 0 → refusal q ≡ None → is_root q ≡ false → is_some (get files q) ≡ true → parent_of q ≡ p → ⊥
+pub no_child : (files : Files) (p q : List ℕ) → length (names_in files p) ≡ 0 → refusal q ≡ None → is_root q ≡ false
+    → is_some (get files q) ≡ true → parent_of q ≡ p → ⊥
 no_child files p q none fine off here over =
     let there : list_any (eq_by_cmp path_cmp q) (keys files) ≡ true = sym (contains_key-keys files q) ∙ here in
     let more = some_name p q (keys files) there (ap (λ r. is_some (name_below r q)) (sym over) ∙ child_of_parent q fine off) in

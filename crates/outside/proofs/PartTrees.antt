@@ -1,13 +1,13 @@
 -- What is leased of a tree is a part.
-use Rattle.std.proofs.Common.{◌≡◌, ◌⊎◌, inl, inr, ℕ, Bool, true, false, cond, ◌||◌, List, Option, Some, None, refl, ap, ◌∙◌, sym, subst, nat_eq, is_some, slice_get, []}
+use Rattle.std.proofs.Common.{◌≡◌, ℕ, Bool, true, false, cond, ◌||◌, List, Option, Some, None, refl, ap, ◌∙◌, sym, subst, nat_eq}
+use Rattle.std.proofs.Common.{is_some, slice_get, []}
 use Rattle.std.proofs.lemmas.Bool.{false≢true}
 use Rattle.std.proofs.lemmas.Option.{slice_get_within, get_or_from_slice_get}
 use Rattle.std.proofs.lemmas.List.Folds.{list_any_at}
-use Rattle.std.specs.List.{list_any}
 use Rattle.std.specs.FinMap.{get}
 use Rattle.std.specs.Cmp.Lexicographic.{pointwise, bytes_decides}
 use Rattle.path_text.specs.Order.{is_within, is_under}
-use Rattle.path_text.specs.Path.{refusal, parent_of}
+use Rattle.path_text.specs.Path.{parent_of}
 use Rattle.outside.specs.Tree.{Files, Node, IsTree, is_dir, is_root}
 use Rattle.outside.specs.Lease.{in_tops, leased}
 use Rattle.outside.specs.Parts.{IsPart, AreTops, LeasesKeepTrees}
@@ -21,7 +21,8 @@ some_of false o e = absurd (false≢true e)
 
 -- a top of the list
 top_there : (tops : List (List ℕ)) (i : ℕ) (t : List ℕ) → slice_get tops i ≡ Some t → is_top (under tops) t ≡ true
-top_there tops i t at = list_any_at (λ top. pointwise nat_eq top t) tops i [] (slice_get_within tops i t at) (ap (λ x. pointwise nat_eq x t) (get_or_from_slice_get tops i t [] at) ∙ (bytes_decides t t).1 refl)
+top_there tops i t at = list_any_at (λ top. pointwise nat_eq top t) tops i [] (slice_get_within tops i t at)
+    (ap (λ x. pointwise nat_eq x t) (get_or_from_slice_get tops i t [] at) ∙ (bytes_decides t t).1 refl)
 
 in_by : (tops : List (List ℕ)) (i : ℕ) (t q : List ℕ) → slice_get tops i ≡ Some t → is_within q t ≡ true → in_tops tops q ≡ true
 in_by tops i t q at on = list_any_at (is_within q) tops i [] (slice_get_within tops i t at) (ap (is_within q) (get_or_from_slice_get tops i t [] at) ∙ on)
@@ -47,16 +48,24 @@ part_of tops files ok tree = record {
     or_true true = refl
     or_true false = refl
 
-    by : (q : List ℕ) → in_tops tops q ≡ true → is_some (get files q) ≡ true → Standing tops q → (is_top (under tops) q || is_dir (get (leased tops files) (parent_of q))) ≡ true
-    by q on some s = elim (pointwise nat_eq q s.top) as (λ b. pointwise nat_eq q s.top ≡ b → (b || is_under q s.top) ≡ true → (is_top (under tops) q || is_dir (get (leased tops files) (parent_of q))) ≡ true) [
-      | true ↦ λ is _. ap (λ b. b || is_dir (get (leased tops files) (parent_of q))) (subst (λ x. is_top (under tops) x ≡ true) (sym ((bytes_decides q s.top).0 is)) (top_there tops s.place s.top s.at))
-      | false ↦ λ _ u.
-          let p = at_tree files tree q in
-          let r = off q on in
-          let dir = p.in_dir r some in
-          let within = parent_within q s.top (p.fine r some) r (valid_there files tree (parent_of q) (dir_is_there (get files (parent_of q)) dir)) (ok.valid s.place s.top s.at) u in
-          ap (λ b. is_top (under tops) q || b) (ap is_dir (get_part tops files (parent_of q) ∙ ap (λ b. cond b (get files (parent_of q)) None) (in_by tops s.place s.top (parent_of q) s.at within)) ∙ dir) ∙ or_true (is_top (under tops) q)
-    ] refl s.on
+    by : (q : List ℕ) → in_tops tops q ≡ true → is_some (get files q) ≡ true → Standing tops q
+        → (is_top (under tops) q || is_dir (get (leased tops files) (parent_of q))) ≡ true
+    by q on some s = elim (pointwise nat_eq q s.top) as
+        (λ b. pointwise nat_eq q s.top ≡ b → (b || is_under q s.top) ≡ true
+        → (is_top (under tops) q || is_dir (get (leased tops files) (parent_of q))) ≡ true) [
+          | true ↦ λ is _. ap (λ b. b || is_dir (get (leased tops files) (parent_of q)))
+              (subst (λ x. is_top (under tops) x ≡ true) (sym ((bytes_decides q s.top).0 is)) (top_there tops s.place s.top s.at))
+          | false ↦ λ _ u.
+              let p = at_tree files tree q in
+              let r = off q on in
+              let dir = p.in_dir r some in
+              let within = parent_within q s.top (p.fine r some) r
+              (valid_there files tree (parent_of q) (dir_is_there (get files (parent_of q)) dir)) (ok.valid s.place s.top s.at) u in
+              ap (λ b. is_top (under tops) q || b)
+              (ap is_dir (get_part tops files (parent_of q)
+              ∙ ap (λ b. cond b (get files (parent_of q)) None) (in_by tops s.place s.top (parent_of q) s.at within)) ∙ dir)
+              ∙ or_true (is_top (under tops) q)
+        ] refl s.on
 
 pub leases_keep_trees : LeasesKeepTrees
 leases_keep_trees = record { rest = rest_is_tree; part = part_of; back = back_is_tree }

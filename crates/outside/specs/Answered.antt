@@ -1,7 +1,7 @@
 -- Whole files, loaded and saved, by what was answered: this holds over all files, also over those that tell no tree. What a call
 -- may answer, and leave, is a relation of the files (`gives`) of which nothing is known, so an answer is named here only where it
 -- was given. Our own.
-use Rattle.std.specs.Prelude.{◌≡◌, ℕ, ◌+◌, ◌<◌, Bool, true, false, List, [], ◌∷◌, length, take, drop, if◌then◌else◌, Option, Some, None, ◌⊎◌, Result, Ok, Err}
+use Rattle.std.specs.Prelude.{◌≡◌, ℕ, ◌+◌, Bool, true, false, List, [], ◌∷◌, length, take, drop, if◌then◌else◌, Option, Some, None, ◌⊎◌, Result, Ok, Err}
 use Rattle.path_text.specs.Path.{parent_of}
 use Rattle.outside.specs.Asked.{Asks, Write, Writes}
 use Rattle.outside.specs.Asked as asked

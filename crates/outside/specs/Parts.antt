@@ -1,5 +1,5 @@
 -- What is true of the nodes of a part, and what leases keep true. Our own.
-use Rattle.std.specs.Prelude.{◌≡◌, ℕ, Bool, true, false, ◌||◌, List, Option, Some, None, is_some, slice_get, IsTrue}
+use Rattle.std.specs.Prelude.{◌≡◌, ℕ, true, false, ◌||◌, List, Some, None, is_some, slice_get, IsTrue}
 use Rattle.std.specs.FinMap.{get}
 use Rattle.path_text.specs.Order.{is_under}
 use Rattle.path_text.specs.Path.{refusal, parent_of, level_of}
@@ -29,7 +29,8 @@ pub record AreTops (tops : List (List ℕ)) : Type 0 where
 pub record LeasesKeepTrees : Type 0 where
   pub rest : (tops : List (List ℕ)) (files : Files) → AreTops tops → IsTree files → IsTree (kept tops files)
   pub part : (tops : List (List ℕ)) (files : Files) → AreTops tops → IsTree files → IsPart tops (leased tops files)
-  pub back : (tops : List (List ℕ)) (own rest after : Files) → AreTops tops → IsPart tops own → IsTree rest → HaveParents tops rest → Joins tops own rest after → IsTree after
+  pub back : (tops : List (List ℕ)) (own rest after : Files) → AreTops tops → IsPart tops own → IsTree rest → HaveParents tops rest
+      → Joins tops own rest after → IsTree after
 
 abbrev pub AreApartTops : List (List ℕ) → List (List ℕ) → Type 0
 AreApartTops one two = (q : List ℕ) → in_tops one q ≡ true → in_tops two q ≡ false
@@ -48,4 +49,5 @@ LeasesOverlap = (one two : List (List ℕ)) (own own' files next last : Files) �
 
 -- in a tree all that a path is under is a directory
 abbrev pub UnderDirectories : Type 0
-UnderDirectories = (files : Files) (q p : List ℕ) → IsTree files → refusal p ≡ None → IsTrue (is_under q p) → is_some (get files q) ≡ true → is_dir (get files p) ≡ true
+UnderDirectories = (files : Files) (q p : List ℕ) → IsTree files → refusal p ≡ None → IsTrue (is_under q p) → is_some (get files q) ≡ true
+    → is_dir (get files p) ≡ true

@@ -1,5 +1,6 @@
 -- A tree of files: a finite map from paths to nodes. Our own, after the tree of a file system.
-use Rattle.std.specs.Prelude.{◌≡◌, ℕ, ◌-◌, ◌<◌, ◌≤◌, Bool, true, false, not, ◌&&◌, ◌||◌, List, [], ◌∷◌, length, take, drop, if◌then◌else◌, ◌==◌, Option, Some, None, IsTrue, nat_eq, is_none, is_some}
+use Rattle.std.specs.Prelude.{◌≡◌, ℕ, ◌-◌, ◌<◌, ◌≤◌, Bool, true, false, not, ◌&&◌, ◌||◌, List, [], ◌∷◌, length, take, drop, if◌then◌else◌, ◌==◌}
+use Rattle.std.specs.Prelude.{Option, Some, None, IsTrue, nat_eq, is_none, is_some}
 use Rattle.std.specs.List.{starts_with, list_any, filter_map, All}
 use Rattle.std.specs.FinMap.{FinMap, get, keys}
 use Rattle.std.specs.List.Sorted.{IsStrictlySortedBy}

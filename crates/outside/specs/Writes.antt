@@ -1,5 +1,6 @@
 -- Where files may be written, and what each call that writes answers and leaves. Our own, after the calls of a file system.
-use Rattle.std.specs.Prelude.{◌≡◌, ℕ, ◌+◌, ◌≤◌, Bool, true, false, not, ◌&&◌, ◌||◌, List, ◌++◌, length, take, drop, if◌then◌else◌, ◌==◌, Option, Some, None, IfSome, is_some, is_none, nat_eq, Result, Ok, Err}
+use Rattle.std.specs.Prelude.{◌≡◌, ℕ, ◌+◌, ◌≤◌, Bool, true, false, not, ◌&&◌, ◌||◌, List, ◌++◌, length, take, drop, if◌then◌else◌, ◌==◌, Option, Some}
+use Rattle.std.specs.Prelude.{None, IfSome, is_some, is_none, nat_eq, Result, Ok, Err}
 use Rattle.std.specs.List.{list_any, list_all}
 use Rattle.std.specs.FinMap.{get, insert}
 use Rattle.std.specs.Cmp.Lexicographic.{pointwise}

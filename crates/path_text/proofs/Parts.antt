@@ -1,5 +1,7 @@
 -- The parts of a path: what stands before its last slash and behind it, how many names it has, what stands behind the front of another.
-use Rattle.std.proofs.Common.{◌≡◌, ◌≢◌, ℕ, ◌+◌, ◌-◌, ◌<◌, ◌≤◌, true, false, not, ◌&&◌, ◌||◌, ◌⊎◌, ⊎_elim, List, [], ◌∷◌, ◌++◌, length, take, drop, get_or, refl, ap, ◌∙◌, sym, subst, arith, Option, Some, None, cond, eqb, suc, append_assoc, length-append, length-drop, take-append-drop, drop_of_length-le, get_or-drop, inl, inr}
+use Rattle.std.proofs.Common.{◌≡◌, ◌≢◌, ℕ, ◌+◌, ◌-◌, ◌<◌, ◌≤◌, true, false, not, ◌&&◌, ◌||◌, ◌⊎◌, ⊎_elim, List, [], ◌∷◌, ◌++◌, length, take, drop}
+use Rattle.std.proofs.Common.{get_or, refl, ap, ◌∙◌, sym, subst, arith, Option, Some, None, cond, eqb, suc, append_assoc, length-append, length-drop}
+use Rattle.std.proofs.Common.{take-append-drop, drop_of_length-le, get_or-drop, inl, inr}
 use Rattle.std.specs.Prelude.{slice_index, nat_eq, nat_lt, ◌==◌, MatchOption, IfSome, IfNone, OnSome, is_none}
 use Rattle.std.specs.List.{slice_split, list_any, before_last, after_last, suffix_len, starts_with, count_by}
 use Rattle.std.specs.Bool.{IsTrue}

@@ -1,5 +1,7 @@
 -- Printable text: where it may be read, and that reading undoes writing.
-use Rattle.std.proofs.Common.{◌≡◌, ◌≢◌, ℕ, ◌+◌, ◌*◌, ◌/◌, ◌%◌, ◌<◌, ◌≤◌, Bool, true, false, not, ◌&&◌, List, [], ◌∷◌, ◌++◌, length, drop, get_or, refl, ap, ◌∙◌, sym, subst, arith, cond, zero, suc, length-append, append_assoc, drop-cons, add-one, get_or-drop, Ok, Err, None, Some, Option}
+use Rattle.std.proofs.Common.{◌≡◌, ◌≢◌, ℕ, ◌+◌, ◌*◌, ◌/◌, ◌%◌, ◌<◌, ◌≤◌, Bool, true, false, not, ◌&&◌, List, [], ◌∷◌, ◌++◌, length, drop, get_or}
+use Rattle.std.proofs.Common.{refl, ap, ◌∙◌, sym, subst, arith, cond, zero, suc, length-append, append_assoc, drop-cons, add-one, get_or-drop, Ok}
+use Rattle.std.proofs.Common.{Err, None, Some, Option}
 use Rattle.std.specs.Prelude.{nat_eq, nat_lt, ◌==◌, slice_index}
 use Rattle.std.specs.Bool.{IsTrue}
 use Rattle.std.specs.List.{starts_with}
@@ -13,7 +15,8 @@ use Rattle.std.specs.Str.{IsUtf8, IsCharBoundary}
 use Rattle.path_text.specs.declared.errors.PathError.{PathError}
 use Rattle.path_text.specs.declared.errors.EscapeError.TheVariants.{BadEscape}
 use Rattle.path_text.specs.Path.{refusal}
-use Rattle.path_text.specs.Escape.{hex_digit, is_escaped, escaped, escape, hex_value, told_byte, begins_escape, good_len, unescaped, path_of, reading, ReadingUndoesWriting}
+use Rattle.path_text.specs.Escape.{hex_digit, is_escaped, escaped, escape, hex_value, told_byte, begins_escape, good_len, unescaped, path_of, reading}
+use Rattle.path_text.specs.Escape.{ReadingUndoesWriting}
 
 pub as_escape : (b : ℕ) → is_escaped b ≡ true → escaped b ≡ 92 ∷ 120 ∷ hex_digit (b / 16) ∷ hex_digit (b % 16) ∷ []
 as_escape b e = ap (λ t. cond t (92 ∷ 120 ∷ hex_digit (b / 16) ∷ hex_digit (b % 16) ∷ []) (b ∷ [])) e

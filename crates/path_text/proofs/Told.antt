@@ -1,5 +1,6 @@
 -- What is read off printable text is so of the bytes that it stands for.
-use Rattle.std.proofs.Common.{◌≡◌, ℕ, ◌+◌, ◌*◌, ◌/◌, ◌%◌, ◌<◌, ◌≤◌, Bool, true, false, ◌&&◌, ◌||◌, List, [], ◌∷◌, ◌++◌, map, length, drop, refl, ap, ◌∙◌, sym, subst, arith, cond, Some, None, get_or, add-one, drop-cons}
+use Rattle.std.proofs.Common.{◌≡◌, ℕ, ◌+◌, ◌*◌, ◌/◌, ◌%◌, ◌<◌, ◌≤◌, Bool, true, false, ◌&&◌, ◌||◌, List, [], ◌∷◌, ◌++◌, map, length, drop, refl, ap}
+use Rattle.std.proofs.Common.{◌∙◌, sym, subst, arith, cond, Some, None, get_or, add-one, drop-cons}
 use Rattle.std.specs.Prelude.{nat_le, ◌==◌, is_none}
 use Rattle.std.specs.List.{list_any, list_all, count_by, slice_split, onto_first}
 use Rattle.std.proofs.lemmas.List.Sums.{sum_by-cons}

@@ -1,5 +1,6 @@
 -- The paths under a path stand together.
-use Rattle.std.proofs.Common.{◌≡◌, ℕ, ◌<◌, Bool, true, false, ◌&&◌, ◌||◌, List, [], ◌∷◌, ◌++◌, length, drop, refl, ap, ◌∙◌, sym, arith, cond, append_assoc, length-append, append-nil, None}
+use Rattle.std.proofs.Common.{◌≡◌, ℕ, ◌<◌, Bool, true, false, ◌&&◌, ◌||◌, List, [], ◌∷◌, ◌++◌, length, drop, refl, ap, ◌∙◌, sym, arith, cond}
+use Rattle.std.proofs.Common.{append_assoc, length-append, append-nil, None}
 use Rattle.std.specs.Prelude.{◌==◌, nat_eq, nat_lt, IsTrue}
 use Rattle.std.specs.List.{starts_with, slice_split}
 use Rattle.std.specs.Cmp.{first_so, second_so}

@@ -1,5 +1,6 @@
 -- How a path is written so that it fills one line of printable text, and how such a text is read. Our own.
-use Rattle.std.specs.Prelude.{◌≡◌, ℕ, ◌+◌, ◌-◌, ◌*◌, ◌/◌, ◌%◌, Bool, not, ◌&&◌, List, [], ◌∷◌, length, drop, if◌then◌else◌, nat_lt, nat_eq, ◌==◌, ◌||◌, slice_index, Option, Some, None, Result, Ok, Err}
+use Rattle.std.specs.Prelude.{◌≡◌, ℕ, ◌+◌, ◌-◌, ◌*◌, ◌/◌, ◌%◌, Bool, not, ◌&&◌, List, [], ◌∷◌, length, drop, if◌then◌else◌, nat_lt, nat_eq, ◌==◌}
+use Rattle.std.specs.Prelude.{◌||◌, slice_index, Option, Some, None, Result, Ok, Err}
 use Rattle.std.specs.List.{flat_map, starts_with}
 use Rattle.path_text.specs.declared.errors.PathError.{PathError}
 use Rattle.path_text.specs.declared.errors.EscapeError.{EscapeError}

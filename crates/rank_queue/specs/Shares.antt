@@ -1,4 +1,5 @@
--- What a rank gives and whom it asks. That an idle rank asks another by lot, which gives it a part of its queue, equal or by lot, is from LaFon, Misra and Bringhurst, On Distributed File Tree Walk of Parallel File Systems (SC 2012); the amounts are our own.
+-- What a rank gives and whom it asks. That an idle rank asks another by lot, which gives it a part of its queue, equal or by lot, is from
+-- LaFon, Misra and Bringhurst, On Distributed File Tree Walk of Parallel File Systems (SC 2012); the amounts are our own.
 use Rattle.std.specs.Prelude.{ℕ, ◌+◌, ◌-◌, ◌/◌, ◌%◌, if◌then◌else◌, nat_lt}
 use Rattle.rand_pcg.specs.Lcg.{Lcg, started, increment_of}
 use Rattle.rand_pcg.specs.Pcg.{multiplier_64, pcg32}

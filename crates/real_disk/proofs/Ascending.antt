@@ -32,7 +32,8 @@ first_name [] name e = (tt, tt)
 first_name (x ∷ names) name e = absurd (omega arith)
 
 -- a name above the one at the last place
-pub next_name : (names : List (List ℕ)) (k : ℕ) (last name : List ℕ) → slice_get names k ≡ Some last → k + 1 ≡ length names → slice_cmp nat_cmp last name ≡ Less →
+pub next_name : (names : List (List ℕ)) (k : ℕ) (last name : List ℕ) → slice_get names k ≡ Some last → k + 1 ≡ length names
+    → slice_cmp nat_cmp last name ≡ Less →
     IsStrictlySortedBy (slice_cmp nat_cmp) names → IsStrictlySortedBy (slice_cmp nat_cmp) (names ++ name ∷ [])
 unfolding IsStrictlySortedBy
 next_name [] k last name e n h s = (tt, tt)

@@ -1,5 +1,6 @@
 -- What is chosen of a walk of paths below `/` can be removed.
-use Rattle.std.proofs.Common.{◌≡◌, ◌≢◌, ℕ, ◌<◌, ◌≤◌, true, false, cond, ◌||◌, List, [], ◌∷◌, ◌++◌, length, take, min, Option, Some, None, IfSome, refl, ap, ◌∙◌, sym, subst, arith, nat_eq, is_some, get_or, length-append, length-take}
+use Rattle.std.proofs.Common.{◌≡◌, ◌≢◌, ℕ, ◌<◌, ◌≤◌, true, false, cond, ◌||◌, List, [], ◌∷◌, ◌++◌, length, take, min, Option, Some, None, IfSome}
+use Rattle.std.proofs.Common.{refl, ap, ◌∙◌, sym, subst, arith, nat_eq, is_some, get_or, length-append, length-take}
 use Rattle.std.proofs.lemmas.Bool.{false≢true}
 use Rattle.std.proofs.lemmas.Bool.Decides.{nat_tests}
 use Rattle.std.proofs.lemmas.List.Elements.{All-filter, All-from_recursion, recursion_from_All}
@@ -115,8 +116,10 @@ told law files es rs is =
 
 -- what is found
 
-pub can_be_removed : (common : Common) (given : List (List ℕ)) (choice : Choice) (now : ℕ) (before after : Side) (chosen : List Entry) (notes : List Note) (account : Account) →
-    All Lower given → Finds common (roots given) (Some choice) now before after chosen notes account → IsStrictlySortedBy path_cmp (paths chosen) → AreChosen chosen
+pub can_be_removed : (common : Common) (given : List (List ℕ)) (choice : Choice) (now : ℕ) (before after : Side) (chosen : List Entry)
+    (notes : List Note) (account : Account) →
+    All Lower given → Finds common (roots given) (Some choice) now before after chosen notes account
+    → IsStrictlySortedBy path_cmp (paths chosen) → AreChosen chosen
 can_be_removed common given choice now before after chosen notes account low f ascend =
     let w = f.survey.listed in
     let roots = roots_lower given w.roots low w.are.among in
@@ -128,7 +131,8 @@ can_be_removed common given choice now before after chosen notes account low f a
       lower = subst (λ es. All (λ e. is_root e.path ≡ false) es) is (All-filter _ (λ e. is_root e.path ≡ false) f.entries lower);
     }
 
-pub are_there : (common : Common) (given : List (List ℕ)) (choice : Choice) (now : ℕ) (before after : Side) (chosen : List Entry) (notes : List Note) (account : Account) →
+pub are_there : (common : Common) (given : List (List ℕ)) (choice : Choice) (now : ℕ) (before after : Side) (chosen : List Entry)
+    (notes : List Note) (account : Account) →
     EntriesAreTold → AreChosen chosen → Finds common (roots given) (Some choice) now before after chosen notes account → IfSome before.tree (AreThere chosen)
 are_there common given choice now before after chosen notes account law can f = by before.tree f.survey.listed.told
   where

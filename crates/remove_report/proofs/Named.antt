@@ -18,7 +18,8 @@ no_row : (k : ℕ) (p : List ℕ) → option_map (λ (r : Row). r.0) (slice_get 
 no_row zero p e = cc
 no_row (suc k) p e = cc
 
-one_more : (rows : List Row) (k : ℕ) (p : List ℕ) (f : Fate) → option_map (λ (r : Row). r.0) (slice_get rows k) ≡ Some p → option_map (λ (r : Row). r.1) (slice_get rows k) ≡ Some f →
+one_more : (rows : List Row) (k : ℕ) (p : List ℕ) (f : Fate) → option_map (λ (r : Row). r.0) (slice_get rows k) ≡ Some p
+    → option_map (λ (r : Row). r.1) (slice_get rows k) ≡ Some f →
     fate_notes (take (suc k) rows) ≡ fate_notes (take k rows) ++ row_notes (p, f)
 one_more [] k p f a b = absurd (no_row k p a)
 one_more (row ∷ rows) zero p f a b = append-nil (row_notes row) ∙ (λ i. row_notes (the_path row p a i, the_fate row f b i))
@@ -31,5 +32,6 @@ pub named_more : (rows : List Row) (k : ℕ) (p : List ℕ) (f : Fate) (old now 
     next ≡ old ++ fate_notes (take (k + 1) rows)
 named_more rows k p f old now next a b so_far is =
     let step : suc k ≡ k + 1 = omega arith in
-    is ∙ ap (λ ns. ns ++ row_notes (p, f)) so_far ∙ append_assoc old (fate_notes (take k rows)) (row_notes (p, f)) ∙ ap (λ ns. old ++ ns) (sym (one_more rows k p f a b))
+    is ∙ ap (λ ns. ns ++ row_notes (p, f)) so_far ∙ append_assoc old (fate_notes (take k rows)) (row_notes (p, f))
+    ∙ ap (λ ns. old ++ ns) (sym (one_more rows k p f a b))
     ∙ ap (λ n. old ++ fate_notes (take n rows)) step

@@ -14,8 +14,10 @@ use Rattle.remove_report.specs.Choosing.{Chooses}
 use Rattle.remove_report.specs.Removing.{StopsRemove, LeavesBy, LeavesRemove}
 
 -- choosing leaves the tree as it was
-pub chooses_by : (asked : RemoveAsked) (now : ℕ) (before found : Side) (chosen : List Entry) (named : List Note) (account : Account) → found.tree ≡ before.tree →
-    Finds asked.common (roots asked.roots) (Some asked.choice) now before found chosen named account → Chooses asked now before (side_of before.tree found.count) chosen named
+pub chooses_by : (asked : RemoveAsked) (now : ℕ) (before found : Side) (chosen : List Entry) (named : List Note) (account : Account)
+    → found.tree ≡ before.tree →
+    Finds asked.common (roots asked.roots) (Some asked.choice) now before found chosen named account
+    → Chooses asked now before (side_of before.tree found.count) chosen named
 chooses_by asked now before found chosen named account same f = record {
   account = account;
   finds = subst (λ t. Finds asked.common (roots asked.roots) (Some asked.choice) now before (side_of t found.count) chosen named account) same f;
@@ -35,7 +37,8 @@ leaves_all asked now before after same = by asked.dryrun
 
 -- what was chosen may have, unless nothing was to be removed
 pub leaves_others : (asked : RemoveAsked) (now : ℕ) (before found after : Side) (chosen : List Entry) (named : List Note) → found.tree ≡ before.tree →
-    Chooses asked now before (side_of before.tree found.count) chosen named → (asked.dryrun ≡ true → after.tree ≡ found.tree) → is_some after.tree ≡ is_some found.tree →
+    Chooses asked now before (side_of before.tree found.count) chosen named → (asked.dryrun ≡ true → after.tree ≡ found.tree)
+    → is_some after.tree ≡ is_some found.tree →
     IfSome found.tree (λ old. IfSome after.tree (SameButChosen (paths chosen) old)) → LeavesRemove asked now before after
 leaves_others asked now before found after chosen named same chooses dry tells others = by asked.dryrun dry
   where

@@ -1,5 +1,6 @@
 -- When drm succeeds.
-use Rattle.std.proofs.Common.{◌≡◌, inr, ⊎_elim, ℕ, zero, suc, ◌+◌, ◌<◌, ◌≤◌, Bool, true, false, cond, ◌||◌, ◌&&◌, List, [], ◌∷◌, ◌++◌, length, map, Option, Some, None, IfSome, refl, ap, ◌∙◌, sym, subst, arith, nat_eq, nat_lt, is_some, get_or, length-append}
+use Rattle.std.proofs.Common.{◌≡◌, inr, ⊎_elim, ℕ, zero, suc, ◌+◌, ◌<◌, ◌≤◌, Bool, true, false, cond, ◌||◌, ◌&&◌, List, [], ◌∷◌, ◌++◌, length, map}
+use Rattle.std.proofs.Common.{Option, Some, None, IfSome, refl, ap, ◌∙◌, sym, subst, arith, nat_eq, nat_lt, is_some, get_or, length-append}
 use Rattle.std.proofs.lemmas.Bool.{false≢true}
 use Rattle.std.proofs.lemmas.Bool.Decides.{nat_tests}
 use Rattle.std.proofs.lemmas.List.Elements.{All-filter, All-from_recursion, recursion_from_All}
@@ -99,7 +100,8 @@ longer q p u = omega (arith, by _ (nat_lt (length (front p)) (length q)) u, fron
     by false b e = absurd (false≢true e)
 
     front_longer : length p ≤ length (front p)
-    front_longer = elim (length p == 1) as (λ b. length p ≤ length (cond b p (p ++ 47 ∷ []))) [ true ↦ omega arith | false ↦ omega (arith, length-append p (47 ∷ [])) ]
+    front_longer = elim (length p == 1) as
+        (λ b. length p ≤ length (cond b p (p ++ 47 ∷ []))) [ true ↦ omega arith | false ↦ omega (arith, length-append p (47 ∷ [])) ]
 
 -- what is known of a removal where nothing stands against it
 record Whole (rows : List Row) (files after : Files) : Type 0 where
@@ -115,7 +117,8 @@ module _ (rows : List Row) (files after : Files) (w : Whole rows files after) (b
   one k d l none =
       let was = w.removed.each k d l in
       ⊎_elim (λ is. is)
-      (⊎_elim (λ full. absurd (⊎_elim (far was full) under (was.not_empty full).1)) (λ failed. absurd (false≢true (sym (w.unfailed k d l) ∙ ap is_failed failed))))
+      (⊎_elim (λ full. absurd (⊎_elim (far was full) under (was.not_empty full).1))
+      (λ failed. absurd (false≢true (sym (w.unfailed k d l) ∙ ap is_failed failed))))
       was.no_other
     where
       far : WasChosen files after (get_or rows k d).0 (get_or rows k d).1 → (get_or rows k d).1 ≡ fate.NotEmpty → 0 < far_at (get after (get_or rows k d).0) → ⊥
@@ -188,7 +191,8 @@ quiet (x ∷ es) e =
     ((quiet_mark x.mark marks.0, quiet_far x.far whys.1), quiet es parts.1)
 
 -- so no directory in it has a child whose path is too long
-near_entries : EntriesAreTold → (files : Files) (es : List Entry) (rs : List (List ℕ)) → es ≡ flat_map (walk files (answers_in es)) rs → AllByRecursion Quiet es →
+near_entries : EntriesAreTold → (files : Files) (es : List Entry) (rs : List (List ℕ)) → es ≡ flat_map (walk files (answers_in es)) rs
+    → AllByRecursion Quiet es →
     All (λ e. far_at (get files e.path) ≡ 0) es
 near_entries law files es rs is q =
     let told = subst (λ xs. All (Rattle.tree_walk.specs.Told.IsTold files (answers_in es)) xs) (sym is) (law.of_all files (answers_in es) rs) in
@@ -196,11 +200,13 @@ near_entries law files es rs is q =
     λ k d l. let e = get_or es k d in let t = told k d l in let fine = all k d l in
     ap (λ m. far_by m (get files e.path)) (sym fine.0) ∙ sym t.far ∙ fine.1
 
-near_paths : (files : Files) (es : List Entry) → AllByRecursion (λ e. far_at (get files e.path) ≡ 0) es → AllByRecursion (λ p. far_at (get files p) ≡ 0) (paths es)
+near_paths : (files : Files) (es : List Entry) → AllByRecursion (λ e. far_at (get files e.path) ≡ 0) es
+    → AllByRecursion (λ p. far_at (get files p) ≡ 0) (paths es)
 near_paths files [] h = tt
 near_paths files (e ∷ es) h = (h.0, near_paths files es h.1)
 
-near_rows : (files : Files) (rows : List Row) → AllByRecursion (λ p. far_at (get files p) ≡ 0) (firsts rows) → AllByRecursion (λ row. far_at (get files row.0) ≡ 0) rows
+near_rows : (files : Files) (rows : List Row) → AllByRecursion (λ p. far_at (get files p) ≡ 0) (firsts rows)
+    → AllByRecursion (λ row. far_at (get files row.0) ≡ 0) rows
 near_rows files [] h = tt
 near_rows files (row ∷ rows) h = (h.0, near_rows files rows h.1)
 
@@ -220,8 +226,10 @@ none_failed zero old new rose stood = refl
 none_failed (suc n) old new rose stood = absurd (omega (arith, rose.rose, stood.same, stood.below_end))
 
 stood_in : (old between new : ℕ) → old ≤ between → between ≤ new → StoodStill old new → StoodStill old between × StoodStill between new
-stood_in old between new a b stood =
-    (record { same = omega (arith, a, b, stood.same); below_end = omega (arith, b, stood.below_end) }, record { same = omega (arith, a, b, stood.same); below_end = stood.below_end })
+stood_in old between new a b stood = (
+  record { same = omega (arith, a, b, stood.same); below_end = omega (arith, b, stood.below_end) },
+  record { same = omega (arith, a, b, stood.same); below_end = stood.below_end },
+)
 
 -- ---- the law
 
@@ -247,7 +255,8 @@ of_told P tree files told h = subst (λ t. IfSome t P) told h
 
 no_notes : Laws → (asked : RemoveAsked) (now : ℕ) (before after : Side) → WithinRemove asked → FineRemove asked now before after →
     (chosen : List Entry) (named : List Note) (found : ℕ) → Chooses asked now before (side_of before.tree found) chosen named → (rows : List Row) →
-    StoodStill before.count found → StoodStill found after.count → asked.dryrun ≡ false → Removes chosen rows (side_of before.tree found) after → fate_notes rows ≡ []
+    StoodStill before.count found → StoodStill found after.count → asked.dryrun ≡ false
+    → Removes chosen rows (side_of before.tree found) after → fate_notes rows ≡ []
 no_notes laws asked now before after within fine chosen named found chooses rows first then wet removes =
     let f = chooses.finds in
     let w = f.survey.listed in
@@ -264,7 +273,8 @@ no_notes laws asked now before after within fine chosen named found chooses rows
     let calm = quiet f.entries (map_nil (on_side false) (notes_of f.entries) silent) in
     let is = of_told (λ files. f.entries ≡ flat_map (walk files (answers_in f.entries)) w.roots) before.tree files fine.side.told w.told in
     let near_all = near_entries laws.told files f.entries w.roots is calm in
-    let near = subst (λ es. All (λ e. far_at (get files e.path) ≡ 0) es) (sym f.chooses) (All-filter _ (λ e. far_at (get files e.path) ≡ 0) f.entries near_all) in
+    let near = subst (λ es. All (λ e. far_at (get files e.path) ≡ 0) es) (sym f.chooses)
+    (All-filter _ (λ e. far_at (get files e.path) ≡ 0) f.entries near_all) in
     let lasts = near_paths files chosen (recursion_from_All (λ e. far_at (get files e.path) ≡ 0) chosen near) in
     let last = some_of (Removed rows) before.tree after.tree files fine.side.told removes.tells removes.removed in
     let whole = fine.whole wet chosen named found chooses in
@@ -272,7 +282,8 @@ no_notes laws asked now before after within fine chosen named found chooses rows
       removed = last.1;
       near = All-from_recursion _ rows (near_rows files rows (subst (λ ps. AllByRecursion (λ p. far_at (get files p) ≡ 0) ps) (sym removes.paths) lasts));
       unfailed = All-from_recursion _ rows (unfailed rows (none_failed _ found after.count removes.blamed then));
-      whole = subst (λ ps. (p q : List ℕ) → list_any (pointwise nat_eq p) ps ≡ true → is_under q p ≡ true → is_some (get files q) ≡ true → list_any (pointwise nat_eq q) ps ≡ true)
+      whole = subst (λ ps. (p q : List ℕ) → list_any (pointwise nat_eq p) ps ≡ true → is_under q p ≡ true → is_some (get files q) ≡ true
+          → list_any (pointwise nat_eq q) ps ≡ true)
           (sym removes.paths) whole;
     })
 
@@ -283,8 +294,11 @@ names_nothing laws asked now before after within fine report r =
     let valid : All Valid asked.roots = λ k d l. (within.roots k d l).0 in
     let early : before.count ≤ r.found = omega (arith, f.survey.looked.counted.kept, f.survey.later, f.survey.listed.counted.kept) in
     let stood = stood_in before.count r.found after.count early (kept asked.dryrun r.acts) fine.side.stood in
-    let side : IsFineSide (roots asked.roots) before (side_of before.tree r.found) = record { files = fine.side.files; told = fine.side.told; fine = fine.side.fine; stood = stood.0 } in
-    let named : r.named ≡ [] = laws.finds asked.common (roots asked.roots) (Some asked.choice) now before (side_of before.tree r.found) r.chosen r.named r.chooses.account valid side fine.there f in
+    let side : IsFineSide (roots asked.roots) before (side_of before.tree r.found) =
+    record { files = fine.side.files; told = fine.side.told; fine = fine.side.fine; stood = stood.0 } in
+    let named : r.named ≡ [] =
+    laws.finds asked.common (roots asked.roots) (Some asked.choice) now before
+    (side_of before.tree r.found) r.chosen r.named r.chooses.account valid side fine.there f in
     let fates : fate_notes r.rows ≡ [] = by asked.dryrun refl r.acts stood in
     r.counts ∙ ap length (laws.order.none r.notes (subst (λ given. AreInOrder given r.notes) (λ i. named i ++ fates i) r.names))
   where
@@ -292,7 +306,8 @@ names_nothing laws asked now before after within fine report r =
     kept true a = a.kept
     kept false a = a.blamed.kept
 
-    by : (b : Bool) → asked.dryrun ≡ b → Acts b r.chosen r.rows (side_of before.tree r.found) after → StoodStill before.count r.found × StoodStill r.found after.count →
+    by : (b : Bool) → asked.dryrun ≡ b → Acts b r.chosen r.rows (side_of before.tree r.found) after → StoodStill before.count r.found
+        × StoodStill r.found after.count →
         fate_notes r.rows ≡ []
     by true e a stood = ap fate_notes a.none
     by false e a stood = no_notes laws asked now before after within fine r.chosen r.named r.found r.chooses r.rows stood.0 stood.1 e a

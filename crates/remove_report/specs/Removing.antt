@@ -1,4 +1,5 @@
--- What drm does: what it reports, why it stops, what it may have changed, and when nothing stands against it. The tool is mpiFileUtils'; the texts, notes and statuses are our own.
+-- What drm does: what it reports, why it stops, what it may have changed, and when nothing stands against it. The tool is mpiFileUtils';
+-- the texts, notes and statuses are our own.
 use Rattle.std.specs.Prelude.{◌≡◌, ◌⊎◌, ℕ, Bool, true, false, List, [], ◌∷◌, ◌++◌, length, map, codes, Some}
 use Rattle.std.specs.Fmt.{decimal}
 use Rattle.std.specs.List.{flat_map, count_by}
@@ -48,7 +49,8 @@ row_notes row = map (λ w. record { path = row.0; why = w; dest = false }) (fate
 abbrev pub fate_notes : List (List ℕ × Fate) → List Note
 fate_notes rows = flat_map row_notes rows
 
--- what it reports: what it chose, what became of that, and the two texts of it: a line for each chosen entry and the line of the numbers, and the notes, of the walk and of the removals
+-- what it reports: what it chose, what became of that, and the two texts of it: a line for each chosen entry and the line of the numbers,
+-- and the notes, of the walk and of the removals
 pub record ReportsRemove (asked : RemoveAsked) (now : ℕ) (before after : Side) (report : Report) : Type 0 where
   pub chosen : List Entry
   pub named : List Note
@@ -75,8 +77,10 @@ LeavesBy false asked now before after = (after.tree ≡ before.tree) ⊎ LeavesA
 abbrev pub LeavesRemove : RemoveAsked → ℕ → Side → Side → Type 0
 LeavesRemove asked now before after = LeavesBy asked.dryrun asked now before after
 
--- when nothing stands against it: the side is fine, something is at each path that is looked at, and, where something is to be removed, all is chosen that is under what is chosen
+-- when nothing stands against it: the side is fine, something is at each path that is looked at, and, where something is to be removed, all
+-- is chosen that is under what is chosen
 pub record FineRemove (asked : RemoveAsked) (now : ℕ) (before after : Side) : Type 0 where
   pub side : IsFineSide (roots asked.roots) before after
   pub there : AreThere side.files (Some asked.choice)
-  pub whole : asked.dryrun ≡ false → (chosen : List Entry) (named : List Note) (found : ℕ) → Chooses asked now before (side_of before.tree found) chosen named → ChoosesWhole side.files chosen
+  pub whole : asked.dryrun ≡ false → (chosen : List Entry) (named : List Note) (found : ℕ)
+      → Chooses asked now before (side_of before.tree found) chosen named → ChoosesWhole side.files chosen

@@ -1,5 +1,6 @@
 -- How many strings each rank is dealt: as many as there are whole rounds, and one more where the last round comes to it.
-use Rattle.std.proofs.Common.{◌≡◌, ℕ, zero, suc, ◌+◌, ◌*◌, ◌/◌, ◌%◌, ◌<◌, ◌≤◌, cond, ◌==◌, nat_lt, [], ◌∷◌, ◌++◌, count_by, sym, ap, ◌∙◌, arith, add-zero, zero-add, mul-zero, mul-suc}
+use Rattle.std.proofs.Common.{◌≡◌, ℕ, zero, suc, ◌+◌, ◌*◌, ◌/◌, ◌%◌, ◌<◌, ◌≤◌, cond, ◌==◌, nat_lt, [], ◌∷◌, ◌++◌, count_by, sym, ap, ◌∙◌, arith}
+use Rattle.std.proofs.Common.{add-zero, zero-add, mul-zero, mul-suc}
 use Rattle.std.specs.List.{range_with_len}
 use Rattle.std.proofs.Math.Nat.{mul-add-mod_self_left, mod-eq_of_lt, div-add-mod, mod-lt}
 use Rattle.std.proofs.lemmas.List.Sums.{sum_by_push}
@@ -13,7 +14,8 @@ range_more a (suc n) =
 
 pub dealt_more : (n s r : ℕ) → dealt n (suc s) r ≡ dealt n s r + cond (s % n == r) 1 0
 dealt_more n s r =
-    ap (count_by (λ k. k % n == r)) (range_more 0 s) ∙ sum_by_push (λ k. cond (k % n == r) 1 0) (range_with_len 0 s) (0 + s) ∙ ap (λ k. dealt n s r + cond (k % n == r) 1 0) (zero-add s)
+    ap (count_by (λ k. k % n == r)) (range_more 0 s) ∙ sum_by_push (λ k. cond (k % n == r) 1 0) (range_with_len 0 s) (0 + s)
+    ∙ ap (λ k. dealt n s r + cond (k % n == r) 1 0) (zero-add s)
 
 one_more : (q m r : ℕ) → (q + cond (nat_lt r m) 1 0) + cond (m == r) 1 0 ≡ q + cond (nat_lt r (suc m)) 1 0
 one_more q m r = grind (arith, nat_tests)

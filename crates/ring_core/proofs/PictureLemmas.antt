@@ -1,5 +1,6 @@
 -- Each event alone keeps the token invariant of every picture that has it: one lemma for each kind of event, and all of them together.
-use Rattle.std.proofs.Common.{◌≡◌, ℕ, ◌+◌, ◌-◌, ◌≢◌, ◌⊎◌, inl, inr, ⊎_elim, refl, sym, subst, ap, ◌∙◌, arith, Bool, true, false, cond, nat_lt, List, eq-eqb, ne_eqb}
+use Rattle.std.proofs.Common.{◌≡◌, ℕ, ◌+◌, ◌-◌, ◌≢◌, ◌⊎◌, inl, inr, ⊎_elim, refl, sym, subst, ap, ◌∙◌, arith, Bool, true, false, cond, nat_lt, List}
+use Rattle.std.proofs.Common.{eq-eqb, ne_eqb}
 use mathlib.Core.Logic.{dite}
 use native.Mathlib.Decide.{ℕ_discrete}
 use Rattle.std.proofs.lemmas.Bool.Decides.{nat_tests}
@@ -27,14 +28,16 @@ module _ {A : Type 0} where
       (λ ne. subst (P k) (sym (put_elsewhere f i x k ne)) (elsewhere ne))
 
 -- what holds of the rank that changed, and of each other as it was, holds of each rank afterwards
-pub holds_of_all : (P : ℕ → RankPicture → Type 0) (p : Picture) (r : ℕ) (x : RankPicture) (q : Picture) → Becomes p r x q → (k : ℕ) → P r x → (k ≢ r → P k (p k)) → P k (q k)
+pub holds_of_all : (P : ℕ → RankPicture → Type 0) (p : Picture) (r : ℕ) (x : RankPicture) (q : Picture) → Becomes p r x q → (k : ℕ) → P r x
+    → (k ≢ r → P k (p k)) → P k (q k)
 holds_of_all P p r x q becomes k here elsewhere = subst (P k) (sym (becomes k)) (put_all P p r x k here elsewhere)
 
 abbrev pub IsActive : RankPicture → Type 0
 IsActive x = (x.busy ≡ true) ⊎ (is_filled x.mailbox ≡ true)
 
 -- one rank changes, which does not become active and is not whitened
-pub calm_change_keeps_invariant : (n : ℕ) (p : Picture) (t : Token) (r : ℕ) (x : RankPicture) (q : Picture) → Becomes p r x q → (IsActive x → IsActive (p r)) → ((p r).colour ≡ Black → x.colour ≡ Black)
+pub calm_change_keeps_invariant : (n : ℕ) (p : Picture) (t : Token) (r : ℕ) (x : RankPicture) (q : Picture) → Becomes p r x q
+    → (IsActive x → IsActive (p r)) → ((p r).colour ≡ Black → x.colour ≡ Black)
     → PictureInvariant n p t → PictureInvariant n q t
 calm_change_keeps_invariant n p t r x q becomes calmer darker held =
     kept_where_nobody_starts (Active n p) (BlackRank n p) (Active n q) (BlackRank n q) t
@@ -43,7 +46,9 @@ calm_change_keeps_invariant n p t r x q becomes calmer darker held =
     held
 
 idle : (x : RankPicture) → x.busy ≡ false → x.mailbox ≡ at_rest → IsActive x → ⊥
-idle x free vacant active = ⊎_elim (λ b. (let e : true ≡ false = sym b ∙ free in cc)) (λ f. (let e : is_filled at_rest ≡ true = sym (ap is_filled vacant) ∙ f in cc)) active
+idle x free vacant active =
+    ⊎_elim (λ b. (let e : true ≡ false = sym b ∙ free in cc))
+    (λ f. (let e : is_filled at_rest ≡ true = sym (ap is_filled vacant) ∙ f in cc)) active
 
 darker_left : (a b : Colour) → a ≡ Black → darker a b ≡ Black
 darker_left Black b e = refl
@@ -91,7 +96,8 @@ give_keeps_invariant n p t rank to count q u (acts, pair, busy, asked, became, s
     (λ k dark. (
       dark.0,
       holds_of_all (λ j z. (p j).colour ≡ Black → z.colour ≡ Black) mid to y q became k
-          (λ d. d) (λ ne d. put_all (λ j z. (p j).colour ≡ Black → z.colour ≡ Black) p rank x k (λ d. stays_black (nat_lt rank to) (p rank).colour d) (λ ne2 d. d) d) dark.1,
+          (λ d. d) (λ ne d. put_all (λ j z. (p j).colour ≡ Black → z.colour ≡ Black) p rank x k
+          (λ d. stays_black (nat_lt rank to) (p rank).colour d) (λ ne2 d. d) d) dark.1,
     ))
     (λ higher. (acts.0, subst (λ (z : RankPicture). z.colour ≡ Black) (sym here) (grind (arith, nat_tests))))
     held)
@@ -127,7 +133,9 @@ pass_keeps_invariant n p t rank colour q u (acts, above, free, vacant, tried, (c
 -- from every picture, also from one without the invariant
 pub restart_gives_invariant : (n : ℕ) (p : Picture) (t : Token) (rank : ℕ) (q : Picture) (u : Token) → Happens n p t (Restart rank) q u → PictureInvariant n q u
 restart_gives_invariant n p t rank q u (acts, first, vacant, free, black, became, same) =
-    along n q (At (n - 1) White) u same (holds_at_last_rank (Active n q) (BlackRank n q) (Active n q) (BlackRank n q) n (n - 1) White (let h = acts.0 in omega arith) (λ r above active. (let h = active.0 in absurd (omega arith))))
+    along n q (At (n - 1) White) u same
+    (holds_at_last_rank (Active n q) (BlackRank n q) (Active n q) (BlackRank n q) n (n - 1) White (let h = acts.0 in
+    omega arith) (λ r above active. (let h = active.0 in absurd (omega arith))))
 
 pub conclude_keeps_invariant : (n : ℕ) (p : Picture) (t : Token) (rank : ℕ) (q : Picture) (u : Token)
     → Happens n p t (Conclude rank) q u → PictureInvariant n p t → PictureInvariant n q u
@@ -135,7 +143,11 @@ conclude_keeps_invariant n p t rank q u (acts, first, free, vacant, tried, here,
     along n q Over u same (quiet_where_rank_0_concludes (Active n p) (BlackRank n p) (Active n q) (BlackRank n q) White (λ e. cc)
     (λ active. idle (p rank) free vacant (subst (λ (k : ℕ). IsActive (p k)) (sym first) active.1))
     (λ dark. black_is_not_white (p rank).colour (subst (λ (k : ℕ). (p k).colour ≡ Black) (sym first) dark.1) pale)
-    (λ k active. (active.0, holds_of_all (λ j y. IsActive y → IsActive (p j)) p rank (record (p rank) { ended = true }) q became k (λ a. a) (λ ne a. a) active.1))
+    (λ k active. (
+      active.0,
+      holds_of_all (λ j y. IsActive y → IsActive (p j)) p rank (record (p rank) { ended = true }) q became k (λ a. a)
+          (λ ne a. a) active.1,
+    ))
     (subst (λ (k : ℕ). PictureInvariant n p (At k White)) first (subst (PictureInvariant n p) here held)))
 
 pub see_over_keeps_invariant : (n : ℕ) (p : Picture) (t : Token) (rank : ℕ) (q : Picture) (u : Token)

@@ -1,5 +1,6 @@
 -- No string is lost and none comes twice: what waits, what is on the way and what was handled are what was dealt and what was pushed.
-use Rattle.std.proofs.Common.{◌≡◌, ℕ, zero, suc, ◌+◌, ◌-◌, ◌%◌, ◌<◌, ◌≤◌, refl, sym, ap, ◌∙◌, arith, true, cond, nat_lt, ◌==◌, List, [], ◌∷◌, length, map, set, get_or-set_other, length-set, sum_by, count_by, None}
+use Rattle.std.proofs.Common.{◌≡◌, ℕ, zero, suc, ◌+◌, ◌-◌, ◌%◌, ◌<◌, ◌≤◌, refl, sym, ap, ◌∙◌, arith, true, cond, nat_lt, ◌==◌, List, [], ◌∷◌, length}
+use Rattle.std.proofs.Common.{map, set, get_or-set_other, length-set, sum_by, count_by, None}
 use mathlib.Core.Logic.{dite}
 use native.Mathlib.Decide.{ℕ_discrete}
 use Rattle.std.specs.List.{range_with_len}
@@ -15,7 +16,8 @@ use Rattle.ring_core.specs.declared.events.Event.TheVariants.{Handle, Ask, Give,
 use Rattle.ring_core.specs.World.{Seen, fresh, rank_of, dealt, started, held, queued_in, on_way_in}
 use Rattle.ring_core.specs.Step.{is_rest, asks, holds, is_refused_by, after_giving, refusal, ranks_after, after}
 use Rattle.ring_core.specs.Run.{after_all, IsRun, is_handle, pushed}
-use Rattle.ring_core.proofs.WorldLemmas.{handle_says, ask_says, give_says, refuse_says, take_says, take_none_says, pass_says, restart_says, conclude_says, see_over_says}
+use Rattle.ring_core.proofs.WorldLemmas.{handle_says, ask_says, give_says, refuse_says, take_says, take_none_says, pass_says, restart_says}
+use Rattle.ring_core.proofs.WorldLemmas.{conclude_says, see_over_says}
 use Rattle.ring_core.proofs.Dealing.{dealt_more}
 
 -- all strings of the world
@@ -29,7 +31,8 @@ both q q' w w' a a' b b' less more one two three = omega arith
 strings-set : (ranks : List RankState) (r : ℕ) (x : RankState) (less more : ℕ) → r < length ranks
     → (x.queued + held x.desk) + less ≡ ((rank_of ranks r).queued + held (rank_of ranks r).desk) + more → strings (set ranks r x) + less ≡ strings ranks + more
 strings-set ranks r x less more inside change =
-    both (queued_in ranks) (queued_in (set ranks r x)) (on_way_in ranks) (on_way_in (set ranks r x)) (rank_of ranks r).queued x.queued (held (rank_of ranks r).desk) (held x.desk) less more
+    both (queued_in ranks) (queued_in (set ranks r x)) (on_way_in ranks) (on_way_in (set ranks r x)) (rank_of ranks r).queued x.queued
+    (held (rank_of ranks r).desk) (held x.desk) less more
     (sum_by-set (λ (y : RankState). y.queued) ranks r x (fresh 0) inside)
     (sum_by-set (λ (y : RankState). held y.desk) ranks r x (fresh 0) inside)
     change
@@ -104,13 +107,16 @@ strings-after_all [] world run = refl
 strings-after_all (event ∷ events) world (legal, run) =
     let next : Seen = after world event in
     ap (λ k. strings (after_all next events).0 + k) (sum_by-cons (λ e. cond (is_handle e) 1 0) event events)
-    ∙ chain (cond (is_handle event) 1 0) (count_by is_handle events) (strings next.0) (strings (after_all next events).0) (strings world.0) (pushed event) (sum_by pushed events)
+    ∙ chain (cond (is_handle event) 1 0) (count_by is_handle events) (strings next.0) (strings (after_all next events).0) (strings world.0)
+    (pushed event) (sum_by pushed events)
     (strings-after_all events next run) (strings-event world.0 world.1 event legal)
     ∙ ap (λ k. strings world.0 + k) (sym (sum_by-cons pushed event events))
 
 no_batch : (deal : ℕ → ℕ) (a m : ℕ) → on_way_in (map (λ r. fresh (deal r)) (range_with_len a m)) ≡ 0
 no_batch deal a zero = refl
-no_batch deal a (suc m) = sum_by-cons (λ (x : RankState). held x.desk) (fresh (deal a)) (map (λ r. fresh (deal r)) (range_with_len (a + 1) m)) ∙ (let rest = no_batch deal (a + 1) m in omega arith)
+no_batch deal a (suc m) =
+    sum_by-cons (λ (x : RankState). held x.desk) (fresh (deal a)) (map (λ r. fresh (deal r)) (range_with_len (a + 1) m))
+    ∙ (let rest = no_batch deal (a + 1) m in omega arith)
 
 total : (ℕ → ℕ) → ℕ → ℕ → ℕ
 total deal a m = queued_in (map (λ r. fresh (deal r)) (range_with_len a m))

@@ -18,7 +18,8 @@ module _ (active black active' black' : ℕ → Type 0) where
   kept_where_nobody_starts Over calmer darker none = λ r a. none r (calmer r a)
 
   -- the active rank `from` makes `to` active, and turns black where `to` is higher
-  pub kept_by_giving : (token : Token) (from to : ℕ) → active from → ((r : ℕ) → active' r → active r ⊎ (r ≡ to)) → ((r : ℕ) → black r → black' r) → (from < to → black' from)
+  pub kept_by_giving : (token : Token) (from to : ℕ) → active from → ((r : ℕ) → active' r → active r ⊎ (r ≡ to))
+      → ((r : ℕ) → black r → black' r) → (from < to → black' from)
       → TokenInvariant active black token → TokenInvariant active' black' token
   kept_by_giving (At p c) from to busy busier darker blackens held =
       ⊎_elim
@@ -31,7 +32,8 @@ module _ (active black active' black' : ℕ → Type 0) where
   kept_by_giving Over from to busy busier darker blackens none = absurd (none from busy)
 
   -- the idle rank p + 1 passes the token to p in the darker of the two colours, and is white from then on
-  pub kept_by_passing : (p : ℕ) (c c' : Colour) → ¬ active (p + 1) → ((r : ℕ) → active' r → active r) → ((r : ℕ) → r ≢ p + 1 → black r → black' r) → (black (p + 1) → c' ≡ Black) → (c ≡ Black → c' ≡ Black)
+  pub kept_by_passing : (p : ℕ) (c c' : Colour) → ¬ active (p + 1) → ((r : ℕ) → active' r → active r)
+      → ((r : ℕ) → r ≢ p + 1 → black r → black' r) → (black (p + 1) → c' ≡ Black) → (c ≡ Black → c' ≡ Black)
       → TokenInvariant active black (At (p + 1) c) → TokenInvariant active' black' (At p c')
   kept_by_passing p c c' idle calmer darker mine theirs held =
       ⊎_elim
@@ -47,7 +49,8 @@ module _ (active black active' black' : ℕ → Type 0) where
   holds_at_last_rank n p c last nobody = inl (λ r above. nobody r (omega arith))
 
   -- rank 0 is idle and white, and has the token white
-  pub quiet_where_rank_0_concludes : (c : Colour) → c ≢ Black → ¬ active 0 → ¬ black 0 → ((r : ℕ) → active' r → active r) → TokenInvariant active black (At 0 c) → Quiet active'
+  pub quiet_where_rank_0_concludes : (c : Colour) → c ≢ Black → ¬ active 0 → ¬ black 0 → ((r : ℕ) → active' r → active r)
+      → TokenInvariant active black (At 0 c) → Quiet active'
   quiet_where_rank_0_concludes c white idle pale calmer held =
       ⊎_elim
       (λ none r a. dite (ℕ_discrete r 0) (λ e. idle (subst active e (calmer r a))) (λ ne. none r (omega arith) (calmer r a)))

@@ -1,4 +1,5 @@
--- The picture of a world: what is left of it without the numbers of strings. What an event does to a picture, when a picture is quiet, and the token invariant of a picture.
+-- The picture of a world: what is left of it without the numbers of strings. What an event does to a picture, when a picture is quiet, and
+-- the token invariant of a picture.
 -- Busy and colour are EWD840's; the mailbox is our own. A board whose ranks act at the same time has a picture too, though no world.
 use Rattle.std.specs.Prelude.{◌≡◌, ◌≢◌, ℕ, ◌-◌, ◌<◌, ◌==◌, ◌⊎◌, nat_lt, Bool, true, false, if◌then◌else◌, List, length}
 use Rattle.ring_core.specs.declared.states.Colour.{Colour}
@@ -59,7 +60,8 @@ abbrev pub gave : RankPicture → ℕ → ℕ → RankPicture
 gave x rank to = record x { colour = (if nat_lt rank to then Black else x.colour) }
 
 -- the event is legal where n ranks have the picture p and the token t, and may leave the picture q and the token u.
--- Numbers of strings are not looked at, so `Handle` may leave the rank busy or not. `Ask`, and `Restart` with one rank, may find the rank busy: they also tell that it has no string any more
+-- Numbers of strings are not looked at, so `Handle` may leave the rank busy or not. `Ask`, and `Restart` with one rank, may find the rank
+-- busy: they also tell that it has no string any more
 abbrev pub Happens : ℕ → Picture → Token → Event → Picture → Token → Type 0
 Happens n p t (Handle rank path kids) q u =
     Acts n p rank × ((p rank).busy ≡ true) × ((b : Bool) × Becomes p rank (record (p rank) { busy = b }) q) × (u ≡ t)

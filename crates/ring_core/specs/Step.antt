@@ -1,6 +1,8 @@
 -- A legal step: where an event is refused and with which reason, and what it leaves.
--- Passing, restarting, concluding and blackening are the rules of EWD840; asking, giving, refusing and taking through mailboxes are our own, after libcircle's work stealing.
-use Rattle.std.specs.Prelude.{ℕ, ◌+◌, ◌-◌, ◌^◌, ◌==◌, ◌||◌, ◌&&◌, nat_lt, Bool, true, false, not, if◌then◌else◌, List, [], ◌∷◌, length, slice_set, Option, Some, None}
+-- Passing, restarting, concluding and blackening are the rules of EWD840; asking, giving, refusing and taking through mailboxes are our
+-- own, after libcircle's work stealing.
+use Rattle.std.specs.Prelude.{ℕ, ◌+◌, ◌-◌, ◌^◌, ◌==◌, ◌||◌, ◌&&◌, nat_lt, Bool, true, false, not, if◌then◌else◌, List, [], ◌∷◌, length, slice_set}
+use Rattle.std.specs.Prelude.{Option, Some, None}
 use Rattle.ring_core.specs.declared.states.Colour.TheVariants.{White, Black}
 use Rattle.ring_core.specs.declared.states.Desk.{Desk}
 use Rattle.ring_core.specs.declared.states.Desk.TheVariants.{Rest, Asked, Full, Empty}
@@ -153,7 +155,8 @@ ranks_after ranks (Give rank to count) =
     slice_set (slice_set ranks rank (record (after_giving (rank_of ranks rank) rank to) { queued = (rank_of ranks rank).queued - count }))
     to (record (rank_of ranks to) { desk = Full rank count })
 ranks_after ranks (Refuse rank to) = slice_set ranks to (record (rank_of ranks to) { desk = Empty rank })
-ranks_after ranks (Take rank from count) = slice_set ranks rank (record (rank_of ranks rank) { queued = (rank_of ranks rank).queued + count; desk = Rest; tried = false })
+ranks_after ranks (Take rank from count) =
+    slice_set ranks rank (record (rank_of ranks rank) { queued = (rank_of ranks rank).queued + count; desk = Rest; tried = false })
 ranks_after ranks (TakeNone rank from) = slice_set ranks rank (record (rank_of ranks rank) { desk = Rest; tried = true })
 ranks_after ranks (Pass rank colour) = slice_set ranks rank (record (rank_of ranks rank) { colour = White })
 ranks_after ranks (Restart rank) = slice_set ranks rank (record (rank_of ranks rank) { colour = White })

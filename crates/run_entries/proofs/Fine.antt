@@ -1,5 +1,6 @@
 -- What is fine names nothing, and stops nothing but for want of memory.
-use Rattle.std.proofs.Common.{◌≡◌, ℕ, ◌<◌, ◌≤◌, Bool, true, false, not, ◌&&◌, ◌||◌, cond, List, [], ◌∷◌, ◌++◌, map, length, Option, Some, None, IfSome, refl, sym, ap, subst, arith, ◌∙◌, ⊎_elim}
+use Rattle.std.proofs.Common.{◌≡◌, ℕ, ◌<◌, ◌≤◌, Bool, true, false, not, ◌&&◌, ◌||◌, cond, List, [], ◌∷◌, ◌++◌, map, length, Option, Some, None}
+use Rattle.std.proofs.Common.{IfSome, refl, sym, ap, subst, arith, ◌∙◌, ⊎_elim}
 use Rattle.std.specs.Option.{is_some, is_none}
 use Rattle.std.specs.List.{All, AllByRecursion, sum_by, flat_map}
 use Rattle.std.specs.Cmp.Lexicographic.{bytes_decides}
@@ -38,7 +39,8 @@ use Rattle.run_entries.specs.Naming.{look_whys, look_notes, on_side, listing_not
 use Rattle.run_entries.specs.Saving.{Saved}
 use Rattle.run_entries.specs.Entries.{Walked, Listed}
 use Rattle.run_entries.specs.Stopping.{IsTooMuch, IsDamagedList, IsAbsent, StopsListing, StopsAt}
-use Rattle.run_entries.specs.Fine.{IsFineWalk, IsFineList, IsFineStart, FineFindsNameNothing, FineFindsStopForMemory, FineWalksNameNothing, FineWalksStopForMemory, FinePlacesStopForMemory}
+use Rattle.run_entries.specs.Fine.{IsFineWalk, IsFineList, IsFineStart, FineFindsNameNothing, FineFindsStopForMemory, FineWalksNameNothing}
+use Rattle.run_entries.specs.Fine.{FineWalksStopForMemory, FinePlacesStopForMemory}
 
 -- ---- counts
 
@@ -273,7 +275,8 @@ place_after : (earlier : List Output) (old new : Option Files) (files : Files) (
     AllByRecursion (λ output. can_save files output.path ≡ true) earlier → can_save files path ≡ true → IfSome new (λ now. can_save now path ≡ true)
 place_after [] old new files path told same can here = subst (λ t. IfSome t (λ now. can_save now path ≡ true)) (sym (same ∙ told)) here
 place_after (output ∷ earlier) old new files path told saved can here =
-    let at = of_told (λ files. (bytes : List ℕ) × Spells bytes output.list × (can_save files output.path ≡ true) × (saved.0 ≡ Some (insert files output.path (new_file bytes)))) old files told saved.1.1 in
+    let at = of_told (λ files. (bytes : List ℕ) × Spells bytes output.list × (can_save files output.path ≡ true)
+    × (saved.0 ≡ Some (insert files output.path (new_file bytes)))) old files told saved.1.1 in
     place_after earlier saved.0 new (insert files output.path (new_file at.0)) path at.3 saved.2
     (places_stay files output.path at.0 at.2 earlier can.1) (place_stays files output.path at.0 path at.2 here)
   where
@@ -303,7 +306,8 @@ tree_of : (tree : Option Files) → is_some tree ≡ true → (files : Files) ×
 tree_of None e = absurd (false≢true e)
 tree_of (Some files) e = (files, refl)
 
-at_for_memory : (output : Output) (between after : Side) (why : Stop) → is_some between.tree ≡ true → IfSome between.tree (λ files. can_save files output.path ≡ true) →
+at_for_memory : (output : Output) (between after : Side) (why : Stop) → is_some between.tree ≡ true
+    → IfSome between.tree (λ files. can_save files output.path ≡ true) →
     StoodStill between.count after.count → StopsAt output between after why → why ≡ stop.OutOfMemory
 at_for_memory output between after stop.OutOfMemory told can stood stops = refl
 at_for_memory output between after stop.Overlap told can stood stops = absurd stops
@@ -318,7 +322,8 @@ at_for_memory output between after (stop.ListFile trouble.Fault path) told can s
 
 pub places_for_memory : FinePlacesStopForMemory
 places_for_memory outputs files before after why told can stood s =
-    let all = subst (λ os. AllByRecursion (λ output. can_save files output.path ≡ true) os) s.are (recursion_from_All (λ output. can_save files output.path ≡ true) outputs can) in
+    let all = subst (λ os. AllByRecursion (λ output. can_save files output.path ≡ true) os) s.are
+    (recursion_from_All (λ output. can_save files output.path ≡ true) outputs can) in
     let parts = parts_of (λ output. can_save files output.path ≡ true) s.earlier s.first s.later all in
     let still : is_some s.between.tree ≡ true = still_told s.earlier before.tree s.between.tree s.saved ∙ ap is_some told in
     let here = place_after s.earlier before.tree s.between.tree files s.first.path told s.saved parts.0 parts.1 in

@@ -1,5 +1,6 @@
 -- The tree after outputs are saved.
-use Rattle.std.proofs.Common.{◌≡◌, ℕ, ◌+◌, ◌<◌, ◌≤◌, suc, Bool, true, false, ◌||◌, List, [], ◌∷◌, ◌++◌, map, length, take, drop, get_or, cond, Option, Some, None, IfSome, refl, sym, ap, subst, ◌∙◌, arith, add-one}
+use Rattle.std.proofs.Common.{◌≡◌, ℕ, ◌+◌, ◌<◌, ◌≤◌, suc, Bool, true, false, ◌||◌, List, [], ◌∷◌, ◌++◌, map, length, take, drop, get_or, cond, Option}
+use Rattle.std.proofs.Common.{Some, None, IfSome, refl, sym, ap, subst, ◌∙◌, arith, add-one}
 use Rattle.std.specs.Prelude.{Result, Ok, Err, IfErr}
 use Rattle.std.specs.Option.{is_some}
 use Rattle.std.specs.List.{list_any}
@@ -39,12 +40,17 @@ all_kept : (paths : List (List ℕ)) (tree : Option Files) → Kept paths tree t
 all_kept paths None = record { tells = refl; same = tt }
 all_kept paths (Some files) = record { tells = refl; same = λ q off. refl }
 
-first_kept : (path : List ℕ) (paths : List (List ℕ)) (old between new : Option Files) → KeptBut path old between → Kept paths between new → Kept (path ∷ paths) old new
+first_kept : (path : List ℕ) (paths : List (List ℕ)) (old between new : Option Files) → KeptBut path old between → Kept paths between new
+    → Kept (path ∷ paths) old new
 first_kept path paths None between new h g = record { tells = g.tells ∙ h.tells; same = tt }
 first_kept path paths (Some files) None new h g = absurd (false≢true h.tells)
 first_kept path paths (Some files) (Some during) None h g = absurd (false≢true g.tells)
 first_kept path paths (Some files) (Some during) (Some after) h g =
-    record { tells = refl; same = λ q off. let both = not_either (pointwise nat_eq q path) (list_any (pointwise nat_eq q) paths) off in g.same q both.1 ∙ h.same q both.0 }
+    record {
+      tells = refl;
+      same = λ q off. let both = not_either (pointwise nat_eq q path) (list_any (pointwise nat_eq q) paths) off in
+          g.same q both.1 ∙ h.same q both.0;
+    }
 
 -- a tree that got one file is as before beside it
 got_file : (path bytes : List ℕ) (files : Files) (new : Option Files) → new ≡ Some (insert files path (new_file bytes)) → IfSome new (SameBut path files)

@@ -66,7 +66,8 @@ pub record Surveyed (start : Origin) (choice : Option Choice) (before after : Si
   pub few : length entries ≤ 4194304
 
 -- what a run finds in its files: what it chooses, the notes of all that failed, and what is told of the walk
-pub record Finds (common : Common) (start : Origin) (choice : Option Choice) (now : ℕ) (before after : Side) (chosen : List Entry) (notes : List Note) (account : Account) : Type 0 where
+pub record Finds (common : Common) (start : Origin) (choice : Option Choice) (now : ℕ) (before after : Side) (chosen : List Entry)
+    (notes : List Note) (account : Account) : Type 0 where
   pub looks : List Look
   pub entries : List Entry
   pub survey : Surveyed start choice before after looks entries

@@ -61,13 +61,15 @@ pub record IsFineSide (start : Origin) (before after : Side) : Type 0 where
 -- what is found in a fine side names nothing
 abbrev pub FineFindsNameNothing : Type 0
 FineFindsNameNothing =
-    (common : Common) (start : Origin) (choice : Option Choice) (now : ℕ) (before after : Side) (chosen : List Entry) (notes : List Note) (account : Account) → All Valid (paths_in start) →
+    (common : Common) (start : Origin) (choice : Option Choice) (now : ℕ) (before after : Side) (chosen : List Entry) (notes : List Note)
+    (account : Account) → All Valid (paths_in start) →
     (fine : IsFineSide start before after) → AreThere fine.files choice → Finds common start choice now before after chosen notes account → notes ≡ []
 
 -- only want of memory stops a run that looks for entries in a fine side
 abbrev pub FineFindsStopForMemory : Type 0
 FineFindsStopForMemory =
-    (start : Origin) (choice : Option Choice) (before after : Side) (why : Stop) → All Valid (paths_in start) → IsFineSide start before after → StopsFinding start choice before after why → why ≡ stop.OutOfMemory
+    (start : Origin) (choice : Option Choice) (before after : Side) (why : Stop) → All Valid (paths_in start)
+    → IsFineSide start before after → StopsFinding start choice before after why → why ≡ stop.OutOfMemory
 
 -- what is walked by itself in a fine side names nothing, whichever side it is
 abbrev pub FineWalksNameNothing : Type 0
@@ -78,10 +80,12 @@ FineWalksNameNothing =
 -- and only want of memory stops such a walk
 abbrev pub FineWalksStopForMemory : Type 0
 FineWalksStopForMemory =
-    (given : List (List ℕ)) (before after : Side) (why : Stop) → All Valid given → IsFineSide (roots given) before after → StopsListing (roots given) before after why → why ≡ stop.OutOfMemory
+    (given : List (List ℕ)) (before after : Side) (why : Stop) → All Valid given → IsFineSide (roots given) before after
+    → StopsListing (roots given) before after why → why ≡ stop.OutOfMemory
 
 -- only want of memory stops a run that saves outputs, where each has a place before and no fault is counted: what is saved takes no place away
 abbrev pub FinePlacesStopForMemory : Type 0
 FinePlacesStopForMemory =
-    (outputs : List Output) (files : Files) (before after : Side) (why : Stop) → before.tree ≡ Some files → All (λ output. can_save files output.path ≡ true) outputs →
+    (outputs : List Output) (files : Files) (before after : Side) (why : Stop) → before.tree ≡ Some files
+    → All (λ output. can_save files output.path ≡ true) outputs →
     StoodStill before.count after.count → StopsSaving outputs before after why → why ≡ stop.OutOfMemory

@@ -14,7 +14,8 @@ use Rattle.run_entries.specs.declared.saving.Output.{Output}
 abbrev pub SavedAt : Output → Option Files → Option Files → Type 0
 SavedAt output old new =
     (is_some new ≡ is_some old)
-    × IfSome old (λ files. (bytes : List ℕ) × Spells bytes output.list × (can_save files output.path ≡ true) × (new ≡ Some (insert files output.path (new_file bytes))))
+    × IfSome old (λ files. (bytes : List ℕ) × Spells bytes output.list × (can_save files output.path ≡ true)
+    × (new ≡ Some (insert files output.path (new_file bytes))))
 
 -- the outputs were saved, one after the other
 abbrev pub Saved : List Output → Option Files → Option Files → Type 0

@@ -41,4 +41,5 @@ fresh_is_seat n width r few wide narrow inside =
 
 pub fresh_seats_are : (n width k : ℕ) (d : SumShown) → n ≤ 64 → 2 ≤ width → width ≤ 64 → k < n → IsSeat (started n width) (get_or (fresh_seats n width) k d)
 fresh_seats_are n width k d few wide narrow inside =
-    subst (λ (s : SumShown). IsSeat (started n width) s) (sym (get_or-map-range_with_len (fresh n width) 0 n k k d inside (zero-add k))) (fresh_is_seat n width k few wide narrow inside)
+    subst (λ (s : SumShown). IsSeat (started n width) s) (sym (get_or-map-range_with_len (fresh n width) 0 n k k d inside (zero-add k)))
+    (fresh_is_seat n width k few wide narrow inside)

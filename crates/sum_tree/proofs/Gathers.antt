@@ -13,10 +13,13 @@ some_is : (o : Option ℕ) → IsSome o → is_some o ≡ true
 some_is None some = some
 some_is (Some x) some = refl
 
-counts_are : (all : List SumShown) (d : SumShown) → sum_by (λ (s : SumShown). s.count) all ≡ sum_by (λ k. (get_or all k d).count) (range_with_len 0 (length all))
-counts_are all d = ap (sum_by (λ (s : SumShown). s.count)) (sym (pick_l_whole d all (length all) refl)) ∙ sum_of_map (λ (s : SumShown). s.count) (λ k. get_or all k d) (range_with_len 0 (length all))
+counts_are : (all : List SumShown) (d : SumShown)
+    → sum_by (λ (s : SumShown). s.count) all ≡ sum_by (λ k. (get_or all k d).count) (range_with_len 0 (length all))
+counts_are all d = ap (sum_by (λ (s : SumShown). s.count)) (sym (pick_l_whole d all (length all) refl))
+    ∙ sum_of_map (λ (s : SumShown). s.count) (λ k. get_or all k d) (range_with_len 0 (length all))
 
-pub gathered : (t : SumTold) (all : List SumShown) (d : SumShown) → 0 < length all → AllFinished (λ s. s) (IsSeat t) all → (get_or all 0 d).word ≡ sum_by (λ (s : SumShown). s.count) all
+pub gathered : (t : SumTold) (all : List SumShown) (d : SumShown) → 0 < length all → AllFinished (λ s. s) (IsSeat t) all
+    → (get_or all 0 d).word ≡ sum_by (λ (s : SumShown). s.count) all
 gathered t all d some finished =
     let first : SumShown = get_or all 0 d in
     let (seat, number, n, answered) = finished 0 d some in

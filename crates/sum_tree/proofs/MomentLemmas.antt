@@ -1,5 +1,5 @@
 -- What the rule says of every moment.
-use Rattle.std.proofs.Common.{◌≡◌, ℕ, ◌∙◌, sym, ap}
+use Rattle.std.proofs.Common.{ℕ, ◌∙◌, sym, ap}
 use Rattle.sum_tree.specs.Steps.{coded}
 use Rattle.sum_tree.specs.declared.ranks.RankSum.{RankSum}
 use Rattle.sum_tree.specs.TreeRule.{TableState, Rule, row_of}

@@ -1,5 +1,6 @@
 -- Sums and tests over neighbouring numbers.
-use Rattle.std.proofs.Common.{◌≡◌, ℕ, zero, suc, ◌+◌, ◌*◌, ◌<◌, ◌≤◌, refl, sym, subst, ap, ◌∙◌, arith, add-zero, zero-add, suc-mul, suc-add, Bool, true, false, ◌&&◌, List, map, [], ◌∷◌, ◌++◌, sum_by}
+use Rattle.std.proofs.Common.{◌≡◌, ℕ, zero, suc, ◌+◌, ◌*◌, ◌<◌, ◌≤◌, refl, sym, subst, ap, ◌∙◌, arith, add-zero, zero-add, suc-mul, suc-add, Bool}
+use Rattle.std.proofs.Common.{true, false, ◌&&◌, List, map, [], ◌∷◌, ◌++◌, sum_by}
 use Rattle.std.specs.List.{range_with_len, list_all}
 use mathlib.Core.Logic.{dite}
 use native.Mathlib.Decide.{ℕ_discrete}

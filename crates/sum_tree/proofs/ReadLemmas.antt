@@ -1,19 +1,19 @@
 -- The words of children are read one after the other.
-use Rattle.std.proofs.Common.{◌≡◌, ℕ, zero, suc, ◌+◌, ◌-◌, ◌*◌, ◌/◌, ◌%◌, ◌==◌, ◌^◌, ◌<◌, ◌≤◌, ◌≢◌, refl, sym, subst, ap, ◌∙◌, arith, true, min, List, [], ◌∷◌, ◌++◌, map, length, get_or, set, get_or-set_same, get_or-set_other, length-set, append_assoc, sum_by, is_some, Bool, false, ◌&&◌, eq-eqb, ne_eqb}
-use Rattle.std.specs.List.{All, range_with_len, list_all}
+use Rattle.std.proofs.Common.{◌≡◌, ℕ, ◌+◌, ◌-◌, ◌*◌, ◌/◌, ◌%◌, ◌==◌, ◌^◌, ◌<◌, ◌≤◌, ◌≢◌, refl, sym, subst, ap, ◌∙◌, arith, true, min, List}
+use Rattle.std.proofs.Common.{[], ◌∷◌, ◌++◌, length, get_or, set, get_or-set_same, get_or-set_other, length-set, append_assoc, sum_by, is_some}
+use Rattle.std.proofs.Common.{Bool, false, ◌&&◌, eq-eqb, ne_eqb}
+use Rattle.std.specs.List.{range_with_len, list_all}
 use Rattle.std.proofs.lemmas.List.{append-nil, map-append}
 use Rattle.std.proofs.lemmas.List.Sums.{sum_by-append, sum_by-cons}
 use Rattle.std.proofs.lemmas.List.Elements.{All-nil, All-cons, All-append}
 use mathlib.Core.Logic.{dite}
 use native.Mathlib.Decide.{ℕ_discrete}
-use Rattle.atomic_table.specs.Seated.{TableId}
-use Rattle.sum_tree.specs.Tree.{children}
 use Rattle.sum_tree.specs.Steps.{Reads, number_read, is_final_read}
 use Rattle.sum_tree.specs.declared.ranks.Reading.{Reading}
 use Rattle.sum_tree.proofs.Ranges.{same_sums, less_sums, joined_ranges, joined_sums}
 use Rattle.sum_tree.specs.TreeRule.{seen_of, below}
 use Rattle.sum_tree.specs.TreeSteps.{SeatState, knowing, after_load}
-use Rattle.sum_tree.specs.TreeSeats.{Mine, IsSeat}
+use Rattle.sum_tree.specs.TreeSeats.{IsSeat}
 use Rattle.sum_tree.specs.TreeReads.{Loaded, LoadedFinal, Blocked}
 use Rattle.sum_tree.specs.declared.tree_views.Known.{Known}
 use Rattle.sum_tree.specs.declared.sum_trees.SumTree.{SumTree}
@@ -26,19 +26,29 @@ sum_of_one : (f : ℕ → ℕ) (x : ℕ) → sum_by f (x ∷ []) ≡ f x
 sum_of_one f x = sum_by-cons f x [] ∙ omega arith
 
 pub loaded_none : (v : Known) (a : ℕ) → Loaded v (range_with_len a 0) v
-loaded_none v a = record { loads = []; read = record { words = refl; kept = All-nil (λ x. x.left ≡ x.found) }; seen = refl; are = sym (append-nil v.readings); same = refl }
+loaded_none v a = record {
+  loads = [];
+  read = record { words = refl; kept = All-nil (λ x. x.left ≡ x.found) };
+  seen = refl;
+  are = sym (append-nil v.readings);
+  same = refl;
+}
 
 pub seen_grows : (w : Known) (c found : ℕ) → c < length w.seen → seen_of w c ≤ found / 2 → (e : ℕ) → seen_of w e ≤ seen_of (after_load w c found) e
 seen_grows w c found inside up e = dite (ℕ_discrete e c)
-    (λ q. let at : seen_of (after_load w c found) e ≡ found / 2 = ap (λ (j : ℕ). get_or (set w.seen c (found / 2)) j 0) q ∙ get_or-set_same w.seen c (found / 2) 0 inside in let same : seen_of w e ≡ seen_of w c = ap (seen_of w) q in omega arith)
+    (λ q. let at : seen_of (after_load w c found) e ≡ found / 2 = ap (λ (j : ℕ). get_or (set w.seen c (found / 2)) j 0) q
+    ∙ get_or-set_same w.seen c (found / 2) 0 inside in let same : seen_of w e ≡ seen_of w c = ap (seen_of w) q in omega arith)
     (λ ne. let at : seen_of (after_load w c found) e ≡ seen_of w e = get_or-set_other w.seen c e (found / 2) 0 ne in omega arith)
 
-pub loaded_more : (v w : Known) (a k found : ℕ) (L : Loaded v (range_with_len a k) w) → a + k < length w.seen → (M : Loaded v (range_with_len a (k + 1)) (after_load w (a + k) found)) × (M.loads ≡ L.loads ++ record { word = a + k; found = found; left = found } ∷ [])
+pub loaded_more : (v w : Known) (a k found : ℕ) (L : Loaded v (range_with_len a k) w) → a + k < length w.seen
+    → (M : Loaded v (range_with_len a (k + 1)) (after_load w (a + k) found))
+    × (M.loads ≡ L.loads ++ record { word = a + k; found = found; left = found } ∷ [])
 loaded_more v w a k found L inside =
     let x : Reading = record { word = a + k; found = found; left = found } in
     let w' : Known = after_load w (a + k) found in
     let kept : Reading → Type 0 = λ y. y.left ≡ y.found in
-    let old : sum_by (seen_of w') (range_with_len a k) ≡ sum_by (seen_of w) (range_with_len a k) = same_sums (seen_of w') (seen_of w) a k (λ c low high. get_or-set_other w.seen (a + k) c (found / 2) 0 (λ e. omega arith)) in
+    let old : sum_by (seen_of w') (range_with_len a k) ≡ sum_by (seen_of w) (range_with_len a k) =
+    same_sums (seen_of w') (seen_of w) a k (λ c low high. get_or-set_other w.seen (a + k) c (found / 2) 0 (λ e. omega arith)) in
     let new : seen_of w' (a + k) ≡ found / 2 = get_or-set_same w.seen (a + k) (found / 2) 0 inside in (
       record {
         loads = L.loads ++ x ∷ [];
@@ -47,7 +57,8 @@ loaded_more v w a k found L inside =
           kept = All-append kept L.loads (x ∷ []) L.read.kept (All-cons kept x [] refl (All-nil kept));
         };
         seen = sum_by-append number_read L.loads (x ∷ []) ∙ (let b : sum_by number_read (x ∷ []) ≡ found / 2 = sum_by-cons number_read x [] ∙ omega arith in
-            let s = L.seen in let j : sum_by (seen_of w') (range_with_len a (k + 1)) ≡ sum_by (seen_of w') (range_with_len a k) + sum_by (seen_of w') ((a + k) ∷ []) = joined_sums (seen_of w') a k 1 in
+            let s = L.seen in let j : sum_by (seen_of w') (range_with_len a (k + 1))
+            ≡ sum_by (seen_of w') (range_with_len a k) + sum_by (seen_of w') ((a + k) ∷ []) = joined_sums (seen_of w') a k 1 in
             let o = sum_of_one (seen_of w') (a + k) in omega arith);
         are = ap (λ rs. rs ++ x ∷ []) L.are ∙ append_assoc v.readings L.loads (x ∷ []);
         same = L.same;
@@ -56,22 +67,28 @@ loaded_more v w a k found L inside =
     )
 
 -- a part of what was read below
-pub part_below : (w : Known) (k : ℕ) → k ≤ min w.width (w.n - (w.number * w.width + 1)) → sum_by (seen_of w) (range_with_len (w.number * w.width + 1) k) ≤ below w
+pub part_below : (w : Known) (k : ℕ) → k ≤ min w.width (w.n - (w.number * w.width + 1))
+    → sum_by (seen_of w) (range_with_len (w.number * w.width + 1) k) ≤ below w
 part_below w k h =
     let a : ℕ = w.number * w.width + 1 in
     let m : ℕ = min w.width (w.n - a) in
     let whole : k + (m - k) ≡ m = omega arith in
-    let j : sum_by (seen_of w) (range_with_len a (k + (m - k))) ≡ sum_by (seen_of w) (range_with_len a k) + sum_by (seen_of w) (range_with_len (a + k) (m - k)) = joined_sums (seen_of w) a k (m - k) in
+    let j : sum_by (seen_of w) (range_with_len a (k + (m - k)))
+    ≡ sum_by (seen_of w) (range_with_len a k) + sum_by (seen_of w) (range_with_len (a + k) (m - k)) =
+    joined_sums (seen_of w) a k (m - k) in
     let e : sum_by (seen_of w) (range_with_len a (k + (m - k))) ≡ below w = ap (λ (i : ℕ). sum_by (seen_of w) (range_with_len a i)) whole in
     omega arith
 
-pub still : (t : SumTree) (s s' : SumSeat) (c found : ℕ) → IsSeat t s → c < t.n → s'.seat.table_id ≡ s.seat.table_id → s'.seat.me ≡ knowing s.seat.me (after_load s.seat.me.0.own c found) → seen_of s.seat.me.0.own c ≤ found / 2
+pub still : (t : SumTree) (s s' : SumSeat) (c found : ℕ) → IsSeat t s → c < t.n → s'.seat.table_id ≡ s.seat.table_id
+    → s'.seat.me ≡ knowing s.seat.me (after_load s.seat.me.0.own c found) → seen_of s.seat.me.0.own c ≤ found / 2
     → s'.number ≡ s.number → s'.n ≡ s.n → s'.width ≡ s.width → s'.count ≡ s.count → s'.answer ≡ s.answer → IsSeat t s'
 still t s s' c found S bound table me up number n width count answer =
     let v : Known = s.seat.me.0.own in
     let w : Known = after_load v c found in
     let inside : c < length v.seen = (let e = S.long in omega arith) in
-    let grew : below v ≤ below w = less_sums (seen_of v) (seen_of w) (v.number * v.width + 1) (min v.width (v.n - (v.number * v.width + 1))) (λ e low high. seen_grows v c found inside up e) in
+    let grew : below v ≤ below w =
+    less_sums (seen_of v) (seen_of w) (v.number * v.width + 1) (min v.width (v.n - (v.number * v.width + 1)))
+    (λ e low high. seen_grows v c found inside up e) in
     let at : s'.seat.me.0.own ≡ w = ap (λ (m : SeatState). m.0.own) me in
     record {
       mine = record {
@@ -95,25 +112,42 @@ still t s s' c found S bound table me up number n width count answer =
       low = subst (λ (x : Known). x.word ≤ x.count + below x) (sym at) (let l = S.low in omega arith);
     }
 
-pub sum_more : (w : Known) (a k found : ℕ) → a + k < length w.seen → sum_by (seen_of w) (range_with_len a k) + found / 2 ≡ sum_by (seen_of (after_load w (a + k) found)) (range_with_len a (k + 1))
+pub sum_more : (w : Known) (a k found : ℕ) → a + k < length w.seen
+    → sum_by (seen_of w) (range_with_len a k) + found / 2 ≡ sum_by (seen_of (after_load w (a + k) found)) (range_with_len a (k + 1))
 sum_more w a k found inside =
     let w' : Known = after_load w (a + k) found in
-    let old : sum_by (seen_of w') (range_with_len a k) ≡ sum_by (seen_of w) (range_with_len a k) = same_sums (seen_of w') (seen_of w) a k (λ c low high. get_or-set_other w.seen (a + k) c (found / 2) 0 (λ e. omega arith)) in
+    let old : sum_by (seen_of w') (range_with_len a k) ≡ sum_by (seen_of w) (range_with_len a k) =
+    same_sums (seen_of w') (seen_of w) a k (λ c low high. get_or-set_other w.seen (a + k) c (found / 2) 0 (λ e. omega arith)) in
     let new : seen_of w' (a + k) ≡ found / 2 = get_or-set_same w.seen (a + k) (found / 2) 0 inside in
-    let j : sum_by (seen_of w') (range_with_len a (k + 1)) ≡ sum_by (seen_of w') (range_with_len a k) + sum_by (seen_of w') ((a + k) ∷ []) = joined_sums (seen_of w') a k 1 in
+    let j : sum_by (seen_of w') (range_with_len a (k + 1)) ≡ sum_by (seen_of w') (range_with_len a k) + sum_by (seen_of w') ((a + k) ∷ []) =
+    joined_sums (seen_of w') a k 1 in
     let o = sum_of_one (seen_of w') (a + k) in omega arith
 
-pub bounded : (t : SumTree) (s : SumSeat) (a k : ℕ) → IsSeat t s → a ≡ s.number * s.width + 1 → k ≤ min s.width (s.n - a) → sum_by (seen_of s.seat.me.0.own) (range_with_len a k) ≤ below s.seat.me.0.own
+pub bounded : (t : SumTree) (s : SumSeat) (a k : ℕ) → IsSeat t s → a ≡ s.number * s.width + 1 → k ≤ min s.width (s.n - a)
+    → sum_by (seen_of s.seat.me.0.own) (range_with_len a k) ≤ below s.seat.me.0.own
 bounded t s a k S is few =
     let w : Known = s.seat.me.0.own in
     let wide : w.width ≡ s.width = S.mine.wide ∙ sym S.width in
     let size : w.n ≡ s.n = S.mine.sized ∙ sym S.n in
     let first : w.number * w.width + 1 ≡ a = ap (λ (j : ℕ). j * w.width + 1) S.mine.number ∙ ap (λ (j : ℕ). s.number * j + 1) wide ∙ sym is in
-    let few2 : k ≤ min w.width (w.n - (w.number * w.width + 1)) = subst (λ (j : ℕ). k ≤ min w.width (w.n - j)) (sym first) (subst (λ (j : ℕ). k ≤ min w.width (j - a)) (sym size) (subst (λ (j : ℕ). k ≤ min j (s.n - a)) (sym wide) few)) in
+    let few2 : k ≤ min w.width (w.n - (w.number * w.width + 1)) =
+    subst (λ (j : ℕ). k ≤ min w.width (w.n - j)) (sym first)
+    (subst (λ (j : ℕ). k ≤ min w.width (j - a)) (sym size) (subst (λ (j : ℕ). k ≤ min j (s.n - a)) (sym wide) few)) in
     subst (λ (j : ℕ). sum_by (seen_of w) (range_with_len j k) ≤ below w) first (part_below w k few2)
 
 pub final_none : (v : Known) (a : ℕ) → LoadedFinal v a 0 v
-final_none v a = record { loaded = record { loads = []; read = record { words = refl; kept = All-nil (λ x. x.left ≡ x.found) }; seen = refl; are = sym (append-nil v.readings); same = refl }; reads = refl; all = λ c low high. absurd (omega arith) }
+final_none v a = record {
+  loaded =
+      record {
+        loads = [];
+        read = record { words = refl; kept = All-nil (λ x. x.left ≡ x.found) };
+        seen = refl;
+        are = sym (append-nil v.readings);
+        same = refl;
+      };
+  reads = refl;
+  all = λ c low high. absurd (omega arith);
+}
 
 all_more : (p : Reading → Bool) (xs : List Reading) (x : Reading) → list_all p xs ≡ true → p x ≡ true → list_all p (xs ++ x ∷ []) ≡ true
 all_more p [] x all e = ap (λ (b : Bool). b && true) e
@@ -123,7 +157,8 @@ all_more p (y ∷ ys) x all e = both_true (p y) (list_all p ys) (list_all p (ys 
     both_true true b d h f = f h
     both_true false b d h f = h
 
-pub final_more : (v w : Known) (a k found : ℕ) → LoadedFinal v a k w → a + k < length w.seen → a + k < length w.finals → found % 2 ≡ 1 → LoadedFinal v a (k + 1) (after_load w (a + k) found)
+pub final_more : (v w : Known) (a k found : ℕ) → LoadedFinal v a k w → a + k < length w.seen → a + k < length w.finals → found % 2 ≡ 1
+    → LoadedFinal v a (k + 1) (after_load w (a + k) found)
 final_more v w a k found F inside inside2 is_final =
     let M = loaded_more v w a k found F.loaded inside in
     let x : Reading = record { word = a + k; found = found; left = found } in
@@ -132,11 +167,13 @@ final_more v w a k found F inside inside2 is_final =
       loaded = M.0;
       reads = ap (list_all is_final_read) M.1 ∙ all_more is_final_read F.loaded.loads x F.reads odd;
       all = λ c low high. dite (ℕ_discrete c (a + k))
-          (λ e. ap (λ (j : ℕ). get_or (set w.finals (a + k) (found % 2 == 1)) j false) e ∙ get_or-set_same w.finals (a + k) (found % 2 == 1) false inside2 ∙ odd)
+          (λ e. ap (λ (j : ℕ). get_or (set w.finals (a + k) (found % 2 == 1)) j false) e
+          ∙ get_or-set_same w.finals (a + k) (found % 2 == 1) false inside2 ∙ odd)
           (λ ne. get_or-set_other w.finals (a + k) c (found % 2 == 1) false ne ∙ F.all c low (omega arith));
     }
 
-pub blocks : (v w : Known) (a k many found : ℕ) → LoadedFinal v a k w → a + k < length w.seen → k < many → found % 2 ≢ 1 → Blocked v (range_with_len a many) (after_load w (a + k) found)
+pub blocks : (v w : Known) (a k many found : ℕ) → LoadedFinal v a k w → a + k < length w.seen → k < many → found % 2 ≢ 1
+    → Blocked v (range_with_len a many) (after_load w (a + k) found)
 blocks v w a k many found F inside room not_final =
     let M = loaded_more v w a k found F.loaded inside in
     let whole : (k + 1) + (many - (k + 1)) ≡ many = omega arith in

@@ -18,5 +18,6 @@ rows_are t r first count place inside size =
 pub words_are : (t : SumTold) (r : ℕ) (rows : List RankSum) → rows ≡ map (rank_of t) (children_in t r) → sum_by (λ (x : RankSum). x.word) rows ≡ words_below t r
 words_are t r rows are = ap (sum_by (λ (x : RankSum). x.word)) are ∙ sum_of_map (λ (x : RankSum). x.word) (rank_of t) (children_in t r)
 
-pub finals_are : (t : SumTold) (r : ℕ) (rows : List RankSum) → rows ≡ map (rank_of t) (children_in t r) → list_all (λ (x : RankSum). x.is_final) rows ≡ are_final_below t r
+pub finals_are : (t : SumTold) (r : ℕ) (rows : List RankSum) → rows ≡ map (rank_of t) (children_in t r)
+    → list_all (λ (x : RankSum). x.is_final) rows ≡ are_final_below t r
 finals_are t r rows are = ap (list_all (λ (x : RankSum). x.is_final)) are ∙ list_all-map (λ (x : RankSum). x.is_final) (rank_of t) (children_in t r)

@@ -1,5 +1,6 @@
 -- One rank's count and word change, and the rule of plain sums is kept.
-use Rattle.std.proofs.Common.{◌≡◌, ℕ, ◌+◌, ◌-◌, ◌*◌, ◌^◌, ◌<◌, ◌≤◌, ◌≢◌, sym, subst, ap, ◌∙◌, arith, min, true, false, length, get_or-set_same, get_or-set_other, length-set, sum_by, mul-le-mul_right}
+use Rattle.std.proofs.Common.{◌≡◌, ℕ, ◌+◌, ◌-◌, ◌*◌, ◌^◌, ◌<◌, ◌≤◌, ◌≢◌, sym, subst, ap, ◌∙◌, arith, min, true, false, length, get_or-set_same}
+use Rattle.std.proofs.Common.{get_or-set_other, length-set, sum_by, mul-le-mul_right}
 use mathlib.Core.Logic.{dite}
 use native.Mathlib.Decide.{ℕ_discrete, dec_le}
 use Rattle.std.specs.List.{list_all}
@@ -44,7 +45,9 @@ own_and_below t r wide sound final =
     let first : ℕ = r * t.width + 1 in
     let many : ℕ = min t.width (length t.ranks - first) in
     sound.exact r final ∙ sum_is (length t.ranks) t.width (count_of t) r wide (final_inside t r final)
-    ∙ ap (λ (s : ℕ). count_of t r + s) (same_sums (sum_in t) (word_of t) first many (λ c low high. sym (sound.exact c (final_children t r (sound.below r final) c low high))))
+    ∙ ap (λ (s : ℕ). count_of t r + s)
+    (same_sums (sum_in t) (word_of t) first many
+    (λ c low high. sym (sound.exact c (final_children t r (sound.below r final) c low high))))
 
 -- what suffices for sums to be sound
 pub sound_where : (t : SumTold) → 1 ≤ t.width → ((r : ℕ) → word_of t r ≤ count_of t r + words_below t r)
@@ -76,19 +79,22 @@ module _ (t : SumTold) (r : ℕ) (x : RankSum) where
 
   words_rise : Grows t r x → (q : ℕ) → word_of t q ≤ word_of after q
   words_rise grows q = dite (ℕ_discrete q r)
-      (λ e. subst (λ (k : ℕ). word_of t k ≤ word_of after k) (sym e) (let own = ap (λ (y : RankSum). y.word) (here grows) in let up = grows.words in omega arith))
+      (λ e. subst (λ (k : ℕ). word_of t k ≤ word_of after k) (sym e) (let own = ap (λ (y : RankSum). y.word) (here grows) in
+      let up = grows.words in omega arith))
       (λ ne. let same = ap (λ (y : RankSum). y.word) (there q ne) in omega arith)
 
   below_rise : Grows t r x → (q : ℕ) → words_below t q ≤ words_below after q
   below_rise grows q =
       let same : words_below after q ≡ sum_by (word_of after) (children_in t q) = ap (sum_by (word_of after)) (same_children q) in
-      let more = less_sums (word_of t) (word_of after) (q * t.width + 1) (min t.width (length t.ranks - (q * t.width + 1))) (λ c low high. words_rise grows c) in
+      let more = less_sums (word_of t) (word_of after) (q * t.width + 1) (min t.width (length t.ranks - (q * t.width + 1)))
+      (λ c low high. words_rise grows c) in
       omega arith
 
   -- the words below a rank stay, where that of r is not among them
   below_stay : (q : ℕ) → OfEachChild t q (λ c. c ≢ r) → words_below after q ≡ words_below t q
   below_stay q apart = ap (sum_by (word_of after)) (same_children q)
-      ∙ same_sums (word_of after) (word_of t) (q * t.width + 1) (min t.width (length t.ranks - (q * t.width + 1))) (λ c low high. ap (λ (y : RankSum). y.word) (there c (apart c low high)))
+      ∙ same_sums (word_of after) (word_of t) (q * t.width + 1) (min t.width (length t.ranks - (q * t.width + 1)))
+      (λ c low high. ap (λ (y : RankSum). y.word) (there c (apart c low high)))
 
   finals_stay : (q : ℕ) → OfEachChild t q (λ c. c ≢ r) → are_final_below t q ≡ true → are_final_below after q ≡ true
   finals_stay q apart all = ap (list_all (is_final after)) (same_children q)
@@ -118,7 +124,8 @@ module _ (t : SumTold) (r : ℕ) (x : RankSum) where
       let below = below_rise grows q in
       let low = rule.low q in omega arith)
 
-  final_after : Rule t → Sound t → Grows t r x → (q : ℕ) → is_final after q ≡ true → (word_of after q ≡ count_of after q + words_below after q) × (are_final_below after q ≡ true)
+  final_after : Rule t → Sound t → Grows t r x → (q : ℕ) → is_final after q ≡ true
+      → (word_of after q ≡ count_of after q + words_below after q) × (are_final_below after q ≡ true)
   final_after rule sound grows q final =
       let wide : 1 ≤ t.width = (let two = rule.wide in omega arith) in dite (ℕ_discrete q r)
       (λ e. subst (λ (k : ℕ). (word_of after k ≡ count_of after k + words_below after k) × (are_final_below after k ≡ true)) (sym e)
@@ -141,7 +148,8 @@ module _ (t : SumTold) (r : ℕ) (x : RankSum) where
     narrow = rule.narrow;
     few = let few = rule.few in let same = as_many in omega arith;
     capped = λ q. dite (ℕ_discrete q r)
-        (λ e. subst (λ (k : ℕ). count_of after k ≤ 2 ^ 56 - 1) (sym e) (subst (λ (n : ℕ). n ≤ 2 ^ 56 - 1) (sym (ap (λ (y : RankSum). y.count) (here grows))) grows.capped))
+        (λ e. subst (λ (k : ℕ). count_of after k ≤ 2 ^ 56 - 1) (sym e)
+        (subst (λ (n : ℕ). n ≤ 2 ^ 56 - 1) (sym (ap (λ (y : RankSum). y.count) (here grows))) grows.capped))
         (λ ne. subst (λ (n : ℕ). n ≤ 2 ^ 56 - 1) (sym (ap (λ (y : RankSum). y.count) (there q ne))) (rule.capped q));
     low = low_after rule grows;
   }

@@ -1,5 +1,6 @@
 -- A call of one seat keeps all seats of plain sums.
-use Rattle.std.proofs.Common.{◌≡◌, ℕ, ◌+◌, ◌-◌, ◌<◌, ◌≤◌, ◌≢◌, ◌^◌, refl, sym, subst, ap, ◌∙◌, arith, true, false, length, length-set, get_or-set_same, get_or-set_other, Option, Some, None, IfSome, is_some}
+use Rattle.std.proofs.Common.{◌≡◌, ℕ, ◌+◌, ◌-◌, ◌<◌, ◌≤◌, ◌≢◌, ◌^◌, refl, sym, subst, ap, ◌∙◌, arith, true, false, length, length-set}
+use Rattle.std.proofs.Common.{get_or-set_same, get_or-set_other, Option, Some, None, IfSome, is_some}
 use Rattle.std.proofs.lemmas.Bool.{false≢true}
 use Rattle.sum_tree.specs.Told.{SumTold, uncounted, rank_of, count_of, word_of, is_final, words_below, are_final_below, sum_in, raised_by, put_rank}
 use Rattle.sum_tree.specs.Shown.{SumShown, rank_shown, raised, refreshed, finished}
@@ -58,7 +59,8 @@ held : (t : SumTold) (s : SumShown) → IsSeat t s → word_of t s.number ≡ s.
 held t s seat = ap (λ (x : RankSum). x.word) seat.shown.same
 
 -- a rank whose final sum is not answered may count more, and write what it has counted and what its children tell
-grows : (t : SumTold) (s : SumShown) (x : RankSum) → IsSeat t s → s.answer ≡ None → s.count ≤ x.count → x.count ≤ 2 ^ 56 - 1 → s.word ≤ x.word → x.word ≤ x.count + words_below t s.number
+grows : (t : SumTold) (s : SumShown) (x : RankSum) → IsSeat t s → s.answer ≡ None → s.count ≤ x.count → x.count ≤ 2 ^ 56 - 1
+    → s.word ≤ x.word → x.word ≤ x.count + words_below t s.number
     → (x.is_final ≡ true → (x.word ≡ x.count + words_below t s.number) × (are_final_below t s.number ≡ true)) → Grows t s.number x
 grows t s x seat counting more capped up low final =
     let count = counted t s seat in
@@ -88,7 +90,8 @@ raise_keeps t s k seat counting =
     (λ e. absurd (false≢true (sym (ap is_some counting) ∙ e))))
     refl refl refl seat.answered
 
-pub refresh_keeps : (t : SumTold) (s : SumShown) (word : ℕ) → IsSeat t s → s.answer ≡ None → word ≡ s.count + words_below t s.number → Keeps t s (refreshed word s)
+pub refresh_keeps : (t : SumTold) (s : SumShown) (word : ℕ) → IsSeat t s → s.answer ≡ None → word ≡ s.count + words_below t s.number
+    → Keeps t s (refreshed word s)
 refresh_keeps t s word seat counting sum =
     let capped = capped_of t s seat in
     let low = low_of t s seat in
@@ -97,7 +100,8 @@ refresh_keeps t s word seat counting sum =
     (λ e. absurd (false≢true (sym (ap is_some counting) ∙ e))))
     refl refl refl (subst (λ (o : Option ℕ). IfSome o (λ sum. sum ≡ word)) (sym counting) tt)
 
-pub finish_keeps : (t : SumTold) (s : SumShown) (sum : ℕ) → IsSeat t s → s.answer ≡ None → sum ≡ s.count + words_below t s.number → are_final_below t s.number ≡ true
+pub finish_keeps : (t : SumTold) (s : SumShown) (sum : ℕ) → IsSeat t s → s.answer ≡ None → sum ≡ s.count + words_below t s.number
+    → are_final_below t s.number ≡ true
     → Keeps t s (finished (Some sum) s)
 finish_keeps t s sum seat counting total all =
     let capped = capped_of t s seat in
@@ -114,7 +118,9 @@ pub record Done (t u : SumTold) (s now : SumShown) : Type 0 where
 done : (t u : SumTold) (s after now : SumShown) → Keeps t s after → now ≡ after → u ≡ told_after t now → Done t u s now
 done t u s after now kept same told = record {
   mine = subst (λ (v : SumTold). IsSeat v now) (sym told) (subst (λ (x : SumShown). IsSeat (told_after t x) x) (sym same) kept.mine);
-  others = λ o apart other. subst (λ (v : SumTold). IsSeat v o) (sym told) (subst (λ (x : SumShown). IsSeat (told_after t x) o) (sym same) (kept.others o apart other));
+  others = λ o apart other.
+      subst (λ (v : SumTold). IsSeat v o) (sym told)
+      (subst (λ (x : SumShown). IsSeat (told_after t x) o) (sym same) (kept.others o apart other));
 }
 
 pub raise_done : (t u : SumTold) (s seen : SumShown) (k count : ℕ) → IsSeat t s → s.answer ≡ None → seen ≡ s → count ≡ raised_by k seen.count
@@ -128,7 +134,8 @@ pub refresh_done : (t u : SumTold) (s seen : SumShown) (word : ℕ) → IsSeat t
 refresh_done t u s seen word seat counting same sum told =
     done t u s (refreshed word s) (refreshed word seen) (refresh_keeps t s word seat counting sum) (ap (refreshed word) same) told
 
-pub finish_done : (t u : SumTold) (s seen : SumShown) (sum : ℕ) → IsSeat t s → s.answer ≡ None → seen ≡ s → sum ≡ s.count + words_below t s.number → are_final_below t s.number ≡ true
+pub finish_done : (t u : SumTold) (s seen : SumShown) (sum : ℕ) → IsSeat t s → s.answer ≡ None → seen ≡ s
+    → sum ≡ s.count + words_below t s.number → are_final_below t s.number ≡ true
     → u ≡ told_after t (finished (Some sum) seen) → Done t u s (finished (Some sum) seen)
 finish_done t u s seen sum seat counting same total all told =
     done t u s (finished (Some sum) s) (finished (Some sum) seen) (finish_keeps t s sum seat counting total all) (ap (finished (Some sum)) same) told
@@ -138,4 +145,5 @@ pub total_fits : (t : SumTold) (s : SumShown) → IsSeat t s → s.count + words
 total_fits t s seat = let count = counted t s seat in let small = fits t s.number seat.rule seat.shown.sound seat.shown.inside in omega arith
 
 pub final_sum : (t : SumTold) (s : SumShown) → IsSeat t s → are_final_below t s.number ≡ true → s.count + words_below t s.number ≡ sum_in t s.number
-final_sum t s seat all = ap (λ (n : ℕ). n + words_below t s.number) (sym (counted t s seat)) ∙ sum_where_final t s.number seat.rule seat.shown.sound seat.shown.inside all
+final_sum t s seat all = ap (λ (n : ℕ). n + words_below t s.number) (sym (counted t s seat))
+    ∙ sum_where_final t s.number seat.rule seat.shown.sound seat.shown.inside all

@@ -1,5 +1,6 @@
 -- The table of sums at the start.
-use Rattle.std.proofs.Common.{◌≡◌, ℕ, zero, suc, ◌+◌, ◌<◌, ◌≤◌, ◌⊎◌, inl, inr, refl, sym, subst, ap, ◌∙◌, arith, true, false, List, [], ◌∷◌, ◌++◌, map, replicate, length, get_or}
+use Rattle.std.proofs.Common.{◌≡◌, ℕ, zero, suc, ◌<◌, ◌≤◌, ◌⊎◌, inr, refl, sym, subst, ap, ◌∙◌, arith, false, List, [], ◌∷◌, ◌++◌}
+use Rattle.std.proofs.Common.{map, replicate, length, get_or}
 use Rattle.std.specs.List.{All, range_with_len}
 use Rattle.std.proofs.lemmas.List.{ext_get_or, get_or-replicate, length-replicate}
 use Rattle.std.proofs.lemmas.List.FromFn.{length-map-range_with_len, get_or-map-range_with_len}
@@ -7,8 +8,8 @@ use Rattle.std.proofs.lemmas.List.Elements.{All-nil}
 use mathlib.Core.Option.{some, some-injective, some-ne-none}
 use lib.ListN.{get_elem?}
 use Rattle.atomic_table.specs.Table.{opening}
-use Rattle.sum_tree.specs.Told.{uncounted, SumTold}
-use Rattle.sum_tree.specs.Plain.{started, IsSeat, fresh as fresh_shown}
+use Rattle.sum_tree.specs.Told.{uncounted}
+use Rattle.sum_tree.specs.Plain.{IsSeat, fresh as fresh_shown}
 use Rattle.sum_tree.specs.declared.ranks.RankSum.{RankSum}
 use Rattle.sum_tree.proofs.Begins.{fresh_is_seat}
 use Rattle.sum_tree.specs.TreeRule.{Rule, KeptIn, row_of, told_of, seen_of, fresh, opened}
@@ -34,11 +35,15 @@ never (suc n) (suc r) = never n r
 
 pub starts : (n width : ℕ) (ws : List ℕ) → 0 < n → n ≤ 64 → 2 ≤ width → width ≤ 64 → ws ≡ replicate n 0 → Rule n width (opening ws [] (opened n width))
 starts n width ws some_rank few wide narrow e =
-    let rows : map (λ (r : ℕ). row_of (fresh n width r)) (range_with_len 0 n) ≡ replicate n uncounted = ext_get_or uncounted (map (λ (r : ℕ). row_of (fresh n width r)) (range_with_len 0 n)) (replicate n uncounted)
+    let rows : map (λ (r : ℕ). row_of (fresh n width r)) (range_with_len 0 n) ≡ replicate n uncounted =
+    ext_get_or uncounted (map (λ (r : ℕ). row_of (fresh n width r)) (range_with_len 0 n)) (replicate n uncounted)
     (length-map-range_with_len (λ (r : ℕ). row_of (fresh n width r)) 0 n ∙ sym (length-replicate n uncounted))
     (λ i h. let below : i < n = (let q = length-map-range_with_len (λ (r : ℕ). row_of (fresh n width r)) 0 n in omega arith) in
-    get_or-map-range_with_len (λ (r : ℕ). row_of (fresh n width r)) 0 n i i uncounted below (omega arith) ∙ sym (get_or-replicate n i uncounted uncounted below)) in
-    let seat : IsSeat (told_of n width (fresh n width)) (fresh_shown n width 0) = subst (λ (xs : List RankSum). IsSeat (record { width = width; ranks = xs }) (fresh_shown n width 0)) (sym rows) (fresh_is_seat n width 0 few wide narrow some_rank) in
+    get_or-map-range_with_len (λ (r : ℕ). row_of (fresh n width r)) 0 n i i uncounted below (omega arith)
+    ∙ sym (get_or-replicate n i uncounted uncounted below)) in
+    let seat : IsSeat (told_of n width (fresh n width)) (fresh_shown n width 0) =
+    subst (λ (xs : List RankSum). IsSeat (record { width = width; ranks = xs }) (fresh_shown n width 0)) (sym rows)
+    (fresh_is_seat n width 0 few wide narrow some_rank) in
     record {
       known = fresh n width;
       wide = ap length e ∙ length-replicate n 0;
@@ -58,8 +63,10 @@ starts n width ws some_rank few wide narrow e =
       };
     }
 
-pub starts_at : (n width : ℕ) (key : ℕ × ℕ) (ws : List ℕ) → key ≡ (n, width) → 0 < n → n ≤ 64 → 2 ≤ width → width ≤ 64 → ws ≡ replicate n 0 → Rule key.0 key.1 (opening ws [] (opened key.0 key.1))
-starts_at n width key ws k some_rank few wide narrow e = subst (λ (q : ℕ × ℕ). Rule q.0 q.1 (opening ws [] (opened q.0 q.1))) (sym k) (starts n width ws some_rank few wide narrow e)
+pub starts_at : (n width : ℕ) (key : ℕ × ℕ) (ws : List ℕ) → key ≡ (n, width) → 0 < n → n ≤ 64 → 2 ≤ width → width ≤ 64 → ws ≡ replicate n 0
+    → Rule key.0 key.1 (opening ws [] (opened key.0 key.1))
+starts_at n width key ws k some_rank few wide narrow e =
+    subst (λ (q : ℕ × ℕ). Rule q.0 q.1 (opening ws [] (opened q.0 q.1))) (sym k) (starts n width ws some_rank few wide narrow e)
 
 pub get_or-append_seam : {A : Type 0} (xs : List A) (y : A) (ys : List A) (d : A) → get_or (xs ++ y ∷ ys) (length xs) d ≡ y
 get_or-append_seam [] y ys d = refl

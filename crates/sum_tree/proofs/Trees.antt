@@ -54,7 +54,8 @@ level_by_level n width count (suc k) wide some inside =
     let up : k ≤ k * width = le-mul_of_pos_right k wide in
     let step : suc k * width ≡ k * width + width = suc-mul k width in
     let counted = joined_sums count 0 k 1 in
-    let one : sum_by count (range_with_len (0 + k) 1) ≡ count k = ap (λ (i : ℕ). sum_by count (range_with_len i 1)) (zero-add k) ∙ sum_by-cons count k [] ∙ omega arith in
+    let one : sum_by count (range_with_len (0 + k) 1) ≡ count k = ap (λ (i : ℕ). sum_by count (range_with_len i 1)) (zero-add k)
+    ∙ sum_by-cons count k [] ∙ omega arith in
     let next_up : suc k ≡ k + 1 = omega arith in
     let more : sum_by count (range_with_len 0 (suc k)) ≡ sum_by count (range_with_len 0 (k + 1)) = ap (λ (i : ℕ). sum_by count (range_with_len 0 i)) next_up in
     let here : sum_by S (range_with_len k 1) ≡ S k = sum_by-cons S k [] ∙ omega arith in
@@ -62,7 +63,8 @@ level_by_level n width count (suc k) wide some inside =
     let queued : sum_by S (range_with_len k (next n width k)) ≡ sum_by S (range_with_len k (1 + left)) = ap (λ (i : ℕ). sum_by S (range_with_len k i)) size in
     let first = joined_sums S k 1 left in
     let rest = joined_sums S (k + 1) left kids in
-    let children_are : sum_by S (range_with_len (k + 1 + left) kids) ≡ sum_by S (children n width k) = same_start S (k + 1 + left) (k * width + 1) kids (λ some. omega arith) in
+    let children_are : sum_by S (range_with_len (k + 1 + left) kids) ≡ sum_by S (children n width k) =
+    same_start S (k + 1 + left) (k * width + 1) kids (λ some. omega arith) in
     let size_after : next n width (suc k) ≡ left + kids = omega arith in
     let after : sum_by S (range_with_len (suc k) (next n width (suc k))) ≡ sum_by S (range_with_len (k + 1) (left + kids)) =
     ap (λ (i : ℕ). sum_by S (range_with_len (suc k) i)) size_after ∙ ap (λ (i : ℕ). sum_by S (range_with_len i (left + kids))) next_up in
@@ -103,7 +105,8 @@ at_most_down n width count word (suc levels) r wide inside deep low =
     omega arith
 
 -- words of which each holds at most its own count and what those of its children hold, hold at most the sums
-pub words_at_most : (n width : ℕ) (count word : ℕ → ℕ) (r : ℕ) → 1 ≤ width → r < n → ((q : ℕ) → word q ≤ count q + sum_by word (children n width q)) → word r ≤ sum_of n width count r
+pub words_at_most : (n width : ℕ) (count word : ℕ → ℕ) (r : ℕ) → 1 ≤ width → r < n
+    → ((q : ℕ) → word q ≤ count q + sum_by word (children n width q)) → word r ≤ sum_of n width count r
 unfolding sum_of
 words_at_most n width count word r wide inside low = at_most_down n width count word n r wide inside (omega arith) low
 

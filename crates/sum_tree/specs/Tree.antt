@@ -1,4 +1,5 @@
--- A tree of ranks and what its counts come to: the reduction of libcircle (LaFon, Misra, Bringhurst, SC 2012), in which each rank adds what its children tell to what it has counted itself.
+-- A tree of ranks and what its counts come to: the reduction of libcircle (LaFon, Misra, Bringhurst, SC 2012), in which each rank adds what
+-- its children tell to what it has counted itself.
 use Rattle.std.specs.Prelude.{ℕ, zero, suc, ◌+◌, ◌-◌, ◌*◌, List, min}
 use Rattle.std.specs.List.{range_with_len, sum_by}
 

@@ -1,4 +1,5 @@
--- What the rule of sums over atomic words says of every moment, between any two steps. Partial sums that are never too high are libcircle's (SC 2012); that a word is marked final is our own.
+-- What the rule of sums over atomic words says of every moment, between any two steps. Partial sums that are never too high are libcircle's
+-- (SC 2012); that a word is marked final is our own.
 use Rattle.std.specs.Prelude.{◌≡◌, ℕ, ◌<◌, true, slice_index}
 use mathlib.Core.Option.{some}
 use lib.ListN.{get_elem?}

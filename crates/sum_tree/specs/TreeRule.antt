@@ -1,4 +1,5 @@
--- The rule of sums over atomic words, which holds between any two steps: a word for each rank, twice a number and one more where it is final. The partial sums are libcircle's (SC 2012); what each seat knows of other words is our own.
+-- The rule of sums over atomic words, which holds between any two steps: a word for each rank, twice a number and one more where it is
+-- final. The partial sums are libcircle's (SC 2012); what each seat knows of other words is our own.
 use Rattle.std.specs.Prelude.{All, ◌≡◌, ℕ, ◌+◌, ◌<◌, ◌≤◌, ◌⊎◌, Bool, true, false, List, [], ◌∷◌, ◌++◌, length, map, slice_index, slice_index_or, replicate}
 use Rattle.std.specs.List.{range_with_len, sum_by}
 use mathlib.Core.Option.{some}

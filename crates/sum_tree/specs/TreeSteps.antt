@@ -1,9 +1,9 @@
--- What each step on the words tells the call that makes it: of the step, the seat before, the number found and the seat after. Our own. Private clauses alone cite this.
-use Rattle.std.specs.Prelude.{◌≡◌, ℕ, ◌+◌, ◌-◌, ◌*◌, ◌/◌, ◌%◌, ◌^◌, ◌<◌, ◌≤◌, ◌==◌, Bool, true, false, [], ◌∷◌, ◌++◌, slice_set}
+-- What each step on the words tells the call that makes it: of the step, the seat before, the number found and the seat after. Our own.
+-- Private clauses alone cite this.
+use Rattle.std.specs.Prelude.{◌≡◌, ℕ, ◌-◌, ◌/◌, ◌%◌, ◌^◌, ◌<◌, ◌≤◌, ◌==◌, Bool, true, false, [], ◌∷◌, ◌++◌, slice_set}
 use Rattle.std.specs.List.{Contains, range_with_len, sum_by}
 use Rattle.atomic_table.specs.Table.{Me, Step}
 use Rattle.sum_tree.specs.Steps.{coded}
-use Rattle.sum_tree.specs.declared.ranks.Reading.{Reading}
 use Rattle.sum_tree.specs.TreeRule.{seen_of, below}
 use Rattle.sum_tree.specs.declared.tree_views.Known.{Known}
 use Rattle.sum_tree.specs.declared.tree_views.View.{View}
@@ -27,7 +27,8 @@ abbrev pub after_load : Known → ℕ → ℕ → Known
 after_load v word found =
     record (noted v word found found) { seen = slice_set v.seen word (found / 2); finals = slice_set v.finals word (found % 2 == 1) }
 
--- what was read before was no more; what is read of the children, together with all counts, is far from the end of the type; the own word reads as the seat knows
+-- what was read before was no more; what is read of the children, together with all counts, is far from the end of the type; the own word
+-- reads as the seat knows
 abbrev pub LoadTells : Telling
 LoadTells st m r n =
     (n ≡ knowing m (after_load m.0.own st.word r))

@@ -45,8 +45,12 @@ find_none n a (suc m) q off =
 find_node : (n a m j : ℕ) → a ≤ j → j < a + m → a + m < 2 ^ 64 → find path_cmp (path_of j) (map (entry n) (range_with_len a m)) ≡ Some (node_of n j)
 find_node n a zero j l h s = absurd (omega arith)
 find_node n a (suc m) j l h s =
-    elim (eq_by_cmp path_cmp (path_of j) (path_of a)) as (λ b. eq_by_cmp path_cmp (path_of j) (path_of a) ≡ b → cond b (Some (node_of n a)) (find path_cmp (path_of j) (map (entry n) (range_with_len (a + 1) m))) ≡ Some (node_of n j)) [
-      | true ↦ λ e. ap (λ k. Some (node_of n k)) (path_tells a j (omega arith) (omega arith) (sym ((bytes_decides (path_of j) (path_of a)).0 (path_cmp_ties (path_of j) (path_of a) ∙ e))))
+    elim (eq_by_cmp path_cmp (path_of j) (path_of a)) as
+    (λ b. eq_by_cmp path_cmp (path_of j) (path_of a) ≡ b
+    → cond b (Some (node_of n a)) (find path_cmp (path_of j) (map (entry n) (range_with_len (a + 1) m))) ≡ Some (node_of n j)) [
+      | true ↦ λ e. ap (λ k. Some (node_of n k))
+          (path_tells a j (omega arith) (omega arith)
+          (sym ((bytes_decides (path_of j) (path_of a)).0 (path_cmp_ties (path_of j) (path_of a) ∙ e))))
       | false ↦ λ e. find_node n (a + 1) m j (later e) (omega arith) (omega arith)
     ] refl
   where
@@ -71,10 +75,13 @@ pub first_at : (n k j : ℕ) → j < k → k < 2 ^ 64 → get (first_files n k) 
 first_at n k j h s = get_first n k (path_of j) ∙ behind_root n k (path_of j) (never_root j) ∙ find_node n 0 k j (omega arith) (omega arith) (omega arith)
 
 is_parent : (n j : ℕ) → 8 * j + 1 < n → is_dir (Some (node_of n j)) ≡ true
-is_parent n j h = let e : nat_lt (8 * j + 1) n ≡ true = grind (arith, nat_tests) in ap (λ b. is_dir_body (cond b (dir 0) (file (replicate (37 * j % 101) (j % 256))))) e
+is_parent n j h = let e : nat_lt (8 * j + 1) n ≡ true = grind (arith, nat_tests) in
+    ap (λ b. is_dir_body (cond b (dir 0) (file (replicate (37 * j % 101) (j % 256))))) e
 
 pub root_dir : (n m : ℕ) → is_dir (get (first_files n m) (47 ∷ [])) ≡ true
-root_dir n m = ap is_dir (get_first n m (47 ∷ []) ∙ ap (λ b. cond b (Some empty_dir) (find path_cmp (47 ∷ []) (map (entry n) (range_with_len 0 m)))) (ties (47 ∷ []) (47 ∷ []) refl))
+root_dir n m = ap is_dir
+    (get_first n m (47 ∷ [])
+    ∙ ap (λ b. cond b (Some empty_dir) (find path_cmp (47 ∷ []) (map (entry n) (range_with_len 0 m)))) (ties (47 ∷ []) (47 ∷ []) refl))
 
 -- where a node stands is a directory, among any number of nodes that has those before it
 pub over_dir : (n m k : ℕ) → k < n → k ≤ m → m < 2 ^ 64 → is_dir (get (first_files n m) (place_over k)) ≡ true
@@ -110,7 +117,9 @@ unfolding first_files test_files
 first_all n = refl
 
 pub node_is_dir : (n k : ℕ) → 8 * k + 1 < n → node_of n k ≡ record { body = dir 0; mtime = None }
-node_is_dir n k h = let e : nat_lt (8 * k + 1) n ≡ true = grind (arith, nat_tests) in ap (λ b. record { body = cond b (dir 0) (file (replicate (37 * k % 101) (k % 256))); mtime = None }) e
+node_is_dir n k h = let e : nat_lt (8 * k + 1) n ≡ true = grind (arith, nat_tests) in
+    ap (λ b. record { body = cond b (dir 0) (file (replicate (37 * k % 101) (k % 256))); mtime = None }) e
 
 pub node_is_file : (n k : ℕ) → n ≤ 8 * k + 1 → node_of n k ≡ record { body = file (replicate (37 * k % 101) (k % 256)); mtime = None }
-node_is_file n k h = let e : nat_lt (8 * k + 1) n ≡ false = grind (arith, nat_tests) in ap (λ b. record { body = cond b (dir 0) (file (replicate (37 * k % 101) (k % 256))); mtime = None }) e
+node_is_file n k h = let e : nat_lt (8 * k + 1) n ≡ false = grind (arith, nat_tests) in
+    ap (λ b. record { body = cond b (dir 0) (file (replicate (37 * k % 101) (k % 256))); mtime = None }) e

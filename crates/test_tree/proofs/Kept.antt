@@ -10,7 +10,8 @@ length-places n k = length-map-range_with_len place 0 (min k ((n + 6) / 8) + 1)
 
 -- the place of the next node is kept
 pub place_kept : (dirs : List (List ℕ)) (n k : ℕ) (d : List ℕ) → dirs ≡ places n k → k < n → get_or dirs ((k + 7) / 8) d ≡ place_over k
-place_kept dirs n k d e h = ap (λ ps. get_or ps ((k + 7) / 8) d) e ∙ get_or-map-range_with_len place 0 (min k ((n + 6) / 8) + 1) ((k + 7) / 8) ((k + 7) / 8) d (omega arith) (omega arith)
+place_kept dirs n k d e h = ap (λ ps. get_or ps ((k + 7) / 8) d) e
+    ∙ get_or-map-range_with_len place 0 (min k ((n + 6) / 8) + 1) ((k + 7) / 8) ((k + 7) / 8) d (omega arith) (omega arith)
 
 -- a node with a child is kept
 pub keep_dir : (n k : ℕ) → 8 * k + 1 < n → places n (k + 1) ≡ places n k ++ path_of k ∷ []

@@ -53,7 +53,11 @@ near_nodes n a (suc m) q =
 pub no_child_is_far : NoChildIsFar
 no_child_is_far n l h q =
     ap far_at (get_made n q ∙ get_first n n q)
-    ∙ elim (eq_by_cmp path_cmp q (47 ∷ [])) as (λ b. far_at (cond b (Some empty_dir) (find path_cmp q (map (entry n) (range_with_len 0 n)))) ≡ 0) [ true ↦ refl | false ↦ near_nodes n 0 n q ]
+    ∙ elim (eq_by_cmp path_cmp q (47 ∷ [])) as
+    (λ b. far_at (cond b (Some empty_dir) (find path_cmp q (map (entry n) (range_with_len 0 n)))) ≡ 0) [
+      | true ↦ refl
+      | false ↦ near_nodes n 0 n q
+    ]
 
 -- how many there are
 
@@ -64,7 +68,8 @@ counted : (n k : ℕ) → k < 2 ^ 64 → len (first_files n k) ≡ k + 1
 counted n zero h = ap len (first_none n) ∙ one_more empty (47 ∷ []) empty_dir 0 (get-empty path_cmp (47 ∷ [])) (len-empty path_cmp Node)
 counted n (suc k) h =
     ap (λ m. len (first_files n m)) (sym (add-one k)) ∙ ap len (grown n k (omega arith))
-    ∙ one_more (first_files n k) (path_of k) (node_of n k) (k + 1) (get_first n k (path_of k) ∙ next_none n k (omega arith)) (counted n k (omega arith)) ∙ ap (λ m. m + 1) (add-one k)
+    ∙ one_more (first_files n k) (path_of k) (node_of n k) (k + 1) (get_first n k (path_of k) ∙ next_none n k (omega arith))
+    (counted n k (omega arith)) ∙ ap (λ m. m + 1) (add-one k)
 
 pub nodes_are_counted : NodesAreCounted
 nodes_are_counted n l h = ap len (sym (first_all n)) ∙ counted n n (omega arith)
@@ -83,7 +88,9 @@ same_path q p e = (bytes_decides q p).0 (path_cmp_ties q p ∙ e)
 among : (n a m : ℕ) (q : List ℕ) → (find path_cmp q (map (entry n) (range_with_len a m)) ≡ None) ⊎ IsNode (a + m) q
 among n a zero q = inl refl
 among n a (suc m) q =
-    elim (eq_by_cmp path_cmp q (path_of a)) as (λ b. eq_by_cmp path_cmp q (path_of a) ≡ b → (cond b (Some (node_of n a)) (find path_cmp q (map (entry n) (range_with_len (a + 1) m))) ≡ None) ⊎ IsNode (a + suc m) q) [
+    elim (eq_by_cmp path_cmp q (path_of a)) as
+    (λ b. eq_by_cmp path_cmp q (path_of a) ≡ b
+    → (cond b (Some (node_of n a)) (find path_cmp q (map (entry n) (range_with_len (a + 1) m))) ≡ None) ⊎ IsNode (a + suc m) q) [
       | true ↦ λ e. inr (record { number = a; below = omega arith; is = same_path q (path_of a) e })
       | false ↦ λ e. ⊎_elim (λ none. inl none) (λ node. inr (further node)) (among n (a + 1) m q)
     ] refl
@@ -113,10 +120,13 @@ placed n q h node =
 pub test_files_are_tree : TestFilesAreTree
 unfolding IsTree
 test_files_are_tree n l h q =
-    elim (is_root q) as (λ b. is_root q ≡ b → cond b (is_dir (get (test_files n) q)) (is_none (get (test_files n) q) || (is_none (refusal q) && is_dir (get (test_files n) (parent_of q)))) ≡ true) [
+    elim (is_root q) as (λ b. is_root q ≡ b
+    → cond b (is_dir (get (test_files n) q))
+    (is_none (get (test_files n) q) || (is_none (refusal q) && is_dir (get (test_files n) (parent_of q)))) ≡ true) [
       | true ↦ λ e. ap (λ p. is_dir (get (test_files n) p)) ((bytes_decides q (47 ∷ [])).0 e) ∙ ap is_dir (get_made n (47 ∷ [])) ∙ root_dir n n
       | false ↦ λ e. ⊎_elim
-          (λ none. ap (λ o. is_none o || (is_none (refusal q) && is_dir (get (test_files n) (parent_of q)))) (get_made n q ∙ get_first n n q ∙ behind_root n n q (no_root q e) ∙ none))
+          (λ none. ap (λ o. is_none o || (is_none (refusal q) && is_dir (get (test_files n) (parent_of q))))
+          (get_made n q ∙ get_first n n q ∙ behind_root n n q (no_root q e) ∙ none))
           (λ node. or_right (is_none (get (test_files n) q)) _ (placed n q h (subst (λ m. IsNode m q) (zero-add n) node)))
           (among n 0 n q)
     ] refl

@@ -97,7 +97,11 @@ not_none p l = let e : (length p == 0) ≡ false = grind (arith, nat_tests) in a
 
 cut : (p base : List ℕ) → IsPlace p → Cut p base (joined p base)
 cut p base (inl e) = record { before = []; whole = ap (λ p. joined p base) e; over = sym e }
-cut p base (inr l) = record { before = p; whole = ap (λ b. cond b (p ++ base) (p ++ 47 ∷ base)) (not_one (length p) (λ e. absurd (omega arith))); over = not_none p l }
+cut p base (inr l) = record {
+  before = p;
+  whole = ap (λ b. cond b (p ++ base) (p ++ 47 ∷ base)) (not_one (length p) (λ e. absurd (omega arith)));
+  over = not_none p l;
+}
 
 neither : (a b : Bool) → (a || b) ≡ false → (a ≡ false) × (b ≡ false)
 neither true b e = absurd (false≢true (sym e))
@@ -112,11 +116,14 @@ all_bare (b ∷ y) k e l =
       | suc j ↦ λ l. all_bare y j n.1 (omega arith)
     ] l
 
-parts : (before base : List ℕ) → list_any is_slash base ≡ false → (before_last is_slash (before ++ 47 ∷ base) ≡ before) × (after_last is_slash (before ++ 47 ∷ base) ≡ base)
+parts : (before base : List ℕ) → list_any is_slash base ≡ false → (before_last is_slash (before ++ 47 ∷ base) ≡ before)
+    × (after_last is_slash (before ++ 47 ∷ base) ≡ base)
 parts before base bare =
-    let n : suffix_len (λ x. not (is_slash x)) all ≡ length all - (length before + 1) = suffix_len_is (λ x. not (is_slash x)) all (length before + 1) 0 (omega (arith, len)) later at in (
+    let n : suffix_len (λ x. not (is_slash x)) all ≡ length all - (length before + 1) =
+    suffix_len_is (λ x. not (is_slash x)) all (length before + 1) 0 (omega (arith, len)) later at in (
       ap (λ k. take k all) (omega (arith, len, n)) ∙ take_at before (47 ∷ base) (length before) refl,
-      ap (λ k. drop k all) (omega (arith, len, n)) ∙ ap (drop (length before + 1)) split ∙ drop_at (before ++ 47 ∷ []) base (length before + 1) (length-append before (47 ∷ [])),
+      ap (λ k. drop k all) (omega (arith, len, n)) ∙ ap (drop (length before + 1)) split
+          ∙ drop_at (before ++ 47 ∷ []) base (length before + 1) (length-append before (47 ∷ [])),
     )
   where
     all : List ℕ

@@ -48,14 +48,18 @@ child_valid (b ∷ c ∷ bytes) n h g l =
     let whole = below_root b c bytes n in
     ap refusal whole ∙ ap (λ x. refusal (x ∷ (c ∷ bytes ++ 47 ∷ n))) (first_slash b (c ∷ bytes) h)
     ∙ behind (c ∷ bytes ++ 47 ∷ n) (omega (arith, ap length whole))
-    (ap first_fault (split_more (c ∷ bytes) n) ∙ first_fault-append (slice_split is_slash (c ∷ bytes)) (slice_split is_slash n) (after_slash b (c ∷ bytes) h (omega arith)) ∙ name_alone n g)
+    (ap first_fault (split_more (c ∷ bytes) n)
+    ∙ first_fault-append (slice_split is_slash (c ∷ bytes)) (slice_split is_slash n) (after_slash b (c ∷ bytes) h (omega arith))
+    ∙ name_alone n g)
 
 valid : (levels k : ℕ) → k < levels → k < 1000000 → refusal (path_of k) ≡ None
 valid zero k h l = absurd (omega arith)
-valid (suc levels) zero h l = ap refusal path_of-zero ∙ child_valid (47 ∷ []) (name_of 0) refl (name_fine 0 (omega arith)) (omega (arith, ap length path_of-zero, path_fits 0 l))
+valid (suc levels) zero h l = ap refusal path_of-zero
+    ∙ child_valid (47 ∷ []) (name_of 0) refl (name_fine 0 (omega arith)) (omega (arith, ap length path_of-zero, path_fits 0 l))
 valid (suc levels) (suc k) h l =
     ap refusal (path_of-suc k)
-    ∙ child_valid (path_of (k / 8)) (name_of (suc k)) (valid levels (k / 8) (omega arith) (omega arith)) (name_fine (suc k) (omega arith)) (omega (arith, ap length (path_of-suc k), path_fits (suc k) l))
+    ∙ child_valid (path_of (k / 8)) (name_of (suc k)) (valid levels (k / 8) (omega arith) (omega arith)) (name_fine (suc k) (omega arith))
+    (omega (arith, ap length (path_of-suc k), path_fits (suc k) l))
 
 pub path_valid : (k : ℕ) → k < 1000000 → refusal (path_of k) ≡ None
 path_valid k h = valid (suc k) k (omega arith) h

@@ -1,4 +1,5 @@
--- What dwalk prints: a line for each entry that has a stat, and the line of the summary. After mpiFileUtils' dwalk, with the signs of `find`; the texts are our own.
+-- What dwalk prints: a line for each entry that has a stat, and the line of the summary. After mpiFileUtils' dwalk, with the signs of
+-- `find`; the texts are our own.
 use Rattle.std.specs.Prelude.{ℕ, ◌-◌, List, [], ◌∷◌, ◌++◌, length, replicate, Option, Some, None, codes}
 use Rattle.std.specs.List.{flat_map}
 use Rattle.std.specs.Fmt.{decimal}

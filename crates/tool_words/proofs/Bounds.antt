@@ -301,7 +301,8 @@ plain_fine tool.Test given place word f = number_fine given place (number_in 1 1
 
 settings_fine : (given : Given) (place : ℕ) (settings : Option Set) →
     FineSoFar given → IfSome settings Fine → IfSome settings (SameTrace given.settings) → IfOk (with_settings given place settings) FineSoFar
-settings_fine given place (Some settings) f h same = record { settings = h; paths = f.paths; lower = f.lower; numbers = f.numbers; trace = λ t. f.trace (sym same ∙ t) }
+settings_fine given place (Some settings) f h same =
+    record { settings = h; paths = f.paths; lower = f.lower; numbers = f.numbers; trace = λ t. f.trace (sym same ∙ t) }
 settings_fine given place None f h same = tt
 
 value_fine : (given : Given) (place : ℕ) (option : OptionName) (text : List ℕ) →
@@ -330,7 +331,8 @@ next_fine given at option place word f =
 flag_fine : (given : Given) (place : ℕ) (option : OptionName) (settings : Option Set) → FineSoFar given → IfSome settings Fine →
     IfSome settings (Stands (given.options ++ record { option = option; place = place } ∷ [])) → IfOk (with_flag given place option settings) FineSoFar
 flag_fine given place option (Some settings) f h stands =
-    one_of (λ r. IfOk r FineSoFar) (is_repeated option given.options) _ _ tt (record { settings = h; paths = f.paths; lower = f.lower; numbers = f.numbers; trace = stands })
+    one_of (λ r. IfOk r FineSoFar) (is_repeated option given.options) _ _ tt
+    (record { settings = h; paths = f.paths; lower = f.lower; numbers = f.numbers; trace = stands })
 flag_fine given place option None f h stands = record { settings = f.settings; paths = f.paths; lower = f.lower; numbers = f.numbers; trace = f.trace }
 
 option_fine : (given : Given) (place : ℕ) (option : Option OptionName) (value : Option (List ℕ)) →
@@ -343,7 +345,8 @@ option_fine given place (Some option) None f =
 
 word_fine : (tool : Tool) (next : Turn) (given : Given) (place : ℕ) (word : List ℕ) → FineSoFar given → IfOk (with_word tool next given place word) FineSoFar
 word_fine tool turn.Any given place word f =
-    one_of (λ r. IfOk r FineSoFar) (ends_options word) _ _ (record { settings = f.settings; paths = f.paths; lower = f.lower; numbers = f.numbers; trace = f.trace })
+    one_of (λ r. IfOk r FineSoFar) (ends_options word) _ _
+    (record { settings = f.settings; paths = f.paths; lower = f.lower; numbers = f.numbers; trace = f.trace })
     (one_of (λ r. IfOk r FineSoFar) (is_option word) _ _
     (option_fine given place (option_named tool (name_in word)) (value_in word) f)
     (plain_fine tool given place word f))

@@ -20,7 +20,8 @@ pub record Choice : Type 0 where
   pub tests : List Test
   pub newer : List (List ℕ)
 
--- what dwalk and dfind are asked for: how a walk is to go, where the list comes from, what is chosen of it, if not all, in which order it is printed, and where it is saved
+-- what dwalk and dfind are asked for: how a walk is to go, where the list comes from, what is chosen of it, if not all, in which order it
+-- is printed, and where it is saved
 pub record ListAsked : Type 0 where
   pub common : Common
   pub start : Origin
@@ -71,7 +72,8 @@ choice_in tests = record { tests = tests.tests.items; newer = tests.newer.items 
 -- what a command asks for
 abbrev pub asked_by : Command → Asked
 asked_by (command.Walk common start sort output) = list (record { common = common; start = start_in start; chosen = None; sort = sort; output = output })
-asked_by (command.Find common start tests sort output) = list (record { common = common; start = start_in start; chosen = Some (choice_in tests); sort = sort; output = output })
+asked_by (command.Find common start tests sort output) =
+    list (record { common = common; start = start_in start; chosen = Some (choice_in tests); sort = sort; output = output })
 asked_by (command.Cmp common left right wants) = compare (record { common = common; left = left; right = right; wants = wants.items })
 asked_by (command.Copy common sources dest) = copy (record { common = common; sources = sources.items; dest = dest })
 asked_by (command.Remove common paths tests dryrun) = remove (record { common = common; roots = paths.items; choice = choice_in tests; dryrun = dryrun })

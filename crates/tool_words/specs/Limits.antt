@@ -2,7 +2,8 @@
 use Rattle.std.specs.Prelude.{◌≡◌, ◌≢◌, ℕ, ◌<◌, ◌≤◌, ◌^◌, List, [], ◌∷◌, length, All, Ok, None, IfSome, true}
 use Rattle.path_text.specs.Path.{refusal}
 use Rattle.tool_words.specs.declared.commands.Common.{Common}
-use Rattle.tool_words.specs.Asked.{Origin, roots, input, Choice, ListAsked, CompareAsked, CopyAsked, RemoveAsked, TestAsked, Asked, list, compare, copy, remove, test}
+use Rattle.tool_words.specs.Asked.{Origin, roots, input, Choice, ListAsked, CompareAsked, CopyAsked, RemoveAsked, TestAsked, Asked, list, compare}
+use Rattle.tool_words.specs.Asked.{copy, remove, test}
 use Rattle.tool_words.specs.Words.{reading}
 
 abbrev pub Valid : List ℕ → Type 0

@@ -1,4 +1,5 @@
--- The tools and their options: how each option is written, and what its value sets. Names of options are those of mpiFileUtils' dwalk, dfind, dcmp, dcp and drm and of libcircle, as far as these have them.
+-- The tools and their options: how each option is written, and what its value sets. Names of options are those of mpiFileUtils' dwalk,
+-- dfind, dcmp, dcp and drm and of libcircle, as far as these have them.
 use Rattle.std.specs.Prelude.{ℕ, ◌-◌, ◌^◌, Bool, true, List, [], ◌∷◌, ◌++◌, false, if◌then◌else◌, codes, find, Option, Some, None}
 use Rattle.std.specs.List.{flat_map}
 use Rattle.std.specs.Option.{option_map}
@@ -49,7 +50,8 @@ text_of option.Newer = codes "--newer"
 text_of option.Want = codes "-o"
 text_of option.Dryrun = codes "--dryrun"
 
--- the options of a group: how a walk is to go; what is told of it; where a list comes from, in which order it is printed, and where it is saved; the tests; what is saved of a comparison; and whether something is removed
+-- the options of a group: how a walk is to go; what is told of it; where a list comes from, in which order it is printed, and where it is
+-- saved; the tests; what is saved of a comparison; and whether something is removed
 abbrev pub options_in : Group → List OptionName
 options_in group.Common = option.Ranks ∷ option.Hosts ∷ option.Split ∷ option.Seed ∷ option.Width ∷ []
 options_in group.Telling = option.Trace ∷ option.Shares ∷ option.Progress ∷ []
@@ -80,7 +82,8 @@ option_named tool text = find (λ o. is (text_of o) text) (options_of tool)
 abbrev pub standard : Common
 standard = record { ranks = 4; hosts = 1; split = Equal; seed = 0; width = 64; trace = false; shares = false; progress = false }
 
--- what options set: how a walk is to go, the order, the files, the tests, the paths of `--newer`, what is saved of a comparison, and whether nothing is to be removed
+-- what options set: how a walk is to go, the order, the files, the tests, the paths of `--newer`, what is saved of a comparison, and
+-- whether nothing is to be removed
 pub record Set : Type 0 where
   pub common : Common
   pub sort : Option (Field × Bool)

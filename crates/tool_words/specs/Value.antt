@@ -1,5 +1,7 @@
--- What the words of a command line mean as values: numbers, splits, paths, orders, tests, and what is to be saved of a comparison. The names of fields are those of mpiFileUtils' dwalk, and the value of `-o` is as in its dcmp; how a path word is read is our own.
-use Rattle.std.specs.Prelude.{ℕ, Bool, true, false, ◌&&◌, List, [], ◌∷◌, length, drop, if◌then◌else◌, ◌==◌, nat_eq, nat_le, nat_lt, slice_index, codes, Option, Some, None, is_none, Result, Ok, Err}
+-- What the words of a command line mean as values: numbers, splits, paths, orders, tests, and what is to be saved of a comparison. The
+-- names of fields are those of mpiFileUtils' dwalk, and the value of `-o` is as in its dcmp; how a path word is read is our own.
+use Rattle.std.specs.Prelude.{ℕ, Bool, true, false, ◌&&◌, List, [], ◌∷◌, length, drop, if◌then◌else◌, ◌==◌, nat_eq, nat_le, nat_lt, slice_index}
+use Rattle.std.specs.Prelude.{codes, Option, Some, None, is_none, Result, Ok, Err}
 use Rattle.std.specs.Char.{is_ascii_digit}
 use Rattle.std.specs.List.{list_all, before_first, after_first, position_or_len}
 use Rattle.std.specs.Str.Parse.{digits_value}

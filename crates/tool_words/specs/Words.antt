@@ -1,5 +1,7 @@
--- The grammar of command lines: what the words ask for, or the first word that is refused. The tools are mpiFileUtils', `--` and values are as in POSIX's guidelines for utilities and GNU's long options; what is refused is our own.
-use Rattle.std.specs.Prelude.{ℕ, ◌+◌, Bool, ◌&&◌, not, List, [], ◌∷◌, ◌++◌, length, take, if◌then◌else◌, ◌==◌, nat_lt, slice_index, slice_index_or, codes, Result, Ok, Err, Option, Some, None}
+-- The grammar of command lines: what the words ask for, or the first word that is refused. The tools are mpiFileUtils', `--` and values are
+-- as in POSIX's guidelines for utilities and GNU's long options; what is refused is our own.
+use Rattle.std.specs.Prelude.{ℕ, ◌+◌, Bool, ◌&&◌, not, List, [], ◌∷◌, ◌++◌, length, take, if◌then◌else◌, ◌==◌, nat_lt, slice_index, slice_index_or}
+use Rattle.std.specs.Prelude.{codes, Result, Ok, Err, Option, Some, None}
 use Rattle.std.specs.List.{list_any, before_first, after_first, position_or_len}
 use Rattle.tool_words.specs.declared.errors.Cause.TheVariants as cause
 use Rattle.tool_words.specs.declared.errors.Refusal.{Refusal}
@@ -33,7 +35,8 @@ name_in word = before_first is_equals word
 abbrev pub value_in : List ℕ → Option (List ℕ)
 value_in word = if nat_lt (position_or_len is_equals word) (length word) then Some (after_first is_equals word) else None
 
--- what the words so far gave: the options in their order, with the numbers of their words; what they set; the plain words as paths, as paths below `/` or as numbers,
+-- what the words so far gave: the options in their order, with the numbers of their words; what they set; the plain words as paths, as
+-- paths below `/` or as numbers,
 -- with the numbers of these words; and what the next word is read as
 pub record Given : Type 0 where
   pub next : Turn

@@ -1,5 +1,6 @@
 -- An entry more of a list.
-use Rattle.std.proofs.Common.{◌≡◌, ℕ, ◌+◌, ◌-◌, ◌<◌, ◌≤◌, zero, suc, Bool, true, false, not, if◌then◌else◌, All, List, [], ◌∷◌, map, filter, drop, length, refl, ap, ◌∙◌, sym, subst, cond, arith, Some, None}
+use Rattle.std.proofs.Common.{◌≡◌, ℕ, ◌+◌, ◌-◌, ◌<◌, ◌≤◌, zero, suc, Bool, true, false, not, if◌then◌else◌, All, List, [], ◌∷◌, map, filter, drop}
+use Rattle.std.proofs.Common.{length, refl, ap, ◌∙◌, sym, subst, cond, arith, Some, None}
 use Rattle.std.specs.List.{slice_get}
 use Rattle.flat_list.specs.declared.entries.Entry.{Entry}
 use Rattle.tree_cmp.specs.declared.items.Item.{Item}
@@ -11,16 +12,22 @@ drop_at [] n e h = cc
 drop_at (d ∷ es) zero e h = let g : d ≡ e = cc in ap (λ (x : Entry). x ∷ es) g
 drop_at (d ∷ es) (suc n) e h = drop_at es n e h
 
-pub next_entry : (top : List ℕ) (es : List Entry) (n m : ℕ) (e : Entry) → m ≡ n + 1 → slice_get es (m - 1) ≡ Some e → items_of top (drop n es) ≡ items_of top (e ∷ drop m es)
+pub next_entry : (top : List ℕ) (es : List Entry) (n m : ℕ) (e : Entry) → m ≡ n + 1 → slice_get es (m - 1) ≡ Some e
+    → items_of top (drop n es) ≡ items_of top (e ∷ drop m es)
 next_entry top es n m e k h =
     let g : m - 1 ≡ n = omega arith in
     let s : suc n ≡ m = omega arith in
     ap (items_of top) (drop_at es n e (subst (λ j. slice_get es j ≡ Some e) g h) ∙ ap (λ j. e ∷ drop j es) s)
 
-pub gone : (top : List ℕ) (es : List Entry) (n m : ℕ) (e : Entry) → m ≡ n + 1 → slice_get es (m - 1) ≡ Some e → is_gone e.mark ≡ true → items_of top (drop m es) ≡ items_of top (drop n es)
-gone top es n m e k h g = sym (next_entry top es n m e k h ∙ (λ i. map (item_of top) (cond (not (g i)) (e ∷ filter (λ e. not (is_gone e.mark)) (drop m es)) (filter (λ e. not (is_gone e.mark)) (drop m es)))))
+pub gone : (top : List ℕ) (es : List Entry) (n m : ℕ) (e : Entry) → m ≡ n + 1 → slice_get es (m - 1) ≡ Some e → is_gone e.mark ≡ true
+    → items_of top (drop m es) ≡ items_of top (drop n es)
+gone top es n m e k h g =
+    sym (next_entry top es n m e k h
+    ∙ (λ i. map (item_of top)
+    (cond (not (g i)) (e ∷ filter (λ e. not (is_gone e.mark)) (drop m es)) (filter (λ e. not (is_gone e.mark)) (drop m es)))))
 
-pub there : (top : List ℕ) (es : List Entry) (n m : ℕ) (e : Entry) (x : Item) → m ≡ n + 1 → slice_get es (m - 1) ≡ Some e → is_gone e.mark ≡ false → x ≡ item_of top e → items_of top (drop n es) ≡ x ∷ items_of top (drop m es)
+pub there : (top : List ℕ) (es : List Entry) (n m : ℕ) (e : Entry) (x : Item) → m ≡ n + 1 → slice_get es (m - 1) ≡ Some e
+    → is_gone e.mark ≡ false → x ≡ item_of top e → items_of top (drop n es) ≡ x ∷ items_of top (drop m es)
 there top es n m e x k h g y =
     next_entry top es n m e k h
     ∙ (λ i. map (item_of top) (cond (not (g i)) (e ∷ filter (λ e. not (is_gone e.mark)) (drop m es)) (filter (λ e. not (is_gone e.mark)) (drop m es))))
@@ -32,11 +39,14 @@ passed_0 old new t h = ap (λ (p : List Entry × ℕ). p.0) h
 passed_1 : (old new : List Entry × ℕ) (t : Bool) → new ≡ (old.0, if t then old.1 + 1 else old.1) → t ≡ true → new.1 ≡ old.1 + 1
 passed_1 old new t h g = ap (λ (p : List Entry × ℕ). p.1) h ∙ (λ i. cond (g i) (old.1 + 1) old.1)
 
-pub gave : (top : List ℕ) (old new : List Entry × ℕ) (t : Bool) (e : Entry) (x : Item) → new ≡ (old.0, if t then old.1 + 1 else old.1) → t ≡ true → slice_get new.0 (new.1 - 1) ≡ Some e → is_gone e.mark ≡ false → x ≡ item_of top e →
+pub gave : (top : List ℕ) (old new : List Entry × ℕ) (t : Bool) (e : Entry) (x : Item) → new ≡ (old.0, if t then old.1 + 1 else old.1)
+    → t ≡ true → slice_get new.0 (new.1 - 1) ≡ Some e → is_gone e.mark ≡ false → x ≡ item_of top e →
     items_of top (drop old.1 old.0) ≡ x ∷ items_of top (drop new.1 new.0)
-gave top old new t e x h g s m y = (λ i. items_of top (drop old.1 (sym (passed_0 old new t h) i))) ∙ there top new.0 old.1 new.1 e x (passed_1 old new t h g) s m y
+gave top old new t e x h g s m y = (λ i. items_of top (drop old.1 (sym (passed_0 old new t h) i)))
+    ∙ there top new.0 old.1 new.1 e x (passed_1 old new t h g) s m y
 
-pub passed_gone : (top : List ℕ) (old new : List Entry × ℕ) (t : Bool) (e : Entry) → new ≡ (old.0, if t then old.1 + 1 else old.1) → t ≡ true → slice_get new.0 (new.1 - 1) ≡ Some e → is_gone e.mark ≡ true →
+pub passed_gone : (top : List ℕ) (old new : List Entry × ℕ) (t : Bool) (e : Entry) → new ≡ (old.0, if t then old.1 + 1 else old.1)
+    → t ≡ true → slice_get new.0 (new.1 - 1) ≡ Some e → is_gone e.mark ≡ true →
     items_of top (drop new.1 new.0) ≡ items_of top (drop old.1 old.0)
 passed_gone top old new t e h g s m = gone top new.0 old.1 new.1 e (passed_1 old new t h g) s m ∙ (λ i. items_of top (drop old.1 (passed_0 old new t h i)))
 

@@ -1,5 +1,6 @@
 -- The findings that settled rows make are those of the two sides.
-use Rattle.std.proofs.Common.{◌≡◌, ℕ, ◌+◌, ◌<◌, Bool, true, false, not, ◌&&◌, ◌||◌, List, [], ◌∷◌, ◌++◌, map, length, get_or, refl, sym, subst, ap, ◌∙◌, arith, cond, eqb, Option, Some, None, is_some, IfSome, IsTrue, All}
+use Rattle.std.proofs.Common.{◌≡◌, ℕ, ◌+◌, ◌<◌, Bool, true, false, not, ◌&&◌, ◌||◌, List, [], ◌∷◌, ◌++◌, map, length, get_or, refl, sym, subst, ap}
+use Rattle.std.proofs.Common.{◌∙◌, arith, cond, eqb, Option, Some, None, is_some, IfSome, IsTrue, All}
 use Rattle.std.specs.Prelude.{◌==◌}
 use Rattle.std.specs.List.{AllByRecursion, list_any, filter_map, cons_option, sum_by, find}
 use Rattle.std.specs.List.Sorted.{IsStrictlySortedBy}
@@ -29,7 +30,8 @@ use Rattle.tree_cmp.specs.declared.rows.Missed.{Missed}
 use Rattle.tree_cmp.specs.declared.rows.Row.{Row}
 use Rattle.tree_cmp.specs.declared.rows.Two.TheVariants as two
 use Rattle.tree_cmp.specs.Sides.{Side, side, IsSide, is_gone, entry_at, is_shown}
-use Rattle.tree_cmp.specs.Rows.{stat_at, is_read, are_files, sizes, kinds, exist_of, two_of, has_value, same_bytes, IsContent, IsRow, row_path, is_missed, WasToBeRead, IsComparison}
+use Rattle.tree_cmp.specs.Rows.{stat_at, is_read, are_files, sizes, kinds, exist_of, two_of, has_value, same_bytes, IsContent, IsRow, row_path}
+use Rattle.tree_cmp.specs.Rows.{is_missed, WasToBeRead, IsComparison}
 use Rattle.tree_cmp.specs.Readers.{StatsTold}
 use Rattle.tree_cmp.specs.Private.Items.{items_of, at, item_stat, unread, draft_of, AreDrafts, paths}
 use Rattle.tree_cmp.specs.Private.Steps.{is_row}
@@ -65,10 +67,13 @@ stands law s is p e h =
     let path = (bytes_decides (below_of e.path s.top) p).0 (both (not (is_gone e.mark)) (pointwise eqb (below_of e.path s.top) p) f.0).1 in
     record {
       path = path;
-      whole = ap (grafted s.top) (sym path) ∙ law e.path s.top (f.1 (λ e. IsTrue (is_within e.path s.top)) (recursion_from_All (λ (e : Entry). IsTrue (is_within e.path s.top)) s.entries is.within));
+      whole = ap (grafted s.top) (sym path)
+          ∙ law e.path s.top (f.1 (λ e. IsTrue (is_within e.path s.top))
+          (recursion_from_All (λ (e : Entry). IsTrue (is_within e.path s.top)) s.entries is.within));
     }
 
-stat_told : (files : Files) (s : Side) → StatsTold files s.entries → (p : List ℕ) (e : Entry) → entry_at s p ≡ Some e → IfSome e.stat (λ stat. option_map stat_of (get files e.path) ≡ Some stat)
+stat_told : (files : Files) (s : Side) → StatsTold files s.entries → (p : List ℕ) (e : Entry) → entry_at s p ≡ Some e
+    → IfSome e.stat (λ stat. option_map stat_of (get files e.path) ≡ Some stat)
 stat_told files s told p e h =
     (found_entry (λ e. not (is_gone e.mark) && pointwise eqb (below_of e.path s.top) p) s.entries e h).1
     (λ e. IfSome e.stat (λ stat. option_map stat_of (get files e.path) ≡ Some stat))
@@ -127,10 +132,13 @@ are_entries (Some d) None h = absurd (never d.stat h)
     never (Some s) h = false≢true h
 are_entries (Some d) (Some e) h = record { one = d; other = e; one_is = refl; other_is = refl }
 
-file_at : GraftUndoesBelow → (files : Files) (s : Side) → IsSide s → StatsTold files s.entries → (p : List ℕ) (e : Entry) → entry_at s p ≡ Some e → (stat : Stat) → e.stat ≡ Some stat → is_kind kind.File stat.kind ≡ true → IsFileOf (get files (grafted s.top p)) stat.size
+file_at : GraftUndoesBelow → (files : Files) (s : Side) → IsSide s → StatsTold files s.entries → (p : List ℕ) (e : Entry)
+    → entry_at s p ≡ Some e → (stat : Stat) → e.stat ≡ Some stat → is_kind kind.File stat.kind ≡ true
+    → IsFileOf (get files (grafted s.top p)) stat.size
 file_at law files s is told p e at stat has file =
     subst (λ q. IsFileOf (get files q) stat.size) (sym (Stands.whole (stands law s is p e at)))
-    (file_of (get files e.path) stat (subst (λ o. IfSome o (λ stat. option_map stat_of (get files e.path) ≡ Some stat)) has (stat_told files s told p e at)) file)
+    (file_of (get files e.path) stat
+    (subst (λ o. IfSome o (λ stat. option_map stat_of (get files e.path) ≡ Some stat)) has (stat_told files s told p e at)) file)
 
 -- ---- a row
 
@@ -152,7 +160,8 @@ unread_none s t e = λ i. is_some (cond (e i) (Some (size_by s)) None)
 true_not_false : true ≡ false → ⊥
 true_not_false e = false≢true (sym e)
 
-content_row : (tree : Option Files) (a b : Option Entry) (o : Option Outcome) (c : Rattle.tree_cmp.specs.declared.rows.Two.Two) (m : Bool) → c ≡ sizes (stat_at a) (stat_at b) → is_some (unread (stat_at a) (stat_at b)) ≡ is_some o → m ≡ gave_nothing o →
+content_row : (tree : Option Files) (a b : Option Entry) (o : Option Outcome) (c : Rattle.tree_cmp.specs.declared.rows.Two.Two) (m : Bool)
+    → c ≡ sizes (stat_at a) (stat_at b) → is_some (unread (stat_at a) (stat_at b)) ≡ is_some o → m ≡ gave_nothing o →
     ((x : Bool) → o ≡ Some (outcome.Same x) → IfSome tree (λ files. x ≡ same_bytes files a b)) → IsContent tree m a b (content_by c o)
 content_row tree a b None c m e u g t =
     let never : is_read (stat_at a) (stat_at b) ≡ true → ⊥ = λ r. true_not_false (sym (read_some (stat_at a) (stat_at b) r) ∙ u) in
@@ -190,19 +199,22 @@ side_is missing.Failed (Some (outcome.Missed d missing.Changed)) dest e = absurd
 side_is missing.Changed (Some (outcome.Missed d missing.Failed)) dest e = absurd cc
 side_is missing.Changed (Some (outcome.Missed d missing.Changed)) dest e = let s : d ≡ dest = cc in ap (λ b. Some (outcome.Missed b missing.Changed)) s
 
-not_both_missed : (f : Bool → Missed) (o : Option Outcome) (m : Missed) → option_map f (side_missed missing.Failed o) ≡ Some m → is_some (option_map f (side_missed missing.Changed o)) ≡ false
+not_both_missed : (f : Bool → Missed) (o : Option Outcome) (m : Missed) → option_map f (side_missed missing.Failed o) ≡ Some m
+    → is_some (option_map f (side_missed missing.Changed o)) ≡ false
 not_both_missed f None m e = refl
 not_both_missed f (Some (outcome.Same x)) m e = refl
 not_both_missed f (Some (outcome.Missed d missing.Failed)) m e = refl
 not_both_missed f (Some (outcome.Missed d missing.Changed)) m e = absurd cc
 
-one_or_other : (f : Bool → Missed) (o : Option Outcome) → (is_some (option_map f (side_missed missing.Failed o)) || is_some (option_map f (side_missed missing.Changed o))) ≡ gave_nothing o
+one_or_other : (f : Bool → Missed) (o : Option Outcome)
+    → (is_some (option_map f (side_missed missing.Failed o)) || is_some (option_map f (side_missed missing.Changed o))) ≡ gave_nothing o
 one_or_other f None = refl
 one_or_other f (Some (outcome.Same x)) = refl
 one_or_other f (Some (outcome.Missed d missing.Failed)) = refl
 one_or_other f (Some (outcome.Missed d missing.Changed)) = refl
 
-one_failed : (f : Bool → Missed) (o : Option Outcome) (rest : List Missed) → length (cons_option (option_map f (side_missed missing.Failed o)) rest) ≡ some_counts o + length rest
+one_failed : (f : Bool → Missed) (o : Option Outcome) (rest : List Missed)
+    → length (cons_option (option_map f (side_missed missing.Failed o)) rest) ≡ some_counts o + length rest
 one_failed f None rest = omega arith
 one_failed f (Some (outcome.Same x)) rest = omega arith
 one_failed f (Some (outcome.Missed d missing.Failed)) rest = omega arith
@@ -258,7 +270,8 @@ module _ (law : GraftUndoesBelow) (tree : Option Files) (l r : Side) (left : IsS
   abbrev R : List Item
   R = items_of r.top r.entries
 
-  settled_row : (d : Draft) → unsettled d ≡ draft_of d.row.path (at d.row.path L) (at d.row.path R) → is_shown l r d.row.path ≡ true → IsSettled tree l.top r.top d → Settled d
+  settled_row : (d : Draft) → unsettled d ≡ draft_of d.row.path (at d.row.path L) (at d.row.path R) → is_shown l r d.row.path ≡ true
+      → IsSettled tree l.top r.top d → Settled d
   settled_row d e s o =
       let p = d.row.path in
       let ll = stat-items l.top p l.entries in
@@ -276,13 +289,17 @@ module _ (law : GraftUndoesBelow) (tree : Option Files) (l r : Side) (left : IsS
   -- an outcome is of two files that were to be read
   was_read : (d : Draft) → Settled d → (o : Outcome) → d.outcome ≡ Some o → is_read (stat_at (entry_at l d.row.path)) (stat_at (entry_at r d.row.path)) ≡ true
   was_read d s o e =
-      elim (is_read (stat_at (entry_at l d.row.path)) (stat_at (entry_at r d.row.path))) as (λ b. is_read (stat_at (entry_at l d.row.path)) (stat_at (entry_at r d.row.path)) ≡ b → b ≡ true) [
+      elim (is_read (stat_at (entry_at l d.row.path)) (stat_at (entry_at r d.row.path))) as
+      (λ b. is_read (stat_at (entry_at l d.row.path)) (stat_at (entry_at r d.row.path)) ≡ b → b ≡ true) [
         | true ↦ λ x. refl
-        | false ↦ λ x. absurd (true_not_false (sym (ap is_some e) ∙ sym s.outcome.all ∙ ap is_some s.bytes ∙ unread_none (stat_at (entry_at l d.row.path)) (stat_at (entry_at r d.row.path)) x))
+        | false ↦ λ x. absurd (true_not_false
+            (sym (ap is_some e) ∙ sym s.outcome.all ∙ ap is_some s.bytes
+            ∙ unread_none (stat_at (entry_at l d.row.path)) (stat_at (entry_at r d.row.path)) x))
       ] refl
 
   -- what reading them came to, in the tree that is told
-  told_of : (files : Files) → StatsTold files l.entries → StatsTold files r.entries → (d : Draft) → Settled d → (o : Outcome) → d.outcome ≡ Some o → IsSettled (Some files) l.top r.top d →
+  told_of : (files : Files) → StatsTold files l.entries → StatsTold files r.entries → (d : Draft) → Settled d → (o : Outcome)
+      → d.outcome ≡ Some o → IsSettled (Some files) l.top r.top d →
       (e : AreEntries (entry_at l d.row.path) (entry_at r d.row.path)) → Told (get files (AreEntries.one e).path) (get files (AreEntries.other e).path) o
   told_of files tl tr d s o is settled e =
       let p = d.row.path in
@@ -291,12 +308,15 @@ module _ (law : GraftUndoesBelow) (tree : Option Files) (l r : Side) (left : IsS
       let one = AreEntries.one e in
       let other = AreEntries.other e in
       let own : IsOf (Some files) l.top r.top p d.unread o = subst (λ x. IfSome x (IsOf (Some files) l.top r.top p d.unread)) is settled.own in
-      let bytes : d.unread ≡ Some (AreRead.one f).size = s.bytes ∙ (λ i. cond (read i) (Some (size_by (stat_at (entry_at l p)))) None) ∙ ap (λ x. Some (size_by x)) (AreRead.one_is f) in
-      let told : ToldAt (Some files) l.top r.top p (AreRead.one f).size o = subst (λ x. IfSome x (λ size. ToldAt (Some files) l.top r.top p size o)) bytes own.told in
+      let bytes : d.unread ≡ Some (AreRead.one f).size = s.bytes ∙ (λ i. cond (read i) (Some (size_by (stat_at (entry_at l p)))) None)
+      ∙ ap (λ x. Some (size_by x)) (AreRead.one_is f) in
+      let told : ToldAt (Some files) l.top r.top p (AreRead.one f).size o =
+      subst (λ x. IfSome x (λ size. ToldAt (Some files) l.top r.top p size o)) bytes own.told in
       let has_one : one.stat ≡ Some (AreRead.one f) = ap stat_at (sym (AreEntries.one_is e)) ∙ AreRead.one_is f in
       let has_other : other.stat ≡ Some (AreRead.other f) = ap stat_at (sym (AreEntries.other_is e)) ∙ AreRead.other_is f in
       let here = told (file_at law files l left tl p one (AreEntries.one_is e) (AreRead.one f) has_one (AreRead.one_file f))
-      (subst (IsFileOf (get files (grafted r.top p))) (sym (AreRead.same f)) (file_at law files r right tr p other (AreEntries.other_is e) (AreRead.other f) has_other (AreRead.other_file f))) in
+      (subst (IsFileOf (get files (grafted r.top p))) (sym (AreRead.same f))
+      (file_at law files r right tr p other (AreEntries.other_is e) (AreRead.other f) has_other (AreRead.other_file f))) in
       subst (λ x. Told (get files x) (get files other.path) o) (Stands.whole (stands law l left p one (AreEntries.one_is e)))
       (subst (λ x. Told (get files (grafted l.top p)) (get files x) o) (Stands.whole (stands law r right p other (AreEntries.other_is e))) here)
 
@@ -306,7 +326,8 @@ module _ (law : GraftUndoesBelow) (tree : Option Files) (l r : Side) (left : IsS
     row : row_path l r m ≡ p
     to_be_read : WasToBeRead l r m
 
-  miss : (d : Draft) → Settled d → (dest : Bool) (why : Missing) → d.outcome ≡ Some (outcome.Missed dest why) → IsMiss d.row.path (missed_at l.top r.top d.row.path dest)
+  miss : (d : Draft) → Settled d → (dest : Bool) (why : Missing) → d.outcome ≡ Some (outcome.Missed dest why)
+      → IsMiss d.row.path (missed_at l.top r.top d.row.path dest)
   miss d s false why e =
       let p = d.row.path in
       let read = was_read d s (outcome.Missed false why) e in
@@ -318,7 +339,8 @@ module _ (law : GraftUndoesBelow) (tree : Option Files) (l r : Side) (left : IsS
         to_be_read = record {
           shown = ap (is_shown l r) row ∙ Settled.shown s;
           read = (λ i. is_read (stat_at (entry_at l (row i))) (stat_at (entry_at r (row i)))) ∙ read;
-          own = ap (λ q. option_map (λ (x : Entry). x.path) (entry_at l q)) row ∙ ap (option_map (λ (x : Entry). x.path)) (AreEntries.one_is es) ∙ ap Some (sym (Stands.whole at));
+          own = ap (λ q. option_map (λ (x : Entry). x.path) (entry_at l q)) row
+              ∙ ap (option_map (λ (x : Entry). x.path)) (AreEntries.one_is es) ∙ ap Some (sym (Stands.whole at));
         };
       }
   miss d s true why e =
@@ -332,7 +354,8 @@ module _ (law : GraftUndoesBelow) (tree : Option Files) (l r : Side) (left : IsS
         to_be_read = record {
           shown = ap (is_shown l r) row ∙ Settled.shown s;
           read = (λ i. is_read (stat_at (entry_at l (row i))) (stat_at (entry_at r (row i)))) ∙ read;
-          own = ap (λ q. option_map (λ (x : Entry). x.path) (entry_at r q)) row ∙ ap (option_map (λ (x : Entry). x.path)) (AreEntries.other_is es) ∙ ap Some (sym (Stands.whole at));
+          own = ap (λ q. option_map (λ (x : Entry). x.path) (entry_at r q)) row
+              ∙ ap (option_map (λ (x : Entry). x.path)) (AreEntries.other_is es) ∙ ap Some (sym (Stands.whole at));
         };
       }
 
@@ -345,7 +368,8 @@ module _ (law : GraftUndoesBelow) (tree : Option Files) (l r : Side) (left : IsS
   Follows f ds = AllByRecursion (λ d. (m : Missed) → f d ≡ Some m → row_path l r m ≡ d.row.path) ds
 
   module _ (f : Draft → Option Missed) where
-    behind_missed : (p : List ℕ) (ds : List Draft) → AllByRecursion (λ y. path_cmp p y ≡ Less) (paths ds) → Follows f ds → AllByRecursion (λ y. path_cmp p y ≡ Less) (map (row_path l r) (filter_map f ds))
+    behind_missed : (p : List ℕ) (ds : List Draft) → AllByRecursion (λ y. path_cmp p y ≡ Less) (paths ds) → Follows f ds
+        → AllByRecursion (λ y. path_cmp p y ≡ Less) (map (row_path l r) (filter_map f ds))
     behind_missed p [] b g = tt
     behind_missed p (d ∷ ds) b g =
         elim (f d) as (λ o. f d ≡ o → AllByRecursion (λ y. path_cmp p y ≡ Less) (map (row_path l r) (cons_option o (filter_map f ds)))) [
@@ -353,13 +377,18 @@ module _ (law : GraftUndoesBelow) (tree : Option Files) (l r : Side) (left : IsS
           | Some m ↦ λ e. (subst (λ q. path_cmp p q ≡ Less) (sym (g.0 m e)) b.0, behind_missed p ds b.1 g.1)
         ] refl
 
-    ascend_missed : (ds : List Draft) → IsStrictlySortedBy path_cmp (paths ds) → Follows f ds → IsStrictlySortedBy path_cmp (map (row_path l r) (filter_map f ds))
+    ascend_missed : (ds : List Draft) → IsStrictlySortedBy path_cmp (paths ds) → Follows f ds
+        → IsStrictlySortedBy path_cmp (map (row_path l r) (filter_map f ds))
     unfolding IsStrictlySortedBy
     ascend_missed [] b g = tt
     ascend_missed (d ∷ ds) b g =
         elim (f d) as (λ o. f d ≡ o → IsStrictlySortedBy path_cmp (map (row_path l r) (cons_option o (filter_map f ds)))) [
           | None ↦ λ e. ascend_missed ds b.1 g.1
-          | Some m ↦ λ e. (subst (λ q. AllByRecursion (λ y. path_cmp q y ≡ Less) (map (row_path l r) (filter_map f ds))) (sym (g.0 m e)) (behind_missed d.row.path ds b.0 g.1), ascend_missed ds b.1 g.1)
+          | Some m ↦ λ e. (
+            subst (λ q. AllByRecursion (λ y. path_cmp q y ≡ Less) (map (row_path l r) (filter_map f ds))) (sym (g.0 m e))
+                (behind_missed d.row.path ds b.0 g.1),
+            ascend_missed ds b.1 g.1,
+          )
         ] refl
 
     -- a file of another row is not of this one
@@ -369,7 +398,8 @@ module _ (law : GraftUndoesBelow) (tree : Option Files) (l r : Side) (left : IsS
     earlier_row : (p q x : List ℕ) → path_cmp p q ≡ Less → x ≡ p → pointwise eqb x q ≡ false
     earlier_row p q x less e = not_true (pointwise eqb x q) (λ t. not_itself q (subst (λ z. path_cmp z q ≡ Less) (sym e ∙ (bytes_decides x q).0 t) less))
 
-    none_missed : (p : List ℕ) (ds : List Draft) → AllByRecursion (λ y. path_cmp p y ≡ Less) (paths ds) → Follows f ds → is_missed l r (filter_map f ds) p ≡ false
+    none_missed : (p : List ℕ) (ds : List Draft) → AllByRecursion (λ y. path_cmp p y ≡ Less) (paths ds) → Follows f ds
+        → is_missed l r (filter_map f ds) p ≡ false
     none_missed p [] b g = refl
     none_missed p (d ∷ ds) b g =
         elim (f d) as (λ o. f d ≡ o → is_missed l r (cons_option o (filter_map f ds)) p ≡ false) [
@@ -377,8 +407,10 @@ module _ (law : GraftUndoesBelow) (tree : Option Files) (l r : Side) (left : IsS
           | Some m ↦ λ e. ap (λ t. t || is_missed l r (filter_map f ds) p) (other_row p d.row.path (row_path l r m) b.0 (g.0 m e)) ∙ none_missed p ds b.1 g.1
         ] refl
 
-    later_missed : (d : Draft) (all ds : List Draft) → ((m : Missed) → f d ≡ Some m → row_path l r m ≡ d.row.path) → AllByRecursion (λ y. path_cmp d.row.path y ≡ Less) (paths ds) →
-        AllByRecursion (λ e. is_missed l r (filter_map f all) e.row.path ≡ is_some (f e)) ds → AllByRecursion (λ e. is_missed l r (filter_map f (d ∷ all)) e.row.path ≡ is_some (f e)) ds
+    later_missed : (d : Draft) (all ds : List Draft) → ((m : Missed) → f d ≡ Some m → row_path l r m ≡ d.row.path)
+        → AllByRecursion (λ y. path_cmp d.row.path y ≡ Less) (paths ds) →
+        AllByRecursion (λ e. is_missed l r (filter_map f all) e.row.path ≡ is_some (f e)) ds
+        → AllByRecursion (λ e. is_missed l r (filter_map f (d ∷ all)) e.row.path ≡ is_some (f e)) ds
     later_missed d all [] g b h = tt
     later_missed d all (x ∷ ds) g b h = (
       elim (f d) as (λ o. f d ≡ o → is_missed l r (cons_option o (filter_map f all)) x.row.path ≡ is_some (f x)) [
@@ -388,7 +420,8 @@ module _ (law : GraftUndoesBelow) (tree : Option Files) (l r : Side) (left : IsS
       later_missed d all ds g b.1 h.1,
     )
 
-    missed_here : (ds : List Draft) → IsStrictlySortedBy path_cmp (paths ds) → Follows f ds → AllByRecursion (λ d. is_missed l r (filter_map f ds) d.row.path ≡ is_some (f d)) ds
+    missed_here : (ds : List Draft) → IsStrictlySortedBy path_cmp (paths ds) → Follows f ds
+        → AllByRecursion (λ d. is_missed l r (filter_map f ds) d.row.path ≡ is_some (f d)) ds
     unfolding IsStrictlySortedBy
     missed_here [] b g = tt
     missed_here (d ∷ ds) b g = (
@@ -408,16 +441,22 @@ module _ (law : GraftUndoesBelow) (tree : Option Files) (l r : Side) (left : IsS
   were_read : (why : Missing) (ds : List Draft) → AllByRecursion Settled ds → AllByRecursion (WasToBeRead l r) (filter_map (missed_by why l.top r.top) ds)
   were_read why [] h = tt
   were_read why (d ∷ ds) h =
-      elim (missed_by why l.top r.top d) as (λ o. missed_by why l.top r.top d ≡ o → AllByRecursion (WasToBeRead l r) (cons_option o (filter_map (missed_by why l.top r.top) ds))) [
+      elim (missed_by why l.top r.top d) as
+      (λ o. missed_by why l.top r.top d ≡ o
+      → AllByRecursion (WasToBeRead l r) (cons_option o (filter_map (missed_by why l.top r.top) ds))) [
         | None ↦ λ e. were_read why ds h.1
         | Some m ↦ λ e. (IsMiss.to_be_read (missed_is why d h.0 m e), were_read why ds h.1)
       ] refl
 
-  apart_from : (missed : List Missed) (ds : List Draft) → AllByRecursion Settled ds → AllByRecursion (λ d. is_missed l r missed d.row.path ≡ is_some (missed_by missing.Changed l.top r.top d)) ds →
+  apart_from : (missed : List Missed) (ds : List Draft) → AllByRecursion Settled ds
+      → AllByRecursion (λ d. is_missed l r missed d.row.path ≡ is_some (missed_by missing.Changed l.top r.top d)) ds →
       AllByRecursion (λ m. is_missed l r missed (row_path l r m) ≡ false) (filter_map (missed_by missing.Failed l.top r.top) ds)
   apart_from missed [] h g = tt
   apart_from missed (d ∷ ds) h g =
-      elim (missed_by missing.Failed l.top r.top d) as (λ o. missed_by missing.Failed l.top r.top d ≡ o → AllByRecursion (λ m. is_missed l r missed (row_path l r m) ≡ false) (cons_option o (filter_map (missed_by missing.Failed l.top r.top) ds))) [
+      elim (missed_by missing.Failed l.top r.top d) as
+      (λ o. missed_by missing.Failed l.top r.top d ≡ o
+      → AllByRecursion (λ m. is_missed l r missed (row_path l r m) ≡ false)
+      (cons_option o (filter_map (missed_by missing.Failed l.top r.top) ds))) [
         | None ↦ λ e. apart_from missed ds h.1 g.1
         | Some m ↦ λ e. (
           ap (is_missed l r missed) (IsMiss.row (missed_is missing.Failed d h.0 m e)) ∙ g.0 ∙ not_both_missed (missed_at l.top r.top d.row.path) d.outcome m e,
@@ -425,29 +464,36 @@ module _ (law : GraftUndoesBelow) (tree : Option Files) (l r : Side) (left : IsS
         )
       ] refl
 
-  same_told : (d : Draft) → Settled d → (x : Bool) → d.outcome ≡ Some (outcome.Same x) → (t : Option Files) → t ≡ tree → IfSome t (λ files. x ≡ same_bytes files (entry_at l d.row.path) (entry_at r d.row.path))
+  same_told : (d : Draft) → Settled d → (x : Bool) → d.outcome ≡ Some (outcome.Same x) → (t : Option Files) → t ≡ tree
+      → IfSome t (λ files. x ≡ same_bytes files (entry_at l d.row.path) (entry_at r d.row.path))
   same_told d s x is None e = tt
   same_told d s x is (Some files) e =
       let es = are_entries (entry_at l d.row.path) (entry_at r d.row.path) (was_read d s (outcome.Same x) is) in
-      let told = told_of files (subst (λ u. IfSome u (λ files. StatsTold files l.entries)) (sym e) told_left) (subst (λ u. IfSome u (λ files. StatsTold files r.entries)) (sym e) told_right) d s (outcome.Same x) is
+      let told = told_of files (subst (λ u. IfSome u (λ files. StatsTold files l.entries)) (sym e) told_left)
+      (subst (λ u. IfSome u (λ files. StatsTold files r.entries)) (sym e) told_right) d s (outcome.Same x) is
       (subst (λ u. IsSettled u l.top r.top d) (sym e) (Settled.outcome s)) es in
       told ∙ (λ i. same_bytes files (sym (AreEntries.one_is es) i) (sym (AreEntries.other_is es) i))
 
-  unchanged : (t : Option Files) → t ≡ tree → (ds : List Draft) → AllByRecursion Settled ds → IfSome t (λ files. filter_map (missed_by missing.Changed l.top r.top) ds ≡ [])
+  unchanged : (t : Option Files) → t ≡ tree → (ds : List Draft) → AllByRecursion Settled ds
+      → IfSome t (λ files. filter_map (missed_by missing.Changed l.top r.top) ds ≡ [])
   unchanged None e ds h = tt
   unchanged (Some files) e [] h = refl
   unchanged (Some files) e (d ∷ ds) h =
-      elim (missed_by missing.Changed l.top r.top d) as (λ o. missed_by missing.Changed l.top r.top d ≡ o → cons_option o (filter_map (missed_by missing.Changed l.top r.top) ds) ≡ []) [
+      elim (missed_by missing.Changed l.top r.top d) as
+      (λ o. missed_by missing.Changed l.top r.top d ≡ o → cons_option o (filter_map (missed_by missing.Changed l.top r.top) ds) ≡ []) [
         | None ↦ λ g. unchanged (Some files) e ds h.1
         | Some m ↦ λ g.
             let f = of_map (missed_at l.top r.top d.row.path) (side_missed missing.Changed d.outcome) m g in
             let is = side_is missing.Changed d.outcome f.0 f.1 in
             let es = are_entries (entry_at l d.row.path) (entry_at r d.row.path) (was_read d h.0 (outcome.Missed f.0 missing.Changed) is) in
-            absurd (told_of files (subst (λ u. IfSome u (λ files. StatsTold files l.entries)) (sym e) told_left) (subst (λ u. IfSome u (λ files. StatsTold files r.entries)) (sym e) told_right) d h.0 (outcome.Missed f.0 missing.Changed) is
+            absurd (told_of files (subst (λ u. IfSome u (λ files. StatsTold files l.entries)) (sym e) told_left)
+            (subst (λ u. IfSome u (λ files. StatsTold files r.entries)) (sym e) told_right) d h.0
+            (outcome.Missed f.0 missing.Changed) is
             (subst (λ u. IsSettled u l.top r.top d) (sym e) (Settled.outcome h.0)) es)
       ] refl
 
-  the_rows : (missed : List Missed) (ds : List Draft) → AllByRecursion Settled ds → AllByRecursion (λ d. is_missed l r missed d.row.path ≡ gave_nothing d.outcome) ds →
+  the_rows : (missed : List Missed) (ds : List Draft) → AllByRecursion Settled ds
+      → AllByRecursion (λ d. is_missed l r missed d.row.path ≡ gave_nothing d.outcome) ds →
       AllByRecursion (λ row. IsRow tree (is_missed l r missed row.path) (entry_at l row.path) (entry_at r row.path) row) (map row_by ds)
   the_rows missed [] h g = tt
   the_rows missed (d ∷ ds) h g = (
@@ -455,13 +501,16 @@ module _ (law : GraftUndoesBelow) (tree : Option Files) (l r : Side) (left : IsS
       exist = Settled.exist h.0;
       kind = Settled.kind h.0;
       size = Settled.size h.0;
-      content = content_row tree (entry_at l d.row.path) (entry_at r d.row.path) d.outcome d.row.content (is_missed l r missed d.row.path) (Settled.content h.0) (sym (ap is_some (Settled.bytes h.0)) ∙ (Settled.outcome h.0).all) g.0
+      content = content_row tree (entry_at l d.row.path) (entry_at r d.row.path) d.outcome d.row.content (is_missed l r missed d.row.path)
+          (Settled.content h.0) (sym (ap is_some (Settled.bytes h.0)) ∙ (Settled.outcome h.0).all) g.0
           (λ x is. same_told d h.0 x is tree refl);
     },
     the_rows missed ds h.1 g.1,
   )
 
-  nothing_here : (F C : List Missed) (ds : List Draft) → AllByRecursion (λ d. is_missed l r F d.row.path ≡ is_some (missed_by missing.Failed l.top r.top d)) ds → AllByRecursion (λ d. is_missed l r C d.row.path ≡ is_some (missed_by missing.Changed l.top r.top d)) ds →
+  nothing_here : (F C : List Missed) (ds : List Draft)
+      → AllByRecursion (λ d. is_missed l r F d.row.path ≡ is_some (missed_by missing.Failed l.top r.top d)) ds
+      → AllByRecursion (λ d. is_missed l r C d.row.path ≡ is_some (missed_by missing.Changed l.top r.top d)) ds →
       AllByRecursion (λ d. is_missed l r (F ++ C) d.row.path ≡ gave_nothing d.outcome) ds
   nothing_here F C [] h g = tt
   nothing_here F C (d ∷ ds) h g = (
@@ -469,18 +518,24 @@ module _ (law : GraftUndoesBelow) (tree : Option Files) (l r : Side) (left : IsS
     nothing_here F C ds h.1 g.1,
   )
 
-  all_settled : (ds : List Draft) → AllByRecursion (λ d. unsettled d ≡ draft_of d.row.path (at d.row.path L) (at d.row.path R)) ds → AllByRecursion (λ d. is_shown l r d.row.path ≡ true) ds → AllByRecursion (IsSettled tree l.top r.top) ds → AllByRecursion Settled ds
+  all_settled : (ds : List Draft) → AllByRecursion (λ d. unsettled d ≡ draft_of d.row.path (at d.row.path L) (at d.row.path R)) ds
+      → AllByRecursion (λ d. is_shown l r d.row.path ≡ true) ds → AllByRecursion (IsSettled tree l.top r.top) ds → AllByRecursion Settled ds
   all_settled [] h g o = tt
   all_settled (d ∷ ds) h g o = (settled_row d h.0 g.0 o.0, all_settled ds h.1 g.1 o.1)
 
-  are_shown : (ds : List Draft) → ((p : List ℕ) → is_row p ds ≡ is_shown l r p) → (part : List Draft) → AllByRecursion (λ d. is_row d.row.path ds ≡ true) part → AllByRecursion (λ d. is_shown l r d.row.path ≡ true) part
+  are_shown : (ds : List Draft) → ((p : List ℕ) → is_row p ds ≡ is_shown l r p) → (part : List Draft)
+      → AllByRecursion (λ d. is_row d.row.path ds ≡ true) part → AllByRecursion (λ d. is_shown l r d.row.path ≡ true) part
   are_shown ds e [] h = tt
   are_shown ds e (d ∷ part) h = (sym (e d.row.path) ∙ h.0, are_shown ds e part h.1)
 
-  pub comparison : (drafts : List Draft) → AreDrafts L R (map unsettled drafts) → All (IsSettled tree l.top r.top) drafts → IsComparison tree l r (findings_of l.top r.top drafts)
+  pub comparison : (drafts : List Draft) → AreDrafts L R (map unsettled drafts) → All (IsSettled tree l.top r.top) drafts
+      → IsComparison tree l r (findings_of l.top r.top drafts)
   comparison drafts are settled =
-      let each = all_unmapped_drafts (λ d. d ≡ draft_of d.row.path (at d.row.path L) (at d.row.path R)) drafts (recursion_from_All (λ (d : Draft). d ≡ draft_of d.row.path (at d.row.path L) (at d.row.path R)) (map unsettled drafts) are.each) in
-      let has : (p : List ℕ) → is_row p drafts ≡ is_shown l r p = λ p. sym (is_row-unsettled p drafts) ∙ are.shown p ∙ shown-items l.top r.top p l.entries r.entries in
+      let each = all_unmapped_drafts (λ d. d ≡ draft_of d.row.path (at d.row.path L) (at d.row.path R)) drafts
+      (recursion_from_All (λ (d : Draft). d ≡ draft_of d.row.path (at d.row.path L) (at d.row.path R))
+      (map unsettled drafts) are.each) in
+      let has : (p : List ℕ) → is_row p drafts ≡ is_shown l r p = λ p. sym (is_row-unsettled p drafts) ∙ are.shown p
+      ∙ shown-items l.top r.top p l.entries r.entries in
       let all = all_settled drafts each (are_shown drafts has drafts (rows_there drafts)) (recursion_from_All (IsSettled tree l.top r.top) drafts settled) in
       let sorted : IsStrictlySortedBy path_cmp (paths drafts) = subst (IsStrictlySortedBy path_cmp) (paths-unsettled drafts) are.ascend in
       let failed = follows missing.Failed drafts all in
@@ -492,11 +547,14 @@ module _ (law : GraftUndoesBelow) (tree : Option Files) (l r : Side) (left : IsS
       record {
         ascend = subst (IsStrictlySortedBy path_cmp) (sym (paths-rows drafts)) sorted;
         shown = λ p. is_row-rows p drafts ∙ has p;
-        each = All-from_recursion (λ (row : Row). IsRow tree (is_missed l r (F ++ C) row.path) (entry_at l row.path) (entry_at r row.path) row) (map row_by drafts) (the_rows (F ++ C) drafts all (nothing_here F C drafts f c));
+        each = All-from_recursion
+            (λ (row : Row). IsRow tree (is_missed l r (F ++ C) row.path) (entry_at l row.path) (entry_at r row.path) row)
+            (map row_by drafts) (the_rows (F ++ C) drafts all (nothing_here F C drafts f c));
         failed_ascend = ascend_missed (missed_by missing.Failed l.top r.top) drafts sorted failed;
         changed_ascend = ascend_missed (missed_by missing.Changed l.top r.top) drafts sorted changed;
         apart = All-from_recursion (λ (m : Missed). is_missed l r C (row_path l r m) ≡ false) F (apart_from C drafts all c);
-        to_be_read = All-append (WasToBeRead l r) F C (All-from_recursion (WasToBeRead l r) F (were_read missing.Failed drafts all)) (All-from_recursion (WasToBeRead l r) C (were_read missing.Changed drafts all));
+        to_be_read = All-append (WasToBeRead l r) F C (All-from_recursion (WasToBeRead l r) F (were_read missing.Failed drafts all))
+            (All-from_recursion (WasToBeRead l r) C (were_read missing.Changed drafts all));
         unchanged = unchanged tree refl drafts all;
       }
 

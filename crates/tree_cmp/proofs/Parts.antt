@@ -1,5 +1,6 @@
 -- The parts of a text, one after the other.
-use Rattle.std.proofs.Common.{◌≡◌, ℕ, ◌+◌, ◌<◌, ◌≤◌, true, false, List, [], ◌∷◌, ◌++◌, append_assoc, append-nil, length, take, drop, refl, ap, ◌∙◌, sym, subst, arith, Option, Some, None, Result, Ok, Err, cond, ltb}
+use Rattle.std.proofs.Common.{◌≡◌, ℕ, ◌+◌, ◌<◌, ◌≤◌, true, false, List, [], ◌∷◌, ◌++◌, append_assoc, append-nil, length, take, drop, refl, ap, ◌∙◌}
+use Rattle.std.proofs.Common.{sym, subst, arith, Option, Some, None, Result, Ok, Err, cond, ltb}
 use Rattle.std.specs.Prelude.{Bool, map}
 use Rattle.std.specs.List.{slice_split, onto_first, position, position_or_len}
 use Rattle.std.specs.Option.{IfSome, IfNone}
@@ -49,10 +50,13 @@ onto_cons xs x (Ok ys) = ap Ok (sym (append_assoc xs (x ∷ []) ys))
 onto_cons xs x (Err e) = refl
 
 module _ {X : Type 0} (read : ℕ → List ℕ → Result X ExprError) (all : ℕ → List (List ℕ) → Result (List X) ExprError)
-    (none : (at : ℕ) → all at [] ≡ Ok []) (some : (at : ℕ) (t : List ℕ) (ts : List (List ℕ)) → all at (t ∷ ts) ≡ cons_reading (read at t) (all (at + length t + 1) ts)) where
+    (none : (at : ℕ) → all at [] ≡ Ok [])
+    (some : (at : ℕ) (t : List ℕ) (ts : List (List ℕ)) → all at (t ∷ ts) ≡ cons_reading (read at t) (all (at + length t + 1) ts)) where
   -- a part more
-  pub reads_more : (whole : Result (List X) ExprError) (before after : List X) (x : X) (at at' k : ℕ) (rest : List ℕ) (parts parts' : List (List ℕ)) → whole ≡ onto before (all at parts) →
-      k < length rest → parts ≡ take k rest ∷ parts' → read at (take k rest) ≡ Ok x → at' ≡ at + (k + 1) → after ≡ before ++ x ∷ [] → whole ≡ onto after (all at' parts')
+  pub reads_more : (whole : Result (List X) ExprError) (before after : List X) (x : X) (at at' k : ℕ) (rest : List ℕ)
+      (parts parts' : List (List ℕ)) → whole ≡ onto before (all at parts) →
+      k < length rest → parts ≡ take k rest ∷ parts' → read at (take k rest) ≡ Ok x → at' ≡ at + (k + 1) → after ≡ before ++ x ∷ []
+      → whole ≡ onto after (all at' parts')
   reads_more whole before after x at at' k rest parts parts' so_far inside are now next added =
       let place : at + length (take k rest) + 1 ≡ at' = omega (arith, length-take-le k rest) in
       so_far
@@ -61,13 +65,15 @@ module _ {X : Type 0} (read : ℕ → List ℕ → Result X ExprError) (all : �
       ∙ ap (λ xs. onto xs (all at' parts')) (sym added)
 
   -- the last part
-  pub reads_last : (whole : Result (List X) ExprError) (before after : List X) (x : X) (at : ℕ) (rest : List ℕ) (parts : List (List ℕ)) → whole ≡ onto before (all at parts) → parts ≡ rest ∷ [] → read at rest ≡ Ok x → after ≡ before ++ x ∷ [] → whole ≡ Ok after
+  pub reads_last : (whole : Result (List X) ExprError) (before after : List X) (x : X) (at : ℕ) (rest : List ℕ) (parts : List (List ℕ))
+      → whole ≡ onto before (all at parts) → parts ≡ rest ∷ [] → read at rest ≡ Ok x → after ≡ before ++ x ∷ [] → whole ≡ Ok after
   reads_last whole before after x at rest parts so_far are now added =
       so_far
       ∙ ap (onto before) (ap (all at) are ∙ some at rest [] ∙ (λ i. cons_reading (now i) (none (at + length rest + 1) i)))
       ∙ ap Ok (sym added)
 
   -- an offence
-  pub refuses : (whole : Result (List X) ExprError) (before : List X) (at : ℕ) (part : List ℕ) (parts parts' : List (List ℕ)) (e : ExprError) → whole ≡ onto before (all at parts) → parts ≡ part ∷ parts' → read at part ≡ Err e → whole ≡ Err e
+  pub refuses : (whole : Result (List X) ExprError) (before : List X) (at : ℕ) (part : List ℕ) (parts parts' : List (List ℕ))
+      (e : ExprError) → whole ≡ onto before (all at parts) → parts ≡ part ∷ parts' → read at part ≡ Err e → whole ≡ Err e
   refuses whole before at part parts parts' e so_far are now =
       so_far ∙ ap (onto before) (ap (all at) are ∙ some at part parts' ∙ (λ i. cons_reading (now i) (all (at + length part + 1) parts')))

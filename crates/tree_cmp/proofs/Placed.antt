@@ -1,5 +1,6 @@
 -- What was found is put beside the rows.
-use Rattle.std.proofs.Common.{◌≡◌, ℕ, ◌+◌, ◌<◌, ◌≤◌, List, [], ◌∷◌, map, length, set, get_or, get_or-set_same, get_or-set_other, refl, sym, subst, ap, ◌∙◌, arith, Option, Some, None, IfSome, All, true, is_some}
+use Rattle.std.proofs.Common.{◌≡◌, ℕ, ◌+◌, ◌<◌, ◌≤◌, List, [], ◌∷◌, map, length, set, get_or, get_or-set_same, get_or-set_other, refl, sym, subst, ap}
+use Rattle.std.proofs.Common.{◌∙◌, arith, Option, Some, None, IfSome, All, true, is_some}
 use Rattle.std.specs.List.{sum_by, AllByRecursion}
 use Rattle.std.proofs.lemmas.List.Sums.{sum_by-set}
 use Rattle.std.proofs.lemmas.List.Elements.{All-set, All-from_recursion}
@@ -18,11 +19,14 @@ use Rattle.tree_cmp.specs.Private.Sharing.{IsOf, IsSoFar, IsFound, unsettled, so
 abbrev pub with_outcome : Outcome → Draft → Draft
 with_outcome o d = record d { outcome = Some o }
 
-pub placed_unsettled : (drafts was : List Draft) (k : ℕ) (o : Outcome) (d : Draft) → map unsettled drafts ≡ map unsettled was → map unsettled (set drafts k (with_outcome o (get_or drafts k d))) ≡ map unsettled was
+pub placed_unsettled : (drafts was : List Draft) (k : ℕ) (o : Outcome) (d : Draft) → map unsettled drafts ≡ map unsettled was
+    → map unsettled (set drafts k (with_outcome o (get_or drafts k d))) ≡ map unsettled was
 placed_unsettled drafts was k o d e = map-set_same unsettled drafts k (with_outcome o (get_or drafts k d)) d refl ∙ e
 
-pub placed_so_far : (tree : Option Files) (left right : List ℕ) (drafts was : List Draft) (f : Found) (d : Draft) → f.place < length drafts → map unsettled drafts ≡ map unsettled was →
-    IsFound tree left right (map unsettled was) f → All (IsSoFar tree left right) drafts → All (IsSoFar tree left right) (set drafts f.place (with_outcome f.outcome (get_or drafts f.place d)))
+pub placed_so_far : (tree : Option Files) (left right : List ℕ) (drafts was : List Draft) (f : Found) (d : Draft) → f.place < length drafts
+    → map unsettled drafts ≡ map unsettled was →
+    IsFound tree left right (map unsettled was) f → All (IsSoFar tree left right) drafts
+    → All (IsSoFar tree left right) (set drafts f.place (with_outcome f.outcome (get_or drafts f.place d)))
 placed_so_far tree left right drafts was f d i e h so_far =
     let own : IsOf tree left right (get_or drafts f.place d).row.path (get_or drafts f.place d).unread f.outcome =
     subst (λ (q : Draft). IsOf tree left right q.row.path q.unread f.outcome)
@@ -30,21 +34,26 @@ placed_so_far tree left right drafts was f d i e h so_far =
     (h.own (unsettled d)) in
     All-set (IsSoFar tree left right) drafts f.place (with_outcome f.outcome (get_or drafts f.place d)) own so_far
 
-pub placed_counted : (drafts : List Draft) (k : ℕ) (o : Outcome) (d : Draft) → k < length drafts → blames (set drafts k (with_outcome o (get_or drafts k d))) ≤ blames drafts + counts o
+pub placed_counted : (drafts : List Draft) (k : ℕ) (o : Outcome) (d : Draft) → k < length drafts
+    → blames (set drafts k (with_outcome o (get_or drafts k d))) ≤ blames drafts + counts o
 placed_counted drafts k o d inside = omega (arith, sum_by-set (λ (d : Draft). some_counts d.outcome) drafts k (with_outcome o (get_or drafts k d)) d inside)
 
 -- ---- a row that was read
 
-pub set_unsettled : (drafts was : List Draft) (k : ℕ) (x d : Draft) → map unsettled drafts ≡ map unsettled was → unsettled x ≡ unsettled (get_or drafts k d) → map unsettled (set drafts k x) ≡ map unsettled was
+pub set_unsettled : (drafts was : List Draft) (k : ℕ) (x d : Draft) → map unsettled drafts ≡ map unsettled was
+    → unsettled x ≡ unsettled (get_or drafts k d) → map unsettled (set drafts k x) ≡ map unsettled was
 set_unsettled drafts was k x d e same = map-set_same unsettled drafts k x d same ∙ e
 
-pub set_settled : (P : Draft → Type 0) (drafts : List Draft) (k : ℕ) (x : Draft) → k < length drafts → ((j : ℕ) (d : Draft) → j < k → P (get_or drafts j d)) → P x → (j : ℕ) (d : Draft) → j < k + 1 → P (get_or (set drafts k x) j d)
+pub set_settled : (P : Draft → Type 0) (drafts : List Draft) (k : ℕ) (x : Draft) → k < length drafts
+    → ((j : ℕ) (d : Draft) → j < k → P (get_or drafts j d)) → P x → (j : ℕ) (d : Draft) → j < k + 1 → P (get_or (set drafts k x) j d)
 set_settled P drafts k x inside before here j d h =
     dite (ℕ_discrete j k)
     (λ e. subst P (sym (ap (λ i. get_or (set drafts k x) i d) e ∙ get_or-set_same drafts k x d inside)) here)
     (λ ne. subst P (sym (get_or-set_other drafts k j x d ne)) (before j d (omega arith)))
 
-pub set_keeps_up : (was : ℕ) (drafts : List Draft) (k : ℕ) (x d : Draft) (old mid new : ℕ) → k < length drafts → KeepsUp was (blames drafts) old mid → KeepsUp (some_counts (get_or drafts k d).outcome) (some_counts x.outcome) mid new → KeepsUp was (blames (set drafts k x)) old new
+pub set_keeps_up : (was : ℕ) (drafts : List Draft) (k : ℕ) (x d : Draft) (old mid new : ℕ) → k < length drafts
+    → KeepsUp was (blames drafts) old mid → KeepsUp (some_counts (get_or drafts k d).outcome) (some_counts x.outcome) mid new
+    → KeepsUp was (blames (set drafts k x)) old new
 set_keeps_up was drafts k x d old mid new inside f g =
     let sums = sum_by-set (λ (d : Draft). some_counts d.outcome) drafts k x d inside in
     let a = f.kept in
@@ -67,7 +76,8 @@ pub blames_none : (drafts : List Draft) → map unsettled drafts ≡ drafts → 
 blames_none drafts e = ap blames (sym e) ∙ blames-unsettled drafts
 
 pub nothing_so_far : (tree : Option Files) (left right : List ℕ) (drafts : List Draft) → map unsettled drafts ≡ drafts → All (IsSoFar tree left right) drafts
-nothing_so_far tree left right drafts e = subst (All (IsSoFar tree left right)) e (All-from_recursion (IsSoFar tree left right) (map unsettled drafts) (each drafts))
+nothing_so_far tree left right drafts e =
+    subst (All (IsSoFar tree left right)) e (All-from_recursion (IsSoFar tree left right) (map unsettled drafts) (each drafts))
   where
     each : (drafts : List Draft) → AllByRecursion (IsSoFar tree left right) (map unsettled drafts)
     each [] = tt

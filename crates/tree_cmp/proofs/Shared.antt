@@ -25,31 +25,41 @@ module _ {R : Type 0} (tree : R → Option Files) (count : R → ℕ) where
     room = h.room;
   }
 
-  pub worked_lost : (work : Work) (w0 w w' : Worker R) → IsWorked tree count work w0 w → w'.desk.found.items ≡ w.desk.found.items → tree w'.reader ≡ tree w.reader → RoseBy 0 (count w.reader) (count w'.reader) → HasRoom w'.desk → IsWorked tree count work w0 w'
+  pub worked_lost : (work : Work) (w0 w w' : Worker R) → IsWorked tree count work w0 w → w'.desk.found.items ≡ w.desk.found.items
+      → tree w'.reader ≡ tree w.reader → RoseBy 0 (count w.reader) (count w'.reader) → HasRoom w'.desk → IsWorked tree count work w0 w'
   worked_lost work w0 w w' h e s c r =
       let a = h.counted in
       record {
         found = subst (All (IsFound (tree w0.reader) work.left.now work.right.now work.drafts.now)) (sym e) h.found;
         same = s ∙ h.same;
-        counted = subst (λ (n : ℕ). RoseBy n (count w0.reader) (count w'.reader)) (sym (ap all_counts e)) (let x = a.kept in let y = a.rose in let z = c.kept in record { kept = omega arith; rose = omega arith });
+        counted = subst (λ (n : ℕ). RoseBy n (count w0.reader) (count w'.reader)) (sym (ap all_counts e)) (let x = a.kept in
+            let y = a.rose in let z = c.kept in record { kept = omega arith; rose = omega arith });
         room = r;
       }
 
-  pub worked_more : (work : Work) (w0 w w' : Worker R) (draft : Draft) (size : ℕ) (f : Found) → IsWorked tree count work w0 w → w'.desk.found.items ≡ w.desk.found.items ++ f ∷ [] → tree w'.reader ≡ tree w.reader → RoseBy (counts f.outcome) (count w.reader) (count w'.reader) → HasRoom w'.desk →
-      f.place < length work.drafts.now → draft ≡ get_or work.drafts.now f.place draft → draft.unread ≡ Some size → (path : List ℕ) → ToldAt (tree w.reader) work.left.now work.right.now path size f.outcome → path ≡ draft.row.path → IsWorked tree count work w0 w'
+  pub worked_more : (work : Work) (w0 w w' : Worker R) (draft : Draft) (size : ℕ) (f : Found) → IsWorked tree count work w0 w
+      → w'.desk.found.items ≡ w.desk.found.items ++ f ∷ [] → tree w'.reader ≡ tree w.reader
+      → RoseBy (counts f.outcome) (count w.reader) (count w'.reader) → HasRoom w'.desk →
+      f.place < length work.drafts.now → draft ≡ get_or work.drafts.now f.place draft → draft.unread ≡ Some size → (path : List ℕ)
+      → ToldAt (tree w.reader) work.left.now work.right.now path size f.outcome → path ≡ draft.row.path → IsWorked tree count work w0 w'
   worked_more work w0 w w' draft size f h e s c r i p u path told is =
       let t = subst (λ (q : List ℕ). ToldAt (tree w.reader) work.left.now work.right.now q size f.outcome) is told in
       let here : IsOf (tree w0.reader) work.left.now work.right.now draft.row.path draft.unread f.outcome = record {
         unread = ap is_some u;
-        told = subst (λ (x : Option ℕ). IfSome x (λ size. ToldAt (tree w0.reader) work.left.now work.right.now draft.row.path size f.outcome)) (sym u) (subst (λ (x : Option Files). ToldAt x work.left.now work.right.now draft.row.path size f.outcome) h.same t);
+        told = subst (λ (x : Option ℕ).
+            IfSome x (λ size. ToldAt (tree w0.reader) work.left.now work.right.now draft.row.path size f.outcome)) (sym u)
+            (subst (λ (x : Option Files). ToldAt x work.left.now work.right.now draft.row.path size f.outcome) h.same t);
       } in
       let one : IsFound (tree w0.reader) work.left.now work.right.now work.drafts.now f = record {
         inside = i;
-        own = λ d. subst (λ (q : Draft). IsOf (tree w0.reader) work.left.now work.right.now q.row.path q.unread f.outcome) (get_or_read work.drafts.now f.place draft i p d) here;
+        own = λ d. subst (λ (q : Draft). IsOf (tree w0.reader) work.left.now work.right.now q.row.path q.unread f.outcome)
+            (get_or_read work.drafts.now f.place draft i p d) here;
       } in
       record {
-        found = subst (All (IsFound (tree w0.reader) work.left.now work.right.now work.drafts.now)) (sym e) (All-push (IsFound (tree w0.reader) work.left.now work.right.now work.drafts.now) w.desk.found.items f h.found one);
+        found = subst (All (IsFound (tree w0.reader) work.left.now work.right.now work.drafts.now)) (sym e)
+            (All-push (IsFound (tree w0.reader) work.left.now work.right.now work.drafts.now) w.desk.found.items f h.found one);
         same = s ∙ h.same;
-        counted = subst (λ (n : ℕ). RoseBy n (count w0.reader) (count w'.reader)) (sym (ap all_counts e ∙ sum_by_push (λ (f : Found). counts f.outcome) w.desk.found.items f)) (rose_more _ _ _ _ _ h.counted c);
+        counted = subst (λ (n : ℕ). RoseBy n (count w0.reader) (count w'.reader))
+            (sym (ap all_counts e ∙ sum_by_push (λ (f : Found). counts f.outcome) w.desk.found.items f)) (rose_more _ _ _ _ _ h.counted c);
         room = r;
       }

@@ -1,5 +1,6 @@
 -- A side as a list of items.
-use Rattle.std.proofs.Common.{◌≡◌, ℕ, Bool, true, false, not, ◌&&◌, ◌||◌, List, [], ◌∷◌, map, filter, refl, ap, ◌∙◌, sym, subst, cond, eqb, IsTrue, Option, Some, None, is_some, All}
+use Rattle.std.proofs.Common.{◌≡◌, ℕ, Bool, true, false, not, ◌&&◌, ◌||◌, List, [], ◌∷◌, map, filter, refl, ap, ◌∙◌, sym, subst, cond, eqb, IsTrue}
+use Rattle.std.proofs.Common.{Option, Some, None, is_some, All}
 use Rattle.std.specs.List.{AllByRecursion, find, list_any}
 use Rattle.std.specs.List.Sorted.{IsStrictlySortedBy}
 use Rattle.std.specs.Option.{option_map}
@@ -18,20 +19,28 @@ use Rattle.tree_cmp.specs.Private.Steps.{Ascend}
 -- ---- the items of a side ascend
 
 module _ (law : BelowKeepsOrder) where
-  all_below : (top x : List ℕ) (es : List Entry) → IsTrue (is_within x top) → AllByRecursion (λ e. IsTrue (is_within e.path top)) es → AllByRecursion (λ y. path_cmp x y ≡ Less) (map (λ e. e.path) es) →
+  all_below : (top x : List ℕ) (es : List Entry) → IsTrue (is_within x top) → AllByRecursion (λ e. IsTrue (is_within e.path top)) es
+      → AllByRecursion (λ y. path_cmp x y ≡ Less) (map (λ e. e.path) es) →
       AllByRecursion (λ y. path_cmp (below_of x top) y ≡ Less) (map (λ z. z.path) (items_of top es))
   all_below top x [] wx w h = tt
   all_below top x (e ∷ es) wx w h =
-      elim (is_gone e.mark) as (λ b. AllByRecursion (λ y. path_cmp (below_of x top) y ≡ Less) (map (λ z. z.path) (map (item_of top) (cond (not b) (e ∷ filter (λ e. not (is_gone e.mark)) es) (filter (λ e. not (is_gone e.mark)) es))))) [
+      elim (is_gone e.mark) as
+      (λ b. AllByRecursion (λ y. path_cmp (below_of x top) y ≡ Less)
+      (map (λ z. z.path) (map (item_of top)
+      (cond (not b) (e ∷ filter (λ e. not (is_gone e.mark)) es) (filter (λ e. not (is_gone e.mark)) es))))) [
         | true ↦ all_below top x es wx w.1 h.1
         | false ↦ (law x e.path top wx w.0 ∙ h.0, all_below top x es wx w.1 h.1)
       ]
 
-  ascends : (top : List ℕ) (es : List Entry) → AllByRecursion (λ e. IsTrue (is_within e.path top)) es → IsStrictlySortedBy path_cmp (map (λ e. e.path) es) → Ascend (items_of top es)
+  ascends : (top : List ℕ) (es : List Entry) → AllByRecursion (λ e. IsTrue (is_within e.path top)) es
+      → IsStrictlySortedBy path_cmp (map (λ e. e.path) es) → Ascend (items_of top es)
   unfolding IsStrictlySortedBy
   ascends top [] w s = tt
   ascends top (e ∷ es) w s =
-      elim (is_gone e.mark) as (λ b. IsStrictlySortedBy path_cmp (map (λ z. z.path) (map (item_of top) (cond (not b) (e ∷ filter (λ e. not (is_gone e.mark)) es) (filter (λ e. not (is_gone e.mark)) es))))) [
+      elim (is_gone e.mark) as
+      (λ b. IsStrictlySortedBy path_cmp
+      (map (λ z. z.path) (map (item_of top)
+      (cond (not b) (e ∷ filter (λ e. not (is_gone e.mark)) es) (filter (λ e. not (is_gone e.mark)) es))))) [
         | true ↦ ascends top es w.1 s.1
         | false ↦ (all_below top e.path es w.0 w.1 s.0, ascends top es w.1 s.1)
       ]
@@ -47,16 +56,20 @@ at-items top p (e ∷ es) =
     elim (is_gone e.mark) as (λ g. at p (map (item_of top) (cond (not g) (e ∷ filter (λ e. not (is_gone e.mark)) es) (filter (λ e. not (is_gone e.mark)) es)))
     ≡ option_map (item_of top) (cond (not g && pointwise eqb (below_of e.path top) p) (Some e) (entry_at (side top es) p))) [
       | true ↦ at-items top p es
-      | false ↦ elim (pointwise eqb (below_of e.path top) p) as (λ b. cond b (Some (item_of top e)) (at p (items_of top es)) ≡ option_map (item_of top) (cond b (Some e) (entry_at (side top es) p))) [
-        | true ↦ refl
-        | false ↦ at-items top p es
-      ]
+      | false ↦ elim (pointwise eqb (below_of e.path top) p) as
+          (λ b. cond b (Some (item_of top e)) (at p (items_of top es))
+          ≡ option_map (item_of top) (cond b (Some e) (entry_at (side top es) p))) [
+            | true ↦ refl
+            | false ↦ at-items top p es
+          ]
     ]
 
 pub partial-items : (top p : List ℕ) (es : List Entry) → is_below_partial p (items_of top es) ≡ is_hidden (side top es) p
 partial-items top p [] = refl
 partial-items top p (e ∷ es) =
-    elim (is_gone e.mark) as (λ g. is_below_partial p (map (item_of top) (cond (not g) (e ∷ filter (λ e. not (is_gone e.mark)) es) (filter (λ e. not (is_gone e.mark)) es)))
+    elim (is_gone e.mark) as
+    (λ g. is_below_partial p
+    (map (item_of top) (cond (not g) (e ∷ filter (λ e. not (is_gone e.mark)) es) (filter (λ e. not (is_gone e.mark)) es)))
     ≡ ((not g && (is_partial e && is_under p (below_of e.path top))) || is_hidden (side top es) p)) [
       | true ↦ partial-items top p es
       | false ↦ ap (λ b. (is_partial e && is_under p (below_of e.path top)) || b) (partial-items top p es)

@@ -1,5 +1,6 @@
 -- One path more: what both sides have at the next path in path order.
-use Rattle.std.proofs.Common.{◌≡◌, ℕ, ◌+◌, ◌<◌, ◌≤◌, Bool, true, false, not, ◌&&◌, ◌||◌, List, [], ◌∷◌, ◌++◌, map, length, append_assoc, refl, ap, ◌∙◌, sym, subst, arith, cond, eqb, append-nil, if◌then◌else◌, Option, Some, None, is_some}
+use Rattle.std.proofs.Common.{◌≡◌, ℕ, ◌+◌, ◌<◌, ◌≤◌, Bool, true, false, not, ◌&&◌, ◌||◌, List, [], ◌∷◌, ◌++◌, map, length, append_assoc, refl, ap}
+use Rattle.std.proofs.Common.{◌∙◌, sym, subst, arith, cond, eqb, append-nil, if◌then◌else◌, Option, Some, None, is_some}
 use Rattle.std.specs.List.{AllByRecursion, list_any, find, cons_option}
 use Rattle.std.specs.List.Sorted.{IsStrictlySortedBy}
 use Rattle.std.proofs.lemmas.Bool.{false≢true}
@@ -14,7 +15,8 @@ use Rattle.tree_cmp.specs.declared.items.Item.{Item}
 use Rattle.tree_cmp.specs.declared.drafts.Draft.{Draft}
 use Rattle.std.proofs.lemmas.List.Elements.{All-from_recursion}
 use Rattle.tree_cmp.specs.Private.Items.{at, is_below_partial, draft_of, paths, AreDrafts}
-use Rattle.tree_cmp.specs.Private.Steps.{Behind, under_some, BehindSome, is_partial_item, shown_from, is_row, From, Heads, order_by, path_of, Ascend, Ready, Takes, BeforeSome, hidden_after, row_after}
+use Rattle.tree_cmp.specs.Private.Steps.{Behind, under_some, BehindSome, is_partial_item, shown_from, is_row, From, Heads, order_by, path_of, Ascend}
+use Rattle.tree_cmp.specs.Private.Steps.{Ready, Takes, BeforeSome, hidden_after, row_after}
 use Rattle.tree_cmp.proofs.Under.{not_itself, not_both, not_true, none_later}
 
 same : (x y : List ℕ) → pointwise eqb x y ≡ true → x ≡ y
@@ -27,7 +29,8 @@ is_same x = (bytes_decides x x).1 refl
 none_at : (p : List ℕ) (items : List Item) → Behind p items → at p items ≡ None
 none_at p [] h = refl
 none_at p (x ∷ items) h =
-    let other : pointwise eqb x.path p ≡ false = not_true (pointwise eqb x.path p) (λ e. not_itself p (subst (λ y. path_cmp p y ≡ Less) (same x.path p e) h.0)) in
+    let other : pointwise eqb x.path p ≡ false =
+    not_true (pointwise eqb x.path p) (λ e. not_itself p (subst (λ y. path_cmp p y ≡ Less) (same x.path p e) h.0)) in
     (λ i. cond (other i) (Some x) (at p items)) ∙ none_at p items h.1
 
 found_behind : (p q : List ℕ) (items : List Item) → Behind p items → is_some (at q items) ≡ true → path_cmp p q ≡ Less
@@ -56,14 +59,17 @@ not_hidden order p (x ∷ items) h =
 -- what a side has at the path, and at another
 at_here : (p : List ℕ) (items : List Item) (a : Option Item) (rest : List Item) → Heads p items a rest → at p items ≡ a
 at_here p items None rest h = ap (at p) h.are ∙ none_at p rest h.behind
-at_here p items (Some x) rest h = ap (at p) h.are ∙ (λ i. cond (pointwise eqb (h.path x refl i) p) (Some x) (at p rest)) ∙ (λ i. cond (is_same p i) (Some x) (at p rest))
+at_here p items (Some x) rest h = ap (at p) h.are ∙ (λ i. cond (pointwise eqb (h.path x refl i) p) (Some x) (at p rest))
+    ∙ (λ i. cond (is_same p i) (Some x) (at p rest))
 
 at_other : (p q : List ℕ) (items : List Item) (a : Option Item) (rest : List Item) → Heads p items a rest → pointwise eqb p q ≡ false → at q items ≡ at q rest
 at_other p q items None rest h e = ap (at q) h.are
-at_other p q items (Some x) rest h e = ap (at q) h.are ∙ (λ i. cond (pointwise eqb (h.path x refl i) q) (Some x) (at q rest)) ∙ (λ i. cond (e i) (Some x) (at q rest))
+at_other p q items (Some x) rest h e = ap (at q) h.are ∙ (λ i. cond (pointwise eqb (h.path x refl i) q) (Some x) (at q rest))
+    ∙ (λ i. cond (e i) (Some x) (at q rest))
 
 -- what a side hides
-hidden_by : (p q : List ℕ) (items : List Item) (a : Option Item) (rest : List Item) → Heads p items a rest → is_below_partial q items ≡ ((is_partial_item a && is_under q p) || is_below_partial q rest)
+hidden_by : (p q : List ℕ) (items : List Item) (a : Option Item) (rest : List Item) → Heads p items a rest
+    → is_below_partial q items ≡ ((is_partial_item a && is_under q p) || is_below_partial q rest)
 hidden_by p q items None rest h = ap (is_below_partial q) h.are
 hidden_by p q items (Some x) rest h = ap (is_below_partial q) h.are ∙ (λ i. (x.partial && is_under q (h.path x refl i)) || is_below_partial q rest)
 
@@ -91,7 +97,8 @@ pub rows_there : (ds : List Draft) → AllByRecursion (λ d. is_row d.row.path d
 rows_there [] = tt
 rows_there (d ∷ ds) = (
   (λ i. is_same d.row.path i || is_row d.row.path ds),
-  weaker (λ e. is_row e.row.path ds ≡ true) (λ e. is_row e.row.path (d ∷ ds) ≡ true) (λ e h. or_right (pointwise eqb d.row.path e.row.path) (is_row e.row.path ds) h) ds (rows_there ds),
+  weaker (λ e. is_row e.row.path ds ≡ true) (λ e. is_row e.row.path (d ∷ ds) ≡ true)
+      (λ e h. or_right (pointwise eqb d.row.path e.row.path) (is_row e.row.path ds) h) ds (rows_there ds),
 )
 
 paths_behind : (p : List ℕ) (ds : List Draft) → AllByRecursion (λ d. path_cmp p d.row.path ≡ Less) ds → AllByRecursion (λ y. path_cmp p y ≡ Less) (paths ds)
@@ -107,18 +114,21 @@ no_more x m n u y z t e = grind arith
 all_told : (x m n u y z t : Bool) → (m || n) ≡ false → (x && not (((m && u) || y) || (((n && u) || z) || t))) ≡ (x && not (y || (z || t)))
 all_told x m n u y z t e = grind arith
 
-some_told : (x m n u y z t : Bool) → (m || n) ≡ true → (x ≡ true → t ≡ false) → (x && not (((m && u) || y) || (((n && u) || z) || t))) ≡ (x && not (y || (z || u)))
+some_told : (x m n u y z t : Bool) → (m || n) ≡ true → (x ≡ true → t ≡ false)
+    → (x && not (((m && u) || y) || (((n && u) || z) || t))) ≡ (x && not (y || (z || u)))
 some_told x m n u y z t e h = grind arith
 
 under_both : UnderIsContiguous → (p : List ℕ) (h : Option (List ℕ)) (q : List ℕ) → under_some p h ≡ true → is_under q p ≡ true → under_some q h ≡ true
 under_both contiguous p None q u e = absurd (false≢true u)
 under_both contiguous p (Some k) q u e = contiguous.deeper q p k e u
 
-not_under_later : UnderIsContiguous → (p : List ℕ) (h : Option (List ℕ)) (q : List ℕ) → refusal p ≡ None → BeforeSome h p → under_some p h ≡ false → path_cmp p q ≡ Less → under_some q h ≡ false
+not_under_later : UnderIsContiguous → (p : List ℕ) (h : Option (List ℕ)) (q : List ℕ) → refusal p ≡ None → BeforeSome h p
+    → under_some p h ≡ false → path_cmp p q ≡ Less → under_some q h ≡ false
 not_under_later contiguous p None q v g u l = refl
 not_under_later contiguous p (Some k) q v g u l = none_later contiguous k p q g.0 v g.1 u l
 
-module _ (order : IsPreorder) (contiguous : UnderIsContiguous) (p : List ℕ) (h : Option (List ℕ)) (l r : List Item) (a b : Option Item) (l' r' : List Item) (left : Heads p l a l') (right : Heads p r b r') where
+module _ (order : IsPreorder) (contiguous : UnderIsContiguous) (p : List ℕ) (h : Option (List ℕ)) (l r : List Item) (a b : Option Item)
+    (l' r' : List Item) (left : Heads p l a l') (right : Heads p r b r') where
   some_behind : (q : List ℕ) → (is_some (at q l') || is_some (at q r')) ≡ true → path_cmp p q ≡ Less
   some_behind q e =
       elim (is_some (at q l')) as (λ s. is_some (at q l') ≡ s → (s || is_some (at q r')) ≡ true → path_cmp p q ≡ Less) [
@@ -131,30 +141,41 @@ module _ (order : IsPreorder) (contiguous : UnderIsContiguous) (p : List ℕ) (h
   shown_here s u =
       let al = at_here p l a l' left in
       let ar = at_here p r b r' right in
-      let hl : is_below_partial p l ≡ false = hidden_by p p l a l' left ∙ or_false _ _ (and_false (is_partial_item a) (is_under p p) (not_under_itself order p)) (not_hidden order p l' left.behind) in
-      let hr : is_below_partial p r ≡ false = hidden_by p p r b r' right ∙ or_false _ _ (and_false (is_partial_item b) (is_under p p) (not_under_itself order p)) (not_hidden order p r' right.behind) in
+      let hl : is_below_partial p l ≡ false = hidden_by p p l a l' left
+      ∙ or_false _ _ (and_false (is_partial_item a) (is_under p p) (not_under_itself order p)) (not_hidden order p l' left.behind) in
+      let hr : is_below_partial p r ≡ false = hidden_by p p r b r' right
+      ∙ or_false _ _ (and_false (is_partial_item b) (is_under p p) (not_under_itself order p)) (not_hidden order p r' right.behind) in
       (λ i. (is_some (al i) || is_some (ar i)) && not (hl i || (hr i || u i))) ∙ (λ i. s i && true)
 
   -- at another path
   shown_other : (q : List ℕ) → pointwise eqb p q ≡ false →
-      shown_from h q l r ≡ ((is_some (at q l') || is_some (at q r')) && not (((is_partial_item a && is_under q p) || is_below_partial q l') || (((is_partial_item b && is_under q p) || is_below_partial q r') || under_some q h)))
-  shown_other q e = λ i. (is_some (at_other p q l a l' left e i) || is_some (at_other p q r b r' right e i)) && not (hidden_by p q l a l' left i || (hidden_by p q r b r' right i || under_some q h))
+      shown_from h q l r ≡ ((is_some (at q l') || is_some (at q r'))
+      && not (((is_partial_item a && is_under q p) || is_below_partial q l')
+      || (((is_partial_item b && is_under q p) || is_below_partial q r') || under_some q h)))
+  shown_other q e = λ i. (is_some (at_other p q l a l' left e i) || is_some (at_other p q r b r' right e i))
+      && not (hidden_by p q l a l' left i || (hidden_by p q r b r' right i || under_some q h))
 
   -- the path is not shown later
   not_shown_later : (k : Option (List ℕ)) → shown_from k p l' r' ≡ false
-  not_shown_later k = λ i. (is_some (none_at p l' left.behind i) || is_some (none_at p r' right.behind i)) && not (is_below_partial p l' || (is_below_partial p r' || under_some p k))
+  not_shown_later k = λ i. (is_some (none_at p l' left.behind i) || is_some (none_at p r' right.behind i))
+      && not (is_below_partial p l' || (is_below_partial p r' || under_some p k))
 
   at_later : (q : List ℕ) → path_cmp p q ≡ Less → draft_of q (at q l') (at q r') ≡ draft_of q (at q l) (at q r)
   at_later q e = sym (λ i. draft_of q (at_other p q l a l' left (differ p q e) i) (at_other p q r b r' right (differ p q e) i))
 
-  each_later : (ds : List Draft) → AllByRecursion (λ d. path_cmp p d.row.path ≡ Less) ds → AllByRecursion (λ d. d ≡ draft_of d.row.path (at d.row.path l') (at d.row.path r')) ds →
+  each_later : (ds : List Draft) → AllByRecursion (λ d. path_cmp p d.row.path ≡ Less) ds
+      → AllByRecursion (λ d. d ≡ draft_of d.row.path (at d.row.path l') (at d.row.path r')) ds →
       AllByRecursion (λ d. d ≡ draft_of d.row.path (at d.row.path l) (at d.row.path r)) ds
   each_later [] h g = tt
   each_later (d ∷ ds) h g = (g.0 ∙ at_later d.row.path h.0, each_later ds h.1 g.1)
 
   -- the rows of the rest stand behind the path
   rows_behind : (k : Option (List ℕ)) (rest : List Draft) → From k l' r' rest → AllByRecursion (λ d. path_cmp p d.row.path ≡ Less) rest
-  rows_behind k rest f = weaker (λ d. is_row d.row.path rest ≡ true) (λ d. path_cmp p d.row.path ≡ Less) (λ d e. some_behind d.row.path (first_of_and (is_some (at d.row.path l') || is_some (at d.row.path r')) (not (is_below_partial d.row.path l' || (is_below_partial d.row.path r' || under_some d.row.path k))) (sym e ∙ f.shown d.row.path))) rest (rows_there rest)
+  rows_behind k rest f = weaker (λ d. is_row d.row.path rest ≡ true) (λ d. path_cmp p d.row.path ≡ Less)
+      (λ d e. some_behind d.row.path
+      (first_of_and (is_some (at d.row.path l') || is_some (at d.row.path r'))
+      (not (is_below_partial d.row.path l' || (is_below_partial d.row.path r' || under_some d.row.path k))) (sym e ∙ f.shown d.row.path)))
+      rest (rows_there rest)
 
   -- where the path lies under one whose children are not all known, it has no row
   pub skips : under_some p h ≡ true → (rest : List Draft) → From h l' r' rest → From h l r rest
@@ -167,11 +188,14 @@ module _ (order : IsPreorder) (contiguous : UnderIsContiguous) (p : List ℕ) (h
       skipped : (q : List ℕ) → shown_from h q l r ≡ shown_from h q l' r'
       skipped q = elim (pointwise eqb p q) as (λ s. pointwise eqb p q ≡ s → shown_from h q l r ≡ shown_from h q l' r') [
         | true ↦ λ e. subst (λ y. shown_from h y l r ≡ shown_from h y l' r') (same p q e) (shown_under _ _ _ (under_some p h) u ∙ sym (not_shown_later h))
-        | false ↦ λ e. shown_other q e ∙ no_more _ (is_partial_item a) (is_partial_item b) (is_under q p) (is_below_partial q l') (is_below_partial q r') (under_some q h) (under_both contiguous p h q u)
+        | false ↦ λ e. shown_other q e
+            ∙ no_more _ (is_partial_item a) (is_partial_item b) (is_under q p) (is_below_partial q l') (is_below_partial q r')
+            (under_some q h) (under_both contiguous p h q u)
       ] refl
 
   -- else it has one
-  pub shows : (is_some a || is_some b) ≡ true → under_some p h ≡ false → (is_partial_item a || is_partial_item b) ≡ false → (rest : List Draft) → From h l' r' rest → From h l r (draft_of p a b ∷ rest)
+  pub shows : (is_some a || is_some b) ≡ true → under_some p h ≡ false → (is_partial_item a || is_partial_item b) ≡ false
+      → (rest : List Draft) → From h l' r' rest → From h l r (draft_of p a b ∷ rest)
   unfolding IsStrictlySortedBy
   shows s u n rest f = record {
     ascend = (paths_behind p rest (rows_behind h rest f), f.ascend);
@@ -182,11 +206,14 @@ module _ (order : IsPreorder) (contiguous : UnderIsContiguous) (p : List ℕ) (h
       shown_q : (q : List ℕ) → (pointwise eqb p q || is_row q rest) ≡ shown_from h q l r
       shown_q q = elim (pointwise eqb p q) as (λ s. pointwise eqb p q ≡ s → (s || is_row q rest) ≡ shown_from h q l r) [
         | true ↦ λ e. subst (λ y. true ≡ shown_from h y l r) (same p q e) (sym (shown_here s u))
-        | false ↦ λ e. f.shown q ∙ sym (shown_other q e ∙ all_told _ (is_partial_item a) (is_partial_item b) (is_under q p) (is_below_partial q l') (is_below_partial q r') (under_some q h) n)
+        | false ↦ λ e. f.shown q
+            ∙ sym (shown_other q e ∙ all_told _ (is_partial_item a) (is_partial_item b) (is_under q p) (is_below_partial q l')
+            (is_below_partial q r') (under_some q h) n)
       ] refl
 
   -- and where its children are not all known, nothing under it has one
-  pub shows_alone : (is_some a || is_some b) ≡ true → under_some p h ≡ false → (is_partial_item a || is_partial_item b) ≡ true → refusal p ≡ None → BeforeSome h p → (rest : List Draft) → From (Some p) l' r' rest → From h l r (draft_of p a b ∷ rest)
+  pub shows_alone : (is_some a || is_some b) ≡ true → under_some p h ≡ false → (is_partial_item a || is_partial_item b) ≡ true
+      → refusal p ≡ None → BeforeSome h p → (rest : List Draft) → From (Some p) l' r' rest → From h l r (draft_of p a b ∷ rest)
   unfolding IsStrictlySortedBy
   shows_alone s u n v g rest f = record {
     ascend = (paths_behind p rest (rows_behind (Some p) rest f), f.ascend);
@@ -197,7 +224,9 @@ module _ (order : IsPreorder) (contiguous : UnderIsContiguous) (p : List ℕ) (h
       shown_q : (q : List ℕ) → (pointwise eqb p q || is_row q rest) ≡ shown_from h q l r
       shown_q q = elim (pointwise eqb p q) as (λ s. pointwise eqb p q ≡ s → (s || is_row q rest) ≡ shown_from h q l r) [
         | true ↦ λ e. subst (λ y. true ≡ shown_from h y l r) (same p q e) (sym (shown_here s u))
-        | false ↦ λ e. f.shown q ∙ sym (shown_other q e ∙ some_told _ (is_partial_item a) (is_partial_item b) (is_under q p) (is_below_partial q l') (is_below_partial q r') (under_some q h) n (λ t. not_under_later contiguous p h q v g u (some_behind q t)))
+        | false ↦ λ e. f.shown q
+            ∙ sym (shown_other q e ∙ some_told _ (is_partial_item a) (is_partial_item b) (is_under q p) (is_below_partial q l')
+            (is_below_partial q r') (under_some q h) n (λ t. not_under_later contiguous p h q v g u (some_behind q t)))
       ] refl
 
 -- ---- which side is next
@@ -227,7 +256,8 @@ is_x_at x p g z e = is_x x z e ∙ g
 never_x : (p : List ℕ) (z : Item) → None ≡ Some z → z.path ≡ p
 never_x p z e = cc
 
-pub takes : (na nb : Option Item) (ml mr : List Item) → Ascend (cons_option na ml) → Ascend (cons_option nb mr) → (na ≡ None → ml ≡ []) → (nb ≡ None → mr ≡ []) → (is_some na || is_some nb) ≡ true →
+pub takes : (na nb : Option Item) (ml mr : List Item) → Ascend (cons_option na ml) → Ascend (cons_option nb mr) → (na ≡ None → ml ≡ [])
+    → (nb ≡ None → mr ≡ []) → (is_some na || is_some nb) ≡ true →
     Takes (cons_option na ml) (cons_option nb mr) (cond (is_le (order_by na nb)) na None) (cond (is_ge (order_by na nb)) nb None)
     (cond (is_le (order_by na nb)) ml (cons_option na ml)) (cond (is_ge (order_by na nb)) mr (cons_option nb mr))
 takes None None ml mr s t e d some = absurd (false≢true some)
@@ -242,7 +272,10 @@ takes (Some x) None ml mr s t e d some = record {
   right = record { are = refl; path = never_x x.path; behind = subst (Behind x.path) (sym (d refl)) tt };
 }
 takes (Some x) (Some y) ml mr s t e d some =
-    elim (path_cmp x.path y.path) as (λ o. path_cmp x.path y.path ≡ o → Takes (x ∷ ml) (y ∷ mr) (cond (is_le o) (Some x) None) (cond (is_ge o) (Some y) None) (cond (is_le o) ml (x ∷ ml)) (cond (is_ge o) mr (y ∷ mr))) [
+    elim (path_cmp x.path y.path) as
+    (λ o. path_cmp x.path y.path ≡ o
+    → Takes (x ∷ ml) (y ∷ mr) (cond (is_le o) (Some x) None) (cond (is_ge o) (Some y) None) (cond (is_le o) ml (x ∷ ml))
+    (cond (is_ge o) mr (y ∷ mr))) [
       | Less ↦ λ g. record {
         some = refl;
         left = record { are = refl; path = is_x x; behind = behind_next x ml s };
@@ -251,7 +284,11 @@ takes (Some x) (Some y) ml mr s t e d some =
       | Equal ↦ λ g. record {
         some = refl;
         left = record { are = refl; path = is_x x; behind = behind_next x ml s };
-        right = record { are = refl; path = is_x_at y x.path (sym (path_cmp_same x.path y.path g)); behind = subst (λ p. Behind p mr) (sym (path_cmp_same x.path y.path g)) (behind_next y mr t) };
+        right = record {
+          are = refl;
+          path = is_x_at y x.path (sym (path_cmp_same x.path y.path g));
+          behind = subst (λ p. Behind p mr) (sym (path_cmp_same x.path y.path g)) (behind_next y mr t);
+        };
       }
       | Greater ↦ λ g.
           let less : path_cmp y.path x.path ≡ Less = path_cmp_total.antisymm y.path x.path ∙ ap ordering_reverse g in
@@ -283,7 +320,8 @@ above_path (Some u) l r None None l' r' t y = absurd (false≢true t.some)
 above_path (Some u) l r None (Some z) l' r' t y = (y.above_right.0, (subst (Behind u) t.right.are y.above_right.1).0)
 above_path (Some u) l r (Some x) b l' r' t y = (y.above_left.0, (subst (Behind u) t.left.are y.above_left.1).0)
 
-pub ready_after : (h : Option (List ℕ)) (l r : List Item) (a b : Option Item) (l' r' : List Item) → Takes l r a b l' r' → Ready h l r → refusal (path_of a b) ≡ None → Ready (hidden_after h a b) l' r'
+pub ready_after : (h : Option (List ℕ)) (l r : List Item) (a b : Option Item) (l' r' : List Item) → Takes l r a b l' r' → Ready h l r
+    → refusal (path_of a b) ≡ None → Ready (hidden_after h a b) l' r'
 ready_after h l r a b l' r' t y z =
     let left : Ascend l' = ascend_rest a l' (subst Ascend t.left.are y.left) in
     let right : Ascend r' = ascend_rest b r' (subst Ascend t.right.are y.right) in
@@ -301,14 +339,21 @@ ready_after h l r a b l' r' t y z =
       ]
     ]
 
-pub step : IsPreorder → UnderIsContiguous → (h : Option (List ℕ)) (l r : List Item) (a b : Option Item) (l' r' : List Item) → Takes l r a b l' r' → Ready h l r → refusal (path_of a b) ≡ None → (rest : List Draft) → From (hidden_after h a b) l' r' rest → From h l r (row_after h a b ++ rest)
+pub step : IsPreorder → UnderIsContiguous → (h : Option (List ℕ)) (l r : List Item) (a b : Option Item) (l' r' : List Item)
+    → Takes l r a b l' r' → Ready h l r → refusal (path_of a b) ≡ None → (rest : List Draft) → From (hidden_after h a b) l' r' rest
+    → From h l r (row_after h a b ++ rest)
 step order contiguous h l r a b l' r' t y v rest =
-    elim (under_some (path_of a b) h) as (λ u. under_some (path_of a b) h ≡ u → From (cond u h (cond (is_partial_item a || is_partial_item b) (Some (path_of a b)) h)) l' r' rest → From h l r (cond u [] (draft_of (path_of a b) a b ∷ []) ++ rest)) [
+    elim (under_some (path_of a b) h) as
+    (λ u. under_some (path_of a b) h ≡ u
+    → From (cond u h (cond (is_partial_item a || is_partial_item b) (Some (path_of a b)) h)) l' r' rest
+    → From h l r (cond u [] (draft_of (path_of a b) a b ∷ []) ++ rest)) [
       | true ↦ λ u f. skips order contiguous (path_of a b) h l r a b l' r' t.left t.right u rest f
-      | false ↦ λ u. elim (is_partial_item a || is_partial_item b) as (λ n. (is_partial_item a || is_partial_item b) ≡ n → From (cond n (Some (path_of a b)) h) l' r' rest → From h l r (draft_of (path_of a b) a b ∷ rest)) [
-        | true ↦ λ n f. shows_alone order contiguous (path_of a b) h l r a b l' r' t.left t.right t.some u n v (above_path h l r a b l' r' t y) rest f
-        | false ↦ λ n f. shows order contiguous (path_of a b) h l r a b l' r' t.left t.right t.some u n rest f
-      ] refl
+      | false ↦ λ u. elim (is_partial_item a || is_partial_item b) as
+          (λ n. (is_partial_item a || is_partial_item b) ≡ n → From (cond n (Some (path_of a b)) h) l' r' rest
+          → From h l r (draft_of (path_of a b) a b ∷ rest)) [
+            | true ↦ λ n f. shows_alone order contiguous (path_of a b) h l r a b l' r' t.left t.right t.some u n v (above_path h l r a b l' r' t y) rest f
+            | false ↦ λ n f. shows order contiguous (path_of a b) h l r a b l' r' t.left t.right t.some u n rest f
+          ] refl
     ] refl
 
 pub over : (h : Option (List ℕ)) → From h [] [] []
@@ -351,10 +396,12 @@ took na nb ml mr o le ge a b l' r' h eo el eg pa pb y e d s =
     (subst (λ z. Takes L R (cond (is_le (order_by na nb)) na None) (cond (is_ge (order_by na nb)) nb None) (cond (is_le (order_by na nb)) ml L) z) (sym fr)
     (takes na nb ml mr y.left y.right e d s))))
 
-pub ready_next : (h h' : Option (List ℕ)) (l r : List Item) (a b : Option Item) (l' r' : List Item) → Takes l r a b l' r' → Ready h l r → refusal (path_of a b) ≡ None → h' ≡ hidden_after h a b → Ready h' l' r'
+pub ready_next : (h h' : Option (List ℕ)) (l r : List Item) (a b : Option Item) (l' r' : List Item) → Takes l r a b l' r' → Ready h l r
+    → refusal (path_of a b) ≡ None → h' ≡ hidden_after h a b → Ready h' l' r'
 ready_next h h' l r a b l' r' t y v e = subst (λ k. Ready k l' r') (sym e) (ready_after h l r a b l' r' t y v)
 
-pub goes_on : IsPreorder → UnderIsContiguous → (h h' : Option (List ℕ)) (l r : List Item) (a b : Option Item) (l' r' : List Item) → Takes l r a b l' r' → Ready h l r → refusal (path_of a b) ≡ None → h' ≡ hidden_after h a b →
+pub goes_on : IsPreorder → UnderIsContiguous → (h h' : Option (List ℕ)) (l r : List Item) (a b : Option Item) (l' r' : List Item)
+    → Takes l r a b l' r' → Ready h l r → refusal (path_of a b) ≡ None → h' ≡ hidden_after h a b →
     (L R : List Item) (before after : List Draft) → after ≡ before ++ row_after h a b →
     ((rest : List Draft) → From h l r rest → From None L R (before ++ rest)) → (rest : List Draft) → From h' l' r' rest → From None L R (after ++ rest)
 goes_on order contiguous h h' l r a b l' r' t y v e L R before after d g rest f =
@@ -371,8 +418,11 @@ none_left : (next : Option Item) (items : List Item) → false ≡ is_some next 
 none_left None items e g = g refl
 none_left (Some x) items e g = absurd (false≢true e)
 
-pub ended : (h : Option (List ℕ)) (nl nr : Option Item) (ml mr L R L' R' : List Item) (drafts : List Draft) → false ≡ is_some nl → false ≡ is_some nr → (nl ≡ None → ml ≡ []) → (nr ≡ None → mr ≡ []) →
+pub ended : (h : Option (List ℕ)) (nl nr : Option Item) (ml mr L R L' R' : List Item) (drafts : List Draft) → false ≡ is_some nl
+    → false ≡ is_some nr → (nl ≡ None → ml ≡ []) → (nr ≡ None → mr ≡ []) →
     ((rest : List Draft) → From h (cons_option nl ml) (cons_option nr mr) rest → From None L R (drafts ++ rest)) → L ≡ L' → R ≡ R' → AreDrafts L' R' drafts
 ended h nl nr ml mr L R L' R' drafts e d el er g sl sr =
-    let f : From h (cons_option nl ml) (cons_option nr mr) [] = subst (λ l. From h l (cons_option nr mr) []) (sym (none_left nl ml e el)) (subst (λ r. From h [] r []) (sym (none_left nr mr d er)) (over h)) in
+    let f : From h (cons_option nl ml) (cons_option nr mr) [] =
+    subst (λ l. From h l (cons_option nr mr) []) (sym (none_left nl ml e el))
+    (subst (λ r. From h [] r []) (sym (none_left nr mr d er)) (over h)) in
     subst (λ l. AreDrafts l R' drafts) sl (subst (λ r. AreDrafts L r drafts) sr (whole L R drafts (g [] f)))

@@ -1,5 +1,6 @@
 -- Readers before, while and after they are workers.
-use Rattle.std.proofs.Common.{◌≡◌, ℕ, zero, suc, ◌+◌, ◌-◌, ◌^◌, ◌<◌, ◌≤◌, Bool, true, false, ◌||◌, List, [], ◌∷◌, ◌++◌, map, length, get_or, refl, sym, subst, ap, ◌∙◌, arith, Option, Some, All, append-nil}
+use Rattle.std.proofs.Common.{◌≡◌, ℕ, zero, suc, ◌+◌, ◌-◌, ◌^◌, ◌<◌, ◌≤◌, Bool, true, false, ◌||◌, List, [], ◌∷◌, ◌++◌, map, length, get_or, refl}
+use Rattle.std.proofs.Common.{sym, subst, ap, ◌∙◌, arith, Option, Some, All, append-nil}
 use Rattle.std.specs.Prelude.{reverse, sum, nat_le}
 use Rattle.std.specs.List.{AllByRecursion, list_any, sum_by}
 use Rattle.std.proofs.lemmas.Bool.Decides.{nat_tests}
@@ -35,7 +36,8 @@ reverse_cons x xs = reverse_onto xs x []
 
 pub map-reverse : {A B : Type 0} (f : A → B) (xs : List A) → map f (reverse xs) ≡ reverse (map f xs)
 map-reverse f [] = refl
-map-reverse f (x ∷ xs) = ap (map f) (reverse_cons x xs) ∙ map-append f (reverse xs) (x ∷ []) ∙ ap (λ ys. ys ++ f x ∷ []) (map-reverse f xs) ∙ sym (reverse_cons (f x) (map f xs))
+map-reverse f (x ∷ xs) = ap (map f) (reverse_cons x xs) ∙ map-append f (reverse xs) (x ∷ []) ∙ ap (λ ys. ys ++ f x ∷ []) (map-reverse f xs)
+    ∙ sym (reverse_cons (f x) (map f xs))
 
 all_append : {A : Type 0} (P : A → Type 0) (xs ys : List A) → AllByRecursion P (xs ++ ys) → AllByRecursion P ys
 all_append P [] ys h = h
@@ -82,7 +84,8 @@ sum-reverse (x ∷ xs) = ap sum (reverse_cons x xs) ∙ sum-append (reverse xs) 
 at_end-reverse : (xs : List ℕ) → is_at_end (reverse xs) ≡ false → is_at_end xs ≡ false
 at_end-reverse [] e = refl
 at_end-reverse (x ∷ xs) e =
-    let g = both_false (is_at_end (reverse xs)) (is_at_end (x ∷ [])) (sym (list_any-append (nat_le (2 ^ 64 - 1)) (reverse xs) (x ∷ [])) ∙ ap is_at_end (sym (reverse_cons x xs)) ∙ e) in
+    let g = both_false (is_at_end (reverse xs)) (is_at_end (x ∷ []))
+    (sym (list_any-append (nat_le (2 ^ 64 - 1)) (reverse xs) (x ∷ [])) ∙ ap is_at_end (sym (reverse_cons x xs)) ∙ e) in
     let h = (both_false (nat_le (2 ^ 64 - 1) x) false g.1).0 in
     ap (λ b. b || is_at_end xs) h ∙ at_end-reverse xs g.0
 
@@ -97,7 +100,9 @@ fell-reverse [] [] h = tt
 fell-reverse [] (y ∷ b) h = absurd h
 fell-reverse (x ∷ a) [] h = absurd h
 fell-reverse (x ∷ a) (y ∷ b) h =
-    subst (λ r. NoneFell r (reverse (y ∷ b))) (sym (reverse_cons x a)) (subst (λ r. NoneFell (reverse a ++ x ∷ []) r) (sym (reverse_cons y b)) (fell-append (reverse a) (reverse b) (x ∷ []) (y ∷ []) (fell-reverse a b h.1) (h.0, tt)))
+    subst (λ r. NoneFell r (reverse (y ∷ b))) (sym (reverse_cons x a))
+    (subst (λ r. NoneFell (reverse a ++ x ∷ []) r) (sym (reverse_cons y b))
+    (fell-append (reverse a) (reverse b) (x ∷ []) (y ∷ []) (fell-reverse a b h.1) (h.0, tt)))
 
 fell-same : (a : List ℕ) → NoneFell a a
 fell-same [] = tt
@@ -152,7 +157,8 @@ module _ {R : Type 0} (tree : R → Option Files) (count : R → ℕ) where
   worked_fell work (w ∷ ws) [] l each = absurd (omega arith)
   worked_fell work (w ∷ ws) (w' ∷ ws') l each = ((each zero w (omega arith)).counted.kept, worked_fell work ws ws' (omega arith) (rest work w w' ws ws' each))
 
-  pub worked_rose : (work : Work) (ws ws' : List (Worker R)) → length ws' ≡ length ws → Each work ws ws' → RoseTogether (told_by ws') (counts_of ws) (counts_of ws')
+  pub worked_rose : (work : Work) (ws ws' : List (Worker R)) → length ws' ≡ length ws → Each work ws ws'
+      → RoseTogether (told_by ws') (counts_of ws) (counts_of ws')
   worked_rose work [] [] l each = λ e. omega arith
   worked_rose work [] (w' ∷ ws') l each = absurd (omega arith)
   worked_rose work (w ∷ ws) [] l each = absurd (omega arith)
@@ -161,87 +167,117 @@ module _ {R : Type 0} (tree : R → Option Files) (count : R → ℕ) where
       let low : count w'.reader < 2 ^ 64 - 1 = not_le (2 ^ 64 - 1) (count w'.reader) g.0 in
       let rose = (each zero w (omega arith)).counted.rose in
       let later = worked_rose work ws ws' (omega arith) (rest work w w' ws ws' each) g.1 in
-      omega (arith, sum-cons (count w.reader) (counts_of ws), sum-cons (count w'.reader) (counts_of ws'), sum_by-cons (λ (w : Worker R). all_counts w.desk.found.items) w' ws')
+      omega (
+        arith,
+        sum-cons (count w.reader) (counts_of ws),
+        sum-cons (count w'.reader) (counts_of ws'),
+        sum_by-cons (λ (w : Worker R). all_counts w.desk.found.items) w' ws',
+      )
 
   pub worked_rooms : (work : Work) (ws ws' : List (Worker R)) → length ws' ≡ length ws → Each work ws ws' → All (λ (w : Worker R). HasRoom w.desk) ws'
   worked_rooms work ws ws' l each = λ k d h. (each k d (omega arith)).room
 
-  pub worked_found : (told : Option Files) (work : Work) (ws ws' : List (Worker R)) → length ws' ≡ length ws → All (λ (w : Worker R). tree w.reader ≡ told) ws → Each work ws ws' →
+  pub worked_found : (told : Option Files) (work : Work) (ws ws' : List (Worker R)) → length ws' ≡ length ws
+      → All (λ (w : Worker R). tree w.reader ≡ told) ws → Each work ws ws' →
       All (λ (w : Worker R). All (IsFound told work.left.now work.right.now work.drafts.now) w.desk.found.items) ws'
   worked_found told work ws ws' l own each = λ k d h.
-      subst (λ (t : Option Files). All (IsFound t work.left.now work.right.now work.drafts.now) (get_or ws' k d).desk.found.items) (own k d (omega arith)) (each k d (omega arith)).found
+      subst (λ (t : Option Files). All (IsFound t work.left.now work.right.now work.drafts.now) (get_or ws' k d).desk.found.items)
+      (own k d (omega arith)) (each k d (omega arith)).found
 
   -- ---- from readers to workers and back
 
   trees-back : (left : List R) (ws : List (Worker R)) → map tree (left ++ reverse (readers_of ws)) ≡ map tree left ++ reverse (trees_of ws)
-  trees-back left ws = map-append tree left (reverse (readers_of ws)) ∙ ap (λ xs. map tree left ++ xs) (map-reverse tree (readers_of ws) ∙ ap reverse (twice ws))
+  trees-back left ws = map-append tree left (reverse (readers_of ws))
+      ∙ ap (λ xs. map tree left ++ xs) (map-reverse tree (readers_of ws) ∙ ap reverse (twice ws))
     where
       twice : (ws : List (Worker R)) → map tree (readers_of ws) ≡ trees_of ws
       twice [] = refl
       twice (w ∷ ws) = ap (λ ts. tree w.reader ∷ ts) (twice ws)
 
   counts-back : (left : List R) (ws : List (Worker R)) → map count (left ++ reverse (readers_of ws)) ≡ map count left ++ reverse (counts_of ws)
-  counts-back left ws = map-append count left (reverse (readers_of ws)) ∙ ap (λ xs. map count left ++ xs) (map-reverse count (readers_of ws) ∙ ap reverse (twice ws))
+  counts-back left ws = map-append count left (reverse (readers_of ws))
+      ∙ ap (λ xs. map count left ++ xs) (map-reverse count (readers_of ws) ∙ ap reverse (twice ws))
     where
       twice : (ws : List (Worker R)) → map count (readers_of ws) ≡ counts_of ws
       twice [] = refl
       twice (w ∷ ws) = ap (λ ts. count w.reader ∷ ts) (twice ws)
 
   -- all workers tell what the first reader told
-  pub all_told : (told : Option Files) (left : List R) (ws : List (Worker R)) (readers : List R) → left ++ reverse (readers_of ws) ≡ readers → All (λ t. t ≡ told) (map tree readers) → All (λ (w : Worker R). tree w.reader ≡ told) ws
+  pub all_told : (told : Option Files) (left : List R) (ws : List (Worker R)) (readers : List R) → left ++ reverse (readers_of ws) ≡ readers
+      → All (λ t. t ≡ told) (map tree readers) → All (λ (w : Worker R). tree w.reader ≡ told) ws
   all_told told left ws readers e h =
       let g = recursion_from_All (λ t. t ≡ told) (map tree readers) h in
       let back = subst (AllByRecursion (λ t. t ≡ told)) (ap (map tree) (sym e) ∙ trees-back left ws) g in
-      All-from_recursion (λ (w : Worker R). tree w.reader ≡ told) ws (all_unmapped (λ t. t ≡ told) (λ w. tree w.reader) ws (all_turned (λ t. t ≡ told) (trees_of ws) (all_append (λ t. t ≡ told) (map tree left) (reverse (trees_of ws)) back)))
+      All-from_recursion (λ (w : Worker R). tree w.reader ≡ told) ws
+      (all_unmapped (λ t. t ≡ told) (λ w. tree w.reader) ws
+      (all_turned (λ t. t ≡ told) (trees_of ws) (all_append (λ t. t ≡ told) (map tree left) (reverse (trees_of ws)) back)))
 
-  pub first_is : (told : Option Files) (ws : List (Worker R)) → 0 < length ws → All (λ (w : Worker R). tree w.reader ≡ told) ws → first_told (trees_of ws) ≡ told
+  pub first_is : (told : Option Files) (ws : List (Worker R)) → 0 < length ws → All (λ (w : Worker R). tree w.reader ≡ told) ws
+      → first_told (trees_of ws) ≡ told
   first_is told [] h own = absurd (omega arith)
   first_is told (w ∷ ws) h own = own zero w (omega arith)
 
   pub alike : (told : Option Files) (ws : List (Worker R)) → 0 < length ws → All (λ (w : Worker R). tree w.reader ≡ told) ws → Alike (trees_of ws)
   alike told ws h own =
       subst (λ t. All (λ u. u ≡ t) (trees_of ws)) (sym (first_is told ws h own))
-      (All-from_recursion (λ u. u ≡ told) (trees_of ws) (all_mapped (λ u. u ≡ told) (λ w. tree w.reader) ws (recursion_from_All (λ (w : Worker R). tree w.reader ≡ told) ws own)))
+      (All-from_recursion (λ u. u ≡ told) (trees_of ws)
+      (all_mapped (λ u. u ≡ told) (λ w. tree w.reader) ws (recursion_from_All (λ (w : Worker R). tree w.reader ≡ told) ws own)))
 
-  pub same_trees : (left readers new : List R) (ws ws' : List (Worker R)) → left ++ reverse (readers_of ws) ≡ readers → new ≡ left ++ reverse (readers_of ws') → trees_of ws' ≡ trees_of ws → map tree new ≡ map tree readers
+  pub same_trees : (left readers new : List R) (ws ws' : List (Worker R)) → left ++ reverse (readers_of ws) ≡ readers
+      → new ≡ left ++ reverse (readers_of ws') → trees_of ws' ≡ trees_of ws → map tree new ≡ map tree readers
   same_trees left readers new ws ws' e d same =
       ap (map tree) d ∙ trees-back left ws' ∙ ap (λ ts. map tree left ++ reverse ts) same ∙ sym (trees-back left ws) ∙ ap (map tree) e
 
-  pub none_fell : (left readers new : List R) (ws ws' : List (Worker R)) → left ++ reverse (readers_of ws) ≡ readers → new ≡ left ++ reverse (readers_of ws') → NoneFell (counts_of ws) (counts_of ws') → NoneFell (map count readers) (map count new)
+  pub none_fell : (left readers new : List R) (ws ws' : List (Worker R)) → left ++ reverse (readers_of ws) ≡ readers
+      → new ≡ left ++ reverse (readers_of ws') → NoneFell (counts_of ws) (counts_of ws') → NoneFell (map count readers) (map count new)
   none_fell left readers new ws ws' e d h =
       subst (λ r. NoneFell (map count r) (map count new)) e (subst (λ r. NoneFell (map count (left ++ reverse (readers_of ws))) (map count r)) (sym d)
-      (subst (λ r. NoneFell r (map count (left ++ reverse (readers_of ws')))) (sym (counts-back left ws)) (subst (NoneFell (map count left ++ reverse (counts_of ws))) (sym (counts-back left ws'))
-      (fell-append (map count left) (map count left) (reverse (counts_of ws)) (reverse (counts_of ws')) (fell-same (map count left)) (fell-reverse (counts_of ws) (counts_of ws') h)))))
+      (subst (λ r. NoneFell r (map count (left ++ reverse (readers_of ws')))) (sym (counts-back left ws))
+      (subst (NoneFell (map count left ++ reverse (counts_of ws))) (sym (counts-back left ws'))
+      (fell-append (map count left) (map count left) (reverse (counts_of ws)) (reverse (counts_of ws')) (fell-same (map count left))
+      (fell-reverse (counts_of ws) (counts_of ws') h)))))
 
-  pub all_rose : (k : ℕ) (left readers new : List R) (ws ws' : List (Worker R)) → left ++ reverse (readers_of ws) ≡ readers → new ≡ left ++ reverse (readers_of ws') → RoseTogether k (counts_of ws) (counts_of ws') → RoseTogether k (map count readers) (map count new)
+  pub all_rose : (k : ℕ) (left readers new : List R) (ws ws' : List (Worker R)) → left ++ reverse (readers_of ws) ≡ readers
+      → new ≡ left ++ reverse (readers_of ws') → RoseTogether k (counts_of ws) (counts_of ws')
+      → RoseTogether k (map count readers) (map count new)
   all_rose k left readers new ws ws' e d rose = λ no.
       let counts : map count new ≡ map count left ++ reverse (counts_of ws') = ap (map count) d ∙ counts-back left ws' in
       let were : map count readers ≡ map count left ++ reverse (counts_of ws) = ap (map count) (sym e) ∙ counts-back left ws in
-      let ends = both_false (is_at_end (map count left)) (is_at_end (reverse (counts_of ws'))) (sym (list_any-append (nat_le (2 ^ 64 - 1)) (map count left) (reverse (counts_of ws'))) ∙ ap is_at_end (sym counts) ∙ no) in
+      let ends = both_false (is_at_end (map count left)) (is_at_end (reverse (counts_of ws')))
+      (sym (list_any-append (nat_le (2 ^ 64 - 1)) (map count left) (reverse (counts_of ws'))) ∙ ap is_at_end (sym counts) ∙ no) in
       let more = rose (at_end-reverse (counts_of ws') ends.1) in
-      let a : sum (map count new) ≡ sum (map count left) + sum (counts_of ws') = ap sum counts ∙ sum-append (map count left) (reverse (counts_of ws')) ∙ ap (λ n. sum (map count left) + n) (sum-reverse (counts_of ws')) in
-      let b : sum (map count readers) ≡ sum (map count left) + sum (counts_of ws) = ap sum were ∙ sum-append (map count left) (reverse (counts_of ws)) ∙ ap (λ n. sum (map count left) + n) (sum-reverse (counts_of ws)) in
+      let a : sum (map count new) ≡ sum (map count left) + sum (counts_of ws') = ap sum counts
+      ∙ sum-append (map count left) (reverse (counts_of ws')) ∙ ap (λ n. sum (map count left) + n) (sum-reverse (counts_of ws')) in
+      let b : sum (map count readers) ≡ sum (map count left) + sum (counts_of ws) = ap sum were
+      ∙ sum-append (map count left) (reverse (counts_of ws)) ∙ ap (λ n. sum (map count left) + n) (sum-reverse (counts_of ws)) in
       omega arith
 
   -- ---- workers who read, and then one who reads what is left
 
   own_told : (ws : List (Worker R)) → Alike (trees_of ws) → All (λ (w : Worker R). tree w.reader ≡ first_told (trees_of ws)) ws
-  own_told ws h = All-from_recursion (λ (w : Worker R). tree w.reader ≡ first_told (trees_of ws)) ws (all_unmapped (λ t. t ≡ first_told (trees_of ws)) (λ w. tree w.reader) ws (recursion_from_All (λ t. t ≡ first_told (trees_of ws)) (trees_of ws) h))
+  own_told ws h = All-from_recursion (λ (w : Worker R). tree w.reader ≡ first_told (trees_of ws)) ws
+      (all_unmapped (λ t. t ≡ first_told (trees_of ws)) (λ w. tree w.reader) ws
+      (recursion_from_All (λ t. t ≡ first_told (trees_of ws)) (trees_of ws) h))
 
   pub still_alike : (work : Work) (ws ws' : List (Worker R)) → length ws' ≡ length ws → Each work ws ws' → Alike (trees_of ws) → Alike (trees_of ws')
   still_alike work ws ws' l each h = subst Alike (sym (worked_trees work ws ws' l each)) h
 
-  pub all_found : (work : Work) (drafts : List Draft) (ws ws' : List (Worker R)) → length ws' ≡ length ws → Each work ws ws' → Alike (trees_of ws) → work.drafts.now ≡ drafts →
+  pub all_found : (work : Work) (drafts : List Draft) (ws ws' : List (Worker R)) → length ws' ≡ length ws → Each work ws ws'
+      → Alike (trees_of ws) → work.drafts.now ≡ drafts →
       All (λ (w : Worker R). All (IsFound (first_told (trees_of ws')) work.left.now work.right.now drafts) w.desk.found.items) ws'
   all_found work drafts ws ws' l each h e =
-      subst (λ ts. All (λ (w : Worker R). All (IsFound (first_told ts) work.left.now work.right.now drafts) w.desk.found.items) ws') (sym (worked_trees work ws ws' l each))
+      subst (λ ts. All (λ (w : Worker R). All (IsFound (first_told ts) work.left.now work.right.now drafts) w.desk.found.items) ws')
+      (sym (worked_trees work ws ws' l each))
       (subst (λ ds. All (λ (w : Worker R). All (IsFound (first_told (trees_of ws)) work.left.now work.right.now ds) w.desk.found.items) ws') e
       (worked_found (first_told (trees_of ws)) work ws ws' l (own_told ws h) each))
 
-  pub then_fell : (work : Work) (ws ws' ws'' : List (Worker R)) → length ws' ≡ length ws → Each work ws ws' → NoneFell (counts_of ws') (counts_of ws'') → NoneFell (counts_of ws) (counts_of ws'')
+  pub then_fell : (work : Work) (ws ws' ws'' : List (Worker R)) → length ws' ≡ length ws → Each work ws ws'
+      → NoneFell (counts_of ws') (counts_of ws'') → NoneFell (counts_of ws) (counts_of ws'')
   then_fell work ws ws' ws'' l each fell = fell-fell (counts_of ws) (counts_of ws') (counts_of ws'') (worked_fell work ws ws' l each) fell
 
-  pub then_rose : (k : ℕ) (work : Work) (ws ws' ws'' : List (Worker R)) → length ws' ≡ length ws → Each work ws ws' → NoneFell (counts_of ws') (counts_of ws'') → KeepUp (told_by ws') k (counts_of ws') (counts_of ws'') → RoseTogether k (counts_of ws) (counts_of ws'')
+  pub then_rose : (k : ℕ) (work : Work) (ws ws' ws'' : List (Worker R)) → length ws' ≡ length ws → Each work ws ws'
+      → NoneFell (counts_of ws') (counts_of ws'') → KeepUp (told_by ws') k (counts_of ws') (counts_of ws'')
+      → RoseTogether k (counts_of ws) (counts_of ws'')
   then_rose k work ws ws' ws'' l each fell up = λ no.
       let last = up no in
       let first = worked_rose work ws ws' l each (end_stays (counts_of ws') (counts_of ws'') fell no) in

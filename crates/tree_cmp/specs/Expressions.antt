@@ -1,5 +1,7 @@
--- Expressions that ask of a row, and the texts that say them. The fields and states are those of mpiFileUtils' dcmp; which term or condition holds, and which offence is told, is our own.
-use Rattle.std.specs.Prelude.{ℕ, ◌+◌, Bool, true, false, not, List, [], ◌∷◌, length, take, drop, if◌then◌else◌, ◌==◌, nat_eq, codes, Option, Some, None, Result, Ok, Err}
+-- Expressions that ask of a row, and the texts that say them. The fields and states are those of mpiFileUtils' dcmp; which term or
+-- condition holds, and which offence is told, is our own.
+use Rattle.std.specs.Prelude.{ℕ, ◌+◌, Bool, true, false, not, List, [], ◌∷◌, length, take, drop, if◌then◌else◌, ◌==◌, nat_eq, codes, Option, Some}
+use Rattle.std.specs.Prelude.{None, Result, Ok, Err}
 use Rattle.std.specs.List.{list_any, list_all, slice_split, position}
 use Rattle.std.specs.Cmp.Lexicographic.{pointwise}
 use Rattle.tree_cmp.specs.declared.rows.Exist.{Exist}

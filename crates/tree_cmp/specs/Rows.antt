@@ -1,4 +1,5 @@
--- The comparison of two sides, row by row, and the reads that gave nothing. The fields and their states are those of mpiFileUtils' dcmp; what has no value, and what is read, is our own.
+-- The comparison of two sides, row by row, and the reads that gave nothing. The fields and their states are those of mpiFileUtils' dcmp;
+-- what has no value, and what is read, is our own.
 use Rattle.std.specs.Prelude.{◌≡◌, ℕ, Bool, true, false, not, ◌&&◌, ◌==◌, List, [], ◌++◌, map, if◌then◌else◌, Option, Some, None, is_some, nat_eq, IfSome, All}
 use Rattle.std.specs.List.{list_any}
 use Rattle.std.specs.List.Sorted.{IsStrictlySortedBy}

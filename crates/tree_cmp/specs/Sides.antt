@@ -1,4 +1,5 @@
--- What the two sides of a comparison have. After the two lists that mpiFileUtils' dcmp makes of its paths; that nothing is told below a path whose children are not all known is our own.
+-- What the two sides of a comparison have. After the two lists that mpiFileUtils' dcmp makes of its paths; that nothing is told below a
+-- path whose children are not all known is our own.
 use Rattle.std.specs.Prelude.{ℕ, Bool, true, false, not, ◌||◌, ◌&&◌, ◌==◌, List, Option, is_some, nat_eq, IsTrue, All}
 use Rattle.std.specs.List.{find, list_any}
 use Rattle.std.specs.List.Sorted.{IsStrictlySortedBy}

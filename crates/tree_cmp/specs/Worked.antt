@@ -62,7 +62,8 @@ pub record WorkedRows : Type 0 where
   pub absent : shown_in source gone ≡ true ∷ false ∷ true ∷ false ∷ true ∷ false ∷ []
 
 pub record WorkedExpressions : Type 0 where
-  pub two_terms : expr_reading (codes "EXIST=ONLY_SRC,SIZE=DIFFER@TYPE=COMMON") ≡ Ok ((condition.OnlySrc ∷ []) ∷ (condition.Differ aspect.Size ∷ condition.Agree aspect.Kind ∷ []) ∷ [])
+  pub two_terms : expr_reading (codes "EXIST=ONLY_SRC,SIZE=DIFFER@TYPE=COMMON")
+      ≡ Ok ((condition.OnlySrc ∷ []) ∷ (condition.Differ aspect.Size ∷ condition.Agree aspect.Kind ∷ []) ∷ [])
   pub bad_state : expr_reading (codes "EXIST=COMMON@SIZE=X") ≡ Err (BadState 18)
   pub bad_field : expr_reading (codes "FOO=DIFFER") ≡ Err (BadField 0)
   pub no_equals : expr_reading (codes "SIZE=DIFFER,") ≡ Err (BadField 12)

@@ -1,5 +1,6 @@
 -- Pairs that are due are apart, and each target stands in the destination, or is it.
-use Rattle.std.proofs.Common.{◌≡◌, ◌≢◌, ℕ, ◌+◌, ◌-◌, ◌<◌, ◌≤◌, zero, suc, Bool, true, false, not, ◌||◌, List, [], ◌∷◌, ◌++◌, length, map, take, drop, get_or, None, refl, ap, ◌∙◌, sym, subst, cond, arith, length-append, append_assoc}
+use Rattle.std.proofs.Common.{◌≡◌, ◌≢◌, ℕ, ◌+◌, ◌-◌, ◌<◌, ◌≤◌, zero, suc, Bool, true, false, not, ◌||◌, List, [], ◌∷◌, ◌++◌, length, map, take, drop}
+use Rattle.std.proofs.Common.{get_or, None, refl, ap, ◌∙◌, sym, subst, cond, arith, length-append, append_assoc}
 use Rattle.std.specs.Prelude.{◌==◌, nat_eq}
 use Rattle.std.specs.List.{All, list_any, before_last, after_last, suffix_len}
 use Rattle.std.specs.Cmp.Lexicographic.{pointwise, bytes_decides}

@@ -1,5 +1,6 @@
 -- Paths that overlap, of two lists together; and what `/` is.
-use Rattle.std.proofs.Common.{◌≡◌, ◌≢◌, ℕ, Bool, true, false, ◌||◌, List, [], ◌∷◌, ◌++◌, ◌-◌, ◌≤◌, get_or, take, drop, length, map, Option, Some, None, refl, ap, ◌∙◌, sym, cond, arith}
+use Rattle.std.proofs.Common.{◌≡◌, ◌≢◌, ℕ, Bool, true, false, ◌||◌, List, [], ◌∷◌, ◌++◌, ◌-◌, ◌≤◌, get_or, take, drop, length, map, Option, Some}
+use Rattle.std.proofs.Common.{None, refl, ap, ◌∙◌, sym, cond, arith}
 use Rattle.std.specs.Prelude.{◌==◌}
 use Rattle.std.specs.List.{list_any}
 use Rattle.std.proofs.lemmas.Bool.{false≢true}

@@ -1,5 +1,6 @@
 -- What a copy reports, from what its parts tell.
-use Rattle.std.proofs.Common.{◌≡◌, ◌∙◌, ℕ, ◌≤◌, Bool, true, false, cond, List, [], ◌∷◌, map, length, Option, Some, None, IfSome, refl, ap, sym, subst, arith, slice_get}
+use Rattle.std.proofs.Common.{◌≡◌, ◌∙◌, ℕ, ◌≤◌, Bool, true, false, cond, List, [], ◌∷◌, map, length, Option, Some, None, IfSome, refl, ap, sym, subst}
+use Rattle.std.proofs.Common.{arith, slice_get}
 use Rattle.std.proofs.lemmas.List.{length-map}
 use Rattle.std.proofs.lemmas.List.Sums.{length-filter, sum_by-cons}
 use Rattle.std.proofs.lemmas.Slice.Zip.{firsts-zip}
@@ -23,7 +24,8 @@ use Rattle.level_work.specs.declared.items.Order.TheVariants as order
 use Rattle.tree_copy.specs.declared.pairs.Pair.{Pair}
 use Rattle.tree_copy.specs.Copying.{AreEarly, CanCopy, Copied, FitsTree, SameButTargets, bytes_copied, is_done, treated}
 use Rattle.tree_copy.specs.PrivateDeeds.{CopyOne}
-use Rattle.tree_copy.specs.PrivateSettling.{IsPair, any_odd, bytes_of, fates_of, fitting, gain, has_room, is_copied_kind, items_of, placed_of, rest_of, settled_by}
+use Rattle.tree_copy.specs.PrivateSettling.{IsPair, any_odd, bytes_of, fates_of, fitting, gain, has_room, is_copied_kind, items_of, placed_of}
+use Rattle.tree_copy.specs.PrivateSettling.{rest_of, settled_by}
 use Rattle.tree_copy.proofs.Comes.{Comes, Row, all_come, are_early, are_marks, items_are, items_by, rows_by}
 use Rattle.tree_copy.proofs.Copies.{copied, others}
 use Rattle.tree_copy.proofs.Fits.{Known, are_items, makes_dirs, parent_short, stand_in}

@@ -1,5 +1,6 @@
 -- What a copy comes to: the fate of each entry, and what stands at its target then. Our own, after cp and mpiFileUtils' dcp.
-use Rattle.std.specs.Prelude.{⊤, ◌≡◌, ◌⊎◌, ℕ, Bool, true, false, not, ◌&&◌, ◌||◌, List, [], ◌∷◌, ◌++◌, if◌then◌else◌, length, map, nat_eq, nat_lt, Option, Some, None, is_some, IfSome, All}
+use Rattle.std.specs.Prelude.{⊤, ◌≡◌, ◌⊎◌, ℕ, Bool, true, false, not, ◌&&◌, ◌||◌, List, [], ◌∷◌, ◌++◌, if◌then◌else◌, length, map, nat_eq, nat_lt}
+use Rattle.std.specs.Prelude.{Option, Some, None, is_some, IfSome, All}
 use Rattle.std.specs.List.{list_any, filter, sum_by, zip}
 use Rattle.std.specs.List.Sorted.{IsStrictlySortedBy}
 use Rattle.std.specs.Option.{option_map, option_or}
@@ -89,7 +90,8 @@ may_fail fate.TooLong = false
 abbrev pub body_of : Option Node → Option Body
 body_of node = option_map (λ n. n.body) node
 
--- what stands at the target of an entry that was copied: the directory that was there, or else an empty one; or a file with the bytes of the source. Nothing is said of its time
+-- what stands at the target of an entry that was copied: the directory that was there, or else an empty one; or a file with the bytes of
+-- the source. Nothing is said of its time
 abbrev pub IsCopyOf : Kind → (source target after : Option Node) → Type 0
 IsCopyOf kind.Dir source None after = body_of after ≡ Some (dir 0)
 IsCopyOf kind.Dir source (Some node) after = after ≡ Some node
@@ -153,4 +155,5 @@ pub record CanCopy (list : List Entry) (pairs : List Pair) : Type 0 where
 -- the entries tell what stands in the tree, and each target stands in a directory, or in the target of an entry
 pub record FitsTree (list : List Entry) (pairs : List Pair) (before : Files) : Type 0 where
   pub told : All (λ e. IfSome e.stat (λ stat. option_map stat_of (get before e.path) ≡ Some stat)) list
-  pub stand : All (λ e. is_target pairs list (parent_of (target_of pairs e.path)) ≡ false → is_dir (get before (parent_of (target_of pairs e.path))) ≡ true) (treated list)
+  pub stand : All (λ e. is_target pairs list (parent_of (target_of pairs e.path)) ≡ false
+      → is_dir (get before (parent_of (target_of pairs e.path))) ≡ true) (treated list)

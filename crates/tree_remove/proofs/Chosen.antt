@@ -1,5 +1,6 @@
 -- Chosen entries as items of work on levels.
-use Rattle.std.proofs.Common.{◌≡◌, ◌≢◌, ℕ, zero, suc, ◌<◌, Bool, true, false, cond, ◌||◌, ◌&&◌, List, [], ◌∷◌, map, length, Option, Some, None, refl, ap, ◌∙◌, sym, subst, is_some, is_none, slice_get}
+use Rattle.std.proofs.Common.{◌≡◌, ◌≢◌, ℕ, zero, suc, ◌<◌, Bool, true, false, cond, ◌||◌, ◌&&◌, List, [], ◌∷◌, map, length, Option, Some, None, refl}
+use Rattle.std.proofs.Common.{ap, ◌∙◌, sym, subst, is_some, is_none, slice_get}
 use Rattle.std.proofs.lemmas.Bool.{false≢true}
 use Rattle.std.proofs.lemmas.List.Elements.{recursion_from_All}
 use Rattle.std.specs.Prelude.{IsTrue}
@@ -93,7 +94,9 @@ parent_by false false true here parent r n h = h
 
 in_dir : (files : Files) (p : List ℕ) → IsTree files → is_root p ≡ false → is_none (get files p) ≡ false → is_dir (get files (parent_of p)) ≡ true
 unfolding IsTree
-in_dir files p tree off some = parent_by (is_root p) (is_none (get files p)) (is_none (refusal p)) (is_dir (get files p)) (is_dir (get files (parent_of p))) off some (tree p)
+in_dir files p tree off some =
+    parent_by (is_root p) (is_none (get files p)) (is_none (refusal p)) (is_dir (get files p)) (is_dir (get files (parent_of p))) off some
+    (tree p)
 
 -- what is there as what an entry with a stat tells
 
@@ -107,7 +110,8 @@ dir_kind (file bytes) = refl
 dir_kind link = refl
 dir_kind other = refl
 
-seen_as : (found : Option Node) (stat : Option Stat) → is_some stat ≡ true → option_map (λ n. kind_of n.body) found ≡ option_map (λ s. s.kind) stat → SeenAs found stat
+seen_as : (found : Option Node) (stat : Option Stat) → is_some stat ≡ true
+    → option_map (λ n. kind_of n.body) found ≡ option_map (λ s. s.kind) stat → SeenAs found stat
 seen_as found None s e = absurd (false≢true s)
 seen_as None (Some stat) s e = cc
 seen_as (Some n) (Some stat) s e = record { there = refl; kind = dir_kind n.body ∙ ap (is_kind kind.Dir) (the_same (kind_of n.body) stat.kind e) }

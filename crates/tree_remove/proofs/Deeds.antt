@@ -1,5 +1,6 @@
 -- A removal, seen at and under its path.
-use Rattle.std.proofs.Common.{◌≡◌, ◌≢◌, inl, inr, ℕ, ◌<◌, Bool, true, false, cond, not, ◌||◌, ◌&&◌, List, [], ◌∷◌, length, Option, Some, None, IfSome, IfOk, refl, ap, ◌∙◌, sym, subst, arith, nat_eq, is_some, is_none}
+use Rattle.std.proofs.Common.{◌≡◌, ◌≢◌, inl, inr, ℕ, ◌<◌, Bool, true, false, cond, not, ◌||◌, ◌&&◌, List, [], ◌∷◌, length, Option, Some, None, IfSome}
+use Rattle.std.proofs.Common.{IfOk, refl, ap, ◌∙◌, sym, subst, arith, nat_eq, is_some, is_none}
 use Rattle.std.specs.Prelude.{◌==◌, Result, Ok, Err, IsTrue}
 use Rattle.std.proofs.lemmas.Bool.{false≢true}
 use Rattle.std.proofs.lemmas.Bool.Decides.{nat_tests}
@@ -120,7 +121,8 @@ abbrev MayBe : List ℕ → Entry → Fate → Files → Type 0
 MayBe p entry f files = Removal p entry f (at_and_under p files) (at_and_under p files)
 
 -- a refusal that leaves the files
-kept : (p : List ℕ) (entry : Entry) (x : WriteError) (files : Files) (t' : Option Files) (r : Result Fate OutOfMemory) → TellsFate x r → MayBe p entry (told_fate x) files →
+kept : (p : List ℕ) (entry : Entry) (x : WriteError) (files : Files) (t' : Option Files) (r : Result Fate OutOfMemory) → TellsFate x r
+    → MayBe p entry (told_fate x) files →
     t' ≡ Some files → IfSome t' (IsDone Removal p entry r files)
 kept p entry x files t' (Ok g) f is same =
     subst (λ o. IfSome o (IsDone Removal p entry (Ok g) files)) (sym same)
@@ -128,7 +130,8 @@ kept p entry x files t' (Ok g) f is same =
 kept p entry x files t' (Err e) f is same =
     subst (λ o. IfSome o (IsDone Removal p entry (Err e) files)) (sym same) (record { others = λ q off. refl; answers = tt })
 
-failed : (p : List ℕ) (entry : Entry) (files : Files) (t' : Option Files) (r : Result Fate OutOfMemory) → TellsFate write.Failed r → IfSome t' (SameBut p files) →
+failed : (p : List ℕ) (entry : Entry) (files : Files) (t' : Option Files) (r : Result Fate OutOfMemory) → TellsFate write.Failed r
+    → IfSome t' (SameBut p files) →
     IfSome t' (IsDone Removal p entry r files)
 failed p entry files None r f a = tt
 failed p entry files (Some after) (Ok g) f a =
@@ -140,7 +143,8 @@ no_memory : (p : List ℕ) (entry : Entry) (files : Files) (t' : Option Files) (
 no_memory p entry files t' (Ok g) f a = absurd (f.1 refl)
 no_memory p entry files t' (Err e) f a = subst (λ o. IfSome o (IsDone Removal p entry (Err e) files)) (sym a) (record { others = λ q off. refl; answers = tt })
 
-refused_by : (p : List ℕ) (entry : Entry) (x : WriteError) (files : Files) (t' : Option Files) (r : Result Fate OutOfMemory) → IsTrue (may_empty x) → TellsFate x r →
+refused_by : (p : List ℕ) (entry : Entry) (x : WriteError) (files : Files) (t' : Option Files) (r : Result Fate OutOfMemory)
+    → IsTrue (may_empty x) → TellsFate x r →
     Answers p (removal_refusal entry files p) files (remove files p) (Err x) t' → IfSome t' (IsDone Removal p entry r files)
 refused_by p entry write.Failed files t' r m f a = failed p entry files t' r f a
 refused_by p entry write.OutOfMemory files t' r m f a = no_memory p entry files t' r f a
@@ -151,6 +155,7 @@ refused_by p entry write.WrongKind files t' r m f a = kept p entry write.WrongKi
 refused_by p entry write.NotEmpty files t' r m f a = kept p entry write.NotEmpty files t' r f (same_refusal entry p files ∙ a.0, refl) a.1
 
 pub refused : (p : List ℕ) (entry : Entry) (x : WriteError) (t t' : Option Files) (r : Result Fate OutOfMemory) → IsTrue (may_empty x) → TellsFate x r →
-    IfSome t (λ files. Answers p (removal_refusal entry files p) files (remove files p) (Err x) t') → IfSome t (λ files. IfSome t' (IsDone Removal p entry r files))
+    IfSome t (λ files. Answers p (removal_refusal entry files p) files (remove files p) (Err x) t')
+    → IfSome t (λ files. IfSome t' (IsDone Removal p entry r files))
 refused p entry x None t' r m f a = tt
 refused p entry x (Some files) t' r m f a = refused_by p entry x files t' r m f a

@@ -1,5 +1,6 @@
 -- What became of one chosen path, by the deed that was done there from the bottom up.
-use Rattle.std.proofs.Common.{◌≡◌, ◌≢◌, ◌⊎◌, inl, inr, ℕ, ◌<◌, Bool, true, false, cond, List, length, Option, Some, None, refl, ap, ◌∙◌, sym, subst, arith, is_some, is_none}
+use Rattle.std.proofs.Common.{◌≡◌, ◌≢◌, ◌⊎◌, inl, inr, ℕ, ◌<◌, Bool, true, false, cond, List, length, Option, Some, None, refl, ap, ◌∙◌, sym, subst}
+use Rattle.std.proofs.Common.{arith, is_some, is_none}
 use Rattle.std.proofs.lemmas.Bool.{false≢true}
 use Rattle.std.specs.FinMap.{get, remove}
 use Rattle.path_text.specs.Order.{is_under}
@@ -88,7 +89,8 @@ module _ (before after : Files) (x : Item) (dirs : AreUnderDirs after) (c : Stan
       (ap is_dir kept ∙ f.0, by kept (far_or_some _ _ f.1))
     where
       by : get after x.path ≡ get (was x before after) x.path →
-          (0 < far_at (get (was x before after) x.path)) ⊎ (0 < length (names_in (was x before after) x.path)) → (0 < far_at (get after x.path)) ⊎ HasUnder after x.path
+          (0 < far_at (get (was x before after) x.path)) ⊎ (0 < length (names_in (was x before after) x.path))
+          → (0 < far_at (get after x.path)) ⊎ HasUnder after x.path
       by kept (inl far) = inl (subst (λ o. 0 < far_at o) (sym kept) far)
       by kept (inr some) = inr (some_under after x.path (subst (λ m. 0 < length (names_in m x.path)) (sym same) some))
 

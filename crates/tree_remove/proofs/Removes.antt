@@ -1,5 +1,6 @@
 -- Work from the bottom up by removals removes what was chosen and nothing else.
-use Rattle.std.proofs.Common.{◌≡◌, ◌≢◌, ℕ, zero, suc, ◌+◌, ◌<◌, ◌≤◌, ◌-◌, ◌^◌, Bool, true, false, ◌||◌, List, [], ◌∷◌, map, length, Option, Some, None, IfSome, refl, ap, ◌∙◌, sym, subst, arith, nat_eq, is_some, slice_get, get_or, min, nat_lt}
+use Rattle.std.proofs.Common.{◌≡◌, ◌≢◌, ℕ, zero, suc, ◌+◌, ◌<◌, ◌≤◌, ◌-◌, ◌^◌, Bool, true, false, ◌||◌, List, [], ◌∷◌, map, length, Option, Some}
+use Rattle.std.proofs.Common.{None, IfSome, refl, ap, ◌∙◌, sym, subst, arith, nat_eq, is_some, slice_get, get_or, min, nat_lt}
 use Rattle.std.proofs.lemmas.List.{length-map, get_or-map}
 use Rattle.std.proofs.lemmas.Bool.Decides.{nat_tests}
 use Rattle.std.proofs.lemmas.List.Sums.{sum-map, sum_by-cons}
@@ -64,10 +65,12 @@ each es fates before after w there tree acted k d l =
     let f = get_or fates k d.1 in
     let has = slice_get-get_or fates k d.1 some in
     let row : get_or (rows es fates) k d ≡ (x.0.path, f) =
-    get_or-zip (map (λ (x : Item). x.path) items) fates k d path_here some ∙ ap (λ p. (p, f)) (get_or-map (λ (x : Item). x.path) items k x.0 d.0 here ∙ ap (λ y. y.path) x.2)
+    get_or-zip (map (λ (x : Item). x.path) items) fates k d path_here some
+    ∙ ap (λ p. (p, f)) (get_or-map (λ (x : Item). x.path) items k x.0 d.0 here ∙ ap (λ y. y.path) x.2)
     in
     let named : f ≢ fate.ParentFailed = λ e. (w.parents k x.0 f x.1 has).0 e in
-    let was = was_chosen before after x.0 (under w.law after tree) (stands before es w.chosen w.valid there k x.0 x.1) f named ((acted.each k x.0 f x.1 has).touched named) in
+    let was = was_chosen before after x.0 (under w.law after tree) (stands before es w.chosen w.valid there k x.0 x.1) f named
+    ((acted.each k x.0 f x.1 has).touched named) in
     subst (λ r. WasChosen before after r.0 r.1) (sym row) was
   where
     item_at : (items : List Item) (k : ℕ) → k < length items → (x : Item) × (slice_get items k ≡ Some x) × (get_or items k x ≡ x)
@@ -106,11 +109,13 @@ acted_rest es items fates (Some before) (Some after) is h = others es before aft
 pub row_paths : (es : List Entry) (items : List Item) (fates : List Fate) → items ≡ items_of es → length fates ≡ length items →
     map (λ row. row.0) (zip (map (λ x. x.path) items) fates) ≡ paths es
 row_paths es items fates is len =
-    firsts-zip (map (λ (x : Item). x.path) items) fates (len ∙ sym (length-map items (λ (x : Item). x.path))) ∙ ap (map (λ (x : Item). x.path)) is ∙ item_paths es
+    firsts-zip (map (λ (x : Item). x.path) items) fates (len ∙ sym (length-map items (λ (x : Item). x.path)))
+    ∙ ap (map (λ (x : Item). x.path)) is ∙ item_paths es
 
 pub removed : (es : List Entry) (items : List Item) (fates : List Fate) (t t' : Option Files) → Levels es items → length fates ≡ length items →
     ParentsFail order.BottomUp items fates → IfSome t (AreThere es) → IfSome t' (IsTreeIn (all_but [])) →
-    IfSome t (λ before. IfSome t' (Acted Removal order.BottomUp items fates before)) → IfSome t (λ before. IfSome t' (Removed (zip (map (λ x. x.path) items) fates) before))
+    IfSome t (λ before. IfSome t' (Acted Removal order.BottomUp items fates before))
+    → IfSome t (λ before. IfSome t' (Removed (zip (map (λ x. x.path) items) fates) before))
 removed es items fates None t' l len parents there tree acted = tt
 removed es items fates (Some before) None l len parents there tree acted = tt
 removed es items fates (Some before) (Some after) l len parents there tree acted =
@@ -122,7 +127,8 @@ removed es items fates (Some before) (Some after) l len parents there tree acted
       parents = subst (λ xs. ParentsFail order.BottomUp xs fates) l.is parents;
     } in
     subst (λ xs. Removed (zip (map (λ x. x.path) xs) fates) before after) (sym l.is) (record {
-      others = subst (λ ps. SameButChosen ps before after) (sym (row_paths es (items_of es) fates refl w.len)) (others es before after (subst (λ xs. SameButItems xs before after) l.is acted.others));
+      others = subst (λ ps. SameButChosen ps before after) (sym (row_paths es (items_of es) fates refl w.len))
+          (others es before after (subst (λ xs. SameButItems xs before after) l.is acted.others));
       each = each es fates before after w there tree (subst (λ xs. Acted Removal order.BottomUp xs fates before after) l.is acted);
     })
 

@@ -1,5 +1,6 @@
 -- Paths with their fates, row by row.
-use Rattle.std.proofs.Common.{◌≡◌, ℕ, zero, suc, ◌+◌, ◌<◌, ◌≤◌, Bool, true, false, cond, List, [], ◌∷◌, map, length, take, Option, Some, refl, ap, ◌∙◌, sym, arith, slice_get, get_or, min}
+use Rattle.std.proofs.Common.{◌≡◌, ℕ, zero, suc, ◌+◌, ◌<◌, ◌≤◌, Bool, true, false, cond, List, [], ◌∷◌, map, length, take, Option, Some, refl, ap}
+use Rattle.std.proofs.Common.{◌∙◌, sym, arith, slice_get, get_or, min}
 use Rattle.std.proofs.lemmas.List.{length-map, get_or-map}
 use Rattle.std.proofs.lemmas.List.Sums.{count_by_more_no, count_by_more_yes, sum_by-cons}
 use Rattle.std.proofs.lemmas.Option.{slice_get-get_or, slice_get_read, slice_get_within, get_or_from_slice_get}
@@ -18,13 +19,15 @@ path_count : (items : List Item) → length (map (λ (x : Item). x.path) items) 
 path_count items = length-map items (λ (x : Item). x.path)
 
 pub row_count : (items : List Item) (fates : List Fate) → length fates ≡ length items → length (rows_of items fates) ≡ length items
-row_count items fates len = length-zip (map (λ (x : Item). x.path) items) fates ∙ smaller (length (map (λ (x : Item). x.path) items)) (length fates) (length items) (path_count items) len
+row_count items fates len = length-zip (map (λ (x : Item). x.path) items) fates
+    ∙ smaller (length (map (λ (x : Item). x.path) items)) (length fates) (length items) (path_count items) len
   where
     smaller : (a b n : ℕ) → a ≡ n → b ≡ n → min a b ≡ n
     smaller a b n e f = omega (arith, e, f)
 
 -- the row at a place, of its item and its fate
-pub row_at : (items : List Item) (fates : List Fate) (k : ℕ) (x : Item) (f : Fate) → slice_get items k ≡ Some x → slice_get fates k ≡ Some f → k < length items →
+pub row_at : (items : List Item) (fates : List Fate) (k : ℕ) (x : Item) (f : Fate) → slice_get items k ≡ Some x → slice_get fates k ≡ Some f
+    → k < length items →
     length fates ≡ length items → slice_get (rows_of items fates) k ≡ Some (x.path, f)
 row_at items fates k x f at has l len =
     let paths = map (λ (x : Item). x.path) items in
@@ -44,7 +47,8 @@ item_at (x ∷ items) zero l = (x, refl)
 item_at (x ∷ items) (suc k) l = item_at items k (omega arith)
 item_at [] k l = absurd (omega (arith, l))
 
-inside : (items : List Item) (fates : List Fate) (seen : List (List ℕ × Fate) × ℕ) (k : ℕ) → length fates ≡ length items → Seen items fates seen → k < length seen.0 → k < length items
+inside : (items : List Item) (fates : List Fate) (seen : List (List ℕ × Fate) × ℕ) (k : ℕ) → length fates ≡ length items
+    → Seen items fates seen → k < length seen.0 → k < length items
 inside items fates seen k len is l = omega (arith, l, ap (λ v. length v.0) is, row_count items fates len)
 
 fate_of : (fates : List Fate) (k : ℕ) → k < length fates → (f : Fate) × (slice_get fates k ≡ Some f)
@@ -52,7 +56,8 @@ fate_of (f ∷ fates) zero l = (f, refl)
 fate_of (f ∷ fates) (suc k) l = fate_of fates k (omega arith)
 fate_of [] k l = absurd (omega (arith, l))
 
-pub fate_at : (items : List Item) (fates : List Fate) (seen : List (List ℕ × Fate) × ℕ) (k : ℕ) (f : Fate) → length fates ≡ length items → Seen items fates seen →
+pub fate_at : (items : List Item) (fates : List Fate) (seen : List (List ℕ × Fate) × ℕ) (k : ℕ) (f : Fate) → length fates ≡ length items
+    → Seen items fates seen →
     k < length seen.0 → slice_get fates k ≡ Some f → option_map (λ (row : List ℕ × Fate). row.1) (slice_get seen.0 k) ≡ Some f
 fate_at items fates seen k f len is l has =
     let here = inside items fates seen k len is l in
@@ -60,7 +65,8 @@ fate_at items fates seen k f len is l has =
     ap (λ v. option_map (λ (row : List ℕ × Fate). row.1) (slice_get v.0 k)) (sym is)
     ∙ ap (option_map (λ (row : List ℕ × Fate). row.1)) (row_at items fates k x.0 f x.1 has here len)
 
-pub path_at : (items : List Item) (fates : List Fate) (seen : List (List ℕ × Fate) × ℕ) (k : ℕ) (x : Item) → length fates ≡ length items → Seen items fates seen →
+pub path_at : (items : List Item) (fates : List Fate) (seen : List (List ℕ × Fate) × ℕ) (k : ℕ) (x : Item) → length fates ≡ length items
+    → Seen items fates seen →
     k < length seen.0 → x ≡ get_or items k x → option_map (λ (row : List ℕ × Fate). row.0) (slice_get seen.0 k) ≡ Some x.path
 path_at items fates seen k x len is l read =
     let here = inside items fates seen k len is l in
@@ -85,7 +91,8 @@ few_more true next gone k e l = omega (arith, e, l)
 few_more false next gone k e l = omega (arith, e, l)
 
 -- a number of fates is one of rows
-pub count_rows : (p : Fate → Bool) (ks : List (List ℕ)) (fates : List Fate) → length fates ≡ length ks → count_by p fates ≡ count_by (λ row. p row.1) (zip ks fates)
+pub count_rows : (p : Fate → Bool) (ks : List (List ℕ)) (fates : List Fate) → length fates ≡ length ks
+    → count_by p fates ≡ count_by (λ row. p row.1) (zip ks fates)
 count_rows p [] [] len = refl
 count_rows p [] (f ∷ fates) len = cc
 count_rows p (q ∷ ks) [] len = cc
@@ -93,5 +100,6 @@ count_rows p (q ∷ ks) (f ∷ fates) len =
     let rest = count_rows p ks fates (omega (arith, len)) in
     omega (arith, rest, sum_by-cons (λ (x : Fate). cond (p x) 1 0) f fates, sum_by-cons (λ (row : List ℕ × Fate). cond (p row.1) 1 0) (q, f) (zip ks fates))
 
-pub count_paths : (p : Fate → Bool) (items : List Item) (fates : List Fate) → length fates ≡ length items → count_by p fates ≡ count_by (λ row. p row.1) (rows_of items fates)
+pub count_paths : (p : Fate → Bool) (items : List Item) (fates : List Fate) → length fates ≡ length items
+    → count_by p fates ≡ count_by (λ row. p row.1) (rows_of items fates)
 count_paths p items fates len = count_rows p (map (λ (x : Item). x.path) items) fates (len ∙ sym (path_count items))

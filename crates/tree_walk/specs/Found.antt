@@ -14,7 +14,8 @@ use Rattle.tree_walk.specs.Roots.{is_in_some}
 
 -- the list is the walks of the starts in path order, one after the other, with the failed answers that it tells itself
 abbrev pub IsWalkOf : Files → List Entry → List (List ℕ) → Type 0
-IsWalkOf files list starts = (ordered : List (List ℕ)) → IsPermutation starts ordered → IsStrictlySortedBy path_cmp ordered → list ≡ flat_map (walk files (answers_in list)) ordered
+IsWalkOf files list starts = (ordered : List (List ℕ)) → IsPermutation starts ordered → IsStrictlySortedBy path_cmp ordered
+    → list ≡ flat_map (walk files (answers_in list)) ordered
 
 -- what a walk of the starts found, over files that may tell a tree and whose count of faults went from old to new
 pub record IsFound (tree : Option Files) (starts : List (List ℕ)) (old new : ℕ) (list : List Entry) : Type 0 where

@@ -1,4 +1,5 @@
--- What a job of a walk holds: its entries, each with the paths that were pushed for it. After the process step of libcircle's walk (SC 2012); the form is our own.
+-- What a job of a walk holds: its entries, each with the paths that were pushed for it. After the process step of libcircle's walk (SC
+-- 2012); the form is our own.
 use Rattle.std.specs.Prelude.{◌≡◌, ◌≤◌, ℕ, Bool, true, false, ◌&&◌, List, [], ◌∷◌, map, length, drop, if◌then◌else◌, Option, IfSome}
 use Rattle.std.specs.List.{AllByRecursion, sum_by}
 use Rattle.std.specs.FinMap.{get}

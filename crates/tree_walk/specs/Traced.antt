@@ -1,4 +1,5 @@
--- What the events and the numbers of progress of a walk tell. The events are those of circle_run, after libcircle (LaFon et al., SC 2012); that what they handle is the recursive walk is our own.
+-- What the events and the numbers of progress of a walk tell. The events are those of circle_run, after libcircle (LaFon et al., SC 2012);
+-- that what they handle is the recursive walk is our own.
 use Rattle.std.specs.Prelude.{◌≡◌, ℕ, ◌+◌, ◌<◌, ◌≤◌, List, [], ◌∷◌, ◌++◌, map, All, Option, IfSome, if◌then◌else◌}
 use Rattle.std.specs.List.{flat_map, range_with_len}
 use Rattle.std.specs.List.Sorted.{IsPermutation}
@@ -16,14 +17,16 @@ use Rattle.tree_walk.specs.Walk.{answers_in, children_of, paths_of}
 abbrev pub whole_log : List Log → Log
 whole_log logs = flat_map (λ log. log) logs
 
--- the events of a traced run of the starts in which the ranks handle the paths of the list, each once, and push for each the children that the recursive walk goes on with
+-- the events of a traced run of the starts in which the ranks handle the paths of the list, each once, and push for each the children that
+-- the recursive walk goes on with
 pub record IsTracedWalk (files : Files) (o : Options) (starts : List (List ℕ)) (list : List Entry) (events : List Event) : Type 0 where
   pub logs : List Log
   pub traced : IsTraced o starts logs events
   pub handled : IsPermutation (map (λ x. x.0) (whole_log logs)) (paths_of list)
   pub pushed : All (λ x. x.1 ≡ children_of (answers_in list x.0) files x.0) (whole_log logs)
 
--- a whole run of the starts was made, whose counts the shares are, and whose events are kept with a trace. In it the ranks handle the paths of the list, each once;
+-- a whole run of the starts was made, whose counts the shares are, and whose events are kept with a trace. In it the ranks handle the paths
+-- of the list, each once;
 -- and where the files tell their tree, they push for each the children that the recursive walk goes on with
 pub record WasWalked (tree : Option Files) (o : Options) (starts : List (List ℕ)) (list : List Entry) (shares : List Share) (kept : List Event) : Type 0 where
   pub events : List Event
@@ -34,7 +37,8 @@ pub record WasWalked (tree : Option Files) (o : Options) (starts : List (List �
   pub counts : shares ≡ map (share_in events) (range_with_len 0 o.ranks)
   pub told : kept ≡ (if o.trace then events else [])
 
--- the numbers of progress of so many ranks that find so many entries. They never fall, each but the last is at least 1,000 above the one before it, and the last is the number of entries.
+-- the numbers of progress of so many ranks that find so many entries. They never fall, each but the last is at least 1,000 above the one
+-- before it, and the last is the number of entries.
 -- Of one rank the others are the thousands up to it
 pub record IsProgressTo (entries ranks : ℕ) (numbers : List ℕ) : Type 0 where
   pub front : List ℕ

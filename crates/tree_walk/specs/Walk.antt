@@ -1,4 +1,5 @@
--- The recursive walk of a tree of files, and the answers of it that failed. After the process step of libcircle's walk (SC 2012); the failed answers are our own.
+-- The recursive walk of a tree of files, and the answers of it that failed. After the process step of libcircle's walk (SC 2012); the
+-- failed answers are our own.
 use Rattle.std.specs.Prelude.{◌≡◌, ℕ, ◌-◌, ◌≤◌, List, [], ◌∷◌, zero, suc, map, length, if◌then◌else◌, Option, Some, None, is_some, true, All, nat_eq}
 use Rattle.std.specs.Cmp.Lexicographic.{pointwise}
 use Rattle.std.specs.List.{flat_map, sum_by, count_by}
@@ -99,11 +100,13 @@ WalkAscends = (files : Files) (a : Answers) (path : List ℕ) → IsTree files �
 
 -- so each path stands in it at most once
 abbrev pub WalkHasEachPathOnce : Type 0
-WalkHasEachPathOnce = (files : Files) (a : Answers) (path q : List ℕ) → IsTree files → refusal path ≡ None → count_by (pointwise nat_eq q) (paths_of (walk files a path)) ≤ 1
+WalkHasEachPathOnce = (files : Files) (a : Answers) (path q : List ℕ) → IsTree files → refusal path ≡ None
+    → count_by (pointwise nat_eq q) (paths_of (walk files a path)) ≤ 1
 
 -- where nothing fails and the root is there, every path is found
 abbrev pub WalkFindsAll : Type 0
-WalkFindsAll = (files : Files) (root : List ℕ) → IsTree files → refusal root ≡ None → is_some (get files root) ≡ true → All (λ e. (e.mark ≡ mark.Fine) × (e.unnamed ≡ 0)) (walk files all_told root)
+WalkFindsAll = (files : Files) (root : List ℕ) → IsTree files → refusal root ≡ None → is_some (get files root) ≡ true
+    → All (λ e. (e.mark ≡ mark.Fine) × (e.unnamed ≡ 0)) (walk files all_told root)
 
 -- where no answer failed and every root is there, the entries are those of the walk in which nothing fails, and each is fine
 abbrev pub WalkWithoutFaultsIsFine : Type 0

@@ -13,7 +13,8 @@ use Rattle.circle_run.specs.declared.ranks.Rank.{Rank}
 
 module _ {J S T : Type 0} where
   -- ranks that have done nothing, of these jobs, seats and queues in order
-  pub record AreNew (log : J → Log) (o : Options) (jobs : List J) (seats : List S) (sums_seats : List T) (queues : List Strings) (ranks : List (Rank J S T)) : Type 0 where
+  pub record AreNew (log : J → Log) (o : Options) (jobs : List J) (seats : List S) (sums_seats : List T) (queues : List Strings)
+      (ranks : List (Rank J S T)) : Type 0 where
     pub jobs_are : map (λ r. r.job) ranks ≡ jobs
     pub seats_are : map (λ r. r.seat) ranks ≡ seats
     pub sums_are : map (λ r. r.sums_seat) ranks ≡ sums_seats

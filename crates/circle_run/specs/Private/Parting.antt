@@ -21,7 +21,15 @@ module _ {J S T P Q : Type 0} (log : J → Log) (shows : S → Shown) (seats : P
     pub ready : AllReady log shows seats sums_shows sums_seats whole p q
     pub options : (k : ℕ) (d : Rank J S T) → k < length whole → (slice_index_or whole k d).options ≡ o
     pub unshared : (k : ℕ) (d : Rank J S T) → k < length whole → (slice_index_or whole k d).book.share ≡ record { handled = 0; given = 0; taken = 0 }
-    pub sides : (k : ℕ) (d : Rank J S T) → k < length whole → lone_side log shows (slice_index_or whole k d) ≡ record { queue = dealt_to o.ranks starts k; log = []; draws = generator_of o.seed k; batches = Some (unused o.ranks); told = None }
+    pub sides : (k : ℕ) (d : Rank J S T) → k < length whole
+        → lone_side log shows (slice_index_or whole k d)
+        ≡ record {
+          queue = dealt_to o.ranks starts k;
+          log = [];
+          draws = generator_of o.seed k;
+          batches = Some (unused o.ranks);
+          told = None;
+        }
 
 module _ {J S T P Q D : Type 0} (log : J → Log) (plain : J → D) (shows : S → Shown) (seats : P → S → Type 0)
     (sums_shows : T → SumShown) (sums_seats : Q → T → Type 0) where

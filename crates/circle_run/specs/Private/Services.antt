@@ -1,5 +1,6 @@
 -- A service while it goes on: who is being served, and what is left to share out. Our own.
-use Rattle.std.specs.Prelude.{◌≡◌, ◌≢◌, ℕ, ◌+◌, ◌-◌, ◌*◌, ◌<◌, ◌≤◌, ◌⊎◌, ◌&&◌, ◌==◌, not, Bool, true, false, if◌then◌else◌, List, length, [], ◌∷◌, ◌++◌, map, filter, take, replicate, slice_set, slice_index, Option, Some, None}
+use Rattle.std.specs.Prelude.{◌≡◌, ◌≢◌, ℕ, ◌+◌, ◌-◌, ◌*◌, ◌<◌, ◌≤◌, ◌⊎◌, ◌&&◌, ◌==◌, not, Bool, true, false, if◌then◌else◌, List, length, [], ◌∷◌}
+use Rattle.std.specs.Prelude.{◌++◌, map, filter, take, replicate, slice_set, slice_index, Option, Some, None}
 use Rattle.std.specs.List.{flat_map, range_with_len}
 use Rattle.rand_pcg.specs.Lcg.{Lcg}
 use Rattle.post_board.specs.Shown.{Strings, Shown, is_served}

@@ -45,7 +45,8 @@ module _ {A P : Type 0} where
     pub inside : (i j k : ℕ) (lot : Lot A P) → slice_get lots i ≡ Some lot → slice_get lot.places.items j ≡ Some k → k < length items
     pub on_level : (i t : ℕ) (x : Item) → InLot items lots i t x → level_of x.path ≡ level
     pub can : (i t : ℕ) (x : Item) → InLot items lots i t x → FailsWith o items fates x → ⊥
-    pub apart : (i j t s : ℕ) (x y : Item) → ((i ≡ j) × (t ≡ s) → ⊥) → InLot items lots i t x → InLot items lots j s y → (q : List ℕ) → is_within q x.path ≡ true → is_within q y.path ≡ false
+    pub apart : (i j t s : ℕ) (x y : Item) → ((i ≡ j) × (t ≡ s) → ⊥) → InLot items lots i t x → InLot items lots j s y → (q : List ℕ)
+        → is_within q x.path ≡ true → is_within q y.path ≡ false
     pub all : (k : ℕ) (x : Item) → slice_get items k ≡ Some x → level_of x.path ≡ level → FailsWith o items fates x ⊎ Dealt lots k
 
   -- the same actors with the same parts
@@ -70,7 +71,8 @@ module _ {A P : Type 0} where
 
     -- a path is in the part of one lot at most
     abbrev pub ApartOut : List (Lot A P) → Type 0
-    ApartOut lots = (i j : ℕ) (lot lot' : Lot A P) (q : List ℕ) → slice_get lots i ≡ Some lot → slice_get lots j ≡ Some lot' → in_tops (tops_of (area lot.part)) q ≡ true → in_tops (tops_of (area lot'.part)) q ≡ true → i ≡ j
+    ApartOut lots = (i j : ℕ) (lot lot' : Lot A P) (q : List ℕ) → slice_get lots i ≡ Some lot → slice_get lots j ≡ Some lot'
+        → in_tops (tops_of (area lot.part)) q ≡ true → in_tops (tops_of (area lot'.part)) q ≡ true → i ≡ j
 
     abbrev pub InNone : List (Lot A P) → List ℕ → Type 0
     InNone lots q = (i : ℕ) (lot : Lot A P) → slice_get lots i ≡ Some lot → in_tops (tops_of (area lot.part)) q ≡ false
@@ -84,12 +86,14 @@ module _ {A P : Type 0} where
     -- what is out and what is left are together what was there before
     pub record AreOut (lots : List (Lot A P)) (before rest : Files) : Type 0 where
       pub left : (q : List ℕ) → InNone area lots q → get rest q ≡ get before q
-      pub out : (i : ℕ) (lot : Lot A P) (own : Files) (q : List ℕ) → slice_get lots i ≡ Some lot → tree lot.part ≡ Some own → in_tops (tops_of (area lot.part)) q ≡ true → get own q ≡ get before q
+      pub out : (i : ℕ) (lot : Lot A P) (own : Files) (q : List ℕ) → slice_get lots i ≡ Some lot → tree lot.part ≡ Some own
+          → in_tops (tops_of (area lot.part)) q ≡ true → get own q ≡ get before q
 
     -- where what stands at a path comes from, once all parts are back
     pub data Comes (lots : List (Lot A P)) (rest after : Files) (q : List ℕ) : Type 0 where
       stays : InNone area lots q → get after q ≡ get rest q → Comes lots rest after q
-      comes : (i : ℕ) (lot : Lot A P) (own : Files) → slice_get lots i ≡ Some lot → tree lot.part ≡ Some own → in_tops (tops_of (area lot.part)) q ≡ true → get after q ≡ get own q → Comes lots rest after q
+      comes : (i : ℕ) (lot : Lot A P) (own : Files) → slice_get lots i ≡ Some lot → tree lot.part ≡ Some own
+          → in_tops (tops_of (area lot.part)) q ≡ true → get after q ≡ get own q → Comes lots rest after q
 
     abbrev pub AllBack : List (Lot A P) → Files → Files → Type 0
     AllBack lots rest after = (q : List ℕ) → Comes lots rest after q
@@ -106,7 +110,8 @@ module _ {A P : Type 0} where
     pub len : length new ≡ length old
     pub others : (k : ℕ) (x : Item) → slice_get items k ≡ Some x → level_of x.path ≢ level → slice_get new k ≡ slice_get old k
     pub dealt : (k : ℕ) (d : Dealt lots k) → slice_get new k ≡ slice_get d.lot.fates.items d.place
-    pub undealt : (k : ℕ) (x : Item) (f : Fate) → slice_get items k ≡ Some x → slice_get new k ≡ Some f → level_of x.path ≡ level → (Dealt lots k → ⊥) → f ≡ fate.ParentFailed
+    pub undealt : (k : ℕ) (x : Item) (f : Fate) → slice_get items k ≡ Some x → slice_get new k ≡ Some f → level_of x.path ≡ level
+        → (Dealt lots k → ⊥) → f ≡ fate.ParentFailed
     pub most : count_by is_failed new ≤ count_by is_failed old + sum_by (λ lot. count_by is_failed lot.fates.items) lots
 
 -- all actors show these data

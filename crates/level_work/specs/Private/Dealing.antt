@@ -73,5 +73,7 @@ module _ {A P : Type 0} where
   -- the item at place k is left out, since its parent failed, or dealt to one lot
   pub data DealsOne (o : Order) (items : List Item) (fates : List Fate) (k : ℕ) (lots next : List (Lot A P)) : Type 0 where
     left_out : ((x : Item) → slice_get items k ≡ Some x → FailsWith o items fates x) → next ≡ lots → DealsOne o items fates k lots next
-    dealt_to : (i : ℕ) (lot new : Lot A P) → slice_get lots i ≡ Some lot → ((x : Item) → slice_get items k ≡ Some x → FailsWith o items fates x → ⊥) → new.places.items ≡ lot.places.items ++ k ∷ [] → new.fates ≡ lot.fates → new.lost ≡ lot.lost →
+    dealt_to : (i : ℕ) (lot new : Lot A P) → slice_get lots i ≡ Some lot
+        → ((x : Item) → slice_get items k ≡ Some x → FailsWith o items fates x → ⊥) → new.places.items ≡ lot.places.items ++ k ∷ []
+        → new.fates ≡ lot.fates → new.lost ≡ lot.lost →
         next ≡ slice_set lots i new → DealsOne o items fates k lots next

@@ -7,7 +7,8 @@ use Rattle.level_work.specs.Private.Crews.{SameShares, tops_out, AllBack}
 use Rattle.level_work.specs.declared.lots.Lot.{Lot}
 
 -- the first i lots gave their parts back
-pub record Giving {A P : Type 0} (tree : Option P → Option Files) (area : Option P → Area) (count : Option P → ℕ) (i : ℕ) (lots now : List (Lot A P)) (a : Area) (t0 t : Option Files) (g0 g : ℕ) : Type 0 where
+pub record Giving {A P : Type 0} (tree : Option P → Option Files) (area : Option P → Area) (count : Option P → ℕ) (i : ℕ)
+    (lots now : List (Lot A P)) (a : Area) (t0 t : Option Files) (g0 g : ℕ) : Type 0 where
   pub len : length now ≡ length lots
   pub shares : SameShares lots now
   pub home : (j : ℕ) (lot : Lot A P) → j < i → slice_get now j ≡ Some lot → lot.part ≡ None

@@ -9,7 +9,8 @@ use Rattle.level_work.specs.declared.items.Item.{Item}
 use Rattle.level_work.specs.declared.lots.Lot.{Lot}
 
 -- the first i lots are leased
-pub record Leasing {A P : Type 0} (tree : Option P → Option Files) (area : Option P → Area) (count : Option P → ℕ) (i : ℕ) (items : List Item) (lots now : List (Lot A P)) (a : Area) (t0 t : Option Files) : Type 0 where
+pub record Leasing {A P : Type 0} (tree : Option P → Option Files) (area : Option P → Area) (count : Option P → ℕ) (i : ℕ)
+    (items : List Item) (lots now : List (Lot A P)) (a : Area) (t0 t : Option Files) : Type 0 where
   pub len : length now ≡ length lots
   pub shares : SameShares lots now
   pub rest : (j : ℕ) → i ≤ j → slice_get now j ≡ slice_get lots j

@@ -1,5 +1,6 @@
 -- A share of a level: an actor with the part that it writes and the places of its items. Our own.
-use Rattle.std.specs.Prelude.{◌≡◌, ◌≢◌, ℕ, ◌+◌, ◌-◌, ◌^◌, ◌<◌, ◌≤◌, false, List, [], ◌∷◌, ◌++◌, if◌then◌else◌, length, nat_eq, Option, Some, None, IfSome, IsTrue, slice_get, is_some, Ok}
+use Rattle.std.specs.Prelude.{◌≡◌, ◌≢◌, ℕ, ◌+◌, ◌-◌, ◌^◌, ◌<◌, ◌≤◌, false, List, [], ◌∷◌, ◌++◌, if◌then◌else◌, length, nat_eq, Option, Some, None}
+use Rattle.std.specs.Prelude.{IfSome, IsTrue, slice_get, is_some, Ok}
 use Rattle.std.specs.List.{count_by}
 use Rattle.std.specs.FinMap.{get}
 use Rattle.std.specs.Cmp.Lexicographic.{pointwise}
@@ -26,11 +27,13 @@ AreApart items places = (i j : ℕ) (x y : Item) → i ≢ j → IsAt items plac
 
 -- every path but those of the items at the first n places is as before
 abbrev pub SameButFirst : ℕ → List Item → List ℕ → Files → Files → Type 0
-SameButFirst n items places before after = (q : List ℕ) → ((j : ℕ) (x : Item) → j < n → IsAt items places j x → pointwise nat_eq q x.path ≡ false) → get after q ≡ get before q
+SameButFirst n items places before after = (q : List ℕ)
+    → ((j : ℕ) (x : Item) → j < n → IsAt items places j x → pointwise nat_eq q x.path ≡ false) → get after q ≡ get before q
 
 -- the fates of the items at the first places: each is by the deed
 abbrev pub DoneByEach : Deed → List Item → List ℕ → List Fate → Files → Files → Type 0
-DoneByEach deed items places fates before after = (j : ℕ) (x : Item) (f : Fate) → IsAt items places j x → slice_get fates j ≡ Some f → deed x.path x.entry f (at_and_under x.path before) (at_and_under x.path after)
+DoneByEach deed items places fates before after = (j : ℕ) (x : Item) (f : Fate) → IsAt items places j x → slice_get fates j ≡ Some f
+    → deed x.path x.entry f (at_and_under x.path before) (at_and_under x.path after)
 
 pub record WorkedOn (deed : Deed) (items : List Item) (places : List ℕ) (fates : List Fate) (before after : Files) : Type 0 where
   pub others : SameButFirst (length fates) items places before after
@@ -65,7 +68,8 @@ module _ {A P : Type 0} (area : Option P → Area) where
     pub are_open : (j : ℕ) (x : Item) → IsAt items lot.places.items j x → IsTrue (is_open (area lot.part) x.path)
     pub apart : AreApart items lot.places.items
 
-module _ {A P D : Type 0} (tree : Option P → Option Files) (area : Option P → Area) (part_count : Option P → ℕ) (plain : A → D) (count : A → ℕ) (deed : D → Deed) where
+module _ {A P D : Type 0} (tree : Option P → Option Files) (area : Option P → Area) (part_count : Option P → ℕ) (plain : A → D)
+    (count : A → ℕ) (deed : D → Deed) where
   -- what no work on a share changes
   pub record Keeps (lot lot' : Lot A P) : Type 0 where
     pub places : lot'.places ≡ lot.places
@@ -82,7 +86,8 @@ module _ {A P D : Type 0} (tree : Option P → Option Files) (area : Option P �
     pub fates : lot'.fates.items ≡ lot.fates.items ++ now ∷ []
     pub named : now ≢ fate.ParentFailed
     pub blamed : Blamed (if is_failed now then 1 else 0) (part_count lot.part) (count lot.actor) (part_count lot'.part) (count lot'.actor)
-    pub told : (x : Item) → IsAt items lot.places.items j x → IfSome (tree lot.part) (λ before. IfSome (tree lot'.part) (IsDone (deed (plain lot.actor)) x.path x.entry (Ok now) before))
+    pub told : (x : Item) → IsAt items lot.places.items j x
+        → IfSome (tree lot.part) (λ before. IfSome (tree lot'.part) (IsDone (deed (plain lot.actor)) x.path x.entry (Ok now) before))
 
   -- no memory was found at the item at place j
   pub record Stopped (items : List Item) (j : ℕ) (lot lot' : Lot A P) : Type 0 where
@@ -107,5 +112,7 @@ module _ {A P D : Type 0} (tree : Option P → Option Files) (area : Option P �
     pub blamed : Blamed (count_by is_failed lot'.fates.items) (part_count lot.part) (count lot.actor) (part_count lot'.part) (count lot'.actor)
     pub named : (j : ℕ) (f : Fate) → slice_get lot'.fates.items j ≡ Some f → f ≢ fate.ParentFailed
     pub all : lot'.lost ≡ false → length lot'.fates.items ≡ length lot.places.items
-    pub told : lot'.lost ≡ false → IfSome (tree lot.part) (λ before. IfSome (tree lot'.part) (WorkedOn (deed (plain lot.actor)) items lot.places.items lot'.fates.items before))
+    pub told : lot'.lost ≡ false
+        → IfSome (tree lot.part)
+        (λ before. IfSome (tree lot'.part) (WorkedOn (deed (plain lot.actor)) items lot.places.items lot'.fates.items before))
     pub rest : IfSome (tree lot.part) (λ before. IfSome (tree lot'.part) (SameButFirst (length lot.places.items) items lot.places.items before))

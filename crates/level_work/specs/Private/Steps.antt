@@ -14,26 +14,34 @@ use Rattle.level_work.specs.declared.items.Order.{Order}
 
 -- the maps before and now, with the items of some levels done
 pub record Sofar (deed : Deed) (o : Order) (t : ℕ) (items : List Item) (fates : List Fate) (before now : Files) : Type 0 where
-  pub pending : (q : List ℕ) → ((k : ℕ) (x : Item) → slice_get items k ≡ Some x → is_done o t (level_of x.path) ≡ true → pointwise nat_eq q x.path ≡ false) → get now q ≡ get before q
-  pub each : (k : ℕ) (x : Item) (f : Fate) → slice_get items k ≡ Some x → slice_get fates k ≡ Some f → is_done o t (level_of x.path) ≡ true → HasFate deed o before now x f
+  pub pending : (q : List ℕ)
+      → ((k : ℕ) (x : Item) → slice_get items k ≡ Some x → is_done o t (level_of x.path) ≡ true → pointwise nat_eq q x.path ≡ false)
+      → get now q ≡ get before q
+  pub each : (k : ℕ) (x : Item) (f : Fate) → slice_get items k ≡ Some x → slice_get fates k ≡ Some f → is_done o t (level_of x.path) ≡ true
+      → HasFate deed o before now x f
 
 -- the items of one level whose parent did not fail stand in directories
 abbrev pub CanStep : Order → ℕ → List Item → List Fate → Files → Type 0
-CanStep o level items fates files = (k : ℕ) (x : Item) → slice_get items k ≡ Some x → level_of x.path ≡ level → (FailsWith o items fates x → ⊥) → is_dir (get files (parent_of x.path)) ≡ true
+CanStep o level items fates files = (k : ℕ) (x : Item) → slice_get items k ≡ Some x → level_of x.path ≡ level
+    → (FailsWith o items fates x → ⊥) → is_dir (get files (parent_of x.path)) ≡ true
 
 -- the fates after one level more: those of its items are told, and the others stay
 pub record TellsLevel (o : Order) (level : ℕ) (items : List Item) (old new : List Fate) : Type 0 where
   pub len : length new ≡ length old
   pub others : (k : ℕ) (x : Item) → slice_get items k ≡ Some x → level_of x.path ≢ level → slice_get new k ≡ slice_get old k
-  pub failed : (k : ℕ) (x : Item) (f : Fate) → slice_get items k ≡ Some x → slice_get new k ≡ Some f → level_of x.path ≡ level → (f ≡ fate.ParentFailed) ↔ FailsWith o items old x
+  pub failed : (k : ℕ) (x : Item) (f : Fate) → slice_get items k ≡ Some x → slice_get new k ≡ Some f → level_of x.path ≡ level
+      → (f ≡ fate.ParentFailed) ↔ FailsWith o items old x
 
 -- every path but those of the level's items is as before
 abbrev pub SameButLevel : ℕ → List Item → Files → Files → Type 0
-SameButLevel level items old new = (q : List ℕ) → ((k : ℕ) (x : Item) → slice_get items k ≡ Some x → level_of x.path ≡ level → pointwise nat_eq q x.path ≡ false) → get new q ≡ get old q
+SameButLevel level items old new = (q : List ℕ)
+    → ((k : ℕ) (x : Item) → slice_get items k ≡ Some x → level_of x.path ≡ level → pointwise nat_eq q x.path ≡ false)
+    → get new q ≡ get old q
 
 -- the fates of the levels that are done
 abbrev pub ToldSofar : Order → ℕ → List Item → List Fate → Type 0
-ToldSofar o t items fates = (k : ℕ) (x : Item) (f : Fate) → slice_get items k ≡ Some x → slice_get fates k ≡ Some f → is_done o t (level_of x.path) ≡ true → (f ≡ fate.ParentFailed) ↔ FailsWith o items fates x
+ToldSofar o t items fates = (k : ℕ) (x : Item) (f : Fate) → slice_get items k ≡ Some x → slice_get fates k ≡ Some f
+    → is_done o t (level_of x.path) ≡ true → (f ≡ fate.ParentFailed) ↔ FailsWith o items fates x
 
 -- the maps before and now, and the fates, after so many turns
 pub record Ran (deed : Deed) (o : Order) (top turn : ℕ) (items : List Item) (fates : List Fate) (was now : Option Files) : Type 0 where

@@ -35,7 +35,8 @@ pub record AreStored {A P : Type 0} (n : ℕ) (lots : List (Lot A P)) (old new :
 pub record IsNoted (n : ℕ) (items : List Item) (fates : List Fate) (places : List ℕ) (old new : List (List ℕ)) : Type 0 where
   pub sound : (q : List ℕ) → has_path new q ≡ true → (has_path old q ≡ true) ⊎ FailedAt items fates q
   pub kept : (q : List ℕ) → has_path old q ≡ true → has_path new q ≡ true
-  pub each : (j k : ℕ) (x : Item) (f : Fate) → j < n → slice_get places j ≡ Some k → slice_get items k ≡ Some x → slice_get fates k ≡ Some f → f ≢ fate.Done → has_path new x.path ≡ true
+  pub each : (j k : ℕ) (x : Item) (f : Fate) → j < n → slice_get places j ≡ Some k → slice_get items k ≡ Some x → slice_get fates k ≡ Some f
+      → f ≢ fate.Done → has_path new x.path ≡ true
 
 abbrev pub Notes : Order → List Item → List Fate → List ℕ → List (List ℕ) → List (List ℕ) → Type 0
 Notes order.TopDown items fates places old new = IsNoted (length places) items fates places old new

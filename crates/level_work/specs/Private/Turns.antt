@@ -17,12 +17,14 @@ use Rattle.level_work.specs.declared.items.Order.{Order}
 use Rattle.level_work.specs.declared.lots.Lot.{Lot}
 
 -- the lots, the fates, the failed paths and the ground after so many turns
-pub record Turned {A P D : Type 0} (plain : A → D) (count : A → ℕ) (deed : D → Deed) (o : Order) (top turn : ℕ) (items : List Item) (lots now : List (Lot A P)) (fates : List Fate) (paths : List (List ℕ)) (a : Area) (t0 t : Option Files) (g0 g : ℕ) : Type 0 where
+pub record Turned {A P D : Type 0} (plain : A → D) (count : A → ℕ) (deed : D → Deed) (o : Order) (top turn : ℕ) (items : List Item)
+    (lots now : List (Lot A P)) (fates : List Fate) (paths : List (List ℕ)) (a : Area) (t0 t : Option Files) (g0 g : ℕ) : Type 0 where
   pub area : a ≡ all_but []
   pub home : AtHome now
   pub actors : SameActors plain count lots now
   pub kept : g0 ≤ g
   pub ran : (d : D) → AllShow d (map (λ lot. plain lot.actor) lots) → Ran (deed d) o top turn items fates t0 t
-  pub fresh : (k : ℕ) (x : Item) (f : Fate) → slice_get items k ≡ Some x → slice_get fates k ≡ Some f → is_done o (mark_at o top turn) (level_of x.path) ≡ false → f ≡ fate.Done
+  pub fresh : (k : ℕ) (x : Item) (f : Fate) → slice_get items k ≡ Some x → slice_get fates k ≡ Some f
+      → is_done o (mark_at o top turn) (level_of x.path) ≡ false → f ≡ fate.Done
   pub knows : Knows o items fates paths
   pub blamed : BlamedMore 0 (count_by is_failed fates) g0 (map (λ lot. count lot.actor) lots) g (map (λ lot. count lot.actor) now)

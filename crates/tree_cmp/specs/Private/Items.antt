@@ -42,7 +42,13 @@ unread s t = if is_read s t then Some (size_by s) else None
 -- a row before files are read, whose content stands as its size
 abbrev pub draft_of : List ℕ → Option Item → Option Item → Draft
 draft_of p a b = record {
-  row = record { path = p; exist = exist_of (is_some a) (is_some b); kind = kinds (item_stat a) (item_stat b); size = sizes (item_stat a) (item_stat b); content = sizes (item_stat a) (item_stat b) };
+  row = record {
+    path = p;
+    exist = exist_of (is_some a) (is_some b);
+    kind = kinds (item_stat a) (item_stat b);
+    size = sizes (item_stat a) (item_stat b);
+    content = sizes (item_stat a) (item_stat b);
+  };
   unread = unread (item_stat a) (item_stat b);
   outcome = None;
 }

@@ -46,7 +46,8 @@ Told a b (o.Missed dest m.Changed) = ⊥
 
 -- the same of a piece of so many bytes
 abbrev pub PieceTold : Option Node → Option Node → ℕ → ℕ → Outcome → Type 0
-PieceTold a b at n (o.Same same) = (at + n ≤ length (content a)) × (at + n ≤ length (content b)) × (same ≡ pointwise nat_eq (take n (drop at (content a))) (take n (drop at (content b))))
+PieceTold a b at n (o.Same same) = (at + n ≤ length (content a)) × (at + n ≤ length (content b))
+    × (same ≡ pointwise nat_eq (take n (drop at (content a))) (take n (drop at (content b))))
 PieceTold a b at n (o.Missed dest m.Failed) = Unit {0}
 PieceTold a b at n (o.Missed false m.Changed) = IsShort a (at + n)
 PieceTold a b at n (o.Missed true m.Changed) = IsShort b (at + n)

@@ -1,6 +1,7 @@
 -- The steps by which two sides are laid beside each other. Our own.
 -- Only clauses of this crate's own functions cite this file.
-use Rattle.std.specs.Prelude.{◌≡◌, ℕ, ◌≤◌, Bool, true, false, not, ◌&&◌, ◌||◌, List, [], ◌∷◌, map, length, drop, if◌then◌else◌, Option, Some, None, is_some, nat_eq, IsTrue, All}
+use Rattle.std.specs.Prelude.{◌≡◌, ℕ, ◌≤◌, Bool, true, false, not, ◌&&◌, ◌||◌, List, [], ◌∷◌, map, length, drop, if◌then◌else◌, Option, Some, None}
+use Rattle.std.specs.Prelude.{is_some, nat_eq, IsTrue, All}
 use Rattle.std.specs.List.{AllByRecursion, list_any, cons_option}
 use Rattle.std.specs.List.Sorted.{IsStrictlySortedBy}
 use Rattle.std.specs.Cmp.Lexicographic.{pointwise}

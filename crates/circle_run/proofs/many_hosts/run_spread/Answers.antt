@@ -21,7 +21,8 @@ pub in_threads-requires-clause-spread : goal.in_threads-requires-clause-spread
 in_threads-requires-clause-spread g c κs within =
     let o = c.args.options.now in
     let e : c.of-whole.result.value.items ≡ c.in_ok-ranks.ranks.items = search rules in
-    let first = subst (λ x. Starting g.J.Job.log board_shown IsBoardSeat sum_shown IsSumSeat o c.args.starts.items x c.in_ok-board.board c.in_ok-tree.tree) (sym e) c.in_ok-ranks.ensures.starting in
+    let first = subst (λ x. Starting g.J.Job.log board_shown IsBoardSeat sum_shown IsSumSeat o c.args.starts.items x c.in_ok-board.board
+    c.in_ok-tree.tree) (sym e) c.in_ok-ranks.ensures.starting in
     record {
       placed = first.place;
       ready = first.ready;
@@ -46,7 +47,8 @@ gather_all-requires g c =
     let b = c.in_ok-board.board in
     let t = c.in_ok-tree.tree in
     let e : c.of-whole.result.value.items ≡ c.in_ok-ranks.ranks.items = search rules in
-    let first = subst (λ x. Starting g.J.Job.log board_shown IsBoardSeat sum_shown IsSumSeat o c.args.starts.items x b t) (sym e) c.in_ok-ranks.ensures.starting in
+    let first = subst (λ x. Starting g.J.Job.log board_shown IsBoardSeat sum_shown IsSumSeat o c.args.starts.items x b t)
+    (sym e) c.in_ok-ranks.ensures.starting in
     let final = c.in_order-ranks.result.items in
     let joined = c.in_ok-ranks-2.ensures in
     let found : NoneLost final = subst NoneLost c.deref-2.ensures.value (c.if-any_lost.ensures refl) in
@@ -63,7 +65,8 @@ returns g c =
     let b = c.in_ok-board.board in
     let t = c.in_ok-tree.tree in
     let e : c.of-whole.result.value.items ≡ c.in_ok-ranks.ranks.items = search rules in
-    let first = subst (λ x. Starting g.J.Job.log board_shown IsBoardSeat sum_shown IsSumSeat o c.args.starts.items x b t) (sym e) c.in_ok-ranks.ensures.starting in
+    let first = subst (λ x. Starting g.J.Job.log board_shown IsBoardSeat sum_shown IsSumSeat o c.args.starts.items x b t)
+    (sym e) c.in_ok-ranks.ensures.starting in
     let final = c.in_order-ranks.result.items in
     let joined = c.in_ok-ranks-2.ensures in
     let found : NoneLost final = subst NoneLost c.deref-2.ensures.value (c.if-any_lost.ensures refl) in
@@ -71,7 +74,8 @@ returns g c =
     joined.done c.in_order-ranks.ensures.same c.in_order-ranks.ensures.order found joined.numbers in
     let parts = c.in_ok-parts.ensures in
     let some = c.requires.ranks.0 in
-    outcome g.J.Job.log g.J.Job.plain board_shown IsBoardSeat sum_shown IsSumSeat o c.args.starts.items c.args.jobs.items c.of-whole.result.value.items final b t
+    outcome g.J.Job.log g.J.Job.plain board_shown IsBoardSeat sum_shown IsSumSeat o c.args.starts.items c.args.jobs.items
+    c.of-whole.result.value.items final b t
     (λ s. record { given = s.seat.me.0.own.given; taken = s.seat.me.0.own.taken }) c.in_ok-parts.parts.seats.items c.gather_all.result _
     (record {
       law = c.hosts_are_balanced.ensures;

@@ -21,6 +21,8 @@ loop-path-preserved c =
     let below = mod-lt (length c.loop-path.yielded) {m = c.args.ranks} c.requires in
     let turn = c.loop-path.invariant.turn in
     record {
-      dealt = dealt_more c.args.ranks c.loop-path.next c.loop-path.yielded c.in-Some.path c.loop-path.batches.items c.index_mut.result.now c.push.new.self turn (omega arith) c.loop-path.invariant.dealt c.index_mut.ensures.value c.in_ok-push.ensures.ok;
-      turn = ap (λ (k : ℕ). (k + 1) % c.args.ranks) turn ∙ turn_more c.args.ranks (length c.loop-path.yielded) ∙ ap (λ (k : ℕ). k % c.args.ranks) (sym (length_push c.loop-path.yielded c.in-Some.path));
+      dealt = dealt_more c.args.ranks c.loop-path.next c.loop-path.yielded c.in-Some.path c.loop-path.batches.items c.index_mut.result.now
+          c.push.new.self turn (omega arith) c.loop-path.invariant.dealt c.index_mut.ensures.value c.in_ok-push.ensures.ok;
+      turn = ap (λ (k : ℕ). (k + 1) % c.args.ranks) turn ∙ turn_more c.args.ranks (length c.loop-path.yielded)
+          ∙ ap (λ (k : ℕ). k % c.args.ranks) (sym (length_push c.loop-path.yielded c.in-Some.path));
     }

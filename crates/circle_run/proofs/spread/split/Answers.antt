@@ -12,8 +12,10 @@ loop-rank-init g c =
     let s : into_iter_items c.into_iter-rank-iterator.result ≡ c.args.ranks.items = search rules in
     record {
       len = search rules;
-      parted = parted_first c.args.whole.now.value.items c.args.ranks.items c.new-chosen.result.items c.in_ok-rest.rest.items (into_iter_items c.into_iter-rank-iterator.result) c.requires.ranks c.new-chosen.ensures.items c.in_ok-rest.ensures.items s;
-      own = (let F : Rank g.row.J.Denot g.row.S.Denot g.row.T.Denot → Type 0 = λ r. r.me % c.args.hosts ≡ c.args.host in subst (All F) (sym c.new-chosen.ensures.items) (All-nil F));
+      parted = parted_first c.args.whole.now.value.items c.args.ranks.items c.new-chosen.result.items c.in_ok-rest.rest.items
+          (into_iter_items c.into_iter-rank-iterator.result) c.requires.ranks c.new-chosen.ensures.items c.in_ok-rest.ensures.items s;
+      own = (let F : Rank g.row.J.Denot g.row.S.Denot g.row.T.Denot → Type 0 = λ r. r.me % c.args.hosts ≡ c.args.host in
+          subst (All F) (sym c.new-chosen.ensures.items) (All-nil F));
     }
 
 pub returns-clause-numbers : goal.returns-clause-numbers
@@ -29,10 +31,13 @@ loop-rank-preserved-in-Continue-branch-2 g c =
     let e : into_iter_items c.loop-rank.rank-iterator ≡ c.in-Some.rank ∷ into_iter_items c.next.new.self = search rules in
     record {
       len = (let n = ap length e in let f = i.len in let st = c.in-Some.ensures.steps in search rules);
-      parted = parted_chosen c.args.whole.now.value.items c.args.ranks.items c.loop-rank.chosen.items c.loop-rank.rest.items (into_iter_items c.loop-rank.rank-iterator) (into_iter_items c.next.new.self) c.push.new.self.items c.in-Some.rank e c.in_ok-push.ensures.items i.parted;
+      parted = parted_chosen c.args.whole.now.value.items c.args.ranks.items c.loop-rank.chosen.items c.loop-rank.rest.items
+          (into_iter_items c.loop-rank.rank-iterator)
+          (into_iter_items c.next.new.self) c.push.new.self.items c.in-Some.rank e c.in_ok-push.ensures.items i.parted;
       own = (let F : Rank g.row.J.Denot g.row.S.Denot g.row.T.Denot → Type 0 = λ r. r.me % c.args.hosts ≡ c.args.host in
           let is : c.in-Some.rank.me % c.args.hosts ≡ c.args.host = search rules in
-          subst (All F) (sym c.in_ok-push.ensures.items) (All-append F c.loop-rank.chosen.items (c.in-Some.rank ∷ []) i.own (All-cons F c.in-Some.rank [] is (All-nil F))));
+          subst (All F) (sym c.in_ok-push.ensures.items)
+          (All-append F c.loop-rank.chosen.items (c.in-Some.rank ∷ []) i.own (All-cons F c.in-Some.rank [] is (All-nil F))));
     }
 
 pub loop-rank-preserved : goal.loop-rank-preserved
@@ -41,6 +46,8 @@ loop-rank-preserved g c =
     let e : into_iter_items c.loop-rank.rank-iterator ≡ c.in-Some.rank ∷ into_iter_items c.next.new.self = search rules in
     record {
       len = (let n = ap length e in let f = i.len in let st = c.in-Some.ensures.steps in search rules);
-      parted = parted_rest c.args.whole.now.value.items c.args.ranks.items c.loop-rank.chosen.items c.loop-rank.rest.items (into_iter_items c.loop-rank.rank-iterator) (into_iter_items c.next.new.self) c.push-else-number-hosts.new.self.items c.in-Some.rank e c.in_ok-push-2.ensures.items i.parted;
+      parted = parted_rest c.args.whole.now.value.items c.args.ranks.items c.loop-rank.chosen.items c.loop-rank.rest.items
+          (into_iter_items c.loop-rank.rank-iterator)
+          (into_iter_items c.next.new.self) c.push-else-number-hosts.new.self.items c.in-Some.rank e c.in_ok-push-2.ensures.items i.parted;
       own = i.own;
     }

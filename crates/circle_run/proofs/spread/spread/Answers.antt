@@ -10,7 +10,8 @@ use Rattle.circle_run.proofs.spread.spread.Goals as goal
 pub loop-host-init : goal.loop-host-init
 loop-host-init g c = record {
   left = c.requires.ranks;
-  others = subst (All (λ host. IsHost c.args.whole.now.value.items host.items)) (sym c.in_ok-others.ensures.items) (All-nil (λ host. IsHost c.args.whole.now.value.items host.items));
+  others = subst (All (λ host. IsHost c.args.whole.now.value.items host.items)) (sym c.in_ok-others.ensures.items)
+      (All-nil (λ host. IsHost c.args.whole.now.value.items host.items));
   numbers = λ h. (let e = ap (sum_by (λ host. sum_by (λ r. h r.me) host.items)) c.in_ok-others.ensures.items in omega arith);
 }
 
@@ -22,6 +23,14 @@ loop-host-preserved g c =
     let chosen = c.in_ok-chosen.chosen in
     record {
       left = s.rest;
-      others = subst (All P) (sym c.in_ok-push.ensures.items) (All-append P c.loop-host.others.items (chosen ∷ []) i.others (All-cons P chosen [] s.chosen (All-nil P)));
-      numbers = λ h. omega (arith, i.numbers h, s.numbers h, ap (sum_by (λ host. sum_by (λ r. h r.me) host.items)) c.in_ok-push.ensures.items, sum_by-append (λ host. sum_by (λ r. h r.me) host.items) c.loop-host.others.items (chosen ∷ []), sum_by-cons (λ host. sum_by (λ r. h r.me) host.items) chosen []);
+      others = subst (All P) (sym c.in_ok-push.ensures.items)
+          (All-append P c.loop-host.others.items (chosen ∷ []) i.others (All-cons P chosen [] s.chosen (All-nil P)));
+      numbers = λ h. omega (
+        arith,
+        i.numbers h,
+        s.numbers h,
+        ap (sum_by (λ host. sum_by (λ r. h r.me) host.items)) c.in_ok-push.ensures.items,
+        sum_by-append (λ host. sum_by (λ r. h r.me) host.items) c.loop-host.others.items (chosen ∷ []),
+        sum_by-cons (λ host. sum_by (λ r. h r.me) host.items) chosen [],
+      );
     }

@@ -7,5 +7,6 @@ abbrev pub invariant-loop-host : goal.invariant-loop-host
 invariant-loop-host g l = record {
   left : IsHost l.fn.whole.value.items l.left.items;
   others : All (λ host. IsHost l.fn.whole.value.items host.items) l.others.items;
-  numbers : (h : ℕ → ℕ) → sum_by (λ r. h r.me) l.left.items + sum_by (λ host. sum_by (λ r. h r.me) host.items) l.others.items ≡ sum_by (λ r. h r.me) l.fn.ranks.items;
+  numbers : (h : ℕ → ℕ) → sum_by (λ r. h r.me) l.left.items + sum_by (λ host. sum_by (λ r. h r.me) host.items) l.others.items
+      ≡ sum_by (λ r. h r.me) l.fn.ranks.items;
 }

@@ -33,14 +33,21 @@ loop-ranks-init g c =
       flags = search rules;
       pooled = record {
         mine = c.requires.mine;
-        done = done_none g.J.Job.log g.J.Job.plain g.P.Post.shows g.P.Post.seats g.Q.Sums.shows g.Q.Sums.seats w c.args.post c.args.sums c.args.pool.done.items empty.0;
+        done = done_none g.J.Job.log g.J.Job.plain g.P.Post.shows g.P.Post.seats g.Q.Sums.shows g.Q.Sums.seats w c.args.post c.args.sums
+            c.args.pool.done.items empty.0;
         started = subst (All F) (sym empty.1) (All-nil F);
       };
       room = c.requires.room;
       few = (let n = ap length empty.1 in let m = ap length s in omega arith);
       none = empty.2;
       rest = subst (All (λ host. IsHost w host.items)) (sym s) c.requires.others;
-      numbers = λ h. omega (arith, c.requires.numbers h, ap (sum_by (λ host. sum_by (λ r. h r.me) host.items)) s, ap (sum_by (λ r. h r.me)) empty.0, ap (started_numbers h) empty.1);
+      numbers = λ h. omega (
+        arith,
+        c.requires.numbers h,
+        ap (sum_by (λ host. sum_by (λ r. h r.me) host.items)) s,
+        ap (sum_by (λ r. h r.me)) empty.0,
+        ap (started_numbers h) empty.1,
+      );
     }
 
 pub loop-ranks-preserved : goal.loop-ranks-preserved
@@ -58,7 +65,13 @@ loop-ranks-preserved g c =
       few = (let n = ap length e in let f = i.few in let m = a.few in omega arith);
       none = a.all ∙ i.none;
       rest = All-tail F c.in-Some.ranks (into_iter_items c.next.new.self) (subst (All F) e i.rest);
-      numbers = λ h. omega (arith, i.numbers h, a.numbers h, ap (sum_by (λ host. sum_by (λ r. h r.me) host.items)) e, sum_by-cons (λ host. sum_by (λ r. h r.me) host.items) c.in-Some.ranks (into_iter_items c.next.new.self));
+      numbers = λ h. omega (
+        arith,
+        i.numbers h,
+        a.numbers h,
+        ap (sum_by (λ host. sum_by (λ r. h r.me) host.items)) e,
+        sum_by-cons (λ host. sum_by (λ r. h r.me) host.items) c.in-Some.ranks (into_iter_items c.next.new.self),
+      );
     }
 
 pub add_host-requires-clause-ranks : goal.add_host-requires-clause-ranks
@@ -72,19 +85,26 @@ add_host-requires-clause-fits g c κs within =
     let e : into_iter_items c.loop-ranks.ranks-iterator ≡ c.in-Some.ranks ∷ into_iter_items c.next.new.self = search rules in
     let rest = into_iter_items c.next.new.self in
     let one = sum_by-cons (λ host. sum_by (λ r. 1) host.items) c.in-Some.ranks rest in
-    fits_next c.args.whole.now.value.items c.in-Some.ranks.items (sum_by (λ host. sum_by (λ r. 1) host.items) rest) (length c.args.others.items) c.loop-ranks.pool i.room
+    fits_next c.args.whole.now.value.items c.in-Some.ranks.items (sum_by (λ host. sum_by (λ r. 1) host.items) rest)
+    (length c.args.others.items) c.loop-ranks.pool i.room
     (omega (arith, i.numbers (λ k. 1), ap (sum_by (λ host. sum_by (λ r. 1) host.items)) e, one)) (let n = ap length e in let f = i.few in omega arith)
 
 pub in_order-requires : goal.in_order-requires
-in_order-requires g c = record { once = λ v. (let i = c.loop-ranks.invariant.numbers (λ k. one_if (k == v)) in let o = once_whole c.args.whole.now.value.items c.requires.placed v in omega arith) }
+in_order-requires g c = record {
+  once =
+      λ v. (let i = c.loop-ranks.invariant.numbers (λ k. one_if (k == v)) in
+      let o = once_whole c.args.whole.now.value.items c.requires.placed v in omega arith);
+}
 
 pub run_host-requires : goal.run_host-requires
 run_host-requires g c = record {
   untold = c.requires.untold.0;
   sums_untold = c.requires.untold.1;
   order = c.in_order.ensures.order;
-  ready = ready_of g.J.Job.log g.J.Job.plain g.P.Post.shows g.P.Post.seats g.Q.Sums.shows g.Q.Sums.seats c.args.whole.now.value.items c.args.post c.args.sums c.in_order.result.items c.requires.ready
-      (All-permutation (IsOne c.args.whole.now.value.items) c.loop-ranks.pool.mine.items c.in_order.result.items c.in_order.ensures.same c.loop-ranks.invariant.pooled.mine);
+  ready = ready_of g.J.Job.log g.J.Job.plain g.P.Post.shows g.P.Post.seats g.Q.Sums.shows g.Q.Sums.seats c.args.whole.now.value.items
+      c.args.post c.args.sums c.in_order.result.items c.requires.ready
+      (All-permutation (IsOne c.args.whole.now.value.items) c.loop-ranks.pool.mine.items c.in_order.result.items c.in_order.ensures.same
+      c.loop-ranks.invariant.pooled.mine);
 }
 
 pub add_all-requires : goal.add_all-requires
@@ -124,7 +144,8 @@ loop-host-init g c =
     let ran = c.run_host.ensures.ran in
     let here = c.run_host.result.items in
     let ones = All-permutation (IsOne w) c.loop-ranks.pool.mine.items c.in_order.result.items c.in_order.ensures.same i.pooled.mine in
-    let done = done_of g.J.Job.log g.J.Job.plain g.P.Post.shows g.P.Post.seats g.Q.Sums.shows g.Q.Sums.seats w c.args.post c.args.sums c.in_order.result.items here ones ran in
+    let done = done_of g.J.Job.log g.J.Job.plain g.P.Post.shows g.P.Post.seats g.Q.Sums.shows g.Q.Sums.seats w c.args.post c.args.sums
+    c.in_order.result.items here ones ran in
     let all : c.add_all-2.new.list.items ≡ here ++ c.loop-ranks.pool.done.items =
     c.add_all-2.ensures.items ∙ ap (λ (xs : List _). xs ++ c.loop-ranks.pool.done.items) (c.add_all.ensures.items ∙ ap (λ (xs : List _). xs ++ here) i.none) in
     record {
@@ -139,7 +160,8 @@ loop-host-init g c =
       numbers = λ h. omega (
         arith,
         i.numbers h,
-        done_numbers g.J.Job.log g.J.Job.plain g.P.Post.shows g.P.Post.seats g.Q.Sums.shows g.Q.Sums.seats c.args.post c.args.sums c.in_order.result.items here ran h,
+        done_numbers g.J.Job.log g.J.Job.plain g.P.Post.shows g.P.Post.seats g.Q.Sums.shows g.Q.Sums.seats c.args.post c.args.sums
+            c.in_order.result.items here ran h,
         sum_by-IsPermutation (λ r. h r.me) c.loop-ranks.pool.mine.items c.in_order.result.items c.in_order.ensures.same,
         ap (sum_by (λ r. h r.me)) all,
         sum_by-append (λ r. h r.me) here c.loop-ranks.pool.done.items,
@@ -168,7 +190,8 @@ finish-requires-clause-ready g c =
       untold = c.requires.untold.0;
       sums_untold = c.requires.untold.1;
       order = x.host.order;
-      ready = ready_of g.J.Job.log g.J.Job.plain g.P.Post.shows g.P.Post.seats g.Q.Sums.shows g.Q.Sums.seats c.args.whole.now.value.items c.args.post c.args.sums
+      ready = ready_of g.J.Job.log g.J.Job.plain g.P.Post.shows g.P.Post.seats g.Q.Sums.shows g.Q.Sums.seats c.args.whole.now.value.items
+          c.args.post c.args.sums
           c.in-Some-host.host.before.value.items c.requires.ready x.host.ones;
     })
 

@@ -53,6 +53,7 @@ loop-cursor-preserved c =
       so_far =
           picked_more (picks_but top c.args.wanted.now c.args.but.now) side c.args.list.now old.list _ old.cursor.1 e new
           (c.seek-at_here.result.1 && not c.seek-past_here.result.1) at old.invariant.so_far picked c.in_ok-add_if.ensures;
-      wanted = next_below c.below_keeps_order.ensures top side old.cursor.1 e new c.args.wanted.now c.seek-at_here.result.0 at c.requires.side.ascends c.requires.side.within wanted;
+      wanted = next_below c.below_keeps_order.ensures top side old.cursor.1 e new c.args.wanted.now c.seek-at_here.result.0 at
+          c.requires.side.ascends c.requires.side.within wanted;
       but = next_by_path side old.cursor.1 e new c.args.but.now c.seek-past_here.result.0 at c.requires.side.ascends c.seek-past_here.ensures.passed;
     }

@@ -23,7 +23,8 @@ returns c =
     let first : c.add_picked.new.list ≡ filter (picks_but top c.args.of_left.now []) c.args.sides.now.left =
     c.in_ok-add_picked.ensures ∙ ap (λ l. l ++ filter (picks_but top c.args.of_left.now []) c.args.sides.now.left) c.make-list.ensures
     in
-    by_steps top c.args.sides.now.right_top c.args.of_left.now c.args.of_right.now c.args.sides.now.left c.args.sides.now.right c.add_picked.new.list c.deref.result.now
+    by_steps top c.args.sides.now.right_top c.args.of_left.now c.args.of_right.now c.args.sides.now.left c.args.sides.now.right
+    c.add_picked.new.list c.deref.result.now
     c.add_picked-2.new.list c.sort_path.new.self (record {
       first = first;
       given_are = c.deref.ensures.value ∙ c.in_ok-given.ensures;

@@ -46,4 +46,5 @@ returns-in-Ok-clause-counted g c =
     let same : count c.readers_of.new.files ≡ count c.args.files.now = c.in_ok-readers.ensures.count in
     let back = c.take_back.ensures.count (subst (λ n. n < 2 ^ 64) (sym same) below) in
     counted g.G.Reader.Tree.count readers others (length c.in-Ok.compared.failed) (count c.args.files.now) (count c.take_back.new.files)
-    c.in_ok-readers.ensures.zero c.in-Ok.ensures.counted below (subst (λ n. count c.take_back.new.files ≡ min (n + sum_by g.G.Reader.Tree.count others) (2 ^ 64 - 1)) same back)
+    c.in_ok-readers.ensures.zero c.in-Ok.ensures.counted below
+    (subst (λ n. count c.take_back.new.files ≡ min (n + sum_by g.G.Reader.Tree.count others) (2 ^ 64 - 1)) same back)

@@ -21,7 +21,9 @@ pub returns-in-Some : goal.returns-in-Some
 returns-in-Some c =
     let is = parent_is c.text-text.result.now c.rfind.result (rfind_char 47 c.text-text.result.now c.rfind.result c.rfind.ensures.cases (omega arith)) in
     let there = rw c.in-Some.is at is in
-    c.range.ensures.value ∙ ap (λ m. take m c.text-text.result.now) (less_none c.in-Some.at) ∙ sym (ap parent_of (sym c.text-text.ensures.text) ∙ there ∙ not_zero c.in-Some.at (take c.in-Some.at c.text-text.result.now) c.in-Some.at-test.1)
+    c.range.ensures.value ∙ ap (λ m. take m c.text-text.result.now) (less_none c.in-Some.at)
+    ∙ sym (ap parent_of (sym c.text-text.ensures.text) ∙ there
+    ∙ not_zero c.in-Some.at (take c.in-Some.at c.text-text.result.now) c.in-Some.at-test.1)
   where
     less_none : (k : ℕ) → k - 0 ≡ k
     less_none k = omega arith

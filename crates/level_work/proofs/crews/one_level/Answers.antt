@@ -13,10 +13,12 @@ use Rattle.level_work.proofs.Turning.{shows_all}
 use Rattle.level_work.proofs.crews.one_level.Goals as goal
 
 pub returns-in_err-deal-clause-home : goal.returns-in_err-deal-clause-home
-returns-in_err-deal-clause-home g c = λ i lot at. let a = same_place (λ l. l.part) _ _ c.deal.ensures.seats.part i lot at in sym a.same ∙ c.requires.home i a.it a.here
+returns-in_err-deal-clause-home g c = λ i lot at. let a = same_place (λ l. l.part) _ _ c.deal.ensures.seats.part i lot at in
+    sym a.same ∙ c.requires.home i a.it a.here
 
 pub lease_all-requires-clause-home : goal.lease_all-requires-clause-home
-lease_all-requires-clause-home g c = λ i lot at. let a = same_place (λ l. l.part) _ _ c.deal.ensures.seats.part i lot at in sym a.same ∙ c.requires.home i a.it a.here
+lease_all-requires-clause-home g c = λ i lot at. let a = same_place (λ l. l.part) _ _ c.deal.ensures.seats.part i lot at in
+    sym a.same ∙ c.requires.home i a.it a.here
 
 pub give_all-requires-clause-tells : goal.give_all-requires-clause-tells
 give_all-requires-clause-tells g c = λ i lot p at is. c.lease_all.ensures.parts_tell i lot p at is ∙ sym c.lease_all.ensures.tells
@@ -25,52 +27,91 @@ pub work_all-requires-clause-ready : goal.work_all-requires-clause-ready
 work_all-requires-clause-ready g c = λ _ _ i lot l e. c.in-Ok.ensures.ready.ready i lot (slice_get-get_or c.lease_all.new.lots i lot l ∙ ap Some (sym e))
 
 pub give_all-requires-2-clause-area : goal.give_all-requires-2-clause-area
-give_all-requires-2-clause-area g c = c.lease_all.ensures.area ∙ ap all_but (sym (tops_kept g.G.Part.Plot.tree g.G.Part.Plot.area (part_count g.G.Part.Plot.count) g.A.Act.plain g.A.Act.count g.A.Act.deed c.args.items.now _ _ c.work_all.auto.lots c.work_all.ensures))
+give_all-requires-2-clause-area g c = c.lease_all.ensures.area
+    ∙ ap all_but (sym (tops_kept g.G.Part.Plot.tree g.G.Part.Plot.area
+    (part_count g.G.Part.Plot.count) g.A.Act.plain g.A.Act.count g.A.Act.deed c.args.items.now _ _ c.work_all.auto.lots c.work_all.ensures))
 
 pub give_all-requires-2-clause-under : goal.give_all-requires-2-clause-under
-give_all-requires-2-clause-under g c = still_under g.G.Part.Plot.tree g.G.Part.Plot.area (part_count g.G.Part.Plot.count) g.A.Act.plain g.A.Act.count g.A.Act.deed c.args.items.now _ _ c.work_all.auto.lots c.work_all.ensures c.lease_all.ensures.under
+give_all-requires-2-clause-under g c =
+    still_under g.G.Part.Plot.tree g.G.Part.Plot.area
+    (part_count g.G.Part.Plot.count) g.A.Act.plain g.A.Act.count g.A.Act.deed c.args.items.now _ _ c.work_all.auto.lots c.work_all.ensures
+    c.lease_all.ensures.under
 
 pub give_all-requires-2-clause-tells : goal.give_all-requires-2-clause-tells
-give_all-requires-2-clause-tells g c = still_tell g.G.Part.Plot.tree g.G.Part.Plot.area (part_count g.G.Part.Plot.count) g.A.Act.plain g.A.Act.count g.A.Act.deed c.args.items.now _ _ c.work_all.auto.lots c.work_all.ensures _ _ c.lease_all.ensures.tells c.lease_all.ensures.parts_tell
+give_all-requires-2-clause-tells g c =
+    still_tell g.G.Part.Plot.tree g.G.Part.Plot.area
+    (part_count g.G.Part.Plot.count) g.A.Act.plain g.A.Act.count g.A.Act.deed c.args.items.now _ _ c.work_all.auto.lots c.work_all.ensures
+    _ _ c.lease_all.ensures.tells c.lease_all.ensures.parts_tell
 
 pub store-requires-clause-shares : goal.store-requires-clause-shares
 store-requires-clause-shares g c = shares_over _ _ _ _ _ _ (likes _ _ c.give_all-2.ensures.shares) (likes_back _ _ c.give_all-2.ensures.shares)
-    (shares_worked g.G.Part.Plot.tree g.G.Part.Plot.area (part_count g.G.Part.Plot.count) g.A.Act.plain g.A.Act.count g.A.Act.deed c.args.items.now _ _ c.work_all.auto.lots c.work_all.ensures _ _ _
+    (shares_worked g.G.Part.Plot.tree g.G.Part.Plot.area
+    (part_count g.G.Part.Plot.count) g.A.Act.plain g.A.Act.count g.A.Act.deed c.args.items.now _ _ c.work_all.auto.lots
+    c.work_all.ensures _ _ _
     (shares_over _ _ _ _ _ _ (likes _ _ c.lease_all.ensures.shares) (likes_back _ _ c.lease_all.ensures.shares) c.in_ok-deal.ensures.shares))
 
 pub store-requires-clause-all : goal.store-requires-clause-all
-store-requires-clause-all g c = all_fates g.G.Part.Plot.tree g.G.Part.Plot.area (part_count g.G.Part.Plot.count) g.A.Act.plain g.A.Act.count g.A.Act.deed c.args.items.now _ _ c.work_all.auto.lots c.work_all.ensures _ c.give_all-2.ensures.shares (c.any_lost.ensures c.if-any_lost.false)
+store-requires-clause-all g c =
+    all_fates g.G.Part.Plot.tree g.G.Part.Plot.area
+    (part_count g.G.Part.Plot.count) g.A.Act.plain g.A.Act.count g.A.Act.deed c.args.items.now _ _ c.work_all.auto.lots c.work_all.ensures
+    _ c.give_all-2.ensures.shares (c.any_lost.ensures c.if-any_lost.false)
 
 pub returns-clause-fates : goal.returns-clause-fates
-returns-clause-fates g c = crew_fates g.G.Part.Plot.tree g.G.Part.Plot.area (part_count g.G.Part.Plot.count) g.A.Act.plain g.A.Act.count g.A.Act.deed c.args.items.now _ _ c.work_all.auto.lots c.work_all.ensures _ _ _ _ _
-    (shares_over _ _ _ _ _ _ (likes _ _ c.lease_all.ensures.shares) (likes_back _ _ c.lease_all.ensures.shares) c.in_ok-deal.ensures.shares) c.give_all-2.ensures.shares c.store.ensures
+returns-clause-fates g c =
+    crew_fates g.G.Part.Plot.tree g.G.Part.Plot.area
+    (part_count g.G.Part.Plot.count) g.A.Act.plain g.A.Act.count g.A.Act.deed c.args.items.now _ _ c.work_all.auto.lots c.work_all.ensures
+    _ _ _ _ _
+    (shares_over _ _ _ _ _ _ (likes _ _ c.lease_all.ensures.shares) (likes_back _ _ c.lease_all.ensures.shares) c.in_ok-deal.ensures.shares)
+    c.give_all-2.ensures.shares c.store.ensures
 
 pub returns-clause-told : goal.returns-clause-told
-returns-clause-told g c = λ d show. crew_told g.G.Part.Plot.tree g.G.Part.Plot.area (part_count g.G.Part.Plot.count) g.A.Act.plain g.A.Act.count g.A.Act.deed c.args.items.now _ _ c.work_all.auto.lots c.work_all.ensures d c.args.order _ _ _ _ _ _ _ c.requires.items
+returns-clause-told g c =
+    λ d show. crew_told g.G.Part.Plot.tree g.G.Part.Plot.area
+    (part_count g.G.Part.Plot.count) g.A.Act.plain g.A.Act.count g.A.Act.deed c.args.items.now _ _ c.work_all.auto.lots c.work_all.ensures d
+    c.args.order _ _ _ _ _ _ _ c.requires.items
     (shares_over _ _ _ _ _ _ (likes _ _ c.lease_all.ensures.shares) (likes_back _ _ c.lease_all.ensures.shares) c.in_ok-deal.ensures.shares)
-    c.in-Ok.ensures.ready c.lease_all.ensures.parts_tell (subst (ShowAll g.A.Act.plain d) (sym (c.lease_all.ensures.shares.actor ∙ c.deal.ensures.seats.actor)) (shows_all g.A.Act.plain _ d show))
-    c.give_all-2.ensures.shares (c.any_lost.ensures c.if-any_lost.false) c.store.ensures c.lease_all.ensures.tells c.lease_all.ensures.told c.give_all-2.ensures.told
+    c.in-Ok.ensures.ready c.lease_all.ensures.parts_tell
+    (subst (ShowAll g.A.Act.plain d) (sym (c.lease_all.ensures.shares.actor ∙ c.deal.ensures.seats.actor))
+    (shows_all g.A.Act.plain _ d show))
+    c.give_all-2.ensures.shares
+    (c.any_lost.ensures c.if-any_lost.false) c.store.ensures c.lease_all.ensures.tells c.lease_all.ensures.told
+    c.give_all-2.ensures.told
 
 pub returns-in-Err-clause-rest : goal.returns-in-Err-clause-rest
-returns-in-Err-clause-rest g c = idle_rest (part_tree g.G.Part.Plot.tree) (part_area g.G.Part.Plot.area) c.args.level c.args.items.now c.lease_all.new.lots _ _ _ c.lease_all.ensures.tells c.lease_all.ensures.told c.give_all.ensures.told
+returns-in-Err-clause-rest g c =
+    idle_rest (part_tree g.G.Part.Plot.tree)
+    (part_area g.G.Part.Plot.area) c.args.level c.args.items.now c.lease_all.new.lots _ _ _ c.lease_all.ensures.tells
+    c.lease_all.ensures.told c.give_all.ensures.told
 
 pub returns-then-any_lost-clause-rest : goal.returns-then-any_lost-clause-rest
-returns-then-any_lost-clause-rest g c = crew_rest g.G.Part.Plot.tree g.G.Part.Plot.area (part_count g.G.Part.Plot.count) g.A.Act.plain g.A.Act.count g.A.Act.deed c.args.items.now _ _ c.work_all.auto.lots c.work_all.ensures c.args.order _ _ _ _ _
-    (shares_over _ _ _ _ _ _ (likes _ _ c.lease_all.ensures.shares) (likes_back _ _ c.lease_all.ensures.shares) c.in_ok-deal.ensures.shares) c.lease_all.ensures.tells c.lease_all.ensures.told c.give_all-2.ensures.told
+returns-then-any_lost-clause-rest g c =
+    crew_rest g.G.Part.Plot.tree g.G.Part.Plot.area
+    (part_count g.G.Part.Plot.count) g.A.Act.plain g.A.Act.count g.A.Act.deed c.args.items.now _ _ c.work_all.auto.lots c.work_all.ensures
+    c.args.order _ _ _ _ _
+    (shares_over _ _ _ _ _ _ (likes _ _ c.lease_all.ensures.shares) (likes_back _ _ c.lease_all.ensures.shares) c.in_ok-deal.ensures.shares)
+    c.lease_all.ensures.tells c.lease_all.ensures.told c.give_all-2.ensures.told
 
 pub returns-in_err-deal-clause-actors : goal.returns-in_err-deal-clause-actors
 returns-in_err-deal-clause-actors g c = idle_actors g.A.Act.plain g.A.Act.count _ _ c.deal.ensures.seats.actor
 
 pub returns-in-Err-clause-actors : goal.returns-in-Err-clause-actors
-returns-in-Err-clause-actors g c = idle_actors g.A.Act.plain g.A.Act.count _ _ (c.give_all.ensures.shares.actor ∙ c.lease_all.ensures.shares.actor ∙ c.deal.ensures.seats.actor)
+returns-in-Err-clause-actors g c =
+    idle_actors g.A.Act.plain g.A.Act.count _ _
+    (c.give_all.ensures.shares.actor ∙ c.lease_all.ensures.shares.actor ∙ c.deal.ensures.seats.actor)
 
 pub returns-then-any_lost-clause-actors : goal.returns-then-any_lost-clause-actors
-returns-then-any_lost-clause-actors g c = actors_over g.A.Act.plain g.A.Act.count _ c.lease_all.new.lots c.work_all.new.lots _ (c.lease_all.ensures.shares.actor ∙ c.deal.ensures.seats.actor) c.give_all-2.ensures.shares.actor
-    (worked_actors g.A.Act.plain g.A.Act.count c.lease_all.new.lots c.work_all.new.lots c.work_all.auto.lots (λ i d l. let w = c.work_all.ensures i d l in (w.keeps.same_plain, w.blamed.actor)))
+returns-then-any_lost-clause-actors g c =
+    actors_over g.A.Act.plain g.A.Act.count _ c.lease_all.new.lots c.work_all.new.lots _
+    (c.lease_all.ensures.shares.actor ∙ c.deal.ensures.seats.actor) c.give_all-2.ensures.shares.actor
+    (worked_actors g.A.Act.plain g.A.Act.count c.lease_all.new.lots c.work_all.new.lots c.work_all.auto.lots
+    (λ i d l. let w = c.work_all.ensures i d l in (w.keeps.same_plain, w.blamed.actor)))
 
 pub returns-clause-actors : goal.returns-clause-actors
-returns-clause-actors g c = actors_over g.A.Act.plain g.A.Act.count _ c.lease_all.new.lots c.work_all.new.lots _ (c.lease_all.ensures.shares.actor ∙ c.deal.ensures.seats.actor) c.give_all-2.ensures.shares.actor
-    (worked_actors g.A.Act.plain g.A.Act.count c.lease_all.new.lots c.work_all.new.lots c.work_all.auto.lots (λ i d l. let w = c.work_all.ensures i d l in (w.keeps.same_plain, w.blamed.actor)))
+returns-clause-actors g c =
+    actors_over g.A.Act.plain g.A.Act.count _ c.lease_all.new.lots c.work_all.new.lots _
+    (c.lease_all.ensures.shares.actor ∙ c.deal.ensures.seats.actor) c.give_all-2.ensures.shares.actor
+    (worked_actors g.A.Act.plain g.A.Act.count c.lease_all.new.lots c.work_all.new.lots c.work_all.auto.lots
+    (λ i d l. let w = c.work_all.ensures i d l in (w.keeps.same_plain, w.blamed.actor)))
 
 pub returns-clause-blamed : goal.returns-clause-blamed
 returns-clause-blamed g c = record {
@@ -79,6 +120,16 @@ returns-clause-blamed g c = record {
   rose = λ low none.
       let e0 = act_map g.A.Act.count _ c.lease_all.new.lots (c.lease_all.ensures.shares.actor ∙ c.deal.ensures.seats.actor) in
       let e3 = act_map g.A.Act.count c.work_all.new.lots _ c.give_all-2.ensures.shares.actor in
-      let sums = sum_blamed (part_count g.G.Part.Plot.count) g.A.Act.count c.lease_all.new.lots c.work_all.new.lots c.work_all.auto.lots (λ i d l. (c.work_all.ensures i d l).blamed) (c.give_all-2.ensures.none_at_end low) (subst NoneAtEnd e3 none) in
-      omega (arith, sums, c.give_all-2.ensures.counts low, c.lease_all.ensures.count, c.store.ensures.most, same_failed c.work_all.new.lots _ c.give_all-2.ensures.shares.fates, ap (sum_by (λ k. k)) e0, ap (sum_by (λ k. k)) e3);
+      let sums = sum_blamed (part_count g.G.Part.Plot.count) g.A.Act.count c.lease_all.new.lots c.work_all.new.lots c.work_all.auto.lots
+      (λ i d l. (c.work_all.ensures i d l).blamed) (c.give_all-2.ensures.none_at_end low) (subst NoneAtEnd e3 none) in
+      omega (
+        arith,
+        sums,
+        c.give_all-2.ensures.counts low,
+        c.lease_all.ensures.count,
+        c.store.ensures.most,
+        same_failed c.work_all.new.lots _ c.give_all-2.ensures.shares.fates,
+        ap (sum_by (λ k. k)) e0,
+        ap (sum_by (λ k. k)) e3,
+      );
 }

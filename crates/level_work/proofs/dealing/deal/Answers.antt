@@ -21,9 +21,14 @@ loop-t-preserved g c =
     let at = slice_get-get_or c.args.places.now c.loop-t.t 0 c.loop-t-test.true in
     record {
       seats = seats_on _ _ _ c.loop-t.invariant.seats c.deal_one.ensures.seats;
-      dealt = dealt_on c.args.order c.args.items.now c.args.fates.now c.args.places.now c.loop-t.lots c.deal_one.new.lots c.loop-t.t _ at c.requires.places.once c.in_ok-deal_one.ensures.dealt c.loop-t.invariant.dealt;
-      fresh = fresh_on c.args.order c.args.items.now c.args.fates.now c.args.places.now c.loop-t.lots c.deal_one.new.lots c.loop-t.t _ at c.requires.places.once c.in_ok-deal_one.ensures.dealt c.loop-t.invariant.fresh;
+      dealt = dealt_on c.args.order c.args.items.now c.args.fates.now c.args.places.now c.loop-t.lots c.deal_one.new.lots c.loop-t.t _ at
+          c.requires.places.once c.in_ok-deal_one.ensures.dealt c.loop-t.invariant.dealt;
+      fresh = fresh_on c.args.order c.args.items.now c.args.fates.now c.args.places.now c.loop-t.lots c.deal_one.new.lots c.loop-t.t _ at
+          c.requires.places.once c.in_ok-deal_one.ensures.dealt c.loop-t.invariant.fresh;
     }
 
 pub returns-clause-shares : goal.returns-clause-shares
-returns-clause-shares g c = all_dealt c.args.order c.args.level c.loop-t.t c.args.items.now c.args.fates.now c.args.places.now c.loop-t.lots c.path_order_is_preorder.ensures c.under_is_contiguous.ensures c.requires.items c.requires.places (omega (arith, c.loop-t-test.false, c.loop-t.auto)) c.loop-t.invariant.dealt
+returns-clause-shares g c =
+    all_dealt c.args.order c.args.level c.loop-t.t c.args.items.now c.args.fates.now c.args.places.now c.loop-t.lots
+    c.path_order_is_preorder.ensures c.under_is_contiguous.ensures c.requires.items c.requires.places
+    (omega (arith, c.loop-t-test.false, c.loop-t.auto)) c.loop-t.invariant.dealt

@@ -25,8 +25,12 @@ loop-k-preserved c =
     let same : c.index_mut.result.now ≡ _ = search rules in
     record {
       below = set_below c.args.items.now c.loop-k.levels.items c.level.result c.push.new.self c.loop-k.invariant.below;
-      places = one_place_more (λ (places : Vec ℕ Global). places.items) c.loop-k.k c.level.result c.args.items.now _ c.loop-k.levels.items c.index_mut.result.now c.push.new.self at c.level.ensures (has ∙ ap Some (sym same)) c.in_ok-push.ensures.items c.loop-k.invariant.places;
+      places = one_place_more (λ (places : Vec ℕ Global). places.items) c.loop-k.k c.level.result c.args.items.now _ c.loop-k.levels.items
+          c.index_mut.result.now c.push.new.self at c.level.ensures
+          (has ∙ ap Some (sym same)) c.in_ok-push.ensures.items c.loop-k.invariant.places;
     }
 
 pub returns-clause-places : goal.returns-clause-places
-returns-clause-places c = subst (λ n. AreByLevel n c.args.items.now (map (λ places. places.items) c.loop-k.levels.items)) (omega (arith, c.loop-k-test.false, c.loop-k.auto)) c.loop-k.invariant.places
+returns-clause-places c =
+    subst (λ n. AreByLevel n c.args.items.now (map (λ places. places.items) c.loop-k.levels.items))
+    (omega (arith, c.loop-k-test.false, c.loop-k.auto)) c.loop-k.invariant.places

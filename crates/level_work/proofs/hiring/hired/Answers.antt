@@ -10,7 +10,8 @@ loop-actor-preserved g c =
     let next = c.in-Some.ensures.steps in
     let new = c.in-Ok.ensures.items in
     record {
-      actors = rest_more (λ l. l.actor) _ c.loop-actor.lots.items c.push.new.self.items c.idle.result c.in-Some.actor (into_iter_items c.loop-actor.actor-iterator) (into_iter_items c.next.new.self) next.0 c.idle.ensures.actor new i.actors;
+      actors = rest_more (λ l. l.actor) _ c.loop-actor.lots.items c.push.new.self.items c.idle.result c.in-Some.actor
+          (into_iter_items c.loop-actor.actor-iterator) (into_iter_items c.next.new.self) next.0 c.idle.ensures.actor new i.actors;
       home = home_more c.loop-actor.lots.items c.push.new.self.items c.idle.result new c.idle.ensures.part i.home;
       gone = i.gone;
       len = omega (arith, i.len, next.1, ap length next.0);

@@ -8,32 +8,71 @@ use Rattle.level_work.proofs.Turning.{of_actors, same_length, none_fell, all_bla
 use Rattle.level_work.proofs.levels.on_levels.Goals as goal
 
 pub all_levels-outcome-requires-clause-alike : goal.all_levels-outcome-requires-clause-alike
-all_levels-outcome-requires-clause-alike g c = λ _ _. subst Alike (ap (map g.A.Act.plain) (sym c.in_ok-lots.ensures.actors) ∙ of_actors g.A.Act.plain c.in_ok-lots.lots.items ∙ ap (map (λ (l : Lot _ _). g.A.Act.plain l.actor)) (sym c.deref_mut.ensures.value)) c.requires.alike
+all_levels-outcome-requires-clause-alike g c =
+    λ _ _. subst Alike (ap (map g.A.Act.plain) (sym c.in_ok-lots.ensures.actors) ∙ of_actors g.A.Act.plain c.in_ok-lots.lots.items
+    ∙ ap (map (λ (l : Lot _ _). g.A.Act.plain l.actor)) (sym c.deref_mut.ensures.value)) c.requires.alike
 
 pub all_levels-outcome-requires-clause-dirs : goal.all_levels-outcome-requires-clause-dirs
-all_levels-outcome-requires-clause-dirs g c = λ _ _ d show. c.requires.dirs d (subst (AllShow d) (sym (ap (map g.A.Act.plain) (sym c.in_ok-lots.ensures.actors) ∙ of_actors g.A.Act.plain c.in_ok-lots.lots.items ∙ ap (map (λ (l : Lot _ _). g.A.Act.plain l.actor)) (sym c.deref_mut.ensures.value))) show)
+all_levels-outcome-requires-clause-dirs g c =
+    λ _ _ d show. c.requires.dirs d
+    (subst (AllShow d) (sym (ap (map g.A.Act.plain) (sym c.in_ok-lots.ensures.actors) ∙ of_actors g.A.Act.plain c.in_ok-lots.lots.items
+    ∙ ap (map (λ (l : Lot _ _). g.A.Act.plain l.actor)) (sym c.deref_mut.ensures.value))) show)
 
 pub returns-clause-plain : goal.returns-clause-plain
 returns-clause-plain g c =
-    let back = (c.dismissed.ensures ∙ ap (map (λ (l : Lot _ _). l.actor)) (written_back c.in_ok-lots.lots.len c.all_levels-outcome.new.lots c.in_ok-lots.lots.items
-    (omega (arith, same_length g.A.Act.plain g.A.Act.count c.deref_mut.result.now c.all_levels-outcome.new.lots c.all_levels-outcome.ensures.actors, c.deref_mut.ensures.len)) (omega (arith, c.in_ok-lots.lots.ok.0)))) in
-    ap (map g.A.Act.plain) back ∙ of_actors g.A.Act.plain c.all_levels-outcome.new.lots ∙ c.all_levels-outcome.ensures.actors.plains ∙ sym (ap (map g.A.Act.plain) (sym c.in_ok-lots.ensures.actors) ∙ of_actors g.A.Act.plain c.in_ok-lots.lots.items ∙ ap (map (λ (l : Lot _ _). g.A.Act.plain l.actor)) (sym c.deref_mut.ensures.value))
+    let back = (c.dismissed.ensures
+    ∙ ap (map (λ (l : Lot _ _). l.actor)) (written_back c.in_ok-lots.lots.len c.all_levels-outcome.new.lots c.in_ok-lots.lots.items
+    (omega (
+      arith,
+      same_length g.A.Act.plain g.A.Act.count c.deref_mut.result.now c.all_levels-outcome.new.lots
+          c.all_levels-outcome.ensures.actors,
+      c.deref_mut.ensures.len,
+    )) (omega (arith, c.in_ok-lots.lots.ok.0)))) in
+    ap (map g.A.Act.plain) back ∙ of_actors g.A.Act.plain c.all_levels-outcome.new.lots ∙ c.all_levels-outcome.ensures.actors.plains
+    ∙ sym (ap (map g.A.Act.plain) (sym c.in_ok-lots.ensures.actors) ∙ of_actors g.A.Act.plain c.in_ok-lots.lots.items
+    ∙ ap (map (λ (l : Lot _ _). g.A.Act.plain l.actor)) (sym c.deref_mut.ensures.value))
 
 pub returns-clause-none_fell : goal.returns-clause-none_fell
 returns-clause-none_fell g c =
-    let back = (c.dismissed.ensures ∙ ap (map (λ (l : Lot _ _). l.actor)) (written_back c.in_ok-lots.lots.len c.all_levels-outcome.new.lots c.in_ok-lots.lots.items
-    (omega (arith, same_length g.A.Act.plain g.A.Act.count c.deref_mut.result.now c.all_levels-outcome.new.lots c.all_levels-outcome.ensures.actors, c.deref_mut.ensures.len)) (omega (arith, c.in_ok-lots.lots.ok.0)))) in
-    subst (λ old. NoneFell old (map g.A.Act.count c.dismissed.new.actors.items)) (sym (ap (map g.A.Act.count) (sym c.in_ok-lots.ensures.actors) ∙ of_actors g.A.Act.count c.in_ok-lots.lots.items ∙ ap (map (λ (l : Lot _ _). g.A.Act.count l.actor)) (sym c.deref_mut.ensures.value)))
-    (subst (NoneFell (map (λ (l : Lot _ _). g.A.Act.count l.actor) c.deref_mut.result.now)) (sym (ap (map g.A.Act.count) back ∙ of_actors g.A.Act.count c.all_levels-outcome.new.lots))
+    let back = (c.dismissed.ensures
+    ∙ ap (map (λ (l : Lot _ _). l.actor)) (written_back c.in_ok-lots.lots.len c.all_levels-outcome.new.lots c.in_ok-lots.lots.items
+    (omega (
+      arith,
+      same_length g.A.Act.plain g.A.Act.count c.deref_mut.result.now c.all_levels-outcome.new.lots
+          c.all_levels-outcome.ensures.actors,
+      c.deref_mut.ensures.len,
+    )) (omega (arith, c.in_ok-lots.lots.ok.0)))) in
+    subst (λ old. NoneFell old (map g.A.Act.count c.dismissed.new.actors.items))
+    (sym (ap (map g.A.Act.count) (sym c.in_ok-lots.ensures.actors) ∙ of_actors g.A.Act.count c.in_ok-lots.lots.items
+    ∙ ap (map (λ (l : Lot _ _). g.A.Act.count l.actor)) (sym c.deref_mut.ensures.value)))
+    (subst (NoneFell (map (λ (l : Lot _ _). g.A.Act.count l.actor) c.deref_mut.result.now))
+    (sym (ap (map g.A.Act.count) back ∙ of_actors g.A.Act.count c.all_levels-outcome.new.lots))
     (none_fell g.A.Act.plain g.A.Act.count c.deref_mut.result.now c.all_levels-outcome.new.lots c.all_levels-outcome.ensures.actors))
 
 pub returns-clause-told : goal.returns-clause-told
-returns-clause-told g c = if_ok _ _ c.all_levels-outcome.result (λ fates h d show. h d (subst (AllShow d) (ap (map g.A.Act.plain) (sym c.in_ok-lots.ensures.actors) ∙ of_actors g.A.Act.plain c.in_ok-lots.lots.items ∙ ap (map (λ (l : Lot _ _). g.A.Act.plain l.actor)) (sym c.deref_mut.ensures.value)) show)) c.all_levels-outcome.ensures.told
+returns-clause-told g c =
+    if_ok _ _ c.all_levels-outcome.result
+    (λ fates h d show. h d (subst (AllShow d)
+    (ap (map g.A.Act.plain) (sym c.in_ok-lots.ensures.actors) ∙ of_actors g.A.Act.plain c.in_ok-lots.lots.items
+    ∙ ap (map (λ (l : Lot _ _). g.A.Act.plain l.actor)) (sym c.deref_mut.ensures.value)) show)) c.all_levels-outcome.ensures.told
 
 pub returns-clause-blamed : goal.returns-clause-blamed
 returns-clause-blamed g c =
-    let back = (c.dismissed.ensures ∙ ap (map (λ (l : Lot _ _). l.actor)) (written_back c.in_ok-lots.lots.len c.all_levels-outcome.new.lots c.in_ok-lots.lots.items
-    (omega (arith, same_length g.A.Act.plain g.A.Act.count c.deref_mut.result.now c.all_levels-outcome.new.lots c.all_levels-outcome.ensures.actors, c.deref_mut.ensures.len)) (omega (arith, c.in_ok-lots.lots.ok.0)))) in
-    if_ok _ _ c.all_levels-outcome.result (λ fates h. subst (λ old. BlamedAll (count_by is_failed fates) (g.G.Plot.count c.args.ground.now) old (g.G.Plot.count c.all_levels-outcome.new.ground) (map g.A.Act.count c.dismissed.new.actors.items)) (sym (ap (map g.A.Act.count) (sym c.in_ok-lots.ensures.actors) ∙ of_actors g.A.Act.count c.in_ok-lots.lots.items ∙ ap (map (λ (l : Lot _ _). g.A.Act.count l.actor)) (sym c.deref_mut.ensures.value)))
-    (subst (BlamedAll (count_by is_failed fates) (g.G.Plot.count c.args.ground.now) (map (λ (l : Lot _ _). g.A.Act.count l.actor) c.deref_mut.result.now) (g.G.Plot.count c.all_levels-outcome.new.ground)) (sym (ap (map g.A.Act.count) back ∙ of_actors g.A.Act.count c.all_levels-outcome.new.lots))
+    let back = (c.dismissed.ensures
+    ∙ ap (map (λ (l : Lot _ _). l.actor)) (written_back c.in_ok-lots.lots.len c.all_levels-outcome.new.lots c.in_ok-lots.lots.items
+    (omega (
+      arith,
+      same_length g.A.Act.plain g.A.Act.count c.deref_mut.result.now c.all_levels-outcome.new.lots
+          c.all_levels-outcome.ensures.actors,
+      c.deref_mut.ensures.len,
+    )) (omega (arith, c.in_ok-lots.lots.ok.0)))) in
+    if_ok _ _ c.all_levels-outcome.result
+    (λ fates h. subst (λ old.
+    BlamedAll (count_by is_failed fates) (g.G.Plot.count c.args.ground.now) old (g.G.Plot.count c.all_levels-outcome.new.ground)
+    (map g.A.Act.count c.dismissed.new.actors.items))
+    (sym (ap (map g.A.Act.count) (sym c.in_ok-lots.ensures.actors) ∙ of_actors g.A.Act.count c.in_ok-lots.lots.items
+    ∙ ap (map (λ (l : Lot _ _). g.A.Act.count l.actor)) (sym c.deref_mut.ensures.value)))
+    (subst (BlamedAll (count_by is_failed fates) (g.G.Plot.count c.args.ground.now)
+    (map (λ (l : Lot _ _). g.A.Act.count l.actor) c.deref_mut.result.now) (g.G.Plot.count c.all_levels-outcome.new.ground))
+    (sym (ap (map g.A.Act.count) back ∙ of_actors g.A.Act.count c.all_levels-outcome.new.lots))
     (all_blamed _ _ _ _ _ h))) c.all_levels-outcome.ensures.blamed

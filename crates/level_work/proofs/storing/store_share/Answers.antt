@@ -8,6 +8,9 @@ loop-j-init g c = none_stored _ _ _
 
 pub loop-j-preserved : goal.loop-j-preserved
 loop-j-preserved g c =
-    let at = slice_get-get_or c.args.lot.now.places.items c.loop-j.j c.index-in-loop-j.result.now (omega (arith, c.loop-j-test.true, c.len-j-end.ensures)) ∙ ap Some (sym c.index-in-loop-j.ensures) in
-    let is = slice_get-get_or c.args.lot.now.fates.items c.loop-j.j c.index.result.now (omega (arith, c.loop-j-test.true, c.len-j-end.ensures, c.requires.len)) ∙ ap Some (sym c.index.ensures) in
-    stored_more c.loop-j.j c.index-in-loop-j.result.now c.index.result.now _ _ _ _ at is (omega (arith, c.requires.inside _ _ at, c.loop-j.invariant.len)) c.requires.once c.loop-j.invariant
+    let at = slice_get-get_or c.args.lot.now.places.items c.loop-j.j c.index-in-loop-j.result.now
+    (omega (arith, c.loop-j-test.true, c.len-j-end.ensures)) ∙ ap Some (sym c.index-in-loop-j.ensures) in
+    let is = slice_get-get_or c.args.lot.now.fates.items c.loop-j.j c.index.result.now
+    (omega (arith, c.loop-j-test.true, c.len-j-end.ensures, c.requires.len)) ∙ ap Some (sym c.index.ensures) in
+    stored_more c.loop-j.j c.index-in-loop-j.result.now c.index.result.now _ _ _ _ at is
+    (omega (arith, c.requires.inside _ _ at, c.loop-j.invariant.len)) c.requires.once c.loop-j.invariant

@@ -14,7 +14,8 @@ store_share-requires-clause-inside g c = λ j k e.
 pub store_share-requires-clause-once : goal.store_share-requires-clause-once
 store_share-requires-clause-once g c = λ i j k a b.
     let at = slice_get-get_or c.args.lots.now c.loop-i.i c.index-lots-i.result c.loop-i-test.true ∙ ap Some (sym c.index-lots-i.is) in
-    (c.requires.once c.loop-i.i i c.loop-i.i j k (record { lot = c.index-lots-i.result; is_lot = at; at = a }) (record { lot = c.index-lots-i.result; is_lot = at; at = b })).1
+    (c.requires.once c.loop-i.i i c.loop-i.i j k (record { lot = c.index-lots-i.result; is_lot = at; at = a })
+    (record { lot = c.index-lots-i.result; is_lot = at; at = b })).1
 
 pub loop-i-preserved : goal.loop-i-preserved
 loop-i-preserved g c =

@@ -1,4 +1,3 @@
-use Rattle.std.proofs.Common.{◌≡◌, ◌<◌, ℕ, false, slice_get, Some}
 use Rattle.outside.proofs.Places.{NoneBefore}
 use Rattle.outside.proofs.leases.place_of.Given as goal
 

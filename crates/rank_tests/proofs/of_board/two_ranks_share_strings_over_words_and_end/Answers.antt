@@ -4,7 +4,9 @@ use Rattle.rank_tests.proofs.of_board.two_ranks_share_strings_over_words_and_end
 
 pub share_and_end-requires-clause-seats : goal.share_and_end-requires-clause-seats
 share_and_end-requires-clause-seats g c =
-    let both = both_new shown_by (IsSeat c.in_ok-board.board) c.in_ok-board.seats.items c.two_of.result c.in_ok-zero.zero c.in_ok-zero.one _ c.in_ok-board.ensures.seats
+    let both = both_new shown_by
+    (IsSeat c.in_ok-board.board) c.in_ok-board.seats.items c.two_of.result c.in_ok-zero.zero c.in_ok-zero.one
+    _ c.in_ok-board.ensures.seats
     c.two_of.ensures c.in_ok-zero.ensures.ok_part in
     (both.0.mine, both.1.mine)
 

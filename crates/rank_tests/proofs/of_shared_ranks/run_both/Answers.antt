@@ -4,7 +4,8 @@ use Rattle.circle_run.specs.declared.ranks.Rank.{Rank}
 use Rattle.rank_tests.proofs.of_shared_ranks.run_both.Goals as goal
 
 -- what holds of two holds of each place of the list of them
-each_of : {A : Type 0} (P : A → Type 0) (first second : A) → P first → P second → (k : ℕ) (d : A) → k < length (first ∷ second ∷ []) → P (get_or (first ∷ second ∷ []) k d)
+each_of : {A : Type 0} (P : A → Type 0) (first second : A) → P first → P second → (k : ℕ) (d : A) → k < length (first ∷ second ∷ [])
+    → P (get_or (first ∷ second ∷ []) k d)
 each_of P first second a b zero d below = a
 each_of P first second a b (suc zero) d below = b
 each_of P first second a b (suc (suc k)) d below = absurd (omega arith)

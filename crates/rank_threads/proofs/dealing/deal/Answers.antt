@@ -38,5 +38,6 @@ loop-k-preserved c =
           (c.args.options.now.ranks - (c.loop-k.k + 1)) _ _ _ c.loop-k.invariant.sums (omega arith) c.in-Some-pop.ensures.items;
       lasts = before (λ k s. IsSumSeat c.args.place.lasts.now s × (sums_shown s ≡ fresh_sum c.args.options.now.ranks c.args.options.now.width k)) _
           (c.args.options.now.ranks - (c.loop-k.k + 1)) _ _ _ c.loop-k.invariant.lasts (omega arith) c.in-Some-pop-2.ensures.items;
-      fit = subst (All Fits) (sym c.in_ok-push.ensures.items) (All-push Fits c.loop-k.workers.items c.in_ok-make.field-0 c.loop-k.invariant.fit c.in_ok-make.ensures);
+      fit = subst (All Fits) (sym c.in_ok-push.ensures.items)
+          (All-push Fits c.loop-k.workers.items c.in_ok-make.field-0 c.loop-k.invariant.fit c.in_ok-make.ensures);
     }

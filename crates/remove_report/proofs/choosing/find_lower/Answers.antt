@@ -8,5 +8,6 @@ returns-clause-chosen g c =
 
 pub returns-clause-there : goal.returns-clause-there
 returns-clause-there g c =
-    let can = can_be_removed _ c.args.paths.items (choice_in c.args.tests) _ _ _ _ _ _ c.requires.lower c.in_ok-found.ensures.finds c.in_ok-found.ensures.ascend in
+    let can = can_be_removed _ c.args.paths.items
+    (choice_in c.args.tests) _ _ _ _ _ _ c.requires.lower c.in_ok-found.ensures.finds c.in_ok-found.ensures.ascend in
     are_there _ c.args.paths.items (choice_in c.args.tests) _ _ _ _ _ _ c.entries_are_told.ensures can c.in_ok-found.ensures.finds

@@ -51,7 +51,8 @@ loop-output-preserved g c =
     record {
       saved =
           subst (λ os. Saved os (tree c.args.files.now) (tree c.save_at.new.files)) (sym (taken_more outputs i output c.loop-output-test.true c.output-item.is))
-          (one_more (take i outputs) output (tree c.args.files.now) (tree c.loop-output.files) (tree c.save_at.new.files) old.saved c.in_ok-save_at.ensures.saved);
+          (one_more (take i outputs) output (tree c.args.files.now) (tree c.loop-output.files)
+          (tree c.save_at.new.files) old.saved c.in_ok-save_at.ensures.saved);
       lent = c.save_at.ensures.lent;
       count = record {
         kept = omega (arith, old.count.kept, c.save_at.ensures.count.kept);

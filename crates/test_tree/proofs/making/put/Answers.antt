@@ -17,6 +17,7 @@ returns-in-Ok c =
       | then-k-nodes w ↦ w.files-is ∙ put_is w.put_dir-done.result c.in-Ok.field-0 _ _ (sym w.done-is ∙ c.in-Ok.is) w.put_dir-done.ensures.put
           ∙ ap (with_node c.args.files.now c.args.path.now) (sym (node_is_dir c.args.nodes c.args.k w.if-k-nodes.true))
       | else-k-nodes w ↦ w.files-is ∙ put_is w.put_file-done.result c.in-Ok.field-0 _ _ (sym w.done-is ∙ c.in-Ok.is) w.put_file-done.ensures.put
-          ∙ ap (λ bytes. with_node c.args.files.now c.args.path.now (record { body = file bytes; mtime = None })) (take-replicate (37 * c.args.k % 101) 100 (c.args.k % 256) (omega arith))
+          ∙ ap (λ bytes. with_node c.args.files.now c.args.path.now (record { body = file bytes; mtime = None }))
+          (take-replicate (37 * c.args.k % 101) 100 (c.args.k % 256) (omega arith))
           ∙ ap (with_node c.args.files.now c.args.path.now) (sym (node_is_file c.args.nodes c.args.k w.if-k-nodes.false))
     ]

@@ -23,14 +23,21 @@ pub returns-clause-found : goal.returns-clause-found
 returns-clause-found g c =
     let l = side c.args.left_top.now c.args.left.now in
     let r = side c.args.right_top.now c.args.right.now in
-    if_found (IsComparison (first_told (map g.R.Tree.tree c.args.readers.now.items)) l r) c.of.result (findings_of c.args.left_top.now c.args.right_top.now c.read_all.new.drafts.items)
-    (comparison c.graft_undoes_below.ensures (first_told (map g.R.Tree.tree c.args.readers.now.items)) l r c.requires.left c.requires.right c.requires.left_told c.requires.right_told c.read_all.new.drafts.items
-    (subst (AreDrafts (items_of c.args.left_top.now c.args.left.now) (items_of c.args.right_top.now c.args.right.now)) (sym c.in_ok-read_all.ensures.unsettled) c.in_ok-drafts.ensures)
+    if_found (IsComparison (first_told (map g.R.Tree.tree c.args.readers.now.items)) l r) c.of.result
+    (findings_of c.args.left_top.now c.args.right_top.now c.read_all.new.drafts.items)
+    (comparison c.graft_undoes_below.ensures
+    (first_told (map g.R.Tree.tree c.args.readers.now.items)) l r c.requires.left c.requires.right c.requires.left_told
+    c.requires.right_told c.read_all.new.drafts.items
+    (subst (AreDrafts (items_of c.args.left_top.now c.args.left.now) (items_of c.args.right_top.now c.args.right.now))
+    (sym c.in_ok-read_all.ensures.unsettled) c.in_ok-drafts.ensures)
     c.in_ok-read_all.ensures.settled)
     c.of.ensures
 
 pub returns-clause-counted : goal.returns-clause-counted
 returns-clause-counted g c =
-    if_found (λ found. RoseTogether (length found.failed) (map g.R.Tree.count c.args.readers.now.items) (map g.R.Tree.count c.read_all.new.readers.items)) c.of.result (findings_of c.args.left_top.now c.args.right_top.now c.read_all.new.drafts.items)
-    (subst (λ n. RoseTogether n (map g.R.Tree.count c.args.readers.now.items) (map g.R.Tree.count c.read_all.new.readers.items)) (sym (failed_count c.args.left_top.now c.args.right_top.now c.read_all.new.drafts.items)) c.in_ok-read_all.ensures.counted)
+    if_found (λ found. RoseTogether (length found.failed) (map g.R.Tree.count c.args.readers.now.items)
+    (map g.R.Tree.count c.read_all.new.readers.items)) c.of.result
+    (findings_of c.args.left_top.now c.args.right_top.now c.read_all.new.drafts.items)
+    (subst (λ n. RoseTogether n (map g.R.Tree.count c.args.readers.now.items) (map g.R.Tree.count c.read_all.new.readers.items))
+    (sym (failed_count c.args.left_top.now c.args.right_top.now c.read_all.new.drafts.items)) c.in_ok-read_all.ensures.counted)
     c.of.ensures

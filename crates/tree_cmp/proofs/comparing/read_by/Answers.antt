@@ -19,7 +19,9 @@ settle-requires-clause-room g c =
 pub settle-requires-clause-found : goal.settle-requires-clause-found
 settle-requires-clause-found g c =
     let as_many : length c.work_all.new.workers ≡ length c.args.workers.now = search rules in
-    all_found g.R.Tree.tree g.R.Tree.count _ (map unsettled c.args.drafts.now) c.args.workers.now c.work_all.new.workers as_many c.work_all.ensures c.requires.alike (sym c.requires.unread)
+    all_found g.R.Tree.tree g.R.Tree.count _
+    (map unsettled c.args.drafts.now) c.args.workers.now c.work_all.new.workers as_many c.work_all.ensures c.requires.alike
+    (sym c.requires.unread)
 
 pub settle-requires-clause-so_far : goal.settle-requires-clause-so_far
 settle-requires-clause-so_far g c = nothing_so_far _ c.args.left.now c.args.right.now c.args.drafts.now c.requires.unread
@@ -36,12 +38,15 @@ returns-clause-settled g c =
 pub returns-clause-counted : goal.returns-clause-counted
 returns-clause-counted g c =
     let as_many : length c.work_all.new.workers ≡ length c.args.workers.now = search rules in
-    then_rose g.R.Tree.tree g.R.Tree.count (blames c.settle.new.drafts) _ c.args.workers.now c.work_all.new.workers c.settle.new.workers as_many c.work_all.ensures c.settle.ensures.none_fell c.settle.ensures.counted
+    then_rose g.R.Tree.tree g.R.Tree.count
+    (blames c.settle.new.drafts) _ c.args.workers.now c.work_all.new.workers c.settle.new.workers as_many c.work_all.ensures
+    c.settle.ensures.none_fell c.settle.ensures.counted
 
 pub returns-clause-none_fell : goal.returns-clause-none_fell
 returns-clause-none_fell g c =
     let as_many : length c.work_all.new.workers ≡ length c.args.workers.now = search rules in
-    then_fell g.R.Tree.tree g.R.Tree.count _ c.args.workers.now c.work_all.new.workers c.settle.new.workers as_many c.work_all.ensures c.settle.ensures.none_fell
+    then_fell g.R.Tree.tree g.R.Tree.count _ c.args.workers.now c.work_all.new.workers c.settle.new.workers as_many c.work_all.ensures
+    c.settle.ensures.none_fell
 
 pub returns-clause-same : goal.returns-clause-same
 returns-clause-same g c =

@@ -16,10 +16,19 @@ loop-desk-preserved g c =
     let workers : c.push.new.self.items ≡ c.loop-desk.workers.items ++ w ∷ [] = c.in-Ok.ensures.items in
     let idle = unpushed IsIdle c.pop.new.self.items c.in-Some.desk (subst (All IsIdle) desks i.idle) in
     record {
-      number = omega (arith, i.number, ap length desks, ap length workers, length-append c.pop.new.self.items (c.in-Some.desk ∷ []), length-append c.loop-desk.workers.items (w ∷ []));
+      number = omega (
+        arith,
+        i.number,
+        ap length desks,
+        ap length workers,
+        length-append c.pop.new.self.items (c.in-Some.desk ∷ []),
+        length-append c.loop-desk.workers.items (w ∷ []),
+      );
       idle = idle.0;
-      at_desks = subst (All (λ (x : Worker g.row.R.Denot). IsIdle x.desk)) (sym workers) (All-push (λ (x : Worker g.row.R.Denot). IsIdle x.desk) c.loop-desk.workers.items w i.at_desks idle.1);
-      readers = ap (λ (ws : List (Worker g.row.R.Denot)). c.pop-in-Some.new.self.items ++ reverse (readers_of ws)) workers ∙ sym (moved c.pop-in-Some.new.self.items c.loop-desk.workers.items w)
+      at_desks = subst (All (λ (x : Worker g.row.R.Denot). IsIdle x.desk)) (sym workers)
+          (All-push (λ (x : Worker g.row.R.Denot). IsIdle x.desk) c.loop-desk.workers.items w i.at_desks idle.1);
+      readers = ap (λ (ws : List (Worker g.row.R.Denot)). c.pop-in-Some.new.self.items ++ reverse (readers_of ws)) workers
+          ∙ sym (moved c.pop-in-Some.new.self.items c.loop-desk.workers.items w)
           ∙ ap (λ rs. rs ++ reverse (readers_of c.loop-desk.workers.items)) (sym readers) ∙ i.readers;
       room = omega (arith, c.in-Ok.ensures.len, c.in-Ok.ensures.capacity, c.in-Some.ensures.cases, i.room);
       back = omega (arith, c.in-Ok.ensures.len, c.in-Some-pop.ensures.cases, c.in-Some-pop.ensures.capacity, i.back);

@@ -8,7 +8,8 @@ invariant-loop-right l = record {
   ready : Ready l.hidden (left_of l.left) (left_of l.right);
   left : HasSoundEnds l.left;
   right : HasSoundEnds l.right;
-  goes : (rest : List Draft) → From l.hidden (left_of l.left) (left_of l.right) rest → From None (left_of l.initial.left) (left_of l.initial.right) (l.drafts.items ++ rest);
+  goes : (rest : List Draft) → From l.hidden (left_of l.left) (left_of l.right) rest
+      → From None (left_of l.initial.left) (left_of l.initial.right) (l.drafts.items ++ rest);
 }
 
 abbrev pub decreases-loop-right : goal.decreases-loop-right

@@ -13,10 +13,13 @@ loop-done-preserved g c =
     let some : 0 < c.in_ok-n.n = grind arith in
     let most : c.in_ok-n.n ≤ length c.read.new.into = grind arith in
     let told : IfSome (tree c.args.reader.now) (λ files. Reads files c.args.path.now (c.args.at + c.loop-done.done) c.read.new.into c.in_ok-n.n) =
-    subst (λ t. IfSome t (λ files. Reads files c.args.path.now (c.args.at + c.loop-done.done) c.read.new.into c.in_ok-n.n)) c.loop-done.invariant.same c.in_ok-n.ensures.told in
+    subst (λ t. IfSome t (λ files. Reads files c.args.path.now (c.args.at + c.loop-done.done) c.read.new.into c.in_ok-n.n))
+    c.loop-done.invariant.same c.in_ok-n.ensures.told in
     record {
       inside = first_of (search rules, grind (arith, common_steps));
-      filled = λ h. filled (tree c.args.reader.now) c.args.path.now c.args.at c.loop-done.done c.in_ok-n.n (length c.loop-done.into - c.loop-done.done) c.loop-done.into c.read.new.into c.loop-done.invariant.inside most some c.loop-done.invariant.filled told;
+      filled = λ h. filled (tree c.args.reader.now) c.args.path.now c.args.at c.loop-done.done c.in_ok-n.n
+          (length c.loop-done.into - c.loop-done.done) c.loop-done.into c.read.new.into c.loop-done.invariant.inside most some
+          c.loop-done.invariant.filled told;
       same = c.in_ok-n.ensures.same ∙ c.loop-done.invariant.same;
       count = search rules;
     }

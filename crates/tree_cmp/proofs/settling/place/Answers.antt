@@ -17,6 +17,13 @@ loop-f-preserved c =
     record {
       as_many = length-set c.loop-f.drafts f.place (with_outcome f.outcome (get_or c.loop-f.drafts f.place d)) ∙ i.as_many;
       rows = placed_unsettled c.loop-f.drafts c.args.drafts.now f.place f.outcome d i.rows;
-      so_far = λ tree left right all old. placed_so_far tree left right c.loop-f.drafts c.args.drafts.now f d inside i.rows (all c.loop-f.f-index none at) (i.so_far tree left right all old);
-      counted = omega (arith, i.counted, placed_counted c.loop-f.drafts f.place f.outcome d inside, sum_by_more (λ (x : Found). counts x.outcome) c.args.found.now c.loop-f.f-index none at);
+      so_far = λ tree left right all old.
+          placed_so_far tree left right c.loop-f.drafts c.args.drafts.now f d inside i.rows (all c.loop-f.f-index none at)
+          (i.so_far tree left right all old);
+      counted = omega (
+        arith,
+        i.counted,
+        placed_counted c.loop-f.drafts f.place f.outcome d inside,
+        sum_by_more (λ (x : Found). counts x.outcome) c.args.found.now c.loop-f.f-index none at,
+      );
     }

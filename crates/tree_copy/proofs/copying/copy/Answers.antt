@@ -5,7 +5,8 @@ use Rattle.outside.specs.Parts.{IsTreeIn}
 use Rattle.level_work.specs.Counts.{is_failed}
 use Rattle.tree_copy.specs.Copying.{AreEarly, Copied, bytes_copied, is_done}
 use Rattle.tree_copy.proofs.Readers.{if_ok}
-use Rattle.tree_copy.proofs.Reported.{Run, acted_rest, all_bytes, both_ok, dirs, done_rows, early, fit, fitted, marked, marks_len, rest, rose, row_paths, stand, told}
+use Rattle.tree_copy.proofs.Reported.{Run, acted_rest, all_bytes, both_ok, dirs, done_rows, early, fit, fitted, marked, marks_len, rest, rose}
+use Rattle.tree_copy.proofs.Reported.{row_paths, stand, told}
 use Rattle.tree_copy.proofs.copying.copy.Goals as goal
 
 pub work-requires-clause-items : goal.work-requires-clause-items

@@ -5,7 +5,8 @@ use Rattle.flat_list.specs.Spelling.{paths}
 use Rattle.std.proofs.lemmas.Option.{slice_get-get_or}
 use Rattle.tree_copy.specs.Copying.{treated}
 use Rattle.tree_copy.specs.PrivateSettling.{fitting}
-use Rattle.tree_copy.proofs.Tallies.{Tallied, ended, IsFate, IsNoted, few_more, has_mark, left_skipped, moved_on, path_step, some_left, next_of, off_end, passed, skipped}
+use Rattle.tree_copy.proofs.Tallies.{Tallied, ended, IsFate, IsNoted, few_more, has_mark, left_skipped, moved_on, path_step, some_left, next_of}
+use Rattle.tree_copy.proofs.Tallies.{off_end, passed, skipped}
 use Rattle.tree_copy.proofs.settling.settle.Goals as goal
 
 pub loop-cursor-preserved-then-is_none : goal.loop-cursor-preserved-then-is_none

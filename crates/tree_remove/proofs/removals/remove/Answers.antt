@@ -45,7 +45,8 @@ returns-clause-told g c = subst (λ xs. IfSome (g.G.Plot.tree c.args.ground.now)
 
 pub returns-clause-blamed : goal.returns-clause-blamed
 returns-clause-blamed g c =
-    rose_by _ _ _ _ _ _ c.in_ok-fates.ensures.kept c.in_ok-fates.ensures.blamed (count_paths is_failed _ _ (c.in_ok-fates.ensures.len ∙ ap length c.deref.ensures.value))
+    rose_by _ _ _ _ _ _ c.in_ok-fates.ensures.kept c.in_ok-fates.ensures.blamed
+    (count_paths is_failed _ _ (c.in_ok-fates.ensures.len ∙ ap length c.deref.ensures.value))
 
 pub returns-clause-rest : goal.returns-clause-rest
 returns-clause-rest g c =

@@ -64,7 +64,8 @@ returns-clause-ran g c = λ one.
         sorted = c.in_ok-list.ensures.sorted;
       };
     } in
-    was_walked tree faults told jobs list starts c.args.options.now c.in_ok-finished.finished.shares.items c.in_ok-finished.finished.events.items run (ran.ran one)
+    was_walked tree faults told jobs list starts c.args.options.now c.in_ok-finished.finished.shares.items
+    c.in_ok-finished.finished.events.items run (ran.ran one)
 
 pub returns-clause-traced : goal.returns-clause-traced
 returns-clause-traced g c = λ on.

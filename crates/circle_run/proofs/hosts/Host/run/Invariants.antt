@@ -12,10 +12,12 @@ invariant-loop-k g l = record {
   same : Same g.J.Job.plain l.fn.self.ranks.items l.ranks.items;
   end : l.k-end ≡ length l.fn.self.ranks.items;
   ran : NoneLost l.ranks.items → (o : Options) (t : Told) → AreAll o l.fn.self.ranks.items → g.P.Post.tells l.fn.post ≡ Some t
-      → Going g.J.Job.log g.J.Job.plain g.P.Post.shows g.P.Post.tells g.P.Post.seats (KeptByEach o l.fn.self.ranks.items l.ranks.items) o t l.fn.self.ranks.items l.ranks.items l.post l.k;
+      → Going g.J.Job.log g.J.Job.plain g.P.Post.shows g.P.Post.tells g.P.Post.seats
+      (KeptByEach o l.fn.self.ranks.items l.ranks.items) o t l.fn.self.ranks.items l.ranks.items l.post l.k;
   still : g.P.Post.tells l.fn.post ≡ None → l.post ≡ l.fn.post;
   sums_still : g.Q.Sums.tells l.fn.sums ≡ None → l.sums ≡ l.fn.sums;
-  alone : g.P.Post.tells l.fn.post ≡ None → NoneLost l.ranks.items → (g.P.Post.tells l.post ≡ None) × AllAlone g.J.Job.log g.P.Post.shows l.fn.self.ranks.items l.ranks.items;
+  alone : g.P.Post.tells l.fn.post ≡ None → NoneLost l.ranks.items → (g.P.Post.tells l.post ≡ None)
+      × AllAlone g.J.Job.log g.P.Post.shows l.fn.self.ranks.items l.ranks.items;
 }
 
 abbrev pub invariant-loop : goal.invariant-loop
@@ -26,8 +28,10 @@ invariant-loop g l = record {
   wide : length l.done ≡ 64;
   same : Same g.J.Job.plain l.fn.self.ranks.items l.ranks.items;
   ran : NoneLost l.ranks.items → (o : Options) (t : Told) → AreAll o l.fn.self.ranks.items → g.P.Post.tells l.fn.post ≡ Some t
-      → Going g.J.Job.log g.J.Job.plain g.P.Post.shows g.P.Post.tells g.P.Post.seats (KeptByEach o l.fn.self.ranks.items l.ranks.items) o t l.fn.self.ranks.items l.ranks.items l.post 0;
+      → Going g.J.Job.log g.J.Job.plain g.P.Post.shows g.P.Post.tells g.P.Post.seats
+      (KeptByEach o l.fn.self.ranks.items l.ranks.items) o t l.fn.self.ranks.items l.ranks.items l.post 0;
   still : g.P.Post.tells l.fn.post ≡ None → l.post ≡ l.fn.post;
   sums_still : g.Q.Sums.tells l.fn.sums ≡ None → l.sums ≡ l.fn.sums;
-  alone : g.P.Post.tells l.fn.post ≡ None → NoneLost l.ranks.items → (g.P.Post.tells l.post ≡ None) × AllAlone g.J.Job.log g.P.Post.shows l.fn.self.ranks.items l.ranks.items;
+  alone : g.P.Post.tells l.fn.post ≡ None → NoneLost l.ranks.items → (g.P.Post.tells l.post ≡ None)
+      × AllAlone g.J.Job.log g.P.Post.shows l.fn.self.ranks.items l.ranks.items;
 }

@@ -13,7 +13,8 @@ invariant-loop-k g l = record {
   end : l.k-end ≡ length l.fn.self.ranks.items;
   wrote : NoneWrote l.ranks.items;
   ran : (o : Options) (t : Told) → AreAll o l.fn.self.ranks.items → g.P.Post.tells l.fn.post ≡ Some t
-      → Going g.J.Job.log g.J.Job.plain g.P.Post.shows g.P.Post.tells g.P.Post.seats (KeptInOrder o l.events.items) o t l.fn.self.ranks.items l.ranks.items l.post l.k;
+      → Going g.J.Job.log g.J.Job.plain g.P.Post.shows g.P.Post.tells g.P.Post.seats
+      (KeptInOrder o l.events.items) o t l.fn.self.ranks.items l.ranks.items l.post l.k;
 }
 
 abbrev pub invariant-loop : goal.invariant-loop
@@ -25,5 +26,6 @@ invariant-loop g l = record {
   same : Same g.J.Job.plain l.fn.self.ranks.items l.ranks.items;
   wrote : NoneWrote l.ranks.items;
   ran : (o : Options) (t : Told) → AreAll o l.fn.self.ranks.items → g.P.Post.tells l.fn.post ≡ Some t
-      → Going g.J.Job.log g.J.Job.plain g.P.Post.shows g.P.Post.tells g.P.Post.seats (KeptInOrder o l.events.items) o t l.fn.self.ranks.items l.ranks.items l.post 0;
+      → Going g.J.Job.log g.J.Job.plain g.P.Post.shows g.P.Post.tells g.P.Post.seats
+      (KeptInOrder o l.events.items) o t l.fn.self.ranks.items l.ranks.items l.post 0;
 }

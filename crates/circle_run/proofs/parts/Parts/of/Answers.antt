@@ -6,7 +6,8 @@ use Rattle.circle_run.specs.declared.books.Book.{Book}
 use Rattle.circle_run.proofs.parts.Parts.of.Goals as goal
 
 -- a list of what each has, with that of one more
-map_more : {X Y : Type 0} (f : X → Y) (xs : List X) (ys ys' : List Y) (x : X) (y : Y) → ys ≡ map f xs → y ≡ f x → ys' ≡ ys ++ y ∷ [] → ys' ≡ map f (xs ++ x ∷ [])
+map_more : {X Y : Type 0} (f : X → Y) (xs : List X) (ys ys' : List Y) (x : X) (y : Y) → ys ≡ map f xs → y ≡ f x → ys' ≡ ys ++ y ∷ []
+    → ys' ≡ map f (xs ++ x ∷ [])
 map_more f xs ys ys' x y old is new = new ∙ ap (λ zs. zs ++ y ∷ []) old ∙ ap (λ z. map f xs ++ z ∷ []) is ∙ sym (map_push f xs x)
 
 pub loop-rank-preserved : goal.loop-rank-preserved

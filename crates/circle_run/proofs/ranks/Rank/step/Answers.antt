@@ -4,12 +4,16 @@ use Rattle.circle_run.proofs.Turning.{took, skipped}
 use Rattle.circle_run.proofs.ranks.Rank.step.Goals as goal
 
 pub returns-then-done-clause-took : goal.returns-then-done-clause-took
-returns-then-done-clause-took g c = skipped g.J.Job.log g.J.Job.plain g.P.Post.shows g.P.Post.tells g.P.Post.seats c.args.self.now c.args.post.now (g.met.P.Post.agrees c.args.post.now c.args.self.now.seat c.requires.ready.mine) c.requires.ready.knows (c.requires.over c.if-done.true).0
+returns-then-done-clause-took g c =
+    skipped g.J.Job.log g.J.Job.plain g.P.Post.shows g.P.Post.tells g.P.Post.seats c.args.self.now c.args.post.now
+    (g.met.P.Post.agrees c.args.post.now c.args.self.now.seat c.requires.ready.mine) c.requires.ready.knows
+    (c.requires.over c.if-done.true).0
 
 pub returns-in-Ended : goal.returns-in-Ended
 returns-in-Ended g c = record {
   placed = record { ready = c.turn.ensures.ready; over = λ e. c.in-Ended.ensures.ended refl; going = λ e. absurd (true_not_false true refl e) };
-  took = took g.J.Job.log g.J.Job.plain g.P.Post.shows g.P.Post.tells g.P.Post.seats g.J.Job.heard c.turn.result c.args.self.now c.args.post.now c.turn.new.self c.turn.new.post
+  took = took g.J.Job.log g.J.Job.plain g.P.Post.shows g.P.Post.tells g.P.Post.seats g.J.Job.heard c.turn.result c.args.self.now
+      c.args.post.now c.turn.new.self c.turn.new.post
       (g.met.P.Post.agrees c.args.post.now c.args.self.now.seat c.requires.ready.mine) c.requires.ready.knows c.turn.ensures.turned c.turn.ensures.waits;
   others = c.turn.ensures.others;
   sums_others = c.turn.ensures.sums_others;
@@ -18,8 +22,13 @@ returns-in-Ended g c = record {
 
 pub returns-in_default : goal.returns-in_default
 returns-in_default g c = record {
-  placed = record { ready = c.turn.ensures.ready; over = λ e. absurd (true_not_false c.args.done.now e c.if-done.false); going = λ e. c.turn.ensures.unfinished c.in_default.not-Ended };
-  took = took g.J.Job.log g.J.Job.plain g.P.Post.shows g.P.Post.tells g.P.Post.seats g.J.Job.heard c.turn.result c.args.self.now c.args.post.now c.turn.new.self c.turn.new.post
+  placed = record {
+    ready = c.turn.ensures.ready;
+    over = λ e. absurd (true_not_false c.args.done.now e c.if-done.false);
+    going = λ e. c.turn.ensures.unfinished c.in_default.not-Ended;
+  };
+  took = took g.J.Job.log g.J.Job.plain g.P.Post.shows g.P.Post.tells g.P.Post.seats g.J.Job.heard c.turn.result c.args.self.now
+      c.args.post.now c.turn.new.self c.turn.new.post
       (g.met.P.Post.agrees c.args.post.now c.args.self.now.seat c.requires.ready.mine) c.requires.ready.knows c.turn.ensures.turned c.turn.ensures.waits;
   others = c.turn.ensures.others;
   sums_others = c.turn.ensures.sums_others;

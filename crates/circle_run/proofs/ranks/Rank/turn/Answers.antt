@@ -5,7 +5,8 @@ pub returns-clause-turned : goal.returns-clause-turned
 returns-clause-turned g c =
     let r = c.self.inside.state in
     rw (← c.self.view_is) (
-    turned g.J.Job.log g.J.Job.heard g.J.Job.plain g.P.Post.shows g.P.Post.tells g.P.Post.seats c.work-did.result c.as_turn.result r c.args.post.now c.work-did.new.self c.work-did.new.post c.tally.new.self c.settle.new.queue
+    turned g.J.Job.log g.J.Job.heard g.J.Job.plain g.P.Post.shows g.P.Post.tells g.P.Post.seats c.work-did.result c.as_turn.result r
+    c.args.post.now c.work-did.new.self c.work-did.new.post c.tally.new.self c.settle.new.queue
     c.as_turn.ensures c.if-self.false c.work-did.ensures.came c.tally.ensures.same c.tally.ensures.book c.tally.ensures.lost c.settle.ensures.kept)
 
 pub returns-then-self-clause-turned : goal.returns-then-self-clause-turned

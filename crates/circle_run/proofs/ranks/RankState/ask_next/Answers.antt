@@ -20,7 +20,8 @@ returns-clause-came g c = record {
   sums = c.note.ensures.sums;
   facts = refl;
   lost = c.note.ensures.lost;
-  went = went_did g.J.Job.log g.J.Job.plain g.P.Post.shows g.P.Post.tells g.P.Post.seats (Follows DidAct c.args.self.now.me to_ask) _ _ _ _ (ask c.victim-victim.result)
+  went = went_did g.J.Job.log g.J.Job.plain g.P.Post.shows g.P.Post.tells g.P.Post.seats (Follows DidAct c.args.self.now.me to_ask) _ _ _ _
+      (ask c.victim-victim.result)
       (record { acts = (ask c.victim-victim.result, refl); chosen = (c.victim-victim.result, refl) }) c.note.ensures (record {
         queue = (c.requires.empty, c.requires.empty);
         names = tt;
@@ -28,6 +29,8 @@ returns-clause-came g c = record {
         drawn = (c.victim-victim.ensures.chosen, c.victim-victim.ensures.drawn);
         log = refl;
         batches = ap (λ (s : Shown). s.batches) c.ask.ensures.shown;
-        told = tells_as (g.P.Post.shows c.args.self.now.seat).number c.args.self.now.me (ask c.victim-victim.result) (ask c.victim-victim.result) (g.P.Post.tells c.args.post.now) (g.P.Post.tells c.ask.new.self) c.requires.knows.number refl c.ask.ensures.told;
+        told = tells_as (g.P.Post.shows c.args.self.now.seat).number c.args.self.now.me (ask c.victim-victim.result)
+            (ask c.victim-victim.result) (g.P.Post.tells c.args.post.now)
+            (g.P.Post.tells c.ask.new.self) c.requires.knows.number refl c.ask.ensures.told;
       });
 }

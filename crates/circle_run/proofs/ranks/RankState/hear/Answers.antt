@@ -20,13 +20,15 @@ returns-in-Over-clause-came g c = record {
   sums = c.note.ensures.sums;
   facts = refl;
   lost = c.note.ensures.lost;
-  went = went_did g.J.Job.log g.J.Job.plain g.P.Post.shows g.P.Post.tells g.P.Post.seats (Heard c.ring-ring.result) _ _ _ _ see_over (subst (λ (x : Ring). Heard x (did see_over ∷ [])) (sym c.in-Over.is) refl) c.note.ensures (record {
-    queue = ((c.requires.knows.idle (c.in-Over.ensures.over refl)), (c.requires.knows.idle (c.in-Over.ensures.over refl)));
-    few = (let n : length c.args.self.now.queue ≡ 0 = ap length (c.requires.knows.idle (c.in-Over.ensures.over refl)) in omega arith);
-    names = tt;
-    drawn = refl;
-    log = refl;
-    batches = ap (λ (s : Shown). s.batches) c.in-Over.ensures.shown;
-    told = tells_as (g.P.Post.shows c.args.self.now.seat).number c.args.self.now.me see_over see_over (g.P.Post.tells c.args.post.now) (g.P.Post.tells c.ring-ring.new.self) c.requires.knows.number refl c.in-Over.ensures.told;
-  });
+  went = went_did g.J.Job.log g.J.Job.plain g.P.Post.shows g.P.Post.tells g.P.Post.seats (Heard c.ring-ring.result) _ _ _ _ see_over
+      (subst (λ (x : Ring). Heard x (did see_over ∷ [])) (sym c.in-Over.is) refl) c.note.ensures (record {
+        queue = ((c.requires.knows.idle (c.in-Over.ensures.over refl)), (c.requires.knows.idle (c.in-Over.ensures.over refl)));
+        few = (let n : length c.args.self.now.queue ≡ 0 = ap length (c.requires.knows.idle (c.in-Over.ensures.over refl)) in omega arith);
+        names = tt;
+        drawn = refl;
+        log = refl;
+        batches = ap (λ (s : Shown). s.batches) c.in-Over.ensures.shown;
+        told = tells_as (g.P.Post.shows c.args.self.now.seat).number c.args.self.now.me see_over see_over (g.P.Post.tells c.args.post.now)
+            (g.P.Post.tells c.ring-ring.new.self) c.requires.knows.number refl c.in-Over.ensures.told;
+      });
 }

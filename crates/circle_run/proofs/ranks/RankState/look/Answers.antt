@@ -10,7 +10,9 @@ use Rattle.circle_run.proofs.Stepped.{tells_as, went_did, victim_is, waiting_tol
 use Rattle.circle_run.proofs.ranks.RankState.look.Goals as goal
 
 pub returns-in-Pending-clause-waits : goal.returns-in-Pending-clause-waits
-returns-in-Pending-clause-waits g c = λ e. waiting_told (g.P.Post.shows c.args.self.now.seat).number c.args.self.now.me (victim_of (g.P.Post.shows c.args.self.now.seat)) (g.P.Post.tells c.args.post.now) (g.P.Post.tells c.answer.new.self) c.requires.knows.number c.in-Pending.ensures.told
+returns-in-Pending-clause-waits g c =
+    λ e. waiting_told (g.P.Post.shows c.args.self.now.seat).number c.args.self.now.me (victim_of (g.P.Post.shows c.args.self.now.seat))
+    (g.P.Post.tells c.args.post.now) (g.P.Post.tells c.answer.new.self) c.requires.knows.number c.in-Pending.ensures.told
 
 pub returns-in-Nothing-clause-came : goal.returns-in-Nothing-clause-came
 returns-in-Nothing-clause-came g c = record {
@@ -25,7 +27,8 @@ returns-in-Nothing-clause-came g c = record {
   sums = c.note.ensures.sums;
   facts = refl;
   lost = c.note.ensures.lost;
-  went = went_did g.J.Job.log g.J.Job.plain g.P.Post.shows g.P.Post.tells g.P.Post.seats (Follows DidAct c.args.self.now.me (to_look c.args.victim)) _ _ _ _ (take_none c.args.victim)
+  went = went_did g.J.Job.log g.J.Job.plain g.P.Post.shows g.P.Post.tells g.P.Post.seats
+      (Follows DidAct c.args.self.now.me (to_look c.args.victim)) _ _ _ _ (take_none c.args.victim)
       (record { acts = (take_none c.args.victim, refl); chosen = inr (inl refl) }) c.note.ensures (record {
         queue = refl;
         names = tt;
@@ -33,7 +36,12 @@ returns-in-Nothing-clause-came g c = record {
         drawn = refl;
         log = refl;
         batches = ap (λ (s : Shown). s.batches) c.in-Nothing.ensures.shown;
-        told = tells_as (g.P.Post.shows c.args.self.now.seat).number c.args.self.now.me (take_none (victim_of (g.P.Post.shows c.args.self.now.seat))) (take_none c.args.victim) (g.P.Post.tells c.args.post.now) (g.P.Post.tells c.answer.new.self) c.requires.knows.number (ap (λ (v : ℕ). take_none v) (victim_is (g.P.Post.shows c.args.self.now.seat) c.args.victim (c.requires.knows.asked ∙ c.requires.open))) c.in-Nothing.ensures.told;
+        told = tells_as (g.P.Post.shows c.args.self.now.seat).number c.args.self.now.me
+            (take_none (victim_of (g.P.Post.shows c.args.self.now.seat))) (take_none c.args.victim) (g.P.Post.tells c.args.post.now)
+            (g.P.Post.tells c.answer.new.self) c.requires.knows.number
+            (ap (λ (v : ℕ). take_none v)
+            (victim_is (g.P.Post.shows c.args.self.now.seat) c.args.victim (c.requires.knows.asked ∙ c.requires.open)))
+            c.in-Nothing.ensures.told;
       });
 }
 
@@ -50,14 +58,26 @@ returns-in-Ok-clause-came g c = record {
   sums = c.note-in-Work.ensures.sums;
   facts = refl;
   lost = c.note-in-Work.ensures.lost;
-  went = went_did g.J.Job.log g.J.Job.plain g.P.Post.shows g.P.Post.tells g.P.Post.seats (Follows DidAct c.args.self.now.me (to_look c.args.victim)) _ _ _ _ (take c.args.victim c.in-Work.batch)
-      (record { acts = (take c.args.victim c.in-Work.batch, refl); chosen = inr (inr (c.in-Work.batch, refl)) }) (subst (λ (k : ℕ). Writes c.args.self.now.options.trace (Take c.args.self.now.me c.args.victim k ∷ []) c.args.self.now.book c.note-in-Work.new.self) c.len-count.ensures c.note-in-Work.ensures) (record {
+  went = went_did g.J.Job.log g.J.Job.plain g.P.Post.shows g.P.Post.tells g.P.Post.seats
+      (Follows DidAct c.args.self.now.me (to_look c.args.victim)) _ _ _ _ (take c.args.victim c.in-Work.batch)
+      (record { acts = (take c.args.victim c.in-Work.batch, refl); chosen = inr (inr (c.in-Work.batch, refl)) })
+      (subst (λ (k : ℕ). Writes c.args.self.now.options.trace
+      (Take c.args.self.now.me c.args.victim k ∷ []) c.args.self.now.book c.note-in-Work.new.self) c.len-count.ensures
+      c.note-in-Work.ensures) (record {
         queue = c.in-Ok.ensures.added;
         names = c.requires.knows.asks c.args.victim c.requires.open;
-        few = (let l : length c.push_all.new.self ≡ length c.in-Work.batch = ap length c.in-Ok.ensures.added ∙ ap (λ (q : List (List ℕ)). length (q ++ c.in-Work.batch)) c.requires.empty in omega (arith, l, c.len-count.ensures));
+        few = (let l : length c.push_all.new.self ≡ length c.in-Work.batch = ap length c.in-Ok.ensures.added
+            ∙ ap (λ (q : List (List ℕ)). length (q ++ c.in-Work.batch)) c.requires.empty in omega (arith, l, c.len-count.ensures));
         drawn = refl;
         log = refl;
-        batches = ap (λ (s : Shown). s.batches) c.in-Work.ensures.shown ∙ ap (λ (v : ℕ). with_taken (g.P.Post.shows c.args.self.now.seat).batches v c.in-Work.batch) (victim_is (g.P.Post.shows c.args.self.now.seat) c.args.victim (c.requires.knows.asked ∙ c.requires.open));
-        told = tells_as (g.P.Post.shows c.args.self.now.seat).number c.args.self.now.me (take (victim_of (g.P.Post.shows c.args.self.now.seat)) c.in-Work.batch) (take c.args.victim c.in-Work.batch) (g.P.Post.tells c.args.post.now) (g.P.Post.tells c.answer.new.self) c.requires.knows.number (ap (λ (v : ℕ). take v c.in-Work.batch) (victim_is (g.P.Post.shows c.args.self.now.seat) c.args.victim (c.requires.knows.asked ∙ c.requires.open))) c.in-Work.ensures.told;
+        batches = ap (λ (s : Shown). s.batches) c.in-Work.ensures.shown
+            ∙ ap (λ (v : ℕ). with_taken (g.P.Post.shows c.args.self.now.seat).batches v c.in-Work.batch)
+            (victim_is (g.P.Post.shows c.args.self.now.seat) c.args.victim (c.requires.knows.asked ∙ c.requires.open));
+        told = tells_as (g.P.Post.shows c.args.self.now.seat).number c.args.self.now.me
+            (take (victim_of (g.P.Post.shows c.args.self.now.seat)) c.in-Work.batch) (take c.args.victim c.in-Work.batch)
+            (g.P.Post.tells c.args.post.now) (g.P.Post.tells c.answer.new.self) c.requires.knows.number
+            (ap (λ (v : ℕ). take v c.in-Work.batch)
+            (victim_is (g.P.Post.shows c.args.self.now.seat) c.args.victim (c.requires.knows.asked ∙ c.requires.open)))
+            c.in-Work.ensures.told;
       });
 }

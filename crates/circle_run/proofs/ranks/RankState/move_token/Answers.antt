@@ -22,7 +22,8 @@ returns-then-rank-gt0-clause-came g c = record {
   sums = c.note.ensures.sums;
   facts = refl;
   lost = c.note.ensures.lost;
-  went = went_did g.J.Job.log g.J.Job.plain g.P.Post.shows g.P.Post.tells g.P.Post.seats (Follows DidAct c.args.self.now.me (to_move c.args.held)) _ _ _ _ (pass c.darker-colour.result)
+  went = went_did g.J.Job.log g.J.Job.plain g.P.Post.shows g.P.Post.tells g.P.Post.seats
+      (Follows DidAct c.args.self.now.me (to_move c.args.held)) _ _ _ _ (pass c.darker-colour.result)
       (follows_moved c.args.self.now.me c.args.self.now.colour c.args.held c.darker-colour.result (pass c.darker-colour.result) c.darker-colour.ensures
       (moved_above c.args.self.now.me c.darker-colour.result (omega (arith, c.if-rank-gt0.true)))) c.note.ensures (record {
         names = tt;
@@ -31,7 +32,11 @@ returns-then-rank-gt0-clause-came g c = record {
         drawn = refl;
         log = refl;
         batches = ap (λ (s : Shown). s.batches) c.pass.ensures.shown;
-        told = tells_as (g.P.Post.shows c.args.self.now.seat).number c.args.self.now.me (pass (mixed (g.P.Post.shows c.args.self.now.seat))) (pass c.darker-colour.result) (g.P.Post.tells c.args.post.now) (g.P.Post.tells c.pass.new.self) c.requires.knows.number (ap (λ (x : Colour). pass x) (mixed_is (g.P.Post.shows c.args.self.now.seat) c.args.self.now.colour c.args.held c.requires.knows.colour c.requires.here ∙ sym c.darker-colour.ensures)) c.pass.ensures.told;
+        told = tells_as (g.P.Post.shows c.args.self.now.seat).number c.args.self.now.me (pass (mixed (g.P.Post.shows c.args.self.now.seat)))
+            (pass c.darker-colour.result) (g.P.Post.tells c.args.post.now) (g.P.Post.tells c.pass.new.self) c.requires.knows.number
+            (ap (λ (x : Colour). pass x)
+            (mixed_is (g.P.Post.shows c.args.self.now.seat) c.args.self.now.colour c.args.held c.requires.knows.colour c.requires.here
+            ∙ sym c.darker-colour.ensures)) c.pass.ensures.told;
       });
 }
 
@@ -48,7 +53,8 @@ returns-in-Black-clause-came g c = record {
   sums = c.note-in-Black.ensures.sums;
   facts = refl;
   lost = c.note-in-Black.ensures.lost;
-  went = went_did g.J.Job.log g.J.Job.plain g.P.Post.shows g.P.Post.tells g.P.Post.seats (Follows DidAct c.args.self.now.me (to_move c.args.held)) _ _ _ _ restart
+  went = went_did g.J.Job.log g.J.Job.plain g.P.Post.shows g.P.Post.tells g.P.Post.seats
+      (Follows DidAct c.args.self.now.me (to_move c.args.held)) _ _ _ _ restart
       (follows_moved c.args.self.now.me c.args.self.now.colour c.args.held c.darker-colour.result restart c.darker-colour.ensures
       (moved_black c.args.self.now.me c.darker-colour.result (omega (arith, c.if-rank-gt0.false)) c.in-Black.is)) c.note-in-Black.ensures (record {
         names = tt;
@@ -57,7 +63,8 @@ returns-in-Black-clause-came g c = record {
         drawn = refl;
         log = refl;
         batches = ap (λ (s : Shown). s.batches) c.restart.ensures.shown;
-        told = tells_as (g.P.Post.shows c.args.self.now.seat).number c.args.self.now.me restart restart (g.P.Post.tells c.args.post.now) (g.P.Post.tells c.restart.new.self) c.requires.knows.number refl c.restart.ensures.told;
+        told = tells_as (g.P.Post.shows c.args.self.now.seat).number c.args.self.now.me restart restart (g.P.Post.tells c.args.post.now)
+            (g.P.Post.tells c.restart.new.self) c.requires.knows.number refl c.restart.ensures.told;
       });
 }
 
@@ -74,7 +81,8 @@ returns-in-White-clause-came g c = record {
   sums = c.note-in-White.ensures.sums;
   facts = refl;
   lost = c.note-in-White.ensures.lost;
-  went = went_did g.J.Job.log g.J.Job.plain g.P.Post.shows g.P.Post.tells g.P.Post.seats (Follows DidAct c.args.self.now.me (to_move c.args.held)) _ _ _ _ conclude
+  went = went_did g.J.Job.log g.J.Job.plain g.P.Post.shows g.P.Post.tells g.P.Post.seats
+      (Follows DidAct c.args.self.now.me (to_move c.args.held)) _ _ _ _ conclude
       (follows_moved c.args.self.now.me c.args.self.now.colour c.args.held c.darker-colour.result conclude c.darker-colour.ensures
       (moved_white c.args.self.now.me c.darker-colour.result (omega (arith, c.if-rank-gt0.false)) c.in-White.is)) c.note-in-White.ensures (record {
         names = tt;
@@ -83,6 +91,7 @@ returns-in-White-clause-came g c = record {
         drawn = refl;
         log = refl;
         batches = ap (λ (s : Shown). s.batches) c.conclude.ensures.shown;
-        told = tells_as (g.P.Post.shows c.args.self.now.seat).number c.args.self.now.me conclude conclude (g.P.Post.tells c.args.post.now) (g.P.Post.tells c.conclude.new.self) c.requires.knows.number refl c.conclude.ensures.told;
+        told = tells_as (g.P.Post.shows c.args.self.now.seat).number c.args.self.now.me conclude conclude (g.P.Post.tells c.args.post.now)
+            (g.P.Post.tells c.conclude.new.self) c.requires.knows.number refl c.conclude.ensures.told;
       });
 }

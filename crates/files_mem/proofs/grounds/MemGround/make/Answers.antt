@@ -1,4 +1,4 @@
-use Rattle.std.proofs.Common.{rules, ◌≡◌, None, sym, ap, ◌∙◌, false, subst}
+use Rattle.std.proofs.Common.{rules, ◌≡◌, sym, ap, ◌∙◌, false, subst}
 use Rattle.std.specs.Prelude.{Err}
 use Rattle.std.specs.FinMap.{insert}
 use Rattle.outside.specs.Writes.{make_refusal}
@@ -13,6 +13,8 @@ returns-in_err-put-clause-acts c =
     let planned : is_planned c.args.call c.args.path.now c.args.self.now.planned ≡ false = sym c.fails.ensures.planned ∙ c.if-fails.false in
     let same = c.fails.ensures.counted ∙ ap (λ b. answered b c.args.self.now) planned in
     let is : c.from_residual.result ≡ Err (write_error c.in_err-put.field-0.0) = search rules in
-    subst (λ r. Acts c.args.call c.args.path.now (make_refusal c.args.self.now.area c.args.self.now.files c.args.path.now) (insert c.args.self.now.files c.args.path.now (node_of c.args.node)) c.args.self.now r c.put.new.self) (sym is)
-    (ground_refused c.args.call c.args.path.now c.self.inside.held.out (insert c.args.self.now.files c.args.path.now (node_of c.args.node)) c.args.self.now c.put.new.self c.in_err-put.field-0.0
+    subst (λ r. Acts c.args.call c.args.path.now (make_refusal c.args.self.now.area c.args.self.now.files c.args.path.now)
+    (insert c.args.self.now.files c.args.path.now (node_of c.args.node)) c.args.self.now r c.put.new.self) (sym is)
+    (ground_refused c.args.call c.args.path.now c.self.inside.held.out
+    (insert c.args.self.now.files c.args.path.now (node_of c.args.node)) c.args.self.now c.put.new.self c.in_err-put.field-0.0
     (search rules) (sym (ap (λ m. m.area) c.self.view_is)) planned (c.in_err-put.ensures.same ∙ same))

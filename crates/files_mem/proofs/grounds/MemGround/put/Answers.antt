@@ -1,4 +1,4 @@
-use Rattle.std.proofs.Common.{rules, ◌≡◌, None, sym, ap, ◌∙◌, false}
+use Rattle.std.proofs.Common.{◌≡◌, None, sym, ap, ◌∙◌, false}
 use Rattle.std.specs.Prelude.{Ok}
 use Rattle.std.specs.FinMap.{insert}
 use Rattle.files_mem.specs.Memory.{put_refusal_at}
@@ -13,4 +13,5 @@ invariant_of-self-2 c =
     let free : put_refusal_at false c.self.inside.held.files c.args.path.now ≡ None = sym c.in_ok-refused.ensures.told ∙ c.in_default.is in
     let key = ap (λ k. record c.put_refusal.new.self { files = insert c.put_refusal.new.self.files k (node_of c.args.node) }) c.in_ok-copy.ensures in
     let held = ap (λ (h : Lending). record h { files = insert h.files c.args.path.now (node_of c.args.node) }) same in
-    put_ground {B = ⊥} (Ok tt) c.self.inside.held c.put.new.self c.args.path.now (node_of c.args.node) c.self.invariant free c.text.ensures.valid (c.in_ok-put.ensures.ok ∙ key ∙ held) tt
+    put_ground {B = ⊥} (Ok tt) c.self.inside.held c.put.new.self c.args.path.now
+    (node_of c.args.node) c.self.invariant free c.text.ensures.valid (c.in_ok-put.ensures.ok ∙ key ∙ held) tt

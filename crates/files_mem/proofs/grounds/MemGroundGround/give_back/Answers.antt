@@ -1,9 +1,8 @@
-use Rattle.std.proofs.Common.{rules, ◌≡◌, sym, ap, ◌∙◌, subst, true, cond, List, ℕ}
+use Rattle.std.proofs.Common.{rules, ◌≡◌, sym, ap, ◌∙◌, subst, true, cond}
 use Rattle.std.specs.FinMap.{get}
-use Rattle.std.specs.List.{list_any}
 use Rattle.outside.specs.Lease.{in_tops, is_out, tops_of}
 use Rattle.outside.specs.Writes.{all_but, under}
-use Rattle.outside.specs.Laid.{laid, get_laid}
+use Rattle.outside.specs.Laid.{get_laid}
 use Rattle.files_mem.specs.PrivateHeld.{IsGround}
 use Rattle.files_mem.proofs.Lending.{back_ground}
 use Rattle.files_mem.proofs.grounds.MemGroundGround.give_back.Goals as goal
@@ -11,7 +10,9 @@ use Rattle.files_mem.proofs.grounds.MemGroundGround.give_back.Goals as goal
 pub invariant_of-self : goal.invariant_of-self
 invariant_of-self c =
     let told : is_out (under c.into_parts-store.result.1) (all_but c.self.inside.held.out) ≡ true = search rules in
-    subst IsGround (sym c.give_back.ensures) (back_ground c.self.inside.held c.into_parts-store.result.1 c.into_parts-store.result.0 c.self.invariant c.into_parts-store.ensures.valid told)
+    subst IsGround (sym c.give_back.ensures)
+    (back_ground c.self.inside.held c.into_parts-store.result.1 c.into_parts-store.result.0 c.self.invariant
+    c.into_parts-store.ensures.valid told)
 
 pub returns-clause-joins : goal.returns-clause-joins
 returns-clause-joins c = λ q.

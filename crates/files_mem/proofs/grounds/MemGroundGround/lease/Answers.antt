@@ -1,4 +1,4 @@
-use Rattle.std.proofs.Common.{rules, ◌≡◌, sym, ap, ◌∙◌, subst}
+use Rattle.std.proofs.Common.{sym, ap, subst}
 use Rattle.outside.specs.Lease.{CanLease, HaveParents}
 use Rattle.outside.specs.Parts.{IsPart}
 use Rattle.files_mem.specs.PrivateHeld.{IsGround}

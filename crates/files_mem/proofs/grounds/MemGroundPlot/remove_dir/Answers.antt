@@ -1,7 +1,7 @@
-use Rattle.std.proofs.Common.{rules, ◌≡◌, None, sym, ap, ◌∙◌, false, subst}
+use Rattle.std.proofs.Common.{◌≡◌, None, sym, ap, ◌∙◌, false, subst}
 use Rattle.std.specs.Prelude.{Ok, IsTrue}
-use Rattle.std.specs.FinMap.{get, remove}
-use Rattle.outside.specs.Writes.{all_but, is_open, remove_dir_refusal}
+use Rattle.std.specs.FinMap.{remove}
+use Rattle.outside.specs.Writes.{is_open, remove_dir_refusal}
 use Rattle.files_mem.specs.declared.plans.Call.TheVariants as call
 use Rattle.files_mem.specs.Memory.{answered}
 use Rattle.files_mem.specs.Planned.{is_planned}

@@ -1,4 +1,4 @@
-use Rattle.std.proofs.Common.{rules, ◌≡◌, None, sym, ap, ◌∙◌}
+use Rattle.std.proofs.Common.{◌≡◌, None, sym, ap, ◌∙◌}
 use Rattle.std.specs.Prelude.{Ok}
 use Rattle.std.specs.FinMap.{get}
 use Rattle.outside.specs.Writes.{write_refusal, written}
@@ -10,4 +10,5 @@ pub invariant_of-self-2 : goal.invariant_of-self-2
 invariant_of-self-2 c =
     let free : write_refusal (get c.self.inside.held.files c.args.path.now) ≡ None = sym c.in_ok-refused.ensures.told ∙ c.in_default.is in
     let held = ap (λ (h : Lending). record h { files = written h.files c.args.path.now c.args.at c.args.bytes.now }) c.write_refusal.ensures.same in
-    write_ground {B = ⊥} (Ok tt) c.self.inside.held c.write.new.self c.args.path.now c.args.at c.args.bytes.now c.self.invariant free (c.in_ok-write.ensures.ok ∙ held) tt
+    write_ground {B = ⊥} (Ok tt) c.self.inside.held c.write.new.self c.args.path.now c.args.at c.args.bytes.now c.self.invariant free
+    (c.in_ok-write.ensures.ok ∙ held) tt

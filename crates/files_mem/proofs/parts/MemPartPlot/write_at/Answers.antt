@@ -1,4 +1,4 @@
-use Rattle.std.proofs.Common.{rules, ◌≡◌, ◌≤◌, None, Some, refl, sym, ap, ◌∙◌, true, false, length, subst}
+use Rattle.std.proofs.Common.{rules, ◌≡◌, ◌≤◌, None, Some, sym, ap, ◌∙◌, true, false, length, subst}
 use Rattle.std.specs.Prelude.{Result, Ok, Err, OnOk}
 use Rattle.std.specs.FinMap.{get}
 use Rattle.outside.specs.Tree.{is_file, content}
@@ -15,14 +15,18 @@ returns-in-Some-clause-acts c =
     let planned : is_planned call.Write c.args.path.now c.args.self.now.planned ≡ false = sym c.fails.ensures.planned ∙ c.if-fails.false in
     let same : c.fails.new.self ≡ c.args.self.now = search rules in
     let is : write_refusal (get c.args.self.now.files c.args.path.now) ≡ Some c.in-Some.refused = search rules in
-    acts_refused call.Write c.args.path.now (write_refusal (get c.args.self.now.files c.args.path.now)) (written c.args.self.now.files c.args.path.now c.args.at c.args.bytes.now) c.args.self.now c.fails.new.self c.in-Some.refused (write_named _ _ is).0 planned is same
+    acts_refused call.Write c.args.path.now (write_refusal (get c.args.self.now.files c.args.path.now))
+    (written c.args.self.now.files c.args.path.now c.args.at c.args.bytes.now) c.args.self.now c.fails.new.self c.in-Some.refused
+    (write_named _ _ is).0 planned is same
 
 pub returns-in-Some-clause-told : goal.returns-in-Some-clause-told
 returns-in-Some-clause-told c =
     let planned : is_planned call.Write c.args.path.now c.args.self.now.planned ≡ false = sym c.fails.ensures.planned ∙ c.if-fails.false in
     let same : c.fails.new.self ≡ c.args.self.now = search rules in
     let is : write_refusal (get c.args.self.now.files c.args.path.now) ≡ Some c.in-Some.refused = search rules in
-    answers_refused c.args.path.now (write_refusal (get c.args.self.now.files c.args.path.now)) c.args.self.now.files (written c.args.self.now.files c.args.path.now c.args.at c.args.bytes.now) (Some c.fails.new.self.files) c.in-Some.refused (write_named _ _ is).0 is (ap (λ m. Some m.files) same)
+    answers_refused c.args.path.now (write_refusal (get c.args.self.now.files c.args.path.now)) c.args.self.now.files
+    (written c.args.self.now.files c.args.path.now c.args.at c.args.bytes.now) (Some c.fails.new.self.files) c.in-Some.refused
+    (write_named _ _ is).0 is (ap (λ m. Some m.files) same)
 
 pub returns-in-Some-clause-named : goal.returns-in-Some-clause-named
 returns-in-Some-clause-named c =
@@ -40,7 +44,8 @@ write-requires-clause-place c =
     let files = ap (λ m. m.files) (c.self.view_is ∙ same) in
     let free : write_refusal (get c.self.inside.store c.args.path.now) ≡ None = search rules in
     let there = can_write _ free in
-    subst (λ f. c.args.at ≤ length (content (get f c.args.path.now))) (sym files) (c.requires.place (subst (λ f. is_file (get f c.args.path.now) ≡ true) files there))
+    subst (λ f. c.args.at ≤ length (content (get f c.args.path.now))) (sym files)
+    (c.requires.place (subst (λ f. is_file (get f c.args.path.now) ≡ true) files there))
 
 pub invariant_of-self-2 : goal.invariant_of-self-2
 invariant_of-self-2 c =

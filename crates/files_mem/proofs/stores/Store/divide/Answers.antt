@@ -1,4 +1,3 @@
-use Rattle.std.proofs.Common.{rules, ◌≡◌, sym, ap, ◌∙◌}
 use Rattle.files_mem.proofs.Laying.{divided}
 use Rattle.files_mem.proofs.stores.Store.divide.Goals as goal
 

@@ -14,5 +14,7 @@ other_fault q e (inr h) n = absurd (n h.0)
 
 pub returns-else-eq : goal.returns-else-eq
 returns-else-eq c =
-    let fault = other_fault c.parent_text.result.now c.in-Err.fault c.in-Err.ensures.refused (λ e. let h = rw e at (sym c.if-eq.false ∙ c.eq.ensures) in absurd (false≢true h)) in
-    sym (ap is_dir (ap (λ f. get f (parent_of c.args.path.now)) (sym c.self.view_is) ∙ ap (get _) (sym c.parent_text.ensures) ∙ none_at c.self.inside.map.entries c.parent_text.result.now c.in-Err.fault c.self.invariant fault))
+    let fault = other_fault c.parent_text.result.now c.in-Err.fault c.in-Err.ensures.refused
+    (λ e. let h = rw e at (sym c.if-eq.false ∙ c.eq.ensures) in absurd (false≢true h)) in
+    sym (ap is_dir (ap (λ f. get f (parent_of c.args.path.now)) (sym c.self.view_is) ∙ ap (get _) (sym c.parent_text.ensures)
+    ∙ none_at c.self.inside.map.entries c.parent_text.result.now c.in-Err.fault c.self.invariant fault))

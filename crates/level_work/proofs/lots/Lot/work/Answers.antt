@@ -11,13 +11,18 @@ pub act_on-requires-clause-inside : goal.act_on-requires-clause-inside
 act_on-requires-clause-inside g c = λ k e. c.requires.inside c.loop-j.j k (subst (λ v. slice_get v.items c.loop-j.j ≡ Some k) c.loop-j.invariant.keeps.places e)
 
 pub act_on-requires-clause-top : goal.act_on-requires-clause-top
-act_on-requires-clause-top g c = λ x at. subst (λ a. IsTrue (is_top a x.path)) (sym c.loop-j.invariant.keeps.same_area) (c.requires.tops c.loop-j.j x (subst (λ v. IsAt c.args.items.now v.items c.loop-j.j x) c.loop-j.invariant.keeps.places at))
+act_on-requires-clause-top g c =
+    λ x at. subst (λ a. IsTrue (is_top a x.path)) (sym c.loop-j.invariant.keeps.same_area)
+    (c.requires.tops c.loop-j.j x (subst (λ v. IsAt c.args.items.now v.items c.loop-j.j x) c.loop-j.invariant.keeps.places at))
 
 pub act_on-requires-clause-open : goal.act_on-requires-clause-open
-act_on-requires-clause-open g c = λ x at. subst (λ a. IsTrue (is_open a x.path)) (sym c.loop-j.invariant.keeps.same_area) (c.requires.are_open c.loop-j.j x (subst (λ v. IsAt c.args.items.now v.items c.loop-j.j x) c.loop-j.invariant.keeps.places at))
+act_on-requires-clause-open g c =
+    λ x at. subst (λ a. IsTrue (is_open a x.path)) (sym c.loop-j.invariant.keeps.same_area)
+    (c.requires.are_open c.loop-j.j x (subst (λ v. IsAt c.args.items.now v.items c.loop-j.j x) c.loop-j.invariant.keeps.places at))
 
 pub returns-in-Err : goal.returns-in-Err
-returns-in-Err g c = lost_at _ _ _ _ _ _ _ _ _ _ c.act_on.new.self c.requires (omega (arith, c.loop-j-test.true, c.len-j-end.ensures)) c.loop-j.invariant c.in-Err.ensures.err
+returns-in-Err g c = lost_at _ _ _ _ _ _ _ _ _ _ c.act_on.new.self c.requires
+    (omega (arith, c.loop-j-test.true, c.len-j-end.ensures)) c.loop-j.invariant c.in-Err.ensures.err
 
 pub loop-j-preserved : goal.loop-j-preserved
 loop-j-preserved g c = stepped _ _ _ _ _ _ _ _ _ _ _ c.requires (omega (arith, c.loop-j-test.true, c.len-j-end.ensures)) c.loop-j.invariant c.in-Ok.ensures.ok

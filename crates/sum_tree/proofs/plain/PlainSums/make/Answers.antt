@@ -9,7 +9,9 @@ use Rattle.sum_tree.proofs.Begins.{fresh_seats_are}
 use Rattle.sum_tree.proofs.plain.PlainSums.make.Goals as goal
 
 pub loop-number-preserved : goal.loop-number-preserved
-loop-number-preserved c = let e = map-range_with_len_more (fresh c.args.n c.args.width) 0 c.loop-number.number c.loop-number.number (omega arith) in cc c.in_ok-push.ensures.items
+loop-number-preserved c = let e =
+    map-range_with_len_more (fresh c.args.n c.args.width) 0 c.loop-number.number c.loop-number.number (omega arith) in
+    cc c.in_ok-push.ensures.items
 
 pub returns-clause-seats : goal.returns-clause-seats
 returns-clause-seats c k d inside =

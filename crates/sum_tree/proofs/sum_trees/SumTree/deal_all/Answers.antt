@@ -1,4 +1,4 @@
-use Rattle.std.proofs.Common.{rules, ◌≡◌, ℕ, ◌+◌, ◌<◌, ◌∙◌, refl, sym, ap, subst, arith, List, [], ◌∷◌, ◌++◌, length, length-append, get_or}
+use Rattle.std.proofs.Common.{◌≡◌, ℕ, ◌+◌, ◌∙◌, refl, sym, ap, subst, arith, List, [], ◌∷◌, ◌++◌, length, length-append, get_or}
 use Rattle.std.proofs.lemmas.List.{get_or_append_left}
 use mathlib.Core.Logic.{dite}
 use native.Mathlib.Decide.{ℕ_discrete}
@@ -31,7 +31,9 @@ loop-number-preserved c =
       count = omega arith;
       each = λ k d h. subst (λ ys. IsSeat c.args.self.now (get_or ys k d) × (shown_by (get_or ys k d) ≡ fresh_shown n w (k + 1))) (sym items)
           (dite (ℕ_discrete k (length xs))
-          (λ e. subst (λ (y : SumSeat). IsSeat c.args.self.now y × (shown_by y ≡ fresh_shown n w (k + 1))) (sym (ap (λ (j : ℕ). get_or (xs ++ x ∷ []) j d) e ∙ get_or-append_seam xs x [] d))
+          (λ e. subst (λ (y : SumSeat). IsSeat c.args.self.now y × (shown_by y ≡ fresh_shown n w (k + 1)))
+          (sym (ap (λ (j : ℕ). get_or (xs ++ x ∷ []) j d) e ∙ get_or-append_seam xs x [] d))
           (c.fresh.ensures.seat, c.fresh.ensures.shown ∙ ap (λ (j : ℕ). fresh_shown n w j) (omega arith)))
-          (λ ne. subst (λ (y : SumSeat). IsSeat c.args.self.now y × (shown_by y ≡ fresh_shown n w (k + 1))) (sym (get_or_append_left xs (x ∷ []) d k (omega arith))) (inv.each k d (omega arith))));
+          (λ ne. subst (λ (y : SumSeat). IsSeat c.args.self.now y × (shown_by y ≡ fresh_shown n w (k + 1)))
+          (sym (get_or_append_left xs (x ∷ []) d k (omega arith))) (inv.each k d (omega arith))));
     }

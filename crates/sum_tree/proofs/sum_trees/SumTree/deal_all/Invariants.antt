@@ -15,5 +15,6 @@ invariant-loop-number l = record {
   alone : l.first.me.0.kept ≡ [];
   made : l.first.me.0.made ≡ l.number;
   count : length l.seats.items + 1 ≡ l.number;
-  each : (k : ℕ) (d : SumSeat) → k < length l.seats.items → IsSeat l.self (get_or l.seats.items k d) × (shown_by (get_or l.seats.items k d) ≡ fresh_shown l.n l.self.width (k + 1));
+  each : (k : ℕ) (d : SumSeat) → k < length l.seats.items → IsSeat l.self (get_or l.seats.items k d)
+      × (shown_by (get_or l.seats.items k d) ≡ fresh_shown l.n l.self.width (k + 1));
 }

@@ -1,6 +1,12 @@
-use Rattle.std.proofs.Common.{rules, arith, subst, sym, ℕ}
+use Rattle.std.proofs.Common.{arith}
 use Rattle.sum_tree.proofs.SeatSteps.{joins_at}
 use Rattle.sum_tree.proofs.sum_trees.SumTree.join_step.Goals as goal
 
 pub join_seat-requires : goal.join_seat-requires
-join_seat-requires c = (c.requires.fits.0, c.requires.fits.1, c.requires.empty, (let a = c.args.self.now.sized in let b = c.requires.some in omega arith), joins_at c.args.self.now.n c.args.self.now.width _ _ _ _ _ c.args.self.now.keyed c.requires.live.0 c.requires.live.1)
+join_seat-requires c = (
+  c.requires.fits.0,
+  c.requires.fits.1,
+  c.requires.empty,
+  (let a = c.args.self.now.sized in let b = c.requires.some in omega arith),
+  joins_at c.args.self.now.n c.args.self.now.width _ _ _ _ _ c.args.self.now.keyed c.requires.live.0 c.requires.live.1,
+)

@@ -1,4 +1,4 @@
-use Rattle.std.proofs.Common.{◌≡◌, ℕ, ◌-◌, ◌<◌, ◌^◌, sum_by}
+use Rattle.std.proofs.Common.{◌≡◌, ◌-◌, ◌<◌, ◌^◌, sum_by}
 use Rattle.std.specs.List.{range_with_len}
 use Rattle.sum_tree.specs.TreeRule.{seen_of}
 use Rattle.sum_tree.specs.TreeSeats.{IsSeat}

@@ -1,12 +1,10 @@
-use Rattle.std.proofs.Common.{rules, ◌≡◌, ℕ, ◌+◌, ◌-◌, ◌*◌, ◌/◌, ◌^◌, ◌<◌, ◌≤◌, ◌∙◌, refl, sym, subst, ap, arith, min, length, sum_by}
-use Rattle.std.proofs.lemmas.Grind.{common_steps}
+use Rattle.std.proofs.Common.{◌≡◌, ℕ, ◌+◌, ◌-◌, ◌*◌, ◌/◌, ◌<◌, ◌≤◌, ◌∙◌, refl, sym, subst, ap, arith, min, length, sum_by}
 use Rattle.std.specs.List.{range_with_len}
-use Rattle.sum_tree.specs.TreeRule.{seen_of, below}
+use Rattle.sum_tree.specs.TreeRule.{seen_of}
 use Rattle.sum_tree.specs.TreeSteps.{SeatState, after_load}
 use Rattle.sum_tree.specs.TreeSeats.{IsSeat}
 use Rattle.sum_tree.specs.TreeReads.{LoadedFinal, Blocked}
 use Rattle.sum_tree.specs.declared.tree_views.Known.{Known}
-use Rattle.sum_tree.specs.declared.sum_trees.SumSeat.{SumSeat}
 use Rattle.sum_tree.proofs.ReadLemmas.{final_more, final_none, blocks, still, sum_more, bounded}
 use Rattle.sum_tree.proofs.sum_trees.SumTree.read_finals.Goals as goal
 
@@ -28,12 +26,18 @@ loop-child-preserved c =
     let size = c.requires.seat.n in
     let inside : c.loop-child.child < c.args.self.now.n = omega arith in
     let long : a + k < length w.seen = (let e = inv.mine.long in omega arith) in
-    let at : c.load_step-found.new.seat.me.0.own ≡ after_load w (a + k) r = ap (λ (m : SeatState). m.0.own) c.load_step-found.ensures.after ∙ ap (λ (j : ℕ). after_load w j r) (sym back) in
-    let S : IsSeat c.args.self.now (record c.loop-child.seat { seat = c.load_step-found.new.seat }) = still c.args.self.now c.loop-child.seat (record c.loop-child.seat { seat = c.load_step-found.new.seat }) c.loop-child.child r inv.mine inside c.load_step-found.ensures.table c.load_step-found.ensures.after c.load_step-found.ensures.rises refl refl refl refl refl in
+    let at : c.load_step-found.new.seat.me.0.own ≡ after_load w (a + k) r = ap (λ (m : SeatState). m.0.own) c.load_step-found.ensures.after
+    ∙ ap (λ (j : ℕ). after_load w j r) (sym back) in
+    let S : IsSeat c.args.self.now (record c.loop-child.seat { seat = c.load_step-found.new.seat }) =
+    still c.args.self.now c.loop-child.seat
+    (record c.loop-child.seat { seat = c.load_step-found.new.seat }) c.loop-child.child r inv.mine inside
+    c.load_step-found.ensures.table c.load_step-found.ensures.after c.load_step-found.ensures.rises refl refl refl refl refl in
     let sum : c.loop-child.sum + r / 2 ≡ sum_by (seen_of c.load_step-found.new.seat.me.0.own) (range_with_len a (c.loop-child.child + 1 - a)) =
-    ap (λ (x : ℕ). x + r / 2) inv.sum ∙ sum_more w a k r long ∙ ap (λ (v : Known). sum_by (seen_of v) (range_with_len a (k + 1))) (sym at) ∙ ap (λ (j : ℕ). sum_by (seen_of c.load_step-found.new.seat.me.0.own) (range_with_len a j)) next in
+    ap (λ (x : ℕ). x + r / 2) inv.sum ∙ sum_more w a k r long ∙ ap (λ (v : Known). sum_by (seen_of v) (range_with_len a (k + 1))) (sym at)
+    ∙ ap (λ (j : ℕ). sum_by (seen_of c.load_step-found.new.seat.me.0.own) (range_with_len a j)) next in
     let few : c.loop-child.child + 1 - a ≤ min c.loop-child.seat.width (c.loop-child.seat.n - a) = (let p = inv.width in let q = inv.n in omega arith) in
-    let is : a ≡ c.loop-child.seat.number * c.loop-child.seat.width + 1 = ap (λ (j : ℕ). j * c.args.seat.now.width + 1) (sym inv.number) ∙ ap (λ (j : ℕ). c.loop-child.seat.number * j + 1) (sym inv.width) in
+    let is : a ≡ c.loop-child.seat.number * c.loop-child.seat.width + 1 = ap (λ (j : ℕ). j * c.args.seat.now.width + 1) (sym inv.number)
+    ∙ ap (λ (j : ℕ). c.loop-child.seat.number * j + 1) (sym inv.width) in
     let part = bounded c.args.self.now (record c.loop-child.seat { seat = c.load_step-found.new.seat }) a (c.loop-child.child + 1 - a) S is few in
     record {
       mine = S;
@@ -43,7 +47,9 @@ loop-child-preserved c =
       count = inv.count;
       answer = inv.answer;
       loaded = subst (λ (j : ℕ). LoadedFinal c.args.seat.now.seat.me.0.own a j c.load_step-found.new.seat.me.0.own) next
-          (subst (λ (v : Known). LoadedFinal c.args.seat.now.seat.me.0.own a (k + 1) v) (sym at) (final_more c.args.seat.now.seat.me.0.own w a k r inv.loaded long (let e = inv.mine.wide in omega arith) c.if-found-ne1.false));
+          (subst (λ (v : Known). LoadedFinal c.args.seat.now.seat.me.0.own a (k + 1) v) (sym at)
+          (final_more c.args.seat.now.seat.me.0.own w a k r inv.loaded long (let e = inv.mine.wide in
+          omega arith) c.if-found-ne1.false));
       sum = sum;
       fits = (let f = c.load_step-found.ensures.fits in omega arith);
     }
@@ -79,8 +85,11 @@ returns-then-found-ne1-clause-mine c =
     let size = c.requires.seat.n in
     let inside : c.loop-child.child < c.args.self.now.n = omega arith in
     let long : a + k < length w.seen = (let e = inv.mine.long in omega arith) in
-    let at : c.load_step-found.new.seat.me.0.own ≡ after_load w (a + k) r = ap (λ (m : SeatState). m.0.own) c.load_step-found.ensures.after ∙ ap (λ (j : ℕ). after_load w j r) (sym back) in
-    still c.args.self.now c.loop-child.seat (record c.loop-child.seat { seat = c.load_step-found.new.seat }) c.loop-child.child r inv.mine inside c.load_step-found.ensures.table c.load_step-found.ensures.after c.load_step-found.ensures.rises refl refl refl refl refl
+    let at : c.load_step-found.new.seat.me.0.own ≡ after_load w (a + k) r = ap (λ (m : SeatState). m.0.own) c.load_step-found.ensures.after
+    ∙ ap (λ (j : ℕ). after_load w j r) (sym back) in
+    still c.args.self.now c.loop-child.seat
+    (record c.loop-child.seat { seat = c.load_step-found.new.seat }) c.loop-child.child r inv.mine inside
+    c.load_step-found.ensures.table c.load_step-found.ensures.after c.load_step-found.ensures.rises refl refl refl refl refl
 
 pub returns-then-found-ne1-clause-none : goal.returns-then-found-ne1-clause-none
 returns-then-found-ne1-clause-none c =
@@ -96,7 +105,8 @@ returns-then-found-ne1-clause-none c =
     let size = c.requires.seat.n in
     let inside : c.loop-child.child < c.args.self.now.n = omega arith in
     let long : a + k < length w.seen = (let e = inv.mine.long in omega arith) in
-    let at : c.load_step-found.new.seat.me.0.own ≡ after_load w (a + k) r = ap (λ (m : SeatState). m.0.own) c.load_step-found.ensures.after ∙ ap (λ (j : ℕ). after_load w j r) (sym back) in
+    let at : c.load_step-found.new.seat.me.0.own ≡ after_load w (a + k) r = ap (λ (m : SeatState). m.0.own) c.load_step-found.ensures.after
+    ∙ ap (λ (j : ℕ). after_load w j r) (sym back) in
     subst (λ (x : Known). Blocked c.args.seat.now.seat.me.0.own (range_with_len a (min c.args.seat.now.width (c.args.seat.now.n - a))) x) (sym at)
     (blocks c.args.seat.now.seat.me.0.own w a k (min c.args.seat.now.width (c.args.seat.now.n - a)) r inv.loaded long (omega arith) c.if-found-ne1.true)
 

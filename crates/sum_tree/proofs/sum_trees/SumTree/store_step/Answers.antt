@@ -1,6 +1,11 @@
-use Rattle.std.proofs.Common.{rules, arith, ap, sym, subst, ◌∙◌, ◌<◌, ℕ}
+use Rattle.std.proofs.Common.{arith, sym}
 use Rattle.sum_tree.proofs.WordSteps.{store_at}
 use Rattle.sum_tree.proofs.sum_trees.SumTree.store_step.Goals as goal
 
 pub store-requires : goal.store-requires
-store-requires c = (c.requires.mine.table, (let a = c.args.self.now.sized in let b = c.requires.mine.inside in omega arith), store_at c.args.self.now.n c.args.self.now.width _ _ _ _ c.args.count _ _ c.args.self.now.keyed (sym c.requires.mine.number) c.requires.mine.live c.requires.counting c.requires.count.0 c.requires.count.1 c.requires.new)
+store-requires c = (
+  c.requires.mine.table,
+  (let a = c.args.self.now.sized in let b = c.requires.mine.inside in omega arith),
+  store_at c.args.self.now.n c.args.self.now.width _ _ _ _ c.args.count _ _ c.args.self.now.keyed
+      (sym c.requires.mine.number) c.requires.mine.live c.requires.counting c.requires.count.0 c.requires.count.1 c.requires.new,
+)

@@ -13,8 +13,10 @@ returns-then-not-is_gone-clause-some c =
 pub loop-self-preserved : goal.loop-self-preserved
 loop-self-preserved c = record {
   sound = record {
-    within = within_still (λ (e : Entry). IsTrue (is_within e.path c.loop-self.self.top.now)) c.loop-self.self.cursor c.advance.new.self c.advance.result c.advance.ensures.passed c.loop-self.invariant.sound.within;
+    within = within_still (λ (e : Entry). IsTrue (is_within e.path c.loop-self.self.top.now)) c.loop-self.self.cursor c.advance.new.self
+        c.advance.result c.advance.ensures.passed c.loop-self.invariant.sound.within;
     inside = c.advance.ensures.inside;
   };
-  same = passed_gone c.loop-self.self.top.now c.loop-self.self.cursor c.advance.new.self c.advance.result c.entry-entry.result.now c.advance.ensures.passed (search rules) c.entry-entry.ensures.at (search rules) ∙ c.loop-self.invariant.same;
+  same = passed_gone c.loop-self.self.top.now c.loop-self.self.cursor c.advance.new.self c.advance.result c.entry-entry.result.now
+      c.advance.ensures.passed (search rules) c.entry-entry.ensures.at (search rules) ∙ c.loop-self.invariant.same;
 }
