@@ -9,20 +9,30 @@ use crate::ranks::{Rank, Turn};
 use path_text::OutOfMemory;
 use post_board::Post;
 use ring_core::Event;
+use std::marker::Model;
 use std::sync::Wait;
 use std::thread;
 use sum_tree::Sums;
 
-/// Ranks that have their turns on one thread, in rounds and in ascending order.
+/// Ranks that have their turns on one thread, in rounds and in ascending order. A contract sees it as their list.
 pub struct Host<J, S, T> {
     ranks: Vec<Rank<J, S, T>>,
+}
+
+impl<J, S, T> Model for Host<J, S, T> {
+    ghost use Rattle.std.specs.Prelude.{List};
+    ghost use Rattle.circle_run.specs.declared.ranks.Rank.{Rank};
+
+    ghost Value = { List (Rank J S T) };
+
+    ghost view = { λ h. h.ranks.items };
 }
 
 impl<J: Job, S, T> Host<J, S, T> {
     /// A host of these ranks, in ascending order.
     pub fn make(ranks: Vec<Rank<J, S, T>>) -> Host<J, S, T>
         requires { IsAscending ranks.items }
-        ensures { result.ranks.items ≡ ranks.items }
+        ensures { result ≡ ranks.items }
     {
         Host { ranks }
     }
@@ -34,20 +44,20 @@ impl<J: Job, S, T> Host<J, S, T> {
         post: &mut P,
         sums: &mut Q,
     ) -> Vec<Rank<J, S, T>>
-        requires order { IsAscending self.ranks.items }
-        requires ready { AllReady J.log P.shows P.seats Q.shows Q.seats self.ranks.items post.old sums.old }
+        requires order { IsAscending self }
+        requires ready { AllReady J.log P.shows P.seats Q.shows Q.seats self post.old sums.old }
         ensures ended { AllEnded J.log P.shows P.seats Q.shows Q.seats result.items post.new sums.new }
-        ensures same { Same J.plain self.ranks.items result.items }
+        ensures same { Same J.plain self result.items }
 
         // Over a board that tells its places, where these are all ranks and none was refused memory: the turns are played.
-        ensures ran { (o : Options) (t : Told) → AreAll o self.ranks.items → P.tells post.old ≡ Some t → NoneLost result.items → Ran J.log P.tells (KeptByEach o self.ranks.items result.items) o t self.ranks.items result.items post.new }
+        ensures ran { (o : Options) (t : Told) → AreAll o self → P.tells post.old ≡ Some t → NoneLost result.items → Ran J.log P.tells (KeptByEach o self result.items) o t self result.items post.new }
 
         // A board, and sums, that tell nothing stay the same value.
         ensures still { P.tells post.old ≡ None → post.new ≡ post.old }
         ensures sums_still { Q.tells sums.old ≡ None → sums.new ≡ sums.old }
 
         // Over a board that tells nothing, where none was refused memory: each made moves of its own.
-        ensures alone { P.tells post.old ≡ None → NoneLost result.items → (P.tells post.new ≡ None) × AllAlone J.log P.shows self.ranks.items result.items }
+        ensures alone { P.tells post.old ≡ None → NoneLost result.items → (P.tells post.new ≡ None) × AllAlone J.log P.shows self result.items }
     {
         let Host { mut ranks } = self;
         let mut done = unset();
@@ -76,14 +86,14 @@ impl<J: Job, S, T> Host<J, S, T> {
         J: Drop,
         S: Drop,
         T: Drop,
-        requires order { IsAscending self.ranks.items }
-        requires ready { AllReady J.log P.shows P.seats Q.shows Q.seats self.ranks.items post.old sums.old }
-        requires unwritten { NoneWrote self.ranks.items }
+        requires order { IsAscending self }
+        requires ready { AllReady J.log P.shows P.seats Q.shows Q.seats self post.old sums.old }
+        requires unwritten { NoneWrote self }
         requires empty { events.old.items ≡ [] }
         ensures ended { IfOk result (λ ranks. AllEnded J.log P.shows P.seats Q.shows Q.seats ranks.items post.new sums.new) }
-        ensures same { IfOk result (λ ranks. Same J.plain self.ranks.items ranks.items) }
+        ensures same { IfOk result (λ ranks. Same J.plain self ranks.items) }
         ensures unwritten { IfOk result (λ ranks. NoneWrote ranks.items) }
-        ensures ran { IfOk result (λ ranks. (o : Options) (t : Told) → AreAll o self.ranks.items → P.tells post.old ≡ Some t → Ran J.log P.tells (KeptInOrder o events.new.items) o t self.ranks.items ranks.items post.new) }
+        ensures ran { IfOk result (λ ranks. (o : Options) (t : Told) → AreAll o self → P.tells post.old ≡ Some t → Ran J.log P.tells (KeptInOrder o events.new.items) o t self ranks.items post.new) }
     {
         let Host { mut ranks } = self;
         let mut done = unset();

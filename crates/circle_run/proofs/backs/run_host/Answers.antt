@@ -19,9 +19,9 @@ returns-clause-ran g c =
     subst (λ xs. HostRan g.J.Job.log g.J.Job.plain g.P.Post.shows g.P.Post.seats g.Q.Sums.shows g.Q.Sums.seats c.args.post.now
     c.args.sums.now xs c.run.result.items) c.make.ensures
     (subst (λ y. HostRan g.J.Job.log g.J.Job.plain g.P.Post.shows g.P.Post.seats g.Q.Sums.shows g.Q.Sums.seats c.args.post.now y
-    c.make.result.ranks.items c.run.result.items) q
+    c.make.result c.run.result.items) q
     (subst (λ x. HostRan g.J.Job.log g.J.Job.plain g.P.Post.shows g.P.Post.seats g.Q.Sums.shows g.Q.Sums.seats x c.run.new.sums
-    c.make.result.ranks.items c.run.result.items) p
+    c.make.result c.run.result.items) p
     record { ended = r.ended; same = r.same; alone = λ none. (r.alone c.requires.untold none).1 }))
 
 pub returns-clause-still : goal.returns-clause-still

@@ -31,7 +31,7 @@ run_traced-requires g c =
     let new = subst (AreNew g.J.Job.log c.args.options.now c.args.jobs.items c.args.seats.items c.args.sums_seats.items c.in_ok-queues.queues.items)
     (sym c.make.ensures) c.in_ok-ranks.ensures in
     let first = begins g.J.Job.log g.P.Post.shows g.P.Post.tells g.P.Post.seats g.Q.Sums.shows g.Q.Sums.seats c.args.options.now c.args.starts.items
-    c.args.jobs.items c.args.seats.items c.args.sums_seats.items c.in_ok-queues.queues.items c.make.result.ranks.items c.args.post.now
+    c.args.jobs.items c.args.seats.items c.args.sums_seats.items c.in_ok-queues.queues.items c.make.result c.args.post.now
     c.args.sums.now new
     c.requires.jobs c.requires.ranks.1 c.requires.width c.requires.seats c.requires.sums_shown c.requires.sums_seats c.in_ok-queues.ensures in
     record { order = first.order; ready = first.ready; unwritten = first.unwritten; empty = c.new-events.ensures.items }
@@ -41,10 +41,10 @@ gather-requires-clause-all g c =
     let new = subst (AreNew g.J.Job.log c.args.options.now c.args.jobs.items c.args.seats.items c.args.sums_seats.items c.in_ok-queues.queues.items)
     (sym c.make.ensures) c.in_ok-ranks.ensures in
     let first = begins g.J.Job.log g.P.Post.shows g.P.Post.tells g.P.Post.seats g.Q.Sums.shows g.Q.Sums.seats c.args.options.now c.args.starts.items
-    c.args.jobs.items c.args.seats.items c.args.sums_seats.items c.in_ok-queues.queues.items c.make.result.ranks.items c.args.post.now
+    c.args.jobs.items c.args.seats.items c.args.sums_seats.items c.in_ok-queues.queues.items c.make.result c.args.post.now
     c.args.sums.now new
     c.requires.jobs c.requires.ranks.1 c.requires.width c.requires.seats c.requires.sums_shown c.requires.sums_seats c.in_ok-queues.ensures in
-    let all = same_all g.J.Job.plain c.args.options.now c.make.result.ranks.items c.in_ok-ranks-2.ranks.items c.in_ok-ranks-2.ensures.same first.all in
+    let all = same_all g.J.Job.plain c.args.options.now c.make.result c.in_ok-ranks-2.ranks.items c.in_ok-ranks-2.ensures.same first.all in
     seats_done g.J.Job.log g.J.Job.plain g.P.Post.shows g.P.Post.tells g.P.Post.seats g.Q.Sums.shows g.Q.Sums.seats c.args.options.now
     c.in_ok-ranks-2.ranks.items c.run_traced.new.post c.run_traced.new.sums c.in_ok-parts.parts.seats.items all c.in_ok-ranks-2.ensures.ended
     c.in_ok-parts.ensures.seats
@@ -54,10 +54,10 @@ gather-requires-2-clause-all g c =
     let new = subst (AreNew g.J.Job.log c.args.options.now c.args.jobs.items c.args.seats.items c.args.sums_seats.items c.in_ok-queues.queues.items)
     (sym c.make.ensures) c.in_ok-ranks.ensures in
     let first = begins g.J.Job.log g.P.Post.shows g.P.Post.tells g.P.Post.seats g.Q.Sums.shows g.Q.Sums.seats c.args.options.now c.args.starts.items
-    c.args.jobs.items c.args.seats.items c.args.sums_seats.items c.in_ok-queues.queues.items c.make.result.ranks.items c.args.post.now
+    c.args.jobs.items c.args.seats.items c.args.sums_seats.items c.in_ok-queues.queues.items c.make.result c.args.post.now
     c.args.sums.now new
     c.requires.jobs c.requires.ranks.1 c.requires.width c.requires.seats c.requires.sums_shown c.requires.sums_seats c.in_ok-queues.ensures in
-    let all = same_all g.J.Job.plain c.args.options.now c.make.result.ranks.items c.in_ok-ranks-2.ranks.items c.in_ok-ranks-2.ensures.same first.all in
+    let all = same_all g.J.Job.plain c.args.options.now c.make.result c.in_ok-ranks-2.ranks.items c.in_ok-ranks-2.ensures.same first.all in
     sums_done g.J.Job.log g.J.Job.plain g.P.Post.shows g.P.Post.tells g.P.Post.seats g.Q.Sums.shows g.Q.Sums.seats c.args.options.now
     c.in_ok-ranks-2.ranks.items c.run_traced.new.post c.run_traced.new.sums c.in_ok-parts.parts.sums_seats.items all
     c.in_ok-ranks-2.ensures.ended c.in_ok-parts.ensures.sums_seats
@@ -68,15 +68,15 @@ returns g c =
     let new = subst (AreNew g.J.Job.log c.args.options.now c.args.jobs.items c.args.seats.items c.args.sums_seats.items c.in_ok-queues.queues.items)
     (sym c.make.ensures) c.in_ok-ranks.ensures in
     let first = begins g.J.Job.log g.P.Post.shows g.P.Post.tells g.P.Post.seats g.Q.Sums.shows g.Q.Sums.seats c.args.options.now c.args.starts.items
-    c.args.jobs.items c.args.seats.items c.args.sums_seats.items c.in_ok-queues.queues.items c.make.result.ranks.items c.args.post.now
+    c.args.jobs.items c.args.seats.items c.args.sums_seats.items c.in_ok-queues.queues.items c.make.result c.args.post.now
     c.args.sums.now new
     c.requires.jobs c.requires.ranks.1 c.requires.width c.requires.seats c.requires.sums_shown c.requires.sums_seats c.in_ok-queues.ensures in
     let ranks = c.in_ok-ranks-2.ranks.items in
     let parts = c.in_ok-parts.ensures in
-    let all = same_all g.J.Job.plain o c.make.result.ranks.items ranks c.in_ok-ranks-2.ensures.same first.all in
+    let all = same_all g.J.Job.plain o c.make.result ranks c.in_ok-ranks-2.ensures.same first.all in
     let left =
     outcome g.J.Job.log g.J.Job.plain g.P.Post.shows g.P.Post.tells g.P.Post.seats g.Q.Sums.shows g.Q.Sums.seats o c.args.starts.items c.args.jobs.items
-    c.make.result.ranks.items ranks c.args.post.now c.run_traced.new.post c.args.sums.now c.run_traced.new.sums c.gather-2.result _
+    c.make.result ranks c.args.post.now c.run_traced.new.post c.args.sums.now c.run_traced.new.sums c.gather-2.result _
     (record {
       waits = c.nothing_waits_at_end.ensures;
       fair = c.rounds_are_fair.ensures.fair;

@@ -8,21 +8,21 @@ use Rattle.circle_run.specs.Hosts.{Placed, KeptByEach}
 use Rattle.circle_run.proofs.hosts.Host.run.Goals as goal
 
 pub loop-init : goal.loop-init
-loop-init g c = record {
+loop-init g c = rw (c.self.view_is) (record {
   next = tt;
   finite = tt;
-  placed = placed_first g.J.Job.log g.P.Post.shows g.P.Post.seats g.Q.Sums.shows g.Q.Sums.seats c.unset-done.result c.args.self.ranks.items
+  placed = placed_first g.J.Job.log g.P.Post.shows g.P.Post.seats g.Q.Sums.shows g.Q.Sums.seats c.unset-done.result c.args.self
       c.args.post.now c.args.sums.now c.unset-done.ensures.unset c.requires.ready;
   wide = c.unset-done.ensures.long;
-  same = same_first g.J.Job.plain c.args.self.ranks.items;
+  same = same_first g.J.Job.plain c.args.self;
   ran = λ none o t all told.
       going_first g.J.Job.log g.J.Job.plain g.P.Post.shows g.P.Post.tells g.P.Post.seats
-      (KeptByEach o c.args.self.ranks.items c.args.self.ranks.items) o t c.args.self.ranks.items c.args.post.now told
-      (each_first g.J.Job.log g.J.Job.plain g.P.Post.shows g.P.Post.tells g.P.Post.seats o c.args.self.ranks.items);
+      (KeptByEach o c.args.self c.args.self) o t c.args.self c.args.post.now told
+      (each_first g.J.Job.log g.J.Job.plain g.P.Post.shows g.P.Post.tells g.P.Post.seats o c.args.self);
   still = λ e. refl;
   sums_still = λ e. refl;
-  alone = λ e none. (e, alone_first g.J.Job.log g.J.Job.plain g.P.Post.shows g.P.Post.tells g.P.Post.seats c.args.self.ranks.items);
-}
+  alone = λ e none. (e, alone_first g.J.Job.log g.J.Job.plain g.P.Post.shows g.P.Post.tells g.P.Post.seats c.args.self);
+})
 
 pub loop-k-init : goal.loop-k-init
 loop-k-init g c =
@@ -44,26 +44,26 @@ loop-k-preserved g c =
     let took = c.step.ensures.took in
     let was = c.index_mut.ensures.value in
     let inside : c.loop-k.k < length c.loop-k.ranks.items = (let n = i.same.count in let e = i.end in let t = c.loop-k-test.true in omega arith) in
-    let few = at_most_64 g.J.Job.log g.P.Post.shows g.P.Post.seats g.Q.Sums.shows g.Q.Sums.seats c.args.self.ranks.items c.args.post.now
+    let few = at_most_64 g.J.Job.log g.P.Post.shows g.P.Post.seats g.Q.Sums.shows g.Q.Sums.seats c.args.self c.args.post.now
     c.args.sums.now c.requires.order c.requires.ready in
     record {
       placed = placed_more g.J.Job.log g.P.Post.shows g.P.Post.seats g.Q.Sums.shows g.Q.Sums.seats c.loop-k.done c.loop-k.ranks.items
           c.loop-k.post c.step.new.post c.loop-k.sums c.step.new.sums c.loop-k.k c.index_mut.result.now c.step.new.self c.step.new.done
-          (same_order g.J.Job.plain c.args.self.ranks.items c.loop-k.ranks.items i.same c.requires.order) inside (let n = i.same.count in
+          (same_order g.J.Job.plain c.args.self c.loop-k.ranks.items i.same c.requires.order) inside (let n = i.same.count in
           let w = i.wide in omega arith) was c.step.ensures.others c.step.ensures.sums_others c.step.ensures.placed i.placed;
       wide = length-set c.loop-k.done c.loop-k.k c.step.new.done ∙ i.wide;
-      same = same_more g.J.Job.plain c.args.self.ranks.items c.loop-k.ranks.items c.loop-k.k c.index_mut.result.now c.step.new.self inside
+      same = same_more g.J.Job.plain c.args.self c.loop-k.ranks.items c.loop-k.k c.index_mut.result.now c.step.new.self inside
           was took.me took.options took.facts i.same;
       end = i.end;
       ran = λ none o t all told.
           let before = lost_before c.loop-k.ranks.items c.loop-k.k c.index_mut.result.now c.step.new.self inside was took.lost none in
           let w = took.went (lost_here c.loop-k.ranks.items c.loop-k.k c.step.new.self inside none) in
-          let now = same_all g.J.Job.plain o c.args.self.ranks.items c.loop-k.ranks.items i.same all in
+          let now = same_all g.J.Job.plain o c.args.self c.loop-k.ranks.items i.same all in
           going_more g.J.Job.log g.J.Job.plain g.P.Post.shows g.P.Post.tells g.P.Post.seats
-          (KeptByEach o c.args.self.ranks.items c.loop-k.ranks.items) _ o t c.args.self.ranks.items c.loop-k.ranks.items c.loop-k.post
+          (KeptByEach o c.args.self c.loop-k.ranks.items) _ o t c.args.self c.loop-k.ranks.items c.loop-k.post
           c.step.new.post
           c.loop-k.k c.index_mut.result.now c.step.new.self c.step.new.self now i.same.count inside was w (λ i. c.step.new.self)
-          (each_more g.J.Job.log g.J.Job.plain g.P.Post.shows g.P.Post.tells g.P.Post.seats o c.args.self.ranks.items c.loop-k.ranks.items
+          (each_more g.J.Job.log g.J.Job.plain g.P.Post.shows g.P.Post.tells g.P.Post.seats o c.args.self c.loop-k.ranks.items
           c.loop-k.post c.step.new.post c.loop-k.k c.index_mut.result.now c.step.new.self now i.same.count inside was w)
           (i.ran before o t all told);
       still = still_then g.P.Post.tells c.args.post.now c.loop-k.post c.step.new.post i.still took.still;
@@ -71,7 +71,7 @@ loop-k-preserved g c =
       alone = λ e none.
           let before = lost_before c.loop-k.ranks.items c.loop-k.k c.index_mut.result.now c.step.new.self inside was took.lost none in
           let w = took.went (lost_here c.loop-k.ranks.items c.loop-k.k c.step.new.self inside none) in
-          alone_step g.J.Job.log g.J.Job.plain g.P.Post.shows g.P.Post.tells g.P.Post.seats c.args.self.ranks.items c.loop-k.ranks.items
+          alone_step g.J.Job.log g.J.Job.plain g.P.Post.shows g.P.Post.tells g.P.Post.seats c.args.self c.loop-k.ranks.items
           c.loop-k.post c.step.new.post c.loop-k.k c.index_mut.result.now c.step.new.self inside was i.same w (i.alone e before);
     }
 
@@ -85,7 +85,7 @@ loop-preserved g c =
       wide = i.wide;
       same = i.same;
       ran = λ none o t all told.
-          going_round g.J.Job.log g.J.Job.plain g.P.Post.shows g.P.Post.tells g.P.Post.seats _ o t c.args.self.ranks.items
+          going_round g.J.Job.log g.J.Job.plain g.P.Post.shows g.P.Post.tells g.P.Post.seats _ o t c.args.self
           c.loop-k.ranks.items c.loop-k.post c.loop-k.k
           (let n = all.count in let e = i.end in let f = c.loop-k-test.false in let u = c.loop-k.auto.k-end in omega arith) (i.ran none o t all told);
       still = i.still;
@@ -98,7 +98,7 @@ index_mut-requires g c = (let n = c.loop-k.invariant.same.count in let e = c.loo
 
 pub bounds-done-k : goal.bounds-done-k
 bounds-done-k g c =
-    let few = at_most_64 g.J.Job.log g.P.Post.shows g.P.Post.seats g.Q.Sums.shows g.Q.Sums.seats c.args.self.ranks.items c.args.post.now
+    let few = at_most_64 g.J.Job.log g.P.Post.shows g.P.Post.seats g.Q.Sums.shows g.Q.Sums.seats c.args.self c.args.post.now
     c.args.sums.now c.requires.order c.requires.ready in
     let e = c.loop-k.invariant.end in omega arith
 
@@ -112,19 +112,19 @@ step-requires g c =
 
 pub slice_bounds-done-end : goal.slice_bounds-done-end
 slice_bounds-done-end g c =
-    let few = at_most_64 g.J.Job.log g.P.Post.shows g.P.Post.seats g.Q.Sums.shows g.Q.Sums.seats c.args.self.ranks.items c.args.post.now
+    let few = at_most_64 g.J.Job.log g.P.Post.shows g.P.Post.seats g.Q.Sums.shows g.Q.Sums.seats c.args.self c.args.post.now
     c.args.sums.now c.requires.order c.requires.ready in
     let n = c.loop-k.invariant.same.count in let w = c.loop-k.invariant.wide in omega arith
 
 pub slice_bounds-are_set-end : goal.slice_bounds-are_set-end
 slice_bounds-are_set-end g c = sym (length-take-le c.len.result c.loop-k.done
-    (let few = at_most_64 g.J.Job.log g.P.Post.shows g.P.Post.seats g.Q.Sums.shows g.Q.Sums.seats c.args.self.ranks.items c.args.post.now
+    (let few = at_most_64 g.J.Job.log g.P.Post.shows g.P.Post.seats g.Q.Sums.shows g.Q.Sums.seats c.args.self c.args.post.now
     c.args.sums.now c.requires.order c.requires.ready in
     let n = c.loop-k.invariant.same.count in let w = c.loop-k.invariant.wide in omega arith))
 
 pub returns-then-are_set-clause-ended : goal.returns-then-are_set-clause-ended
 returns-then-are_set-clause-ended g c =
-    let few = at_most_64 g.J.Job.log g.P.Post.shows g.P.Post.seats g.Q.Sums.shows g.Q.Sums.seats c.args.self.ranks.items c.args.post.now
+    let few = at_most_64 g.J.Job.log g.P.Post.shows g.P.Post.seats g.Q.Sums.shows g.Q.Sums.seats c.args.self c.args.post.now
     c.args.sums.now c.requires.order c.requires.ready in
     let n = c.loop-k.invariant.same.count in
     let w = c.loop-k.invariant.wide in

@@ -9,15 +9,15 @@ abbrev pub invariant-loop-k : goal.invariant-loop-k
 invariant-loop-k g l = record {
   placed : AllPlaced g.J.Job.log g.P.Post.shows g.P.Post.seats g.Q.Sums.shows g.Q.Sums.seats l.done l.ranks.items l.post l.sums;
   wide : length l.done ≡ 64;
-  same : Same g.J.Job.plain l.fn.self.ranks.items l.ranks.items;
-  end : l.k-end ≡ length l.fn.self.ranks.items;
-  ran : NoneLost l.ranks.items → (o : Options) (t : Told) → AreAll o l.fn.self.ranks.items → g.P.Post.tells l.fn.post ≡ Some t
+  same : Same g.J.Job.plain l.fn.self l.ranks.items;
+  end : l.k-end ≡ length l.fn.self;
+  ran : NoneLost l.ranks.items → (o : Options) (t : Told) → AreAll o l.fn.self → g.P.Post.tells l.fn.post ≡ Some t
       → Going g.J.Job.log g.J.Job.plain g.P.Post.shows g.P.Post.tells g.P.Post.seats
-      (KeptByEach o l.fn.self.ranks.items l.ranks.items) o t l.fn.self.ranks.items l.ranks.items l.post l.k;
+      (KeptByEach o l.fn.self l.ranks.items) o t l.fn.self l.ranks.items l.post l.k;
   still : g.P.Post.tells l.fn.post ≡ None → l.post ≡ l.fn.post;
   sums_still : g.Q.Sums.tells l.fn.sums ≡ None → l.sums ≡ l.fn.sums;
   alone : g.P.Post.tells l.fn.post ≡ None → NoneLost l.ranks.items → (g.P.Post.tells l.post ≡ None)
-      × AllAlone g.J.Job.log g.P.Post.shows l.fn.self.ranks.items l.ranks.items;
+      × AllAlone g.J.Job.log g.P.Post.shows l.fn.self l.ranks.items;
 }
 
 abbrev pub invariant-loop : goal.invariant-loop
@@ -26,12 +26,12 @@ invariant-loop g l = record {
   finite : (goal.iterator-loop g).is_finite l.iterator';
   placed : AllPlaced g.J.Job.log g.P.Post.shows g.P.Post.seats g.Q.Sums.shows g.Q.Sums.seats l.done l.ranks.items l.post l.sums;
   wide : length l.done ≡ 64;
-  same : Same g.J.Job.plain l.fn.self.ranks.items l.ranks.items;
-  ran : NoneLost l.ranks.items → (o : Options) (t : Told) → AreAll o l.fn.self.ranks.items → g.P.Post.tells l.fn.post ≡ Some t
+  same : Same g.J.Job.plain l.fn.self l.ranks.items;
+  ran : NoneLost l.ranks.items → (o : Options) (t : Told) → AreAll o l.fn.self → g.P.Post.tells l.fn.post ≡ Some t
       → Going g.J.Job.log g.J.Job.plain g.P.Post.shows g.P.Post.tells g.P.Post.seats
-      (KeptByEach o l.fn.self.ranks.items l.ranks.items) o t l.fn.self.ranks.items l.ranks.items l.post 0;
+      (KeptByEach o l.fn.self l.ranks.items) o t l.fn.self l.ranks.items l.post 0;
   still : g.P.Post.tells l.fn.post ≡ None → l.post ≡ l.fn.post;
   sums_still : g.Q.Sums.tells l.fn.sums ≡ None → l.sums ≡ l.fn.sums;
   alone : g.P.Post.tells l.fn.post ≡ None → NoneLost l.ranks.items → (g.P.Post.tells l.post ≡ None)
-      × AllAlone g.J.Job.log g.P.Post.shows l.fn.self.ranks.items l.ranks.items;
+      × AllAlone g.J.Job.log g.P.Post.shows l.fn.self l.ranks.items;
 }

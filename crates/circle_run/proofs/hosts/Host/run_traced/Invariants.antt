@@ -9,12 +9,12 @@ abbrev pub invariant-loop-k : goal.invariant-loop-k
 invariant-loop-k g l = record {
   placed : AllPlaced g.J.Job.log g.P.Post.shows g.P.Post.seats g.Q.Sums.shows g.Q.Sums.seats l.done l.ranks.items l.post l.sums;
   wide : length l.done ≡ 64;
-  same : Same g.J.Job.plain l.fn.self.ranks.items l.ranks.items;
-  end : l.k-end ≡ length l.fn.self.ranks.items;
+  same : Same g.J.Job.plain l.fn.self l.ranks.items;
+  end : l.k-end ≡ length l.fn.self;
   wrote : NoneWrote l.ranks.items;
-  ran : (o : Options) (t : Told) → AreAll o l.fn.self.ranks.items → g.P.Post.tells l.fn.post ≡ Some t
+  ran : (o : Options) (t : Told) → AreAll o l.fn.self → g.P.Post.tells l.fn.post ≡ Some t
       → Going g.J.Job.log g.J.Job.plain g.P.Post.shows g.P.Post.tells g.P.Post.seats
-      (KeptInOrder o l.events.items) o t l.fn.self.ranks.items l.ranks.items l.post l.k;
+      (KeptInOrder o l.events.items) o t l.fn.self l.ranks.items l.post l.k;
 }
 
 abbrev pub invariant-loop : goal.invariant-loop
@@ -23,9 +23,9 @@ invariant-loop g l = record {
   finite : (goal.iterator-loop g).is_finite l.iterator';
   placed : AllPlaced g.J.Job.log g.P.Post.shows g.P.Post.seats g.Q.Sums.shows g.Q.Sums.seats l.done l.ranks.items l.post l.sums;
   wide : length l.done ≡ 64;
-  same : Same g.J.Job.plain l.fn.self.ranks.items l.ranks.items;
+  same : Same g.J.Job.plain l.fn.self l.ranks.items;
   wrote : NoneWrote l.ranks.items;
-  ran : (o : Options) (t : Told) → AreAll o l.fn.self.ranks.items → g.P.Post.tells l.fn.post ≡ Some t
+  ran : (o : Options) (t : Told) → AreAll o l.fn.self → g.P.Post.tells l.fn.post ≡ Some t
       → Going g.J.Job.log g.J.Job.plain g.P.Post.shows g.P.Post.tells g.P.Post.seats
-      (KeptInOrder o l.events.items) o t l.fn.self.ranks.items l.ranks.items l.post 0;
+      (KeptInOrder o l.events.items) o t l.fn.self l.ranks.items l.post 0;
 }
