@@ -3,8 +3,8 @@ use Rattle.std.proofs.Common.{◌≡◌, ℕ, ◌≢◌, ◌⊎◌, inl, inr, re
 use Rattle.ring_core.specs.declared.events.Event.{Event}
 use Rattle.ring_core.specs.declared.events.Event.TheVariants.{Handle, Ask, Give, Refuse, Take, TakeNone, Pass, Restart, Conclude, SeeOver}
 use Rattle.post_board.specs.Shown.{Strings}
-use Rattle.post_board.specs.Deeds.{Deed, ask, give, refuse, take, take_none, pass, restart, conclude, see_over, event_of}
-use Rattle.circle_run.specs.Moves.{Move, handled, served, did, answer_of, events_of}
+use Rattle.post_board.specs.Deeds.{Deed, ask, give, refuse, take, take_none, pass, restart, conclude, see_over, event_of, withdraw, halt, stop}
+use Rattle.circle_run.specs.Moves.{Move, handled, served, did, noted, answer_of, events_of}
 use Rattle.circle_run.specs.Stages.{events_of_all}
 use Rattle.circle_run.specs.Fair.{actor, handles, ComesBefore, moves_in}
 
@@ -32,6 +32,9 @@ pub move_by : (me : ℕ) (m : Move) → By me (events_of me m)
 move_by me (handled path kids) = (refl, tt)
 move_by me (served answers) = answers_by me answers
 move_by me (did d) = (deed_by me d, tt)
+move_by me (noted (withdraw from)) = (refl, tt)
+move_by me (noted halt) = tt
+move_by me (noted stop) = tt
 
 pub By-append : (r : ℕ) (xs ys : List Event) → By r xs → By r ys → By r (xs ++ ys)
 By-append r [] ys first next = next

@@ -13,7 +13,7 @@ use Rattle.post_board.specs.Shown.{Strings, Batches, more, with_taken}
 use Rattle.post_board.specs.Deeds.{Deed, ask, give, refuse, take, take_none, pass, restart, conclude, see_over}
 use Rattle.circle_run.specs.Balance as balance
 use Rattle.circle_run.specs.Balance.{Log, Balanced}
-use Rattle.circle_run.specs.Moves.{Move, handled, served, did, Side, answer_of, batches_after, batches_after_all, Does}
+use Rattle.circle_run.specs.Moves.{Move, handled, served, did, noted, Side, answer_of, batches_after, batches_after_all, Does}
 use Rattle.circle_run.specs.Ranks.{DoesAll}
 use Rattle.circle_run.specs.Stages.{dealt_to}
 use Rattle.circle_run.specs.Shares.{handled_in, given_in, taken_in}
@@ -159,6 +159,11 @@ step o me dealt done (served answers) s s' does b f =
         logged = does.log ∙ f.logged ∙ sym (one_more handled_in done (served answers) ∙ append-nil (flat_map handled_in done));
       },
     )
+step o me dealt done (noted late) s s' does b f = (
+  b,
+  keeps o.ranks dealt done (noted late) s s' b f (record { handled = refl; given = refl; taken = refl })
+      (ap (λ (x : Side). x.batches) does.after) (ap (λ (x : Side). x.log) does.after) (λ w. ap (λ (x : Side). sum_by w x.queue) does.after),
+)
 step o me dealt done (did (ask v)) s s' does b f = (
   b,
   keeps o.ranks dealt done (did (ask v)) s s' b f

@@ -9,7 +9,8 @@ use Rattle.ring_core.specs.declared.events.Event.{Event}
 use Rattle.ring_core.specs.declared.events.Event.TheVariants.{Handle, Ask, Give, Refuse, Take, TakeNone, Pass, Restart, Conclude, SeeOver}
 use Rattle.post_board.specs.Shown.{Strings}
 use Rattle.post_board.specs.Deeds.{Deed, ask, give, refuse, take, take_none, pass, restart, conclude, see_over, event_of}
-use Rattle.circle_run.specs.Moves.{Move, handled, served, did, Side, answer_of, events_of, Does}
+use Rattle.post_board.specs.Deeds.{withdraw, halt, stop}
+use Rattle.circle_run.specs.Moves.{Move, handled, served, did, noted, Side, answer_of, events_of, Does}
 use Rattle.circle_run.specs.Ranks.{DoesAll}
 use Rattle.circle_run.specs.Stages.{Stage, rank_side, side, Plays, events_of_all}
 use Rattle.circle_run.specs.Shares.{handled_in, given_in, taken_in, moves_of, handled_by, given_by, taken_by}
@@ -260,6 +261,9 @@ move_tells me (served answers) proper = answers_tell me answers
 move_tells me (did d) proper =
     let told = deed_tells me d proper in
     (told.0, told.1, told.2)
+move_tells me (noted (withdraw from)) proper = (refl, refl, refl)
+move_tells me (noted halt) proper = (refl, refl, refl)
+move_tells me (noted stop) proper = (refl, refl, refl)
 
 moves_tell : (me : ℕ) (moves : List Move) → AllProper moves → MovesTell me moves
 moves_tell me [] proper = record { handled = refl; given = refl; taken = refl }
@@ -280,6 +284,7 @@ moves_tell me (m ∷ moves) (one, proper) =
 does_proper : (o : Options) (me : ℕ) (m : Move) (s s' : _) → Does o me m s s' → Proper m
 does_proper o me (handled path kids) s s' does = tt
 does_proper o me (served answers) s s' does = tt
+does_proper o me (noted late) s s' does = tt
 does_proper o me (did (ask v)) s s' does = tt
 does_proper o me (did (give to b)) s s' does = does.queue
 does_proper o me (did (refuse to)) s s' does = tt

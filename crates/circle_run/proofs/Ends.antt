@@ -36,10 +36,10 @@ pub nothing_waits_at_end :
     → (queued_in (after_all (started n starts) events).0 ≡ 0) × (on_way_in (after_all (started n starts) events).0 ≡ 0))
     → (start : (n starts : ℕ) → NoEmptyBatch (started n starts).0)
     → (kept : (world : Seen) (event : Event) → refused world event ≡ None → NoEmptyBatch world.0 → NoEmptyBatch (after world event).0)
-    → (o : Options) (starts : Strings) (moves : List (ℕ × Move)) (stage : Stage) (r : ℕ) → Plays o moves (begun o starts) stage
-    → (place stage.told r).ended ≡ true → NothingWaits stage
-nothing_waits_at_end early start kept o starts moves stage r plays ended =
-    let f : FromStart o starts moves stage = from_start o starts moves stage plays in
+    → (o : Options) (starts : Strings) (moves : List (ℕ × Move)) (stage : Stage) (r : ℕ) → o.stop_after ≡ None
+    → Plays o moves (begun o starts) stage → (place stage.told r).ended ≡ true → NothingWaits stage
+nothing_waits_at_end early start kept o starts moves stage r endless plays ended =
+    let f : FromStart o starts moves stage = from_start o starts moves stage endless plays in
     let end : Seen = after_all (started o.ranks (length starts)) (events_of_all moves) in
     let shape : Shape stage.told (queues stage.ranks) end.0 = f.reaches.shows.shape in
     let inside : r < length end.0 = ⊎_elim (λ h. h)

@@ -1,6 +1,6 @@
 -- Turns in rounds are fair.
 use Rattle.std.proofs.Common.{◌≡◌, ℕ, suc, ◌+◌, ◌-◌, ◌%◌, ◌<◌, ◌≤◌, ◌≢◌, ◌⊎◌, inl, inr, ⊎_elim, refl, sym, subst, ap, ◌∙◌, arith, true, false, List}
-use Rattle.std.proofs.Common.{[], ◌∷◌, ◌++◌, length, set, eq-eqb}
+use Rattle.std.proofs.Common.{[], ◌∷◌, ◌++◌, length, set, eq-eqb, None}
 use Rattle.std.proofs.lemmas.List.Concat.{flat_map-append}
 use mathlib.Core.Logic.{dite}
 use native.Mathlib.Decide.{ℕ_discrete}
@@ -12,13 +12,15 @@ use Rattle.ring_core.specs.Step.{after}
 use Rattle.ring_core.specs.Run.{after_all}
 use Rattle.post_board.specs.Shown.{Strings}
 use Rattle.post_board.specs.Told.{Mail, vacant, asked, full, empty, Told, place}
-use Rattle.circle_run.specs.Moves.{Move, handled, served, did, Side, events_of, Does}
+use Rattle.post_board.specs.Deeds.{withdraw, halt, stop}
+use Rattle.circle_run.specs.Moves.{Move, handled, served, did, noted, Side, events_of, Does}
 use Rattle.circle_run.specs.Stages.{RankSide, Stage, rank_side, side, Plays, events_of_all, begun}
 use Rattle.circle_run.specs.Worlds.{desk_of}
 use Rattle.circle_run.specs.Waiting.{NothingWaitsAtEnd}
 use Rattle.circle_run.specs.Fair.{handles, ComesBefore, is_asking, LetsOthers, IsFair, is_handling, HandlesLast, moves_in, is_waiting, PlaysTurns}
 use Rattle.circle_run.specs.Fair.{moves_of_turns, TurnsArePlayed, RoundsAreFair}
 use Rattle.circle_run.specs.declared.settings.Options.{Options}
+use Rattle.circle_run.proofs.Stopping.{moves_halt, quiet, never_late}
 use Rattle.circle_run.proofs.Deeds.{some_is}
 use Rattle.circle_run.proofs.Actors.{By, turn_by, comes_later, comes_now, NoHandle, NoHandle-append, nil_or_some, never_again, answers_handle, deed_handles}
 use Rattle.circle_run.proofs.Lasting.{Plays-append, Ended, Waits, move_keeps_end, move_handles, turn_others, plays_waited}
@@ -34,14 +36,14 @@ turns_played o (turn ∷ turns) k from to (mid, last, plays, idle, rest) =
 pub turns_are_played : TurnsArePlayed
 turns_are_played o turns from to plays = turns_played o turns 0 from to plays
 
-module _ (at_end : NothingWaitsAtEnd) (o : Options) (starts : Strings) where
+module _ (at_end : NothingWaitsAtEnd) (o : Options) (starts : Strings) (endless : o.stop_after ≡ None) where
   never_handles : (past moves : List (ℕ × Move)) (from to : Stage) (s : ℕ) → Plays o past (begun o starts) from → Plays o moves from to
       → Ended (place from.told s) → NoHandle (events_of_all moves)
   never_handles past [] from to s before plays ended = tt
   never_handles past (m ∷ moves) from to s before (x, t, does, plays) ended =
       let mid : Stage = record { ranks = set from.ranks m.0 x; told = t } in
       NoHandle-append (events_of m.0 m.1) (events_of_all moves)
-      (move_handles o m.0 m.1 (rank_side from m.0) x from.told t does ((at_end o starts past from s before ended).queues m.0))
+      (move_handles o m.0 m.1 (rank_side from m.0) x from.told t does ((at_end o starts past from s endless before ended).queues m.0))
       (never_handles (past ++ m ∷ []) moves mid to s (Plays-append o past (m ∷ []) (begun o starts) from mid before (x, t, does, refl)) plays
       (move_keeps_end o m.0 m.1 (rank_side from m.0) x from.told t s does ended))
 
@@ -107,8 +109,11 @@ calm_handles : (me : ℕ) (m : Move) → is_handling m ≡ false → NoHandle (e
 calm_handles me (handled path kids) calm = cc
 calm_handles me (served answers) calm = answers_handle me answers
 calm_handles me (did d) calm = (deed_handles me d, tt)
+calm_handles me (noted (withdraw from)) calm = ((λ r. refl), tt)
+calm_handles me (noted halt) calm = tt
+calm_handles me (noted stop) calm = tt
 
-module _ (at_end : NothingWaitsAtEnd) (o : Options) (starts : Strings) (some : 0 < o.ranks) where
+module _ (at_end : NothingWaitsAtEnd) (o : Options) (starts : Strings) (some : 0 < o.ranks) (endless : o.stop_after ≡ None) where
   abbrev later_events : ℕ → List (List Move) → List Event
   later_events k turns = events_of_all (moves_of_turns o.ranks (suc k) turns)
 
@@ -127,11 +132,14 @@ module _ (at_end : NothingWaitsAtEnd) (o : Options) (starts : Strings) (some : 0
             ⊎_elim (λ comes. inl comes)
             (λ waits. inr (ap (λ (z : RankState). is_asking z.desk) (reached.shows.shape.states s below)
             ∙ asking_is_waiting (place from.told s).mail ∙ subst (λ (u : Told). Waits (place u s)) same waits))
-            (owed at_end o starts turns (past ++ (a, handled path kids) ∷ []) (suc k) mid to a s turn.wait plays rest turn.own turn.other)),
+            (owed at_end o starts endless turns (past ++ (a, handled path kids) ∷ []) (suc k) mid to a s turn.wait plays rest turn.own turn.other)),
         fair,
       )
   last_is_fair turns past k w from to (served answers) x t reached does rest fair =
       IsFair-append (events_of (k % o.ranks) (served answers)) (later_events k turns) w (answers_handle (k % o.ranks) answers) fair
+  last_is_fair turns past k w from to (noted late) x t reached does rest fair =
+      absurd (never_late o (k % o.ranks) late (rank_side from (k % o.ranks)) x from.told t endless
+      (quiet o from endless (moves_halt o starts past from reached.plays)) does)
   last_is_fair turns past k w from to (did d) x t reached does rest fair =
       IsFair-append (events_of (k % o.ranks) (did d)) (later_events k turns) w (deed_handles (k % o.ranks) d, tt) fair
 
@@ -164,5 +172,6 @@ module _ (at_end : NothingWaitsAtEnd) (o : Options) (starts : Strings) (some : 0
       turn_is_fair turns k mid to rest (λ past w reached. turns_are_fair turns past (suc k) w mid to reached rest) turn past w from last reached plays
 
 pub rounds_are_fair : NothingWaitsAtEnd → RoundsAreFair
-rounds_are_fair at_end o starts turns stage some plays =
-    turns_are_fair at_end o starts some turns [] 0 (started o.ranks (length starts)) (begun o starts) stage (reached_at_start o starts) plays
+rounds_are_fair at_end o starts turns stage some endless plays =
+    turns_are_fair at_end o starts some endless turns [] 0 (started o.ranks (length starts)) (begun o starts) stage
+    (reached_at_start o starts endless) plays

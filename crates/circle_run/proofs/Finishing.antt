@@ -13,7 +13,7 @@ use Rattle.ring_core.specs.declared.states.Token.TheVariants.{Over}
 use Rattle.ring_core.specs.World.{started}
 use Rattle.post_board.specs.Shown.{Strings, Shown, is_served}
 use Rattle.post_board.specs.Told.{Told, place}
-use Rattle.post_board.specs.Deeds.{DeedsKeepSound}
+use Rattle.post_board.specs.Deeds.{DeedsKeepSound, LateKeepsSound}
 use Rattle.post_board.specs.Fresh.{fresh_told}
 use Rattle.post_board.specs.Calls.{AgreesIfTold, AllDone}
 use Rattle.sum_tree.specs.Shown.{SumShown, AllFinished}
@@ -69,11 +69,11 @@ module _ {J S T P Q D : Type 0} (log : J → Log) (plain : J → D) (shows : S �
 
   -- a run of turns at its end
   at_end : (o : Options) (starts : Strings) (ranks : List (Rank J S T)) (p : P) (q : Q) (turns : List (List Move)) (told : Told)
-      → NothingWaitsAtEnd → RoundsAreFair → DeedsKeepSound
+      → NothingWaitsAtEnd → RoundsAreFair → DeedsKeepSound → LateKeepsSound → o.stop_after ≡ None
       → ((b : P) (s : S) → seats b s → AgreesIfTold (tells b) (shows s)) → 1 ≤ o.ranks → AreAll o ranks
       → AllEnded log shows seats sums_shows sums_seats ranks p q → tells p ≡ Some told → PlaysTurns o 0 turns (begun o starts) (stage_of log tells ranks told)
       → Ended o starts (moves_of_turns o.ranks 0 turns) (stage_of log tells ranks told)
-  at_end o starts ranks p q turns told nothing fair sound agrees some all done after played =
+  at_end o starts ranks p q turns told nothing fair sound late_sound endless agrees some all done after played =
       let last : Stage = stage_of log tells ranks told in
       let moves : List (ℕ × Move) = moves_of_turns o.ranks 0 turns in
       let plays : Plays o moves (begun o starts) last = turns_are_played o turns (begun o starts) last played in
@@ -87,9 +87,9 @@ module _ {J S T P Q D : Type 0} (log : J → Log) (plain : J → D) (shows : S �
       record {
         plays = plays;
         ended = ended;
-        nothing = nothing o starts moves last 0 plays (ended 0 (omega (arith, some)));
-        over = (plays_sound sound o moves (begun o starts) last plays (begun_sound o.ranks some)).sane.over 0 (ended 0 (omega (arith, some)));
-        fair = fair o starts turns last (omega (arith, some)) played;
+        nothing = nothing o starts moves last 0 endless plays (ended 0 (omega (arith, some)));
+        over = (plays_sound sound late_sound o moves (begun o starts) last plays (begun_sound o.ranks some)).sane.over 0 (ended 0 (omega (arith, some)));
+        fair = fair o starts turns last (omega (arith, some)) endless played;
       }
 
   -- the shares, rank by rank
@@ -162,9 +162,11 @@ module _ {J S T P Q D : Type 0} (log : J → Log) (plain : J → D) (shows : S �
     pub waits : NothingWaitsAtEnd
     pub fair : RoundsAreFair
     pub sound : DeedsKeepSound
+    pub late_sound : LateKeepsSound
     pub agrees : (b : P) (s : S) → seats b s → AgreesIfTold (tells b) (shows s)
     -- how it began
     pub some : 1 ≤ o.ranks
+    pub endless : o.stop_after ≡ None
     pub first : Begins log shows tells seats sums_shows sums_seats o starts ranks0 p0 q0
     pub unshared : (k : ℕ) (d : Rank J S T) → k < length ranks0 → (get_or ranks0 k d).book.share ≡ capped 0 0 0
     pub given_jobs : map (λ (r : Rank J S T). r.job) ranks0 ≡ jobs
@@ -190,7 +192,7 @@ module _ {J S T P Q D : Type 0} (log : J → Log) (plain : J → D) (shows : S �
       let played : PlaysTurns o 0 x.ran.turns (begun o starts) last =
       subst (λ (s : Stage). PlaysTurns o 0 x.ran.turns s last) x.first.begun_is x.ran.plays in
       let e : Ended o starts moves last =
-      at_end o starts ranks p q x.ran.turns x.ran.told x.waits x.fair x.sound x.agrees x.some all x.done x.ran.after played in
+      at_end o starts ranks p q x.ran.turns x.ran.told x.waits x.fair x.sound x.late_sound x.endless x.agrees x.some all x.done x.ran.after played in
       let s : Shared o moves ranks = shared o starts moves ranks0 ranks x.ran.told x.same.count x.unshared x.ran.shares e.plays in
       let logs_of : RankSide → Log = λ r. r.log in
       let side_of : Rank J S T → RankSide = rank_of log tells in
@@ -212,11 +214,11 @@ module _ {J S T P Q D : Type 0} (log : J → Log) (plain : J → D) (shows : S �
         last = last;
         plays = e.plays;
         are = refl;
-        legal = moves_are_legal_run o starts moves last e.plays;
+        legal = moves_are_legal_run o starts moves last x.endless e.plays;
         over = e.over;
         ended = e.ended;
         logs_are = logs;
-        answers = moves_answer_first o starts moves last e.plays;
+        answers = moves_answer_first o starts moves last x.endless e.plays;
         fair = e.fair;
       } in
       let counts : f.shares.items ≡ map (share_in (events_of_all moves)) (range_with_len 0 o.ranks) =

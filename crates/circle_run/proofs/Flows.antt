@@ -10,8 +10,9 @@ use Rattle.ring_core.specs.declared.states.Colour.TheVariants.{White}
 use Rattle.post_board.specs.Shown.{Strings}
 use Rattle.post_board.specs.Told.{Mail, vacant, asked, full, empty, Place, Told, no_place, place, put_place}
 use Rattle.post_board.specs.Deeds.{Deed, ask, give, refuse, take, take_none, pass, restart, conclude, see_over, Legal, told_after, blackened}
+use Rattle.post_board.specs.Deeds.{Late, withdraw, halt, stop, LegalLate, told_late}
 use Rattle.circle_run.specs.Balance as balance
-use Rattle.circle_run.specs.Moves.{Move, handled, served, did, Side, answer_of, Queues, TellsAll, Does}
+use Rattle.circle_run.specs.Moves.{Move, handled, served, did, noted, Side, answer_of, Queues, TellsAll, Does}
 use Rattle.circle_run.specs.Stages.{RankSide, side}
 use Rattle.circle_run.specs.Waiting.{batch_in}
 use Rattle.circle_run.specs.Shares.{handled_in, given_in, taken_in}
@@ -87,6 +88,12 @@ module _ (w : Weight) where
   deed_mail me conclude t (acts, first, idle, was, here, white, tried) = omega (arith, put_mail t me (record (place t me) { ended = true }) acts.0)
   deed_mail me see_over t (acts, over) = omega (arith, put_mail t me (record (place t me) { ended = true }) acts.0)
 
+  late_mail : (me : ℕ) (late : Late) (t : Told) → LegalLate me late t → mailed w (told_late me late t) ≡ mailed w t
+  late_mail me (withdraw from) t (acts, other, was, gone, ended) =
+      omega (arith, put_mail t me (record (place t me) { tried = true; mail = vacant }) acts.0, holds (place t me) (asked from) was)
+  late_mail me halt t legal = refl
+  late_mail me stop t legal = refl
+
   answer_mail : (me : ℕ) (x : ℕ × Strings) (t : Told) → Legal me (answer_of x) t → mailed w (told_after me (answer_of x) t) ≡ mailed w t + sum_by w x.1
   answer_mail me x t = dite (ℕ_discrete (length x.1) 0)
       (λ e. subst (λ (d : Deed). Legal me d t → mailed w (told_after me d t) ≡ mailed w t + sum_by w x.1)
@@ -95,6 +102,16 @@ module _ (w : Weight) where
       (λ ne. subst (λ (d : Deed). Legal me d t → mailed w (told_after me d t) ≡ mailed w t + sum_by w x.1)
       (sym (ap (λ (b : Bool). cond b (refuse x.0) (give x.0 x.1)) (ne_eqb (length x.1) 0 ne)))
       (λ legal. omega (arith, deed_mail me (give x.0 x.1) t legal)))
+
+late_acts : (me : ℕ) (late : Late) (t : Told) → LegalLate me late t → me < length t.places
+late_acts me (withdraw from) t legal = legal.0.0
+late_acts me halt t legal = legal.0
+late_acts me stop t legal = legal.0.0
+
+late_as_many : (me : ℕ) (late : Late) (t : Told) → length (told_late me late t).places ≡ length t.places
+late_as_many me (withdraw from) t = simp length-set
+late_as_many me halt t = refl
+late_as_many me stop t = refl
 
 -- all answers of a service
 record Answered (answers : List (ℕ × Strings)) (t u : Told) : Type 0 where
@@ -181,4 +198,15 @@ moved o me (did d) x y t u does =
       mail = λ w. omega (arith, ap (mailed w) same, deed_mail w me d t legal, ap (sum_by w) (nothing_given d x.queue y.queue does.queue));
       places = ap (λ (v : Told). length v.places) same ∙ as_many me d t;
       outside = λ past. (let h : me < length t.places = acts me d t legal in absurd (omega arith));
+    }
+moved o me (noted late) x y t u does =
+    let legal : LegalLate me late t = does.told.0 in
+    let same : u ≡ told_late me late t = some_is u (told_late me late t) does.told.1 in
+    let queue : y.queue ≡ x.queue = ap (λ (s : Side). s.queue) does.after in
+    record {
+      log = ap (λ (s : Side). s.log) does.after ∙ sym (append-nil x.log);
+      queue = λ w. omega (arith, ap (sum_by w) queue);
+      mail = λ w. omega (arith, ap (mailed w) same, late_mail w me late t legal);
+      places = ap (λ (v : Told). length v.places) same ∙ late_as_many me late t;
+      outside = λ past. (let h : me < length t.places = late_acts me late t legal in absurd (omega arith));
     }

@@ -6,7 +6,8 @@ use native.Mathlib.Decide.{ℕ_discrete}
 use Rattle.post_board.specs.Shown.{Strings}
 use Rattle.post_board.specs.Told.{full, empty, Place, Told, no_place, place, put_place}
 use Rattle.post_board.specs.Deeds.{Deed, ask, give, refuse, take, take_none, pass, restart, conclude, see_over, Legal, told_after, blackened}
-use Rattle.circle_run.specs.Moves.{Move, handled, served, did, Side, answer_of, events_of, TellsAll, Does}
+use Rattle.post_board.specs.Deeds.{Late, withdraw, halt, stop, LegalLate, told_late}
+use Rattle.circle_run.specs.Moves.{Move, handled, served, did, noted, Side, answer_of, events_of, TellsAll, Does}
 use Rattle.circle_run.specs.Stages.{RankSide, Stage, rank_side, side, Plays}
 use Rattle.circle_run.specs.Fair.{moves_in, is_waiting}
 use Rattle.circle_run.specs.declared.settings.Options.{Options}
@@ -83,6 +84,17 @@ answers_waited (x ∷ xs) me t u s ne (mid, (legal, same), told) waits =
     deed_waited me (answer_of x) t s legal ne
     (answers_waited xs me (told_after me (answer_of x) t) u s ne (subst (λ (m : Option Told). TellsAll me (map answer_of xs) m (Some u)) same told) waits)
 
+late_keeps_end : (me : ℕ) (late : Late) (t : Told) (s : ℕ) → LegalLate me late t → Ended (place t s) → Ended (place (told_late me late t) s)
+late_keeps_end me (withdraw from) t s legal ended =
+    place-set Ended t me _ s legal.0.0 (λ e. subst (λ (k : ℕ). Ended (place t k)) (sym e) ended) ended
+late_keeps_end me halt t s legal ended = ended
+late_keeps_end me stop t s legal ended = ended
+
+late_waited : (me : ℕ) (late : Late) (t : Told) (s : ℕ) → LegalLate me late t → me ≢ s → Waits (place (told_late me late t) s) → Waits (place t s)
+late_waited me (withdraw from) t s legal ne = place-set (Waited t s) t me _ s legal.0.0 (λ e. absurd (ne e)) (λ w. w)
+late_waited me halt t s legal ne = λ w. w
+late_waited me stop t s legal ne = λ w. w
+
 pub move_keeps_end : (o : Options) (me : ℕ) (m : Move) (x y : RankSide) (t u : Told) (s : ℕ) → Does o me m (side x t) (side y u)
     → Ended (place t s) → Ended (place u s)
 move_keeps_end o me (handled path kids) x y t u s does ended =
@@ -90,6 +102,8 @@ move_keeps_end o me (handled path kids) x y t u s does ended =
 move_keeps_end o me (served answers) x y t u s does ended = answers_keep_end answers me t u s does.told ended
 move_keeps_end o me (did d) x y t u s does ended =
     subst (λ (v : Told). Ended (place v s)) (sym (some_is u (told_after me d t) does.told.1)) (deed_keeps_end me d t s does.told.0 ended)
+move_keeps_end o me (noted late) x y t u s does ended =
+    subst (λ (v : Told). Ended (place v s)) (sym (some_is u (told_late me late t) does.told.1)) (late_keeps_end me late t s does.told.0 ended)
 
 pub move_waited : (o : Options) (me : ℕ) (m : Move) (x y : RankSide) (t u : Told) (s : ℕ) → me ≢ s → Does o me m (side x t) (side y u)
     → Waits (place u s) → Waits (place t s)
@@ -98,6 +112,8 @@ move_waited o me (handled path kids) x y t u s ne does waits =
 move_waited o me (served answers) x y t u s ne does waits = answers_waited answers me t u s ne does.told waits
 move_waited o me (did d) x y t u s ne does waits =
     deed_waited me d t s does.told.0 ne (subst (λ (v : Told). Waits (place v s)) (some_is u (told_after me d t) does.told.1) waits)
+move_waited o me (noted late) x y t u s ne does waits =
+    late_waited me late t s does.told.0 ne (subst (λ (v : Told). Waits (place v s)) (some_is u (told_late me late t) does.told.1) waits)
 
 -- all moves are of ranks other than s
 abbrev pub Others : ℕ → List (ℕ × Move) → Type 0
@@ -122,3 +138,6 @@ move_handles o me (handled path kids) x y t u does none =
     let e : 0 ≡ length does.rest + 1 = ap length (sym none ∙ does.newest) ∙ length-append does.rest (path ∷ []) in absurd (omega arith)
 move_handles o me (served answers) x y t u does none = answers_handle me answers
 move_handles o me (did d) x y t u does none = (deed_handles me d, tt)
+move_handles o me (noted (withdraw from)) x y t u does none = ((λ r. refl), tt)
+move_handles o me (noted halt) x y t u does none = tt
+move_handles o me (noted stop) x y t u does none = tt

@@ -14,8 +14,9 @@ pub mod Sums
 pub mod Begun
 pub mod Deeds
 pub mod Shared
-pub mod Runs
 pub mod Flows
+pub mod Stopping
+pub mod Runs
 pub mod Totals
 pub mod Logs
 pub mod Ends

@@ -10,7 +10,8 @@ use native.Mathlib.Decide.{ℕ_discrete}
 use Rattle.post_board.specs.Shown.{Strings}
 use Rattle.post_board.specs.Deeds.{Deed, ask, give, refuse, take, take_none, pass, restart, conclude, see_over, event_of}
 use Rattle.circle_run.specs.Balance.{Log}
-use Rattle.circle_run.specs.Moves.{Move, handled, served, did, answer_of, events_of}
+use Rattle.post_board.specs.Deeds.{withdraw, halt, stop}
+use Rattle.circle_run.specs.Moves.{Move, handled, served, did, noted, answer_of, events_of}
 use Rattle.circle_run.specs.Stages.{RankSide, Stage, no_side, rank_side, Plays, events_of_all, begun}
 use Rattle.circle_run.specs.Shares.{handled_in, moves_of, handled_at, LogsAreHandled, EventsTellLogs}
 use Rattle.circle_run.specs.declared.settings.Options.{Options}
@@ -91,11 +92,17 @@ own_handled : (r me : ℕ) (m : Move) → me ≡ r → flat_map (handled_at r) (
 own_handled r me (handled path kids) e = ap (λ (b : Bool). cond b ((path, length kids) ∷ []) [] ++ []) (eq-eqb me r e)
 own_handled r me (served answers) e = answers_handle_nothing r me answers
 own_handled r me (did d) e = ap (λ (l : List (List ℕ × ℕ)). l ++ []) (deed_handles_nothing r me d)
+own_handled r me (noted (withdraw from)) e = refl
+own_handled r me (noted halt) e = refl
+own_handled r me (noted stop) e = refl
 
 none_handled : (r me : ℕ) (m : Move) → me ≢ r → flat_map (handled_at r) (events_of me m) ≡ []
 none_handled r me (handled path kids) ne = ap (λ (b : Bool). cond b ((path, length kids) ∷ []) [] ++ []) (ne_eqb me r ne)
 none_handled r me (served answers) ne = answers_handle_nothing r me answers
 none_handled r me (did d) ne = ap (λ (l : List (List ℕ × ℕ)). l ++ []) (deed_handles_nothing r me d)
+none_handled r me (noted (withdraw from)) ne = refl
+none_handled r me (noted halt) ne = refl
+none_handled r me (noted stop) ne = refl
 
 events_tell : (r : ℕ) (moves : List (ℕ × Move)) → flat_map (handled_at r) (events_of_all moves) ≡ map pair_of (logged r moves)
 events_tell r [] = refl

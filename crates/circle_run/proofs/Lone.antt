@@ -6,9 +6,9 @@ use Rattle.std.proofs.lemmas.List.Concat.{flat_map-append}
 use Rattle.ring_core.specs.declared.events.Event.{Event}
 use Rattle.post_board.specs.Shown.{Shown}
 use Rattle.post_board.specs.Told.{Told}
-use Rattle.post_board.specs.Deeds.{Deed, Tells}
+use Rattle.post_board.specs.Deeds.{Deed, Tells, Late, TellsLate}
 use Rattle.circle_run.specs.Balance.{Log}
-use Rattle.circle_run.specs.Moves.{Move, handled, served, did, Side, answer_of, TellsAll, Does, events_of}
+use Rattle.circle_run.specs.Moves.{Move, handled, served, did, noted, Side, answer_of, TellsAll, Does, events_of}
 use Rattle.circle_run.specs.Books.{counted}
 use Rattle.circle_run.specs.Ranks.{DoesAll, side}
 use Rattle.circle_run.specs.Hosts.{Same, Turning, lone_side, Alone, AllAlone}
@@ -25,10 +25,14 @@ all_still : (me : ℕ) (deeds : List Deed) (before after : Option Told) → Tell
 all_still me [] before after h e = h ∙ e
 all_still me (deed ∷ deeds) before after (mid, one, rest) e = all_still me deeds mid after rest (tells_still me deed before mid one e)
 
+late_still : (me : ℕ) (late : Late) (before after : Option Told) → TellsLate me late before after → before ≡ None → after ≡ None
+late_still me late before after h e = subst (λ b. TellsLate me late b after) e h
+
 does_still : (o : Options) (me : ℕ) (m : Move) (s s' : Side) → Does o me m s s' → s.told ≡ None → s'.told ≡ None
 does_still o me (handled path kids) s s' does e = ap (λ (x : Side). x.told) does.after ∙ e
 does_still o me (served answers) s s' does e = all_still me (map answer_of answers) s.told s'.told does.told e
 does_still o me (did deed) s s' does e = tells_still me deed s.told s'.told does.told e
+does_still o me (noted late) s s' does e = late_still me late s.told s'.told does.told e
 
 told_still : (o : Options) (me : ℕ) (moves : List Move) (s s' : Side) → DoesAll o me moves s s' → s.told ≡ None → s'.told ≡ None
 told_still o me [] s s' does e = ap (λ (x : Side). x.told) does ∙ e

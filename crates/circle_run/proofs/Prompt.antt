@@ -13,11 +13,12 @@ use Rattle.ring_core.specs.Step as step_of_world
 use Rattle.ring_core.specs.Run.{after_all}
 use Rattle.post_board.specs.Shown.{Strings}
 use Rattle.post_board.specs.Told.{Mail, vacant, asked, full, empty, Told, place}
-use Rattle.circle_run.specs.Moves.{Move, handled, served, did, events_of, Does, asks, askers}
+use Rattle.circle_run.specs.Moves.{Move, handled, served, did, noted, events_of, Does, asks, askers}
 use Rattle.circle_run.specs.Stages.{RankSide, Stage, rank_side, side, Plays, events_of_all, begun}
 use Rattle.circle_run.specs.Worlds.{desk_of}
 use Rattle.circle_run.specs.Fair.{handles, NobodyAsked, AnswersFirst, MovesAnswerFirst}
 use Rattle.circle_run.specs.declared.settings.Options.{Options}
+use Rattle.circle_run.proofs.Stopping.{moves_halt, quiet, never_late}
 use Rattle.circle_run.proofs.Actors.{NoHandle, answers_handle, deed_handles}
 use Rattle.circle_run.proofs.Reaching.{Reached, step, reached_at_start}
 
@@ -82,6 +83,9 @@ move_answers_first o starts past w from me (handled path kids) x t ys reached do
 move_answers_first o starts past w from me (served answers) x t ys reached does rest =
     AnswersFirst-append (events_of me (served answers)) ys w (answers_handle me answers) rest
 move_answers_first o starts past w from me (did d) x t ys reached does rest = AnswersFirst-append (events_of me (did d)) ys w (deed_handles me d, tt) rest
+move_answers_first o starts past w from me (noted late) x t ys reached does rest =
+    absurd (never_late o me late (rank_side from me) x from.told t reached.endless
+    (quiet o from reached.endless (moves_halt o starts past from reached.plays)) does)
 
 all_answer_first : (o : Options) (starts : Strings) (moves past : List (ℕ × Move)) (w : Seen) (from to : Stage)
     → Reached o starts past w from → Plays o moves from to → AnswersFirst w (events_of_all moves)
@@ -92,5 +96,5 @@ all_answer_first o starts (m ∷ moves) past w from to reached (x, t, does, play
     (record { ranks = set from.ranks m.0 x; told = t }) to (step o starts past w from m x t reached does) plays)
 
 pub moves_answer_first : MovesAnswerFirst
-moves_answer_first o starts moves stage plays =
-    all_answer_first o starts moves [] (started o.ranks (length starts)) (begun o starts) stage (reached_at_start o starts) plays
+moves_answer_first o starts moves stage endless plays =
+    all_answer_first o starts moves [] (started o.ranks (length starts)) (begun o starts) stage (reached_at_start o starts endless) plays

@@ -1,5 +1,5 @@
 -- Stages that are reached from the start, with their worlds.
-use Rattle.std.proofs.Common.{◌≡◌, ℕ, refl, sym, ◌∙◌, List, [], ◌∷◌, ◌++◌, length, length-set, set}
+use Rattle.std.proofs.Common.{◌≡◌, ℕ, refl, sym, ◌∙◌, List, [], ◌∷◌, ◌++◌, length, length-set, set, None}
 use Rattle.ring_core.specs.World.{Seen, fresh, dealt, started}
 use Rattle.ring_core.specs.Run.{after_all}
 use Rattle.post_board.specs.Shown.{Strings}
@@ -7,6 +7,7 @@ use Rattle.post_board.specs.Told.{Told}
 use Rattle.circle_run.specs.Moves.{Move, events_of, Does}
 use Rattle.circle_run.specs.Stages.{RankSide, Stage, rank_side, side, Plays, begun}
 use Rattle.circle_run.specs.declared.settings.Options.{Options}
+use Rattle.circle_run.proofs.Stopping.{moves_halt}
 use Rattle.circle_run.proofs.Runs.{queues, Shows, Reaches, step_reaches, shows_begun}
 use Rattle.circle_run.proofs.Begun.{ranks_begun}
 use Rattle.std.proofs.lemmas.List.FromFn.{length-map-range_with_len}
@@ -14,6 +15,8 @@ use Rattle.circle_run.proofs.Lasting.{Plays-append}
 
 -- a stage that is reached, and its world
 pub record Reached (o : Options) (starts : Strings) (past : List (ℕ × Move)) (w : Seen) (stage : Stage) : Type 0 where
+  -- the run stops after no number
+  pub endless : o.stop_after ≡ None
   pub plays : Plays o past (begun o starts) stage
   pub shows : Shows w stage.told (queues stage.ranks)
   pub ranks : length stage.ranks ≡ o.ranks
@@ -26,16 +29,18 @@ module _ (o : Options) (starts : Strings) where
   step past w from m x t reached does =
       let next : Stage = record { ranks = set from.ranks m.0 x; told = t } in
       let reaches : Reaches w (events_of m.0 m.1) t (queues (set from.ranks m.0 x)) =
-      step_reaches o m w from x t reached.shows (reached.ranks ∙ sym reached.sized) does in
+      step_reaches o reached.endless m w from x t (moves_halt o starts past from reached.plays) reached.shows (reached.ranks ∙ sym reached.sized) does in
       record {
+        endless = reached.endless;
         plays = Plays-append o past (m ∷ []) (begun o starts) from next reached.plays (x, t, does, refl);
         shows = reaches.shows;
         ranks = length-set from.ranks m.0 x ∙ reached.ranks;
         sized = reaches.sized ∙ reached.sized;
       }
 
-pub reached_at_start : (o : Options) (starts : Strings) → Reached o starts [] (started o.ranks (length starts)) (begun o starts)
-reached_at_start o starts = record {
+pub reached_at_start : (o : Options) (starts : Strings) → o.stop_after ≡ None → Reached o starts [] (started o.ranks (length starts)) (begun o starts)
+reached_at_start o starts endless = record {
+  endless = endless;
   plays = refl;
   shows = shows_begun o starts;
   ranks = ranks_begun o starts;

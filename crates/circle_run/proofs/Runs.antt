@@ -1,7 +1,7 @@
 -- What is played is a legal run of the ranks' world, to the world of the stage.
 use Rattle.std.proofs.Common.{◌≡◌, ℕ, suc, ◌+◌, ◌<◌, ◌^◌, ◌==◌, ◌%◌, refl, sym, subst, ap, ◌∙◌, arith, Bool, true, false, cond, List, [], ◌∷◌, ◌++◌}
 use Rattle.std.proofs.Common.{map, length, length-append, append_assoc, length-set, set, get_or, get_or-set_same, get_or-set_other, Option, Some}
-use Rattle.std.proofs.Common.{None, eq-eqb, ne_eqb, count_by}
+use Rattle.std.proofs.Common.{None, eq-eqb, ne_eqb, count_by, ⊎_elim}
 use Rattle.std.proofs.lemmas.List.{get_or-replicate, length-replicate, nil_from_length}
 use Rattle.std.proofs.lemmas.List.FromFn.{length-map-range_with_len, get_or-map-range_with_len, fill_by_all}
 use Rattle.std.proofs.lemmas.List.Sums.{sum_by-cons}
@@ -19,9 +19,11 @@ use Rattle.ring_core.specs.Run.{IsRun, after_all}
 use Rattle.post_board.specs.Shown.{Strings}
 use Rattle.post_board.specs.Told.{Place, Told, no_place, place}
 use Rattle.post_board.specs.Deeds.{Deed, ask, give, refuse, take, take_none, pass, restart, conclude, see_over, Legal, told_after, event_of, Tells}
-use Rattle.circle_run.specs.Moves.{Move, handled, served, did, Side, answer_of, events_of, Queues, TellsAll, Handles, Does}
+use Rattle.circle_run.specs.Moves.{Move, handled, served, did, noted, Side, answer_of, events_of, Queues, TellsAll, Handles, Does}
 use Rattle.circle_run.specs.Stages.{RankSide, Stage, no_side, rank_side, side, Plays, events_of_all, dealt_from, new_place, begun}
 use Rattle.circle_run.specs.Worlds.{state_of, world_of, MovesAreLegalRun}
+use Rattle.circle_run.specs.Stops.{Halts}
+use Rattle.circle_run.proofs.Stopping.{Quiet, quiet, never_late, halt_step, begun_halts}
 use Rattle.circle_run.specs.declared.settings.Options.{Options}
 use Rattle.circle_run.proofs.Deeds.{put_here, put_elsewhere, put_all, Shape, LeavesQueue, requeue, deed_legal, deed_leaves, handle_legal}
 use Rattle.circle_run.proofs.Deeds.{handle_leaves, token_same, some_is}
@@ -170,12 +172,15 @@ handle_reaches w t u q x y me path kids shows here handles =
       sized = length-set w.0 me _;
     }
 
-move_reaches : (o : Options) (m : Move) (w : Seen) (t u : Told) (q : ℕ → Strings) (x y : RankSide) (me : ℕ) → Shows w t q → q me ≡ x.queue
+move_reaches : (o : Options) → o.stop_after ≡ None → (m : Move) (w : Seen) (t u : Told) (q : ℕ → Strings) (x y : RankSide) (me : ℕ) → Quiet t
+    → Shows w t q → q me ≡ x.queue
     → Does o me m (side x t) (side y u) → Reaches w (events_of me m) u (put q me y.queue)
-move_reaches o (handled path kids) w t u q x y me shows here does = handle_reaches w t u q x y me path kids shows here does
-move_reaches o (served answers) w t u q x y me shows here does =
-    answers_reach answers w t u q me y.queue shows (here ∙ does.oldest) (one_stays o.split answers x.queue y.queue x.draws does.shares does.oldest) does.told
-move_reaches o (did d) w t u q x y me shows here does =
+move_reaches o endless (handled path kids) w t u q x y me calm shows here does = handle_reaches w t u q x y me path kids shows here does
+move_reaches o endless (served answers) w t u q x y me calm shows here does =
+    answers_reach answers w t u q me y.queue shows (here ∙ does.oldest)
+    (one_stays o.split answers x.queue y.queue x.draws (⊎_elim (λ split. split.0) (λ none. absurd (none.0 endless)) does.shares) does.oldest) does.told
+move_reaches o endless (noted late) w t u q x y me calm shows here does = absurd (never_late o me late x y t u endless calm does)
+move_reaches o endless (did d) w t u q x y me calm shows here does =
     let told : Tells me d (Some t) (Some u) = does.told in
     let moves : LeavesQueue d (q me) y.queue = subst (λ (l : Strings). LeavesQueue d l y.queue) (sym here) (deed_moves d x.queue y.queue does.queue does.few) in
     subst (λ (v : Told). Reaches w (event_of me d ∷ []) v (put q me y.queue)) (sym (some_is u (told_after me d t) told.1))
@@ -197,26 +202,29 @@ pub record Played (w : Seen) (moves : List (ℕ × Move)) (from to : Stage) : Ty
   pub ranks : length to.ranks ≡ length from.ranks
 
 -- one move of a run
-pub step_reaches : (o : Options) (m : ℕ × Move) (w : Seen) (from : Stage) (x : RankSide) (t : Told) → Shows w from.told (queues from.ranks)
+pub step_reaches : (o : Options) → o.stop_after ≡ None → (m : ℕ × Move) (w : Seen) (from : Stage) (x : RankSide) (t : Told) → Halts o from
+    → Shows w from.told (queues from.ranks)
     → length from.ranks ≡ length w.0
     → Does o m.0 m.1 (side (rank_side from m.0) from.told) (side x t) → Reaches w (events_of m.0 m.1) t (queues (set from.ranks m.0 x))
-step_reaches o m w from x t shows sized does =
+step_reaches o endless m w from x t halts shows sized does =
     reaches_queues w (events_of m.0 m.1) t (queues (set from.ranks m.0 x)) (put (queues from.ranks) m.0 x.queue)
     (λ k below. queues-set from.ranks m.0 x k (subst (λ (n : ℕ). k < n) (sym sized) below))
-    (move_reaches o m.1 w from.told t (queues from.ranks) (rank_side from m.0) x m.0 shows refl does)
+    (move_reaches o endless m.1 w from.told t (queues from.ranks) (rank_side from m.0) x m.0 (quiet o from endless halts) shows refl does)
 
-pub moves_reach : (o : Options) (moves : List (ℕ × Move)) (w : Seen) (from to : Stage) → Shows w from.told (queues from.ranks) → length from.ranks ≡ length w.0
+pub moves_reach : (o : Options) → o.stop_after ≡ None → (moves : List (ℕ × Move)) (w : Seen) (from to : Stage) → Halts o from
+    → Shows w from.told (queues from.ranks) → length from.ranks ≡ length w.0
     → Plays o moves from to → Played w moves from to
-moves_reach o [] w from to shows sized same = record {
+moves_reach o endless [] w from to halts shows sized same = record {
   reaches = subst (λ (s : Stage). Reaches w [] s.told (queues s.ranks)) (sym same) (reaches_nothing w from.told (queues from.ranks) shows);
   ranks = ap (λ (s : Stage). length s.ranks) same;
 }
-moves_reach o (m ∷ moves) w from to shows sized (x, t, does, plays) =
+moves_reach o endless (m ∷ moves) w from to halts shows sized (x, t, does, plays) =
     let mid : Stage = record { ranks = set from.ranks m.0 x; told = t } in
-    let first : Reaches w (events_of m.0 m.1) t (queues mid.ranks) = step_reaches o m w from x t shows sized does in
+    let first : Reaches w (events_of m.0 m.1) t (queues mid.ranks) = step_reaches o endless m w from x t halts shows sized does in
     let same : length mid.ranks ≡ length from.ranks = length-set from.ranks m.0 x in
     let rest : Played (after_all w (events_of m.0 m.1)) moves mid to =
-    moves_reach o moves (after_all w (events_of m.0 m.1)) mid to first.shows (same ∙ sized ∙ sym first.sized) plays in
+    moves_reach o endless moves (after_all w (events_of m.0 m.1)) mid to (halt_step o from m.0 m.1 x t does halts) first.shows
+    (same ∙ sized ∙ sym first.sized) plays in
     record {
       reaches = reaches_more w (events_of m.0 m.1) (events_of_all moves) t to.told (queues mid.ranks) (queues to.ranks) first rest.reaches;
       ranks = rest.ranks ∙ same;
@@ -261,18 +269,18 @@ pub record FromStart (o : Options) (starts : Strings) (moves : List (ℕ × Move
   pub reaches : Reaches (started o.ranks (length starts)) (events_of_all moves) stage.told (queues stage.ranks)
   pub as_many : length (after_all (started o.ranks (length starts)) (events_of_all moves)).0 ≡ length stage.ranks
 
-pub from_start : (o : Options) (starts : Strings) (moves : List (ℕ × Move)) (stage : Stage) → Plays o moves (begun o starts) stage
+pub from_start : (o : Options) (starts : Strings) (moves : List (ℕ × Move)) (stage : Stage) → o.stop_after ≡ None → Plays o moves (begun o starts) stage
     → FromStart o starts moves stage
-from_start o starts moves stage plays =
+from_start o starts moves stage endless plays =
     let w : Seen = started o.ranks (length starts) in
     let sized : length w.0 ≡ o.ranks = length-map-range_with_len (λ r. fresh (dealt o.ranks (length starts) r)) 0 o.ranks in
     let played : Played w moves (begun o starts) stage =
-    moves_reach o moves w (begun o starts) stage (shows_begun o starts) (ranks_begun o starts ∙ sym sized) plays in
+    moves_reach o endless moves w (begun o starts) stage (begun_halts o starts) (shows_begun o starts) (ranks_begun o starts ∙ sym sized) plays in
     record { reaches = played.reaches; as_many = played.reaches.sized ∙ sized ∙ sym (ranks_begun o starts) ∙ sym played.ranks }
 
 pub moves_are_legal_run : MovesAreLegalRun
-moves_are_legal_run o starts moves stage plays =
-    let f : FromStart o starts moves stage = from_start o starts moves stage plays in
+moves_are_legal_run o starts moves stage endless plays =
+    let f : FromStart o starts moves stage = from_start o starts moves stage endless plays in
     let end : Seen = after_all (started o.ranks (length starts)) (events_of_all moves) in
     let ranks : end.0 ≡ (world_of stage).0 =
     fill_by_all (λ r. state_of (rank_side stage r).queue (place stage.told r)) end.0 (length stage.ranks) (fresh 0) f.as_many

@@ -1,6 +1,6 @@
 -- A service, one answer after the other, and what it comes to.
 use Rattle.std.proofs.Common.{◌≡◌, ℕ, All, zero, suc, ◌+◌, ◌-◌, ◌<◌, ◌≤◌, ◌⊎◌, refl, sym, subst, ap, ◌∙◌, arith, Bool, true, false, List, [], ◌∷◌}
-use Rattle.std.proofs.Common.{◌++◌, map, take, length, length-append, append_assoc, append-nil, get_or, Option}
+use Rattle.std.proofs.Common.{◌++◌, map, take, length, length-append, append_assoc, append-nil, get_or, Option, inl}
 use Rattle.std.specs.Prelude.{if◌then◌else◌}
 use Rattle.std.specs.List.{flat_map}
 use Rattle.std.proofs.lemmas.List.{map-append, length-map, length-take-le, get_or-take, get_or-map}
@@ -246,11 +246,13 @@ module _ {J S T P Q : Type 0} (log : J → Log) (plain : J → Q) (shows : S →
           record {
             ranks = subst (AreAskers r.me (tells p)) (sym far.are) askers;
             names = names_of far.answers asks count r.options.ranks far.are total below;
-            shares = sym (append-nil (map (λ (y : ℕ × Strings). length y.1) far.answers))
-                ∙ ap (λ (x : List ℕ × Lcg). map (λ (y : ℕ × Strings). length y.1) far.answers ++ x.0) (sym rest) ∙ sym far.shares
-                ∙ ap (λ (x : List ℕ × Lcg). x.0) (sym all);
+            shares = inl (
+              sym (append-nil (map (λ (y : ℕ × Strings). length y.1) far.answers))
+                  ∙ ap (λ (x : List ℕ × Lcg). map (λ (y : ℕ × Strings). length y.1) far.answers ++ x.0) (sym rest) ∙ sym far.shares
+                  ∙ ap (λ (x : List ℕ × Lcg). x.0) (sym all),
+              ap (λ (x : List ℕ × Lcg). x.1) (sym rest) ∙ sym far.drawn ∙ ap (λ (x : List ℕ × Lcg). x.1) (sym all),
+            );
             oldest = far.oldest;
-            drawn = ap (λ (x : List ℕ × Lcg). x.1) (sym rest) ∙ sym far.drawn ∙ ap (λ (x : List ℕ × Lcg). x.1) (sym all);
             log = ap log job;
             batches = far.batches;
             told = far.told;

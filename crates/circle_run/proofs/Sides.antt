@@ -3,9 +3,9 @@ use Rattle.std.proofs.Common.{◌≡◌, ℕ, refl, subst, ap, ◌∙◌, List, 
 use Rattle.rand_pcg.specs.Lcg.{Lcg}
 use Rattle.post_board.specs.Shown.{Strings, Batches}
 use Rattle.post_board.specs.Told.{Told}
-use Rattle.post_board.specs.Deeds.{Deed, ask, give, refuse, take, take_none, pass, restart, conclude, see_over, told_after}
+use Rattle.post_board.specs.Deeds.{Deed, ask, give, refuse, take, take_none, pass, restart, conclude, see_over, told_after, told_late}
 use Rattle.circle_run.specs.Balance.{Log}
-use Rattle.circle_run.specs.Moves.{Move, handled, served, did, Side, answer_of, TellsAll, batches_after, batches_after_all, Does}
+use Rattle.circle_run.specs.Moves.{Move, handled, served, did, noted, Side, answer_of, TellsAll, batches_after, batches_after_all, Does}
 use Rattle.circle_run.specs.Stages.{RankSide, side}
 use Rattle.circle_run.specs.declared.settings.Options.{Options}
 
@@ -54,3 +54,4 @@ move_leaves_told o me (served answers) x t s does =
     let u : Tells s.told = all_tell (map answer_of answers) me t s.told does.told in
     is_told s u.told (does.batches ∙ no_batches_of_all (map answer_of answers)) u.is
 move_leaves_told o me (did d) x t s does = is_told s (told_after me d t) (does.batches ∙ no_batches d) does.told.1
+move_leaves_told o me (noted late) x t s does = is_told s (told_late me late t) (ap (λ (z : Side). z.batches) does.after) does.told.1

@@ -6,13 +6,13 @@ use Rattle.ring_core.specs.declared.states.Colour.{Colour}
 use Rattle.ring_core.specs.declared.states.Colour.TheVariants.{Black}
 use Rattle.ring_core.specs.declared.states.Token.TheVariants.{At, Over}
 use Rattle.post_board.specs.Told.{Place, Told, no_place, place, Sound}
-use Rattle.post_board.specs.Deeds.{Deed, told_after, DeedsKeepSound}
-use Rattle.circle_run.specs.Moves.{Move, handled, served, did, Side, answer_of, TellsAll, Does}
+use Rattle.post_board.specs.Deeds.{Deed, told_after, told_late, DeedsKeepSound, LateKeepsSound}
+use Rattle.circle_run.specs.Moves.{Move, handled, served, did, noted, Side, answer_of, TellsAll, Does}
 use Rattle.circle_run.specs.Stages.{RankSide, Stage, rank_side, side, Plays, new_place, new_told}
 use Rattle.circle_run.specs.declared.settings.Options.{Options}
 use Rattle.circle_run.proofs.Deeds.{some_is}
 
-module _ (keeps : DeedsKeepSound) where
+module _ (keeps : DeedsKeepSound) (late_keeps : LateKeepsSound) where
   all_sound : (deeds : List Deed) (me : ℕ) (t u : Told) → TellsAll me deeds (Some t) (Some u) → Sound t → Sound u
   all_sound [] me t u same sound = subst Sound (sym (some_is u t same)) sound
   all_sound (d ∷ deeds) me t u (mid, (legal, same), rest) sound =
@@ -22,6 +22,7 @@ module _ (keeps : DeedsKeepSound) where
   move_sound o me (handled path kids) x y t u does sound = subst Sound (sym (some_is u t (ap (λ (z : Side). z.told) does.after))) sound
   move_sound o me (served answers) x y t u does sound = all_sound (map answer_of answers) me t u does.told sound
   move_sound o me (did d) x y t u does sound = subst Sound (sym (some_is u (told_after me d t) does.told.1)) (keeps me d t does.told.0 sound)
+  move_sound o me (noted late) x y t u does sound = subst Sound (sym (some_is u (told_late me late t) does.told.1)) (late_keeps me late t does.told.0 sound)
 
   pub plays_sound : (o : Options) (moves : List (ℕ × Move)) (from to : Stage) → Plays o moves from to → Sound from.told → Sound to.told
   plays_sound o [] from to same sound = subst (λ (s : Stage). Sound s.told) (sym same) sound

@@ -6,7 +6,8 @@ use Rattle.std.proofs.lemmas.List.Concat.{flat_map-append}
 use Rattle.std.specs.List.{flat_map}
 use Rattle.ring_core.specs.declared.events.Event.{Event}
 use Rattle.post_board.specs.Told.{Told}
-use Rattle.circle_run.specs.Moves.{Move, handled, served, did, Side, answer_of, events_of, Does}
+use Rattle.post_board.specs.Deeds.{withdraw, halt, stop}
+use Rattle.circle_run.specs.Moves.{Move, handled, served, did, noted, Side, answer_of, events_of, Does}
 use Rattle.circle_run.specs.Stages.{RankSide, Stage, no_side, rank_side, side, Plays, events_of_all}
 use Rattle.circle_run.specs.Shares.{moves_of}
 use Rattle.circle_run.specs.Fair.{HandlesLast, MayIdle, moves_in, PlaysTurns, moves_of_turns}
@@ -27,7 +28,6 @@ does_bare o me (served answers) s s' does = record {
   names = does.names;
   shares = does.shares;
   oldest = does.oldest;
-  drawn = does.drawn;
   log = does.log;
   batches = sym (no_batches_of_all (map answer_of answers));
   told = does.told;
@@ -42,6 +42,9 @@ does_bare o me (did d) s s' does =
       batches = sym (no_batches d);
       told = does.told;
     }
+does_bare o me (noted (withdraw from)) s s' does = record { may = does.may; told = does.told; after = ap bare does.after }
+does_bare o me (noted halt) s s' does = record { may = does.may; told = does.told; after = ap bare does.after }
+does_bare o me (noted stop) s s' does = record { may = does.may; told = does.told; after = ap bare does.after }
 
 pub all_bare : (o : Options) (me : ℕ) (moves : List Move) (s s' : Side) → DoesAll o me moves s s' → DoesAll o me moves (bare s) (bare s')
 all_bare o me [] s s' same = ap bare same

@@ -1,5 +1,5 @@
 -- Fairness of a run, and that turns in rounds keep it. Our own.
-use Rattle.std.specs.Prelude.{◌≡◌, ◌≢◌, ℕ, suc, ◌%◌, ◌<◌, ◌==◌, ◌⊎◌, Bool, true, false, List, length, [], ◌∷◌, ◌++◌, map}
+use Rattle.std.specs.Prelude.{◌≡◌, ◌≢◌, ℕ, suc, ◌%◌, ◌<◌, ◌==◌, ◌⊎◌, Bool, true, false, List, length, [], ◌∷◌, ◌++◌, map, None}
 use Rattle.ring_core.specs.declared.states.Desk.{Desk}
 use Rattle.ring_core.specs.declared.states.Desk.TheVariants.{Asked}
 use Rattle.ring_core.specs.declared.events.Event.{Event}
@@ -63,7 +63,7 @@ AnswersFirst world (event ∷ events) = NobodyAsked world event × AnswersFirst 
 
 abbrev pub MovesAnswerFirst : Type 0
 MovesAnswerFirst = (o : Options) (starts : Strings) (moves : List (ℕ × Move)) (stage : Stage)
-    → Plays o moves (begun o starts) stage → AnswersFirst (started o.ranks (length starts)) (events_of_all moves)
+    → o.stop_after ≡ None → Plays o moves (begun o starts) stage → AnswersFirst (started o.ranks (length starts)) (events_of_all moves)
 
 abbrev pub is_handling : Move → Bool
 is_handling (handled path kids) = true
@@ -104,4 +104,5 @@ TurnsArePlayed = (o : Options) (turns : List (List Move)) (from to : Stage) → 
 
 abbrev pub RoundsAreFair : Type 0
 RoundsAreFair = (o : Options) (starts : Strings) (turns : List (List Move)) (stage : Stage)
-    → 0 < o.ranks → PlaysTurns o 0 turns (begun o starts) stage → IsFair (started o.ranks (length starts)) (events_of_all (moves_of_turns o.ranks 0 turns))
+    → 0 < o.ranks → o.stop_after ≡ None → PlaysTurns o 0 turns (begun o starts) stage
+    → IsFair (started o.ranks (length starts)) (events_of_all (moves_of_turns o.ranks 0 turns))

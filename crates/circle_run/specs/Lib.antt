@@ -15,5 +15,6 @@ pub mod Shares
 pub mod Fair
 pub mod Hosts
 pub mod Traced
+pub mod Stops
 pub mod Apart
 pub mod Private

@@ -2,16 +2,17 @@
 -- batches that its seat keeps, and what its board tells.
 -- Handling, asking and giving are those of LaFon, Misra and Bringhurst, On Distributed File Tree Walk of Parallel File Systems (SC 2012),
 -- the token is EWD840's; amounts, the order in a queue and the victims are our own.
-use Rattle.std.specs.Prelude.{◌≡◌, ℕ, zero, suc, ◌-◌, ◌<◌, ◌^◌, ◌==◌, ◌&&◌, Bool, false, not, if◌then◌else◌, min, All, List, length, [], ◌∷◌, ◌++◌}
-use Rattle.std.specs.Prelude.{map, filter, replicate, Option, Some, None}
+use Rattle.std.specs.Prelude.{◌≡◌, ◌≢◌, ◌⊎◌, ℕ, zero, suc, ◌-◌, ◌<◌, ◌^◌, ◌==◌, ◌&&◌, Bool, true, false, not, if◌then◌else◌, min, All, List, length}
+use Rattle.std.specs.Prelude.{[], ◌∷◌, ◌++◌, map, filter, replicate, Option, Some, None}
 use Rattle.std.specs.List.{flat_map, range_with_len}
 use Rattle.rand_pcg.specs.Lcg.{Lcg}
 use Rattle.rank_queue.specs.Shares.{word, after_word, equal_share, random_share, victim}
 use Rattle.ring_core.specs.declared.events.Event.{Event}
-use Rattle.ring_core.specs.declared.events.Event.TheVariants.{Handle}
+use Rattle.ring_core.specs.declared.events.Event.TheVariants.{Handle, TakeNone}
 use Rattle.post_board.specs.Shown.{Strings, Batches, with_given, with_taken}
 use Rattle.post_board.specs.Told.{Mail, asked, Told, place}
 use Rattle.post_board.specs.Deeds.{Deed, ask, give, refuse, take, take_none, pass, restart, conclude, see_over, event_of, Acts, Tells}
+use Rattle.post_board.specs.Deeds.{Late, withdraw, halt, stop, TellsLate}
 use Rattle.circle_run.specs.Balance.{Log}
 use Rattle.circle_run.specs.declared.settings.Split.{Split}
 use Rattle.circle_run.specs.declared.settings.Split.TheVariants.{Equal, Random}
@@ -24,6 +25,8 @@ pub data Move : Type 0 where
   served : List (ℕ × Strings) → Move
   -- asks, takes what came, or moves the token
   did : Deed → Move
+  -- takes its request back from a rank that has stopped, tells all to halt, or stops
+  noted : Late → Move
 
 pub record Side : Type 0 where
   -- oldest first
@@ -37,11 +40,18 @@ pub record Side : Type 0 where
 abbrev pub answer_of : ℕ × Strings → Deed
 answer_of x = if length x.1 == 0 then refuse x.0 else give x.0 x.1
 
+-- a request that is taken back is kept as if it had been refused; a halt and a stop are no events
+abbrev pub noted_of : ℕ → Late → List Event
+noted_of me (withdraw from) = TakeNone me from ∷ []
+noted_of me halt = []
+noted_of me stop = []
+
 -- the events that a move of the rank me is
 abbrev pub events_of : ℕ → Move → List Event
 events_of me (handled path kids) = Handle me path (length kids) ∷ []
 events_of me (served answers) = map (λ x. event_of me (answer_of x)) answers
 events_of me (did deed) = event_of me deed ∷ []
+events_of me (noted late) = noted_of me late
 
 -- by lot: each gets some of what the ones before it left, by a word each
 abbrev pub lots : ℕ → ℕ → Lcg → List ℕ × Lcg
@@ -110,14 +120,25 @@ abbrev pub Draws : ℕ → ℕ → Deed → Lcg → Lcg → Type 0
 Draws n me (ask v) from from' = (v ≡ victim me n (word from)) × (from' ≡ after_word from)
 Draws n me _ from from' = from' ≡ from
 
+-- where it is told, all are to halt
+abbrev pub IsHalted : Option Told → Type 0
+IsHalted None = Unit {0}
+IsHalted (Some t) = t.halt ≡ true
+
+-- the amounts of the split; or none, without a word, in a run that stops after some number, where all are to halt
+abbrev pub IsShared : Options → Option Told → List (ℕ × Strings) → Strings → Lcg → Lcg → Type 0
+IsShared o told answers q from from' =
+    ((map (λ x. length x.1) answers ≡ (amounts o.split (length q) (length answers) from).0)
+    × (from' ≡ (amounts o.split (length q) (length answers) from).1))
+    ⊎ ((o.stop_after ≢ None) × IsHalted told × All (λ x. x.1 ≡ []) answers × (from' ≡ from))
+
 -- a service: the oldest strings go to those that ask, in order
 pub record Serves (o : Options) (me : ℕ) (answers : List (ℕ × Strings)) (s s' : Side) : Type 0 where
   pub ranks : AreAskers me s.told (map (λ x. x.0) answers)
   -- each is a rank
   pub names : All (λ x. x.0 < o.ranks) answers
-  pub shares : map (λ x. length x.1) answers ≡ (amounts o.split (length s.queue) (length answers) s.draws).0
+  pub shares : IsShared o s.told answers s.queue s.draws s'.draws
   pub oldest : s.queue ≡ flat_map (λ x. x.1) answers ++ s'.queue
-  pub drawn : s'.draws ≡ (amounts o.split (length s.queue) (length answers) s.draws).1
   pub log : s'.log ≡ s.log
   pub batches : s'.batches ≡ batches_after_all (map answer_of answers) s.batches
   pub told : TellsAll me (map answer_of answers) s.told s'.told
@@ -145,7 +166,20 @@ pub record DoesDeed (o : Options) (me : ℕ) (deed : Deed) (s s' : Side) : Type 
   pub batches : s'.batches ≡ batches_after deed s.batches
   pub told : Tells me deed s.told s'.told
 
+-- what it takes: a rank that has handled its number of strings tells all to halt; one stops where all are to halt
+abbrev pub MayNote : Options → Late → Side → Type 0
+MayNote o (withdraw from) s = from < o.ranks
+MayNote o halt s = o.stop_after ≡ Some (length s.log)
+MayNote o stop s = IsHalted s.told
+
+-- nothing of the rank changes
+pub record DoesLate (o : Options) (me : ℕ) (late : Late) (s s' : Side) : Type 0 where
+  pub may : MayNote o late s
+  pub told : TellsLate me late s.told s'.told
+  pub after : s' ≡ record s { told = s'.told }
+
 abbrev pub Does : Options → ℕ → Move → Side → Side → Type 0
 Does o me (handled path kids) s s' = Handles me path kids s s'
 Does o me (served answers) s s' = Serves o me answers s s'
 Does o me (did deed) s s' = DoesDeed o me deed s s'
+Does o me (noted late) s s' = DoesLate o me late s s'

@@ -1,5 +1,5 @@
 -- What all ranks of a stage have together, and the balance of a run of moves. Our own.
-use Rattle.std.specs.Prelude.{◌≡◌, ℕ, ◌<◌, true, List, [], ◌++◌}
+use Rattle.std.specs.Prelude.{◌≡◌, ℕ, ◌<◌, true, List, [], ◌++◌, None}
 use Rattle.std.specs.List.{flat_map}
 use Rattle.post_board.specs.Shown.{Strings}
 use Rattle.post_board.specs.Told.{Mail, full, place}
@@ -38,7 +38,7 @@ abbrev pub AllIsHandled : Type 0
 AllIsHandled = (o : Options) (starts : Strings) (moves : List (ℕ × Move)) (stage : Stage)
     → 0 < o.ranks → Plays o moves (begun o starts) stage → NothingWaits stage → Balanced (all_logged stage) [] starts
 
--- where a rank has seen the end, nothing waits
+-- where a rank has seen the end of a run that stops after no number, nothing waits
 abbrev pub NothingWaitsAtEnd : Type 0
 NothingWaitsAtEnd = (o : Options) (starts : Strings) (moves : List (ℕ × Move)) (stage : Stage) (r : ℕ)
-    → Plays o moves (begun o starts) stage → (place stage.told r).ended ≡ true → NothingWaits stage
+    → o.stop_after ≡ None → Plays o moves (begun o starts) stage → (place stage.told r).ended ≡ true → NothingWaits stage

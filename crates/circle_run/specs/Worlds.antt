@@ -1,5 +1,5 @@
 -- The world of ranks that a stage shows, and that what is played is a run of that world. Our own, over the world of ring_core.
-use Rattle.std.specs.Prelude.{◌≡◌, ℕ, List, length, map}
+use Rattle.std.specs.Prelude.{◌≡◌, ℕ, List, length, map, None}
 use Rattle.std.specs.List.{range_with_len}
 use Rattle.ring_core.specs.declared.states.Desk.{Desk}
 use Rattle.ring_core.specs.declared.states.Desk.TheVariants.{Rest, Asked, Full, Empty}
@@ -34,4 +34,4 @@ pub record IsRunTo (o : Options) (starts : Strings) (moves : List (ℕ × Move))
 
 abbrev pub MovesAreLegalRun : Type 0
 MovesAreLegalRun = (o : Options) (starts : Strings) (moves : List (ℕ × Move)) (stage : Stage)
-    → Plays o moves (begun o starts) stage → IsRunTo o starts moves stage
+    → o.stop_after ≡ None → Plays o moves (begun o starts) stage → IsRunTo o starts moves stage

@@ -4,6 +4,7 @@ ghost use Rattle.circle_run.specs.Apart.{HostsAreBalanced};
 ghost use Rattle.circle_run.specs.AsOften.{BalanceIsAsOften};
 ghost use Rattle.circle_run.specs.Fair.{MovesAnswerFirst, RoundsAreFair, TurnsArePlayed};
 ghost use Rattle.circle_run.specs.Shares.{EventsTellLogs, GivenIsTakenOrMailed, LogsAreHandled};
+ghost use Rattle.circle_run.specs.Stops.{MovesHalt};
 ghost use Rattle.circle_run.specs.Waiting.{AllIsHandled, MovesAreBalanced, NothingWaitsAtEnd};
 ghost use Rattle.circle_run.specs.Worlds.{MovesAreLegalRun};
 
@@ -66,4 +67,9 @@ pub fn rounds_are_fair()
 /// balanced, whoever hosted the ranks and in whatever order they moved.
 pub fn hosts_are_balanced()
     ensures { HostsAreBalanced }
+{}
+
+/// All are to halt only where some rank has handled its number of strings, and only then does any rank stop.
+pub fn moves_halt()
+    ensures { MovesHalt }
 {}

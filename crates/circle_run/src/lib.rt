@@ -50,14 +50,19 @@
 //! That a run ends is not proved: a job may push for ever.
 //!
 //! What is proved of a run rests on laws over its moves. What a rank does is a *move*: it handles a string, answers those that
-//! ask it, or asks, takes or moves the token. Moves lead from *stage* to stage, which is what each rank has and what
-//! the board tells. Whoever makes the moves, in whatever order, from the deal of the starts on:
+//! ask it, or asks, takes or moves the token; or it takes a request back from a rank that has stopped, tells all to halt, or
+//! stops. Moves lead from *stage* to stage, which is what each rank has and what the board tells. Whoever makes the moves, in
+//! whatever order, from the deal of the starts on:
 //!
-//! - their events are a legal run of the world of `ring_core`, to the world of the stage ([`moves_are_legal_run`]);
 //! - the run is balanced at each stage, over the logs, the queues and the mailboxes ([`moves_are_balanced`]);
-//! - where a rank has seen the end, nothing waits anywhere ([`nothing_waits_at_end`]);
 //! - what was given was taken or lies in a mailbox ([`given_is_taken_or_mailed`]);
 //! - a log is what its rank handled, in order, and the events tell the same ([`logs_are_handled`]);
+//! - all are told to halt only where some rank has handled its number of strings, and only then does any stop ([`moves_halt`]).
+//!
+//! Where the options name no number that the run stops after, also:
+//!
+//! - their events are a legal run of the world of `ring_core`, to the world of the stage ([`moves_are_legal_run`]);
+//! - where a rank has seen the end, nothing waits anywhere ([`nothing_waits_at_end`]);
 //! - a rank handles a string only while no other asks it ([`moves_answer_first`]);
 //! - where the ranks have their turns in rounds, the run is fair ([`rounds_are_fair`]).
 //!
@@ -67,11 +72,12 @@
 //! balance follows from what the seats say when they come together ([`hosts_are_balanced`]). What [`begin`] says of a whole run
 //! and its events is asked for one host. The ranks of a host whose thread was refused run with those of host 0. All memory that
 //! starting and joining take is taken before the first start, and nothing is left early until host 0 is done: the other ranks
-//! would wait for its ranks for ever. A host whose ranks have no string yields its processor after a round. There is no stop yet.
+//! would wait for its ranks for ever. A host whose ranks have no string yields its processor after a round. No turn halts or stops
+//! yet, and [`begin`] asks for no stop.
 //!
 //! `specs/Balance.antt` has the definitions of a balance, `specs/Moves.antt` those of a rank's moves, `specs/Choices.antt` which
 //! move a rank makes, `specs/Ready.antt` what holds of a rank between two turns and what a turn comes to; `specs/Stages.antt`
-//! has the runs of all ranks, `specs/Worlds.antt`, `Waiting.antt`, `Shares.antt` and `Fair.antt` what the laws say of them,
+//! has the runs of all ranks, `specs/Worlds.antt`, `Waiting.antt`, `Shares.antt`, `Fair.antt` and `Stops.antt` what the laws say of them,
 //! `specs/Hosts.antt` what rounds come to, and `specs/Traced.antt` what a trace and the numbers of progress are. What stands in
 //! `specs/Private` is cited by the crate's own steps alone.
 #![tactic(auto)]
@@ -102,7 +108,7 @@ pub use hosts::Host;
 pub use jobs::Job;
 pub use laws::{
     balance_is_as_often, given_is_taken_or_mailed, hosts_are_balanced, logs_are_handled,
-    moves_answer_first, moves_are_balanced, moves_are_legal_run, nothing_waits_at_end,
+    moves_answer_first, moves_are_balanced, moves_are_legal_run, moves_halt, nothing_waits_at_end,
     rounds_are_fair,
 };
 pub use outcomes::{Finished, Share};

@@ -17,7 +17,7 @@ use crate::outcomes::Finished;
 use crate::parts::{Parts, deal, new_ranks};
 use crate::settings::Options;
 use path_text::{OutOfMemory, Path};
-use post_board::{PlainBoard, Post, deeds_keep_sound};
+use post_board::{PlainBoard, Post, deeds_keep_sound, late_keeps_sound};
 use std::alloc::Global;
 use std::sync::Wait;
 use std::thread::Threads;
@@ -85,6 +85,7 @@ fn run_whole<R: Wait, J: Job + Drop, S: Drop, T: Drop, P: Post<Seat = S>, Q: Sum
 ) -> Result<Finished<J>, OutOfMemory>
     requires ranks { (1 ≤ options.now.ranks) × (options.now.ranks ≤ 64) }
     requires width { options.now.width ≤ 64 }
+    requires stop_after { options.now.stop_after ≡ None }
     requires jobs { length jobs.items ≡ options.now.ranks }
     requires unused { All (λ job. J.log job ≡ []) jobs.items }
     requires told { P.tells post.old ≡ Some (fresh_told options.now.ranks) }
@@ -97,6 +98,7 @@ fn run_whole<R: Wait, J: Job + Drop, S: Drop, T: Drop, P: Post<Seat = S>, Q: Sum
     nothing_waits_at_end();
     rounds_are_fair();
     deeds_keep_sound();
+    late_keeps_sound();
     let queues = deal(alloc, options.ranks, starts)?;
     let ranks = new_ranks(alloc, options, jobs, seats, sums_seats, queues)?;
     let mut events = Vec::new(alloc);

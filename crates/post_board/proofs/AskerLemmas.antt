@@ -7,12 +7,11 @@ use mathlib.Core.Logic.{dite}
 use native.Mathlib.Decide.{ℕ_discrete}
 use Rattle.post_board.specs.Words.{has_bit}
 use Rattle.post_board.specs.Told.{Place}
-use Rattle.post_board.specs.Deeds.{Deed, Legal, told_after}
 use Rattle.post_board.specs.Calls.{NoneAsks}
 use Rattle.ring_core.specs.declared.states.Token.{Token}
-use Rattle.post_board.specs.Plain.{plain, wants, no_rank, fresh_rank, told_of, shown_by, Fits, IsSeat, Noted}
+use Rattle.post_board.specs.Plain.{plain, wants, no_rank, fresh_rank, told_of, shown_by, Fits, Noted}
 use Rattle.post_board.specs.declared.plain_seats.PlainSeat.{PlainSeat}
-use Rattle.post_board.proofs.PlainFrames.{After, told_place}
+use Rattle.post_board.proofs.PlainFrames.{told_place}
 use Rattle.post_board.proofs.PlainDeeds.{own_rest, serving_mail}
 use Rattle.post_board.specs.declared.plain_ranks.PlainMailbox.TheVariants.{Rest, Wants, Served}
 use Rattle.post_board.specs.declared.plain_ranks.PlainRank.{PlainRank}
@@ -96,18 +95,6 @@ noted_at_first n few = record {
   where
     zero_bit : (r : ℕ) → has_bit 0 r ≡ false
     zero_bit r = ap (λ (b : ℕ). b == 1) (bit_at-zero r)
-
--- what a deed makes of a plain board with its masks
-pub record Done (me : ℕ) (d : Deed) (ranks : List PlainRank) (masks : List ℕ) (token : Token) (ranks' : List PlainRank) (masks' : List ℕ) (token' : Token)
-    (s' : PlainSeat) : Type 0 where
-  pub legal : Legal me d (told_of ranks token)
-  pub told : told_of ranks' token' ≡ told_after me d (told_of ranks token)
-  pub mine : IsSeat ranks' token' s' × Noted ranks' masks'
-  pub others : (o : PlainSeat) → o.number ≢ me → IsSeat ranks token o × Noted ranks masks → IsSeat ranks' token' o × Noted ranks' masks'
-
-pub with_masks : {me : ℕ} {d : Deed} {ranks ranks' : List PlainRank} {masks masks' : List ℕ} {token token' : Token} {s' : PlainSeat}
-    → After me d ranks token ranks' token' s' → Noted ranks' masks' → Done me d ranks masks token ranks' masks' token' s'
-with_masks after noted = record { legal = after.legal; told = after.told; mine = (after.mine, noted); others = λ o ne b. (after.others o ne b.0, noted) }
 
 -- a mailbox at rest
 pub rests : (ranks : List PlainRank) (token : Token) (s : PlainSeat) → Fits ranks token s → s.asked ≡ None → (plain ranks s.number).mailbox ≡ Rest

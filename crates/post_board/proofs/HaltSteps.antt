@@ -264,3 +264,16 @@ allows_withdraw n slots id r v m G mine leaves s o wide here small =
       (λ u e. (let same : u ≡ v = (let p : Left u ≡ Left v = sym e ∙ leaves in cc) in
           ((λ q. absurd (miss q)), (λ q. (subst (λ (j : ℕ). (sign found ≡ full j) ⊎ (sign found ≡ emptied j)) (sym same) answered, refl))))),
     ))
+
+-- the same, where the word is known by its number
+pub allows_set_halt_at : (n slots id word : ℕ) (m : SeatState) → Going m → word ≡ n + 1
+    → Allows (Rule n) slots id m word (λ _. 1) (SetHaltTells (step slots word 1 0 none) m)
+allows_set_halt_at n slots id word m G is = subst (λ (w : ℕ). Allows (Rule n) slots id m w (λ _. 1) (SetHaltTells (step slots w 1 0 none) m)) (sym is)
+    (allows_set_halt n slots id m G)
+
+pub allows_stop_at : (n slots id word bit : ℕ) (m : SeatState) → Going m → m.0.own.own ≡ Resting
+    → ((r : ℕ) → serves m.0.own r ≡ false) → word ≡ n + 2 → bit ≡ 2 ^ m.0.own.number
+    → Allows (Rule n) slots id m word (λ w. bit_or w bit) (StopTells (step slots word bit 0 none) m)
+allows_stop_at n slots id word bit m G rests idle at is =
+    subst (λ (w : ℕ). Allows (Rule n) slots id m w (λ x. bit_or x bit) (StopTells (step slots w bit 0 none) m)) (sym at)
+    (allows_stop n slots id bit m G rests idle is)

@@ -1,10 +1,12 @@
 pub mod DeedLemmas
+pub mod LateDeeds
 pub mod WordLemmas
 pub mod BitLemmas
 pub mod PlainFrames
 pub mod PlainDeeds
 pub mod PlainStart
 pub mod AskerLemmas
+pub mod PlainHalts
 pub mod Puts
 pub mod Sheets
 pub mod FactLemmas

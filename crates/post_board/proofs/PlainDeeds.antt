@@ -25,7 +25,7 @@ use Rattle.post_board.specs.declared.plain_ranks.PlainRank.{PlainRank}
 use Rattle.post_board.specs.declared.plain_seats.PlainSeat.{PlainSeat}
 use Rattle.post_board.proofs.PlainFrames.{After, told_put, told_place, Alike, frame, reserve, own}
 
-inside : (ranks : List PlainRank) (r : ℕ) → r < length ranks → r < length (map place_of ranks)
+pub inside : (ranks : List PlainRank) (r : ℕ) → r < length ranks → r < length (map place_of ranks)
 inside ranks r h = subst (λ (n : ℕ). r < n) (sym (length-map ranks place_of)) h
 
 acts : (ranks : List PlainRank) (token : Token) (s : PlainSeat) → IsSeat ranks token s → s.ended ≡ false → Acts s.number (told_of ranks token)

@@ -10,7 +10,7 @@ use Rattle.ring_core.specs.declared.states.Token.TheVariants.{At, Over}
 use Rattle.post_board.specs.Shown.{Shown}
 use Rattle.post_board.specs.Told.{vacant, Place, no_place, Sound}
 use Rattle.post_board.specs.Fresh.{fresh, fresh_place, fresh_told}
-use Rattle.post_board.specs.Plain.{place_of, told_of, no_rank, fresh_rank, plain, shown_by, OwnFits, HereFits, Match, Fits, IsSeat}
+use Rattle.post_board.specs.Plain.{place_of, told_of, no_rank, fresh_rank, plain, shown_by, OwnFits, HereFits, Match, Fits, HaltFits, IsSeat}
 use Rattle.post_board.specs.declared.plain_ranks.PlainMailbox.TheVariants.{Rest, Served}
 use Rattle.post_board.specs.declared.plain_ranks.PlainRank.{PlainRank}
 use Rattle.post_board.specs.declared.plain_seats.PlainSeat.{PlainSeat}
@@ -83,3 +83,16 @@ fits_at_first n k s below shown =
 
 pub seat_at_first : (n k : ℕ) (s : PlainSeat) → k < n → shown_by s ≡ fresh n k None → IsSeat (replicate n fresh_rank) (At 0 Black) s
 seat_at_first n k s below shown = (fits_at_first n k s below shown, subst Sound (sym (told_at_first n)) (sound_at_first n (omega arith)))
+
+-- no seat knows of a halt or of a stop at first
+pub halts_at_first : (n k : ℕ) (s : PlainSeat) (stops : List Bool) → stops ≡ replicate n false → k < n → shown_by s ≡ fresh n k None
+    → HaltFits None stops (replicate n fresh_rank) s
+halts_at_first n k s stops none below shown = record {
+  many = ap length none ∙ length-replicate n false ∙ sym (length-replicate n fresh_rank);
+  own = ap (λ (xs : List Bool). get_or xs s.number false) none ∙ read_of_copies (λ (b : Bool). b ≡ false) n s.number false false refl refl
+      ∙ sym (ap (λ (x : Shown). x.stopped) shown);
+  gone = λ r e. absurd (serves_nobody n r (ap (λ (xs : List Bool). get_or xs r false) (sym none) ∙ e));
+  halted = λ e. (let f : false ≡ true = sym (ap (λ (x : Shown). x.halted) shown) ∙ e in cc);
+  within = λ r e. cc;
+  by = λ e. cc;
+}

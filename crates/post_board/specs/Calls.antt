@@ -5,7 +5,7 @@ use Rattle.ring_core.specs.Step.{is_at}
 use Rattle.ring_core.specs.declared.states.Colour.TheVariants.{White, Black}
 use Rattle.ring_core.specs.declared.states.Token.TheVariants.{At}
 use Rattle.post_board.specs.Shown.{Strings, Batches, Shown, is_served, victim_of, with_given, with_taken}
-use Rattle.post_board.specs.Told.{asked, Told, place, is_full}
+use Rattle.post_board.specs.Told.{asked, Told, place, is_full, is_stopped}
 use Rattle.post_board.specs.Deeds.{take, take_none, see_over, Tells, Stays}
 use Rattle.post_board.specs.declared.answers.Answer.{Answer}
 use Rattle.post_board.specs.declared.answers.Answer.TheVariants.{Pending, Nothing, Work}
@@ -66,6 +66,12 @@ restarted s = record s { colour = White; here = None; busy = false }
 abbrev pub concluded : Shown → Shown
 concluded s = record s { here = None; ended = true }
 
+abbrev pub halting : Shown → Shown
+halting s = record s { halted = true }
+
+abbrev pub stopping : Shown → Shown
+stopping s = record s { stopped = true }
+
 -- no mailbox holds a batch
 abbrev pub NoneOnTheWay : Told → Type 0
 NoneOnTheWay t = (r : ℕ) → is_full (place t r).mail ≡ false
@@ -94,6 +100,7 @@ pub record Agrees (t : Told) (s : Shown) : Type 0 where
   pub colour : (place t s.number).colour ≡ s.colour
   pub tried : (place t s.number).tried ≡ s.tried
   pub ended : (place t s.number).ended ≡ s.ended
+  pub stopped : is_stopped t s.number ≡ s.stopped
 
 abbrev pub AgreesIfTold : Option Told → Shown → Type 0
 AgreesIfTold None s = Unit {0}

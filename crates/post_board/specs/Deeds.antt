@@ -1,7 +1,7 @@
 -- What a rank does to a board by a call, as an event of the ranks' world, with the batch that goes with it.
 -- Passing, restarting, concluding and blackening are EWD840's (Dijkstra, Feijen, van Gasteren); asking and giving through mailboxes are our
 -- own, after libcircle's work stealing.
-use Rattle.std.specs.Prelude.{◌≡◌, ◌≢◌, ℕ, ◌-◌, ◌<◌, ◌⊎◌, nat_lt, true, false, if◌then◌else◌, length, Option, Some, None}
+use Rattle.std.specs.Prelude.{◌≡◌, ◌≢◌, ℕ, ◌-◌, ◌<◌, ◌⊎◌, nat_lt, true, false, if◌then◌else◌, length, slice_set, Option, Some, None}
 use Rattle.ring_core.specs.World.{darker}
 use Rattle.ring_core.specs.declared.states.Colour.{Colour}
 use Rattle.ring_core.specs.declared.states.Colour.TheVariants.{White, Black}
@@ -10,7 +10,7 @@ use Rattle.ring_core.specs.declared.events.Event.{Event}
 use Rattle.ring_core.specs.declared.events.Event.TheVariants.{Ask, Give, Refuse, Take, TakeNone, Pass, Restart, Conclude, SeeOver}
 use Rattle.ring_core.specs.Picture.{Happens}
 use Rattle.post_board.specs.Shown.{Strings}
-use Rattle.post_board.specs.Told.{vacant, asked, full, empty, Place, Told, place, put_place, picture, Sound}
+use Rattle.post_board.specs.Told.{vacant, asked, full, empty, Place, Told, place, put_place, is_stopped, picture, Sound}
 
 pub data Deed : Type 0 where
   ask : ℕ → Deed
@@ -94,3 +94,31 @@ DeedsAreEvents =
 -- a legal deed keeps what is true of all that is told, the token invariant among it
 abbrev pub DeedsKeepSound : Type 0
 DeedsKeepSound = (me : ℕ) (deed : Deed) (t : Told) → Legal me deed t → Sound t → Sound (told_after me deed t)
+
+-- what a rank does that is no event of EWD840: it takes its request back from a rank that has stopped, tells all to halt, stops. Our own.
+pub data Late : Type 0 where
+  withdraw : ℕ → Late
+  halt : Late
+  stop : Late
+
+-- what it leaves
+abbrev pub told_late : ℕ → Late → Told → Told
+told_late me (withdraw from) t = put_place t me (record (place t me) { tried = true; mail = vacant })
+told_late me halt t = record t { halt = true }
+told_late me stop t = record t { stops = slice_set t.stops me true }
+
+-- where it may be done: a rank that has stopped has not ended
+abbrev pub LegalLate : ℕ → Late → Told → Type 0
+LegalLate me (withdraw from) t =
+    Acts me t × Other me from t × ((place t me).mail ≡ asked from) × (is_stopped t from ≡ true) × ((place t from).ended ≡ false)
+LegalLate me halt t = Acts me t
+LegalLate me stop t = Acts me t × ((place t me).mail ≡ vacant) × (me < length t.stops) × (is_stopped t me ≡ false)
+
+-- as `Tells`
+abbrev pub TellsLate : ℕ → Late → Option Told → Option Told → Type 0
+TellsLate me late None after = after ≡ None
+TellsLate me late (Some t) after = LegalLate me late t × (after ≡ Some (told_late me late t))
+
+-- where it is legal, it keeps what is true of all that is told, the token invariant among it
+abbrev pub LateKeepsSound : Type 0
+LateKeepsSound = (me : ℕ) (late : Late) (t : Told) → LegalLate me late t → Sound t → Sound (told_late me late t)

@@ -1,5 +1,5 @@
--- The steps that no call makes yet, by which all ranks are told to halt, and one that waits for a rank that has stopped takes its request
--- back. The rule keeps them already. Our own.
+-- The steps by which all ranks are told to halt and a rank stops, and those, which no call makes yet, by which ranks read that, and one
+-- that waits for a rank that has stopped takes its request back. Our own.
 use Rattle.std.specs.Prelude.{◌≡◌, ◌≢◌, ℕ, ◌+◌, ◌^◌, ◌⊎◌, ◌==◌, Bool, true, false, if◌then◌else◌, bit_or, None}
 use prog.Atomic.{either}
 use mathlib.Core.Option.{none}
@@ -12,8 +12,11 @@ use Rattle.post_board.specs.declared.board_views.OwnMailbox.{OwnMailbox}
 use Rattle.post_board.specs.declared.board_views.OwnMailbox.TheVariants.{Resting, Open, Left}
 
 -- set halt: a swap
+abbrev pub after_halt : Known → ℕ → ℕ → Known
+after_halt v word found = record (noted v word found 1) { halted = true }
+
 abbrev pub SetHaltTells : Telling
-SetHaltTells st m r n = n ≡ knowing m (record (noted m.0.own st.word r 1) { halted = true })
+SetHaltTells st m r n = n ≡ knowing m (after_halt m.0.own st.word r)
 
 -- load halt: who reads it set forgets the token
 abbrev pub halt_seen : Known → Bool → Known
@@ -23,9 +26,12 @@ halt_seen v false = v
 abbrev pub LoadHaltTells : Telling
 LoadHaltTells st m r n = (n ≡ knowing m (halt_seen (noted m.0.own st.word r r) (r == 1))) × (m.0.own.halted ≡ true → r ≡ 1)
 
--- stop
+-- stop: a fetch_or
+abbrev pub after_stop : Known → ℕ → ℕ → Known
+after_stop v word found = record (noted v word found (bit_or found (2 ^ v.number))) { stopped = true }
+
 abbrev pub StopTells : Telling
-StopTells st m r n = n ≡ knowing m (record (noted m.0.own st.word r (bit_or r (2 ^ m.0.own.number))) { stopped = true })
+StopTells st m r n = n ≡ knowing m (after_stop m.0.own st.word r)
 
 -- load stops
 abbrev pub stop_seen : OwnMailbox → ℕ → OwnMailbox

@@ -27,8 +27,16 @@ place_of x = record { busy = x.busy; colour = x.colour; tried = x.tried; ended =
 abbrev pub told_of : List PlainRank → Token → Told
 told_of ranks token = record { places = map place_of ranks; token = token; halt = false; stops = replicate (length ranks) false }
 
+abbrev pub is_some : Option ℕ → Bool
+is_some None = false
+is_some (Some r) = true
+
+-- the same with who told all to halt, and who has stopped
+abbrev pub worded : Option ℕ → List Bool → Told → Told
+worded halter stops t = record t { halt = is_some halter; stops = stops }
+
 abbrev pub told_by : PlainBoard → Told
-told_by b = told_of b.ranks.items b.token
+told_by b = worded b.halter b.stops.items (told_of b.ranks.items b.token)
 
 abbrev pub no_rank : PlainRank
 no_rank = record { busy = false; colour = White; tried = false; ended = false; mailbox = Rest }
@@ -62,10 +70,10 @@ shown_by s =
       serves = s.serves.items;
       here = s.here;
       ended = s.ended;
-      halted = false;
+      halted = s.halted;
       knows_halt = false;
       knows_stop = false;
-      stopped = false;
+      stopped = s.stopped;
       batches = None;
     }
 
@@ -107,5 +115,18 @@ pub record Noted (ranks : List PlainRank) (masks : List ℕ) : Type 0 where
 abbrev pub IsSeat : List PlainRank → Token → PlainSeat → Type 0
 IsSeat ranks token s = Fits ranks token s × Sound (told_of ranks token)
 
+-- a rank that has stopped has not ended, its mailbox is at rest, and it serves nobody
+abbrev pub Gone : List PlainRank → ℕ → Type 0
+Gone ranks r = ((plain ranks r).ended ≡ false) × ((plain ranks r).mailbox ≡ Rest) × ((k : ℕ) → (plain ranks k).mailbox ≢ Served r)
+
+-- what a seat knows of the halt and of its stop is so
+pub record HaltFits (halter : Option ℕ) (stops : List Bool) (ranks : List PlainRank) (s : PlainSeat) : Type 0 where
+  pub many : length stops ≡ length ranks
+  pub own : slice_index_or stops s.number false ≡ s.stopped
+  pub gone : (r : ℕ) → slice_index_or stops r false ≡ true → Gone ranks r
+  pub halted : s.halted ≡ true → is_some halter ≡ true
+  pub within : (r : ℕ) → halter ≡ Some r → r < length ranks
+  pub by : halter ≡ Some s.number → s.halted ≡ true
+
 abbrev pub Seats : PlainBoard → PlainSeat → Type 0
-Seats b s = IsSeat b.ranks.items b.token s × Noted b.ranks.items b.askers.masks.items
+Seats b s = IsSeat b.ranks.items b.token s × Noted b.ranks.items b.askers.masks.items × HaltFits b.halter b.stops.items b.ranks.items s

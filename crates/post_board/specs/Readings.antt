@@ -1,5 +1,5 @@
 -- The steps that each call makes on the words of a board, where a seat tells them. Our own.
-use Rattle.std.specs.Prelude.{All, ◌≡◌, ◌≢◌, ℕ, zero, suc, ◌+◌, ◌==◌, ◌⊎◌, false, if◌then◌else◌, List, map, [], ◌∷◌, ◌++◌, Option, Some, None}
+use Rattle.std.specs.Prelude.{All, ◌≡◌, ◌≢◌, ℕ, zero, suc, ◌+◌, ◌^◌, ◌==◌, ◌⊎◌, false, if◌then◌else◌, List, map, [], ◌∷◌, ◌++◌, bit_or, Option, Some, None}
 use Rattle.ring_core.specs.World.{is_over}
 use Rattle.ring_core.specs.Step.{is_at}
 use Rattle.ring_core.specs.declared.states.Token.{Token}
@@ -80,3 +80,11 @@ RingSteps s Over = One (Read 0 (λ w. token_read w ≡ TokenOver))
 -- the token was found so and left so
 abbrev pub TokenSteps : Token → Token → Steps
 TokenSteps found left = One (Step 0 (λ w. token_read w ≡ found) (λ w. token_read w ≡ left))
+
+-- the halt word was set
+abbrev pub HaltSteps : Shown → Steps
+HaltSteps s = One (Step (s.n + 1) (λ w. Unit {0}) (λ w. w ≡ 1))
+
+-- the bit of this rank was set in the word of the stops
+abbrev pub StopSteps : Shown → Steps
+StopSteps s = One (λ x. (x.word ≡ s.n + 2) × (x.left ≡ bit_or x.found (2 ^ s.number)))

@@ -39,6 +39,10 @@ place t r = slice_index_or t.places r no_place
 abbrev pub put_place : Told → ℕ → Place → Told
 put_place t r x = record t { places = slice_set t.places r x }
 
+-- whether the rank r has stopped
+abbrev pub is_stopped : Told → ℕ → Bool
+is_stopped t r = slice_index_or t.stops r false
+
 abbrev pub is_full : Mail → Bool
 is_full (full from batch) = true
 is_full _ = false

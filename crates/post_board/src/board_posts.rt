@@ -113,6 +113,14 @@ impl<'b> Post for &'b Board {
         seat.ended = true;
     }
 
+    fn halt(&mut self, seat: &mut BoardSeat) {
+        self.halt_step(&mut seat.seat, seat.number);
+    }
+
+    fn stop(&mut self, seat: &mut BoardSeat) {
+        self.stop_step(&mut seat.seat, seat.number);
+    }
+
     fn gather(&mut self, mut all: Vec<BoardSeat>) -> Gathered
         requires some { 0 < length all.items }
         requires all { AllDone shown_by (IsSeat self.old.now) all.items }

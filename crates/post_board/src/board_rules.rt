@@ -2,6 +2,7 @@
 ghost use Rattle.post_board.specs.BoardRule.{Rule, opened, dealing, dealt_out, both, spent};
 ghost use Rattle.post_board.specs.BoardSteps.{AskTells, LookTells, TakeUpTells, ScanTells, GiveTells, RefuseTells, FetchTells, RestTells};
 ghost use Rattle.post_board.specs.BoardSteps.{RestEmptyTells, RingTells, PassTells, RestartTells, ConcludeTells, LastLookTells};
+ghost use Rattle.post_board.specs.LateSteps.{SetHaltTells, StopTells};
 
 use crate::board_views::View;
 use atomic_table::{Join, Play, Split, TableRule};
@@ -98,6 +99,20 @@ pub struct Conclude;
 
 impl Play<Option<Batch>, View> for Conclude {
     ghost then = { ConcludeTells };
+}
+
+/// A rank tells all to halt.
+pub struct SetHalt;
+
+impl Play<Option<Batch>, View> for SetHalt {
+    ghost then = { SetHaltTells };
+}
+
+/// A rank stops.
+pub struct Stop;
+
+impl Play<Option<Batch>, View> for Stop {
+    ghost then = { StopTells };
 }
 
 /// The last look, of a seat that took all others in.

@@ -2,7 +2,7 @@
 //!
 //! The codes of words are those of `specs/Words.antt`: `8 * rank + 1` asks the rank, `+ 2` is served by it, `+ 3` was filled by it,
 //! `+ 4` is being emptied of what it gave, `+ 5` was refused by it, and 0 rests.
-ghost use Rattle.std.specs.Prelude.{◌≡◌, ◌≢◌, ℕ, ◌+◌, ◌-◌, ◌<◌, ◌≤◌, ◌⊎◌, ◌∷◌, ◌==◌, true, false, Some, None};
+ghost use Rattle.std.specs.Prelude.{◌≡◌, ◌≢◌, ℕ, ◌+◌, ◌-◌, ◌^◌, ◌<◌, ◌≤◌, ◌⊎◌, ◌∷◌, ◌==◌, true, false, Some, None};
 ghost use Rattle.atomic_table.specs.Table.{rest};
 ghost use Rattle.ring_core.specs.World.{darker, is_over};
 ghost use Rattle.ring_core.specs.Step.{is_at};
@@ -14,12 +14,13 @@ ghost use Rattle.post_board.specs.Words.{sign, resting, asking, serving, full, f
 ghost use Rattle.post_board.specs.BoardRule.{serves, OwnFits};
 ghost use Rattle.post_board.specs.BoardSteps.{SeatState, noted, knows, knowing, after_ask, after_look, after_taking, front, after_post};
 ghost use Rattle.post_board.specs.BoardSteps.{after_refusing, after_fetch, after_rest, heard_at, after_pass, after_restart, after_conclude};
+ghost use Rattle.post_board.specs.LateSteps.{after_halt, after_stop};
 ghost use Rattle.post_board.specs.BoardWork.{Mine};
 ghost use Rattle.post_board.specs.declared.board_views.OwnMailbox.TheVariants.{Resting, Open, Left, Filled, Emptied, Getting};
 
 use crate::board_rules::{
     Ask, Conclude, Fetch, LoadRing, Look, Pass, PostBatch, PostNone, Rest, RestEmpty, Restart,
-    Scan, TakeUp,
+    Scan, SetHalt, Stop, TakeUp,
 };
 use crate::board_views::View;
 use crate::boards::Board;
@@ -257,4 +258,34 @@ impl Board {
     {
         self.table.shared.swap::<Conclude>(seat, 0, 0);
     }
+
+    /// Tells all ranks to halt.
+    pub(crate) fn halt_step(&self, seat: &mut Seat<Option<Batch>, View>, me: u32)
+        requires mine { Mine self.now seat.old.table_id seat.old.me me }
+        ensures table { seat.new.table_id ≡ seat.old.table_id }
+        ensures after { (found : ℕ) × (seat.new.me ≡ knowing seat.old.me (after_halt seat.old.me.0.own (self.now.n + 1) found)) }
+    {
+        let word = self.n as usize + 1;
+        self.table.shared.swap::<SetHalt>(seat, word, 1);
+    }
+
+    /// Stops, at rest and serving nobody.
+    pub(crate) fn stop_step(&self, seat: &mut Seat<Option<Batch>, View>, me: u32)
+        requires mine { Mine self.now seat.old.table_id seat.old.me me }
+        requires rests { seat.old.me.0.own.own ≡ Resting }
+        requires idle { (r : ℕ) → serves seat.old.me.0.own r ≡ false }
+        ensures table { seat.new.table_id ≡ seat.old.table_id }
+        ensures after { (found : ℕ) × (seat.new.me ≡ knowing seat.old.me (after_stop seat.old.me.0.own (self.now.n + 2) found)) }
+    {
+        let word = self.n as usize + 2;
+        self.table.shared.fetch_or::<Stop>(seat, word, bit_of(me));
+    }
+}
+
+/// The bit of the rank `r` in the word of the stops.
+fn bit_of(r: u32) -> u64
+    requires { r < 64 }
+    ensures { result ≡ 2 ^ r }
+{
+    1 << r
 }

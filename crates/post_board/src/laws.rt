@@ -3,7 +3,7 @@ ghost use Rattle.std.specs.Prelude.{◌≡◌, ℕ, ◌<◌, ◌++◌, true};
 ghost use Rattle.ring_core.specs.Picture.{PictureInvariant};
 ghost use Rattle.ring_core.specs.declared.states.Token.{Token};
 ghost use Rattle.post_board.specs.Told.{Sound, picture};
-ghost use Rattle.post_board.specs.Deeds.{DeedsAreEvents, DeedsKeepSound};
+ghost use Rattle.post_board.specs.Deeds.{DeedsAreEvents, DeedsKeepSound, LateKeepsSound};
 ghost use Rattle.post_board.specs.Words.{Sign, sign, word_of, token_read, word_of_token};
 ghost use Rattle.post_board.specs.Plain.{told_by, Seats};
 ghost use Rattle.post_board.specs.Reached.{Reached};
@@ -21,6 +21,11 @@ pub fn deeds_are_events()
 /// A deed that is legal keeps the token invariant, and what goes with it.
 pub fn deeds_keep_sound()
     ensures { DeedsKeepSound }
+{}
+
+/// So does what is no event: a request that is taken back from a rank that has stopped, a halt, and a stop.
+pub fn late_keeps_sound()
+    ensures { LateKeepsSound }
 {}
 
 /// The word of a mailbox and the word of the ring are read back as what was written.
@@ -46,7 +51,7 @@ pub fn board_is_sound_at_every_moment()
 {}
 
 /// The rule of a [`Board`](crate::Board) keeps the steps too by which ranks halt, stop, and take back a request to a rank that has
-/// stopped. No call makes them yet.
+/// stopped. Calls make the first and the third; none makes the others yet.
 pub fn late_steps_keep_the_rule()
     ensures set_halt { SetHaltKeeps }
     ensures load_halt { LoadHaltKeeps }

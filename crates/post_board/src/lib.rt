@@ -4,8 +4,9 @@
 //! Each rank has a seat, and does to the board what [`Post`] has calls for. A rank without strings *asks* another one, which
 //! *takes the request up* ([`Post::next_request`]) and *gives* some or *refuses*; the asker finds the answer in its mailbox
 //! ([`Post::answer`]). It looks where the token is ([`Post::ring`]), and *passes* it on; rank 0 sends it round once more
-//! (*restart*) or ends the run (*conclude*). When all ranks have ended, their seats are *gathered*. What these events mean for
-//! the whole is the pure world of the crate `ring_core`.
+//! (*restart*) or ends the run (*conclude*). A rank may tell all to *halt*, and *stop*, from when on it does nothing more. When all
+//! ranks have ended or stopped, their seats are *gathered*. What these events mean for the whole is the pure world of the crate
+//! `ring_core`.
 //!
 //! - [`Post`] is the trait, whose contract each board meets: no call waits, and none takes memory.
 //! - [`PlainBoard`] is a board for ranks that act in turn on one thread, and [`PlainSeat`] its seats.
@@ -27,11 +28,12 @@
 //!
 //! A seat *shows* what its rank knows (`Shown` in `specs/Shown.antt`), and each call is one equation on it: all that the call
 //! does to the seat, and that nothing else changes. A board may *tell* its picture, with the batches on their way (`Told`); then
-//! each call but `gather` is a *deed* (`specs/Deeds.antt`): legal on what was told, and what is told afterwards is what the deed
-//! leaves. A seat may tell the *readings* that its calls made (`specs/Readings.antt`). So the cause of each answer stands in two
+//! each call but `gather` is a *deed* (`specs/Deeds.antt`), or what is *late* and no event of the world: a halt or a stop. It is
+//! legal on what was told, and what is told afterwards is what it leaves. A seat may tell the *readings* that its calls made (`specs/Readings.antt`). So the cause of each answer stands in two
 //! clauses, by what is told and by what was read, and a board tells one or the other. Which seats are a board's own is a member
 //! of the trait (`seats`); each call keeps its own seat and every seat of another number, and what a seat shows is what its
-//! board tells. What a stop needs is part of what seats show and boards tell from the beginning, and no call changes it yet.
+//! board tells. No call answers otherwise after a halt or a stop yet: a rank does not hear of a halt, and a request to a rank that
+//! has stopped stays open.
 //!
 //! # The board of atomic words
 //!
@@ -45,13 +47,15 @@
 //! A slot is with the rank that serves its owner from the taking up until the answer, and with its owner while that takes the batch
 //! out. A rank looks for requests by a load of each mailbox, and takes one up by a compare_exchange where it read a request to
 //! itself. A board of words tells no picture, since it has none that stands still; its seats tell their readings and keep their
-//! batches. The rule keeps the steps of a halt and of stops too ([`late_steps_keep_the_rule`]), which no call makes yet.
+//! batches. The rule keeps the steps of a halt and of stops too ([`late_steps_keep_the_rule`]); those that read them or take a
+//! request back no call makes yet.
 //!
 //! # What is proved
 //!
 //! [`PlainBoard`] meets the contract and tells its picture. [`PlainBoard::make`] says exactly how board and seats begin. Laws of
 //! the definitions, which hold for every board that tells its picture: a legal deed is its event on the picture
-//! ([`deeds_are_events`]), and keeps the token invariant with what goes with it ([`deeds_keep_sound`]). A plain board that has a
+//! ([`deeds_are_events`]), and keeps the token invariant with what goes with it ([`deeds_keep_sound`]), and so does what is
+//! late ([`late_keeps_sound`]). A plain board that has a
 //! seat always has that invariant ([`told_is_sound`]), so when a rank sees the end, no rank is busy and no batch is on the way.
 //! Words of mailboxes and of the ring are read back as they were written ([`words_are_read_back`]).
 //!
@@ -83,8 +87,8 @@ mod ring_words;
 pub use answers::{Answer, Gathered, Reading, Ring};
 pub use boards::{Board, BoardSeat};
 pub use laws::{
-    board_is_sound_at_every_moment, deeds_are_events, deeds_keep_sound, late_steps_keep_the_rule,
-    told_is_sound, words_are_read_back,
+    board_is_sound_at_every_moment, deeds_are_events, deeds_keep_sound, late_keeps_sound,
+    late_steps_keep_the_rule, told_is_sound, words_are_read_back,
 };
 pub use plain_boards::PlainBoard;
 pub use plain_seats::PlainSeat;

@@ -1,5 +1,5 @@
 //! A board that one thread keeps.
-ghost use Rattle.std.specs.Prelude.{◌≡◌, ◌≢◌, ◌<◌, ◌≤◌, true, length, if◌then◌else◌, Some, None, IfOk};
+ghost use Rattle.std.specs.Prelude.{◌≡◌, ◌≢◌, ◌<◌, ◌≤◌, true, false, length, replicate, if◌then◌else◌, Some, None, IfOk};
 ghost use Rattle.ring_core.specs.declared.states.Colour.TheVariants.{Black};
 ghost use Rattle.post_board.specs.Calls.{serving};
 ghost use Rattle.post_board.specs.Fresh.{fresh_told, AllFresh};
@@ -19,6 +19,10 @@ pub struct PlainBoard {
     pub(crate) ranks: Vec<PlainRank>,
     pub(crate) token: Token,
     pub(crate) askers: Askers,
+    /// Who told all to halt, the last time that one did.
+    pub(crate) halter: Option<u32>,
+    /// For each rank, whether it has stopped.
+    pub(crate) stops: Vec<bool>,
 }
 
 impl PlainBoard {
@@ -36,11 +40,14 @@ impl PlainBoard {
             seats.push(PlainSeat::fresh(alloc, n, number)?)?;
         }
         let askers = Askers::none(alloc, n)?;
+        let stops = no_stops(alloc, n)?;
         let token = Token::At(0, Colour::Black);
         let board = PlainBoard {
             ranks,
             token,
             askers,
+            halter: None,
+            stops,
         };
         Ok((board, seats))
     }
@@ -59,6 +66,7 @@ impl PlainBoard {
     /// Takes up the request in the mailbox of the rank `r`, which is still told as it was.
     pub(crate) fn take_up(&mut self, seat: &mut PlainSeat, r: u32)
         requires seat { Seats self.old seat.old }
+        requires live { seat.old.stopped ≡ false }
         requires asks { (r < length self.old.ranks.items) × (r ≢ seat.old.number) × (wants (plain self.old.ranks.items r).mailbox seat.old.number ≡ true) }
         ensures shown { shown_by seat.new ≡ serving (shown_by seat.old) (Some r) }
         ensures told { told_by self.new ≡ told_by self.old }
@@ -79,6 +87,15 @@ impl PlainBoard {
             Token::Over => Colour::Black,
         }
     }
+}
+
+/// Nobody of `n` ranks has stopped.
+fn no_stops(alloc: Global, n: u32) -> Result<Vec<bool>, OutOfMemory>
+    ensures { IfOk result (λ stops. stops.items ≡ replicate n false) }
+{
+    let mut stops = Vec::new(alloc);
+    stops.resize(n as usize, false)?;
+    Ok(stops)
 }
 
 /// Black where `black` says so.

@@ -128,6 +128,16 @@ impl Post for PlainBoard {
         seat.ended = true;
     }
 
+    fn halt(&mut self, seat: &mut PlainSeat) {
+        self.halter = Some(seat.number);
+        seat.halted = true;
+    }
+
+    fn stop(&mut self, seat: &mut PlainSeat) {
+        self.stops[seat.number as usize] = true;
+        seat.stopped = true;
+    }
+
     fn gather(&mut self, all: Vec<PlainSeat>) -> Gathered
         requires some { 0 < length all.items }
         requires all { AllDone shown_by (Seats self.old) all.items }

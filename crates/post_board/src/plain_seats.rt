@@ -19,6 +19,8 @@ pub struct PlainSeat {
     pub(crate) serves: Vec<bool>,
     pub(crate) here: Option<Colour>,
     pub(crate) ended: bool,
+    pub(crate) halted: bool,
+    pub(crate) stopped: bool,
 }
 
 impl PlainSeat {
@@ -38,6 +40,8 @@ impl PlainSeat {
             serves,
             here: None,
             ended: false,
+            halted: false,
+            stopped: false,
         })
     }
 }

@@ -5,10 +5,10 @@ ghost use Rattle.ring_core.specs.declared.states.Token.TheVariants.{At, Over};
 ghost use Rattle.post_board.specs.Shown.{Shown, is_served, Live, Free, is_open, is_here, token_of, mixed};
 ghost use Rattle.post_board.specs.Told.{Told};
 ghost use Rattle.post_board.specs.Deeds.{ask as asking_of, give as giving_of, refuse as refusing_of, pass as passing_of, restart as restarting_of};
-ghost use Rattle.post_board.specs.Deeds.{conclude as concluding_of, Tells, Stays};
+ghost use Rattle.post_board.specs.Deeds.{conclude as concluding_of, Tells, Stays, halt as halting_of, stop as stopping_of, TellsLate};
 ghost use Rattle.post_board.specs.Calls.{asking, answered, AnswerTold, serving, Found, LookedFor, given, served, hearing, RingTold, passed};
-ghost use Rattle.post_board.specs.Calls.{restarted, concluded, NoneOnTheWay, AllDone, AllEven, AgreesIfTold};
-ghost use Rattle.post_board.specs.Readings.{Adds, AskSteps, AnswerSteps, RequestSteps, GiveSteps, RefuseSteps, RingSteps, TokenSteps};
+ghost use Rattle.post_board.specs.Calls.{restarted, concluded, halting, stopping, NoneOnTheWay, AllDone, AllEven, AgreesIfTold};
+ghost use Rattle.post_board.specs.Readings.{Adds, AskSteps, AnswerSteps, RequestSteps, GiveSteps, RefuseSteps, RingSteps, TokenSteps, HaltSteps, StopSteps};
 ghost use Rattle.post_board.specs.declared.answers.Reading.{Reading};
 ghost use Rattle.post_board.specs.declared.answers.Ring.TheVariants.{Over as HeardOver, Elsewhere as HeardElsewhere};
 
@@ -155,6 +155,29 @@ pub trait Post {
         ensures told { Tells (shows seat.old).number concluding_of (tells self.old) (tells self.new) }
         ensures still { tells self.old ≡ None → self.new ≡ self.old }
         ensures reads { Adds (reads seat.old) (TokenSteps (At (shows seat.old).number White) Over) (reads seat.new) }
+        ensures mine { seats self.new seat.new }
+        ensures others { (other : Self.Seat) → (shows other).number ≢ (shows seat.old).number → seats self.old other → seats self.new other };
+
+    /// Tells all ranks to halt. What that is to mean for them is the callers' affair: no call answers otherwise after it.
+    fn halt(&mut self, seat: &mut Self::Seat)
+        requires seat { seats self.old seat.old }
+        requires live { Live (shows seat.old) }
+        ensures shown { shows seat.new ≡ halting (shows seat.old) }
+        ensures told { TellsLate (shows seat.old).number halting_of (tells self.old) (tells self.new) }
+        ensures still { tells self.old ≡ None → self.new ≡ self.old }
+        ensures reads { Adds (reads seat.old) (HaltSteps (shows seat.old)) (reads seat.new) }
+        ensures mine { seats self.new seat.new }
+        ensures others { (other : Self.Seat) → (shows other).number ≢ (shows seat.old).number → seats self.old other → seats self.new other };
+
+    /// Stops: this rank does nothing more at the board. A request to it is not answered any more.
+    fn stop(&mut self, seat: &mut Self::Seat)
+        requires seat { seats self.old seat.old }
+        requires live { Live (shows seat.old) }
+        requires free { Free (shows seat.old) }
+        ensures shown { shows seat.new ≡ stopping (shows seat.old) }
+        ensures told { TellsLate (shows seat.old).number stopping_of (tells self.old) (tells self.new) }
+        ensures still { tells self.old ≡ None → self.new ≡ self.old }
+        ensures reads { Adds (reads seat.old) (StopSteps (shows seat.old)) (reads seat.new) }
         ensures mine { seats self.new seat.new }
         ensures others { (other : Self.Seat) → (shows other).number ≢ (shows seat.old).number → seats self.old other → seats self.new other };
 

@@ -1,11 +1,15 @@
-use Rattle.std.proofs.Common.{◌≡◌, refl, true, sym, subst, set}
+use Rattle.std.proofs.Common.{◌≡◌, ℕ, ◌∙◌, ap, refl, true, false, sym, subst, set, get_or}
 use Rattle.std.proofs.lemmas.List.{get_or_read}
 use Rattle.std.specs.Vec.{with_item}
-use Rattle.post_board.specs.Plain.{no_rank, plain, Noted}
+use Rattle.post_board.specs.Plain.{no_rank, plain, worded, Noted}
 use Rattle.post_board.proofs.PlainDeeds.{take_up_deed, wants_is}
 use Rattle.post_board.proofs.AskerLemmas.{noted_taken}
-use Rattle.post_board.specs.declared.plain_ranks.PlainMailbox.TheVariants.{Served}
+use Rattle.post_board.proofs.PlainHalts.{Keeps, keeps_put, serves_on}
+use Rattle.post_board.specs.declared.plain_ranks.PlainMailbox.TheVariants.{Rest, Wants, Served}
 use Rattle.post_board.proofs.plain_boards.PlainBoard.take_up.Goals as goal
+
+served_same : (j k : ℕ) → Served j ≡ Served k → j ≡ k
+served_same j k e = cc
 
 pub returns : goal.returns
 returns c =
@@ -23,4 +27,17 @@ returns c =
     subst (Noted _) (sym c.take_away.ensures)
     (noted_taken ranks masks c.requires.seat.1 r c.requires.asks.0 (record rank { mailbox = Served seat.number }) seat.number fits.inside
     (wants_is (plain ranks r).mailbox seat.number c.requires.asks.2) refl) in
-    record { shown = refl; told = done.0; mine = (done.1, noted); others = λ o ne b. (done.2 o ne b.0, noted) }
+    let halts = c.requires.seat.2 in
+    let halter = c.args.self.now.halter in
+    let stops = c.args.self.now.stops.items in
+    let live : get_or stops seat.number false ≡ false = halts.own ∙ c.requires.live in
+    let asks : get_or stops r false ≡ false = serves_on halter stops ranks seat r halts
+    (λ e. (let lies : Wants seat.number ≡ Rest = sym (wants_is (plain ranks r).mailbox seat.number c.requires.asks.2) ∙ e in cc)) in
+    let keeps : Keeps halter stops ranks (set ranks r (record rank { mailbox = Served seat.number })) = keeps_put halter stops ranks r _ asks
+    (λ k e. ap (λ (j : ℕ). get_or stops j false) (sym (served_same seat.number k e)) ∙ live) in
+    record {
+      shown = refl;
+      told = ap (worded halter stops) done.0;
+      mine = (done.1, noted, keeps seat (record seat { serves = with_item seat.serves r true }) halts refl refl refl);
+      others = λ o ne b. (done.2 o ne b.0, noted, keeps o o b.2 refl refl refl);
+    }
