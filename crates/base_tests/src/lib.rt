@@ -1,4 +1,4 @@
-//! Tests of the public calls of the crates at the bottom: paths, files, queues, looks and made-up trees.
+//! Tests of the public calls of the crates at the bottom: paths, files, the files of checkpoints, queues, looks and made-up trees.
 //!
 //! They stand here, and not in the crates, so that each of those is proved once: what they call is proved, and they are proved over
 //! its contracts. `shared` has what the tests share, `whole` the files that they write,
@@ -9,6 +9,8 @@
 mod leasing;
 #[cfg(test)]
 mod of_blind;
+#[cfg(test)]
+mod of_circle_lists;
 #[cfg(test)]
 mod of_files_mem;
 #[cfg(test)]

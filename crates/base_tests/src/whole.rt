@@ -4,6 +4,7 @@ ghost use Rattle.outside.specs.Tree.{is_root};
 ghost use Rattle.outside.specs.Writes.{all_but};
 
 use crate::shared::parsed;
+use circle_lists::{ListsError, read_lists, write_lists};
 use files_mem::{Blind, Call, MemGround, MemReader, PutError};
 use outside::{
     Failed, Ground, Kind, ListError, Listing, LoadError, Plot, SaveError, Stat, Tree, WriteError,
@@ -134,6 +135,27 @@ impl<G: Ground> Whole<G> {
             return Err(LoadError::OutOfMemory);
         };
         load(alloc, &mut reader, path)
+    }
+
+    /// Writes the lists of a checkpoint, of 1 to 64 ranks; another number of them is refused as want of memory.
+    pub fn write_lists(
+        &mut self,
+        alloc: Global,
+        dir: &Path,
+        left: &[Vec<Path>],
+    ) -> Result<(), ListsError> {
+        if left.is_empty() || left.len() > 64 {
+            return Err(ListsError::OutOfMemory);
+        }
+        write_lists(alloc, &mut self.files, dir, left)
+    }
+
+    /// The lists of a checkpoint.
+    pub fn read_lists(&mut self, alloc: Global, dir: &Path) -> Result<Vec<Vec<Path>>, ListsError> {
+        let Ok(mut reader) = self.files.reader(alloc) else {
+            return Err(ListsError::OutOfMemory);
+        };
+        read_lists(alloc, &mut reader, dir)
     }
 
     /// A reader of the files as they are now.

@@ -1,0 +1,219 @@
+//! The file of one rank, read. A line is compared with what would be written there, so no number is read.
+ghost use Rattle.std.specs.Prelude.{◌≡◌, ◌≢◌, ◌+◌, ◌<◌, ◌≤◌, ◌^◌, ◌==◌, ℕ, List, length, true, false, Some, None, IfOk, IfErr, IfSome, IfNone, take, drop};
+ghost use Rattle.std.specs.List.{position};
+ghost use Rattle.std.specs.Option.{option_map};
+ghost use Rattle.std.specs.Str.{IsUtf8};
+ghost use Rattle.path_text.specs.Escape.{reading};
+ghost use Rattle.flat_list.specs.Spelling.{line, end_text};
+ghost use Rattle.flat_list.specs.Private.Reading.{cut, ok_of, path_from};
+ghost use Rattle.circle_lists.specs.Spelling.{IsRank, head_text, Spells, Agrees, IsDamaged};
+ghost use Rattle.circle_lists.specs.Private.{most_ranks, IsHead, HeadsNone, IsCause, Ends, EndsBadly};
+
+use crate::encoding::{put_end, put_head};
+use path_text::{EscapeError, OutOfMemory, Path, reading_undoes_writing, unescape};
+use std::alloc::{AllocFailed, Global};
+
+/// The most ranks that a checkpoint may have.
+const MAX_RANKS: u64 = 64;
+
+/// What the file of a rank tells: the number of ranks, and the rank's list.
+#[derive(Drop)]
+pub(crate) struct RankList {
+    pub(crate) ranks: u64,
+    pub(crate) paths: Vec<Path>,
+}
+
+/// Why a text is refused as the file of a rank.
+#[derive(Clone, Copy, Debug, Drop, PartialEq, Eq)]
+pub(crate) enum Refused {
+    /// The lines before this one begin some file of the rank, and with it they do not.
+    Damaged(u64),
+    /// No memory was found.
+    OutOfMemory,
+}
+
+impl From<OutOfMemory> for Refused {
+    ghost use Rattle.std.specs.Prelude.{◌≡◌};
+    ghost use Rattle.circle_lists.specs.declared.decoding.Refused.TheVariants as refused;
+
+    ghost from_gives = { λ _ e. e ≡ refused.OutOfMemory };
+
+    fn from(_: OutOfMemory) -> Self {
+        Refused::OutOfMemory
+    }
+}
+
+impl<T: Drop> From<AllocFailed<T>> for Refused {
+    ghost use Rattle.std.specs.Prelude.{◌≡◌};
+    ghost use Rattle.circle_lists.specs.declared.decoding.Refused.TheVariants as refused;
+
+    ghost from_gives = { λ _ e. e ≡ refused.OutOfMemory };
+
+    fn from(_: AllocFailed<T>) -> Self {
+        Refused::OutOfMemory
+    }
+}
+
+/// What the file of the rank tells; where the number of ranks is known already, it must tell that one.
+pub(crate) fn decode(
+    alloc: Global,
+    bytes: &[u8],
+    rank: u64,
+    known: Option<u64>,
+) -> Result<RankList, Refused>
+    requires { IsRank rank (most_ranks known) }
+    ensures ok { IfOk result (λ told. Spells bytes.now rank told.ranks told.paths.items) }
+    ensures agrees { IfOk result (λ told. Agrees known told.ranks) }
+    ensures refused { IfErr result (IsCause bytes.now rank known) }
+{
+    // That no other text tells the same path rests on this law.
+    reading_undoes_writing();
+    let Some((ranks, rest)) = behind_head(alloc, bytes, rank, known)? else {
+        return Err(Refused::Damaged(1));
+    };
+    let mut paths = Vec::new(alloc);
+    let mut rest = rest;
+    while let Some((text, behind)) = cut(rest, b'\n') {
+        let Some(path) = path_from(alloc, text)? else {
+            return ended(alloc, RankList { ranks, paths }, text, behind);
+        };
+        paths.push(path)?;
+        rest = behind;
+    }
+    Err(Refused::Damaged(paths.len() as u64 + 2))
+}
+
+// What the head tells, and what stands behind it.
+fn behind_head(
+    alloc: Global,
+    bytes: &[u8],
+    rank: u64,
+    known: Option<u64>,
+) -> Result<Option<(u64, &[u8])>, OutOfMemory>
+    requires { IsRank rank (most_ranks known) }
+    ensures head { IfOk result (λ found. IfSome found (λ f. (text : List ℕ) × IsHead text rank known f.0 × (cut 10 bytes.now ≡ Some (text, f.1.now)))) }
+    ensures none { IfOk result (λ found. IfNone found (IsDamaged bytes.now rank known 1)) }
+{
+    let Some((text, rest)) = cut(bytes, b'\n') else {
+        return Ok(None);
+    };
+    match ranks_in(alloc, text, rank, known)? {
+        Some(ranks) => Ok(Some((ranks, rest))),
+        None => Ok(None),
+    }
+}
+
+// How many ranks the head of the rank's file tells.
+fn ranks_in(
+    alloc: Global,
+    text: &[u8],
+    rank: u64,
+    known: Option<u64>,
+) -> Result<Option<u64>, OutOfMemory>
+    requires { IsRank rank (most_ranks known) }
+    ensures some { IfOk result (λ found. IfSome found (IsHead text.now rank known)) }
+    ensures none { IfOk result (λ found. IfNone found (HeadsNone text.now rank known)) }
+{
+    let Some(ranks) = known else {
+        return any_ranks_in(alloc, text, rank);
+    };
+    if !is_head(alloc, text, rank, ranks)? {
+        return Ok(None);
+    }
+    Ok(Some(ranks))
+}
+
+fn any_ranks_in(alloc: Global, text: &[u8], rank: u64) -> Result<Option<u64>, OutOfMemory>
+    ensures some { IfOk result (λ found. IfSome found (IsHead text.now rank None)) }
+    ensures none { IfOk result (λ found. IfNone found (HeadsNone text.now rank None)) }
+{
+    for ranks in rank..MAX_RANKS {
+        if is_head(alloc, text, rank, ranks + 1)? {
+            return Ok(Some(ranks + 1));
+        }
+    }
+    Ok(None)
+}
+
+fn is_head(alloc: Global, text: &[u8], rank: u64, ranks: u64) -> Result<bool, OutOfMemory>
+    ensures yes { IfOk result (λ is. is ≡ true → text.now ≡ head_text rank ranks) }
+    ensures no { IfOk result (λ is. is ≡ false → text.now ≢ head_text rank ranks) }
+{
+    let mut head = Vec::new(alloc);
+    put_head(&mut head, rank, ranks)?;
+    Ok(text == head.as_slice())
+}
+
+fn is_end(alloc: Global, text: &[u8], count: usize) -> Result<bool, OutOfMemory>
+    ensures yes { IfOk result (λ is. is ≡ true → text.now ≡ end_text count) }
+    ensures no { IfOk result (λ is. is ≡ false → text.now ≢ end_text count) }
+{
+    let mut end = Vec::new(alloc);
+    put_end(&mut end, count)?;
+    Ok(text == end.as_slice())
+}
+
+// The list, if its end line is the text, and nothing stands behind it.
+fn ended(alloc: Global, told: RankList, text: &[u8], behind: &[u8]) -> Result<RankList, Refused>
+    requires { length told.paths.items + 3 < 2 ^ 64 }
+    ensures ok { IfOk result (λ same. Ends told.paths.items text.now behind.now × (same ≡ told)) }
+    ensures refused { IfErr result (EndsBadly told.paths.items text.now behind.now) }
+{
+    let count = told.paths.len();
+    if !is_end(alloc, text, count)? {
+        return Err(Refused::Damaged(count as u64 + 2));
+    }
+    if !behind.is_empty() {
+        return Err(Refused::Damaged(count as u64 + 3));
+    }
+    Ok(told)
+}
+
+// What stands before the first place of a byte, and what stands behind it.
+fn cut(text: &[u8], at: u8) -> Option<(&[u8], &[u8])>
+    ensures { option_map (λ parts. (parts.0.now, parts.1.now)) result ≡ cut at text.now }
+{
+    let place = place_of(text, at)?;
+    Some((&text[..place], &text[place + 1..]))
+}
+
+#[tactic(auto, using(crate::proofs::Decoded::places))]
+fn place_of(text: &[u8], at: u8) -> Option<usize>
+    ensures found { IfSome result (λ k. (k < length text.now) × (cut at text.now ≡ Some (take k text.now, drop (k + 1) text.now))) }
+    ensures none { IfNone result (cut at text.now ≡ None) }
+{
+    position_of(text, at)
+}
+
+fn position_of(text: &[u8], at: u8) -> Option<usize>
+    ensures { result ≡ position (λ b. b == at) text.now }
+{
+    text.iter().position(|b| *b == at)
+}
+
+#[tactic(auto, using(crate::proofs::Decoded::path_texts))]
+fn path_from(alloc: Global, word: &[u8]) -> Result<Option<Path>, OutOfMemory>
+    ensures read { IfOk result (λ path. path ≡ path_from word.now) }
+    ensures utf8 { IfOk result (λ path. IfSome path (λ p. IsUtf8 p)) }
+{
+    match str::from_utf8(word) {
+        Ok(text) => path_of(alloc, text),
+        Err(_) => Ok(None),
+    }
+}
+
+fn path_of(alloc: Global, text: &str) -> Result<Option<Path>, OutOfMemory>
+    ensures read { IfOk result (λ path. path ≡ ok_of (reading text.now)) }
+    ensures utf8 { IfOk result (λ path. IfSome path (λ p. IsUtf8 p)) }
+{
+    match unescape(alloc, text) {
+        Ok(path) => {
+            // That a path is UTF-8 is told by its text alone.
+            let _text = path.text();
+            Ok(Some(path))
+        }
+        Err(EscapeError::OutOfMemory) => Err(OutOfMemory),
+        Err(EscapeError::BadEscape(_)) => Ok(None),
+        Err(EscapeError::Path(_)) => Ok(None),
+    }
+}
