@@ -1,6 +1,6 @@
 -- One pass over the entries of a list.
 use Rattle.std.proofs.Common.{◌≡◌, ⊎_elim, ℕ, ◌+◌, ◌-◌, ◌<◌, zero, suc, Bool, List, [], ◌∷◌, ◌++◌, length, take, get_or, cond}
-use Rattle.std.proofs.Common.{filter, Some, None, ap, sym, ◌∙◌, subst, arith, add-one, append_assoc}
+use Rattle.std.proofs.Common.{true, filter, Some, None, ap, sym, ◌∙◌, subst, arith, add-one, append_assoc}
 use Rattle.std.specs.Prelude.{slice_get, IsTrue}
 use Rattle.std.specs.List.{All}
 use Rattle.std.specs.List.Sorted.{IsStrictlySortedBy}
@@ -33,9 +33,10 @@ some_here side k e is =
     none_some : (x : Entry) → None ≡ Some x → ⊥
     none_some x e = absurd (cc)
 
-pub here : (side : List Entry) (old new : List Entry × ℕ) (e : Entry) → old.0 ≡ side → new ≡ (old.0, old.1 + 1) → slice_get new.0 (new.1 - 1) ≡ Some e →
-    IsHere side old.1 e new
-here side old new e same moved is =
+pub here : (side : List Entry) (old new : List Entry × ℕ) (e : Entry) (more : Bool) → old.0 ≡ side → new ≡ (old.0, cond more (old.1 + 1) old.1) →
+    more ≡ true → slice_get new.0 (new.1 - 1) ≡ Some e → IsHere side old.1 e new
+here side old new e more same passed some is =
+    let moved : new ≡ (old.0, old.1 + 1) = passed ∙ ap (λ b. (old.0, cond b (old.1 + 1) old.1)) some in
     let at : new.1 - 1 ≡ old.1 = omega (arith, ap (λ (p : List Entry × ℕ). p.1) moved) in
     let of : new.0 ≡ side = ap (λ (p : List Entry × ℕ). p.0) moved ∙ same in
     let found = some_here side old.1 e ((λ i. slice_get (sym of i) (sym at i)) ∙ is) in

@@ -42,8 +42,8 @@ fn paths_of(alloc: Global, list: &FlatList) -> Result<Vec<Path>, OutOfMemory>
     ensures { IfOk result (λ all. all.items ≡ paths list.now) }
 {
     let mut all = Vec::new(alloc);
-    let mut cursor = list.cursor();
-    while cursor.advance() {
+    let mut cursor = list.cursor()?;
+    while cursor.advance()? {
         all.push(cursor.entry().path.copy()?)?;
     }
     Ok(all)
@@ -65,8 +65,8 @@ fn add_picked(
     below_keeps_order();
     let mut at = 0;
     let mut past = 0;
-    let mut cursor = entries.cursor();
-    while cursor.advance() {
+    let mut cursor = entries.cursor()?;
+    while cursor.advance()? {
         let entry = cursor.entry();
         let below = entry.path.below(top)?;
         let (at_here, is_wanted) = seek(wanted, at, &below);

@@ -1,5 +1,5 @@
 //! The two walks of a comparison.
-ghost use Rattle.std.specs.Prelude.{◌≡◌, ◌≤◌, ◌∷◌, [], All, length, IfOk, IfErr, IfSome, None, true};
+ghost use Rattle.std.specs.Prelude.{◌≡◌, ◌≤◌, ◌∷◌, [], All, length, OnOk, IfOk, IfErr, IfSome, None, true};
 ghost use Rattle.path_text.specs.Path.{refusal};
 ghost use Rattle.outside.specs.Count.{RoseBy};
 ghost use Rattle.flat_list.specs.Entries.{is_shaped};
@@ -92,7 +92,7 @@ where
     let _faults = files.faults();
     let given = one_path(alloc, top)?;
     let Entries { list, .. } = walk_side(rt, alloc, common, given, files)?;
-    see_paths(&list);
+    see_paths(&list)?;
     Ok(list)
 }
 
@@ -105,11 +105,12 @@ fn one_path(alloc: Global, path: &Path) -> Result<Vec<Path>, OutOfMemory>
 }
 
 // Each path of a list is a path, which the list does not tell of itself.
-fn see_paths(list: &FlatList)
-    ensures { All (λ e. refusal e.path ≡ None) list.now }
+fn see_paths(list: &FlatList) -> Result<(), OutOfMemory>
+    ensures { OnOk result (All (λ e. refusal e.path ≡ None) list.now) }
 {
-    let mut cursor = list.cursor();
-    while cursor.advance() {
+    let mut cursor = list.cursor()?;
+    while cursor.advance()? {
         let _ = cursor.entry().path.text();
     }
+    Ok(())
 }

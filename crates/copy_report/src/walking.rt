@@ -1,5 +1,5 @@
 //! The walk of the sources.
-ghost use Rattle.std.specs.Prelude.{◌≡◌, ◌≤◌, All, length, IfOk, IfErr, IfSome, None};
+ghost use Rattle.std.specs.Prelude.{◌≡◌, ◌≤◌, All, length, OnOk, IfOk, IfErr, IfSome, None};
 ghost use Rattle.path_text.specs.Path.{refusal};
 ghost use Rattle.outside.specs.Count.{RoseBy};
 ghost use Rattle.tree_copy.specs.Copying.{CanCopy, FitsTree};
@@ -12,7 +12,7 @@ ghost use Rattle.copy_report.specs.PrivateSteps.{ArePlaced};
 
 use flat_list::FlatList;
 use outside::{Ground, nodes_have_paths};
-use path_text::Path;
+use path_text::{OutOfMemory, Path};
 use run_entries::{Entries, walk_side};
 use run_report::Stop;
 use std::alloc::Global;
@@ -47,16 +47,17 @@ where
     entries_are_told();
     nodes_have_paths();
     let Entries { list, .. } = walk_side(rt, alloc, common, sources, files)?;
-    see_paths(&list);
+    see_paths(&list)?;
     Ok(list)
 }
 
 // Each path of a list is a path, which the list does not tell of itself.
-fn see_paths(list: &FlatList)
-    ensures { All (λ e. refusal e.path ≡ None) list.now }
+fn see_paths(list: &FlatList) -> Result<(), OutOfMemory>
+    ensures { OnOk result (All (λ e. refusal e.path ≡ None) list.now) }
 {
-    let mut cursor = list.cursor();
-    while cursor.advance() {
+    let mut cursor = list.cursor()?;
+    while cursor.advance()? {
         let _ = cursor.entry().path.text();
     }
+    Ok(())
 }

@@ -19,8 +19,8 @@ pub fn select(
     ensures { IfOk result (λ selected. selected ≡ filter (is_selected tests.now now) list.now) }
 {
     let mut selected = FlatList::make(alloc);
-    let mut cursor = list.cursor();
-    while cursor.advance() {
+    let mut cursor = list.cursor()?;
+    while cursor.advance()? {
         let entry = cursor.entry();
         if is_selected(entry, tests, now) {
             selected.add(entry)?;
@@ -29,14 +29,13 @@ pub fn select(
     Ok(selected)
 }
 
-/// The entries of a list that have a stat and meet every test, in their order, as [`select`] has them. They are moved, and no
-/// memory is taken.
-pub fn select_from(list: FlatList, tests: &[Test], now: u64) -> FlatList
-    ensures { result ≡ filter (is_selected tests.now now) list }
+/// The entries of a list that have a stat and meet every test, in their order, as [`select`] has them. They are moved.
+pub fn select_from(list: FlatList, tests: &[Test], now: u64) -> Result<FlatList, OutOfMemory>
+    ensures { IfOk result (λ selected. selected ≡ filter (is_selected tests.now now) list) }
 {
     let mut list = list;
-    list.retain(|entry| is_selected(entry, tests, now));
-    list
+    list.retain(|entry| is_selected(entry, tests, now))?;
+    Ok(list)
 }
 
 fn is_selected(entry: &Entry, tests: &[Test], now: u64) -> bool

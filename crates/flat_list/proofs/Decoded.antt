@@ -15,13 +15,14 @@ use Rattle.path_text.specs.Total.{path_cmp_total}
 use Rattle.flat_list.specs.declared.entries.Entry.{Entry}
 use Rattle.flat_list.specs.Spelling.{text_of, line, header_text, end_text, entry_lines, paths, IsList, Follows, Spells, lines_of, max_entries}
 use Rattle.flat_list.specs.Spelling.{IsTooLong, IsRefused}
-use Rattle.flat_list.specs.Private.Reading.{cut, entry_at, end_at, Adds, NoneFollows}
+use Rattle.flat_list.specs.Private.Reading.{cut, entry_at, end_at, IsLast, Adds, NoneFollows}
 use Rattle.flat_list.proofs.Words.{cut_takes}
 use Rattle.flat_list.proofs.Lines.{entry_takes, entry_again, end_takes, end_again}
 use Rattle.flat_list.proofs.Files.{line_same, line_first, free_uncut, torn, no_lines}
 use Rattle.flat_list.proofs.Ascending.{sorted_none, sorted_one, sorted_last, sorted_more}
 use Rattle.flat_list.proofs.Damage.{list_more, Stands, refused_here, refused_after, spelled}
 use Rattle.flat_list.proofs.WholeLines.{cons_parts}
+use Rattle.flat_list.proofs.Inverse.{slice_end}
 
 -- ---- a path behind the others
 
@@ -48,6 +49,11 @@ none_empty (x ∷ y ∷ es) is =
 
 paths_last : (front : List Entry) (e : Entry) (es : List Entry) → es ≡ front ++ e ∷ [] → paths es ≡ paths front ++ e.path ∷ []
 paths_last front e es is = ap paths is ∙ map-append (λ e. e.path) front (e ∷ [])
+
+pub last_is : (es new : List Entry) (e : Entry) → new ≡ es ++ e ∷ [] → IsLast (Some e) new
+last_is es new e is =
+    let back : length es ≡ length (es ++ e ∷ []) - 1 = omega (arith, length-append es (e ∷ [])) in
+    ap (λ l. slice_get l (length l - 1)) is ∙ ap (slice_get (es ++ e ∷ [])) (sym back) ∙ slice_end es e
 
 pub precedes_yes : (es : List Entry) (e : Entry) (path : List ℕ) → slice_get es (length es - 1) ≡ Some e → IsStrictlySortedBy path_cmp (paths es) →
     is_lt (path_cmp e.path path) ≡ true → IsStrictlySortedBy path_cmp (paths es ++ path ∷ [])

@@ -13,3 +13,11 @@ pub mod Encoded
 pub mod Unique
 pub mod Paired
 pub mod Halved
+pub mod Inverse
+pub mod Passed
+pub mod Paged
+pub mod Sought
+pub mod Turns
+pub mod Retained
+pub mod Counted
+pub mod Slimmed

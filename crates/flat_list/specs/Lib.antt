@@ -1,4 +1,5 @@
 pub mod Entries
 pub mod Orders
+pub mod Pack
 pub mod Spelling
 pub mod Private

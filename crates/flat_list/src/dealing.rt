@@ -4,18 +4,19 @@ ghost use Rattle.std.specs.List.{range_with_len};
 ghost use Rattle.path_text.specs.Path.{level_of};
 ghost use Rattle.flat_list.specs.Orders.{level_count, places_at, dealt};
 
-use crate::entries::Entry;
 use crate::lists::FlatList;
 use path_text::OutOfMemory;
 use std::alloc::Global;
 
 // The places of each level.
-pub(crate) fn levels_of(alloc: Global, entries: &[Entry]) -> Result<Vec<Vec<usize>>, OutOfMemory>
-    ensures { IfOk result (λ levels. map (λ places. places.items) levels.items ≡ map (λ k. places_at k entries.now) (range_with_len 0 (level_count entries.now))) }
+pub(crate) fn levels_of(list: &FlatList) -> Result<Vec<Vec<usize>>, OutOfMemory>
+    ensures { IfOk result (λ levels. map (λ places. places.items) levels.items ≡ map (λ k. places_at k list.now) (range_with_len 0 (level_count list.now))) }
 {
-    let mut levels = no_places(alloc, level_count(entries))?;
-    for (at, entry) in entries.iter().enumerate() {
-        levels[entry.path.level() as usize].push(at)?;
+    let mut levels = no_places(list.alloc(), level_count(list)?)?;
+    let mut cursor = list.cursor()?;
+    for at in 0..list.len() {
+        cursor.advance()?;
+        levels[cursor.entry().path.level() as usize].push(at)?;
     }
     Ok(levels)
 }
@@ -32,14 +33,15 @@ fn no_places(alloc: Global, count: usize) -> Result<Vec<Vec<usize>>, OutOfMemory
 
 // How many levels there are down to the deepest entry.
 #[tactic(auto, using(crate::proofs::Dealt::count_step, crate::proofs::Dealt::count_all))]
-fn level_count(entries: &[Entry]) -> usize
-    ensures { result ≡ level_count entries.now }
+fn level_count(list: &FlatList) -> Result<usize, OutOfMemory>
+    ensures { IfOk result (λ count. count ≡ level_count list.now) }
 {
     let mut count = 0;
-    for entry in entries {
-        count = greater(count, entry.path.level() as usize + 1);
+    let mut cursor = list.cursor()?;
+    while cursor.advance()? {
+        count = greater(count, cursor.entry().path.level() as usize + 1);
     }
-    count
+    Ok(count)
 }
 
 fn greater(a: usize, b: usize) -> usize
@@ -49,17 +51,15 @@ fn greater(a: usize, b: usize) -> usize
 }
 
 // Copies of the entries in n pieces, each entry to the piece whose number its place leaves when it is divided by n.
-pub(crate) fn pieces_of(
-    alloc: Global,
-    entries: &[Entry],
-    n: u32,
-) -> Result<Vec<FlatList>, OutOfMemory>
+pub(crate) fn pieces_of(list: &FlatList, n: u32) -> Result<Vec<FlatList>, OutOfMemory>
     requires { 1 ≤ n }
-    ensures { IfOk result (λ pieces. pieces.items ≡ map (λ j. dealt n j entries.now) (range_with_len 0 n)) }
+    ensures { IfOk result (λ pieces. pieces.items ≡ map (λ j. dealt n j list.now) (range_with_len 0 n)) }
 {
-    let mut pieces = no_entries(alloc, n)?;
-    for (at, entry) in entries.iter().enumerate() {
-        pieces[at % n as usize].add(entry)?;
+    let mut pieces = no_entries(list.alloc(), n)?;
+    let mut cursor = list.cursor()?;
+    for at in 0..list.len() {
+        cursor.advance()?;
+        pieces[at % n as usize].add(cursor.entry())?;
     }
     Ok(pieces)
 }

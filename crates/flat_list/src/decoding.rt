@@ -1,14 +1,15 @@
 //! A list file read.
-ghost use Rattle.std.specs.Prelude.{◌≡◌, ◌≢◌, ◌+◌, ◌<◌, ◌≤◌, ◌^◌, ◌++◌, ◌∷◌, [], length, true, false, Some, None, IfOk, IfErr, IfSome, IfNone, OnErr};
+ghost use Rattle.std.specs.Prelude.{◌≡◌, ◌≢◌, ◌+◌, ◌<◌, ◌≤◌, ◌^◌, ◌++◌, ◌∷◌, [], length, true, false, Some, None, IfOk, IfErr, IfSome, IfNone, OnOk, OnErr};
 ghost use Rattle.std.specs.List.Sorted.{IsStrictlySortedBy};
 ghost use Rattle.path_text.specs.Order.{path_cmp};
 ghost use Rattle.flat_list.specs.Spelling.{header_text, end_text, line, lines_of, paths, Spells, max_entries, IsCause, IsRefused};
-ghost use Rattle.flat_list.specs.Private.Reading.{cut, entry_at, end_at, Adds, NoneFollows};
+ghost use Rattle.flat_list.specs.Private.Reading.{cut, entry_at, end_at, IsLast, Adds, NoneFollows};
 
+use crate::entries::Entry;
 use crate::errors::CacheError;
 use crate::lists::FlatList;
 use crate::reading::{cut, end_at, entry_at};
-use path_text::{OutOfMemory, reading_undoes_writing};
+use path_text::{OutOfMemory, Path, reading_undoes_writing};
 use std::alloc::Global;
 
 const MAX_ENTRIES: usize = 4_194_304;
@@ -25,12 +26,13 @@ pub(crate) fn decode(alloc: Global, bytes: &[u8]) -> Result<FlatList, CacheError
         return Err(CacheError::Damaged(1));
     };
     let mut list = FlatList::make(alloc);
+    let mut last = None;
     let mut rest = rest;
     while let Some((text, behind)) = cut(rest, b'\n') {
         if is_end(text, &list) {
             return ended(list, behind);
         }
-        let added = add_entry(alloc, &mut list, text)?;
+        let added = add_entry(alloc, &mut list, &mut last, text)?;
         if !added {
             return Err(CacheError::Damaged(list.len() as u64 + 2));
         }
@@ -65,21 +67,43 @@ fn is_end(text: &[u8], list: &FlatList) -> bool
     }
 }
 
-// Adds the entry whose text this is, if there is one that may come behind the others.
-fn add_entry(alloc: Global, list: &mut FlatList, text: &[u8]) -> Result<bool, OutOfMemory>
-    requires { IsStrictlySortedBy path_cmp (paths list.old) }
+// Adds the entry whose text this is, if there is one that may come behind the others, the last of which is given.
+#[tactic(auto, using(crate::proofs::Decoded::last_is))]
+fn add_entry(
+    alloc: Global,
+    list: &mut FlatList,
+    last: &mut Option<Entry>,
+    text: &[u8],
+) -> Result<bool, OutOfMemory>
+    requires ascend { IsStrictlySortedBy path_cmp (paths list.old) }
+    requires last { IsLast last.old list.old }
     ensures yes { IfOk result (λ added. added ≡ true → Adds (entry_at text.now) list.old list.new) }
     ensures no { IfOk result (λ added. added ≡ false → NoneFollows (entry_at text.now) list.old) }
     ensures kept { IfOk result (λ added. added ≡ false → list.new ≡ list.old) }
+    ensures last { OnOk result (IsLast last.new list.new) }
 {
     let Some(entry) = entry_at(alloc, text)? else {
         return Ok(false);
     };
-    if !list.precedes(&entry.path) {
+    if !precedes(list, last, &entry.path) {
         return Ok(false);
     }
-    list.push(entry)?;
+    list.add(&entry)?;
+    *last = Some(entry);
     Ok(true)
+}
+
+// Whether a path comes after those of a list that ascends strictly, of which the last entry is given.
+fn precedes(list: &FlatList, last: &Option<Entry>, path: &Path) -> bool
+    requires ascend { IsStrictlySortedBy path_cmp (paths list.now) }
+    requires last { IsLast last.now list.now }
+    ensures yes { result ≡ true → IsStrictlySortedBy path_cmp (paths list.now ++ path.now ∷ []) }
+    ensures no { result ≡ false → IsStrictlySortedBy path_cmp (paths list.now ++ path.now ∷ []) → ⊥ }
+{
+    match last {
+        None => true,
+        Some(last) => last.path.cmp(path).is_lt(),
+    }
 }
 
 // The list, if nothing stands behind its end line.

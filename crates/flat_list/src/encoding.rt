@@ -8,22 +8,23 @@ ghost use Rattle.flat_list.specs.Orders.{time_of};
 ghost use Rattle.flat_list.specs.Spelling.{kind_by, kind_word, time_word, mark_word, text_of, line, header_text, end_text, IsEntry, paths, Spells};
 
 use crate::entries::{Entry, Mark};
+use crate::lists::FlatList;
 use outside::{Kind, Stat};
 use path_text::{OutOfMemory, put_escaped};
-use std::alloc::Global;
 
-/// The list file of some entries.
-pub(crate) fn encode(alloc: Global, entries: &[Entry]) -> Result<Vec<u8>, OutOfMemory>
-    requires ascend { IsStrictlySortedBy path_cmp (paths entries.now) }
-    requires shaped { All (λ e. is_shaped e ≡ true) entries.now }
-    ensures { IfOk result (λ bytes. Spells bytes.items entries.now) }
+/// The list file of a list.
+pub(crate) fn encode(list: &FlatList) -> Result<Vec<u8>, OutOfMemory>
+    requires ascend { IsStrictlySortedBy path_cmp (paths list.now) }
+    requires shaped { All (λ e. is_shaped e ≡ true) list.now }
+    ensures { IfOk result (λ bytes. Spells bytes.items list.now) }
 {
-    let mut text = Vec::new(alloc);
+    let mut text = Vec::new(list.alloc());
     text.extend_from_slice(b"mfu list 1\n")?;
-    for entry in entries {
-        put_entry(&mut text, entry)?;
+    let mut cursor = list.cursor()?;
+    while cursor.advance()? {
+        put_entry(&mut text, cursor.entry())?;
     }
-    put_end(&mut text, entries.len())?;
+    put_end(&mut text, list.len())?;
     Ok(text)
 }
 

@@ -9,7 +9,8 @@ ghost use Rattle.path_text.specs.Order.{path_cmp};
 ghost use denote.Param.Send.{IsSync};
 
 use crate::entries::Entry;
-use crate::lists::{FlatList, len_of};
+use crate::joining::{in_path_order, len_of};
+use crate::pairing::paired;
 use path_text::OutOfMemory;
 use std::alloc::Global;
 use std::thread;
@@ -25,27 +26,28 @@ pub(crate) fn in_order<R: Threads + Sync>(
     alloc: Global,
     logs: Vec<Vec<Entry>>,
     hosts: u32,
-) -> Result<FlatList, OutOfMemory>
+) -> Result<Vec<Entry>, OutOfMemory>
     requires { 1 ≤ hosts }
-    ensures all { IfOk result (λ list. IsPermutation (flat_map (λ log. log.items) logs.items) list) }
-    ensures sorted { IfOk result (λ list. IsSortedByKey (λ e. e.path) path_cmp list) }
+    ensures all { IfOk result (λ all. IsPermutation (flat_map (λ log. log.items) logs.items) all.items) }
+    ensures sorted { IfOk result (λ all. IsSortedByKey (λ e. e.path) path_cmp all.items) }
 {
     if hosts == 1 || logs.len() < 2 || len_of(&logs) < FEW {
-        return FlatList::from_jobs(alloc, logs);
+        return in_path_order(alloc, logs);
     }
     let mut logs = logs;
     let later = logs.split_off(logs.len() / 2)?;
     let few = hosts / 2;
-    let front = move || -> Result<FlatList, OutOfMemory>
+    let front = move || -> Result<Vec<Entry>, OutOfMemory>
         requires { IsSync R.row × (few < hosts) × (1 ≤ hosts - few) }
-        ensures all { IfOk result (λ list. IsPermutation (flat_map (λ log. log.items) logs.items) list) }
-        ensures sorted { IfOk result (λ list. IsSortedByKey (λ e. e.path) path_cmp list) }
+        ensures all { IfOk result (λ all. IsPermutation (flat_map (λ log. log.items) logs.items) all.items) }
+        ensures sorted { IfOk result (λ all. IsSortedByKey (λ e. e.path) path_cmp all.items) }
     { in_order(rt, alloc, logs, hosts - few) };
-    let back = move || -> Result<FlatList, OutOfMemory>
+    let back = move || -> Result<Vec<Entry>, OutOfMemory>
         requires { IsSync R.row × (1 ≤ few) }
-        ensures all { IfOk result (λ list. IsPermutation (flat_map (λ log. log.items) later.items) list) }
-        ensures sorted { IfOk result (λ list. IsSortedByKey (λ e. e.path) path_cmp list) }
+        ensures all { IfOk result (λ all. IsPermutation (flat_map (λ log. log.items) later.items) all.items) }
+        ensures sorted { IfOk result (λ all. IsSortedByKey (λ e. e.path) path_cmp all.items) }
     { in_order(rt, alloc, later, few) };
     let (one, other) = thread::join(rt, front, back);
-    FlatList::both(alloc, one?, other?)
+    let all = paired(alloc, one?, other?)?;
+    Ok(all)
 }

@@ -1,12 +1,14 @@
 //! Lists of entries: what a walk tells of each path, in path order.
 //!
 //! - An [`Entry`] tells what stands at a path and how the files answered of it, by its [`Mark`].
-//! - A [`FlatList`] is seen as the list of its entries. How it keeps them is its own affair: no slice of entries leaves the
-//!   crate, so that they can be packed under the same contracts.
+//! - A [`FlatList`] is seen as the list of its entries. It keeps them packed, in pages of 256: of each a head, and of its path
+//!   what it does not share with the one before; the first path of a page stands whole. [`FlatList::page`] shows a page's
+//!   bytes. So no slice of entries leaves the crate: they are made again, one by one.
 //! - [`FlatList::from_jobs`] joins what several ranks found, by moving it, and puts it in path order.
 //!   [`FlatList::from_logs`] does so in several threads: each puts a part of the logs in order, and lists that are in order are
 //!   brought together two and two.
-//! - A [`Cursor`] goes over the entries without copying them, and [`FlatList::retain`] drops some of them.
+//! - A [`Cursor`] goes over the entries. It makes each path from the one before in one place, so it takes the memory of one
+//!   entry. [`FlatList::retain`] drops some of them.
 //! - [`FlatList::sort_by`] sorts by a [`Field`], upwards or downwards, and always by path where the field ties.
 //! - [`FlatList::levels`] tells the places of each level, and [`FlatList::spread`] deals copies of the entries to pieces.
 //! - [`FlatList::encode`] writes a list as a list file, text that other tools read, and [`FlatList::decode`] reads it again, or
@@ -16,8 +18,8 @@
 //!
 //! ```text
 //! let list = FlatList::from_jobs(alloc, logs)?;
-//! let mut cursor = list.cursor();
-//! while cursor.advance() {
+//! let mut cursor = list.cursor()?;
+//! while cursor.advance()? {
 //!     let entry = cursor.entry();
 //!     // ..
 //! }
@@ -27,8 +29,8 @@
 //!
 //! Proved: a joined list has all entries of the logs and no other, and ascends by path; a sort moves entries only, and keeps
 //! the order of those that tie; levels, pieces and the first place of a path are those of the definitions; a cursor passes
-//! each entry once, in order; the counts are those of the definition. A call that is refused for want of memory leaves the
-//! list as it was.
+//! each entry once, in order; the bytes of a page are those of the definition, and the entries are what they and the heads
+//! tell; the counts are those of the definition. A call that is refused for want of memory leaves the list as it was.
 //!
 //! Proved of list files, over a relation between bytes and lists: what is written spells the list; what is read is the list
 //! that the bytes spell; each refusal comes by its cause, the first line through which no list file begins, or too many
@@ -36,30 +38,39 @@
 //! ([`spelling_is_unique`]), and of two answers about a text one alone is true ([`refusals_are_exact`]).
 //!
 //! Definitions stand in `specs/`: `Entries` (the shape of an entry, its notes, the summary), `Orders` (fields, places, levels,
-//! pieces), `Spelling` (list files); `Private` has what only private clauses cite. The argument on the lines of a text stands
-//! in `proofs/WholeLines` for items of any kind, each with one line or more. Limits: a list file of more than 4,194,304
+//! pieces), `Pack` (how entries are packed), `Spelling` (list files); `Private` has what only private clauses cite. The argument
+//! on the lines of a text stands in `proofs/WholeLines` for items of any kind, each with one line or more. Limits: a list file of more than 4,194,304
 //! entries is refused; `place_of` looks at the entries one by one. That want of memory comes only where it was refused is
 //! not claimed, nor is how soon a list stands in order.
 #![tactic(auto)]
 
 mod arranging;
+mod cursors;
 mod dealing;
 mod decoding;
 mod encoding;
 mod entries;
 mod errors;
 mod halving;
+mod heads;
+mod joining;
 mod laws;
 mod lists;
 mod merging;
 mod ordering;
+mod packing;
 mod pairing;
+mod passing;
+mod prefixes;
 mod reading;
+mod seeking;
+mod slims;
 mod summaries;
 
+pub use cursors::Cursor;
 pub use entries::{Entry, Mark};
 pub use errors::CacheError;
 pub use laws::{refusals_are_exact, spelling_is_unique};
-pub use lists::{Cursor, FlatList};
+pub use lists::FlatList;
 pub use ordering::Field;
 pub use summaries::Summary;

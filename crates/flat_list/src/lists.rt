@@ -1,42 +1,57 @@
 //! Lists of entries.
-ghost use Rattle.std.specs.Prelude.{◌≡◌, ◌+◌, ◌-◌, ◌<◌, ◌≤◌, ◌++◌, ◌∷◌, [], true, false, ◌==◌, nat_lt, if◌then◌else◌, Some, length, map, take, slice_get, OnOk, OnErr, IfOk, IfErr, All};
+ghost use Rattle.std.specs.Prelude.{◌≡◌, ◌+◌, ◌*◌, ◌<◌, ◌≤◌, ◌++◌, ◌∷◌, [], true, ◌==◌, Some, length, map, slice_get, slice_index_or, if◌then◌else◌, OnOk, OnErr, IfOk, IfErr, All};
 ghost use Rattle.std.specs.List.{flat_map, range_with_len};
 ghost use Rattle.std.specs.Fn.{CalledAt};
 ghost use Rattle.std.specs.List.Retain.{IsFiltered};
 ghost use Rattle.std.specs.List.Sorted.{IsPermutation, IsSorted, IsSortedByKey, IsStrictlySortedBy, IsStable, IsStableByKey};
 ghost use Rattle.path_text.specs.Order.{path_cmp};
 ghost use Rattle.flat_list.specs.Entries.{is_shaped, summary_of};
+ghost use Rattle.flat_list.specs.Pack.{page_of};
 ghost use Rattle.flat_list.specs.Spelling.{paths, Spells, max_entries, IsCause};
 ghost use Rattle.flat_list.specs.Orders.{place_of, sort_order, level_count, places_at, dealt};
 
-use crate::arranging::arrange;
+use crate::cursors::Cursor;
 use crate::dealing::{levels_of, pieces_of};
 use crate::decoding::decode;
 use crate::encoding::encode;
 use crate::entries::{Entry, copy_of};
 use crate::errors::CacheError;
 use crate::halving::in_order;
+use crate::heads::Heads;
+use crate::joining::in_path_order;
 use crate::ordering::{Field, sort_order};
-use crate::pairing::paired;
+use crate::packing::{head_of, put, shared_of};
+use crate::passing::Reader;
+use crate::seeking::place_in;
 use crate::summaries::{Summary, summary_of};
 use path_text::{OutOfMemory, Path};
 use std::alloc::Global;
 use std::marker::Model;
 use std::thread::Threads;
 
-/// Entries, seen as their list.
+/// Entries in pages of 256, seen as their list. Of each entry a head is kept, and of its path what it does not share with the
+/// one before; the first path of a page is kept whole.
 #[derive(Debug, Drop)]
 pub struct FlatList {
-    entries: Vec<Entry>,
+    heads: Heads,
+    // Where the rests of each page begin.
+    starts: Vec<usize>,
+    rests: Vec<u8>,
+    // The last path.
+    last: Vec<u8>,
 }
 
 impl Model for FlatList {
-    ghost use Rattle.std.specs.Prelude.{List};
+    ghost use Rattle.std.specs.Prelude.{List, []};
     ghost use Rattle.flat_list.specs.declared.entries.Entry.{Entry};
+    ghost use Rattle.flat_list.specs.Pack.{unpacked};
+    ghost use Rattle.flat_list.specs.Private.Kept.{IsKept};
 
     ghost Value = { List Entry };
 
-    ghost view = { λ l. l.entries.items };
+    ghost view = { λ l. unpacked [] l.heads l.rests.items };
+
+    ghost invariant = { λ l. IsKept l.heads l.starts.items l.rests.items l.last.items (unpacked [] l.heads l.rests.items) };
 }
 
 impl FlatList {
@@ -45,22 +60,64 @@ impl FlatList {
         ensures { result ≡ [] }
     {
         FlatList {
-            entries: Vec::new(alloc),
+            heads: Heads::make(alloc),
+            starts: Vec::new(alloc),
+            rests: Vec::new(alloc),
+            last: Vec::new(alloc),
         }
+    }
+
+    // No entries, with room for the heads of so many.
+    fn with_room(alloc: Global, count: usize) -> Result<FlatList, OutOfMemory>
+        ensures { IfOk result (λ list. list ≡ []) }
+    {
+        Ok(FlatList {
+            heads: Heads::with_room(alloc, count)?,
+            starts: Vec::with_capacity(alloc, count / 256 + 1)?,
+            rests: Vec::new(alloc),
+            last: Vec::new(alloc),
+        })
+    }
+
+    // The entries packed. Each is dropped as soon as it is packed.
+    fn packed(alloc: Global, entries: Vec<Entry>) -> Result<FlatList, OutOfMemory>
+        ensures { IfOk result (λ list. list ≡ entries.items) }
+    {
+        let mut list = FlatList::with_room(alloc, entries.len())?;
+        for entry in entries {
+            list.add(&entry)?;
+        }
+        Ok(list)
+    }
+
+    // Copies of the entries.
+    fn copies(&self) -> Result<Vec<Entry>, OutOfMemory>
+        ensures { IfOk result (λ entries. entries.items ≡ self.now) }
+    {
+        let mut entries = Vec::with_capacity(self.alloc(), self.len())?;
+        let mut cursor = self.cursor()?;
+        while cursor.advance()? {
+            entries.push(copy_of(cursor.entry())?)?;
+        }
+        Ok(entries)
+    }
+
+    pub(crate) fn alloc(&self) -> Global {
+        *self.rests.allocator()
     }
 
     /// How many entries there are.
     pub fn len(&self) -> usize
         ensures { result ≡ length self.now }
     {
-        self.entries.len()
+        self.heads.len()
     }
 
     /// Whether there are none.
     pub fn is_empty(&self) -> bool
         ensures { result ≡ (length self.now == 0) }
     {
-        self.entries.is_empty()
+        self.len() == 0
     }
 
     /// Adds a copy of an entry behind the others. A refusal leaves the list.
@@ -68,52 +125,64 @@ impl FlatList {
         ensures ok { OnOk result (self.new ≡ self.old ++ entry.now ∷ []) }
         ensures err { OnErr result (self.new ≡ self.old) }
     {
-        let copy = copy_of(entry)?;
-        self.entries.push(copy)?;
-        Ok(())
+        let path = entry.path.text();
+        let shared = shared_of(self.heads.len(), &self.last, path.as_bytes());
+        let head = head_of(entry, path, shared);
+        put(
+            &mut self.heads,
+            &mut self.starts,
+            &mut self.rests,
+            &mut self.last,
+            head,
+            path.as_bytes(),
+        )
     }
 
-    // Adds an entry behind the others. A refusal leaves the list.
-    pub(crate) fn push(&mut self, entry: Entry) -> Result<(), OutOfMemory>
-        ensures ok { OnOk result (self.new ≡ self.old ++ entry ∷ []) }
+    /// Keeps the entries for which `keep` answers `true`, in their order, and drops the others. A refusal leaves the list. What
+    /// is kept is packed beside the list before that is dropped.
+    pub fn retain<F: FnMut(&Entry) -> bool>(&mut self, keep: F) -> Result<(), OutOfMemory>
+        requires { F.IsAlwaysCallable keep }
+        ensures ok { OnOk result (IsFiltered (CalledAt F.FnMut) keep self.old self.new) }
         ensures err { OnErr result (self.new ≡ self.old) }
     {
-        self.entries.push(entry)?;
+        *self = self.kept(keep)?;
         Ok(())
     }
 
-    /// Keeps the entries for which `keep` answers `true`, in their order, and drops the others. It takes no memory.
-    pub fn retain<F: FnMut(&Entry) -> bool>(&mut self, keep: F)
+    // The entries for which `keep` answers `true`, in their order.
+    fn kept<F: FnMut(&Entry) -> bool>(&self, keep: F) -> Result<FlatList, OutOfMemory>
         requires { F.IsAlwaysCallable keep }
-        ensures { IsFiltered (CalledAt F.FnMut) keep self.old self.new }
+        ensures { IfOk result (λ kept. IsFiltered (CalledAt F.FnMut) keep self.now kept) }
     {
-        self.entries.retain(keep);
-    }
-
-    // Whether a path comes after those of a list that ascends strictly.
-    pub(crate) fn precedes(&self, path: &Path) -> bool
-        requires { IsStrictlySortedBy path_cmp (paths self.now) }
-        ensures yes { result ≡ true → IsStrictlySortedBy path_cmp (paths self.now ++ path.now ∷ []) }
-        ensures no { result ≡ false → IsStrictlySortedBy path_cmp (paths self.now ++ path.now ∷ []) → ⊥ }
-    {
-        match self.entries.last() {
-            None => true,
-            Some(last) => last.path.cmp(path).is_lt(),
+        let mut test = keep;
+        let mut kept = FlatList::make(self.alloc());
+        let mut cursor = self.cursor()?;
+        while cursor.advance()? {
+            let entry = cursor.entry();
+            let wanted = test(entry);
+            kept.add_if(wanted, entry)?;
         }
+        Ok(kept)
     }
 
-    /// All entries of the logs, in path order. They are moved, and memory for them is taken once. Logs that ranks of a walk
-    /// made are soonest in order; to merge several takes room for three numbers an entry.
+    // Adds a copy of an entry behind the others, where it is wanted.
+    fn add_if(&mut self, wanted: bool, entry: &Entry) -> Result<(), OutOfMemory>
+        ensures { OnOk result (self.new ≡ self.old ++ (if wanted then entry.now ∷ [] else [])) }
+    {
+        if !wanted {
+            return Ok(());
+        }
+        self.add(entry)
+    }
+
+    /// All entries of the logs, in path order. They are moved while they are put in order, and packed at the end, where each is
+    /// dropped as soon as it is packed. Logs that ranks of a walk made are soonest in order; to merge several takes room for
+    /// three numbers an entry.
     pub fn from_jobs(alloc: Global, logs: Vec<Vec<Entry>>) -> Result<FlatList, OutOfMemory>
         ensures all { IfOk result (λ list. IsPermutation (flat_map (λ log. log.items) logs.items) list) }
         ensures sorted { IfOk result (λ list. IsSortedByKey (λ e. e.path) path_cmp list) }
     {
-        let ends = ends_of(alloc, &logs)?;
-        let mut entries = joined(alloc, logs)?;
-        arrange(&mut entries, &ends)?;
-        let mut list = FlatList { entries };
-        list.sort_path()?;
-        Ok(list)
+        FlatList::packed(alloc, in_path_order(alloc, logs)?)
     }
 
     /// All entries of the logs, in path order, as [`FlatList::from_jobs`] has them. The logs are put in order in up to `hosts`
@@ -128,60 +197,87 @@ impl FlatList {
         ensures all { IfOk result (λ list. IsPermutation (flat_map (λ log. log.items) logs.items) list) }
         ensures sorted { IfOk result (λ list. IsSortedByKey (λ e. e.path) path_cmp list) }
     {
-        in_order(rt, alloc, logs, hosts)
+        FlatList::packed(alloc, in_order(rt, alloc, logs, hosts)?)
     }
 
-    // All entries of two lists that are in path order, in path order.
-    pub(crate) fn both(
-        alloc: Global,
-        one: FlatList,
-        other: FlatList,
-    ) -> Result<FlatList, OutOfMemory>
-        requires one { IsSortedByKey (λ e. e.path) path_cmp one }
-        requires other { IsSortedByKey (λ e. e.path) path_cmp other }
-        ensures all { IfOk result (λ list. IsPermutation (one ++ other) list) }
-        ensures sorted { IfOk result (λ list. IsSortedByKey (λ e. e.path) path_cmp list) }
-    {
-        let entries = paired(alloc, one.entries, other.entries)?;
-        Ok(FlatList { entries })
-    }
-
-    /// A copy of the entry at a place. To go over all entries take a [`FlatList::cursor`], which copies nothing.
+    /// A copy of the entry at a place. It goes over the entries of its page up to that place. To go over all entries take a
+    /// [`FlatList::cursor`], which copies nothing.
     pub fn entry(&self, k: usize) -> Result<Entry, OutOfMemory>
         requires { k < length self.now }
         ensures { IfOk result (λ entry. slice_get self.now k ≡ Some entry) }
     {
-        copy_of(&self.entries[k])
+        let page = k / 256;
+        let heads = self.heads.leads_at(page);
+        let mut reader = Reader::make(self.alloc(), heads, &self.rests, self.starts[page])?;
+        for _ in 0..k % 256 + 1 {
+            reader.pass()?;
+        }
+        Ok(reader.into_entry())
+    }
+
+    /// The rests of the entries of a page, joined: the first path whole, of each later one what it does not share with the one
+    /// before. It takes no memory.
+    pub fn page(&self, k: usize) -> &[u8]
+        requires { 256 * k < length self.now }
+        ensures { result.now ≡ page_of k self.now }
+    {
+        let start = self.starts[k];
+        let end = begin_of(&self.starts, k + 1, self.rests.len());
+        &self.rests[start..end]
+    }
+
+    // Whether the entries are in path order. It takes the memory of two entries.
+    fn ascends(&self) -> Result<bool, OutOfMemory>
+        ensures { IfOk result (λ yes. yes ≡ true → IsSortedByKey (λ e. e.path) path_cmp self.now) }
+    {
+        let mut behind = self.cursor()?;
+        let mut ahead = self.cursor()?;
+        ahead.advance()?;
+        while ahead.advance()? {
+            behind.advance()?;
+            if ahead.entry().path.cmp(&behind.entry().path).is_lt() {
+                return Ok(false);
+            }
+        }
+        Ok(true)
     }
 
     /// Puts the entries in path order. Entries of one path stay in their order. A list that is in path order already takes
-    /// one pass and no memory. A refusal leaves the list.
+    /// one pass and room for two paths; any other is unpacked while it is sorted. A refusal leaves the list.
     pub fn sort_path(&mut self) -> Result<(), OutOfMemory>
         ensures all { IsPermutation self.old self.new }
         ensures sorted { OnOk result (IsSortedByKey (λ e. e.path) path_cmp self.new) }
         ensures stable { IsStableByKey (λ e. e.path) path_cmp self.old self.new }
         ensures err { OnErr result (self.new ≡ self.old) }
     {
-        self.entries.sort_by(|a, b| a.path.cmp(&b.path))?;
+        if self.ascends()? {
+            return Ok(());
+        }
+        let mut entries = self.copies()?;
+        entries.sort_by(|a, b| a.path.cmp(&b.path))?;
+        *self = FlatList::packed(self.alloc(), entries)?;
         Ok(())
     }
 
-    /// The first place of a path. It looks at the entries one by one, since a list may stand in any order.
+    /// The first place of a path. It looks at the entries one by one, since a list may stand in any order, and takes no memory.
     pub fn place_of(&self, path: &Path) -> Option<usize>
         ensures { result ≡ place_of path.now self.now }
     {
-        self.entries.iter().position(|entry| entry.path == *path)
+        place_in(&self.heads, &self.rests, path.text().as_bytes())
     }
 
     /// Puts the entries in the order of a field, with `down` from the greatest to the least. A missing size, time or kind is
-    /// less than every other. Entries that tie come in path order, upwards in both cases. A refusal leaves the list.
+    /// less than every other. Entries that tie come in path order, upwards in both cases. A refusal leaves the list. It takes
+    /// memory for all entries while it sorts.
     pub fn sort_by(&mut self, field: Field, down: bool) -> Result<(), OutOfMemory>
         ensures all { IsPermutation self.old self.new }
         ensures sorted { OnOk result (IsSorted (sort_order field down) self.new) }
         ensures stable { IsStable (sort_order field down) self.old self.new }
         ensures err { OnErr result (self.new ≡ self.old) }
     {
-        self.entries.sort_by(|a, b| sort_order(field, down, a, b))?;
+        let mut entries = self.copies()?;
+        entries.sort_by(|a, b| sort_order(field, down, a, b))?;
+        *self = FlatList::packed(self.alloc(), entries)?;
         Ok(())
     }
 
@@ -189,7 +285,7 @@ impl FlatList {
     pub fn levels(&self) -> Result<Vec<Vec<usize>>, OutOfMemory>
         ensures { IfOk result (λ levels. map (λ places. places.items) levels.items ≡ map (λ k. places_at k self.now) (range_with_len 0 (level_count self.now))) }
     {
-        levels_of(*self.entries.allocator(), &self.entries)
+        levels_of(self)
     }
 
     /// Copies of the entries in `n` pieces, as cards are dealt: the entry at place `k` goes to piece `k % n`.
@@ -197,7 +293,7 @@ impl FlatList {
         requires { 1 ≤ n }
         ensures { IfOk result (λ pieces. pieces.items ≡ map (λ j. dealt n j self.now) (range_with_len 0 n)) }
     {
-        pieces_of(*self.entries.allocator(), &self.entries, n)
+        pieces_of(self, n)
     }
 
     /// The list file, version 1: the line `mfu list 1`; a line for each entry, `KIND SIZE MTIME MARK UNNAMED FAR PATH`, the path
@@ -207,7 +303,7 @@ impl FlatList {
         requires shaped { All (λ e. is_shaped e ≡ true) self.now }
         ensures { IfOk result (λ bytes. Spells bytes.items self.now) }
     {
-        encode(*self.entries.allocator(), &self.entries)
+        encode(self)
     }
 
     /// The list that a list file tells, or why the bytes are none. It takes time in proportion to them.
@@ -223,97 +319,24 @@ impl FlatList {
     pub fn summary(&self) -> Summary
         ensures { result ≡ summary_of self.now }
     {
-        summary_of(&self.entries)
+        summary_of(self.heads.leads(), self.heads.len())
     }
 
-    /// A cursor before the first entry.
-    pub fn cursor(&self) -> Cursor<'_>
-        ensures { result ≡ (self.now, 0) }
+    /// A cursor before the first entry. It takes the memory of one entry.
+    pub fn cursor(&self) -> Result<Cursor<'_>, OutOfMemory>
+        ensures { IfOk result (λ cursor. cursor ≡ (self.now, 0)) }
     {
-        Cursor {
-            entries: self.entries.as_slice(),
-            passed: 0,
-        }
+        let reader = Reader::make(self.alloc(), self.heads.leads(), &self.rests, 0)?;
+        Ok(Cursor::before(reader))
     }
 }
 
-// The entries of the logs, one log behind the other. The first log grows once, and no other memory is taken.
-fn joined(alloc: Global, logs: Vec<Vec<Entry>>) -> Result<Vec<Entry>, OutOfMemory>
-    ensures { IfOk result (λ all. all.items ≡ flat_map (λ log. log.items) logs.items) }
+// Where the rests of a page begin; where there is no such page, how many bytes there are.
+fn begin_of(starts: &[usize], page: usize, count: usize) -> usize
+    ensures { result ≡ slice_index_or starts.now page count }
 {
-    let mut logs = logs;
-    if logs.is_empty() {
-        return Ok(Vec::new(alloc));
+    if page < starts.len() {
+        return starts[page];
     }
-    let mut all = logs.remove(0);
-    all.reserve(len_of(&logs))?;
-    for log in logs {
-        let mut log = log;
-        all.append(&mut log)?;
-    }
-    Ok(all)
-}
-
-// Where each log that has entries ends when they are joined.
-fn ends_of(alloc: Global, logs: &[Vec<Entry>]) -> Result<Vec<usize>, OutOfMemory> {
-    let mut ends = Vec::with_capacity(alloc, logs.len())?;
-    let mut end = 0usize;
-    for log in logs {
-        if !log.is_empty() {
-            end = end.saturating_add(log.len());
-            ends.push(end)?;
-        }
-    }
-    Ok(ends)
-}
-
-// How many entries the logs have.
-pub(crate) fn len_of(logs: &[Vec<Entry>]) -> usize {
-    let mut len = 0usize;
-    for log in logs {
-        len = len.saturating_add(log.len());
-    }
-    len
-}
-
-/// Goes over the entries of a list in their order: seen as (the list, how many entries were passed).
-#[derive(Debug, Drop)]
-pub struct Cursor<'a> {
-    entries: &'a [Entry],
-    passed: usize,
-}
-
-impl<'a> Model for Cursor<'a> {
-    ghost use Rattle.std.specs.Prelude.{◌≤◌, List, ℕ, length};
-    ghost use Rattle.flat_list.specs.declared.entries.Entry.{Entry};
-
-    ghost Value = { List Entry × ℕ };
-
-    ghost view = { λ c. (c.entries.now, c.passed) };
-
-    ghost invariant = { λ c. c.passed ≤ length c.entries.now };
-}
-
-impl<'a> Cursor<'a> {
-    /// Passes the next entry. It answers whether there was one.
-    pub fn advance(&mut self) -> bool
-        ensures answer { result ≡ nat_lt self.old.1 (length self.old.0) }
-        ensures passed { self.new ≡ (self.old.0, if result then self.old.1 + 1 else self.old.1) }
-        ensures inside { self.new.1 ≤ length self.new.0 }
-    {
-        let more = self.passed < self.entries.len();
-        if more {
-            self.passed += 1;
-        }
-        more
-    }
-
-    /// The entry that was passed last.
-    pub fn entry(&self) -> &Entry
-        requires { 0 < self.now.1 }
-        ensures at { slice_get self.now.0 (self.now.1 - 1) ≡ Some result.now }
-        ensures last { take self.now.1 self.now.0 ≡ take (self.now.1 - 1) self.now.0 ++ result.now ∷ [] }
-    {
-        &self.entries[self.passed - 1]
-    }
+    count
 }

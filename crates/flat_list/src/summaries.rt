@@ -1,10 +1,12 @@
 //! The counts of a list.
-ghost use Rattle.std.specs.Prelude.{◌≡◌, ◌+◌, ◌<◌, ◌≤◌, ◌^◌, is_some, if◌then◌else◌};
+ghost use Rattle.std.specs.Prelude.{◌≡◌, ◌+◌, ◌<◌, ◌≤◌, ◌^◌, ◌==◌, ℕ, List, [], length, is_some, if◌then◌else◌};
 ghost use Rattle.std.specs.List.{sum_by, count_by};
 ghost use Rattle.outside.specs.declared.trees.Kind.TheVariants as kind;
-ghost use Rattle.flat_list.specs.Entries.{is_of, bytes_by, note_count, summary_of};
+ghost use Rattle.flat_list.specs.Entries.{is_of, bytes_by, mark_notes, summary_of};
+ghost use Rattle.flat_list.specs.Pack.{unpacked};
 
-use crate::entries::{Entry, Mark};
+use crate::entries::Mark;
+use crate::heads::{Head, Leads};
 use outside::{Kind, Stat};
 
 /// What a list holds: the entries with a stat, by kind, and the failures that its entries name.
@@ -26,10 +28,13 @@ pub struct Summary {
     pub failed: u64,
 }
 
-// The counts of the entries.
-pub(crate) fn summary_of(entries: &[Entry]) -> Summary
-    ensures { result ≡ summary_of entries.now }
+// The counts of the entries whose heads these are.
+pub(crate) fn summary_of(heads: Leads<'_>, count: usize) -> Summary
+    requires first { heads.1 ≡ 0 }
+    requires all { count ≡ length heads.0 }
+    ensures { (bytes : List ℕ) → result ≡ summary_of (unpacked [] heads.entry.0 bytes) }
 {
+    let mut leads = heads;
     let mut sum = Summary {
         items: 0,
         dirs: 0,
@@ -39,15 +44,16 @@ pub(crate) fn summary_of(entries: &[Entry]) -> Summary
         bytes: 0,
         failed: 0,
     };
-    for entry in entries {
-        sum.count(entry);
+    for _ in 0..count {
+        sum.count(leads.head());
+        leads.pass();
     }
     sum
 }
 
 impl Summary {
     // Counts one entry more.
-    fn count(&mut self, entry: &Entry)
+    fn count(&mut self, head: Head)
         requires items { self.old.items < 2 ^ 63 }
         requires dirs { self.old.dirs < 2 ^ 63 }
         requires files { self.old.files < 2 ^ 63 }
@@ -55,19 +61,19 @@ impl Summary {
         requires others { self.old.others < 2 ^ 63 }
         requires bytes { self.old.bytes < 2 ^ 127 }
         requires failed { self.old.failed < 2 ^ 63 }
-        ensures items { self.new.items ≡ self.old.items + (if is_some entry.now.stat then 1 else 0) }
-        ensures dirs { self.new.dirs ≡ self.old.dirs + (if is_of kind.Dir entry.now.stat then 1 else 0) }
-        ensures files { self.new.files ≡ self.old.files + (if is_of kind.File entry.now.stat then 1 else 0) }
-        ensures links { self.new.links ≡ self.old.links + (if is_of kind.Link entry.now.stat then 1 else 0) }
-        ensures others { self.new.others ≡ self.old.others + (if is_of kind.Other entry.now.stat then 1 else 0) }
-        ensures bytes { self.new.bytes ≡ self.old.bytes + bytes_by entry.now.stat }
-        ensures failed { self.new.failed ≡ self.old.failed + note_count entry.now }
+        ensures items { self.new.items ≡ self.old.items + (if is_some head.stat then 1 else 0) }
+        ensures dirs { self.new.dirs ≡ self.old.dirs + (if is_of kind.Dir head.stat then 1 else 0) }
+        ensures files { self.new.files ≡ self.old.files + (if is_of kind.File head.stat then 1 else 0) }
+        ensures links { self.new.links ≡ self.old.links + (if is_of kind.Link head.stat then 1 else 0) }
+        ensures others { self.new.others ≡ self.old.others + (if is_of kind.Other head.stat then 1 else 0) }
+        ensures bytes { self.new.bytes ≡ self.old.bytes + bytes_by head.stat }
+        ensures failed { self.new.failed ≡ self.old.failed + (mark_notes head.mark + (if head.unnamed == 0 then 0 else 1) + (if head.far == 0 then 0 else 1)) }
         ensures small { self.new.bytes < self.old.bytes + 2 ^ 64 }
         ensures few { self.new.failed ≤ self.old.failed + 3 }
     {
-        self.failed += note_count(entry);
-        self.bytes += u128::from(bytes(entry.stat));
-        if let Some(stat) = entry.stat {
+        self.failed += note_count(head);
+        self.bytes += u128::from(bytes(head.stat));
+        if let Some(stat) = head.stat {
             self.items += 1;
             match stat.kind {
                 Kind::Dir => self.dirs += 1,
@@ -79,15 +85,15 @@ impl Summary {
     }
 }
 
-fn note_count(entry: &Entry) -> u64
-    ensures notes { result ≡ note_count entry.now }
+fn note_count(head: Head) -> u64
+    ensures notes { result ≡ mark_notes head.mark + (if head.unnamed == 0 then 0 else 1) + (if head.far == 0 then 0 else 1) }
     ensures few { result ≤ 3 }
 {
-    let marked = match entry.mark {
+    let marked = match head.mark {
         Mark::Fine => 0,
         _ => 1,
     };
-    marked + u64::from(entry.unnamed > 0) + u64::from(entry.far > 0)
+    marked + u64::from(head.unnamed > 0) + u64::from(head.far > 0)
 }
 
 // The bytes of a file, and 0 for all else.

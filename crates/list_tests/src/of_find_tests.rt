@@ -242,14 +242,15 @@ fn add(list: &mut FlatList, alloc: Global, path: &str, stat: Option<Stat>) -> Re
 }
 
 // Whether the list has just these paths.
-fn has_paths(rt: &impl Abort, list: &FlatList, paths: &[&str]) {
+fn has_paths(rt: &impl Abort, list: &FlatList, paths: &[&str]) -> Result<(), Fail> {
     assert_eq!(rt; list.len(), paths.len());
-    let mut cursor = list.cursor();
+    let mut cursor = list.cursor()?;
     for path in paths {
-        assert!(rt; cursor.advance());
+        assert!(rt; cursor.advance()?);
         assert_eq!(rt; cursor.entry().path.text(), *path);
     }
-    assert!(rt; !cursor.advance());
+    assert!(rt; !cursor.advance()?);
+    Ok(())
 }
 
 #[test]
@@ -277,32 +278,32 @@ fn a_small_tree_is_selected(rt: HostRuntime) -> Result<(), Fail> {
     add(&mut list, alloc, "/t/gone", None)?;
     let now = 259200;
     let all = ["/t", "/t/a", "/t/b", "/t/b/c", "/t/b-x"];
-    has_paths(&rt, &select(alloc, &list, &[], now)?, &all);
+    has_paths(&rt, &select(alloc, &list, &[], now)?, &all)?;
     let some = parse_test(alloc, TestName::Size, "+0")?;
     has_paths(
         &rt,
         &select(alloc, &list, &[some], now)?,
         &["/t/a", "/t/b-x"],
-    );
+    )?;
     let none = parse_test(alloc, TestName::Size, "-1")?;
     let files = parse_test(alloc, TestName::Kind, "f")?;
     has_paths(
         &rt,
         &select(alloc, &list, &[none, files], now)?,
         &["/t/b/c"],
-    );
+    )?;
     let days = parse_test(alloc, TestName::Days, "2")?;
     let minutes = parse_test(alloc, TestName::Minutes, "2880")?;
-    has_paths(&rt, &select(alloc, &list, &[days, minutes], now)?, &all);
+    has_paths(&rt, &select(alloc, &list, &[days, minutes], now)?, &all)?;
     let older = parse_test(alloc, TestName::Days, "+2")?;
-    has_paths(&rt, &select(alloc, &list, &[older], now)?, &[]);
+    has_paths(&rt, &select(alloc, &list, &[older], now)?, &[])?;
     let path = parse_test(alloc, TestName::Path, "*b*")?;
     let name = parse_test(alloc, TestName::Name, "?")?;
     has_paths(
         &rt,
         &select(alloc, &list, &[path, name], now)?,
         &["/t/b", "/t/b/c"],
-    );
+    )?;
     Ok(())
 }
 
@@ -329,7 +330,7 @@ fn notes_of_the_last_week_are_found(rt: HostRuntime) -> Result<(), Fail> {
     let texts = parse_test(alloc, TestName::Name, "*.txt")?;
     let days = parse_test(alloc, TestName::Days, "-7")?;
     let found = select(alloc, &list, &[texts, days], 1700000000)?;
-    has_paths(&rt, &found, &["/home/ann/notes 2024.txt"]);
+    has_paths(&rt, &found, &["/home/ann/notes 2024.txt"])?;
     Ok(())
 }
 

@@ -37,14 +37,15 @@ fn bare(alloc: Global, path: &str, mark: Mark) -> Result<Entry, Fail> {
 }
 
 // Whether the list has just these paths.
-fn has_paths(rt: &impl Abort, list: &FlatList, paths: &[&str]) {
+fn has_paths(rt: &impl Abort, list: &FlatList, paths: &[&str]) -> Result<(), Fail> {
     assert_eq!(rt; list.len(), paths.len());
-    let mut cursor = list.cursor();
+    let mut cursor = list.cursor()?;
     for path in paths {
-        assert!(rt; cursor.advance());
+        assert!(rt; cursor.advance()?);
         assert_eq!(rt; cursor.entry().path.text(), *path);
     }
-    assert!(rt; !cursor.advance());
+    assert!(rt; !cursor.advance()?);
+    Ok(())
 }
 
 // A directory with a file of 5 bytes, a directory with an empty file, and a file of one byte.
@@ -67,11 +68,51 @@ fn sorts_the_worked_tree_by_size(rt: HostRuntime) -> Result<(), Fail> {
     let alloc = rt.alloc();
     let mut list = worked_tree(alloc)?;
     list.sort_by(Field::Size, true)?;
-    has_paths(&rt, &list, &["/t/a", "/t/b-x", "/t", "/t/b", "/t/b/c"]);
+    has_paths(&rt, &list, &["/t/a", "/t/b-x", "/t", "/t/b", "/t/b/c"])?;
     assert!(rt; list.place_of(&Path::parse(alloc, "/t/b-x")?) == Some(1));
     assert!(rt; list.place_of(&Path::parse(alloc, "/t/c")?) == None);
     list.sort_path()?;
-    has_paths(&rt, &list, &["/t", "/t/a", "/t/b", "/t/b/c", "/t/b-x"]);
+    has_paths(&rt, &list, &["/t", "/t/a", "/t/b", "/t/b/c", "/t/b-x"])?;
+    Ok(())
+}
+
+#[test]
+fn keeps_of_a_path_what_the_one_before_lacks(rt: HostRuntime) -> Result<(), Fail> {
+    let alloc = rt.alloc();
+    let list = worked_tree(alloc)?;
+    if list.len() > 0 {
+        assert!(rt; list.page(0) == b"/t/ab/c-x".as_slice());
+    }
+    let mut pair = FlatList::make(alloc);
+    pair.add(&fine(alloc, "/a", Kind::Dir, 0)?)?;
+    pair.add(&fine(alloc, "/a/b", Kind::File, 0)?)?;
+    if pair.len() > 0 {
+        assert!(rt; pair.page(0) == b"/a/b".as_slice());
+    }
+    Ok(())
+}
+
+// A file whose path tells its number in four digits.
+fn file(alloc: Global, at: usize) -> Result<Entry, Fail> {
+    let path = format!(in alloc; "/f{:04}", at)?;
+    fine(alloc, path.as_str(), Kind::File, 1)
+}
+
+#[test]
+fn begins_each_page_with_a_whole_path(rt: HostRuntime) -> Result<(), Fail> {
+    let alloc = rt.alloc();
+    let mut list = FlatList::make(alloc);
+    for at in 0..300 {
+        list.add(&file(alloc, at)?)?;
+    }
+    assert_eq!(rt; list.len(), 300);
+    if list.len() > 256 {
+        let page = list.page(1);
+        assert_eq!(rt; page.len(), 53);
+        assert!(rt; page.starts_with(b"/f0256"));
+        assert!(rt; list.entry(256)?.path == file(alloc, 256)?.path);
+        assert!(rt; list.place_of(&file(alloc, 299)?.path) == Some(299));
+    }
     Ok(())
 }
 
@@ -87,8 +128,8 @@ fn takes_the_worked_tree_apart(rt: HostRuntime) -> Result<(), Fail> {
     );
     let pieces = list.spread(2)?;
     assert_eq!(rt; pieces.len(), 2);
-    has_paths(&rt, &pieces[0], &["/t", "/t/b", "/t/b-x"]);
-    has_paths(&rt, &pieces[1], &["/t/a", "/t/b/c"]);
+    has_paths(&rt, &pieces[0], &["/t", "/t/b", "/t/b-x"])?;
+    has_paths(&rt, &pieces[1], &["/t/a", "/t/b/c"])?;
     Ok(())
 }
 
@@ -111,7 +152,7 @@ fn refusal(alloc: Global, text: &str) -> Option<CacheError> {
 fn reads_the_worked_list_and_writes_it_again(rt: HostRuntime) -> Result<(), Fail> {
     let alloc = rt.alloc();
     let list = FlatList::decode(alloc, WORKED.as_bytes())?;
-    has_paths(&rt, &list, &["/t", "/t/a", "/t/b", "/t/b/c", "/t/b-x"]);
+    has_paths(&rt, &list, &["/t", "/t/a", "/t/b", "/t/b/c", "/t/b-x"])?;
     assert!(rt; list.summary() == worked_tree(alloc)?.summary());
     assert!(rt; list.encode()?.as_slice() == WORKED.as_bytes());
     Ok(())
@@ -154,7 +195,7 @@ fn tells_the_first_bad_line(rt: HostRuntime) -> Result<(), Fail> {
     }
     assert!(rt; refusal(alloc, "mfu list 1\nend 0\n").is_none());
     let gone = FlatList::decode(alloc, b"mfu list 1\n- 0 - gone 0 0 /a\nend 1\n")?;
-    has_paths(&rt, &gone, &["/a"]);
+    has_paths(&rt, &gone, &["/a"])?;
     Ok(())
 }
 
@@ -168,7 +209,7 @@ fn joins_what_two_ranks_found(rt: HostRuntime) -> Result<(), Fail> {
         logs.push(log)?;
     }
     let list = FlatList::from_jobs(alloc, logs)?;
-    has_paths(&rt, &list, &["/a", "/b"]);
+    has_paths(&rt, &list, &["/a", "/b"])?;
     assert!(rt; !list.is_empty());
     let first = list.entry(0)?;
     assert_eq!(rt; first.path.text(), "/a");
@@ -214,7 +255,7 @@ fn merges_what_ranks_found_in_turn(rt: HostRuntime) -> Result<(), Fail> {
             "/t", "/t/a", "/t/a/w", "/t/a/x", "/t/b", "/t/b/c", "/t/b-x", "/t/c", "/t/c/a",
             "/t/c/b", "/t/d", "/t/d/z", "/t/e", "/t/e/a", "/t/e/b",
         ],
-    );
+    )?;
     Ok(())
 }
 
@@ -258,11 +299,11 @@ fn come_in_order<R: Threads + Sync + Abort>(
 {
     let list = FlatList::from_logs(rt, alloc, dealt_logs(alloc, ranks)?, hosts)?;
     assert_eq!(rt; list.len(), 6001);
-    let mut cursor = list.cursor();
-    assert!(rt; cursor.advance());
+    let mut cursor = list.cursor()?;
+    assert!(rt; cursor.advance()?);
     assert!(rt; cursor.entry().path == numbered(alloc, 0)?.path);
     for at in 0..6000 {
-        assert!(rt; cursor.advance());
+        assert!(rt; cursor.advance()?);
         assert!(rt; cursor.entry().path == numbered(alloc, at)?.path);
     }
     Ok(())
@@ -291,13 +332,13 @@ fn puts_what_is_under_a_path_behind_it(rt: HostRuntime) -> Result<(), Fail> {
         &rt,
         &list,
         &["/t/b-x", "/t/b/c", "/t/b", "/t/a", "/t/b/c", "/t"],
-    );
+    )?;
     list.sort_path()?;
     has_paths(
         &rt,
         &list,
         &["/t", "/t/a", "/t/b", "/t/b/c", "/t/b/c", "/t/b-x"],
-    );
+    )?;
     Ok(())
 }
 

@@ -84,15 +84,16 @@ fn walked<R: Threads + Wait + Sync>(
 }
 
 // Whether the list has just these paths, each with its mark.
-fn has(rt: &impl Abort, report: &WalkReport, entries: &[(&str, Mark)]) {
+fn has(rt: &impl Abort, report: &WalkReport, entries: &[(&str, Mark)]) -> Result<(), Fail> {
     assert!(rt; report.walked == Walked::Whole);
     assert_eq!(rt; report.list.len(), entries.len());
-    let mut cursor = report.list.cursor();
+    let mut cursor = report.list.cursor()?;
     for (path, mark) in entries {
-        assert!(rt; cursor.advance());
+        assert!(rt; cursor.advance()?);
         assert_eq!(rt; cursor.entry().path.text(), *path);
         assert!(rt; cursor.entry().mark == *mark, "{path}");
     }
+    Ok(())
 }
 
 #[test]
@@ -100,7 +101,7 @@ fn a_walk_finds_a_tree_in_path_order(rt: HostRuntime) -> Result<(), Fail> {
     let alloc = rt.alloc();
     let mut files = tree_t(alloc)?;
     let report = walked(&rt, alloc, &mut files, &["/t"])?;
-    has(&rt, &report, &TREE_T);
+    has(&rt, &report, &TREE_T)?;
     assert_eq!(rt; report.list.len(), 5);
     let entry = report.list.entry(1)?;
     let Some(stat) = entry.stat else {
@@ -133,7 +134,7 @@ fn walks_with<R: Threads + Wait + Sync + Abort>(
     let mut files = tree_t(alloc)?;
     let starts = roots_of(paths(alloc, &["/t"])?)?;
     let report = walk(rt, alloc, &mut files, starts, options)?;
-    has(rt, &report, &TREE_T);
+    has(rt, &report, &TREE_T)?;
     assert_eq!(rt; report.shares.len(), options.ranks as usize);
     let handled = report
         .shares
@@ -184,7 +185,7 @@ fn several_trees_make_one_list(rt: HostRuntime) -> Result<(), Fail> {
         ("/t/b/c", Mark::Fine),
         ("/t/b-x", Mark::Fine),
     ];
-    has(&rt, &report, &found);
+    has(&rt, &report, &found)?;
     Ok(())
 }
 
@@ -193,7 +194,7 @@ fn a_walk_of_no_starts_is_empty(rt: HostRuntime) -> Result<(), Fail> {
     let alloc = rt.alloc();
     let mut files = tree_t(alloc)?;
     let report = walked(&rt, alloc, &mut files, &[])?;
-    has(&rt, &report, &[]);
+    has(&rt, &report, &[])?;
     assert_eq!(rt; report.shares.len(), 1);
     assert_eq!(rt; report.shares[0].handled, 0);
     Ok(())
@@ -213,7 +214,7 @@ fn what_fails_is_marked_and_counted(rt: HostRuntime) -> Result<(), Fail> {
         ("/t/b", Mark::ListFailed),
         ("/t/b-x", Mark::Fine),
     ];
-    has(&rt, &report, &found);
+    has(&rt, &report, &found)?;
     assert_eq!(rt; report.list.len(), 4);
     assert_eq!(rt; report.list.entry(0)?.unnamed, 1);
     assert_eq!(rt; files.faults(), 3);
@@ -414,7 +415,7 @@ fn what_changes_between_two_answers_is_marked(rt: HostRuntime) -> Result<(), Fai
             ("/t/a", Mark::Changed),
             ("/t/b", Mark::Fine),
         ];
-        has(&rt, &report, &found);
+        has(&rt, &report, &found)?;
         assert_eq!(rt; files.stats, 3);
         assert_eq!(rt; files.lists, 2);
     }

@@ -19,7 +19,7 @@ pub(crate) fn choose(
 {
     let mut tests = tests;
     add_tests(&mut tests, looks)?;
-    Ok(select_from(list, &tests, now))
+    select_from(list, &tests, now)
 }
 
 // Adds the test that each look gives.

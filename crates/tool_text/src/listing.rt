@@ -18,22 +18,22 @@ pub(crate) fn add_list(draft: &mut Draft, list: &FlatList) -> Result<(), OutOfMe
     ensures ok { OnOk result (draft.new.1 ≡ draft.old.1 ++ lines_of list.now) }
     ensures stands { draft.new.0 ≡ draft.old.0 }
 {
-    draft.reserve(expected_len(list))?;
-    let mut cursor = list.cursor();
-    while cursor.advance() {
+    draft.reserve(expected_len(list)?)?;
+    let mut cursor = list.cursor()?;
+    while cursor.advance()? {
         add_entry(draft, cursor.entry())?;
     }
     Ok(())
 }
 
 // So many bytes the lines have where no byte of a path is escaped, or somewhat fewer.
-fn expected_len(list: &FlatList) -> usize {
+fn expected_len(list: &FlatList) -> Result<usize, OutOfMemory> {
     let mut len = 0usize;
-    let mut cursor = list.cursor();
-    while cursor.advance() {
+    let mut cursor = list.cursor()?;
+    while cursor.advance()? {
         len = len.saturating_add(line_len(cursor.entry()));
     }
-    len
+    Ok(len)
 }
 
 fn line_len(entry: &Entry) -> usize {

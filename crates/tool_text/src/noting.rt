@@ -65,8 +65,8 @@ pub fn notes_of(alloc: Global, list: &FlatList) -> Result<Vec<Note>, OutOfMemory
     ensures count { IfOk result (λ notes. length notes.items ≡ (summary_of list.now).failed) }
 {
     let mut notes = Vec::new(alloc);
-    let mut cursor = list.cursor();
-    while cursor.advance() {
+    let mut cursor = list.cursor()?;
+    while cursor.advance()? {
         push_notes(&mut notes, cursor.entry())?;
     }
     Ok(notes)

@@ -33,7 +33,7 @@ impl<'a> Feed<'a> {
         ensures some { IfOk result (λ item. IfSome item (λ x. ahead self.old ≡ x ∷ ahead self.new)) }
         ensures none { IfOk result (λ item. item ≡ None → (ahead self.old ≡ []) × (ahead self.new ≡ [])) }
     {
-        while self.cursor.advance() {
+        while self.cursor.advance()? {
             let entry = self.cursor.entry();
             if !is_gone(entry.mark) {
                 return Ok(Some(item_of(entry, self.top)?));

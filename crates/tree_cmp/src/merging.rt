@@ -61,11 +61,11 @@ pub(crate) fn drafts_of(
 {
     below_keeps_order();
     let left = Feed {
-        cursor: left.cursor(),
+        cursor: left.cursor()?,
         top: left_top,
     };
     let right = Feed {
-        cursor: right.cursor(),
+        cursor: right.cursor()?,
         top: right_top,
     };
     merged(alloc, left, right)

@@ -1,7 +1,40 @@
 -- The tally of the entries that were passed, and what is still to come.
-use Rattle.std.proofs.Common.{◌≡◌, ℕ, zero, suc, ◌+◌, ◌-◌, ◌*◌, ◌<◌, ◌≤◌, Bool, true, false, cond, ◌||◌, List, [], ◌∷◌, ◌++◌, length, drop, Some}
-use Rattle.std.proofs.Common.{refl, ap, ◌∙◌, sym, subst, arith, is_some, slice_get, append_assoc, append-nil, length-append, length-drop}
-use Rattle.std.proofs.Common.{drop_of_length-le}
+use Rattle.std.proofs.Common.{
+  ◌≡◌,
+  ℕ,
+  zero,
+  suc,
+  ◌+◌,
+  ◌-◌,
+  ◌*◌,
+  ◌<◌,
+  ◌≤◌,
+  Bool,
+  true,
+  false,
+  cond,
+  ◌||◌,
+  List,
+  [],
+  ◌∷◌,
+  ◌++◌,
+  length,
+  drop,
+  Some,
+  refl,
+  ap,
+  ◌∙◌,
+  sym,
+  subst,
+  arith,
+  is_some,
+  slice_get,
+  append_assoc,
+  append-nil,
+  length-append,
+  length-drop,
+  drop_of_length-le,
+}
 use Rattle.std.proofs.lemmas.Bool.{false≢true}
 use Rattle.std.proofs.lemmas.Bool.Decides.{nat_tests}
 use Rattle.std.specs.Prelude.{nat_lt}
@@ -253,3 +286,18 @@ some_left fits at false now rest e before is some has left on = absurd (false≢
 pub left_skipped : (marks : List Bool) (now rest : List Entry) (e : Entry) (before : List (List ℕ)) → now ≡ e ∷ rest → is_some e.stat ≡ false →
     before ≡ fitting marks (paths (treated now)) → before ≡ fitting marks (paths (treated rest))
 left_skipped marks now rest e before is none left = left ∙ ap (λ es. fitting marks (paths es)) (treated_next rest now e false is none)
+
+-- where the next entry has an item, a fate is left
+pub fate_left : (all : List Entry) (fits : List Bool) (outs : List Fate) (rest now : List Entry) (e : Entry) (at place : ℕ) (told : List (List ℕ))
+    (fates : List Fate) (copied bytes : ℕ) → now ≡ e ∷ rest → slice_get fits at ≡ Some true →
+    Tallied all fits outs (treated now) (drop at fits) (drop place outs) told fates copied bytes → place < length outs
+fate_left all fits outs rest now e at place told fates copied bytes is has t = goes_on outs place _ t.left_len
+    (omega (arith, ap (count_by (λ m. m)) (drop_at fits at true has), sum_by-cons (λ (m : Bool). cond m 1 0) true (drop (at + 1) fits)))
+
+-- at the end of the list all is told
+pub at_end : (list : List Entry) (fits : List Bool) (outs : List Fate) (s : List Entry × ℕ) (more : Bool) (marks : List Bool) (left : List Fate)
+    (told : List (List ℕ)) (fates : List Fate) (copied bytes : ℕ) →
+    length fits ≡ length (treated list) → s.0 ≡ list → more ≡ nat_lt s.1 (length s.0) → more ≡ false →
+    Tallied (treated list) fits outs (treated (drop s.1 list)) marks left told fates copied bytes → Ended (treated list) fits outs told fates copied bytes
+at_end list fits outs s more marks left told fates copied bytes len is answer off t =
+    ended (treated list) fits outs _ marks left told fates copied bytes len (ap treated (off_end list s more is answer off)) t

@@ -49,8 +49,8 @@ pub(crate) fn settle(
     };
     let mut items = items.into_iter();
     let mut place = 0;
-    let mut cursor = list.cursor();
-    while cursor.advance() {
+    let mut cursor = list.cursor()?;
+    while cursor.advance()? {
         let entry = cursor.entry();
         if entry.stat.is_none() {
             continue;

@@ -36,14 +36,14 @@ pub(crate) fn place_all(
     ensures paths { IfOk result (λ placed. All (λ x. refusal x.path ≡ None) placed.items.items) }
 {
     see_pairs(pairs);
-    see_paths(list);
+    see_paths(list)?;
     let mut placed = Placed {
         items: Vec::with_capacity(alloc, list.len())?,
         fits: Vec::with_capacity(alloc, list.len())?,
     };
     let mut last = 0;
-    let mut cursor = list.cursor();
-    while cursor.advance() {
+    let mut cursor = list.cursor()?;
+    while cursor.advance()? {
         last = add(&mut placed, cursor.entry(), pairs, last)?;
     }
     Ok(placed)
@@ -60,13 +60,14 @@ fn see_pairs(pairs: &[Pair])
 }
 
 // Each path is one.
-fn see_paths(list: &FlatList)
-    ensures { All (λ e. refusal e.path ≡ None) list.now }
+fn see_paths(list: &FlatList) -> Result<(), OutOfMemory>
+    ensures { OnOk result (All (λ e. refusal e.path ≡ None) list.now) }
 {
-    let mut cursor = list.cursor();
-    while cursor.advance() {
+    let mut cursor = list.cursor()?;
+    while cursor.advance()? {
         let _ = cursor.entry().path.text();
     }
+    Ok(())
 }
 
 // Adds an entry, if it has a stat. The pair of the entry before is tried first, since all under one source stand together; the

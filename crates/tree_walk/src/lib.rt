@@ -9,7 +9,7 @@
 //! ```text
 //! let starts = roots_of(words)?;
 //! let report = walk(&rt, alloc, &mut files, starts, &options)?;
-//! let mut cursor = report.list.cursor();
+//! let mut cursor = report.list.cursor()?;
 //! // ..
 //! ```
 //!

@@ -1,6 +1,6 @@
 -- How the text of a line of a list file is read, word by word. That this undoes the writing of `Spelling`, and reads no other text, is proved.
 use Rattle.std.specs.Prelude.{◌≡◌, ◌≢◌, ◌<◌, length, slice_index, ℕ, ◌^◌, Bool, ◌&&◌, ◌==◌, nat_lt, List, [], ◌∷◌, ◌++◌, if◌then◌else◌, Option, Some}
-use Rattle.std.specs.Prelude.{None, is_none, Result, Ok, Err, codes}
+use Rattle.std.specs.Prelude.{◌-◌, slice_get, None, is_none, Result, Ok, Err, codes}
 use Rattle.std.specs.Str.{IsUtf8, is_utf8, bytes_eq}
 use Rattle.std.specs.Str.Parse.{digits_value}
 use Rattle.std.specs.Fmt.{decimal}
@@ -109,6 +109,10 @@ unfoldable pub end_at : List ℕ → Option ℕ
 end_at text = do
   word ← cut 32 text
   if bytes_eq word.0 (codes "end") then number_of word.1 else None
+
+-- the last of some entries, if there is one
+abbrev pub IsLast : Option Entry → List Entry → Type 0
+IsLast last entries = slice_get entries (length entries - 1) ≡ last
 
 -- what was read is added behind the entries
 abbrev pub Adds : Option Entry → List Entry → List Entry → Type 0

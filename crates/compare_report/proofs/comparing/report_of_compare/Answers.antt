@@ -99,7 +99,7 @@ returns-in_err-save_lists-clause-stops g c =
       are = outputs_by asked sides found outputs before walked compared steps c.in_ok-outputs.ensures.are;
       later = c.save_lists.ensures.count.kept;
       stops = subst (λ t. StopsSaving outputs (side_of t compared.count) after why) same saving;
-    })) in search rules
+    })) in search (rules, stops, c.from_residual-in_err-save_lists.ensures)
 
 pub returns-in_err-save_lists-clause-leaves : goal.returns-in_err-save_lists-clause-leaves
 returns-in_err-save_lists-clause-leaves g c =

@@ -13,7 +13,8 @@ seek-at_here-requires-clause-passed c =
     let side = c.args.entries.now in
     let e = c.entry-entry.result.now in
     let at : IsHere side c.loop-cursor.cursor.1 e c.advance.new.self =
-    here side c.loop-cursor.cursor c.advance.new.self e c.loop-cursor.invariant.of_entries c.loop-cursor-test.ensures.passed c.entry-entry.ensures.at
+    here side c.loop-cursor.cursor c.advance.new.self e c.in_ok-advance.field-0 c.loop-cursor.invariant.of_entries c.in_ok-advance.ensures.passed
+    c.if-branch.true c.entry-entry.ensures.at
     in
     let passed = c.loop-cursor.invariant.wanted.1 e at.inside in
     subst (IsPassed c.args.wanted.now c.loop-cursor.at) (ap (λ x. below_of x.path c.args.top.now) at.is ∙ sym c.in_ok-below.ensures) passed
@@ -23,7 +24,8 @@ seek-past_here-requires-clause-passed c =
     let side = c.args.entries.now in
     let e = c.entry-entry.result.now in
     let at : IsHere side c.loop-cursor.cursor.1 e c.advance.new.self =
-    here side c.loop-cursor.cursor c.advance.new.self e c.loop-cursor.invariant.of_entries c.loop-cursor-test.ensures.passed c.entry-entry.ensures.at
+    here side c.loop-cursor.cursor c.advance.new.self e c.in_ok-advance.field-0 c.loop-cursor.invariant.of_entries c.in_ok-advance.ensures.passed
+    c.if-branch.true c.entry-entry.ensures.at
     in
     subst (λ x. IsPassed c.args.but.now c.loop-cursor.past x.path) at.is (c.loop-cursor.invariant.but.1 e at.inside)
 
@@ -35,7 +37,7 @@ loop-cursor-preserved c =
     let new = c.advance.new.self in
     let old = c.loop-cursor in
     let at : IsHere side old.cursor.1 e new =
-    here side old.cursor new e old.invariant.of_entries c.loop-cursor-test.ensures.passed c.entry-entry.ensures.at
+    here side old.cursor new e c.in_ok-advance.field-0 old.invariant.of_entries c.in_ok-advance.ensures.passed c.if-branch.true c.entry-entry.ensures.at
     in
     let wanted : IsPassed c.args.wanted.now c.seek-at_here.result.0 (below_of e.path top) =
     subst (IsPassed c.args.wanted.now c.seek-at_here.result.0) c.in_ok-below.ensures c.seek-at_here.ensures.passed

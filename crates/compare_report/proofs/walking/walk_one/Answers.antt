@@ -12,4 +12,4 @@ returns-clause-side g c =
     let after = side_of (tree c.walk_side.new.files) (count c.walk_side.new.files) in
     let list = c.in_ok-list.field-0.list in
     let walked = subst (λ given. Walked given list before after) c.in_ok-given.ensures c.in_ok-list.ensures.walked in
-    is_side c.args.top.now list before after c.requires.top walked c.see_paths.ensures c.in_ok-list.ensures.ascend
+    is_side c.args.top.now list before after c.requires.top walked c.in_ok-see_paths.ensures c.in_ok-list.ensures.ascend

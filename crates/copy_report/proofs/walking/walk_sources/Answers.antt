@@ -9,7 +9,7 @@ returns-clause-can g c =
     let before = side_of (tree c.args.files.now) (count c.args.files.now) in
     let after = side_of (tree c.walk_side.new.files) (count c.walk_side.new.files) in
     let told = c.in_ok-list.ensures in
-    walk_can c.args.sources.items c.args.pairs.now c.in_ok-list.field-0.list before after c.requires.placed told.walked c.see_paths.ensures told.ascend
+    walk_can c.args.sources.items c.args.pairs.now c.in_ok-list.field-0.list before after c.requires.placed told.walked c.in_ok-see_paths.ensures told.ascend
 
 pub returns-clause-fits : goal.returns-clause-fits
 returns-clause-fits g c =
@@ -20,4 +20,4 @@ returns-clause-fits g c =
     let told = c.in_ok-list.ensures in
     walk_fits c.nodes_have_paths.ensures c.entries_are_told.ensures c.args.sources.items c.args.pairs.now c.in_ok-list.field-0.list before after
     c.requires.placed told.walked
-    c.see_paths.ensures told.ascend
+    c.in_ok-see_paths.ensures told.ascend

@@ -1,6 +1,14 @@
-use Rattle.std.proofs.Common.{◌≡◌, take}
+use Rattle.std.proofs.Common.{◌≡◌, ◌-◌, ◌≤◌, length, take}
 use Rattle.flat_list.specs.Orders.{level_count}
 use Rattle.flat_list.proofs.dealing.level_count.Given as goal
 
-abbrev pub invariant-loop-entry : goal.invariant-loop-entry
-invariant-loop-entry l = l.count ≡ level_count (take l.entry-index l.entries)
+-- the levels of the entries that were passed
+abbrev pub invariant-loop-cursor : goal.invariant-loop-cursor
+invariant-loop-cursor l = record {
+  of_list : l.cursor.0 ≡ l.list;
+  inside : l.cursor.1 ≤ length l.list;
+  counted : l.count ≡ level_count (take l.cursor.1 l.list);
+}
+
+abbrev pub decreases-loop-cursor : goal.decreases-loop-cursor
+decreases-loop-cursor l = length l.list - l.cursor.1

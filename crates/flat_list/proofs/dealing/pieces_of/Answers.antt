@@ -1,21 +1,40 @@
-use Rattle.std.proofs.Common.{rules, arith, take, ◌%◌}
+use Rattle.std.proofs.Common.{rules, arith, take, ap, ◌∙◌, ◌+◌, ◌%◌, ℕ, List}
+use Rattle.std.proofs.Common.{map}
+use Rattle.std.specs.List.{range_with_len}
+use Rattle.std.proofs.lemmas.List.{take_all}
 use Rattle.flat_list.specs.declared.entries.Entry.{Entry}
-use Rattle.std.specs.Prelude.{List}
 use Rattle.flat_list.specs.Orders.{dealt}
 use Rattle.flat_list.proofs.Dealt.{Turn, Holds, pieces_kept, same_list, as_many}
+use Rattle.flat_list.proofs.Turns.{Passes, turn_at, next_at, more_at}
 use Rattle.flat_list.proofs.dealing.pieces_of.Goals as goal
 
 pub index_mut-requires : goal.index_mut-requires
 index_mut-requires c =
-    let many = as_many (λ j. dealt c.args.n j _) (λ (piece : List Entry). piece) c.loop-at.pieces.items c.args.n (same_list c.loop-at.invariant) in
+    let many = as_many (λ j. dealt c.args.n j _) (λ (piece : List Entry). piece) c.loop-at.pieces.items c.args.n (same_list c.loop-at.invariant.shared) in
     omega (arith, many, c.loop-at.pieces.ok.0, c.requires)
 
 pub loop-at-preserved : goal.loop-at-preserved
 loop-at-preserved c =
-    let xs = c.args.entries.now in
+    let xs = c.args.list.now in
     let at = c.loop-at.at in
     let n = c.args.n in
-    let turn : Turn xs at c.index-entries-at.result = record { within = c.loop-at-test.true; item = c.index-entries-at.is } in
+    let p : Passes xs c.loop-at.cursor c.advance.new.self c.in_ok-advance.field-0 c.entry.result.now = record {
+      of_list = ap (λ (v : List Entry × ℕ). v.0) c.loop-at.invariant.here;
+      some = more_at xs c.loop-at.at c.loop-at.cursor c.in_ok-advance.field-0 c.loop-at.invariant.here (omega arith) c.in_ok-advance.ensures.answer;
+      passed = c.in_ok-advance.ensures.passed;
+      at = c.entry.ensures.at;
+    } in
+    let turn : Turn xs at c.entry.result.now = turn_at at (ap (λ (v : List Entry × ℕ). v.1) c.loop-at.invariant.here) p in
     let holds : Holds (λ j. dealt n j (take at xs)) (λ (piece : List Entry). piece) n (at % n) c.loop-at.pieces.items c.index_mut.result.now =
-    record { listed = same_list c.loop-at.invariant; below = omega (arith, c.requires); is = search rules } in
-    pieces_kept turn holds c.add.new.self (omega (arith, c.requires)) c.in_ok-add.ensures.ok
+    record { listed = same_list c.loop-at.invariant.shared; below = omega (arith, c.requires); is = search rules } in
+    record {
+      here = next_at p ∙ ap (λ (v : List Entry × ℕ). (xs, v.1 + 1)) c.loop-at.invariant.here;
+      shared = pieces_kept turn holds c.add.new.self (omega (arith, c.requires)) c.in_ok-add.ensures.ok;
+    }
+
+pub returns : goal.returns
+returns c =
+    let xs = c.args.list.now in
+    let n = c.args.n in
+    let all = take_all c.loop-at.at xs (omega (arith, c.len-at-end.ensures, c.loop-at-test.false)) in
+    c.loop-at.invariant.shared ∙ ap (λ (l : List Entry). map (λ j. dealt n j l) (range_with_len 0 n)) all

@@ -1,7 +1,7 @@
-use Rattle.std.proofs.Common.{rules, arith, ◌≡◌, ◌≤◌, ◌+◌, length, ◌∙◌, sym, ap, subst, true, false, List, None}
+use Rattle.std.proofs.Common.{rules, arith, ◌≡◌, ◌≤◌, ◌+◌, length, ◌∙◌, refl, sym, ap, subst, true, false, List, None}
 use Rattle.flat_list.specs.declared.entries.Entry.{Entry}
 use Rattle.flat_list.specs.Spelling.{lines_of, Spells, max_entries, IsCause, IsRefused}
-use Rattle.flat_list.specs.Private.Reading.{cut, entry_at}
+use Rattle.flat_list.specs.Private.Reading.{cut, entry_at, IsLast}
 use Rattle.flat_list.proofs.Damage.{Stands}
 use Rattle.flat_list.proofs.Decoded.{Reads, starts, goes_on, bad_torn, bad_text, at_end, past_end, too_long, if_ok_then, if_err_then, nots, adds_one}
 use Rattle.flat_list.proofs.Decoded.{cut_shorter}
@@ -15,6 +15,7 @@ loop-text-init c =
     record {
       stands = subst (λ (l : List Entry). Stands bytes l (lines_of rest)) none (starts bytes rest c.in-Some.ensures.some);
       few = subst (λ (l : List Entry). length l ≤ max_entries) none (omega arith);
+      last = subst (IsLast None) none refl;
     }
 
 pub returns-then-is_end-clause-ok : goal.returns-then-is_end-clause-ok
@@ -69,6 +70,7 @@ loop-text-preserved c =
     record {
       stands = goes_on c.reading_undoes_writing.ensures reads c.add_entry.new.list (c.in_ok-added.ensures.yes so);
       few = omega (arith, c.len-in-Some-cut.ensures);
+      last = c.in_ok-added.ensures.last;
     }
 
 pub returns-clause-refused : goal.returns-clause-refused

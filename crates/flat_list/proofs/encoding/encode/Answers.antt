@@ -1,15 +1,28 @@
-use Rattle.std.proofs.Common.{rules}
-use Rattle.flat_list.proofs.Dealt.{Turn}
-use Rattle.flat_list.proofs.Encoded.{header_written, one_written, spells}
+use Rattle.std.proofs.Common.{arith, ◌++◌, ◌∙◌, refl, ap, subst}
+use Rattle.flat_list.specs.Spelling.{line, end_text}
+use Rattle.flat_list.proofs.Encoded.{Written, one_written, spells}
+use Rattle.flat_list.proofs.Turns.{Passes, turn_at, of_list, one_on, inside, no_more}
 use Rattle.flat_list.proofs.encoding.encode.Goals as goal
 
-pub loop-entry-init : goal.loop-entry-init
-loop-entry-init c = header_written (search rules)
-
-pub loop-entry-preserved : goal.loop-entry-preserved
-loop-entry-preserved c =
-    let turn : Turn c.args.entries.now c.loop-entry.entry-index c.entry-item.result = record { within = c.loop-entry-test.true; item = c.entry-item.is } in
-    one_written turn c.loop-entry.invariant c.in_ok-put_entry.ensures.text c.in_ok-put_entry.ensures.entry
+pub loop-cursor-preserved : goal.loop-cursor-preserved
+loop-cursor-preserved c =
+    let xs = c.args.list.now in
+    let p : Passes xs c.loop-cursor.cursor c.advance.new.self c.in_ok-advance.field-0 c.entry.result.now = record {
+      of_list = c.loop-cursor.invariant.of_list;
+      some = c.if-branch.true;
+      passed = c.in_ok-advance.ensures.passed;
+      at = c.entry.ensures.at;
+    } in
+    record {
+      of_list = of_list p;
+      inside = inside p;
+      written = subst (Written c.put_entry.new.text.items xs) (one_on p)
+          (one_written (turn_at _ refl p) c.loop-cursor.invariant.written c.in_ok-put_entry.ensures.text c.in_ok-put_entry.ensures.entry);
+    }
 
 pub returns : goal.returns
-returns c = spells c.loop-entry.invariant c.loop-entry-test.false c.put_end.ensures.small c.in_ok-put_end.ensures.text c.requires.ascend
+returns c =
+    let over = no_more c.args.list.now c.loop-cursor.cursor c.in_ok-advance.field-0 c.loop-cursor.invariant.of_list
+    c.in_ok-advance.ensures.answer c.if-branch.false in
+    spells c.loop-cursor.invariant.written over (omega (arith, c.put_end.ensures.small, c.len.ensures))
+    (c.in_ok-put_end.ensures.text ∙ ap (λ n. c.loop-cursor.text.items ++ line (end_text n)) c.len.ensures) c.requires.ascend

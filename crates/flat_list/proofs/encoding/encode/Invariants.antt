@@ -1,5 +1,14 @@
+use Rattle.std.proofs.Common.{◌≡◌, ◌-◌, ◌≤◌, length}
 use Rattle.flat_list.proofs.Encoded.{Written}
 use Rattle.flat_list.proofs.encoding.encode.Given as goal
 
-abbrev pub invariant-loop-entry : goal.invariant-loop-entry
-invariant-loop-entry l = Written l.text.items l.entries l.entry-index
+-- what is written of the entries that were passed
+abbrev pub invariant-loop-cursor : goal.invariant-loop-cursor
+invariant-loop-cursor l = record {
+  of_list : l.cursor.0 ≡ l.list;
+  inside : l.cursor.1 ≤ length l.list;
+  written : Written l.text.items l.list l.cursor.1;
+}
+
+abbrev pub decreases-loop-cursor : goal.decreases-loop-cursor
+decreases-loop-cursor l = length l.list - l.cursor.1

@@ -1,22 +1,37 @@
-use Rattle.std.proofs.Common.{◌≡◌, ◌∙◌, ◌+◌, ap, arith, length, drop, sym, not, false, subst, get_or, map, ◌∷◌, ◌++◌, [], length-append}
+use Rattle.std.proofs.Common.{◌≡◌, ◌∙◌, ◌+◌, ap, arith, length, drop, sym, not, false, subst, get_or, map, ◌∷◌, ◌++◌, [], length-append, Some}
 use Rattle.std.proofs.lemmas.List.{length-map}
 use Rattle.std.specs.Vec.Iter.{into_iter_items}
 use Rattle.flat_list.specs.Spelling.{paths}
 use Rattle.std.proofs.lemmas.Option.{slice_get-get_or}
+use Rattle.std.specs.List.{zip}
 use Rattle.tree_copy.specs.Copying.{treated}
 use Rattle.tree_copy.specs.PrivateSettling.{fitting}
-use Rattle.tree_copy.proofs.Tallies.{Tallied, ended, IsFate, IsNoted, few_more, has_mark, left_skipped, moved_on, path_step, some_left, next_of}
-use Rattle.tree_copy.proofs.Tallies.{off_end, passed, skipped}
+use Rattle.tree_copy.proofs.Tallies.{
+  Tallied,
+  at_end,
+  fate_left,
+  IsFate,
+  IsNoted,
+  few_more,
+  has_mark,
+  left_skipped,
+  moved_on,
+  path_step,
+  some_left,
+  next_of,
+  passed,
+  skipped,
+}
 use Rattle.tree_copy.proofs.settling.settle.Goals as goal
 
 pub loop-cursor-preserved-then-is_none : goal.loop-cursor-preserved-then-is_none
 loop-cursor-preserved-then-is_none c =
-    let at = moved_on c.loop-cursor.cursor c.advance.new.self c.advance.result c.advance.ensures.passed c.loop-cursor-test.true in
+    let at = moved_on c.loop-cursor.cursor c.advance.new.self c.in_ok-advance.field-0 c.in_ok-advance.ensures.passed c.if-branch.true in
     let next = next_of c.args.list.now c.advance.new.self.0 c.loop-cursor.cursor.1 c.advance.new.self.1 c.entry-entry.result.now
     (at.0 ∙ c.loop-cursor.invariant.of_list) c.entry-entry.ensures.at at.1 in
     record {
       of_list = at.0 ∙ c.loop-cursor.invariant.of_list;
-      inside = omega (arith, c.advance.ensures.inside, ap length (at.0 ∙ c.loop-cursor.invariant.of_list));
+      inside = omega (arith, c.in_ok-advance.ensures.inside, ap length (at.0 ∙ c.loop-cursor.invariant.of_list));
       behind = c.loop-cursor.invariant.behind;
       so_far = skipped (treated c.args.list.now) c.args.fits.now c.args.outcome.now (drop c.advance.new.self.1 c.args.list.now)
           (drop c.loop-cursor.cursor.1 c.args.list.now) c.entry-entry.result.now
@@ -29,7 +44,7 @@ loop-cursor-preserved-then-is_none c =
 
 pub bounds-fits-len : goal.bounds-fits-len
 bounds-fits-len c =
-    let at = moved_on c.loop-cursor.cursor c.advance.new.self c.advance.result c.advance.ensures.passed c.loop-cursor-test.true in
+    let at = moved_on c.loop-cursor.cursor c.advance.new.self c.in_ok-advance.field-0 c.in_ok-advance.ensures.passed c.if-branch.true in
     let next = next_of c.args.list.now c.advance.new.self.0 c.loop-cursor.cursor.1 c.advance.new.self.1 c.entry-entry.result.now
     (at.0 ∙ c.loop-cursor.invariant.of_list) c.entry-entry.ensures.at at.1 in
     let here = has_mark (treated c.args.list.now) c.args.fits.now c.args.outcome.now (drop c.advance.new.self.1 c.args.list.now)
@@ -38,9 +53,27 @@ bounds-fits-len c =
     in
     omega (arith, here, c.len.ensures, c.loop-cursor.tally.fates.ok.0)
 
+pub fate_of-requires : goal.fate_of-requires
+fate_of-requires c = λ on.
+    let at = moved_on c.loop-cursor.cursor c.advance.new.self c.in_ok-advance.field-0 c.in_ok-advance.ensures.passed c.if-branch.true in
+    let next = next_of c.args.list.now c.advance.new.self.0 c.loop-cursor.cursor.1 c.advance.new.self.1 c.entry-entry.result.now
+    (at.0 ∙ c.loop-cursor.invariant.of_list) c.entry-entry.ensures.at at.1 in
+    let list = treated c.args.list.now in
+    let len : c.len.result ≡ length c.loop-cursor.tally.fates.items = omega (arith, c.len.ensures, c.loop-cursor.tally.fates.ok.0) in
+    let before = subst (λ n. Tallied list c.args.fits.now c.args.outcome.now (treated (drop c.loop-cursor.cursor.1 c.args.list.now))
+    (drop n c.args.fits.now) (drop c.loop-cursor.place c.args.outcome.now)
+    c.loop-cursor.tally.paths.items c.loop-cursor.tally.fates.items c.loop-cursor.tally.copied c.loop-cursor.tally.bytes) (sym len)
+    c.loop-cursor.invariant.so_far in
+    let some = c.is_none.ensures ∙ ap not c.if-is_none.false in
+    let here = has_mark list c.args.fits.now c.args.outcome.now (drop c.advance.new.self.1 c.args.list.now) (drop c.loop-cursor.cursor.1 c.args.list.now)
+    c.entry-entry.result.now c.len.result c.loop-cursor.place _ _ _ _ next some before in
+    fate_left list c.args.fits.now c.args.outcome.now (drop c.advance.new.self.1 c.args.list.now) (drop c.loop-cursor.cursor.1 c.args.list.now)
+    c.entry-entry.result.now c.len.result c.loop-cursor.place _ _ _ _ next
+    (slice_get-get_or c.args.fits.now c.len.result false here ∙ ap Some on) before
+
 pub path_of-requires : goal.path_of-requires
 path_of-requires c = λ on.
-    let at = moved_on c.loop-cursor.cursor c.advance.new.self c.advance.result c.advance.ensures.passed c.loop-cursor-test.true in
+    let at = moved_on c.loop-cursor.cursor c.advance.new.self c.in_ok-advance.field-0 c.in_ok-advance.ensures.passed c.if-branch.true in
     let next = next_of c.args.list.now c.advance.new.self.0 c.loop-cursor.cursor.1 c.advance.new.self.1 c.entry-entry.result.now
     (at.0 ∙ c.loop-cursor.invariant.of_list) c.entry-entry.ensures.at at.1 in
     let list = treated c.args.list.now in
@@ -68,7 +101,7 @@ path_of-requires c = λ on.
 
 pub loop-cursor-preserved : goal.loop-cursor-preserved
 loop-cursor-preserved c =
-    let at = moved_on c.loop-cursor.cursor c.advance.new.self c.advance.result c.advance.ensures.passed c.loop-cursor-test.true in
+    let at = moved_on c.loop-cursor.cursor c.advance.new.self c.in_ok-advance.field-0 c.in_ok-advance.ensures.passed c.if-branch.true in
     let next = next_of c.args.list.now c.advance.new.self.0 c.loop-cursor.cursor.1 c.advance.new.self.1 c.entry-entry.result.now
     (at.0 ∙ c.loop-cursor.invariant.of_list) c.entry-entry.ensures.at at.1 in
     let list = treated c.args.list.now in
@@ -108,7 +141,7 @@ loop-cursor-preserved c =
     } in
     record {
       of_list = at.0 ∙ c.loop-cursor.invariant.of_list;
-      inside = omega (arith, c.advance.ensures.inside, ap length (at.0 ∙ c.loop-cursor.invariant.of_list));
+      inside = omega (arith, c.in_ok-advance.ensures.inside, ap length (at.0 ∙ c.loop-cursor.invariant.of_list));
       behind = few_more (get_or c.args.fits.now c.len.result false) c.loop-cursor.place c.place_after-place.result c.len.result
           (length c.note.new.tally.fates.items) c.place_after-place.ensures one
           (omega (arith, len, c.loop-cursor.invariant.behind));
@@ -122,7 +155,19 @@ loop-cursor-preserved c =
     }
 
 pub invariant_of-result : goal.invariant_of-result
-invariant_of-result c =
-    (ended (treated c.args.list.now) c.args.fits.now c.args.outcome.now _ _ _ _ _ _ _ c.requires.fits
-    (ap treated (off_end c.args.list.now c.loop-cursor.cursor c.advance.result c.loop-cursor.invariant.of_list c.advance.ensures.answer
-    c.loop-cursor-test.false)) c.loop-cursor.invariant.so_far).len
+invariant_of-result c = (at_end c.args.list.now c.args.fits.now c.args.outcome.now c.loop-cursor.cursor c.in_ok-advance.field-0 _ _ _ _ _ _
+    c.requires.fits c.loop-cursor.invariant.of_list c.in_ok-advance.ensures.answer c.if-branch.false c.loop-cursor.invariant.so_far).len
+
+pub returns-clause-rows : goal.returns-clause-rows
+returns-clause-rows c =
+    let end = at_end c.args.list.now c.args.fits.now c.args.outcome.now c.loop-cursor.cursor c.in_ok-advance.field-0 _ _ _ _ _ _
+    c.requires.fits c.loop-cursor.invariant.of_list c.in_ok-advance.ensures.answer c.if-branch.false c.loop-cursor.invariant.so_far in
+    λ i. zip (end.paths_are i) (end.fates_are i)
+
+pub returns-clause-even : goal.returns-clause-even
+returns-clause-even c = (at_end c.args.list.now c.args.fits.now c.args.outcome.now c.loop-cursor.cursor c.in_ok-advance.field-0 _ _ _ _ _ _
+    c.requires.fits c.loop-cursor.invariant.of_list c.in_ok-advance.ensures.answer c.if-branch.false c.loop-cursor.invariant.so_far).even
+
+pub returns-clause-copied : goal.returns-clause-copied
+returns-clause-copied c = (at_end c.args.list.now c.args.fits.now c.args.outcome.now c.loop-cursor.cursor c.in_ok-advance.field-0 _ _ _ _ _ _
+    c.requires.fits c.loop-cursor.invariant.of_list c.in_ok-advance.ensures.answer c.if-branch.false c.loop-cursor.invariant.so_far).copied_is

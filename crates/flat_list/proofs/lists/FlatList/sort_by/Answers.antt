@@ -1,5 +1,6 @@
-use Rattle.std.proofs.Common.{rules}
+use Rattle.std.proofs.Common.{rules, sym, subst, List}
 use Rattle.std.specs.Ordering.{is_lt}
+use Rattle.std.specs.List.Sorted.{IsPermutation, IsSorted, IsStable}
 use Rattle.std.proofs.lemmas.Fn.{always_returns_same}
 use Rattle.std.proofs.lemmas.List.Sorted.{ranks_by}
 use Rattle.flat_list.specs.declared.entries.Entry.{Entry}
@@ -7,11 +8,22 @@ use Rattle.flat_list.specs.Orders.{sort_order}
 use Rattle.flat_list.proofs.Ordered.{sort_order_total}
 use Rattle.flat_list.proofs.lists.FlatList.sort_by.Goals as goal
 
+pub returns-clause-all : goal.returns-clause-all
+returns-clause-all c =
+    subst (IsPermutation c.args.self.now) (sym c.in_ok-self.ensures)
+    (subst (λ (xs : List Entry). IsPermutation xs c.sort_by.new.self.items) c.in_ok-entries.ensures c.sort_by.ensures.permutation)
+
 pub returns-clause-sorted : goal.returns-clause-sorted
-returns-clause-sorted c = c.in_ok-sort_by.ensures.sorted (λ (x y : Entry). is_lt (sort_order c.args.field c.args.down x y))
-    (ranks_by (sort_order_total c.args.field c.args.down) (λ (e : Entry). e)) (always_returns_same _ _ _ (λ a r q k. search rules))
+returns-clause-sorted c =
+    let cmp = sort_order c.args.field c.args.down in
+    subst (IsSorted cmp) (sym c.in_ok-self.ensures)
+    (c.in_ok-sort_by.ensures.sorted (λ (x y : Entry). is_lt (cmp x y))
+    (ranks_by (sort_order_total c.args.field c.args.down) (λ (e : Entry). e)) (always_returns_same _ _ _ (λ a r q k. search rules)))
 
 pub returns-clause-stable : goal.returns-clause-stable
-returns-clause-stable c = rw (← c.self.view_is)
-    (c.sort_by.ensures.stable (λ (x y : Entry). is_lt (sort_order c.args.field c.args.down x y))
-    (ranks_by (sort_order_total c.args.field c.args.down) (λ (e : Entry). e)) (always_returns_same _ _ _ (λ a r q k. search rules)))
+returns-clause-stable c =
+    let cmp = sort_order c.args.field c.args.down in
+    subst (IsStable cmp c.args.self.now) (sym c.in_ok-self.ensures)
+    (subst (λ (xs : List Entry). IsStable cmp xs c.sort_by.new.self.items) c.in_ok-entries.ensures
+    (c.sort_by.ensures.stable (λ (x y : Entry). is_lt (cmp x y))
+    (ranks_by (sort_order_total c.args.field c.args.down) (λ (e : Entry). e)) (always_returns_same _ _ _ (λ a r q k. search rules))))

@@ -1,16 +1,26 @@
-use Rattle.std.proofs.Common.{rules}
+use Rattle.std.proofs.Common.{rules, sym, subst, List}
 use Rattle.std.specs.Ordering.{is_lt}
+use Rattle.std.specs.List.Sorted.{IsPermutation, IsSortedByKey, IsStableByKey}
 use Rattle.std.proofs.lemmas.List.Sorted.{ranks_by, answers_always}
 use Rattle.path_text.specs.Order.{path_cmp}
 use Rattle.path_text.specs.Total.{path_cmp_total}
 use Rattle.flat_list.specs.declared.entries.Entry.{Entry}
 use Rattle.flat_list.proofs.lists.FlatList.sort_path.Goals as goal
 
+pub returns-clause-all : goal.returns-clause-all
+returns-clause-all c =
+    subst (IsPermutation c.args.self.now) (sym c.in_ok-self.ensures)
+    (subst (λ (xs : List Entry). IsPermutation xs c.sort_by.new.self.items) c.in_ok-entries.ensures c.sort_by.ensures.permutation)
+
 pub returns-clause-sorted : goal.returns-clause-sorted
-returns-clause-sorted c = c.in_ok-sort_by.ensures.sorted (λ (x y : Entry). is_lt (path_cmp x.path y.path))
-    (ranks_by path_cmp_total (λ (e : Entry). e.path)) (answers_always _ _ _ (λ f a r f' k. search rules))
+returns-clause-sorted c =
+    subst (IsSortedByKey (λ (e : Entry). e.path) path_cmp) (sym c.in_ok-self.ensures)
+    (c.in_ok-sort_by.ensures.sorted (λ (x y : Entry). is_lt (path_cmp x.path y.path))
+    (ranks_by path_cmp_total (λ (e : Entry). e.path)) (answers_always _ _ _ (λ f a r f' k. search rules)))
 
 pub returns-clause-stable : goal.returns-clause-stable
-returns-clause-stable c = rw (← c.self.view_is)
+returns-clause-stable c =
+    subst (IsStableByKey (λ (e : Entry). e.path) path_cmp c.args.self.now) (sym c.in_ok-self.ensures)
+    (subst (λ (xs : List Entry). IsStableByKey (λ (e : Entry). e.path) path_cmp xs c.sort_by.new.self.items) c.in_ok-entries.ensures
     (c.sort_by.ensures.stable (λ (x y : Entry). is_lt (path_cmp x.path y.path)) (ranks_by path_cmp_total (λ (e : Entry). e.path))
-    (answers_always _ _ _ (λ f a r f' k. search rules)))
+    (answers_always _ _ _ (λ f a r f' k. search rules))))

@@ -7,16 +7,16 @@ use Rattle.tree_cmp.proofs.items.Feed.next.Goals as goal
 pub returns-then-not-is_gone-clause-some : goal.returns-then-not-is_gone-clause-some
 returns-then-not-is_gone-clause-some c =
     sym c.loop-self.invariant.same
-    ∙ gave c.loop-self.self.top.now c.loop-self.self.cursor c.advance.new.self c.advance.result c.entry-entry.result.now c.in_ok-item_of.field-0
-    c.advance.ensures.passed (search rules) c.entry-entry.ensures.at (search rules) c.in_ok-item_of.ensures
+    ∙ gave c.loop-self.self.top.now c.loop-self.self.cursor c.advance.new.self c.in_ok-advance.field-0 c.entry-entry.result.now c.in_ok-item_of.field-0
+    c.in_ok-advance.ensures.passed (search rules) c.entry-entry.ensures.at (search rules) c.in_ok-item_of.ensures
 
 pub loop-self-preserved : goal.loop-self-preserved
 loop-self-preserved c = record {
   sound = record {
     within = within_still (λ (e : Entry). IsTrue (is_within e.path c.loop-self.self.top.now)) c.loop-self.self.cursor c.advance.new.self
-        c.advance.result c.advance.ensures.passed c.loop-self.invariant.sound.within;
-    inside = c.advance.ensures.inside;
+        c.in_ok-advance.field-0 c.in_ok-advance.ensures.passed c.loop-self.invariant.sound.within;
+    inside = c.in_ok-advance.ensures.inside;
   };
-  same = passed_gone c.loop-self.self.top.now c.loop-self.self.cursor c.advance.new.self c.advance.result c.entry-entry.result.now
-      c.advance.ensures.passed (search rules) c.entry-entry.ensures.at (search rules) ∙ c.loop-self.invariant.same;
+  same = passed_gone c.loop-self.self.top.now c.loop-self.self.cursor c.advance.new.self c.in_ok-advance.field-0 c.entry-entry.result.now
+      c.in_ok-advance.ensures.passed (search rules) c.entry-entry.ensures.at (search rules) ∙ c.loop-self.invariant.same;
 }

@@ -1,0 +1,31 @@
+use Rattle.std.proofs.Common.{◌++◌, ◌∷◌, [], ◌∙◌, refl, ap, sym, take, List}
+use Rattle.flat_list.specs.declared.entries.Entry.{Entry}
+use Rattle.flat_list.proofs.Dealt.{taken}
+use Rattle.flat_list.proofs.Turns.{Passes, turn_at, of_list, one_on, inside, no_more}
+use Rattle.std.proofs.lemmas.List.{take_all}
+use Rattle.flat_list.proofs.lists.FlatList.copies.Goals as goal
+
+pub loop-cursor-preserved : goal.loop-cursor-preserved
+loop-cursor-preserved c =
+    let xs = c.args.self.now in
+    let old = c.loop-cursor.entries.items in
+    let e = c.entry.result.now in
+    let p : Passes xs c.loop-cursor.cursor c.advance.new.self c.in_ok-advance.field-0 e = record {
+      of_list = c.loop-cursor.invariant.of_list;
+      some = c.if-branch.true;
+      passed = c.in_ok-advance.ensures.passed;
+      at = c.entry.ensures.at;
+    } in
+    record {
+      of_list = of_list p;
+      inside = inside p;
+      so_far = c.in_ok-push.ensures.items ∙ ap (λ (x : Entry). old ++ x ∷ []) c.in_ok-copy_of.ensures
+          ∙ ap (λ (ys : List Entry). ys ++ e ∷ []) c.loop-cursor.invariant.so_far
+          ∙ sym (taken xs _ e (turn_at _ refl p)) ∙ ap (λ n. take n xs) (one_on p);
+    }
+
+pub returns : goal.returns
+returns c =
+    let over = no_more c.args.self.now c.loop-cursor.cursor c.in_ok-advance.field-0 c.loop-cursor.invariant.of_list
+    c.in_ok-advance.ensures.answer c.if-branch.false in
+    c.loop-cursor.invariant.so_far ∙ take_all c.loop-cursor.cursor.1 c.args.self.now over

@@ -1,0 +1,6 @@
+use Rattle.std.proofs.Common.{◌≡◌}
+use Rattle.flat_list.proofs.lists.FlatList.packed.Given as goal
+
+-- what was packed of the entries
+abbrev pub invariant-loop-entry : goal.invariant-loop-entry
+invariant-loop-entry l = l.list ≡ l.yielded

@@ -1,0 +1,63 @@
+-- Entries packed: each path as the number of bytes that it shares with the one before, and its rest.
+use Rattle.std.specs.Prelude.{ℕ, ◌+◌, ◌*◌, ◌%◌, List, [], ◌∷◌, ◌++◌, length, take, drop, if◌then◌else◌, ◌==◌, nat_eq, nat_lt}
+use Rattle.std.specs.List.{common_prefix_len}
+use Rattle.flat_list.specs.declared.entries.Entry.{Entry}
+use Rattle.flat_list.specs.declared.heads.Head.{Head}
+
+-- how many bytes a path shares with the one before: at the front of a page none
+abbrev pub shared_by : ℕ → List ℕ → List ℕ → ℕ
+shared_by place before path = if place % 256 == 0 then 0 else common_prefix_len nat_eq before path
+
+abbrev pub rest_by : ℕ → List ℕ → List ℕ → List ℕ
+rest_by place before path = drop (shared_by place before path) path
+
+abbrev pub head_from : Entry → ℕ → Head
+head_from e shared = record {
+  stat = e.stat;
+  unnamed = e.unnamed;
+  far = e.far;
+  shared = shared;
+  rest = length (drop shared e.path);
+  mark = e.mark;
+}
+
+abbrev pub head_by : ℕ → List ℕ → Entry → Head
+head_by place before e = head_from e (shared_by place before e.path)
+
+-- the heads, and the rests joined, of entries that stand from a place on, behind a path
+abbrev pub heads_from : ℕ → List ℕ → List Entry → List Head
+heads_from place before [] = []
+heads_from place before (e ∷ es) = head_by place before e ∷ heads_from (place + 1) e.path es
+
+abbrev pub rests_from : ℕ → List ℕ → List Entry → List ℕ
+rests_from place before [] = []
+rests_from place before (e ∷ es) = rest_by place before e.path ++ rests_from (place + 1) e.path es
+
+-- where the rests of each page begin, with one entry more at a place, whose rest begins at such a byte
+abbrev pub starts_by : ℕ → ℕ → List ℕ → List ℕ
+starts_by place at starts = if place % 256 == 0 then starts ++ at ∷ [] else starts
+
+-- what the rests of a page are, joined
+abbrev pub page_of : ℕ → List Entry → List ℕ
+page_of k entries = rests_from 0 [] (take 256 (drop (256 * k) entries))
+
+-- the path that a head tells, and its entry
+abbrev pub path_by : List ℕ → Head → List ℕ → List ℕ
+path_by before h bytes = take h.shared before ++ take h.rest bytes
+
+abbrev pub entry_by : Head → List ℕ → Entry
+entry_by h path = record { path = path; stat = h.stat; mark = h.mark; unnamed = h.unnamed; far = h.far }
+
+-- the entries that heads and rests tell
+abbrev pub unpacked : List ℕ → List Head → List ℕ → List Entry
+unpacked before [] bytes = []
+unpacked before (h ∷ hs) bytes = entry_by h (path_by before h bytes) ∷ unpacked (path_by before h bytes) hs (drop h.rest bytes)
+
+-- the path of the last entry
+abbrev pub last_path : List ℕ → List Entry → List ℕ
+last_path before [] = before
+last_path before (e ∷ es) = last_path e.path es
+
+-- what a path of so many shared bytes and a rest shares with a wanted one, where the path before shares so many with it
+abbrev pub same_after : ℕ → ℕ → List ℕ → List ℕ → ℕ
+same_after same shared rest wanted = if nat_lt same shared then same else shared + common_prefix_len nat_eq rest (drop shared wanted)

@@ -1,0 +1,58 @@
+//! A cursor over the entries of a list.
+ghost use Rattle.std.specs.Prelude.{◌≡◌, ◌+◌, ◌-◌, ◌<◌, ◌≤◌, ◌++◌, ◌∷◌, [], nat_lt, if◌then◌else◌, Some, length, take, slice_get, OnErr, IfOk};
+
+use crate::entries::Entry;
+use crate::passing::Reader;
+use path_text::OutOfMemory;
+use std::marker::Model;
+
+/// Goes over the entries of a list in their order: seen as (the list, how many entries were passed).
+#[derive(Debug, Drop)]
+pub struct Cursor<'a> {
+    reader: Reader<'a>,
+}
+
+impl<'a> Model for Cursor<'a> {
+    ghost use Rattle.std.specs.Prelude.{◌≡◌, ◌-◌, ◌<◌, ◌≤◌, List, ℕ, length, slice_get, Some};
+    ghost use Rattle.flat_list.specs.declared.entries.Entry.{Entry};
+
+    ghost Value = { List Entry × ℕ };
+
+    ghost view = { λ c. (c.reader.0, c.reader.1) };
+
+    ghost invariant = { λ c. (c.reader.1 ≤ length c.reader.0) × (0 < c.reader.1 → slice_get c.reader.0 (c.reader.1 - 1) ≡ Some c.reader.2) };
+}
+
+impl<'a> Cursor<'a> {
+    // A cursor before the first entry.
+    pub(crate) fn before(reader: Reader<'a>) -> Cursor<'a>
+        requires { reader.1 ≡ 0 }
+        ensures { result ≡ (reader.entry.0, 0) }
+    {
+        Cursor { reader }
+    }
+
+    /// Passes the next entry. It answers whether there was one. A refusal leaves the cursor. Memory is taken where no path so
+    /// far was as long as the next.
+    pub fn advance(&mut self) -> Result<bool, OutOfMemory>
+        ensures answer { IfOk result (λ more. more ≡ nat_lt self.old.1 (length self.old.0)) }
+        ensures passed { IfOk result (λ more. self.new ≡ (self.old.0, if more then self.old.1 + 1 else self.old.1)) }
+        ensures err { OnErr result (self.new ≡ self.old) }
+        ensures inside { self.new.1 ≤ length self.new.0 }
+    {
+        if self.reader.is_over() {
+            return Ok(false);
+        }
+        self.reader.pass()?;
+        Ok(true)
+    }
+
+    /// The entry that was passed last.
+    pub fn entry(&self) -> &Entry
+        requires { 0 < self.now.1 }
+        ensures at { slice_get self.now.0 (self.now.1 - 1) ≡ Some result.now }
+        ensures last { take self.now.1 self.now.0 ≡ take (self.now.1 - 1) self.now.0 ++ result.now ∷ [] }
+    {
+        self.reader.entry()
+    }
+}

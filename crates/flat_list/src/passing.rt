@@ -1,0 +1,121 @@
+//! The entries of a list made again, one by one.
+ghost use Rattle.std.specs.Prelude.{◌≡◌, ◌+◌, ◌*◌, ◌<◌, ◌≤◌, ◌++◌, [], true, false, Some, length, take, slice_get, OnOk, OnErr, IfOk};
+ghost use Rattle.flat_list.specs.Pack.{entry_by, unpacked};
+ghost use Rattle.flat_list.specs.Private.Kept.{is_path, IsBefore};
+
+use crate::entries::{Entry, Mark};
+use crate::heads::{Head, Leads};
+use path_text::{OutOfMemory, Path};
+use std::alloc::Global;
+use std::marker::Model;
+
+/// Makes the entries of a list again, in their order: seen as (the list, how many entries were passed, the entry passed last).
+#[derive(Debug, Drop)]
+pub(crate) struct Reader<'a> {
+    heads: Leads<'a>,
+    rests: &'a [u8],
+    at: usize,
+    entry: Entry,
+}
+
+impl<'a> Model for Reader<'a> {
+    ghost use Rattle.std.specs.Prelude.{List, ℕ, []};
+    ghost use Rattle.flat_list.specs.declared.entries.Entry.{Entry};
+    ghost use Rattle.flat_list.specs.Pack.{unpacked};
+    ghost use Rattle.flat_list.specs.Private.Kept.{IsAt};
+
+    ghost Value = { List Entry × ℕ × Entry };
+
+    ghost view = { λ r. (unpacked [] r.heads.0 r.rests.now, r.heads.1, r.entry) };
+
+    ghost invariant = { λ r. IsAt r.heads.0 r.rests.now r.heads.1 r.at r.entry.path (unpacked [] r.heads.0 r.rests.now) };
+}
+
+impl<'a> Reader<'a> {
+    /// A reader before a page, whose rests begin at a byte. It takes the memory of one entry.
+    pub fn make(
+        alloc: Global,
+        heads: Leads<'a>,
+        rests: &'a [u8],
+        at: usize,
+    ) -> Result<Reader<'a>, OutOfMemory>
+        requires { IsBefore heads.0 rests.now heads.1 at }
+        ensures list { IfOk result (λ reader. reader.0 ≡ unpacked [] heads.entry.0 rests.now) }
+        ensures passed { IfOk result (λ reader. reader.1 ≡ heads.entry.1) }
+    {
+        let entry = blank(alloc)?;
+        Ok(Reader {
+            heads,
+            rests,
+            at,
+            entry,
+        })
+    }
+
+    /// Whether all entries were passed.
+    pub fn is_over(&self) -> bool
+        ensures yes { result ≡ true → self.now.1 ≡ length self.now.0 }
+        ensures no { result ≡ false → self.now.1 < length self.now.0 }
+    {
+        self.heads.is_over()
+    }
+
+    /// Passes the next entry. A refusal leaves the reader.
+    pub fn pass(&mut self) -> Result<(), OutOfMemory>
+        requires { self.old.1 < length self.old.0 }
+        ensures list { self.new.0 ≡ self.old.0 }
+        ensures passed { OnOk result (self.new.1 ≡ self.old.1 + 1) }
+        ensures entry { OnOk result (slice_get self.old.0 self.old.1 ≡ Some self.new.2) }
+        ensures err { OnErr result (self.new ≡ self.old) }
+    {
+        let head = self.heads.head();
+        let end = self.at + head.rest as usize;
+        rewrite(&mut self.entry, head, &self.rests[self.at..end])?;
+        self.heads.pass();
+        self.at = end;
+        Ok(())
+    }
+
+    /// The entry that was passed last.
+    pub fn entry(&self) -> &Entry
+        ensures { result.now ≡ self.now.2 }
+    {
+        &self.entry
+    }
+
+    /// The entry that was passed last, moved out.
+    pub fn into_entry(self) -> Entry
+        ensures { result ≡ self.entry.2 }
+    {
+        self.entry
+    }
+}
+
+// An entry becomes the next one. A refusal leaves it.
+#[tactic(auto, using(crate::proofs::Passed::refusal_of, crate::proofs::Passed::utf8_of))]
+fn rewrite(entry: &mut Entry, head: Head, rest: &[u8]) -> Result<(), OutOfMemory>
+    requires { is_path (take head.shared entry.old.path ++ rest.now) ≡ true }
+    ensures ok { OnOk result (entry.new ≡ entry_by head (take head.shared entry.old.path ++ rest.now)) }
+    ensures err { OnErr result (entry.new ≡ entry.old) }
+{
+    entry.path.rewrite(head.shared as usize, rest)?;
+    entry.stat = head.stat;
+    entry.mark = head.mark;
+    entry.unnamed = head.unnamed;
+    entry.far = head.far;
+    Ok(())
+}
+
+// Before the first entry a reader holds the entry of `/`, of which nothing is told.
+fn blank(alloc: Global) -> Result<Entry, OutOfMemory> {
+    let Ok(path) = Path::parse(alloc, "/") else {
+        return Err(OutOfMemory);
+    };
+    Ok(Entry {
+        path,
+        stat: None,
+        mark: Mark::Fine,
+        unnamed: 0,
+        far: 0,
+    })
+}
