@@ -12,7 +12,7 @@ each_of P first second a b (suc (suc k)) d below = absurd (omega arith)
 
 pub run-requires-clause-ready : goal.run-requires-clause-ready
 run-requires-clause-ready g c =
-    let whole : c.make.result.ranks.items ≡ c.args.zero ∷ c.args.one ∷ [] =
+    let whole : c.make.result ≡ c.args.zero ∷ c.args.one ∷ [] =
     c.make.ensures ∙ c.in_ok-push-2.ensures.items
     ∙ ap (λ xs. xs ++ c.args.one ∷ []) (c.in_ok-push.ensures.items ∙ ap (λ xs. xs ++ c.args.zero ∷ []) c.in_ok-ranks.ensures.items) in
     subst (λ (xs : List (Rank _ _ _)). (k : ℕ) (d : Rank _ _ _) → k < length xs
