@@ -253,9 +253,8 @@ fn has_paths(rt: &impl Abort, list: &FlatList, paths: &[&str]) -> Result<(), Fai
     Ok(())
 }
 
-#[test]
-fn a_small_tree_is_selected(rt: HostRuntime) -> Result<(), Fail> {
-    let alloc = rt.alloc();
+// A tree of two directories, three files and a path that is gone.
+fn small_tree(alloc: Global) -> Result<FlatList, Fail> {
     let mut list = FlatList::make(alloc);
     for (path, kind, size) in [
         ("/t", Kind::Dir, 0),
@@ -276,35 +275,38 @@ fn a_small_tree_is_selected(rt: HostRuntime) -> Result<(), Fail> {
         )?;
     }
     add(&mut list, alloc, "/t/gone", None)?;
-    let now = 259200;
+    Ok(list)
+}
+
+// Whether just these paths of the small tree meet the tests, two days after its files were changed.
+fn selects(
+    rt: &impl Abort,
+    alloc: Global,
+    texts: &[(TestName, &str)],
+    paths: &[&str],
+) -> Result<(), Fail> {
+    let list = small_tree(alloc)?;
+    let mut tests = Vec::new(alloc);
+    for (name, text) in texts {
+        tests.push(parse_test(alloc, *name, text)?)?;
+    }
+    let selected = select(alloc, &list, &tests, 259200)?;
+    has_paths(rt, &selected, paths)
+}
+
+#[test]
+fn a_small_tree_is_selected(rt: HostRuntime) -> Result<(), Fail> {
+    let alloc = rt.alloc();
     let all = ["/t", "/t/a", "/t/b", "/t/b/c", "/t/b-x"];
-    has_paths(&rt, &select(alloc, &list, &[], now)?, &all)?;
-    let some = parse_test(alloc, TestName::Size, "+0")?;
-    has_paths(
-        &rt,
-        &select(alloc, &list, &[some], now)?,
-        &["/t/a", "/t/b-x"],
-    )?;
-    let none = parse_test(alloc, TestName::Size, "-1")?;
-    let files = parse_test(alloc, TestName::Kind, "f")?;
-    has_paths(
-        &rt,
-        &select(alloc, &list, &[none, files], now)?,
-        &["/t/b/c"],
-    )?;
-    let days = parse_test(alloc, TestName::Days, "2")?;
-    let minutes = parse_test(alloc, TestName::Minutes, "2880")?;
-    has_paths(&rt, &select(alloc, &list, &[days, minutes], now)?, &all)?;
-    let older = parse_test(alloc, TestName::Days, "+2")?;
-    has_paths(&rt, &select(alloc, &list, &[older], now)?, &[])?;
-    let path = parse_test(alloc, TestName::Path, "*b*")?;
-    let name = parse_test(alloc, TestName::Name, "?")?;
-    has_paths(
-        &rt,
-        &select(alloc, &list, &[path, name], now)?,
-        &["/t/b", "/t/b/c"],
-    )?;
-    Ok(())
+    selects(&rt, alloc, &[], &all)?;
+    selects(&rt, alloc, &[(TestName::Size, "+0")], &["/t/a", "/t/b-x"])?;
+    let empty = [(TestName::Size, "-1"), (TestName::Kind, "f")];
+    selects(&rt, alloc, &empty, &["/t/b/c"])?;
+    let old = [(TestName::Days, "2"), (TestName::Minutes, "2880")];
+    selects(&rt, alloc, &old, &all)?;
+    selects(&rt, alloc, &[(TestName::Days, "+2")], &[])?;
+    let named = [(TestName::Path, "*b*"), (TestName::Name, "?")];
+    selects(&rt, alloc, &named, &["/t/b", "/t/b/c"])
 }
 
 #[test]
