@@ -11,7 +11,8 @@ pub mod Damage
 pub mod Decoded
 pub mod Encoded
 pub mod Unique
-pub mod Paired
+pub mod Merged
+pub mod Sourced
 pub mod Halved
 pub mod Inverse
 pub mod Passed

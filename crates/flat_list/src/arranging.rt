@@ -1,4 +1,4 @@
-//! The logs of a walk, brought close to path order before they are sorted.
+//! A piece of a log of a walk, brought close to path order before it is sorted.
 //!
 //! A rank handles its newest string first, so its log has each directory before what is below it, and siblings in falling
 //! order. In such a list the place of an entry in path order follows from where what is below it ends: behind the entries that
@@ -10,33 +10,15 @@ ghost use Rattle.std.specs.Prelude.{◌<◌, length, IfSome, IsSome};
 ghost use Rattle.std.specs.List.Sorted.{IsPermutation};
 
 use crate::entries::Entry;
-use crate::merging::merged;
 use std::alloc::AllocError;
 
-/// Moves the entries of some logs of a walk, joined, to their places in path order; any other list is left in some order.
-/// Each log ends where `ends` says.
-pub(crate) fn arrange(entries: &mut Vec<Entry>, ends: &[usize]) -> Result<(), AllocError>
+/// Moves the entries of a piece of a log of a walk to their places in path order; any other list is left in some order.
+pub(crate) fn arrange(entries: &mut Vec<Entry>) -> Result<(), AllocError>
     ensures { IsPermutation entries.old.items entries.new.items }
 {
-    let mut places = places_of(entries, ends)?;
-    if ends.len() > 1 {
-        let order = merged(*entries.allocator(), entries, turned(&places)?)?;
-        places = turned(&order)?;
-    }
+    let mut places = places_of(entries)?;
     settle_all(entries, &mut places);
     Ok(())
-}
-
-// Of places by entry, the entries by place; and the other way round.
-fn turned(places: &Vec<usize>) -> Result<Vec<usize>, AllocError> {
-    let mut turned = Vec::with_capacity(*places.allocator(), places.len())?;
-    turned.resize(places.len(), 0)?;
-    for (at, place) in places.iter().enumerate() {
-        if let Some(slot) = turned.get_mut(*place) {
-            *slot = at;
-        }
-    }
-    Ok(turned)
 }
 
 fn settle_all(entries: &mut [Entry], places: &mut [usize])
@@ -82,22 +64,14 @@ struct Above {
     level: u32,
 }
 
-// Where each entry belongs, with each log by itself and the last log first.
-fn places_of(entries: &Vec<Entry>, ends: &[usize]) -> Result<Vec<usize>, AllocError> {
+// Where each entry belongs.
+fn places_of(entries: &Vec<Entry>) -> Result<Vec<usize>, AllocError> {
     let alloc = *entries.allocator();
     let mut places = Vec::with_capacity(alloc, entries.len())?;
     let mut above = Vec::new(alloc);
-    let mut ends = ends;
     for (at, entry) in entries.iter().enumerate() {
-        let to_come = entries.len() - at;
-        if let [end, later @ ..] = ends
-            && *end <= at
-        {
-            close(&mut places, &mut above, 0, to_come);
-            ends = later;
-        }
         let level = entry.path.level();
-        close(&mut places, &mut above, level, to_come);
+        close(&mut places, &mut above, level, entries.len() - at);
         places.push(at)?;
         above.push(Above { at, level })?;
     }

@@ -1,16 +1,14 @@
-//! The logs of a walk, put in order in several threads.
+//! The logs of a walk, cut into runs in several threads.
 //!
-//! The logs are halved, and the threads with them, until there is one thread or one log; what two threads put in order is then
-//! brought together in one of them. So only the last two lists are brought together in the thread that asked.
+//! The logs are halved, and the threads with them, until there is one thread or one log.
 ghost use Rattle.std.specs.Prelude.{◌≡◌, ◌-◌, ◌<◌, ◌≤◌, IfOk};
 ghost use Rattle.std.specs.List.{flat_map};
-ghost use Rattle.std.specs.List.Sorted.{IsPermutation, IsSortedByKey};
-ghost use Rattle.path_text.specs.Order.{path_cmp};
+ghost use Rattle.std.specs.List.Sorted.{IsPermutation};
 ghost use denote.Param.Send.{IsSync};
 
-use crate::entries::Entry;
-use crate::joining::{in_path_order, len_of};
-use crate::pairing::paired;
+use crate::lists::FlatList;
+use crate::merging::len_of;
+use crate::runs::runs_of;
 use path_text::OutOfMemory;
 use std::alloc::Global;
 use std::thread;
@@ -19,35 +17,34 @@ use std::thread::Threads;
 // Fewer entries are put in order in one thread.
 const FEW: usize = 4096;
 
-/// All entries of the logs, in path order, by up to `hosts` threads.
+/// All entries of the logs as runs, by up to `hosts` threads.
 #[cycle(halves)]
-pub(crate) fn in_order<R: Threads + Sync>(
+pub(crate) fn runs_by<R: Threads + Sync>(
     rt: &R,
     alloc: Global,
-    logs: Vec<Vec<Entry>>,
+    logs: Vec<FlatList>,
     hosts: u32,
-) -> Result<Vec<Entry>, OutOfMemory>
+) -> Result<Vec<FlatList>, OutOfMemory>
     requires { 1 ≤ hosts }
-    ensures all { IfOk result (λ all. IsPermutation (flat_map (λ log. log.items) logs.items) all.items) }
-    ensures sorted { IfOk result (λ all. IsSortedByKey (λ e. e.path) path_cmp all.items) }
+    ensures { IfOk result (λ runs. IsPermutation (flat_map (λ log. log) logs.items) (flat_map (λ run. run) runs.items)) }
 {
     if hosts == 1 || logs.len() < 2 || len_of(&logs) < FEW {
-        return in_path_order(alloc, logs);
+        return runs_of(alloc, logs);
     }
     let mut logs = logs;
     let later = logs.split_off(logs.len() / 2)?;
     let few = hosts / 2;
-    let front = move || -> Result<Vec<Entry>, OutOfMemory>
+    let front = move || -> Result<Vec<FlatList>, OutOfMemory>
         requires { IsSync R.row × (few < hosts) × (1 ≤ hosts - few) }
-        ensures all { IfOk result (λ all. IsPermutation (flat_map (λ log. log.items) logs.items) all.items) }
-        ensures sorted { IfOk result (λ all. IsSortedByKey (λ e. e.path) path_cmp all.items) }
-    { in_order(rt, alloc, logs, hosts - few) };
-    let back = move || -> Result<Vec<Entry>, OutOfMemory>
+        ensures { IfOk result (λ runs. IsPermutation (flat_map (λ log. log) logs.items) (flat_map (λ run. run) runs.items)) }
+    { runs_by(rt, alloc, logs, hosts - few) };
+    let back = move || -> Result<Vec<FlatList>, OutOfMemory>
         requires { IsSync R.row × (1 ≤ few) }
-        ensures all { IfOk result (λ all. IsPermutation (flat_map (λ log. log.items) later.items) all.items) }
-        ensures sorted { IfOk result (λ all. IsSortedByKey (λ e. e.path) path_cmp all.items) }
-    { in_order(rt, alloc, later, few) };
+        ensures { IfOk result (λ runs. IsPermutation (flat_map (λ log. log) later.items) (flat_map (λ run. run) runs.items)) }
+    { runs_by(rt, alloc, later, few) };
     let (one, other) = thread::join(rt, front, back);
-    let all = paired(alloc, one?, other?)?;
+    let mut all = one?;
+    let mut other = other?;
+    all.append(&mut other)?;
     Ok(all)
 }

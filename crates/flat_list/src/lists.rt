@@ -16,12 +16,13 @@ use crate::decoding::decode;
 use crate::encoding::encode;
 use crate::entries::{Entry, copy_of};
 use crate::errors::CacheError;
-use crate::halving::in_order;
+use crate::halving::runs_by;
 use crate::heads::Heads;
-use crate::joining::in_path_order;
+use crate::merging::{len_of, merged};
 use crate::ordering::{Field, sort_order};
 use crate::packing::{head_of, put, shared_of};
 use crate::passing::Reader;
+use crate::runs::run_of;
 use crate::seeking::place_in;
 use crate::summaries::{Summary, summary_of};
 use path_text::{OutOfMemory, Path};
@@ -79,8 +80,17 @@ impl FlatList {
         })
     }
 
+    // No entries, with room for those of some lists.
+    pub(crate) fn with_room_of(alloc: Global, lists: &[FlatList]) -> Result<FlatList, OutOfMemory>
+        ensures { IfOk result (λ list. list ≡ []) }
+    {
+        let mut all = FlatList::with_room(alloc, len_of(lists))?;
+        all.rests.reserve(rests_len(lists))?;
+        Ok(all)
+    }
+
     // The entries packed. Each is dropped as soon as it is packed.
-    fn packed(alloc: Global, entries: Vec<Entry>) -> Result<FlatList, OutOfMemory>
+    pub(crate) fn packed(alloc: Global, entries: Vec<Entry>) -> Result<FlatList, OutOfMemory>
         ensures { IfOk result (λ list. list ≡ entries.items) }
     {
         let mut list = FlatList::with_room(alloc, entries.len())?;
@@ -175,29 +185,47 @@ impl FlatList {
         self.add(entry)
     }
 
-    /// All entries of the logs, in path order. They are moved while they are put in order, and packed at the end, where each is
-    /// dropped as soon as it is packed. Logs that ranks of a walk made are soonest in order; to merge several takes room for
-    /// three numbers an entry.
+    /// All entries of the logs, in path order. They are moved while each log is put in order, and each is dropped as soon as
+    /// it is packed. Logs that ranks of a walk made are soonest in order.
     pub fn from_jobs(alloc: Global, logs: Vec<Vec<Entry>>) -> Result<FlatList, OutOfMemory>
         ensures all { IfOk result (λ list. IsPermutation (flat_map (λ log. log.items) logs.items) list) }
         ensures sorted { IfOk result (λ list. IsSortedByKey (λ e. e.path) path_cmp list) }
     {
-        FlatList::packed(alloc, in_path_order(alloc, logs)?)
+        let mut runs = Vec::with_capacity(alloc, logs.len())?;
+        for log in logs {
+            runs.push(run_of(alloc, log)?)?;
+        }
+        let list = FlatList::of_runs(alloc, runs)?;
+        Ok(list)
     }
 
-    /// All entries of the logs, in path order, as [`FlatList::from_jobs`] has them. The logs are put in order in up to `hosts`
-    /// threads, and what these put in order is brought together two and two.
+    /// All entries of the logs, in path order, soonest where ranks of a walk made them. Up to `hosts` threads unpack the logs, a
+    /// piece at a time, and put each piece in order; the pieces are then brought together. A log is dropped as soon as it is
+    /// read. So it takes room for all entries, packed, once more.
     pub fn from_logs<R: Threads + Sync>(
         rt: &R,
         alloc: Global,
-        logs: Vec<Vec<Entry>>,
+        logs: Vec<FlatList>,
         hosts: u32,
     ) -> Result<FlatList, OutOfMemory>
         requires { 1 ≤ hosts }
-        ensures all { IfOk result (λ list. IsPermutation (flat_map (λ log. log.items) logs.items) list) }
+        ensures all { IfOk result (λ list. IsPermutation (flat_map (λ log. log) logs.items) list) }
         ensures sorted { IfOk result (λ list. IsSortedByKey (λ e. e.path) path_cmp list) }
     {
-        FlatList::packed(alloc, in_order(rt, alloc, logs, hosts)?)
+        let runs = runs_by(rt, alloc, logs, hosts)?;
+        let list = FlatList::of_runs(alloc, runs)?;
+        Ok(list)
+    }
+
+    // All entries of the runs, in path order.
+    fn of_runs(alloc: Global, runs: Vec<FlatList>) -> Result<FlatList, OutOfMemory>
+        ensures all { IfOk result (λ list. IsPermutation (flat_map (λ run. run) runs.items) list) }
+        ensures sorted { IfOk result (λ list. IsSortedByKey (λ e. e.path) path_cmp list) }
+    {
+        let mut list = merged(alloc, &runs)?;
+        drop(runs);
+        list.sort_path()?;
+        Ok(list)
     }
 
     /// A copy of the entry at a place. It goes over the entries of its page up to that place. To go over all entries take a
@@ -329,6 +357,15 @@ impl FlatList {
         let reader = Reader::make(self.alloc(), self.heads.leads(), &self.rests, 0)?;
         Ok(Cursor::before(reader))
     }
+}
+
+// How many bytes the rests of some lists have.
+fn rests_len(lists: &[FlatList]) -> usize {
+    let mut len = 0usize;
+    for list in lists {
+        len = len.saturating_add(list.rests.len());
+    }
+    len
 }
 
 // Where the rests of a page begin; where there is no such page, how many bytes there are.

@@ -1,112 +1,125 @@
-//! The ascending runs of an order, merged.
+//! Runs that become one list.
 //!
-//! An order is the places of some entries, one behind the other. Here it only decides how soon the entries stand where they
-//! belong, so nothing is promised of it. Two runs are merged by pieces: of the one whose head comes first all that comes
-//! before the other's head, found by steps that double, so that few paths are compared where the runs hold whole
-//! directories.
-ghost use Rattle.std.specs.Prelude.{◌+◌, ◌≤◌, length};
+//! The run whose next entry comes first gives its entries until that of another comes first. Which run is next is found by
+//! halving among the others, kept in falling order of their next entries, so of many runs few paths are compared. Nothing is
+//! promised of the order: whoever wants a list in order goes over it once more.
+ghost use Rattle.std.specs.Prelude.{◌≡◌, ◌++◌, ◌≤◌, length, OnOk, IfOk};
+ghost use Rattle.std.specs.List.{flat_map};
+ghost use Rattle.std.specs.List.Sorted.{IsPermutation};
 
-use crate::entries::Entry;
-use std::alloc::{AllocError, Global};
+use crate::lists::FlatList;
+use crate::sources::Source;
+use path_text::OutOfMemory;
+use std::alloc::Global;
 
-/// The places in the order of their entries' paths, where they are given as a few ascending runs one behind the other.
-pub(crate) fn merged(
-    alloc: Global,
-    entries: &[Entry],
-    order: Vec<usize>,
-) -> Result<Vec<usize>, AllocError> {
-    let mut order = order;
-    let mut ends = run_ends(alloc, entries, &order)?;
-    for _ in 0..usize::BITS {
-        if ends.len() <= 1 {
-            break;
-        }
-        let mut pairs = Vec::with_capacity(alloc, order.len())?;
-        ends = merge_pairs(alloc, entries, &order, &ends, &mut pairs)?;
-        order = pairs;
-    }
-    Ok(order)
-}
-
-// Where the ascending runs end.
-fn run_ends(alloc: Global, entries: &[Entry], order: &[usize]) -> Result<Vec<usize>, AllocError> {
-    let mut ends = Vec::new(alloc);
-    let mut last = None;
-    for (at, place) in order.iter().enumerate() {
-        if let Some(last) = last {
-            if comes_before(entries, *place, last) {
-                ends.push(at)?;
-            }
-        }
-        last = Some(*place);
-    }
-    ends.push(order.len())?;
-    Ok(ends)
-}
-
-// Merges the runs, two and two, behind what is merged already, and tells where they end now.
-fn merge_pairs(
-    alloc: Global,
-    entries: &[Entry],
-    order: &[usize],
-    ends: &[usize],
-    merged: &mut Vec<usize>,
-) -> Result<Vec<usize>, AllocError> {
-    let mut merged_ends = Vec::new(alloc);
-    let mut begin = 0;
-    for pair in ends.chunks(2) {
-        let (middle, end) = match pair {
-            [middle, end] => (*middle, *end),
-            _ => (order.len(), order.len()),
-        };
-        let one = order.get(begin..middle).unwrap_or(&[]);
-        let other = order.get(middle..end).unwrap_or(&[]);
-        merge(entries, one, other, merged)?;
-        merged_ends.push(merged.len())?;
-        begin = end;
-    }
-    Ok(merged_ends)
-}
-
-// Merges two runs behind what is merged already. Each step but the first moves a piece.
-fn merge(
-    entries: &[Entry],
-    one: &[usize],
-    other: &[usize],
-    merged: &mut Vec<usize>,
-) -> Result<(), AllocError> {
-    let mut one = one;
-    let mut other = other;
-    for _ in 0..one.len() + other.len() + 1 {
-        let Some(head) = other.first() else {
-            break;
-        };
-        let (piece, rest) = one.split_at(piece_len(entries, one, *head));
-        merged.extend_from_slice(piece)?;
-        one = other;
-        other = rest;
-    }
-    merged.extend_from_slice(one)?;
-    merged.extend_from_slice(other)
-}
-
-// How many at the front of a run come before an entry or tie with it.
-fn piece_len(entries: &[Entry], run: &[usize], head: usize) -> usize
-    ensures { result ≤ length run.now }
+/// All entries of the runs; where each run is in path order, so are they.
+pub(crate) fn merged(alloc: Global, runs: &[FlatList]) -> Result<FlatList, OutOfMemory>
+    ensures { IfOk result (λ all. IsPermutation (flat_map (λ run. run) runs.now) all) }
 {
-    let mut len = 0;
-    let mut step = 1;
-    while step <= run.len() - len && !comes_before(entries, head, run[len + step - 1]) {
-        len += step;
-        step *= 2;
-    }
-    let window = &run[len..(len + step - 1).min(run.len())];
-    len + window.partition_point(|place| !comes_before(entries, head, *place))
+    let mut all = FlatList::with_room_of(alloc, runs)?;
+    let mut sources = sources_of(alloc, runs)?;
+    let mut waiting = waiting_of(alloc, &sources)?;
+    give_in_turn(&mut all, &mut sources, &mut waiting, len_of(runs))?;
+    give_rest(&mut all, sources)?;
+    Ok(all)
 }
 
-// Whether the entry at one place comes before that at another.
-fn comes_before(entries: &[Entry], one: usize, other: usize) -> bool {
-    match (entries.get(one), entries.get(other)) {
+// How many entries the lists have.
+pub(crate) fn len_of(lists: &[FlatList]) -> usize {
+    let mut len = 0usize;
+    for list in lists {
+        len = len.saturating_add(list.len());
+    }
+    len
+}
+
+fn sources_of<'a>(alloc: Global, runs: &'a [FlatList]) -> Result<Vec<Source<'a>>, OutOfMemory>
+    ensures { IfOk result (λ sources. sources.items ≡ runs.now) }
+{
+    let mut sources = Vec::with_capacity(alloc, runs.len())?;
+    for run in runs {
+        sources.push(Source::make(run)?)?;
+    }
+    Ok(sources)
+}
+
+// Each source that is not over, those whose next entry comes first at the end.
+fn waiting_of(alloc: Global, sources: &[Source<'_>]) -> Result<Vec<usize>, OutOfMemory> {
+    let mut waiting = Vec::with_capacity(alloc, sources.len())?;
+    for at in 0..sources.len() {
+        if !is_over(sources, at) {
+            wait(sources, &mut waiting, at);
+        }
+    }
+    Ok(waiting)
+}
+
+// The sources give so many entries, each that which comes first.
+fn give_in_turn(
+    all: &mut FlatList,
+    sources: &mut [Source<'_>],
+    waiting: &mut Vec<usize>,
+    count: usize,
+) -> Result<(), OutOfMemory>
+    ensures { OnOk result (IsPermutation (all.old ++ flat_map (λ s. s) sources.old) (all.new ++ flat_map (λ s. s) sources.new)) }
+{
+    let mut at = waiting.pop().unwrap_or(sources.len());
+    for _ in 0..count {
+        if at >= sources.len() {
+            return Ok(());
+        }
+        sources[at].give(all)?;
+        at = next_turn(sources, waiting, at);
+    }
+    Ok(())
+}
+
+// What is left in the sources goes behind the others.
+fn give_rest(all: &mut FlatList, sources: Vec<Source<'_>>) -> Result<(), OutOfMemory>
+    ensures { OnOk result (all.new ≡ all.old ++ flat_map (λ s. s) sources.entry.items) }
+{
+    for source in sources {
+        let mut source = source;
+        source.give_all(all)?;
+    }
+    Ok(())
+}
+
+// Which source is next, behind one that just gave an entry.
+fn next_turn(sources: &[Source<'_>], waiting: &mut Vec<usize>, at: usize) -> usize {
+    if is_over(sources, at) {
+        return waiting.pop().unwrap_or(sources.len());
+    }
+    let Some(next) = waiting.last().copied() else {
+        return at;
+    };
+    if !comes_before(sources, next, at) {
+        return at;
+    }
+    let _ = waiting.pop();
+    wait(sources, waiting, at);
+    next
+}
+
+// A source waits among the others, before those that come no later.
+fn wait(sources: &[Source<'_>], waiting: &mut Vec<usize>, at: usize) {
+    let place = waiting.partition_point(|other| comes_before(sources, at, *other));
+    let _ = waiting.insert(place, at);
+}
+
+fn is_over(sources: &[Source<'_>], at: usize) -> bool {
+    match sources.get(at) {
+        Some(source) => source.is_over(),
+        None => true,
+    }
+}
+
+// Whether the next entry of one source comes before that of another.
+fn comes_before(sources: &[Source<'_>], one: usize, other: usize) -> bool {
+    let (Some(one), Some(other)) = (sources.get(one), sources.get(other)) else {
+        return false;
+    };
+    match (one.next(), other.next()) {
         (Some(one), Some(other)) => one.path.cmp(&other.path).is_lt(),
         _ => false,
     }

@@ -268,21 +268,21 @@ fn numbered(alloc: Global, at: usize) -> Result<Entry, Fail>
 }
 
 // The numbers below 6000, dealt to so many logs from the last number down, and 0 once more in the last log.
-fn dealt_logs(alloc: Global, ranks: usize) -> Result<Vec<Vec<Entry>>, Fail>
+fn dealt_logs(alloc: Global, ranks: usize) -> Result<Vec<FlatList>, Fail>
     requires { 1 ≤ ranks }
 {
     let mut logs = Vec::new(alloc);
     for _ in 0..ranks {
-        logs.push(Vec::new(alloc))?;
+        logs.push(FlatList::make(alloc))?;
     }
     for at in (0..6000).rev() {
         let entry = numbered(alloc, at)?;
         if let Some(log) = logs.get_mut(at % ranks) {
-            log.push(entry)?;
+            log.add(&entry)?;
         }
     }
     if let Some(log) = logs.last_mut() {
-        log.push(numbered(alloc, 0)?)?;
+        log.add(&numbered(alloc, 0)?)?;
     }
     Ok(logs)
 }

@@ -3,7 +3,7 @@ ghost use Rattle.std.specs.Prelude.{◌≡◌, [], ◌++◌, ◌∷◌, map, OnO
 
 use crate::keeping::handle_path;
 use circle_run::Job;
-use flat_list::Entry;
+use flat_list::FlatList;
 use outside::{Listing, Tree};
 use path_text::{OutOfMemory, Path};
 use rank_queue::Batch;
@@ -13,11 +13,11 @@ use std::marker::Model;
 /// The job of one rank in a walk, seen as its reader and the entries that it made, each with the paths that it pushed for
 /// it. Only [`crate::walk`] makes and opens one.
 ///
-/// Of what it pushed it keeps the names, as the directory told them; the paths themselves have moved on.
+/// The entries are packed as they are made. Of what it pushed it keeps the names, as the directory told them; the paths themselves have moved on.
 #[derive(Drop)]
 pub struct WalkJob<R: Tree> {
     reader: R,
-    entries: Vec<Entry>,
+    entries: FlatList,
     names: Vec<Listing>,
 }
 
@@ -28,9 +28,9 @@ impl<R: Tree> Model for WalkJob<R> {
 
     ghost Value = { R × List Held };
 
-    ghost view = { λ w. (w.reader, held_of w.entries.items w.names.items) };
+    ghost view = { λ w. (w.reader, held_of w.entries w.names.items) };
 
-    ghost invariant = { λ w. Holds (R.tree w.reader) (R.count w.reader) (held_of w.entries.items w.names.items) × (count_by is_listed w.entries.items ≡ length w.names.items) };
+    ghost invariant = { λ w. Holds (R.tree w.reader) (R.count w.reader) (held_of w.entries w.names.items) × (count_by is_listed w.entries ≡ length w.names.items) };
 }
 
 impl<R: Tree> WalkJob<R> {
@@ -42,15 +42,15 @@ impl<R: Tree> WalkJob<R> {
     {
         WalkJob {
             reader,
-            entries: Vec::new(alloc),
+            entries: FlatList::make(alloc),
             names: Vec::new(alloc),
         }
     }
 
     // Its reader, its entries, and the names that it kept.
-    pub(crate) fn open(self) -> (R, Vec<Entry>, Vec<Listing>)
+    pub(crate) fn open(self) -> (R, FlatList, Vec<Listing>)
         ensures reader { result.0 ≡ self.0 }
-        ensures entries { result.1.items ≡ entries_of self.1 }
+        ensures entries { result.1 ≡ entries_of self.1 }
         ensures holds { Holds (R.tree self.0) (R.count self.0) self.1 }
     {
         let WalkJob {

@@ -6,7 +6,7 @@ ghost use Rattle.path_text.specs.Path.{joined};
 ghost use Rattle.tree_walk.specs.Held.{Holds, held_of, is_listed, log_of};
 
 use crate::looking::{is_listed, look, push_children};
-use flat_list::Entry;
+use flat_list::{Entry, FlatList};
 use outside::{Listing, Tree};
 use path_text::{OutOfMemory, Path};
 use rank_queue::Batch;
@@ -14,46 +14,52 @@ use rank_queue::Batch;
 // Handles one path: its entry is kept, and its children are pushed.
 pub fn handle_path<R: Tree>(
     reader: &mut R,
-    entries: &mut Vec<Entry>,
+    entries: &mut FlatList,
     names: &mut Vec<Listing>,
     item: &Path,
     fresh: &mut Batch,
 ) -> Result<(), OutOfMemory>
     requires empty { fresh.old ≡ [] }
-    requires holds { Holds (R.tree reader.old) (R.count reader.old) (held_of entries.old.items names.old.items) }
-    requires pairs { count_by is_listed entries.old.items ≡ length names.old.items }
+    requires holds { Holds (R.tree reader.old) (R.count reader.old) (held_of entries.old names.old.items) }
+    requires pairs { count_by is_listed entries.old ≡ length names.old.items }
     ensures same { R.tree reader.new ≡ R.tree reader.old }
-    ensures holds { Holds (R.tree reader.new) (R.count reader.new) (held_of entries.new.items names.new.items) }
-    ensures pairs { count_by is_listed entries.new.items ≡ length names.new.items }
-    ensures ok { OnOk result (log_of (held_of entries.new.items names.new.items) ≡ log_of (held_of entries.old.items names.old.items) ++ (item.now, fresh.new) ∷ []) }
-    ensures err { OnErr result (held_of entries.new.items names.new.items ≡ held_of entries.old.items names.old.items) }
+    ensures holds { Holds (R.tree reader.new) (R.count reader.new) (held_of entries.new names.new.items) }
+    ensures pairs { count_by is_listed entries.new ≡ length names.new.items }
+    ensures ok { OnOk result (log_of (held_of entries.new names.new.items) ≡ log_of (held_of entries.old names.old.items) ++ (item.now, fresh.new) ∷ []) }
+    ensures err { OnErr result (held_of entries.new names.new.items ≡ held_of entries.old names.old.items) }
     ensures nothing { OnErr result (fresh.new ≡ []) }
 {
-    let alloc = *entries.allocator();
-    entries.reserve(1)?;
     names.reserve(1)?;
+    let alloc = *names.allocator();
     let (entry, listing) = look(alloc, reader, item.copy()?)?;
     let Ok(()) = push_children(&entry.path, &listing, fresh) else {
         fresh.clear();
         return Err(OutOfMemory);
     };
-    keep(entries, names, entry, listing);
+    let Ok(()) = keep(entries, names, entry, listing) else {
+        fresh.clear();
+        return Err(OutOfMemory);
+    };
     Ok(())
 }
 
-// Keeps an entry, and the names where it was listed.
-fn keep(entries: &mut Vec<Entry>, names: &mut Vec<Listing>, entry: Entry, listing: Listing)
-    requires entries { vec_len entries.old < vec_capacity entries.old }
+// Keeps an entry, packed, and the names where it was listed. A refusal keeps nothing.
+fn keep(
+    entries: &mut FlatList,
+    names: &mut Vec<Listing>,
+    entry: Entry,
+    listing: Listing,
+) -> Result<(), OutOfMemory>
     requires names { vec_len names.old < vec_capacity names.old }
-    requires pairs { count_by is_listed entries.old.items ≡ length names.old.items }
+    requires pairs { count_by is_listed entries.old ≡ length names.old.items }
     requires alone { is_listed entry ≡ false → listing.0 ≡ [] }
-    ensures held { held_of entries.new.items names.new.items ≡ held_of entries.old.items names.old.items ++ (entry, map (joined entry.path) listing.0) ∷ [] }
-    ensures pairs { count_by is_listed entries.new.items ≡ length names.new.items }
+    ensures held { OnOk result (held_of entries.new names.new.items ≡ held_of entries.old names.old.items ++ (entry, map (joined entry.path) listing.0) ∷ []) }
+    ensures pairs { count_by is_listed entries.new ≡ length names.new.items }
+    ensures err { OnErr result (held_of entries.new names.new.items ≡ held_of entries.old names.old.items) }
 {
+    entries.add(&entry)?;
     if is_listed(&entry) {
         names.push_reserved(listing);
-        entries.push_reserved(entry);
-        return;
     }
-    entries.push_reserved(entry);
+    Ok(())
 }

@@ -16,7 +16,7 @@ use crate::errors::WalkError;
 use crate::jobs::WalkJob;
 use crate::reports::{WalkReport, Walked};
 use circle_run::{Options, begin};
-use flat_list::{Entry, FlatList};
+use flat_list::FlatList;
 use outside::{Ground, Listing};
 use path_text::{OutOfMemory, Path};
 use std::alloc::Global;
@@ -139,24 +139,25 @@ fn made<G: Ground>(
     Ok(jobs)
 }
 
-// The list of all logs. Where there are several hosts, the names that the jobs kept are dropped meanwhile.
+// The list of all logs. The names that the jobs kept are dropped before, and where there are several hosts meanwhile.
 fn listed<W: Threads + Sync>(
     rt: &W,
     alloc: Global,
-    logs: Vec<Vec<Entry>>,
+    logs: Vec<FlatList>,
     names: Vec<Vec<Listing>>,
     hosts: u32,
 ) -> Result<FlatList, OutOfMemory>
     requires { 1 ≤ hosts }
-    ensures all { IfOk result (λ list. IsPermutation (flat_map (λ log. log.items) logs.items) list) }
+    ensures all { IfOk result (λ list. IsPermutation (flat_map (λ log. log) logs.items) list) }
     ensures sorted { IfOk result (λ list. IsSortedByKey (λ e. e.path) path_cmp list) }
 {
     if hosts == 1 {
-        return FlatList::from_jobs(alloc, logs);
+        drop(names);
+        return FlatList::from_logs(rt, alloc, logs, 1);
     }
     let sort = move || -> Result<FlatList, OutOfMemory>
         requires { IsSync W.row × (1 ≤ hosts) }
-        ensures all { IfOk result (λ list. IsPermutation (flat_map (λ log. log.items) logs.items) list) }
+        ensures all { IfOk result (λ list. IsPermutation (flat_map (λ log. log) logs.items) list) }
         ensures sorted { IfOk result (λ list. IsSortedByKey (λ e. e.path) path_cmp list) }
     { FlatList::from_logs(rt, alloc, logs, hosts) };
     let (_, list) = thread::join(rt, move || drop(names), sort);
@@ -169,8 +170,8 @@ fn opened<G: Ground>(
     ground: &mut G,
     jobs: Vec<WalkJob<G::Reader>>,
     names: &mut Vec<Vec<Listing>>,
-) -> Result<Vec<Vec<Entry>>, OutOfMemory>
-    ensures logs { IfOk result (λ logs. flat_map (λ log. log.items) logs.items ≡ entries_of (flat_map (λ job. job.1) jobs.items)) }
+) -> Result<Vec<FlatList>, OutOfMemory>
+    ensures logs { IfOk result (λ logs. flat_map (λ log. log) logs.items ≡ entries_of (flat_map (λ job. job.1) jobs.items)) }
     ensures holds { OnOk result (AllByRecursion (λ job. Holds (G.Reader.tree job.0) (G.Reader.count job.0) job.1) jobs.items) }
     ensures counted { OnOk result (RoseBy (sum_by weight_of (entries_of (flat_map (λ job. job.1) jobs.items))) (G.count ground.old) (G.count ground.new)) }
     ensures same { G.tree ground.new ≡ G.tree ground.old }

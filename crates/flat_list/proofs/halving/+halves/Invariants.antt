@@ -7,5 +7,5 @@ decreases-back g l = 2 * l.few + 1
 abbrev pub decreases-front : goal.decreases-front
 decreases-front g l = 2 * (l.hosts - l.few) + 1
 
-abbrev pub decreases-in_order : goal.decreases-in_order
-decreases-in_order g l = 2 * l.hosts
+abbrev pub decreases-runs_by : goal.decreases-runs_by
+decreases-runs_by g l = 2 * l.hosts

@@ -34,7 +34,7 @@ returns-clause-found g c =
 
 pub returns-clause-shares : goal.returns-clause-shares
 returns-clause-shares g c = λ few.
-    shared c.in_ok-finished.finished.jobs.items (flat_map (λ log. log.items) c.in_ok-logs.logs.items) c.in_ok-list.list c.in_ok-finished.finished.shares.items
+    shared c.in_ok-finished.finished.jobs.items (flat_map (λ log. log) c.in_ok-logs.logs.items) c.in_ok-list.list c.in_ok-finished.finished.shares.items
     c.in_ok-finished.ensures.shares c.in_ok-logs.ensures.logs c.in_ok-list.ensures.all few
 
 pub returns-clause-by_rank : goal.returns-clause-by_rank
@@ -75,5 +75,5 @@ returns-clause-traced g c = λ on.
 pub returns-clause-progress : goal.returns-clause-progress
 returns-clause-progress g c = λ few.
     let finished = c.in_ok-finished.finished in
-    progress finished.jobs.items (flat_map (λ log. log.items) c.in_ok-logs.logs.items) c.in_ok-list.list c.args.options.now.ranks finished.sums.items
+    progress finished.jobs.items (flat_map (λ log. log) c.in_ok-logs.logs.items) c.in_ok-list.list c.args.options.now.ranks finished.sums.items
     c.in_ok-finished.ensures.progress (c.in_ok-finished.ensures.jobs ∙ c.in_ok-jobs.ensures.number) c.in_ok-logs.ensures.logs c.in_ok-list.ensures.all few

@@ -12,7 +12,7 @@ loop-job-preserved g c =
     let reader = g.G.Reader.Tree.count in
     let count = g.G.Plot.count in
     record {
-      logs = more_logs (λ log. log.items) c.loop-job.logs.items c.push.new.self.items _ c.loop-job.yielded c.in-Some.job
+      logs = more_logs (λ log. log) c.loop-job.logs.items c.push.new.self.items _ c.loop-job.yielded c.in-Some.job
           c.in_ok-push.ensures.items opened.entries before.logs;
       holds = all_append (λ job. Holds (g.G.Reader.Tree.tree job.0) (reader job.0) job.1) c.loop-job.yielded _ before.holds (opened.holds, tt);
       counted = more_faults c.loop-job.yielded c.in-Some.job (count c.args.ground.now) (count c.loop-job.ground) (count c.take_reader.new.self)

@@ -7,7 +7,7 @@ use Rattle.tree_walk.proofs.walking.opened.Given as goal
 
 abbrev pub invariant-loop-job : goal.invariant-loop-job
 invariant-loop-job g l = record {
-  logs : flat_map (λ log. log.items) l.logs.items ≡ entries_of (flat_map (λ job. job.1) l.yielded);
+  logs : flat_map (λ log. log) l.logs.items ≡ entries_of (flat_map (λ job. job.1) l.yielded);
   holds : AllByRecursion (λ job. Holds (g.G.Reader.Tree.tree job.0) (g.G.Reader.Tree.count job.0) job.1) l.yielded;
   counted : RoseBy (sum_by weight_of (entries_of (flat_map (λ job. job.1) l.yielded))) (g.G.Plot.count l.fn.ground) (g.G.Plot.count l.ground);
   below : g.G.Plot.count l.ground < 2 ^ 64;

@@ -1,0 +1,10 @@
+use Rattle.std.proofs.Common.{rules}
+use Rattle.std.proofs.lemmas.List.Sorted.{IsPermutation-trans}
+use Rattle.flat_list.proofs.Merged.{one_gives}
+use Rattle.flat_list.proofs.merging.give_in_turn.Goals as goal
+
+pub loop-preserved : goal.loop-preserved
+loop-preserved c =
+    let moved = one_gives c.loop.all c.give.new.all c.loop.sources c.loop.at c.index_mut.result.now c.give.new.self (search rules) (search rules)
+    c.in_ok-give.ensures.moved in
+    IsPermutation-trans _ _ _ c.loop.invariant moved

@@ -1,0 +1,7 @@
+use Rattle.std.proofs.Common.{◌++◌}
+use Rattle.std.specs.List.{flat_map}
+use Rattle.std.specs.List.Sorted.{IsPermutation}
+use Rattle.flat_list.proofs.merging.give_in_turn.Given as goal
+
+abbrev pub invariant-loop : goal.invariant-loop
+invariant-loop l = IsPermutation (l.fn.all ++ flat_map (λ s. s) l.fn.sources) (l.all ++ flat_map (λ s. s) l.sources)
