@@ -45,6 +45,19 @@ prefix_same (x ∷ xs) (y ∷ ys) =
       | false ↦ λ e. refl
     ] refl
 
+-- where the first so many bytes are the same, both begin with these and with what the bytes behind them begin with
+pub prefix_past : (a b : List ℕ) (n : ℕ) → n ≤ length a → n ≤ length b → take n a ≡ take n b →
+    common_prefix_len nat_eq a b ≡ n + common_prefix_len nat_eq (drop n a) (drop n b)
+prefix_past a b zero la lb same = omega arith
+prefix_past [] b (suc n) la lb same = absurd (omega (arith, la))
+prefix_past (x ∷ xs) [] (suc n) la lb same = absurd (omega (arith, lb))
+prefix_past (x ∷ xs) (y ∷ ys) (suc n) la lb same =
+    let first : x ≡ y = cc in
+    let others : take n xs ≡ take n ys = cc in
+    let yes : nat_eq x y ≡ true = grind (arith, nat_tests, first) in
+    let rest = prefix_past xs ys n (omega (arith, la)) (omega (arith, lb)) others in
+    ap (λ t. cond t (1 + common_prefix_len nat_eq xs ys) 0) yes ∙ omega (arith, rest)
+
 prefix_nil : (a : List ℕ) → common_prefix_len nat_eq a [] ≡ 0
 prefix_nil [] = refl
 prefix_nil (x ∷ xs) = refl

@@ -1,9 +1,9 @@
 -- What is left of a list that is read to its end.
-use Rattle.std.proofs.Common.{◌≡◌, ℕ, zero, suc, ◌+◌, ◌-◌, ◌<◌, ◌≤◌, Bool, true, false, not, List, [], ◌∷◌, ◌++◌, length, drop, get_or}
-use Rattle.std.proofs.Common.{refl, ap, sym, subst, ◌∙◌, arith}
+use Rattle.std.proofs.Common.{◌≡◌, ℕ, ◌+◌, ◌-◌, ◌<◌, ◌≤◌, Bool, true, false, not, List, [], ◌∷◌, ◌++◌, length, drop}
+use Rattle.std.proofs.Common.{ap, sym, ◌∙◌, arith}
 use Rattle.std.specs.Prelude.{Some, slice_get, nat_lt, if◌then◌else◌}
 use Rattle.std.proofs.lemmas.Bool.Decides.{nat_tests}
-use Rattle.std.proofs.lemmas.List.{drop_more, drop_all, append_assoc, append-nil}
+use Rattle.std.proofs.lemmas.List.{drop_more, drop_all, append_assoc}
 use Rattle.std.proofs.lemmas.Option.{get_or_from_slice_get, slice_get_within}
 use Rattle.flat_list.specs.declared.entries.Entry.{Entry}
 use Rattle.flat_list.specs.Private.Left.{left_of}
@@ -15,10 +15,10 @@ pub record Stepped (old new : List Entry × ℕ) (more : Bool) : Type 0 where
 
 -- behind the step the rest of the list is left
 pub rest_left : {old new : List Entry × ℕ} {more : Bool} → Stepped old new more → left_of (not more) new ≡ drop old.1 old.0
-rest_left {old} {new} {true} s =
+rest_left {old = old} {more = true} s =
     let one : old.1 + 1 - 1 ≡ old.1 = omega arith in
     ap (left_of false) s.passed ∙ ap (λ (n : ℕ). drop n old.0) one
-rest_left {old} {new} {false} s =
+rest_left {old = old} {more = false} s =
     let over : length old.0 ≤ old.1 = grind (arith, nat_tests, s.answer) in
     sym (drop_all old.1 old.0 over)
 

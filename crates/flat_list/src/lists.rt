@@ -22,7 +22,7 @@ use crate::merging::{len_of, merged};
 use crate::ordering::{Field, sort_order};
 use crate::packing::{head_of, put, shared_of};
 use crate::passing::Reader;
-use crate::runs::run_of;
+use crate::runs::run_each;
 use crate::seeking::place_in;
 use crate::summaries::{Summary, summary_of};
 use path_text::{OutOfMemory, Path};
@@ -191,10 +191,7 @@ impl FlatList {
         ensures all { IfOk result (λ list. IsPermutation (flat_map (λ log. log.items) logs.items) list) }
         ensures sorted { IfOk result (λ list. IsSortedByKey (λ e. e.path) path_cmp list) }
     {
-        let mut runs = Vec::with_capacity(alloc, logs.len())?;
-        for log in logs {
-            runs.push(run_of(alloc, log)?)?;
-        }
+        let runs = run_each(alloc, logs)?;
         let list = FlatList::of_runs(alloc, runs)?;
         Ok(list)
     }

@@ -57,11 +57,11 @@ fn waiting_of(alloc: Global, sources: &[Source<'_>]) -> Result<Vec<usize>, OutOf
 // The sources give so many entries, each that which comes first.
 fn give_in_turn(
     all: &mut FlatList,
-    sources: &mut [Source<'_>],
+    sources: &mut Vec<Source<'_>>,
     waiting: &mut Vec<usize>,
     count: usize,
 ) -> Result<(), OutOfMemory>
-    ensures { OnOk result (IsPermutation (all.old ++ flat_map (λ s. s) sources.old) (all.new ++ flat_map (λ s. s) sources.new)) }
+    ensures { OnOk result (IsPermutation (all.old ++ flat_map (λ s. s) sources.old.items) (all.new ++ flat_map (λ s. s) sources.new.items)) }
 {
     let mut at = waiting.pop().unwrap_or(sources.len());
     for _ in 0..count {

@@ -26,6 +26,17 @@ pub(crate) fn runs_of(alloc: Global, logs: Vec<FlatList>) -> Result<Vec<FlatList
     Ok(runs)
 }
 
+/// The entries of each log as one run.
+pub(crate) fn run_each(alloc: Global, logs: Vec<Vec<Entry>>) -> Result<Vec<FlatList>, OutOfMemory>
+    ensures { IfOk result (λ runs. IsPermutation (flat_map (λ log. log.items) logs.items) (flat_map (λ run. run) runs.items)) }
+{
+    let mut runs = Vec::with_capacity(alloc, logs.len())?;
+    for log in logs {
+        runs.push(run_of(alloc, log)?)?;
+    }
+    Ok(runs)
+}
+
 // The entries of a log go behind others, as runs.
 fn cut(log: &FlatList, runs: &mut Vec<FlatList>) -> Result<(), OutOfMemory>
     ensures { OnOk result (IsPermutation (flat_map (λ run. run) runs.old.items ++ log.now) (flat_map (λ run. run) runs.new.items)) }
@@ -62,8 +73,8 @@ fn close(piece: &mut Vec<Entry>, runs: &mut Vec<FlatList>) -> Result<(), OutOfMe
     Ok(())
 }
 
-/// The entries in path order, packed. They are moved while they are put in order, and each is dropped as soon as it is packed.
-pub(crate) fn run_of(alloc: Global, entries: Vec<Entry>) -> Result<FlatList, OutOfMemory>
+// The entries in path order, packed. They are moved while they are put in order, and each is dropped as soon as it is packed.
+fn run_of(alloc: Global, entries: Vec<Entry>) -> Result<FlatList, OutOfMemory>
     ensures { IfOk result (λ run. IsPermutation entries.items run) }
 {
     let mut entries = entries;

@@ -58,8 +58,9 @@ fn keep(
     ensures err { OnErr result (held_of entries.new names.new.items ≡ held_of entries.old names.old.items) }
 {
     entries.add(&entry)?;
-    if is_listed(&entry) {
-        names.push_reserved(listing);
+    if !is_listed(&entry) {
+        return Ok(());
     }
+    names.push_reserved(listing);
     Ok(())
 }

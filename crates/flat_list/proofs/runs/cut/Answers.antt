@@ -1,4 +1,4 @@
-use Rattle.std.proofs.Common.{◌≡◌, ◌∙◌, ◌++◌, ◌∷◌, [], refl, ap, sym, subst, take, List, ℕ}
+use Rattle.std.proofs.Common.{rules, ◌≡◌, ◌∙◌, ◌++◌, ◌∷◌, [], refl, ap, sym, subst, take, List, ℕ}
 use Rattle.std.specs.List.Sorted.{IsPermutation}
 use Rattle.std.proofs.lemmas.List.{take_all}
 use Rattle.std.proofs.lemmas.List.Sorted.{IsPermutation-trans}
@@ -15,7 +15,7 @@ loop-cursor-init c =
       of_list = ap (λ (v : List Entry × ℕ). v.0) c.in_ok-cursor.ensures;
       inside = search rules;
       moved = same _ _ (ap (λ (v : List Entry × ℕ). runs ++ take v.1 c.args.log.now) c.in_ok-cursor.ensures
-          ∙ ap (λ (p : List Entry). runs ++ p) (sym c.new.ensures.items));
+          ∙ ap (λ (p : List Entry). runs ++ p) (sym c.new-piece.ensures.items));
     }
 
 pub loop-cursor-preserved : goal.loop-cursor-preserved

@@ -1,5 +1,6 @@
-use Rattle.std.proofs.Common.{ap, ◌∙◌, ◌++◌, ◌∷◌, [], map}
+use Rattle.std.proofs.Common.{ap, ◌∙◌, ◌++◌, ◌∷◌, [], map, List}
 use Rattle.path_text.specs.Path.{joined}
+use Rattle.outside.specs.declared.listings.Listing.{Listing}
 use Rattle.tree_walk.specs.Held.{log_of, held_of}
 use Rattle.tree_walk.proofs.Held.{IsStep, step_holds, step_log}
 use Rattle.tree_walk.proofs.keeping.handle_path.Goals as goal
@@ -10,14 +11,15 @@ returns-clause-holds g c =
     let count = g.R.Tree.count in
     let entry = c.in_ok-entry.entry in
     let names = c.in_ok-entry.listing in
-    let old = held_of c.args.entries.now.items c.args.names.now.items in
-    let new = held_of c.keep.new.entries.items c.keep.new.names.items in
+    let entries = c.args.entries.now in
+    let old = held_of entries c.args.names.now.items in
+    let new = held_of c.keep.new.entries c.keep.new.names.items in
     let step : IsStep (tree c.args.reader.now) (tree c.look.new.reader) (count c.args.reader.now) (count c.look.new.reader) old new
     c.in_ok-copy.field-0 c.push_children.new.fresh entry names =
     record {
       look = c.in_ok-entry.ensures.look;
       same = c.in_ok-entry.ensures.same;
-      kept = c.keep.ensures.held ∙ (λ i. held_of (c.reserve.ensures.items i) (c.reserve-2.ensures.items i) ++ (entry, map (joined entry.path) names.0) ∷ []);
+      kept = c.in-Ok-2.ensures.held ∙ ap (λ (ls : List Listing). held_of entries ls ++ (entry, map (joined entry.path) names.0) ∷ []) c.reserve.ensures.items;
       pushed = c.in-Ok.ensures ∙ ap (λ x. x ++ map (joined entry.path) names.0) c.requires.empty;
     } in
     step_holds step c.requires.holds
@@ -28,14 +30,15 @@ returns-clause-ok g c =
     let count = g.R.Tree.count in
     let entry = c.in_ok-entry.entry in
     let names = c.in_ok-entry.listing in
-    let old = held_of c.args.entries.now.items c.args.names.now.items in
-    let new = held_of c.keep.new.entries.items c.keep.new.names.items in
+    let entries = c.args.entries.now in
+    let old = held_of entries c.args.names.now.items in
+    let new = held_of c.keep.new.entries c.keep.new.names.items in
     let step : IsStep (tree c.args.reader.now) (tree c.look.new.reader) (count c.args.reader.now) (count c.look.new.reader) old new
     c.in_ok-copy.field-0 c.push_children.new.fresh entry names =
     record {
       look = c.in_ok-entry.ensures.look;
       same = c.in_ok-entry.ensures.same;
-      kept = c.keep.ensures.held ∙ (λ i. held_of (c.reserve.ensures.items i) (c.reserve-2.ensures.items i) ++ (entry, map (joined entry.path) names.0) ∷ []);
+      kept = c.in-Ok-2.ensures.held ∙ ap (λ (ls : List Listing). held_of entries ls ++ (entry, map (joined entry.path) names.0) ∷ []) c.reserve.ensures.items;
       pushed = c.in-Ok.ensures ∙ ap (λ x. x ++ map (joined entry.path) names.0) c.requires.empty;
     } in
     step_log step ∙ ap (λ x. log_of old ++ (x, c.push_children.new.fresh) ∷ []) c.in_ok-copy.ensures
