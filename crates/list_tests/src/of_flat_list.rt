@@ -261,13 +261,13 @@ fn merges_what_ranks_found_in_turn(rt: HostRuntime) -> Result<(), Fail> {
 
 // A file whose path tells its number.
 fn numbered(alloc: Global, at: usize) -> Result<Entry, Fail>
-    requires { at ≤ 6000 }
+    requires { at ≤ 20000 }
 {
     let path = format!(in alloc; "/t/{}", at + 100_000)?;
     fine(alloc, path.as_str(), Kind::File, 1)
 }
 
-// The numbers below 6000, dealt to so many logs from the last number down, and 0 once more in the last log.
+// The numbers below 20,000, dealt to so many logs from the last number down, and 0 once more in the last log.
 fn dealt_logs(alloc: Global, ranks: usize) -> Result<Vec<FlatList>, Fail>
     requires { 1 ≤ ranks }
 {
@@ -275,7 +275,7 @@ fn dealt_logs(alloc: Global, ranks: usize) -> Result<Vec<FlatList>, Fail>
     for _ in 0..ranks {
         logs.push(FlatList::make(alloc))?;
     }
-    for at in (0..6000).rev() {
+    for at in (0..20_000).rev() {
         let entry = numbered(alloc, at)?;
         if let Some(log) = logs.get_mut(at % ranks) {
             log.add(&entry)?;
@@ -298,11 +298,11 @@ fn come_in_order<R: Threads + Sync + Abort>(
     requires hosts { 1 ≤ hosts }
 {
     let list = FlatList::from_logs(rt, alloc, dealt_logs(alloc, ranks)?, hosts)?;
-    assert_eq!(rt; list.len(), 6001);
+    assert_eq!(rt; list.len(), 20_001);
     let mut cursor = list.cursor()?;
     assert!(rt; cursor.advance()?);
     assert!(rt; cursor.entry().path == numbered(alloc, 0)?.path);
-    for at in 0..6000 {
+    for at in 0..20_000 {
         assert!(rt; cursor.advance()?);
         assert!(rt; cursor.entry().path == numbered(alloc, at)?.path);
     }
