@@ -1,4 +1,5 @@
--- Entries packed: each path as the number of bytes that it shares with the one before, and its rest.
+-- Entries packed: each path as the number of bytes that it shares with the one before, and its rest. This is the incremental encoding of
+-- sorted lists (front coding), as in the databases that updatedb makes for locate. Pages, at whose front a path stands whole, are our own.
 use Rattle.std.specs.Prelude.{ℕ, ◌+◌, ◌*◌, ◌%◌, List, [], ◌∷◌, ◌++◌, length, take, drop, if◌then◌else◌, ◌==◌, nat_eq, nat_lt}
 use Rattle.std.specs.List.{common_prefix_len}
 use Rattle.flat_list.specs.declared.entries.Entry.{Entry}
