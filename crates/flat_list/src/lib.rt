@@ -4,9 +4,9 @@
 //! - A [`FlatList`] is seen as the list of its entries. It keeps them packed, in pages of 256: of each a head, and of its path
 //!   what it does not share with the one before; the first path of a page stands whole. [`FlatList::page`] shows a page's
 //!   bytes. So no slice of entries leaves the crate: they are made again, one by one.
-//! - [`FlatList::from_jobs`] joins what several ranks found, by moving it, and puts it in path order.
-//!   [`FlatList::from_logs`] does so in several threads: each puts a part of the logs in order, and lists that are in order are
-//!   brought together two and two.
+//! - [`FlatList::from_logs`] joins what several ranks found and kept packed, and puts it in path order: each log is unpacked a
+//!   piece at a time, in several threads where there are more, and each piece becomes a run, a short list in order; the runs
+//!   are merged. [`FlatList::from_jobs`] does so with logs that are not packed, each of which becomes one run.
 //! - A [`Cursor`] goes over the entries. It makes each path from the one before in one place, so it takes the memory of one
 //!   entry. [`FlatList::retain`] drops some of them.
 //! - [`FlatList::sort_by`] sorts by a [`Field`], upwards or downwards, and always by path where the field ties.
@@ -17,7 +17,7 @@
 //!   entries name, as a [`Summary`].
 //!
 //! ```text
-//! let list = FlatList::from_jobs(alloc, logs)?;
+//! let list = FlatList::from_logs(rt, alloc, logs, hosts)?;
 //! let mut cursor = list.cursor()?;
 //! while cursor.advance()? {
 //!     let entry = cursor.entry();
