@@ -20,3 +20,6 @@ pub mod Rooted
 pub mod InBytes
 pub mod Unique
 pub mod Traced
+pub mod Cuts
+pub mod Ordered
+pub mod Restarts

@@ -29,7 +29,7 @@ lengths : (names : List (List ℕ)) → AllByRecursion (λ name. IsTrue (is_name
 lengths [] h = tt
 lengths (n ∷ names) h = (some_bytes n h.0, lengths names h.1)
 
-falls : (x : List ℕ) (d : Held) → IsPush d → one x d.0.path + sum_by (covers x) d.1 ≤ covers x d.0.path
+pub falls : (x : List ℕ) (d : Held) → IsPush d → one x d.0.path + sum_by (covers x) d.1 ≤ covers x d.0.path
 falls x d p =
     let valid = recursion_from_All (λ name. IsTrue (is_name name)) p.names p.are.valid in
     omega (arith, ap (sum_by (covers x)) p.is, covers_falls x d.0.path p.names (lengths p.names valid) (lined_names d.0.path p.names valid p.are.ascend))
@@ -49,7 +49,7 @@ all_fall x (d ∷ ds) h =
     )
 
 -- what was handled is covered by the starts, as often, and then no path that is left covers it
-covered : (x : List ℕ) (ds : List Held) (left starts : List (List ℕ)) → AllByRecursion IsPush ds → Balanced (log_of ds) left starts →
+pub covered : (x : List ℕ) (ds : List Held) (left starts : List (List ℕ)) → AllByRecursion IsPush ds → Balanced (log_of ds) left starts →
     sum_by (λ d. one x d.0.path) ds + sum_by (covers x) left ≤ sum_by (covers x) starts
 covered x ds left starts h b = omega (arith, all_fall x ds h, b.weighs (covers x))
 
@@ -108,7 +108,7 @@ list_rises ds list starts h =
 
 -- ---- each path is a start or under one
 
-each_here : (es : List Entry) → AllByRecursion (λ e. 1 ≤ sum_by (λ f. one e.path f.path) es) es
+pub each_here : (es : List Entry) → AllByRecursion (λ e. 1 ≤ sum_by (λ f. one e.path f.path) es) es
 each_here [] = tt
 each_here (e ∷ es) =
     let self : one e.path e.path ≡ 1 = one-same e.path e.path refl in (

@@ -5,3 +5,4 @@ pub mod Held
 pub mod Looking
 pub mod Found
 pub mod Traced
+pub mod Cut

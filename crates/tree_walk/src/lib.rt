@@ -35,11 +35,13 @@
 //!
 //! The recursive walk has laws of its own, each the contract of a function that does nothing: [`walk_is_recursive`],
 //! [`walk_ascends`], [`walk_has_each_path_once`], [`walk_finds_all`], [`walk_without_faults_is_fine`],
-//! [`entries_are_told`], [`parents_are_listed`]. So have the roots: [`roots_are_unique`].
+//! [`entries_are_told`], [`parents_are_listed`]. So have the roots: [`roots_are_unique`]. And so has a cut of the walk, which is
+//! some entries of it and the strings that are left: a walk of these goes on, and with the entries is the whole
+//! ([`restart_is_walk`], [`cut_goes_on`], [`left_is_apart`]). No walk is cut yet.
 //!
 //! Definitions stand in `specs/`: `Walk` (the recursive walk and failed answers), `Roots`, `Told` (what entries tell of the tree),
-//! `Found` (what a walk gives), `Traced` (what events, shares and progress tell), `Held` (what a job keeps), and `Looking` (what the
-//! files' answers make of a path), which no public clause cites.
+//! `Found` (what a walk gives), `Cut` (a walk that is cut, and how another goes on), `Traced` (what events, shares and progress
+//! tell), `Held` (what a job keeps), and `Looking` (what the files' answers make of a path), which no public clause cites.
 #![tactic(auto)]
 
 mod errors;
@@ -54,8 +56,9 @@ mod walking;
 pub use errors::WalkError;
 pub use jobs::WalkJob;
 pub use laws::{
-    entries_are_told, parents_are_listed, roots_are_unique, walk_ascends, walk_finds_all,
-    walk_has_each_path_once, walk_is_recursive, walk_without_faults_is_fine,
+    cut_goes_on, entries_are_told, left_is_apart, parents_are_listed, restart_is_walk,
+    roots_are_unique, walk_ascends, walk_finds_all, walk_has_each_path_once, walk_is_recursive,
+    walk_without_faults_is_fine,
 };
 pub use reports::{WalkReport, Walked};
 pub use rooting::roots_of;
