@@ -1,7 +1,7 @@
 -- A walk that is cut, and goes on. The checkpoint is libcircle's (LaFon, Misra and Bringhurst, On Distributed File Tree Walk of Parallel File
 -- Systems, SC 2012): where all stop, the strings that wait are left, and another run goes on with them. The entries beside them, and what
 -- both together are, are our own.
-use Rattle.std.specs.Prelude.{◌≡◌, false, List, ◌++◌, map, None, All}
+use Rattle.std.specs.Prelude.{◌≡◌, ℕ, false, List, ◌++◌, map, None, All}
 use Rattle.std.specs.List.Sorted.{IsSortedByKey, IsPermutation}
 use Rattle.std.specs.FinMap.{get}
 use Rattle.path_text.specs.Path.{refusal}
