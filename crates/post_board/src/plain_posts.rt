@@ -36,8 +36,11 @@ impl Post for PlainBoard {
     }
 
     fn answer(&mut self, seat: &mut PlainSeat) -> Answer {
-        if self.is_left(seat) {
-            self.withdraw(seat);
+        let Some(victim) = seat.asked else {
+            unreachable!()
+        };
+        if self.stops[victim as usize] && self.asks(seat.number, victim) {
+            self.withdraw(seat, victim);
             return Answer::Nothing;
         }
         let rank = &mut self.ranks[seat.number as usize];
