@@ -1,6 +1,8 @@
 pub mod Weighed
 pub mod Counted
 pub mod Stepped
+pub mod Bounding
+pub mod Winding
 pub mod Asked
 pub mod Choosing
 pub mod Requests

@@ -91,12 +91,12 @@ staged o me (m ∷ turn) from s inside (mid, does, rest) =
 -- one turn more, which is that of the rank w
 pub turns_more : (o : Options) (k : ℕ) (turns : List (List Move)) (turn : List Move) (w : ℕ) (a b c : Stage)
     → (k + length turns) % o.ranks ≡ w → PlaysTurns o k turns a b → HandlesLast turn
-    → Plays o (moves_in w turn) b c → (events_of_all (moves_in w turn) ≡ [] → MayIdle w b.told) → PlaysTurns o k (turns ++ turn ∷ []) a c
+    → Plays o (moves_in w turn) b c → (events_of_all (moves_in w turn) ≡ [] → MayIdle w b.told c.told) → PlaysTurns o k (turns ++ turn ∷ []) a c
 turns_more o k [] turn w a b c own same last plays idle =
     let first : k % o.ranks ≡ w = ap (λ (q : ℕ). q % o.ranks) (let z : k ≡ k + 0 = omega arith in z) ∙ own in
     subst (λ (s : Stage). PlaysTurns o k (turn ∷ []) s c) same
     (subst (λ (q : ℕ). (mid : Stage) × HandlesLast turn × Plays o (moves_in q turn) b mid
-    × (events_of_all (moves_in q turn) ≡ [] → MayIdle q b.told) × (c ≡ mid)) (sym first) (c, last, plays, idle, refl))
+    × (events_of_all (moves_in q turn) ≡ [] → MayIdle q b.told mid.told) × (c ≡ mid)) (sym first) (c, last, plays, idle, refl))
 turns_more o k (t ∷ turns) turn w a b c own (mid, last', plays', idle', rest) last plays idle =
     let next : (suc k + length turns) % o.ranks ≡ w =
     ap (λ (q : ℕ). q % o.ranks) (let z : suc k + length turns ≡ k + suc (length turns) = omega arith in z) ∙ own in

@@ -11,11 +11,12 @@ use Rattle.circle_run.specs.Progress.{Rises, Thousands, newest, Keeps, KeptOf, P
 use Rattle.circle_run.specs.Ranks.{DoesAll, side}
 use Rattle.circle_run.specs.Private.Steps.{Came}
 use Rattle.circle_run.specs.Ready.{SumsReady, Turned}
-use Rattle.circle_run.specs.Turns.{Worked, IsTurn}
+use Rattle.circle_run.specs.Turns.{IsTurn}
+use Rattle.circle_run.specs.Choices.{is_done}
 use Rattle.circle_run.specs.Private.Steps.{turn_of, tallied}
 use Rattle.circle_run.specs.Private.Steps.{Works}
 use Rattle.circle_run.specs.declared.steps.Did.{Did}
-use Rattle.circle_run.specs.declared.steps.Did.TheVariants.{Handled, Acted, Waited}
+use Rattle.circle_run.specs.declared.steps.Did.TheVariants.{Handled, Acted, Waited, Stopped}
 use Rattle.circle_run.specs.declared.books.Book.{Book}
 use Rattle.circle_run.specs.declared.settings.Options.{Options}
 use Rattle.circle_run.specs.declared.ranks.Turn.{Turn}
@@ -104,24 +105,17 @@ module _ {J S T Q : Type 0} (shows : T → SumShown) (seats : Q → T → Type 0
             (λ z. keeps z found) (λ z. passes z found) (λ ne. ap (λ (b : Book). b.sums.items) (rest ne)));
       }
 
-by_did : (done : Did) (moves : List Move) → Worked done moves → IsTurn false (turn_of done) moves
-by_did Handled moves w = inl w
-by_did Acted moves w = inr w
-by_did Waited moves w = w
-
 pub none_tallied : (done : Did) (strings : ℕ) → done ≢ Handled → tallied done strings ≡ strings
 none_tallied Handled strings ne = absurd (ne refl)
 none_tallied Acted strings ne = refl
 none_tallied Waited strings ne = refl
-
-as_turn : (ended : Bool) (done : Did) (moves : List Move) → ended ≡ false → Worked done moves → IsTurn ended (turn_of done) moves
-as_turn ended done moves live w = subst (λ (b : Bool). IsTurn b (turn_of done) moves) (sym live) (by_did done moves w)
+none_tallied Stopped strings ne = refl
 
 module _ {J S T P D : Type 0} (log : J → Log) (heard : J → Option (List ℕ)) (plain : J → D) (shows : S → Shown) (tells : P → Option Told)
     (seats : P → S → Type 0) where
-  -- a turn before the end
+  -- a turn before the rank is done
   pub turned : (done : Did) (turn : Turn) (r : Rank J S T) (p : P) (r1 : Rank J S T) (p1 : P) (r2 : Rank J S T) (queue : List (List ℕ))
-      → turn ≡ turn_of done → r.ended ≡ false → Came log plain shows tells seats (Works heard shows tells done r p r1) r p r1 p1
+      → turn ≡ turn_of done → is_done r ≡ false → Came log plain shows tells seats (Works heard shows tells done r p r1) r p r1 p1
       → r2 ≡ record r1 { sums_seat = r2.sums_seat; book = r2.book } → r2.book ≡ record r1.book { sums = r2.book.sums; lost = r2.book.lost }
       → (r1.book.lost ≡ true → r2.book.lost ≡ true) → (r2.book.lost ≡ false → queue ≡ r2.queue)
       → Turned log heard plain shows tells seats turn r p (record r2 { queue = queue }) p1
@@ -143,7 +137,8 @@ module _ {J S T P D : Type 0} (log : J → Log) (heard : J → Option (List ℕ)
               had = w.had;
               moves = w.moves;
               are = record {
-                kind = subst (λ (t : Turn). IsTurn r.ended t w.moves) (sym is) (as_turn r.ended done w.moves live w.are.worked);
+                kind = subst (λ (t : Turn). IsTurn (is_done r) t w.moves) (sym is)
+                    (subst (λ (b : Bool). IsTurn b (turn_of done) w.moves) (sym live) w.are.kind);
                 chosen = λ going.
                     chooses_as log heard plain shows tells seats r p r1 (record r2 { queue = queue }) w.moves s
                     (ap (λ (x : Rank J S T). x.ended) same) j w.are.chosen;
@@ -154,8 +149,8 @@ module _ {J S T P D : Type 0} (log : J → Log) (heard : J → Option (List ℕ)
             };
       }
 
-  -- a turn after the end
-  pub turned_after : (turn : Turn) (r : Rank J S T) (p : P) (r' : Rank J S T) → r.ended ≡ true → r' ≡ record r { sums_seat = r'.sums_seat; book = r'.book }
+  -- a turn after that
+  pub turned_after : (turn : Turn) (r : Rank J S T) (p : P) (r' : Rank J S T) → is_done r ≡ true → r' ≡ record r { sums_seat = r'.sums_seat; book = r'.book }
       → r'.book ≡ record r.book { sums = r'.book.sums; lost = r'.book.lost } → (r.book.lost ≡ true → r'.book.lost ≡ true)
       → Turned log heard plain shows tells seats turn r p r' p
   turned_after turn r p r' ended same book lost =
@@ -172,7 +167,7 @@ module _ {J S T P D : Type 0} (log : J → Log) (heard : J → Option (List ℕ)
           moves = [];
           are = record {
             kind = subst (λ (b : Bool). IsTurn b turn []) (sym ended) refl;
-            chosen = λ going. absurd (true_not_false r.ended ended going);
+            chosen = λ going. absurd (true_not_false (is_done r) ended going);
           };
           does = side_as log plain shows tells seats r p r' p (ap (λ (x : Rank J S T). x.queue) same) (ap log job) (ap (λ (x : Rank J S T). x.draws) same)
               (ap (λ (s : S). (shows s).batches) seat) refl;

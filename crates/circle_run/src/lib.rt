@@ -85,11 +85,11 @@
 mod backs;
 mod books;
 mod errors;
+mod halting;
 mod hosts;
 mod jobs;
 mod laws;
 mod lots;
-mod many_hosts;
 mod outcomes;
 mod parts;
 mod pools;
@@ -113,5 +113,4 @@ pub use laws::{
 };
 pub use outcomes::{Finished, Share};
 pub use ranks::{Rank, Turn};
-pub use running::begin;
 pub use settings::{Options, Split};

@@ -6,7 +6,6 @@ pub mod PlainFrames
 pub mod PlainDeeds
 pub mod PlainStart
 pub mod AskerLemmas
-pub mod PlainHalts
 pub mod Puts
 pub mod Sheets
 pub mod FactLemmas

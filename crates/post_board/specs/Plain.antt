@@ -53,6 +53,11 @@ abbrev pub wants : PlainMailbox → ℕ → Bool
 wants (Wants r) of = r == of
 wants _ of = false
 
+-- whether the mailbox asks a rank that has stopped
+abbrev pub is_left : List Bool → PlainMailbox → Bool
+is_left stops (Wants r) = slice_index_or stops r false
+is_left stops _ = false
+
 -- black where there is no token any more
 abbrev pub token_colour : Token → Colour
 token_colour (At r colour) = colour
@@ -71,8 +76,7 @@ shown_by s =
       here = s.here;
       ended = s.ended;
       halted = s.halted;
-      knows_halt = false;
-      knows_stop = false;
+      knows_halt = s.knows_halt;
       stopped = s.stopped;
       batches = None;
     }
@@ -125,6 +129,7 @@ pub record HaltFits (halter : Option ℕ) (stops : List Bool) (ranks : List Plai
   pub own : slice_index_or stops s.number false ≡ s.stopped
   pub gone : (r : ℕ) → slice_index_or stops r false ≡ true → Gone ranks r
   pub halted : s.halted ≡ true → is_some halter ≡ true
+  pub knows : s.knows_halt ≡ true → is_some halter ≡ true
   pub within : (r : ℕ) → halter ≡ Some r → r < length ranks
   pub by : halter ≡ Some s.number → s.halted ≡ true
 
