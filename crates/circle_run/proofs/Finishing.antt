@@ -1,5 +1,5 @@
 -- What a whole run leaves.
-use Rattle.std.proofs.Common.{◌≡◌, ◌≢◌, ℕ, suc, ◌-◌, ◌^◌, ◌<◌, ◌≤◌, ◌⊎◌, inl, rules, min, refl, sym, subst, ap, ◌∙◌, arith, Bool, true, false, cond}
+use Rattle.std.proofs.Common.{◌≡◌, ◌≢◌, ℕ, suc, ◌-◌, ◌^◌, ◌<◌, ◌≤◌, ◌⊎◌, inl, inr, ⊎_elim, rules, min, refl, sym, subst, ap, ◌∙◌, arith, Bool, true, false, cond}
 use Rattle.std.proofs.Common.{List, [], ◌∷◌, map, length, get_or, Option, Some, None, Vec}
 use Rattle.std.specs.Prelude.{IsSome}
 use Rattle.std.proofs.lemmas.List.{length-map, get_or-map, get_or_default}
@@ -15,7 +15,7 @@ use Rattle.post_board.specs.Shown.{Strings, Shown, is_served}
 use Rattle.post_board.specs.Told.{Told, place}
 use Rattle.post_board.specs.Deeds.{DeedsKeepSound, LateKeepsSound}
 use Rattle.post_board.specs.Fresh.{fresh_told}
-use Rattle.post_board.specs.Calls.{AgreesIfTold, AllDone}
+use Rattle.post_board.specs.Calls.{AgreesIfTold, AllDone, Halters}
 use Rattle.sum_tree.specs.Shown.{SumShown, AllFinished}
 use Rattle.circle_run.specs.Balance.{Log, Balanced}
 use Rattle.circle_run.specs.Left.{all_left}
@@ -43,6 +43,7 @@ use Rattle.circle_run.proofs.Sounding.{plays_sound, begun_sound}
 use Rattle.circle_run.proofs.Counting.{capped, share_told, share_counts}
 use Rattle.circle_run.proofs.Maps.{map_is, map_same, map_each, flat_none, flat_first, sum_by-map, some_of, sum_same, capped_sum}
 use Rattle.circle_run.proofs.Beginning.{Begins}
+use Rattle.circle_run.proofs.Turning.{either}
 
 -- what is known of a run at its end, as a run of moves
 record Ended (o : Options) (starts : Strings) (moves : List (ℕ × Move)) (last : Stage) : Type 0 where
@@ -67,13 +68,47 @@ module _ {J S T P Q D : Type 0} (log : J → Log) (plain : J → D) (shows : S �
   abbrev logged : Rank J S T → Log
   logged r = log r.job
 
+  -- where a rank has stopped, one has handled as many strings as it may
+  pub cause : (ranks : List (Rank J S T)) (p : P) (q : Q) (all_seats : List S) → all_seats ≡ map (λ (r : Rank J S T). r.seat) ranks
+      → AllEnded log shows seats sums_shows sums_seats ranks p q → NoneLost ranks → Halters shows (seats p) all_seats → (k : ℕ) (d : Rank J S T)
+      → k < length ranks → (get_or ranks k d).stopped ≡ true
+      → (j : ℕ) × (j < length ranks) × ((get_or ranks j d).options.stop_after ≡ Some (length (logged (get_or ranks j d))))
+  cause ranks p q all_seats are done found halters k d h stopped =
+      let long : length all_seats ≡ length ranks = ap length are ∙ length-map ranks (λ (r : Rank J S T). r.seat) in
+      let seat_at : (i : ℕ) → i < length ranks → get_or all_seats i d.seat ≡ (get_or ranks i d).seat =
+      λ i inside. ap (λ (l : List S). get_or l i d.seat) are ∙ get_or-map (λ (r : Rank J S T). r.seat) ranks i d d.seat inside in
+      let b = (done k d h).ready.bounded (found k d h) in
+      ⊎_elim (λ halted. (k, h, b.halts halted))
+      (λ knows.
+      let far = halters k d.seat (omega (arith, h, long)) (ap (λ (s : S). (shows s).knows_halt) (seat_at k h) ∙ knows) in
+      let inside : far.0 < length ranks = (let i = far.1 in omega (arith, i, long)) in
+      let other = (done far.0 d inside).ready.bounded (found far.0 d inside) in
+      (far.0, inside, other.halts (ap (λ (s : S). (shows s).halted) (sym (seat_at far.0 inside)) ∙ far.2)))
+      (b.stops stopped)
+
+  -- each rank has seen the end
+  abbrev HaveEnded : List (Rank J S T) → Type 0
+  HaveEnded ranks = (k : ℕ) (d : Rank J S T) → k < length ranks → (get_or ranks k d).ended ≡ true
+
+  -- which is so where the run stops after no number
+  pub have_ended : (o : Options) (ranks : List (Rank J S T)) (p : P) (q : Q) (all_seats : List S) → all_seats ≡ map (λ (r : Rank J S T). r.seat) ranks
+      → AllEnded log shows seats sums_shows sums_seats ranks p q → NoneLost ranks → Halters shows (seats p) all_seats → AreAll o ranks
+      → o.stop_after ≡ None → HaveEnded ranks
+  have_ended o ranks p q all_seats are done found halters all endless k d h = ⊎_elim (λ ended. ended)
+      (λ stopped.
+      let c = cause ranks p q all_seats are done found halters k d h stopped in
+      let options = (all.each c.0 d c.1).1 in
+      let clash : None ≡ Some (length (logged (get_or ranks c.0 d))) =
+      sym endless ∙ ap (λ (x : Options). x.stop_after) (sym options) ∙ c.2 in cc)
+      (either (get_or ranks k d).ended (get_or ranks k d).stopped ((done k d h).over refl).0)
+
   -- a run of turns at its end
   at_end : (o : Options) (starts : Strings) (ranks : List (Rank J S T)) (p : P) (q : Q) (turns : List (List Move)) (told : Told)
       → NothingWaitsAtEnd → RoundsAreFair → DeedsKeepSound → LateKeepsSound → o.stop_after ≡ None
-      → ((b : P) (s : S) → seats b s → AgreesIfTold (tells b) (shows s)) → 1 ≤ o.ranks → AreAll o ranks
+      → ((b : P) (s : S) → seats b s → AgreesIfTold (tells b) (shows s)) → 1 ≤ o.ranks → AreAll o ranks → HaveEnded ranks
       → AllEnded log shows seats sums_shows sums_seats ranks p q → tells p ≡ Some told → PlaysTurns o 0 turns (begun o starts) (stage_of log tells ranks told)
       → Ended o starts (moves_of_turns o.ranks 0 turns) (stage_of log tells ranks told)
-  at_end o starts ranks p q turns told nothing fair sound late_sound endless agrees some all done after played =
+  at_end o starts ranks p q turns told nothing fair sound late_sound endless agrees some all gone done after played =
       let last : Stage = stage_of log tells ranks told in
       let moves : List (ℕ × Move) = moves_of_turns o.ranks 0 turns in
       let plays : Plays o moves (begun o starts) last = turns_are_played o turns (begun o starts) last played in
@@ -83,7 +118,7 @@ module _ {J S T P Q D : Type 0} (log : J → Log) (plain : J → D) (shows : S �
       let x = done r d inside in
       let knows = x.ready.knows in
       let a = subst (λ (u : Option Told). AgreesIfTold u (shows (get_or ranks r d).seat)) after (agrees p (get_or ranks r d).seat x.ready.mine) in
-      ap (λ (k : ℕ). (place told k).ended) (sym (knows.number ∙ (all.each r d inside).0)) ∙ a.ended ∙ knows.ended ∙ (x.over refl).0) in
+      ap (λ (k : ℕ). (place told k).ended) (sym (knows.number ∙ (all.each r d inside).0)) ∙ a.ended ∙ knows.ended ∙ gone r d inside) in
       record {
         plays = plays;
         ended = ended;
@@ -174,6 +209,9 @@ module _ {J S T P Q D : Type 0} (log : J → Log) (plain : J → D) (shows : S �
     pub done : AllEnded log shows seats sums_shows sums_seats ranks p q
     pub same : Same plain ranks0 ranks
     pub wrote : NoneWrote ranks
+    pub gathered : List S
+    pub gathered_are : gathered ≡ map (λ (r : Rank J S T). r.seat) ranks
+    pub halters : Halters shows (seats p) gathered
     pub ran : Ran log tells (KeptInOrder o f.events.items) o (fresh_told o.ranks) ranks0 ranks p
     -- what was taken of the ranks
     pub jobs_are : f.jobs.items ≡ map (λ (r : Rank J S T). r.job) ranks
@@ -189,10 +227,12 @@ module _ {J S T P Q D : Type 0} (log : J → Log) (plain : J → D) (shows : S �
       let all : AreAll o ranks = same_all plain o ranks0 ranks x.same x.first.all in
       let moves : List (ℕ × Move) = moves_of_turns o.ranks 0 x.ran.turns in
       let last : Stage = stage_of log tells ranks x.ran.told in
+      let gone : HaveEnded ranks =
+      have_ended o ranks p q x.gathered x.gathered_are x.done (λ k d h. (x.wrote k d h).0) x.halters all x.endless in
       let played : PlaysTurns o 0 x.ran.turns (begun o starts) last =
       subst (λ (s : Stage). PlaysTurns o 0 x.ran.turns s last) x.first.begun_is x.ran.plays in
       let e : Ended o starts moves last =
-      at_end o starts ranks p q x.ran.turns x.ran.told x.waits x.fair x.sound x.late_sound x.endless x.agrees x.some all x.done x.ran.after played in
+      at_end o starts ranks p q x.ran.turns x.ran.told x.waits x.fair x.sound x.late_sound x.endless x.agrees x.some all gone x.done x.ran.after played in
       let s : Shared o moves ranks = shared o starts moves ranks0 ranks x.ran.told x.same.count x.unshared x.ran.shares e.plays in
       let logs_of : RankSide → Log = λ r. r.log in
       let side_of : Rank J S T → RankSide = rank_of log tells in
@@ -203,7 +243,7 @@ module _ {J S T P Q D : Type 0} (log : J → Log) (plain : J → D) (shows : S �
       let as_list : Strings → Strings = λ xs. xs in
       let left : all_left f.left.items ≡ [] =
       sym (flat_map-map as_list (λ (l : Vec (List ℕ) _). l.items) f.left.items) ∙ ap (flat_map as_list) x.left_are ∙ flat_map-map as_list queue_of ranks
-      ∙ flat_none queue_of ranks (λ k d h. (x.done k d h).ready.knows.over ((x.done k d h).over refl).0) in
+      ∙ flat_none queue_of ranks (λ k d h. (x.done k d h).ready.knows.over (gone k d h)) in
       let cap : ℕ → Share = λ k. capped (handled_by k moves) (given_by k moves) (taken_by k moves) in
       let caps : f.shares.items ≡ map cap (range_with_len 0 o.ranks) = x.shares_are ∙ map_is share_of cap ranks o.ranks all.count s.each in
       let mailed : length (all_mailed last) ≡ 0 = ap length (nothing_mailed last e.nothing) in
@@ -277,7 +317,8 @@ module _ {J S T P Q D : Type 0} (log : J → Log) (plain : J → D) (shows : S �
       let x = done k d h in
       let knows = x.ready.knows in
       let me = all.each k d h in
-      (x.ready.mine, knows.number ∙ me.0, knows.ranks ∙ ap (λ (q : Options). q.ranks) me.1 ∙ long, inl (knows.ended ∙ (x.over refl).0), x.ready.none))
+      (x.ready.mine, knows.number ∙ me.0, knows.ranks ∙ ap (λ (q : Options). q.ranks) me.1 ∙ long, ⊎_elim (λ e. inl (knows.ended ∙ e)) (λ s. inr (knows.stopped ∙ s)) (either (get_or ranks k d).ended (get_or ranks k d).stopped (x.over refl).0),
+        x.ready.none))
 
   pub sums_done : (o : Options) (ranks : List (Rank J S T)) (p : P) (q : Q) (all_sums : List T) → AreAll o ranks
       → AllEnded log shows seats sums_shows sums_seats ranks p q → all_sums ≡ map (λ (r : Rank J S T). r.sums_seat) ranks

@@ -22,7 +22,15 @@ bare s = record s { batches = None }
 
 does_bare : (o : Options) (me : ℕ) (m : Move) (s s' : Side) → Does o me m s s' → Does o me m (bare s) (bare s')
 does_bare o me (handled path kids) s s' does =
-    record { rest = does.rest; live = does.live; newest = does.newest; unasked = does.unasked; few = does.few; after = ap bare does.after }
+    record {
+      rest = does.rest;
+      live = does.live;
+      may = does.may;
+      newest = does.newest;
+      unasked = does.unasked;
+      few = does.few;
+      after = ap bare does.after;
+    }
 does_bare o me (served answers) s s' does = record {
   ranks = does.ranks;
   names = does.names;

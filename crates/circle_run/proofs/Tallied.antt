@@ -1,8 +1,8 @@
 -- What a rank counts and keeps of progress, turn by turn.
-use Rattle.std.proofs.Common.{◌≡◌, ◌≢◌, ℕ, ◌+◌, ◌<◌, ◌≤◌, refl, sym, subst, inl, inr, ap, ◌∙◌, arith, Bool, true, false, List, [], ◌∷◌, ◌++◌, Option, None}
+use Rattle.std.proofs.Common.{length, ◌≡◌, ◌≢◌, ℕ, ◌+◌, ◌<◌, ◌≤◌, refl, sym, subst, inl, inr, ap, ◌∙◌, arith, Bool, true, false, List, [], ◌∷◌, ◌++◌, Option, None}
 use mathlib.Core.Logic.{dite}
 use native.Mathlib.Decide.{dec_le}
-use Rattle.post_board.specs.Shown.{Shown}
+use Rattle.post_board.specs.Shown.{Shown, is_served}
 use Rattle.post_board.specs.Told.{Told}
 use Rattle.sum_tree.specs.Shown.{SumShown, IsLeaf}
 use Rattle.circle_run.specs.Balance.{Log}
@@ -10,7 +10,7 @@ use Rattle.circle_run.specs.Moves.{Move}
 use Rattle.circle_run.specs.Progress.{Rises, Thousands, newest, Keeps, KeptOf, Progress, Counts}
 use Rattle.circle_run.specs.Ranks.{DoesAll, side}
 use Rattle.circle_run.specs.Private.Steps.{Came}
-use Rattle.circle_run.specs.Ready.{SumsReady, Turned}
+use Rattle.circle_run.specs.Ready.{Ready, SumsReady, Turned}
 use Rattle.circle_run.specs.Turns.{IsTurn}
 use Rattle.circle_run.specs.Choices.{is_done}
 use Rattle.circle_run.specs.Private.Steps.{turn_of, tallied}
@@ -24,6 +24,7 @@ use Rattle.circle_run.specs.declared.ranks.Rank.{Rank}
 use Rattle.circle_run.proofs.Numbers.{newest_push, rises_push, thousands_push}
 use Rattle.circle_run.proofs.Asked.{not_true, true_not_false}
 use Rattle.circle_run.proofs.Stepped.{kept_none, side_as}
+use Rattle.circle_run.proofs.Bounding.{bounded_as}
 use Rattle.circle_run.proofs.Choosing.{chooses_as}
 
 -- a word that rose is kept where it is far enough above the last number
@@ -150,10 +151,10 @@ module _ {J S T P D : Type 0} (log : J → Log) (heard : J → Option (List ℕ)
       }
 
   -- a turn after that
-  pub turned_after : (turn : Turn) (r : Rank J S T) (p : P) (r' : Rank J S T) → is_done r ≡ true → r' ≡ record r { sums_seat = r'.sums_seat; book = r'.book }
+  pub turned_after : (turn : Turn) (r : Rank J S T) (p : P) (r' : Rank J S T) (queue : List (List ℕ)) → is_done r ≡ true → r' ≡ record r { sums_seat = r'.sums_seat; book = r'.book }
       → r'.book ≡ record r.book { sums = r'.book.sums; lost = r'.book.lost } → (r.book.lost ≡ true → r'.book.lost ≡ true)
-      → Turned log heard plain shows tells seats turn r p r' p
-  turned_after turn r p r' ended same book lost =
+      → (r'.book.lost ≡ false → queue ≡ r'.queue) → Turned log heard plain shows tells seats turn r p (record r' { queue = queue }) p
+  turned_after turn r p r' queue ended same book lost kept =
       let job : r'.job ≡ r.job = ap (λ (x : Rank J S T). x.job) same in
       let seat : r'.seat ≡ r.seat = ap (λ (x : Rank J S T). x.seat) same in
       record {
@@ -169,9 +170,60 @@ module _ {J S T P D : Type 0} (log : J → Log) (heard : J → Option (List ℕ)
             kind = subst (λ (b : Bool). IsTurn b turn []) (sym ended) refl;
             chosen = λ going. absurd (true_not_false (is_done r) ended going);
           };
-          does = side_as log plain shows tells seats r p r' p (ap (λ (x : Rank J S T). x.queue) same) (ap log job) (ap (λ (x : Rank J S T). x.draws) same)
+          does = side_as log plain shows tells seats r p (record r' { queue = queue }) p (kept found ∙ ap (λ (x : Rank J S T). x.queue) same) (ap log job) (ap (λ (x : Rank J S T). x.draws) same)
               (ap (λ (s : S). (shows s).batches) seat) refl;
           kept = ap (λ (b : Book). b.events.items) book ∙ kept_none r.options.trace r.book.events.items;
           share = ap (λ (b : Book). b.share) book;
         };
+      }
+
+module _ {J S T P Q : Type 0} (log : J → Log) (shows : S → Shown) (seats : P → S → Type 0) (sums_shows : T → SumShown) (sums_seats : Q → T → Type 0) where
+  -- a rank that is done, after a turn
+  pub ready_after : (r : Rank J S T) (p : P) (q : Q) (r' : Rank J S T) (q' : Q) (queue : List (List ℕ))
+      → r' ≡ record r { sums_seat = r'.sums_seat; book = r'.book } → r'.book.share ≡ r.book.share → (r.book.lost ≡ true → r'.book.lost ≡ true)
+      → (r'.book.lost ≡ true → queue ≡ []) → (r'.book.lost ≡ false → queue ≡ r'.queue)
+      → SumsReady sums_shows sums_seats (length (log r.job)) r' q' → Ready log shows seats sums_shows sums_seats r p q
+      → Ready log shows seats sums_shows sums_seats (record r' { queue = queue }) p q'
+  ready_after r p q r' q' queue same share lost none kept sums old =
+      let k = old.knows in
+      let seat : r'.seat ≡ r.seat = ap (λ (x : Rank J S T). x.seat) same in
+      let me : r'.me ≡ r.me = ap (λ (x : Rank J S T). x.me) same in
+      let options : r'.options ≡ r.options = ap (λ (x : Rank J S T). x.options) same in
+      let job : r'.job ≡ r.job = ap (λ (x : Rank J S T). x.job) same in
+      let ranks : r'.options.ranks ≡ r.options.ranks = ap (λ (o : Options). o.ranks) options in
+      let empty : r.queue ≡ [] → queue ≡ [] = λ e. elim r'.book.lost as (λ (b : Bool). r'.book.lost ≡ b → queue ≡ [])
+      [ true ↦ λ l. none l | false ↦ λ found. kept found ∙ ap (λ (x : Rank J S T). x.queue) same ∙ e ] refl in
+      let now : Rank J S T = record r' { queue = queue } in
+      record {
+        knows = record {
+          number = ap (λ (s : S). (shows s).number) seat ∙ k.number ∙ sym me;
+          ranks = ap (λ (s : S). (shows s).n) seat ∙ k.ranks ∙ sym ranks;
+          colour = ap (λ (s : S). (shows s).colour) seat ∙ k.colour ∙ sym (ap (λ (x : Rank J S T). x.colour) same);
+          tried = ap (λ (s : S). (shows s).tried) seat ∙ k.tried ∙ sym (ap (λ (x : Rank J S T). x.tried) same);
+          asked = ap (λ (s : S). (shows s).asked) seat ∙ k.asked ∙ sym (ap (λ (x : Rank J S T). x.asked) same);
+          asks = λ v e. (let h = k.asks v (sym (ap (λ (x : Rank J S T). x.asked) same) ∙ e) in omega (arith, h, ranks));
+          ended = ap (λ (s : S). (shows s).ended) seat ∙ k.ended ∙ sym (ap (λ (x : Rank J S T). x.ended) same);
+          stopped = ap (λ (s : S). (shows s).stopped) seat ∙ k.stopped ∙ sym (ap (λ (x : Rank J S T). x.stopped) same);
+          inside = (let h = k.inside in omega (arith, h, me, ranks));
+          few = (let h = k.few in omega (arith, h, ranks));
+          wide = ap (λ (s : S). length (shows s).serves) seat ∙ k.wide ∙ sym ranks;
+          idle = λ e. empty (k.idle (sym (ap (λ (s : S). (shows s).busy) seat) ∙ e));
+          waits = λ v e. empty (k.waits v (sym (ap (λ (x : Rank J S T). x.asked) same) ∙ e));
+          over = λ e. empty (k.over (sym (ap (λ (x : Rank J S T). x.ended) same) ∙ e));
+          empty = ap (λ (x : Rank J S T). x.fresh) same ∙ k.empty;
+        };
+        none = λ i. ap (λ (s : S). is_served (shows s) i) seat ∙ old.none i;
+        mine = subst (seats p) (sym seat) old.mine;
+        lost = none;
+        bounded = λ found. bounded_as log shows r now share job seat options (ap (λ (x : Rank J S T). x.stopped) same)
+            (old.bounded (not_true r.book.lost (λ l. true_not_false r'.book.lost (lost l) found)));
+        sums = subst (λ (j : J). SumsReady sums_shows sums_seats (length (log j)) now q') (sym job) (record {
+          mine = sums.mine;
+          number = sums.number;
+          ranks = sums.ranks;
+          width = sums.width;
+          narrow = sums.narrow;
+          counted = sums.counted;
+          progress = sums.progress;
+        });
       }

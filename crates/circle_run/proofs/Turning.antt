@@ -115,7 +115,7 @@ abbrev is_stop_turn : Turn → Bool
 is_stop_turn TurnStopped = true
 is_stop_turn _ = false
 
-either : (a b : Bool) → (a || b) ≡ true → (a ≡ true) ⊎ (b ≡ true)
+pub either : (a b : Bool) → (a || b) ≡ true → (a ≡ true) ⊎ (b ≡ true)
 either true b e = inl refl
 either false b e = inr e
 

@@ -22,7 +22,9 @@
 //!                  (the oldest strings)   look for the answer to a request; move the token; ask by lot
 //! ```
 //!
-//! Then the rank counts what it handled. After the end a turn asks for the final sum.
+//! Then the rank counts what it handled. After the end a turn asks for the final sum. In a run that stops after some number, a rank
+//! that has handled as many tells all to halt, and who is told so refuses all that ask; then it looks for the answer to a request
+//! that is open, and stops where none is.
 //!
 //! Proved of a turn, whatever the job, the board and the sums do, unless the rank found no memory: it is moves of a turn, that
 //! is, that it saw the end, or a service and then the first of the picture that applies, by what waits after the service and
@@ -72,8 +74,8 @@
 //! balance follows from what the seats say when they come together ([`hosts_are_balanced`]). What [`begin`] says of a whole run
 //! and its events is asked for one host. The ranks of a host whose thread was refused run with those of host 0. All memory that
 //! starting and joining take is taken before the first start, and nothing is left early until host 0 is done: the other ranks
-//! would wait for its ranks for ever. A host whose ranks have no string yields its processor after a round. No turn halts or stops
-//! yet, and [`begin`] asks for no stop.
+//! would wait for its ranks for ever. A host whose ranks have no string yields its processor after a round. Turns halt and stop;
+//! [`begin`] asks for no stop yet.
 //!
 //! `specs/Balance.antt` has the definitions of a balance, `specs/Moves.antt` those of a rank's moves, `specs/Choices.antt` which
 //! move a rank makes, `specs/Ready.antt` what holds of a rank between two turns and what a turn comes to; `specs/Stages.antt`

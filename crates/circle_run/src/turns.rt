@@ -125,7 +125,9 @@ impl<J: Job, S, T> Rank<J, S, T> {
     {
         let done = self.state.is_done();
         if done {
-            return self.state.finish(sums);
+            let turn = self.state.finish(sums);
+            settle(&mut self.state.queue, &self.state.book, self.state.alloc);
+            return turn;
         }
         let did = self.state.work(post);
         self.state.tally(sums, did);
