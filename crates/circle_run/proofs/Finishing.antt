@@ -316,9 +316,13 @@ module _ {J S T P Q D : Type 0} (log : J → Log) (plain : J → D) (shows : S �
       (λ k d h.
       let x = done k d h in
       let knows = x.ready.knows in
-      let me = all.each k d h in
-      (x.ready.mine, knows.number ∙ me.0, knows.ranks ∙ ap (λ (q : Options). q.ranks) me.1 ∙ long, ⊎_elim (λ e. inl (knows.ended ∙ e)) (λ s. inr (knows.stopped ∙ s)) (either (get_or ranks k d).ended (get_or ranks k d).stopped (x.over refl).0),
-        x.ready.none))
+      let me = all.each k d h in (
+        x.ready.mine,
+        knows.number ∙ me.0,
+        knows.ranks ∙ ap (λ (q : Options). q.ranks) me.1 ∙ long,
+        ⊎_elim (λ e. inl (knows.ended ∙ e)) (λ s. inr (knows.stopped ∙ s)) (either (get_or ranks k d).ended (get_or ranks k d).stopped (x.over refl).0),
+        x.ready.none,
+      ))
 
   pub sums_done : (o : Options) (ranks : List (Rank J S T)) (p : P) (q : Q) (all_sums : List T) → AreAll o ranks
       → AllEnded log shows seats sums_shows sums_seats ranks p q → all_sums ≡ map (λ (r : Rank J S T). r.sums_seat) ranks

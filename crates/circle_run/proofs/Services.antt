@@ -282,16 +282,17 @@ module _ {J S T P Q : Type 0} (log : J → Log) (plain : J → Q) (shows : S →
             names = names_of far.answers asks count r.options.ranks far.are total below;
             shares = elim gives as
                 (λ (g : Bool). gives ≡ g → IsShared r.options (tells p) far.answers r.queue r.draws r1.draws) [
-                true ↦ λ yes. inl (
-                  lengths_are ∙ ap (λ (x : List ℕ × Lcg). x.0) (sym (all yes)),
-                  drawn ∙ ap (λ (x : List ℕ × Lcg). x.1) (sym (all yes)),
-                )
-                | false ↦ λ no. inr (
-                  (shares.refuses no).0,
-                  (shares.refuses no).1,
-                  refused no,
-                  drawn ∙ ap (λ (l : Lot). (amounts_of l count r.draws).1) (shares.nothing no),
-                )] refl;
+                  | true ↦ λ yes. inl (
+                    lengths_are ∙ ap (λ (x : List ℕ × Lcg). x.0) (sym (all yes)),
+                    drawn ∙ ap (λ (x : List ℕ × Lcg). x.1) (sym (all yes)),
+                  )
+                  | false ↦ λ no. inr (
+                    (shares.refuses no).0,
+                    (shares.refuses no).1,
+                    refused no,
+                    drawn ∙ ap (λ (l : Lot). (amounts_of l count r.draws).1) (shares.nothing no),
+                  )
+                ] refl;
             oldest = far.oldest;
             log = ap log job;
             batches = far.batches;

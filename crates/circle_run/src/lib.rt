@@ -92,6 +92,7 @@ mod hosts;
 mod jobs;
 mod laws;
 mod lots;
+mod many_hosts;
 mod outcomes;
 mod parts;
 mod pools;
@@ -115,4 +116,5 @@ pub use laws::{
 };
 pub use outcomes::{Finished, Share};
 pub use ranks::{Rank, Turn};
+pub use running::begin;
 pub use settings::{Options, Split};

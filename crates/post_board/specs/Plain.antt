@@ -53,11 +53,6 @@ abbrev pub wants : PlainMailbox → ℕ → Bool
 wants (Wants r) of = r == of
 wants _ of = false
 
--- whether the mailbox asks a rank that has stopped
-abbrev pub is_left : List Bool → PlainMailbox → Bool
-is_left stops (Wants r) = slice_index_or stops r false
-is_left stops _ = false
-
 -- black where there is no token any more
 abbrev pub token_colour : Token → Colour
 token_colour (At r colour) = colour

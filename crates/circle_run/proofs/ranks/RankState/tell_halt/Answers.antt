@@ -22,9 +22,9 @@ returns-then-due-clause-came g c = record {
   lost = λ l. l;
   went = λ found. went_silent g.J.Job.log g.J.Job.plain g.P.Post.shows g.P.Post.tells g.P.Post.seats (Halts c.args.due) _ _ _ _ halt
       (ap first_of (sym c.if-due.true)) refl refl (c.requires.due c.if-due.true found)
-          (late_as (g.P.Post.shows c.args.self.now.seat).number c.args.self.now.me halt halt (g.P.Post.tells c.args.post.now)
-          (g.P.Post.tells c.halt.new.self) c.requires.knows.number refl c.halt.ensures.told)
-          refl refl refl (ap (λ (s : Shown). s.batches) c.halt.ensures.shown) found;
+      (late_as (g.P.Post.shows c.args.self.now.seat).number c.args.self.now.me halt halt (g.P.Post.tells c.args.post.now)
+      (g.P.Post.tells c.halt.new.self) c.requires.knows.number refl c.halt.ensures.told)
+      refl refl refl (ap (λ (s : Shown). s.batches) c.halt.ensures.shown) found;
 }
 
 pub returns-then-due-clause-told : goal.returns-then-due-clause-told

@@ -26,33 +26,33 @@ returns g c =
     let log : g.J.Job.log c.serve-some.new.self.job ≡ g.J.Job.log r.job = ap g.J.Job.log (served.job ∙ heard.job) in
     let early = (goes_neither c.has_done_all-due.result c.is_to_halt-halts.result c.hear-ring.result c.is_to_halt-halts.ensures c.if-halts.false).0 in
     let came = subst (λ (d : Did). Came g.J.Job.log g.J.Job.plain g.P.Post.shows g.P.Post.tells g.P.Post.seats
-        (Works g.J.Job.heard g.P.Post.shows g.P.Post.tells d r c.args.post.now last) r c.args.post.now last board) (sym same)
-        (came_worked g.J.Job.log g.J.Job.heard g.J.Job.plain g.P.Post.shows g.P.Post.tells g.P.Post.seats c.hear-ring.result some did
-        (record {
-          r = r;
-          p = c.args.post.now;
-          r1 = c.hear-ring.new.self;
-          p1 = c.hear-ring.new.post;
-          r2 = c.serve-some.new.self;
-          p2 = c.serve-some.new.post;
-          queue = c.settle.new.queue;
-          r3 = last;
-          p3 = board;
-        })
-        (record {
-          more = c.in_default.not-Over;
-          goes_on = halts_is c.hear-ring.result r c.has_done_all-due.result c.is_to_halt-halts.result false c.has_done_all-due.ensures.done
-              c.is_to_halt-halts.ensures c.if-halts.false;
-          read = heard.read;
-          queue_is = ap (λ (x : _). x.queue) heard.same;
-          asked = served.asked ∙ ap (λ (x : _). x.asked) heard.same;
-          tried = served.tried ∙ ap (λ (x : _). x.tried) heard.same;
-          lost = c.settle.ensures.lost;
-          kept = c.settle.ensures.kept;
-          job = served.job ∙ heard.job;
-          held = went.held;
-          heard_is = went.heard;
-        }) heard.came served.came went.came) in
+    (Works g.J.Job.heard g.P.Post.shows g.P.Post.tells d r c.args.post.now last) r c.args.post.now last board) (sym same)
+    (came_worked g.J.Job.log g.J.Job.heard g.J.Job.plain g.P.Post.shows g.P.Post.tells g.P.Post.seats c.hear-ring.result some did
+    (record {
+      r = r;
+      p = c.args.post.now;
+      r1 = c.hear-ring.new.self;
+      p1 = c.hear-ring.new.post;
+      r2 = c.serve-some.new.self;
+      p2 = c.serve-some.new.post;
+      queue = c.settle.new.queue;
+      r3 = last;
+      p3 = board;
+    })
+    (record {
+      more = c.in_default.not-Over;
+      goes_on = halts_is c.hear-ring.result r c.has_done_all-due.result c.is_to_halt-halts.result false c.has_done_all-due.ensures.done
+          c.is_to_halt-halts.ensures c.if-halts.false;
+      read = heard.read;
+      queue_is = ap (λ (x : _). x.queue) heard.same;
+      asked = served.asked ∙ ap (λ (x : _). x.asked) heard.same;
+      tried = served.tried ∙ ap (λ (x : _). x.tried) heard.same;
+      lost = c.settle.ensures.lost;
+      kept = c.settle.ensures.kept;
+      job = served.job ∙ heard.job;
+      held = went.held;
+      heard_is = went.heard;
+    }) heard.came served.came went.came) in
     record {
       came = came;
       bounded = λ found.
@@ -90,11 +90,12 @@ returns-then-halts g c =
           bounded g.J.Job.log g.J.Job.plain g.P.Post.shows g.P.Post.tells g.P.Post.seats _ r c.args.post.now last board came.options w b
           (λ halted. elim c.has_done_all-due.result as
           (λ (d : Bool). c.has_done_all-due.result ≡ d → last.options.stop_after ≡ Some (length (g.J.Job.log last.job))) [
-          true ↦ λ due. ap (λ (o : Options). o.stop_after) came.options
-          ∙ has_all g.J.Job.log g.P.Post.shows r b (sym c.has_done_all-due.ensures.done ∙ due)
-          ∙ ap (λ (l : _). Some (length l)) (sym log)
-          | false ↦ λ due. ap (λ (o : Options). o.stop_after) came.options ∙ b.halts (sym heard.halted ∙ sym (wound.halts due) ∙ halted)
-          ∙ ap (λ (l : _). Some (length l)) (sym log)] refl)
+            | true ↦ λ due. ap (λ (o : Options). o.stop_after) came.options
+                ∙ has_all g.J.Job.log g.P.Post.shows r b (sym c.has_done_all-due.ensures.done ∙ due)
+                ∙ ap (λ (l : _). Some (length l)) (sym log)
+            | false ↦ λ due. ap (λ (o : Options). o.stop_after) came.options ∙ b.halts (sym heard.halted ∙ sym (wound.halts due) ∙ halted)
+                ∙ ap (λ (l : _). Some (length l)) (sym log)
+          ] refl)
           (λ stopped. wound.knows_halt);
       waits = λ e. subst (λ (k : ℕ). Waits k (g.P.Post.tells board)) (wound.came.me ∙ heard.came.me) (wound.waits e);
       handled = λ e. absurd (wound.other e);

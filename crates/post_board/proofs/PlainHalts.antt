@@ -1,0 +1,167 @@
+-- What seats of a plain board know of the halt and of the stops stays so, where a deed replaces ranks.
+use Rattle.std.proofs.Common.{◌≡◌, ℕ, ◌<◌, ◌≢◌, ⊎_elim, inr, refl, sym, subst, ap, ◌∙◌, arith, Bool, true, false, List, length, map, set, get_or}
+use Rattle.std.proofs.Common.{get_or-set_same, get_or-set_other, length-set, Option, Some, None}
+use Rattle.std.proofs.lemmas.List.{length-map, get_or_past}
+use mathlib.Core.Logic.{dite}
+use native.Mathlib.Decide.{ℕ_discrete, dec_lt}
+use Rattle.ring_core.specs.declared.states.Token.{Token}
+use Rattle.ring_core.specs.declared.states.Token.TheVariants.{Over}
+use Rattle.ring_core.specs.Picture.{is_filled, PictureInvariant}
+use Rattle.post_board.specs.Told.{Mail, vacant, asked, full, empty, mailbox, Place, Told, no_place, place, picture, is_full}
+use Rattle.post_board.specs.Deeds.{Deed, ask, give, refuse, take, take_none, pass, restart, conclude, see_over, Legal, told_after}
+use Rattle.post_board.specs.Calls.{AllDone, Halters, NoneOnTheWay}
+use Rattle.post_board.specs.Plain.{mail_of, place_of, told_of, told_by, worded, is_some, no_rank, plain, shown_by, Gone, HaltFits, IsSeat, Noted, Seats}
+use Rattle.post_board.specs.declared.plain_boards.PlainBoard.{PlainBoard}
+use Rattle.post_board.specs.declared.plain_ranks.PlainMailbox.{PlainMailbox}
+use Rattle.post_board.specs.declared.plain_ranks.PlainMailbox.TheVariants.{Rest, Served}
+use Rattle.post_board.specs.declared.plain_ranks.PlainRank.{PlainRank}
+use Rattle.post_board.specs.declared.plain_seats.PlainSeat.{PlainSeat}
+use Rattle.post_board.proofs.PlainFrames.{After, told_place}
+use Rattle.post_board.proofs.PlainDeeds.{inside}
+
+not_true : (b : Bool) → (b ≡ true → ⊥) → b ≡ false
+not_true true f = absurd (f refl)
+not_true false f = refl
+
+-- no deed that is an event looks at the words of the halt and the stops
+legal_worded : (me : ℕ) (d : Deed) (t : Told) (halter : Option ℕ) (stops : List Bool) → Legal me d t → Legal me d (worded halter stops t)
+legal_worded me (ask v) t halter stops l = l
+legal_worded me (give to b) t halter stops l = l
+legal_worded me (refuse to) t halter stops l = l
+legal_worded me (take from b) t halter stops l = l
+legal_worded me (take_none from) t halter stops l = l
+legal_worded me (pass c) t halter stops l = l
+legal_worded me restart t halter stops l = l
+legal_worded me conclude t halter stops l = l
+legal_worded me see_over t halter stops l = l
+
+-- nor changes them
+after_worded : (me : ℕ) (d : Deed) (t : Told) (halter : Option ℕ) (stops : List Bool)
+    → worded halter stops (told_after me d t) ≡ told_after me d (worded halter stops t)
+after_worded me (ask v) t halter stops = refl
+after_worded me (give to b) t halter stops = refl
+after_worded me (refuse to) t halter stops = refl
+after_worded me (take from b) t halter stops = refl
+after_worded me (take_none from) t halter stops = refl
+after_worded me (pass c) t halter stops = refl
+after_worded me restart t halter stops = refl
+after_worded me conclude t halter stops = refl
+after_worded me see_over t halter stops = refl
+
+-- a seat knows of the words what it knew
+abbrev pub SameWords : PlainSeat → PlainSeat → Type 0
+SameWords o o' = (o'.number ≡ o.number) × (o'.halted ≡ o.halted) × (o'.knows_halt ≡ o.knows_halt) × (o'.stopped ≡ o.stopped)
+
+-- what seats know of the words is so after the ranks changed, whatever else the seats came to know
+abbrev pub Keeps : Option ℕ → List Bool → List PlainRank → List PlainRank → Type 0
+Keeps halter stops ranks ranks' =
+    (o o' : PlainSeat) → HaltFits halter stops ranks o → SameWords o o' → HaltFits halter stops ranks' o'
+
+module _ (halter : Option ℕ) (stops : List Bool) (ranks : List PlainRank) where
+  -- one rank is replaced that has not stopped, and none that has stopped serves it
+  pub keeps_put : (r : ℕ) (x : PlainRank) → get_or stops r false ≡ false → ((k : ℕ) → x.mailbox ≡ Served k → get_or stops k false ≡ false)
+      → Keeps halter stops ranks (set ranks r x)
+  keeps_put r x live serves o o' fits (number, halted, knows, stopped) =
+      let size : length (set ranks r x) ≡ length ranks = length-set ranks r x in
+      record {
+        many = fits.many ∙ sym size;
+        own = ap (λ (k : ℕ). get_or stops k false) number ∙ fits.own ∙ sym stopped;
+        gone = λ k e. (let old : Gone ranks k = fits.gone k e in
+            let ne : k ≢ r = (λ q. (let c : true ≡ false = sym e ∙ ap (λ (j : ℕ). get_or stops j false) q ∙ live in cc)) in
+            let same : plain (set ranks r x) k ≡ plain ranks k = get_or-set_other ranks r k x no_rank ne in (
+              ap (λ (y : PlainRank). y.ended) same ∙ old.0,
+              ap (λ (y : PlainRank). y.mailbox) same ∙ old.1,
+              (λ j m. dite (ℕ_discrete j r)
+                  (λ q. (let at : (plain (set ranks r x) r).mailbox ≡ Served k = subst (λ (i : ℕ). (plain (set ranks r x) i).mailbox ≡ Served k) q m in
+                  dite (dec_lt r (length ranks))
+                  (λ h. (let lies : x.mailbox ≡ Served k = ap (λ (y : PlainRank). y.mailbox) (sym (get_or-set_same ranks r x no_rank h)) ∙ at in
+                  let c : true ≡ false = sym e ∙ serves k lies in cc))
+                  (λ h. (let past : plain (set ranks r x) r ≡ no_rank = get_or_past (set ranks r x) r no_rank (omega arith) in
+                  let lies : no_rank.mailbox ≡ Served k = ap (λ (y : PlainRank). y.mailbox) (sym past) ∙ at in cc))))
+                  (λ other. old.2 j (ap (λ (y : PlainRank). y.mailbox) (sym (get_or-set_other ranks r j x no_rank other)) ∙ m))),
+            ));
+        halted = λ e. fits.halted (sym halted ∙ e);
+        knows = λ e. fits.knows (sym knows ∙ e);
+        within = λ k e. subst (λ (n : ℕ). k < n) (sym size) (fits.within k e);
+        by = λ e. halted ∙ fits.by (e ∙ ap Some number);
+      }
+
+  pub keeps_then : (mid ranks' : List PlainRank) → Keeps halter stops ranks mid → Keeps halter stops mid ranks' → Keeps halter stops ranks ranks'
+  keeps_then mid ranks' f g o o' fits same = g o o' (f o o fits (refl, refl, refl, refl)) same
+
+  -- a rank whose mailbox is not at rest has not stopped
+  pub serves_on : (s : PlainSeat) (r : ℕ) → HaltFits halter stops ranks s → (plain ranks r).mailbox ≢ Rest → get_or stops r false ≡ false
+  serves_on s r fits lies = not_true (get_or stops r false) (λ e. lies (fits.gone r e).1)
+
+  -- nor has one that serves it
+  pub served_by : (s : PlainSeat) (r k : ℕ) → HaltFits halter stops ranks s → (plain ranks r).mailbox ≡ Served k → get_or stops k false ≡ false
+  served_by s r k fits lies = not_true (get_or stops k false) (λ e. (fits.gone k e).2 r lies)
+
+  -- one rank is replaced, with the same mailbox
+  pub keeps_own : (s : PlainSeat) (x : PlainRank) → HaltFits halter stops ranks s → s.stopped ≡ false → x.mailbox ≡ (plain ranks s.number).mailbox
+      → Keeps halter stops ranks (set ranks s.number x)
+  keeps_own s x fits live same = keeps_put s.number x (fits.own ∙ live) (λ k e. served_by s s.number k fits (sym same ∙ e))
+
+-- what a deed of the rank me makes of a plain board and of the seats
+pub record Done (me : ℕ) (d : Deed) (halter : Option ℕ) (stops : List Bool) (ranks : List PlainRank) (masks : List ℕ) (token : Token)
+    (ranks' : List PlainRank) (masks' : List ℕ) (token' : Token) (s' : PlainSeat) : Type 0 where
+  pub told : Legal me d (worded halter stops (told_of ranks token))
+      × (Some (worded halter stops (told_of ranks' token')) ≡ Some (told_after me d (worded halter stops (told_of ranks token))))
+  pub mine : IsSeat ranks' token' s' × Noted ranks' masks' × HaltFits halter stops ranks' s'
+  pub others : (o : PlainSeat) → o.number ≢ me → IsSeat ranks token o × Noted ranks masks × HaltFits halter stops ranks o
+      → IsSeat ranks' token' o × Noted ranks' masks' × HaltFits halter stops ranks' o
+
+pub done_by : {me : ℕ} {d : Deed} {halter : Option ℕ} {stops : List Bool} {ranks ranks' : List PlainRank} {masks masks' : List ℕ} {token token' : Token}
+    {s s' : PlainSeat} → After me d ranks token ranks' token' s' → Noted ranks' masks' → HaltFits halter stops ranks s → Keeps halter stops ranks ranks'
+    → SameWords s s'
+    → Done me d halter stops ranks masks token ranks' masks' token' s'
+done_by {me} {d} {halter} {stops} {ranks} {ranks'} {masks} {masks'} {token} {token'} {s} {s'} after noted fits keeps same = record {
+  told = (
+    legal_worded me d (told_of ranks token) halter stops after.legal,
+    ap (λ (t : Told). Some (worded halter stops t)) after.told ∙ ap Some (after_worded me d (told_of ranks token) halter stops),
+  );
+  mine = (after.mine, noted, keeps s s' fits same);
+  others = λ o ne b. (after.others o ne b.0, noted, keeps o o b.2 (refl, refl, refl, refl));
+}
+
+full_box : (m : Mail) → is_full m ≡ true → is_filled (mailbox m) ≡ true
+full_box vacant e = cc
+full_box (asked r) e = cc
+full_box (full r b) e = refl
+full_box (empty r) e = cc
+
+-- once all ranks have ended or stopped, no batch is on the way
+pub none_left_over : (b : PlainBoard) (all : List PlainSeat) (d : PlainSeat) → 0 < length all → AllDone shown_by (Seats b) all → NoneOnTheWay (told_by b)
+none_left_over b all d some done r = dite (dec_lt r (length all))
+    (λ h. (let x = done r d h in
+    let s = get_or all r d in
+    let ranks = b.ranks.items in
+    let t : Told = told_of ranks b.token in
+    let at : place t r ≡ place_of (plain ranks r) = told_place ranks b.token r in
+    let number : s.number ≡ r = x.1 in
+    ⊎_elim
+    (λ ended. not_true (is_full (place t r).mail) (λ f.
+    (let over : b.token ≡ Over = x.0.0.1.sane.over s.number
+    (ap (λ (y : Place). y.ended) (told_place ranks b.token s.number) ∙ x.0.0.0.matches.3 ∙ ended) in
+    let quiet : PictureInvariant (length t.places) (picture t) Over = subst (PictureInvariant (length t.places) (picture t)) over x.0.0.1.token in
+    quiet r (subst (λ (j : ℕ). j < length t.places) number (inside ranks s.number x.0.0.0.inside), inr (full_box (place t r).mail f)))))
+    (λ stopped. (let gone = x.0.2.gone r (ap (λ (k : ℕ). get_or b.stops.items k false) (sym number) ∙ x.0.2.own ∙ stopped) in
+    ap (λ (y : Place). is_full y.mail) at ∙ ap (λ (m : PlainMailbox). is_full (mail_of m)) gone.1))
+    x.3))
+    (λ h. (let x = done 0 d some in
+    let size = x.0.0.0.sized in let n = x.2 in let many = length-map b.ranks.items place_of in
+    ap (λ (y : Place). is_full y.mail) (get_or_past (map place_of b.ranks.items) r no_place (omega arith))))
+
+some_is : (a : Option ℕ) → is_some a ≡ true → (r : ℕ) × (a ≡ Some r)
+some_is None e = cc
+some_is (Some r) e = (r, refl)
+
+-- where a seat knows of a halt, the seat of who told it shows so
+pub halters_of : (b : PlainBoard) (all : List PlainSeat) → 0 < length all → AllDone shown_by (Seats b) all → Halters shown_by (Seats b) all
+halters_of b all some done k d h knows =
+    let x = done k d h in
+    let by = some_is b.halter (x.0.2.knows knows) in
+    let r = by.0 in
+    let below : r < length all = (let w = x.0.2.within r by.1 in let size = x.0.0.0.sized in let n = x.2 in omega arith) in
+    let y = done r d below in
+    (r, below, y.0.2.by (by.1 ∙ ap Some (sym y.1)))

@@ -1,0 +1,12 @@
+use Rattle.std.proofs.Common.{◌≡◌, ◌<◌, ℕ, None, length, replicate, get_or}
+use Rattle.post_board.specs.Fresh.{fresh}
+use Rattle.post_board.specs.Plain.{fresh_rank, shown_by}
+use Rattle.post_board.specs.declared.plain_seats.PlainSeat.{PlainSeat}
+use Rattle.post_board.proofs.plain_boards.PlainBoard.make.Given as goal
+
+abbrev pub invariant-loop-number : goal.invariant-loop-number
+invariant-loop-number l = record {
+  ranks : l.ranks.items ≡ replicate l.number fresh_rank;
+  count : length l.seats.items ≡ l.number;
+  each : (k : ℕ) (d : PlainSeat) → k < l.number → shown_by (get_or l.seats.items k d) ≡ fresh l.n k None;
+}

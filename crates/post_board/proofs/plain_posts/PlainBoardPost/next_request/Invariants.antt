@@ -1,0 +1,7 @@
+use Rattle.std.proofs.Common.{◌≡◌}
+use Rattle.post_board.specs.Calls.{NoneAsks}
+use Rattle.post_board.specs.Plain.{shown_by, told_by}
+use Rattle.post_board.proofs.plain_posts.PlainBoardPost.next_request.Given as goal
+
+abbrev pub invariant-loop-r : goal.invariant-loop-r
+invariant-loop-r l = (l.self ≡ l.initial.self) × (l.seat ≡ l.initial.seat) × NoneAsks (shown_by l.initial.seat) l.r (told_by l.initial.self)
