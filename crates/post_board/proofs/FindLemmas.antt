@@ -1,5 +1,5 @@
 -- What a look at the stops, and one at the own mailbox after it, leave of a seat with an open request.
-use Rattle.std.proofs.Common.{◌≡◌, ℕ, ◌+◌, refl, ap, ◌∙◌, Bool, true, false, cond, List, [], ◌∷◌, ◌++◌, append_assoc, Option, Some}
+use Rattle.std.proofs.Common.{◌≡◌, ℕ, ◌+◌, refl, ap, ◌∙◌, Bool, false, cond, List, [], ◌∷◌, ◌++◌, append_assoc, Some}
 use Rattle.post_board.specs.Readings.{Adds, Four, Steps}
 use Rattle.post_board.specs.Words.{sign, has_bit}
 use Rattle.post_board.specs.BoardSteps.{SeatState, noted, knowing, after_look, learn}
@@ -24,7 +24,7 @@ four_more rs rs' P Q R S x y z u p q r s e = (
   x ∷ y ∷ z ∷ u ∷ [],
   (x, y, z, u, p, q, r, s, refl),
   ap Some (e ∙ append_assoc ((rs ++ x ∷ []) ++ y ∷ []) (z ∷ []) (u ∷ []) ∙ append_assoc (rs ++ x ∷ []) (y ∷ []) (z ∷ u ∷ [])
-  ∙ append_assoc rs (x ∷ []) (y ∷ z ∷ u ∷ [])),
+      ∙ append_assoc rs (x ∷ []) (y ∷ z ∷ u ∷ [])),
 )
 
 -- steps of one kind are steps of another

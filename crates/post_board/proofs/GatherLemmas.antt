@@ -157,10 +157,12 @@ module _ (b : Board) (all : List BoardSeat) (D : AllDone shown_by (IsSeat b) all
       let x : Known = (get_or all k d).seat.me.0.own in
       let cx : Contains ks x = T.has k d (omega arith) h in
       let P : Known → Type 0 = λ y. y.knows_halt ≡ true → (r : ℕ) × (r < v.own.n) × All (λ z. z.number ≡ r → z.halted ≡ true) ks in
-      let p = subst P cx.2 (H cx.0 x cx.1) knows in
+      let at_k : Known = get_or ks cx.0 x in
+      let p = subst P {x = at_k} cx.2 (H cx.0 x cx.1) knows in
       let r : ℕ = p.0 in
       let below : r < length all = subst (λ (j : ℕ). r < j) T.size p.1 in
       let y : Known = (get_or all r d).seat.me.0.own in
       let cy : Contains ks y = T.has r d (omega arith) below in
       let Q : Known → Type 0 = λ z. z.number ≡ r → z.halted ≡ true in
-      (r, below, subst Q cy.2 (p.2 cy.0 y cy.1) (D r d below).1)
+      let at_r : Known = get_or ks cy.0 y in
+      (r, below, subst Q {x = at_r} cy.2 (p.2 cy.0 y cy.1) (D r d below).1)

@@ -32,7 +32,8 @@ pub acts : (ranks : List PlainRank) (token : Token) (s : PlainSeat) → IsSeat r
 acts ranks token s seat live = (inside ranks s.number seat.0.inside, ap (λ (y : Place). y.ended) (told_place ranks token s.number) ∙ seat.0.matches.3 ∙ live)
 
 -- the rank's own place as it is told
-pub mine : (ranks : List PlainRank) (token : Token) (s : PlainSeat) (x : PlainRank) → x ≡ plain ranks s.number → place (told_of ranks token) s.number ≡ place_of x
+pub mine : (ranks : List PlainRank) (token : Token) (s : PlainSeat) (x : PlainRank) → x ≡ plain ranks s.number
+    → place (told_of ranks token) s.number ≡ place_of x
 mine ranks token s x e = told_place ranks token s.number ∙ ap place_of (sym e)
 
 pub matching : (ranks : List PlainRank) (token : Token) (s : PlainSeat) (x : PlainRank) → x ≡ plain ranks s.number → Fits ranks token s → Match x s

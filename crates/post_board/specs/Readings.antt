@@ -1,5 +1,6 @@
 -- The steps that each call makes on the words of a board, where a seat tells them. Our own.
-use Rattle.std.specs.Prelude.{All, ◌≡◌, ◌≢◌, ℕ, zero, suc, ◌+◌, ◌^◌, ◌==◌, ◌⊎◌, true, false, if◌then◌else◌, List, map, [], ◌∷◌, ◌++◌, bit_or, Option, Some, None}
+use Rattle.std.specs.Prelude.{All, ◌≡◌, ◌≢◌, ℕ, zero, suc, ◌+◌, ◌^◌, ◌==◌, ◌⊎◌, true, false, if◌then◌else◌, List, map, [], ◌∷◌, ◌++◌, bit_or}
+use Rattle.std.specs.Prelude.{Option, Some, None}
 use Rattle.ring_core.specs.World.{is_over}
 use Rattle.ring_core.specs.Step.{is_at}
 use Rattle.ring_core.specs.declared.states.Token.{Token}

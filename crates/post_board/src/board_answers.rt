@@ -38,11 +38,7 @@ impl Board {
             return Ring::Over;
         }
         let halt = self.hear_step(seat, me);
-        if halt == 1 {
-            Ring::Halted
-        } else {
-            heard
-        }
+        if halt == 1 { Ring::Halted } else { heard }
     }
 
     /// Looks which ranks have stopped, and then for the answer to the request to the rank `victim`, which is taken back where that

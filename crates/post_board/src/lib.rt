@@ -29,11 +29,10 @@
 //! A seat *shows* what its rank knows (`Shown` in `specs/Shown.antt`), and each call is one equation on it: all that the call
 //! does to the seat, and that nothing else changes. A board may *tell* its picture, with the batches on their way (`Told`); then
 //! each call but `gather` is a *deed* (`specs/Deeds.antt`), or what is *late* and no event of the world: a halt, a stop, or a request
-//! that is taken back from a rank that has stopped. It is
-//! legal on what was told, and what is told afterwards is what it leaves. A seat may tell the *readings* that its calls made (`specs/Readings.antt`). So the cause of each answer stands in two
-//! clauses, by what is told and by what was read, and a board tells one or the other. Which seats are a board's own is a member
-//! of the trait (`seats`); each call keeps its own seat and every seat of another number, and what a seat shows is what its
-//! board tells.
+//! that is taken back from a rank that has stopped. It is legal on what was told, and what is told afterwards is what it leaves. A
+//! seat may tell the *readings* that its calls made (`specs/Readings.antt`). So the cause of each answer stands in two clauses, by
+//! what is told and by what was read, and a board tells one or the other. Which seats are a board's own is a member of the trait
+//! (`seats`); each call keeps its own seat and every seat of another number, and what a seat shows is what its board tells.
 //!
 //! A rank hears of a *halt* where it looks for the token ([`Ring::Halted`]), unless it sees the end; one that told all to halt always
 //! does. A rank that asked one that has *stopped* gets what that one gave before it stopped, or is refused as it was; else its request

@@ -9,6 +9,8 @@ mod of_board;
 #[cfg(test)]
 mod of_circle_run;
 #[cfg(test)]
+mod of_halts;
+#[cfg(test)]
 mod of_hosts;
 #[cfg(test)]
 mod of_post_board;

@@ -1,5 +1,5 @@
 use Rattle.std.proofs.Common.{◌≡◌, ℕ, ◌+◌, ◌∙◌, inl, inr, refl, sym, subst, ap, true, [], ◌∷◌, ◌++◌}
-use Rattle.post_board.specs.Readings.{Is, Step, Read, Two, Three, AnswerSteps}
+use Rattle.post_board.specs.Readings.{Is, Step, Read, AnswerSteps}
 use Rattle.post_board.specs.Shown.{victim_of}
 use Rattle.post_board.specs.Words.{resting, asking, full, fetching, emptied, word_of, has_bit}
 use Rattle.post_board.specs.BoardSteps.{SeatState}
@@ -8,7 +8,7 @@ use Rattle.post_board.specs.BoardWork.{Finds}
 use Rattle.post_board.specs.declared.answers.Answer.TheVariants.{Nothing}
 use Rattle.post_board.specs.declared.board_answers.Reply.{Reply}
 use Rattle.post_board.specs.declared.board_answers.Reply.TheVariants.{Full, Refused, Withdrawn}
-use Rattle.post_board.specs.declared.board_views.OwnMailbox.TheVariants.{Open, Filled, Emptied}
+use Rattle.post_board.specs.declared.board_views.OwnMailbox.TheVariants.{Open}
 use Rattle.post_board.proofs.WordLemmas.{sign_of_word}
 use Rattle.post_board.proofs.CallLemmas.{reading, two_more, three_more, victim_here}
 use Rattle.post_board.proofs.FindLemmas.{four_more, adds_as}
