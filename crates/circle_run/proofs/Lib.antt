@@ -38,6 +38,7 @@ pub mod Dealt
 pub mod Counting
 pub mod Sounding
 pub mod Beginning
+pub mod Leaving
 pub mod Finishing
 pub mod Lone
 pub mod Upto
