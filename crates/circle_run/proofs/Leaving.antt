@@ -65,8 +65,12 @@ module _ {J S T P Q : Type 0} (log : J → Log) (shows : S → Shown) (seats : P
       let seat_at : (i : ℕ) → i < length ranks → get_or all_seats i d.seat ≡ (get_or ranks i d).seat =
       λ i inside. ap (λ (l : List S). get_or l i d.seat) x.seats_are ∙ get_or-map (λ (r : Rank J S T). r.seat) ranks i d d.seat inside in
       let as_many : (i : ℕ) → i < length ranks → (shows (get_or ranks i d).seat).halted ≡ true → HasHandled o ranks d =
-      λ i inside halted. (i, inside, ap (λ (y : Options). y.stop_after) (sym (x.all.each i d inside).1)
-          ∙ ((x.done i d inside).ready.bounded (x.found i d inside)).halts halted) in
+      λ i inside halted. (
+        i,
+        inside,
+        ap (λ (y : Options). y.stop_after) (sym (x.all.each i d inside).1)
+            ∙ ((x.done i d inside).ready.bounded (x.found i d inside)).halts halted,
+      ) in
       ⊎_elim (as_many k h)
       (λ knows.
       let far = x.halters k d.seat (omega (arith, h, long)) (ap (λ (s : S). (shows s).knows_halt) (seat_at k h) ∙ knows) in

@@ -146,8 +146,8 @@ deed_moves restart q q' queue few = queue
 deed_moves conclude q q' queue few = queue
 deed_moves see_over q q' queue few = queue
 
-handle_reaches : (o : Options) (w : Seen) (t u : Told) (q : ℕ → Strings) (x y : RankSide) (me : ℕ) (path : List ℕ) (kids : Strings) → Shows w t q → q me ≡ x.queue
-    → Handles o me path kids (side x t) (side y u) → Reaches w (Handle me path (length kids) ∷ []) u (put q me y.queue)
+handle_reaches : (o : Options) (w : Seen) (t u : Told) (q : ℕ → Strings) (x y : RankSide) (me : ℕ) (path : List ℕ) (kids : Strings) → Shows w t q
+    → q me ≡ x.queue → Handles o me path kids (side x t) (side y u) → Reaches w (Handle me path (length kids) ∷ []) u (put q me y.queue)
 handle_reaches o w t u q x y me path kids shows here handles =
     let inside : me < length w.0 = subst (λ (n : ℕ). me < n) (sym shows.shape.sized) handles.live.0 in
     let newest : q me ≡ handles.rest ++ path ∷ [] = here ∙ handles.newest in

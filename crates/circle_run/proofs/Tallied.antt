@@ -1,5 +1,6 @@
 -- What a rank counts and keeps of progress, turn by turn.
-use Rattle.std.proofs.Common.{length, ◌≡◌, ◌≢◌, ℕ, ◌+◌, ◌<◌, ◌≤◌, refl, sym, subst, inl, inr, ap, ◌∙◌, arith, Bool, true, false, List, [], ◌∷◌, ◌++◌, Option, None}
+use Rattle.std.proofs.Common.{◌≡◌, ◌≢◌, ℕ, ◌+◌, ◌<◌, ◌≤◌, refl, sym, subst, inl, inr, ap, ◌∙◌, arith, Bool, true, false, List, [], ◌∷◌, ◌++◌}
+use Rattle.std.proofs.Common.{length, Option, None}
 use mathlib.Core.Logic.{dite}
 use native.Mathlib.Decide.{dec_le}
 use Rattle.post_board.specs.Shown.{Shown, is_served}
@@ -151,7 +152,8 @@ module _ {J S T P D : Type 0} (log : J → Log) (heard : J → Option (List ℕ)
       }
 
   -- a turn after that
-  pub turned_after : (turn : Turn) (r : Rank J S T) (p : P) (r' : Rank J S T) (queue : List (List ℕ)) → is_done r ≡ true → r' ≡ record r { sums_seat = r'.sums_seat; book = r'.book }
+  pub turned_after : (turn : Turn) (r : Rank J S T) (p : P) (r' : Rank J S T) (queue : List (List ℕ)) → is_done r ≡ true
+      → r' ≡ record r { sums_seat = r'.sums_seat; book = r'.book }
       → r'.book ≡ record r.book { sums = r'.book.sums; lost = r'.book.lost } → (r.book.lost ≡ true → r'.book.lost ≡ true)
       → (r'.book.lost ≡ false → queue ≡ r'.queue) → Turned log heard plain shows tells seats turn r p (record r' { queue = queue }) p
   turned_after turn r p r' queue ended same book lost kept =
@@ -170,7 +172,8 @@ module _ {J S T P D : Type 0} (log : J → Log) (heard : J → Option (List ℕ)
             kind = subst (λ (b : Bool). IsTurn b turn []) (sym ended) refl;
             chosen = λ going. absurd (true_not_false (is_done r) ended going);
           };
-          does = side_as log plain shows tells seats r p (record r' { queue = queue }) p (kept found ∙ ap (λ (x : Rank J S T). x.queue) same) (ap log job) (ap (λ (x : Rank J S T). x.draws) same)
+          does = side_as log plain shows tells seats r p (record r' { queue = queue }) p
+              (kept found ∙ ap (λ (x : Rank J S T). x.queue) same) (ap log job) (ap (λ (x : Rank J S T). x.draws) same)
               (ap (λ (s : S). (shows s).batches) seat) refl;
           kept = ap (λ (b : Book). b.events.items) book ∙ kept_none r.options.trace r.book.events.items;
           share = ap (λ (b : Book). b.share) book;

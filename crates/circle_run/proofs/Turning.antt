@@ -1,5 +1,6 @@
 -- What a turn of a rank is: moves of which the last alone may handle a string, with an event save where the rank waits or has seen the end.
-use Rattle.std.proofs.Common.{◌≡◌, ◌≢◌, ℕ, ◌⊎◌, inl, inr, ⊎_elim, ◌||◌, refl, sym, subst, ap, ◌∙◌, arith, Bool, true, false, cond, List, [], ◌∷◌, ◌++◌, map, length}
+use Rattle.std.proofs.Common.{◌≡◌, ◌≢◌, ℕ, ◌⊎◌, inl, inr, ⊎_elim, ◌||◌, refl, sym, subst, ap, ◌∙◌, arith, Bool, true, false, cond, List}
+use Rattle.std.proofs.Common.{[], ◌∷◌, ◌++◌, map, length}
 use Rattle.std.proofs.Common.{length-append, append-nil, Option, Some, None}
 use Rattle.std.proofs.lemmas.List.{length-map}
 use Rattle.std.specs.List.{flat_map}
@@ -132,7 +133,8 @@ remains r r' TurnWaited stopped goes was = goes (λ e. true_not_false (is_stop_t
 remains r r' TurnEnded stopped goes was = goes (λ e. true_not_false (is_stop_turn TurnStopped) refl (ap is_stop_turn (sym e))) ∙ was
 
 -- what a rank knows before and after its turn, by which it may have no event
-pub record Idling {J S T P : Type 0} (shows : S → Shown) (tells : P → Option Told) (turn : Turn) (r : Rank J S T) (p : P) (r' : Rank J S T) (p' : P) : Type 0 where
+pub record Idling {J S T P : Type 0} (shows : S → Shown) (tells : P → Option Told) (turn : Turn) (r : Rank J S T) (p : P) (r' : Rank J S T)
+    (p' : P) : Type 0 where
   pub agrees : AgreesIfTold (tells p) (shows r.seat)
   pub knows : Knows shows r
   pub agrees' : AgreesIfTold (tells p') (shows r'.seat)

@@ -38,7 +38,8 @@ module _ {J S T P Q : Type 0} (log : J → Log) (plain : J → Q) (shows : S →
       let from : Side = side log plain shows tells seats r p in
       let to : Side = side log plain shows tells seats r1 p1 in
       let one = subst (λ (m : List Move). DoesAll r.options r.me m from to) w.are.are w.does in
-      halted_on (map answer_of w.are.answers) r.me (tells p) (tells p1) (subst (λ (z : Side). TellsAll r.me (map answer_of w.are.answers) (tells p) z.told) (sym one.2) one.1.told) halted
+      halted_on (map answer_of w.are.answers) r.me (tells p) (tells p1)
+      (subst (λ (z : Side). TellsAll r.me (map answer_of w.are.answers) (tells p) z.told) (sym one.2) one.1.told) halted
 
   -- the answer to a request was looked for
   pub came_looked : (done : Did) (v : ℕ) (r : Rank J S T) (p : P) (r1 : Rank J S T) (p1 : P) → r.asked ≡ Some v

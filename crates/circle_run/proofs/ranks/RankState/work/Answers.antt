@@ -81,7 +81,8 @@ returns-then-halts g c =
     let came = came_wound g.J.Job.log g.J.Job.heard g.J.Job.plain g.P.Post.shows g.P.Post.tells g.P.Post.seats c.hear-ring.result
     c.has_done_all-due.result c.wind_up.result r c.args.post.now c.hear-ring.new.self c.hear-ring.new.post last board c.in_default.not-Over heard.read
     (halts_is c.hear-ring.result r c.has_done_all-due.result c.is_to_halt-halts.result true c.has_done_all-due.ensures.done
-    c.is_to_halt-halts.ensures c.if-halts.true) c.has_done_all-due.ensures.done (ap (λ (x : _). x.asked) heard.same) (wound.job ∙ heard.job) heard.came wound.came in
+    c.is_to_halt-halts.ensures c.if-halts.true) c.has_done_all-due.ensures.done (ap (λ (x : _). x.asked) heard.same) (wound.job ∙ heard.job)
+    heard.came wound.came in
     record {
       came = came;
       bounded = λ found.
