@@ -71,7 +71,7 @@ module _ {J S T P Q D : Type 0} (log : J → Log) (plain : J → D) (shows : S �
   -- a run of turns at its end
   at_end : (o : Options) (starts : Strings) (ranks : List (Rank J S T)) (p : P) (q : Q) (turns : List (List Move)) (told : Told)
       → NothingWaitsAtEnd → RoundsAreFair → DeedsKeepSound → LateKeepsSound → o.stop_after ≡ None
-      → ((b : P) (s : S) → seats b s → AgreesIfTold (tells b) (shows s)) → 1 ≤ o.ranks → AreAll o ranks → HaveEnded log ranks
+      → ((b : P) (s : S) → seats b s → AgreesIfTold (tells b) (shows s)) → 1 ≤ o.ranks → AreAll o ranks → HaveEnded ranks
       → AllEnded log shows seats sums_shows sums_seats ranks p q → tells p ≡ Some told → PlaysTurns o 0 turns (begun o starts) (stage_of log tells ranks told)
       → Ended o starts (moves_of_turns o.ranks 0 turns) (stage_of log tells ranks told)
   at_end o starts ranks p q turns told nothing fair sound late_sound endless agrees some all gone done after played =
@@ -262,15 +262,15 @@ module _ {J S T P Q D : Type 0} (log : J → Log) (plain : J → D) (shows : S �
       let c : Course o starts ranks moves x.ran.told = course o starts jobs ranks0 ranks p0 p q0 q total f x in
       let s : Shared o moves ranks = c.shares in
       let cap : ℕ → Share = λ k. capped (handled_by k moves) (given_by k moves) (taken_by k moves) in
-      let left : all_left f.left.items ≡ flat_map queue_of ranks = queues_left o starts jobs ranks0 ranks p0 p q0 q total f x in
+      let queued : all_left f.left.items ≡ flat_map queue_of ranks = queues_left o starts jobs ranks0 ranks p0 p q0 q total f x in
       let many : J → ℕ = λ j. length (log j) in
       let most : J → ℕ = λ j. min (many j) (2 ^ 64 - 1) in
       let facts_of : Rank J S T → D = λ r. plain r.job in
       record {
         balance = balance_of o starts jobs ranks0 ranks p0 p q0 q total f x;
-        whole = none_left log shows seats sums_shows sums_seats o ranks p q x.gathered (all_left f.left.items) x.last left;
+        whole = none_left log shows seats sums_shows sums_seats o ranks p q x.gathered (all_left f.left.items) x.last queued;
         stop = within log shows seats sums_shows sums_seats o ranks p q x.gathered f.jobs.items x.last x.jobs_are;
-        left = left_by log shows seats sums_shows sums_seats o ranks p q x.gathered f.jobs.items (all_left f.left.items) x.last x.jobs_are left;
+        left = left_by log shows seats sums_shows sums_seats o ranks p q x.gathered f.jobs.items (all_left f.left.items) x.last x.jobs_are queued;
         jobs_count = ap length x.jobs_are ∙ length-map ranks job_of ∙ x.same.count ∙ sym (length-map ranks0 job_of) ∙ ap length x.given_jobs;
         facts = ap (map plain) x.jobs_are ∙ map-map plain job_of ranks
             ∙ map_same facts_of facts_of ranks ranks0 x.same.count
@@ -298,7 +298,7 @@ module _ {J S T P Q D : Type 0} (log : J → Log) (plain : J → D) (shows : S �
       let c : Course o starts ranks moves x.ran.told = course o starts jobs ranks0 ranks p0 p q0 q total f x in
       let played : PlaysTurns o 0 x.ran.turns (begun o starts) last =
       subst (λ (s : Stage). PlaysTurns o 0 x.ran.turns s last) x.first.begun_is x.ran.plays in
-      let gone : HaveEnded log ranks = have_ended log shows seats sums_shows sums_seats o ranks p q x.gathered x.last endless in
+      let gone : HaveEnded ranks = have_ended log shows seats sums_shows sums_seats o ranks p q x.gathered x.last endless in
       let e : Ended o starts moves last =
       at_end o starts ranks p q x.ran.turns x.ran.told x.waits x.fair x.sound x.late_sound endless x.agrees x.some x.last.all gone x.last.done
       x.ran.after played in

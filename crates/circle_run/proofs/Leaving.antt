@@ -37,6 +37,11 @@ module _ {X : Type 0} where
       (λ b. inr (zero, omega arith, λ d. b))
       (each zero x (omega arith))
 
+module _ {J S T : Type 0} where
+  -- each rank has seen the end
+  abbrev pub HaveEnded : List (Rank J S T) → Type 0
+  HaveEnded ranks = (k : ℕ) (d : Rank J S T) → k < length ranks → (get_or ranks k d).ended ≡ true
+
 module _ {J S T P Q : Type 0} (log : J → Log) (shows : S → Shown) (seats : P → S → Type 0) (sums_shows : T → SumShown) (sums_seats : Q → T → Type 0) where
   -- all ranks of a run at their end, whose seats came together
   pub record Gathered (o : Options) (ranks : List (Rank J S T)) (p : P) (q : Q) (all_seats : List S) : Type 0 where
@@ -48,10 +53,6 @@ module _ {J S T P Q : Type 0} (log : J → Log) (shows : S → Shown) (seats : P
 
   abbrev handled_by : Rank J S T → ℕ
   handled_by r = length (log r.job)
-
-  -- each rank has seen the end
-  abbrev pub HaveEnded : List (Rank J S T) → Type 0
-  HaveEnded ranks = (k : ℕ) (d : Rank J S T) → k < length ranks → (get_or ranks k d).ended ≡ true
 
   -- some rank has handled as many strings as it may
   abbrev HasHandled : Options → List (Rank J S T) → Rank J S T → Type 0

@@ -256,7 +256,7 @@ module _ {J S T P Q D : Type 0} (log : J → Log) (plain : J → D) (shows : S �
       let as_list : Strings → Strings = λ xs. xs in
       let all_queues : all_left f.left.items ≡ flat_map as_list queues =
       sym (flat_map-map as_list (λ (l : Vec (List ℕ) _). l.items) f.left.items) ∙ ap (flat_map as_list) x.left_are in
-      let left : all_left f.left.items ≡ flat_map queue_of final = all_queues ∙ flat_map-map as_list queue_of final in
+      let queued : all_left f.left.items ≡ flat_map queue_of final = all_queues ∙ flat_map-map as_list queue_of final in
       let all_logs : flat_map (λ (l : Log). l) logs ≡ flat_map log f.jobs.items =
       flat_map-map (λ (l : Log). l) (λ (r : Rank J S T). log r.job) final ∙ sym (flat_map-map log job_of final) ∙ ap (flat_map log) (sym x.jobs_are) in
       let balance : Balanced (flat_map (λ (l : Log). l) logs) (flat_map as_list queues) starts =
@@ -288,9 +288,9 @@ module _ {J S T P Q D : Type 0} (log : J → Log) (plain : J → D) (shows : S �
       record {
         balance = subst (λ (l : Log). Balanced l (all_left f.left.items) starts) all_logs
             (subst (λ (l : Strings). Balanced (flat_map (λ (m : Log). m) logs) l starts) (sym all_queues) balance);
-        whole = none_left log shows seats sums_shows sums_seats o final p q all_seats (all_left f.left.items) end left;
+        whole = none_left log shows seats sums_shows sums_seats o final p q all_seats (all_left f.left.items) end queued;
         stop = within log shows seats sums_shows sums_seats o final p q all_seats f.jobs.items end x.jobs_are;
-        left = left_by log shows seats sums_shows sums_seats o final p q all_seats f.jobs.items (all_left f.left.items) end x.jobs_are left;
+        left = left_by log shows seats sums_shows sums_seats o final p q all_seats f.jobs.items (all_left f.left.items) end x.jobs_are queued;
         jobs_count = ap length x.jobs_are ∙ length-map final job_of ∙ as_many;
         facts = ap (map plain) x.jobs_are ∙ map-map plain job_of final
             ∙ map_same facts_of facts_of final whole x.last.count

@@ -19,6 +19,8 @@ mod of_ring_core;
 #[cfg(test)]
 mod of_shared_ranks;
 #[cfg(test)]
+mod of_stops;
+#[cfg(test)]
 mod of_storms;
 #[cfg(test)]
 mod of_sum_tree;
