@@ -99,7 +99,7 @@ returns g c =
         halters = c.gather.ensures.halters;
       };
       same = c.in_ok-ranks-2.ensures.same;
-      mailboxes = λ t e. (subst (λ (x : Option Told). Stays NoneOnTheWay x (g.P.Post.tells c.gather.new.post)) e c.gather.ensures.told).0;
+      mailboxes = λ t e. (subst (λ (x : Option Told). Stays NoneOnTheWay x (g.P.Post.tells c.gather.new.self)) e c.gather.ensures.told).0;
       ran = c.in_ok-ranks-2.ensures.ran o _ first.all c.requires.told;
       jobs_are = parts.jobs;
       left_are = parts.left;
