@@ -65,7 +65,7 @@ returns-clause-ran g c = λ one.
       };
     } in
     was_walked tree faults told jobs list starts c.args.options.now c.in_ok-finished.finished.shares.items
-    c.in_ok-finished.finished.events.items run (ran.ran one)
+    c.in_ok-finished.finished.events.items run (ran.ran one c.requires.stop_after)
 
 pub returns-clause-traced : goal.returns-clause-traced
 returns-clause-traced g c = λ on.
