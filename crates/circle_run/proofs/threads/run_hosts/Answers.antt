@@ -18,12 +18,11 @@ use Rattle.circle_run.proofs.threads.run_hosts.Goals as goal
 flag_within : (k hosts rest flags others : ℕ) → k + hosts ≡ others → hosts ≡ suc rest → flags ≡ others → k < flags
 flag_within k hosts rest flags others all next same = omega (arith, all, next, same)
 
-pub offset_bounds-flags-k : goal.offset_bounds-flags-k
-offset_bounds-flags-k g c =
+pub flag_at-flag-requires : goal.flag_at-flag-requires
+flag_at-flag-requires g c =
     let e : into_iter_items c.loop-ranks.ranks-iterator ≡ c.in-Some.ranks ∷ into_iter_items c.next.new.self = search rules in
-    let within = flag_within c.loop-ranks.k (length (into_iter_items c.loop-ranks.ranks-iterator)) (length (into_iter_items c.next.new.self))
-    (length c.args.flags.now) (length c.args.others.items) c.loop-ranks.invariant.flags (ap length e) c.requires.flags in
-    omega (arith, within)
+    flag_within c.loop-ranks.k (length (into_iter_items c.loop-ranks.ranks-iterator)) (length (into_iter_items c.next.new.self))
+    (length c.args.flags.now) (length c.args.others.items) c.loop-ranks.invariant.flags (ap length e) c.requires.flags
 
 pub loop-ranks-init : goal.loop-ranks-init
 loop-ranks-init g c =
