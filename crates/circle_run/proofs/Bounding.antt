@@ -1,10 +1,9 @@
 -- A rank handles no more than its number of strings, and counts them.
-use Rattle.std.proofs.Common.{◌≡◌, ℕ, ◌+◌, ◌-◌, ◌^◌, ◌<◌, ◌≤◌, ◌⊎◌, min, refl, sym, subst, ap, ◌∙◌, arith, Bool, true, false, nat_le, List, [], ◌∷◌, map}
+use Rattle.std.proofs.Common.{◌≡◌, ℕ, ◌+◌, ◌-◌, ◌^◌, ◌<◌, ◌≤◌, ◌⊎◌, min, refl, sym, subst, ap, ◌∙◌, arith, Bool, true, false, List, [], ◌∷◌, map}
 use Rattle.std.proofs.Common.{length, length-append, Option, Some, None}
 use Rattle.std.specs.Prelude.{IfSome, if◌then◌else◌}
 use Rattle.std.specs.List.{flat_map}
 use Rattle.std.proofs.lemmas.Bool.{leb-true, leb-false}
-use Rattle.ring_core.specs.declared.events.Event.{Event}
 use Rattle.post_board.specs.Shown.{Strings, Shown}
 use Rattle.post_board.specs.Told.{Told}
 use Rattle.post_board.specs.Deeds.{Deed, ask, give, refuse, take, take_none, pass, restart, conclude, see_over, event_of, withdraw, halt, stop}

@@ -16,7 +16,7 @@ use Rattle.post_board.specs.Calls.{RingTold, hearing}
 use Rattle.post_board.specs.declared.answers.Ring.{Ring}
 use Rattle.post_board.specs.declared.answers.Ring.TheVariants.{Elsewhere, Here, Over as HeardOver, Halted as HeardHalted}
 use Rattle.circle_run.specs.Balance.{Log}
-use Rattle.circle_run.specs.Moves.{Move, handled, served, did, noted, Side, IsHalted}
+use Rattle.circle_run.specs.Moves.{Move, handled, served, did, Side, IsHalted}
 use Rattle.circle_run.specs.Ranks.{DoesAll, side}
 use Rattle.circle_run.specs.Private.Steps.{Came}
 use Rattle.circle_run.specs.Turns.{Worked, IsTurn}

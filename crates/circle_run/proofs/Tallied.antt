@@ -1,5 +1,5 @@
 -- What a rank counts and keeps of progress, turn by turn.
-use Rattle.std.proofs.Common.{◌≡◌, ◌≢◌, ℕ, ◌+◌, ◌<◌, ◌≤◌, refl, sym, subst, inl, inr, ap, ◌∙◌, arith, Bool, true, false, List, [], ◌∷◌, ◌++◌}
+use Rattle.std.proofs.Common.{◌≡◌, ◌≢◌, ℕ, ◌+◌, ◌<◌, ◌≤◌, refl, sym, subst, ap, ◌∙◌, arith, Bool, true, false, List, [], ◌∷◌, ◌++◌}
 use Rattle.std.proofs.Common.{length, Option, None}
 use mathlib.Core.Logic.{dite}
 use native.Mathlib.Decide.{dec_le}
@@ -7,7 +7,6 @@ use Rattle.post_board.specs.Shown.{Shown, is_served}
 use Rattle.post_board.specs.Told.{Told}
 use Rattle.sum_tree.specs.Shown.{SumShown, IsLeaf}
 use Rattle.circle_run.specs.Balance.{Log}
-use Rattle.circle_run.specs.Moves.{Move}
 use Rattle.circle_run.specs.Progress.{Rises, Thousands, newest, Keeps, KeptOf, Progress, Counts}
 use Rattle.circle_run.specs.Ranks.{DoesAll, side}
 use Rattle.circle_run.specs.Private.Steps.{Came}

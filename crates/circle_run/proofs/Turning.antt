@@ -8,7 +8,7 @@ use Rattle.ring_core.specs.declared.events.Event.{Event}
 use Rattle.ring_core.specs.declared.events.Event.TheVariants.{Handle, TakeNone, SeeOver}
 use Rattle.post_board.specs.Shown.{Strings, Shown}
 use Rattle.post_board.specs.Told.{Told, place, is_stopped}
-use Rattle.post_board.specs.Deeds.{event_of, halt, stop, TellsLate}
+use Rattle.post_board.specs.Deeds.{event_of, halt, TellsLate}
 use Rattle.post_board.specs.Calls.{AgreesIfTold}
 use Rattle.circle_run.specs.Balance.{Log}
 use Rattle.circle_run.specs.Moves.{Move, served, noted, Side, answer_of, events_of}

@@ -1,7 +1,7 @@
-use Rattle.std.proofs.Common.{◌≡◌, ap, sym, ◌∙◌, refl, subst, arith, rules, [], ◌∷◌, Option, Some, None, List}
+use Rattle.std.proofs.Common.{ap, sym, ◌∙◌, refl, subst, rules, [], ◌∷◌}
 use Rattle.post_board.specs.Shown.{Shown, is_served}
 use Rattle.post_board.specs.Deeds.{stop}
-use Rattle.circle_run.specs.Moves.{Move, noted}
+use Rattle.circle_run.specs.Moves.{noted}
 use Rattle.circle_run.specs.Choices.{Closes}
 use Rattle.circle_run.specs.Private.Steps.{Ends}
 use Rattle.circle_run.specs.declared.steps.Did.TheVariants.{Stopped as DidStop}

@@ -1,4 +1,4 @@
-use Rattle.std.proofs.Common.{◌≡◌, ◌≢◌, ap, sym, ◌∙◌, refl, inl, inr, subst, arith, rules, true, [], Option, Some, None}
+use Rattle.std.proofs.Common.{ap, sym, ◌∙◌, refl, rules}
 use Rattle.post_board.specs.Shown.{Shown, is_served}
 use Rattle.post_board.specs.Deeds.{halt}
 use Rattle.circle_run.specs.Choices.{first_of}

@@ -1,8 +1,8 @@
-use Rattle.std.proofs.Common.{◌≡◌, ap, sym, ◌∙◌, refl, subst, arith, true, false, Option, Some, None}
+use Rattle.std.proofs.Common.{ap, sym, ◌∙◌, subst}
 use Rattle.circle_run.specs.Private.Steps.{Came, WoundUp}
 use Rattle.circle_run.specs.declared.steps.Did.{Did}
 use Rattle.circle_run.proofs.Winding.{came_closed, halted_served, refuses_all, gives_none}
-use Rattle.circle_run.proofs.Stepped.{handled_before, waited_alone, stopped_before, stopped_still}
+use Rattle.circle_run.proofs.Stepped.{handled_before}
 use Rattle.circle_run.proofs.ranks.RankState.wind_up.Goals as goal
 
 pub close-did-requires-clause-halted : goal.close-did-requires-clause-halted

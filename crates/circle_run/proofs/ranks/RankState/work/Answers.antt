@@ -1,12 +1,11 @@
-use Rattle.std.proofs.Common.{◌≡◌, ◌≢◌, ℕ, ◌+◌, ap, sym, ◌∙◌, subst, length, Bool, true, false, refl, Some}
+use Rattle.std.proofs.Common.{◌≡◌, ℕ, ◌+◌, ap, sym, ◌∙◌, subst, length, Bool, true, false, refl, Some}
 use Rattle.circle_run.specs.declared.settings.Options.{Options}
-use Rattle.circle_run.specs.Choices.{is_to_halt, has_done_all}
 use Rattle.circle_run.specs.Private.Steps.{Came}
 use Rattle.circle_run.specs.Turns.{Waits}
 use Rattle.circle_run.specs.Moves.{MayHandle}
 use Rattle.circle_run.specs.Private.Steps.{Works}
 use Rattle.circle_run.specs.declared.steps.Did.{Did}
-use Rattle.circle_run.proofs.Stepped.{waited_alone, handled_still, handled_before, stopped_still, stopped_before}
+use Rattle.circle_run.proofs.Stepped.{waited_alone, handled_still, handled_before, stopped_before}
 use Rattle.circle_run.proofs.Choosing.{came_worked, came_wound, halts_is, goes_neither, halt_unless_due, not_halted_ring}
 use Rattle.circle_run.proofs.Bounding.{bounded, may_handle, has_all, not_halted}
 use Rattle.circle_run.proofs.Asked.{true_not_false}
