@@ -23,7 +23,7 @@ use Rattle.tree_walk.proofs.Same.{same_paths, unequal}
 
 -- ---- the failed answers that a list with each path once tells
 
-abbrev Tells : List Entry → Answers → Type 0
+abbrev pub Tells : List Entry → Answers → Type 0
 Tells entries a = AllByRecursion (λ e. a e.path ≡ answer_in e) entries
 
 later : (e : Entry) (es fs : List Entry) → AllByRecursion (λ q. path_cmp e.path q ≡ Less) (paths_of fs) →
@@ -31,7 +31,7 @@ later : (e : Entry) (es fs : List Entry) → AllByRecursion (λ q. path_cmp e.pa
 later e es [] l h = tt
 later e es (f ∷ fs) l h = (ap (λ b. cond b (answer_in e) (answers_in es f.path)) (unequal e.path f.path l.0) ∙ h.0, later e es fs l.1 h.1)
 
-tells_itself : (es : List Entry) → IsStrictlySortedBy path_cmp (paths_of es) → Tells es (answers_in es)
+pub tells_itself : (es : List Entry) → IsStrictlySortedBy path_cmp (paths_of es) → Tells es (answers_in es)
 unfolding IsStrictlySortedBy
 tells_itself [] s = tt
 tells_itself (e ∷ es) s =
@@ -57,12 +57,12 @@ tells_each ds list p rise =
     let P : Entry → Type 0 = λ e. answers_in list e.path ≡ answer_in e in
     of_entries P ds (moved P list (entries_of ds) (IsPermutation-sym (entries_of ds) list p) (tells_itself list rise))
 
-own : (files : Files) (a : Answers) (ds : List Held) → AllByRecursion (IsDone files) ds → AllByRecursion (λ d. a d.0.path ≡ answer_in d.0) ds →
+pub own : (files : Files) (a : Answers) (ds : List Held) → AllByRecursion (IsDone files) ds → AllByRecursion (λ d. a d.0.path ≡ answer_in d.0) ds →
     AllByRecursion (λ d. IsOwn files a d.0) ds
 own files a [] h t = tt
 own files a (d ∷ ds) h t = (h.0.entry ∙ ap (λ x. entry_of x (get files d.0.path) d.0.path) (sym t.0), own files a ds h.1 t.1)
 
-by_path : (F : List ℕ → Entry) (es fs : List Entry) → AllByRecursion (λ e. e ≡ F e.path) es → AllByRecursion (λ e. e ≡ F e.path) fs →
+pub by_path : (F : List ℕ → Entry) (es fs : List Entry) → AllByRecursion (λ e. e ≡ F e.path) es → AllByRecursion (λ e. e ≡ F e.path) fs →
     paths_of es ≡ paths_of fs → es ≡ fs
 by_path F es fs h g e = each es h ∙ ap (map F) e ∙ sym (each fs g)
   where
@@ -89,12 +89,12 @@ walks_rise files a (p ∷ ps) t l = walks_ascend files a (p ∷ ps) (t (omega ar
 
 -- ---- the list is the walk of the starts in order
 
-pub whole : (files : Files) (ds : List Held) (list : List Entry) (starts ordered : List (List ℕ)) → IsGathered ds list starts →
+pub whole : (files : Files) (ds : List Held) (list : List Entry) (starts ordered : List (List ℕ)) → IsGathered ds list [] starts →
     AllByRecursion (IsDone files) ds → IsPermutation starts ordered → IsStrictlySortedBy path_cmp ordered →
     list ≡ flat_map (walk files (answers_in list)) ordered
 whole files ds list starts ordered h done m o =
     let a = answers_in list in
-    let rise = list_rises ds list starts h in
+    let rise = list_rises ds list [] starts h in
     let l = lined ordered o (λ x. omega (arith, from_apart starts h.apart x, sum_by-IsPermutation (covers x) starts ordered m)) in
     let told = tells_each ds list h.moves rise in
     let F = λ (q : List ℕ). entry_of (a q) (get files q) q in

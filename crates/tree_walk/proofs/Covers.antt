@@ -143,7 +143,7 @@ in_line p q e d =
       | false ↦ λ d. slash_front p q f.0 e (subst (λ z. begins (p ++ 47 ∷ []) z ≡ false) f.1 d)
     ] d
 
-covers-itself : (x : List ℕ) → covers x x ≡ 1
+pub covers-itself : (x : List ℕ) → covers x x ≡ 1
 covers-itself x = ap (λ b. cond b 1 0) (begins-itself (front x))
 
 -- the first of them covers no other

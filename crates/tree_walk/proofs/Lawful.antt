@@ -42,7 +42,7 @@ walk_all P Q files a here down (suc levels) p h = (
       (weaker P (λ c. AllByRecursion Q (walk_down levels files a c)) (walk_all P Q files a here down levels) (children_of (a p) files p) (down p h)),
 )
 
-path_is : (answer : Answer) (found : Option Node) (p : List ℕ) → (entry_of answer found p).path ≡ p
+pub path_is : (answer : Answer) (found : Option Node) (p : List ℕ) → (entry_of answer found p).path ≡ p
 path_is stat_failed found p = refl
 path_is list_failed None p = refl
 path_is list_failed (Some node) p = refl

@@ -29,7 +29,7 @@ lengths : (names : List (List ℕ)) → AllByRecursion (λ name. IsTrue (is_name
 lengths [] h = tt
 lengths (n ∷ names) h = (some_bytes n h.0, lengths names h.1)
 
-falls : (x : List ℕ) (d : Held) → IsPush d → one x d.0.path + sum_by (covers x) d.1 ≤ covers x d.0.path
+pub falls : (x : List ℕ) (d : Held) → IsPush d → one x d.0.path + sum_by (covers x) d.1 ≤ covers x d.0.path
 falls x d p =
     let valid = recursion_from_All (λ name. IsTrue (is_name name)) p.names p.are.valid in
     omega (arith, ap (sum_by (covers x)) p.is, covers_falls x d.0.path p.names (lengths p.names valid) (lined_names d.0.path p.names valid p.are.ascend))
@@ -49,7 +49,7 @@ all_fall x (d ∷ ds) h =
     )
 
 -- what was handled is covered by the starts, as often, and then no path that is left covers it
-covered : (x : List ℕ) (ds : List Held) (left starts : List (List ℕ)) → AllByRecursion IsPush ds → Balanced (log_of ds) left starts →
+pub covered : (x : List ℕ) (ds : List Held) (left starts : List (List ℕ)) → AllByRecursion IsPush ds → Balanced (log_of ds) left starts →
     sum_by (λ d. one x d.0.path) ds + sum_by (covers x) left ≤ sum_by (covers x) starts
 covered x ds left starts h b = omega (arith, all_fall x ds h, b.weighs (covers x))
 
@@ -87,11 +87,12 @@ pub sum_by-map : {X Y : Type 0} (f : Y → ℕ) (g : X → Y) (xs : List X) → 
 sum_by-map f g [] = refl
 sum_by-map f g (x ∷ xs) = sum_by-cons f (g x) (map g xs) ∙ (λ i. f (g x) + sum_by-map f g xs i) ∙ sym (sum_by-cons (λ y. f (g y)) x xs)
 
--- what was handled from the starts on, which are apart, is balanced; what was pushed are children; and the list is it, put in path order
-pub record IsGathered (ds : List Held) (list : List Entry) (starts : List (List ℕ)) : Type 0 where
+-- what was handled from the starts on, which are apart, is balanced over what is left; what was pushed are children; and the list is what
+-- was handled, put in path order
+pub record IsGathered (ds : List Held) (list : List Entry) (left starts : List (List ℕ)) : Type 0 where
   pub pushes : AllByRecursion IsPush ds
   pub apart : Apart starts
-  pub balance : Balanced (log_of ds) [] starts
+  pub balance : Balanced (log_of ds) left starts
   pub moves : IsPermutation (entries_of ds) list
   pub sorted : IsSortedByKey (λ e. e.path) path_cmp list
 
@@ -100,15 +101,15 @@ pub as_often : (k : Entry → ℕ) (ds : List Held) (list : List Entry) → IsPe
 as_often k ds list p = sum_by-IsPermutation k (entries_of ds) list p ∙ sum_by-map k (λ (d : Held). d.0) ds
 
 -- so it ascends strictly
-pub list_rises : (ds : List Held) (list : List Entry) (starts : List (List ℕ)) → IsGathered ds list starts →
+pub list_rises : (ds : List Held) (list : List Entry) (left starts : List (List ℕ)) → IsGathered ds list left starts →
     IsStrictlySortedBy path_cmp (map (λ e. e.path) list)
-list_rises ds list starts h =
+list_rises ds list left starts h =
     rises list h.sorted
-    (λ x. omega (arith, covered x ds [] starts h.pushes h.balance, from_apart starts h.apart x, as_often (λ e. one x e.path) ds list h.moves))
+    (λ x. omega (arith, covered x ds left starts h.pushes h.balance, from_apart starts h.apart x, as_often (λ e. one x e.path) ds list h.moves))
 
 -- ---- each path is a start or under one
 
-each_here : (es : List Entry) → AllByRecursion (λ e. 1 ≤ sum_by (λ f. one e.path f.path) es) es
+pub each_here : (es : List Entry) → AllByRecursion (λ e. 1 ≤ sum_by (λ f. one e.path f.path) es) es
 each_here [] = tt
 each_here (e ∷ es) =
     let self : one e.path e.path ≡ 1 = one-same e.path e.path refl in (
@@ -117,10 +118,10 @@ each_here (e ∷ es) =
           (λ d h. omega (arith, h, sum_by-cons (λ (f : Entry). one d.path f.path) e es)) es (each_here es),
     )
 
-pub list_within : (ds : List Held) (list : List Entry) (starts : List (List ℕ)) → IsGathered ds list starts →
+pub list_within : (ds : List Held) (list : List Entry) (left starts : List (List ℕ)) → IsGathered ds list left starts →
     AllByRecursion (λ e. is_in_some starts e.path ≡ true) list
-list_within ds list starts h =
+list_within ds list left starts h =
     weaker (λ (e : Entry). 1 ≤ sum_by (λ f. one e.path f.path) list) (λ (e : Entry). is_in_some starts e.path ≡ true)
     (λ e n. some_covers e.path starts
-    (omega (arith, n, covered e.path ds [] starts h.pushes h.balance, as_often (λ f. one e.path f.path) ds list h.moves)))
+    (omega (arith, n, covered e.path ds left starts h.pushes h.balance, as_often (λ f. one e.path f.path) ds list h.moves)))
     list (each_here list)

@@ -25,7 +25,7 @@ children_are files answer p t =
     of_children (AreChildren p) files answer p (record { longer = tt; after = tt; lined = tt; before = λ q e. tt })
     (are_children p (names_in files p) (children_are_names files p t))
 
-children_short : (files : Files) (answer : Answer) (p : List ℕ) → IsTree files → AllByRecursion (λ c. length c ≤ 4095) (children_of answer files p)
+pub children_short : (files : Files) (answer : Answer) (p : List ℕ) → IsTree files → AllByRecursion (λ c. length c ≤ 4095) (children_of answer files p)
 children_short files answer p t =
     of_children (AllByRecursion (λ c. length c ≤ 4095)) files answer p tt (short_children p (names_in files p) (children_are_names files p t))
 

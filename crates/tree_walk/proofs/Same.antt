@@ -21,7 +21,8 @@ none_above : (x : List ℕ) (ys : List (List ℕ)) → AllByRecursion (λ y. pat
 none_above x [] h = refl
 none_above x (y ∷ ys) h = omega (arith, sum_by-cons (one x) y ys, one-less x y h.0, none_above x ys h.1)
 
-higher : (x y : List ℕ) (ys : List (List ℕ)) → path_cmp x y ≡ Less → AllByRecursion (λ z. path_cmp y z ≡ Less) ys → AllByRecursion (λ z. path_cmp x z ≡ Less) ys
+pub higher : (x y : List ℕ) (ys : List (List ℕ)) → path_cmp x y ≡ Less → AllByRecursion (λ z. path_cmp y z ≡ Less) ys →
+    AllByRecursion (λ z. path_cmp x z ≡ Less) ys
 higher x y [] e h = tt
 higher x y (z ∷ ys) e h = (path_cmp_total.trans x y z e h.0, higher x y ys e h.1)
 

@@ -1,6 +1,7 @@
 //! Laws of the recursive walk and of roots, each the contract of a function that does nothing.
 ghost use Rattle.tree_walk.specs.Roots.{RootsAreUnique};
 ghost use Rattle.tree_walk.specs.Told.{EntriesAreTold, ParentsAreListed};
+ghost use Rattle.tree_walk.specs.Cut.{RestartIsWalk, CutGoesOn, LeftIsApart};
 ghost use Rattle.tree_walk.specs.Walk.{WalkIsRecursive, WalkAscends, WalkHasEachPathOnce, WalkFindsAll, WalkWithoutFaultsIsFine};
 
 /// The walk of a path is its entry, and then the walk of each child, names in byte order.
@@ -42,4 +43,21 @@ pub fn parents_are_listed()
 /// The roots of given paths are unique: two lists that are roots of the same valid paths are the same.
 pub fn roots_are_unique()
     ensures { RootsAreUnique }
+{}
+
+/// A restart goes on: the done entries of a cut, with a walk of its left strings, are in path order a walk of its starts.
+pub fn restart_is_walk()
+    ensures { RestartIsWalk }
+{}
+
+/// A walk of the left strings of a cut may be cut again: the done entries of both, with what is left at last, are a cut of the
+/// first starts.
+pub fn cut_goes_on()
+    ensures { CutGoesOn }
+{}
+
+/// No left string of a cut is equal to or under another, so that a walk can start from them, and nothing that was done is
+/// equal to or under one.
+pub fn left_is_apart()
+    ensures { LeftIsApart }
 {}
