@@ -22,3 +22,5 @@ mod of_storms;
 mod of_sum_tree;
 #[cfg(test)]
 mod of_tree_walk;
+#[cfg(test)]
+mod of_walk_cuts;
