@@ -6,6 +6,7 @@ use Rattle.std.specs.Option.{option_map, option_or}
 use Rattle.std.specs.List.{AllByRecursion, before_first, after_first, position_or_len}
 use Rattle.std.proofs.lemmas.List.Elements.{All-cons, All-from_recursion, All-take}
 use Rattle.std.proofs.lemmas.List.Folds.{find-append}
+use Rattle.std.proofs.lemmas.Bool.{false≢true}
 use Rattle.std.proofs.lemmas.Bool.Decides.{nat_tests}
 use Rattle.path_text.specs.Path.{refusal}
 use Rattle.tree_cmp.specs.declared.conditions.Condition.{Condition}
@@ -21,14 +22,14 @@ use Rattle.tool_words.specs.declared.tables.OptionName.TheVariants as option
 use Rattle.tool_words.specs.declared.tables.Placed.{Placed}
 use Rattle.tool_words.specs.declared.turns.Turn.{Turn}
 use Rattle.tool_words.specs.declared.turns.Turn.TheVariants as turn
-use Rattle.tool_words.specs.Asked.{Origin, Choice, Asked}
-use Rattle.tool_words.specs.Clashes.{place_of, clash_in}
+use Rattle.tool_words.specs.Asked.{Origin, restart, Choice, Asked}
+use Rattle.tool_words.specs.Clashes.{place_of, trace_on_hosts, trace_and_stop, input_and_restart, first_of, no_lists, lists_alone, input_and_stop, clash_in}
 use Rattle.tool_words.specs.Limits.{Valid, Lower, paths_in, CommonWithin, ChoiceWithin, Within}
 use Rattle.tool_words.specs.Table.{tool_named, text_of, option_named, Set, set, raise}
 use Rattle.tool_words.specs.Value.{is, trimmed, number_in, split_in, path_in, lower_path_in, order_in, test_in, is_colon, if_expr, want_by, want_in}
 use Rattle.tool_words.specs.Words.{ends_options, is_option, name_in, value_in, Given, nothing, and_then, at_end, with_words}
 use Rattle.tool_words.specs.Words.{with_path, with_lower, with_number, with_plain, with_settings, is_repeated, with_another, with_own_value, with_next_value}
-use Rattle.tool_words.specs.Words.{with_flag, with_option, with_word, start_by, sides_by, sources_by, targets_by, nodes_by, choice_of, list_by}
+use Rattle.tool_words.specs.Words.{with_flag, with_option, with_word, start_by, sides_by, sources_by, targets_by, nodes_by, choice_of}
 use Rattle.tool_words.specs.Words.{asked_of, unless_clash, command_of, reading_for, reading}
 
 one_of : {X : Type 0} (P : X → Type 0) (b : Bool) (x y : X) → P x → P y → P (cond b x y)
@@ -58,27 +59,42 @@ record Fits (common : Common) : Type 0 where
   seed : common.seed < 2 ^ 64
   width : (2 ≤ common.width) × (common.width ≤ 64)
 
+-- a number of paths after which a rank may stop
+abbrev Stopping : ℕ → Type 0
+Stopping n = (1 ≤ n) × (n < 2 ^ 63)
+
 record Fine (s : Set) : Type 0 where
   common : Fits s.common
   input : IfSome s.input Valid
   output : IfSome s.output Valid
   newer : AllByRecursion Valid s.newer
   wants : AllByRecursion FileValid s.wants
+  stop : IfSome s.stop_after Stopping
+  lists : IfSome s.lists Valid
 
 -- a number of nodes that a made-up tree may have
 abbrev Makeable : ℕ → Type 0
 Makeable n = (1 ≤ n) × (n ≤ 1000000)
 
--- where a trace is asked for, its option stands among these
-abbrev Stands : List Placed → Set → Type 0
-Stands options s = s.common.trace ≡ true → is_some (place_of option.Trace options) ≡ true
+-- where this is set, the option stands among these
+abbrev Stands : OptionName → List Placed → Bool → Type 0
+Stands option options on = on ≡ true → is_some (place_of option options) ≡ true
+
+-- a trace, a stop and a restart have their options among these
+record Marked (options : List Placed) (trace stop again : Bool) : Type 0 where
+  traced : Stands option.Trace options trace
+  stops : Stands option.StopAfter options stop
+  restarts : Stands option.Restart options again
+
+abbrev Marks : List Placed → Set → Type 0
+Marks options s = Marked options s.common.trace (is_some s.stop_after) s.restart
 
 record FineSoFar (given : Given) : Type 0 where
   settings : Fine given.settings
   paths : AllByRecursion Valid given.paths
   lower : AllByRecursion Lower given.lower
   numbers : AllByRecursion Makeable given.numbers
-  trace : Stands given.options given.settings
+  marks : Marks given.options given.settings
 
 valid_if : (path : List ℕ) → is_none (refusal path) ≡ true → Valid path
 valid_if path h = grind arith
@@ -127,16 +143,16 @@ the_want text want e = let h = want_valid text in rw e at h
 
 -- what is set stays fine where one part of it changes
 with_common : (s : Set) (common : Common) → Fine s → Fits common → Fine (record s { common = common })
-with_common s common f c = record { common = c; input = f.input; output = f.output; newer = f.newer; wants = f.wants }
+with_common s common f c = record { common = c; input = f.input; output = f.output; newer = f.newer; wants = f.wants; stop = f.stop; lists = f.lists }
 
 with_input : (s : Set) (path : List ℕ) → Fine s → Valid path → Fine (record s { input = Some path })
-with_input s path f v = record { common = f.common; input = v; output = f.output; newer = f.newer; wants = f.wants }
+with_input s path f v = record { common = f.common; input = v; output = f.output; newer = f.newer; wants = f.wants; stop = f.stop; lists = f.lists }
 
 with_output : (s : Set) (path : List ℕ) → Fine s → Valid path → Fine (record s { output = Some path })
-with_output s path f v = record { common = f.common; input = f.input; output = v; newer = f.newer; wants = f.wants }
+with_output s path f v = record { common = f.common; input = f.input; output = v; newer = f.newer; wants = f.wants; stop = f.stop; lists = f.lists }
 
 with_newer : (s : Set) (path : List ℕ) → Fine s → Valid path → Fine (record s { newer = s.newer ++ path ∷ [] })
-with_newer s path f v = record { common = f.common; input = f.input; output = f.output; newer = one_more Valid s.newer path f.newer v; wants = f.wants }
+with_newer s path f v = record { common = f.common; input = f.input; output = f.output; newer = one_more Valid s.newer path f.newer v; wants = f.wants; stop = f.stop; lists = f.lists }
 
 with_want : (s : Set) (want : Want) → Fine s → FileValid want → Fine (record s { wants = s.wants ++ want ∷ [] })
 with_want s want f v = record {
@@ -145,6 +161,30 @@ with_want s want f v = record {
   output = f.output;
   newer = f.newer;
   wants = one_more FileValid s.wants want f.wants v;
+  stop = f.stop;
+  lists = f.lists;
+}
+
+with_stop : (s : Set) (n : ℕ) → Fine s → (1 ≤ n) × (n ≤ 2 ^ 63 - 1) → Fine (record s { stop_after = Some n })
+with_stop s n f w = record {
+  common = f.common;
+  input = f.input;
+  output = f.output;
+  newer = f.newer;
+  wants = f.wants;
+  stop = (w.0, omega (arith, w.1));
+  lists = f.lists;
+}
+
+with_lists : (s : Set) (path : List ℕ) → Fine s → Valid path → Fine (record s { lists = Some path })
+with_lists s path f v = record {
+  common = f.common;
+  input = f.input;
+  output = f.output;
+  newer = f.newer;
+  wants = f.wants;
+  stop = f.stop;
+  lists = v;
 }
 
 ranks_fine : (common : Common) (n : ℕ) → Fits common → (1 ≤ n) × (n ≤ 64) → Fits (record common { ranks = n })
@@ -180,46 +220,30 @@ set_fine option.Trace text s f = tt
 set_fine option.Shares text s f = tt
 set_fine option.Progress text s f = tt
 set_fine option.Sort text s f =
-    mapped Fine _ (order_in text) (λ order e. record { common = f.common; input = f.input; output = f.output; newer = f.newer; wants = f.wants })
+    mapped Fine _ (order_in text) (λ order e. record { common = f.common; input = f.input; output = f.output; newer = f.newer; wants = f.wants; stop = f.stop; lists = f.lists })
 set_fine option.Input text s f = mapped Fine _ (path_in text) (λ path e. with_input s path f (the_path text path e))
 set_fine option.Output text s f = mapped Fine _ (path_in text) (λ path e. with_output s path f (the_path text path e))
 set_fine (option.Test name) text s f =
-    mapped Fine _ (test_in name text) (λ test e. record { common = f.common; input = f.input; output = f.output; newer = f.newer; wants = f.wants })
+    mapped Fine _ (test_in name text) (λ test e. record { common = f.common; input = f.input; output = f.output; newer = f.newer; wants = f.wants; stop = f.stop; lists = f.lists })
 set_fine option.Newer text s f = mapped Fine _ (path_in text) (λ path e. with_newer s path f (the_path text path e))
 set_fine option.Want text s f = mapped Fine _ (want_in text) (λ want e. with_want s want f (the_want text want e))
 set_fine option.Dryrun text s f = tt
+set_fine option.StopAfter text s f =
+    mapped Fine _ (number_in 1 (2 ^ 63 - 1) text) (λ n e. with_stop s n f (number_within 1 (2 ^ 63 - 1) text n e))
+set_fine option.Lists text s f = mapped Fine _ (path_in text) (λ path e. with_lists s path f (the_path text path e))
+set_fine option.Restart text s f = tt
 
 raise_fine : (option : OptionName) (s : Set) → Fine s → IfSome (raise option s) Fine
 raise_fine option.Trace s f = with_common s _ f (same_limits s.common _ f.common refl refl refl refl)
 raise_fine option.Shares s f = with_common s _ f (same_limits s.common _ f.common refl refl refl refl)
 raise_fine option.Progress s f = with_common s _ f (same_limits s.common _ f.common refl refl refl refl)
-raise_fine option.Dryrun s f = record { common = f.common; input = f.input; output = f.output; newer = f.newer; wants = f.wants }
+raise_fine option.Dryrun s f = record { common = f.common; input = f.input; output = f.output; newer = f.newer; wants = f.wants; stop = f.stop; lists = f.lists }
+raise_fine option.Restart s f = record { common = f.common; input = f.input; output = f.output; newer = f.newer; wants = f.wants; stop = f.stop; lists = f.lists }
 raise_fine _ s f = tt
 
--- a value leaves the trace as it was
-abbrev SameTrace : Set → Set → Type 0
-SameTrace s t = t.common.trace ≡ s.common.trace
-
-set_leaves : (option : OptionName) (text : List ℕ) (s : Set) → IfSome (set option text s) (SameTrace s)
-set_leaves option.Ranks text s = mapped (SameTrace s) _ (number_in 1 64 text) (λ n e. refl)
-set_leaves option.Hosts text s = mapped (SameTrace s) _ (number_in 1 64 text) (λ n e. refl)
-set_leaves option.Split text s = mapped (SameTrace s) _ (split_in text) (λ split e. refl)
-set_leaves option.Seed text s = mapped (SameTrace s) _ (number_in 0 (2 ^ 64 - 1) text) (λ n e. refl)
-set_leaves option.Width text s = mapped (SameTrace s) _ (number_in 2 64 text) (λ n e. refl)
-set_leaves option.Trace text s = tt
-set_leaves option.Shares text s = tt
-set_leaves option.Progress text s = tt
-set_leaves option.Sort text s = mapped (SameTrace s) _ (order_in text) (λ order e. refl)
-set_leaves option.Input text s = mapped (SameTrace s) _ (path_in text) (λ path e. refl)
-set_leaves option.Output text s = mapped (SameTrace s) _ (path_in text) (λ path e. refl)
-set_leaves (option.Test name) text s = mapped (SameTrace s) _ (test_in name text) (λ test e. refl)
-set_leaves option.Newer text s = mapped (SameTrace s) _ (path_in text) (λ path e. refl)
-set_leaves option.Want text s = mapped (SameTrace s) _ (want_in text) (λ want e. refl)
-set_leaves option.Dryrun text s = tt
-
--- the option is `--trace`
-abbrev is_trace : Placed → Bool
-is_trace given = is (text_of option.Trace) (text_of given.option)
+-- the option is this one
+abbrev is_that : OptionName → Placed → Bool
+is_that option given = is (text_of option) (text_of given.option)
 
 abbrev IsFound : Option Placed → Type 0
 IsFound o = is_some (option_map (λ p. p.place) o) ≡ true
@@ -232,27 +256,91 @@ found_then : (o rest : Option Placed) → IsFound rest → IsFound (option_or o 
 found_then (Some p) rest e = refl
 found_then None rest e = e
 
+abbrev placed : OptionName → ℕ → Placed
+placed option place = record { option = option; place = place }
+
 -- what stands among options stands among more of them
-still_stands : (options : List Placed) (last : Placed) (s : Set) → Stands options s → Stands (options ++ last ∷ []) s
-still_stands options last s h t =
-    ap (λ o. is_some (option_map (λ p. p.place) o)) (find-append is_trace options (last ∷ []))
-    ∙ found_first (find is_trace options) (find is_trace (last ∷ [])) (h t)
+still_stands : (option : OptionName) (options : List Placed) (last : Placed) (on : Bool) → Stands option options on → Stands option (options ++ last ∷ []) on
+still_stands option options last on h t =
+    ap (λ o. is_some (option_map (λ p. p.place) o)) (find-append (is_that option) options (last ∷ []))
+    ∙ found_first (find (is_that option) options) (find (is_that option) (last ∷ [])) (h t)
 
--- and `--trace` stands among them once it is read
-now_stands : (options : List Placed) (place : ℕ) → is_some (place_of option.Trace (options ++ record { option = option.Trace; place = place } ∷ [])) ≡ true
+still_marked : (options : List Placed) (last : Placed) (trace stop again : Bool) → Marked options trace stop again →
+    Marked (options ++ last ∷ []) trace stop again
+still_marked options last trace stop again m = record {
+  traced = still_stands option.Trace options last trace m.traced;
+  stops = still_stands option.StopAfter options last stop m.stops;
+  restarts = still_stands option.Restart options last again m.restarts;
+}
+
+-- and an option stands among them once it is read
+now_stands : (option : OptionName) (place : ℕ) (options : List Placed) → IsFound (find (is_that option) (placed option place ∷ [])) →
+    is_some (place_of option (options ++ placed option place ∷ [])) ≡ true
+now_stands option place options here =
+    ap (λ o. is_some (option_map (λ p. p.place) o)) (find-append (is_that option) options (placed option place ∷ []))
+    ∙ found_then (find (is_that option) options) (find (is_that option) (placed option place ∷ [])) here
+
+trace_marked : (place : ℕ) (options : List Placed) (trace stop again : Bool) → Marked options trace stop again →
+    Marked (options ++ placed option.Trace place ∷ []) true stop again
 unfolding text_of
-now_stands options place =
-    let last : Placed = record { option = option.Trace; place = place } in
-    ap (λ o. is_some (option_map (λ p. p.place) o)) (find-append is_trace options (last ∷ []))
-    ∙ found_then (find is_trace options) (find is_trace (last ∷ [])) refl
+trace_marked place options trace stop again m =
+    let more = still_marked options (placed option.Trace place) trace stop again m in
+    record { traced = λ t. now_stands option.Trace place options refl; stops = more.stops; restarts = more.restarts }
 
-raise_stands : (option : OptionName) (place : ℕ) (options : List Placed) (s : Set) → Stands options s →
-    IfSome (raise option s) (Stands (options ++ record { option = option; place = place } ∷ []))
-raise_stands option.Trace place options s h = λ t. now_stands options place
-raise_stands option.Shares place options s h = still_stands options _ s h
-raise_stands option.Progress place options s h = still_stands options _ s h
-raise_stands option.Dryrun place options s h = still_stands options _ s h
-raise_stands _ place options s h = tt
+stop_marked : (place : ℕ) (options : List Placed) (trace stop again : Bool) → Marked options trace stop again →
+    Marked (options ++ placed option.StopAfter place ∷ []) trace true again
+unfolding text_of
+stop_marked place options trace stop again m =
+    let more = still_marked options (placed option.StopAfter place) trace stop again m in
+    record { traced = more.traced; stops = λ t. now_stands option.StopAfter place options refl; restarts = more.restarts }
+
+restart_marked : (place : ℕ) (options : List Placed) (trace stop again : Bool) → Marked options trace stop again →
+    Marked (options ++ placed option.Restart place ∷ []) trace stop true
+unfolding text_of
+restart_marked place options trace stop again m =
+    let more = still_marked options (placed option.Restart place) trace stop again m in
+    record { traced = more.traced; stops = more.stops; restarts = λ t. now_stands option.Restart place options refl }
+
+-- with the option that it is set by
+abbrev MarksWith : OptionName → ℕ → List Placed → Set → Type 0
+MarksWith option place options s = Marks (options ++ placed option place ∷ []) s
+
+marks_more : (option : OptionName) (place : ℕ) (options : List Placed) (s : Set) → Marks options s → MarksWith option place options s
+marks_more option place options s m = still_marked options (placed option place) s.common.trace (is_some s.stop_after) s.restart m
+
+set_marked : (option : OptionName) (text : List ℕ) (place : ℕ) (options : List Placed) (s : Set) → Marks options s →
+    IfSome (set option text s) (MarksWith option place options)
+set_marked option.Ranks text place options s m = mapped (MarksWith option.Ranks place options) _ (number_in 1 64 text) (λ n e. marks_more option.Ranks place options s m)
+set_marked option.Hosts text place options s m = mapped (MarksWith option.Hosts place options) _ (number_in 1 64 text) (λ n e. marks_more option.Hosts place options s m)
+set_marked option.Split text place options s m = mapped (MarksWith option.Split place options) _ (split_in text) (λ n e. marks_more option.Split place options s m)
+set_marked option.Seed text place options s m =
+    mapped (MarksWith option.Seed place options) _ (number_in 0 (2 ^ 64 - 1) text) (λ n e. marks_more option.Seed place options s m)
+set_marked option.Width text place options s m = mapped (MarksWith option.Width place options) _ (number_in 2 64 text) (λ n e. marks_more option.Width place options s m)
+set_marked option.Trace text place options s m = tt
+set_marked option.Shares text place options s m = tt
+set_marked option.Progress text place options s m = tt
+set_marked option.Sort text place options s m = mapped (MarksWith option.Sort place options) _ (order_in text) (λ n e. marks_more option.Sort place options s m)
+set_marked option.Input text place options s m = mapped (MarksWith option.Input place options) _ (path_in text) (λ n e. marks_more option.Input place options s m)
+set_marked option.Output text place options s m = mapped (MarksWith option.Output place options) _ (path_in text) (λ n e. marks_more option.Output place options s m)
+set_marked (option.Test name) text place options s m =
+    mapped (MarksWith (option.Test name) place options) _ (test_in name text) (λ n e. marks_more (option.Test name) place options s m)
+set_marked option.Newer text place options s m = mapped (MarksWith option.Newer place options) _ (path_in text) (λ n e. marks_more option.Newer place options s m)
+set_marked option.Want text place options s m = mapped (MarksWith option.Want place options) _ (want_in text) (λ n e. marks_more option.Want place options s m)
+set_marked option.Dryrun text place options s m = tt
+set_marked option.StopAfter text place options s m =
+    mapped (MarksWith option.StopAfter place options) _ (number_in 1 (2 ^ 63 - 1) text)
+    (λ n e. stop_marked place options s.common.trace (is_some s.stop_after) s.restart m)
+set_marked option.Lists text place options s m = mapped (MarksWith option.Lists place options) _ (path_in text) (λ n e. marks_more option.Lists place options s m)
+set_marked option.Restart text place options s m = tt
+
+raise_marked : (option : OptionName) (place : ℕ) (options : List Placed) (s : Set) → Marks options s →
+    IfSome (raise option s) (MarksWith option place options)
+raise_marked option.Trace place options s m = trace_marked place options s.common.trace (is_some s.stop_after) s.restart m
+raise_marked option.Shares place options s m = marks_more option.Shares place options s m
+raise_marked option.Progress place options s m = marks_more option.Progress place options s m
+raise_marked option.Dryrun place options s m = marks_more option.Dryrun place options s m
+raise_marked option.Restart place options s m = restart_marked place options s.common.trace (is_some s.stop_after) s.restart m
+raise_marked _ place options s m = tt
 
 path_fine : (given : Given) (place : ℕ) (path : Option (List ℕ)) → FineSoFar given → IfSome path Valid → IfOk (with_path given place path) FineSoFar
 path_fine given place (Some path) f v = record {
@@ -260,7 +348,7 @@ path_fine given place (Some path) f v = record {
   paths = one_more Valid given.paths path f.paths v;
   lower = f.lower;
   numbers = f.numbers;
-  trace = f.trace;
+  marks = f.marks;
 }
 path_fine given place None f v = tt
 
@@ -270,7 +358,7 @@ lower_fine given place (Some path) f v = record {
   paths = f.paths;
   lower = one_more Lower given.lower path f.lower v;
   numbers = f.numbers;
-  trace = f.trace;
+  marks = f.marks;
 }
 lower_fine given place None f v = tt
 
@@ -287,7 +375,7 @@ number_fine given place (Some n) f v = record {
   paths = f.paths;
   lower = f.lower;
   numbers = one_more Makeable given.numbers n f.numbers v;
-  trace = f.trace;
+  marks = f.marks;
 }
 number_fine given place None f v = tt
 
@@ -300,40 +388,66 @@ plain_fine tool.Remove given place word f = lower_fine given place (lower_path_i
 plain_fine tool.Test given place word f = number_fine given place (number_in 1 1000000 word) f (number_fits word)
 
 settings_fine : (given : Given) (place : ℕ) (settings : Option Set) →
-    FineSoFar given → IfSome settings Fine → IfSome settings (SameTrace given.settings) → IfOk (with_settings given place settings) FineSoFar
-settings_fine given place (Some settings) f h same =
-    record { settings = h; paths = f.paths; lower = f.lower; numbers = f.numbers; trace = λ t. f.trace (sym same ∙ t) }
-settings_fine given place None f h same = tt
+    FineSoFar given → IfSome settings Fine → IfSome settings (Marks given.options) → IfOk (with_settings given place settings) FineSoFar
+settings_fine given place (Some settings) f h m = record { settings = h; paths = f.paths; lower = f.lower; numbers = f.numbers; marks = m }
+settings_fine given place None f h m = tt
 
-value_fine : (given : Given) (place : ℕ) (option : OptionName) (text : List ℕ) →
-    FineSoFar given → IfOk (with_settings given place (set option text given.settings)) FineSoFar
-value_fine given place option text f =
-    settings_fine given place (set option text given.settings) f (set_fine option text given.settings f.settings) (set_leaves option text given.settings)
+-- what an option sets stands, while the option itself is to be added
+record FineBut (option : OptionName) (place : ℕ) (given : Given) : Type 0 where
+  settings : Fine given.settings
+  paths : AllByRecursion Valid given.paths
+  lower : AllByRecursion Lower given.lower
+  numbers : AllByRecursion Makeable given.numbers
+  marks : MarksWith option place given.options given.settings
 
-another_fine : (given : Given) (place : ℕ) (option : OptionName) → FineSoFar given → IfOk (with_another given place option) FineSoFar
-another_fine given place option f =
+value_fine : (given : Given) (place : ℕ) (option : OptionName) (settings : Option Set) → FineSoFar given → IfSome settings Fine →
+    IfSome settings (MarksWith option place given.options) → IfOk (with_settings given place settings) (FineBut option place)
+value_fine given place option (Some settings) f h m = record { settings = h; paths = f.paths; lower = f.lower; numbers = f.numbers; marks = m }
+value_fine given place option None f h m = tt
+
+added_fine : (given : Given) (place : ℕ) (option : OptionName) → FineBut option place given → IfOk (with_another given place option) FineSoFar
+added_fine given place option f =
     one_of (λ r. IfOk r FineSoFar) (is_repeated option given.options) _ _ tt
-    (record { settings = f.settings; paths = f.paths; lower = f.lower; numbers = f.numbers; trace = still_stands given.options _ given.settings f.trace })
+    (record { settings = f.settings; paths = f.paths; lower = f.lower; numbers = f.numbers; marks = f.marks })
 
 own_fine : (given : Given) (place : ℕ) (option : OptionName) (text : List ℕ) → FineSoFar given → IfOk (with_own_value given place option text) FineSoFar
 own_fine given place option text f =
-    both FineSoFar FineSoFar (with_settings given place (set option text given.settings)) (λ g. with_another g place option)
-    (value_fine given place option text f)
-    (λ g h. another_fine g place option h)
+    both (FineBut option place) FineSoFar (with_settings given place (set option text given.settings)) (λ g. with_another g place option)
+    (value_fine given place option (set option text given.settings) f (set_fine option text given.settings f.settings)
+    (set_marked option text place given.options given.settings f.marks))
+    (λ g h. added_fine g place option h)
+
+-- an option is added, and what its value sets stands
+abbrev FineWith : OptionName → List ℕ → Given → Type 0
+FineWith option word given = FineSoFar given × IfSome (set option word given.settings) (Marks given.options)
+
+another_fine : (given : Given) (place : ℕ) (option : OptionName) (word : List ℕ) → FineSoFar given →
+    IfOk (with_another given place option) (FineWith option word)
+another_fine given place option word f =
+    let added : FineSoFar (record given { next = turn.Any; options = given.options ++ placed option place ∷ [] }) =
+    record {
+      settings = f.settings;
+      paths = f.paths;
+      lower = f.lower;
+      numbers = f.numbers;
+      marks = marks_more option place given.options given.settings f.marks;
+    } in
+    one_of (λ r. IfOk r (FineWith option word)) (is_repeated option given.options) _ _ tt
+    (added, set_marked option word place given.options given.settings f.marks)
 
 next_fine : (given : Given) (at : ℕ) (option : OptionName) (place : ℕ) (word : List ℕ) →
     FineSoFar given → IfOk (with_next_value given at option place word) FineSoFar
 next_fine given at option place word f =
-    both FineSoFar FineSoFar (with_another given at option) (λ g. with_settings g place (set option word g.settings))
-    (another_fine given at option f)
-    (λ g h. value_fine g place option word h)
+    both (FineWith option word) FineSoFar (with_another given at option) (λ g. with_settings g place (set option word g.settings))
+    (another_fine given at option word f)
+    (λ g h. settings_fine g place (set option word g.settings) h.0 (set_fine option word g.settings h.0.settings) h.1)
 
 flag_fine : (given : Given) (place : ℕ) (option : OptionName) (settings : Option Set) → FineSoFar given → IfSome settings Fine →
-    IfSome settings (Stands (given.options ++ record { option = option; place = place } ∷ [])) → IfOk (with_flag given place option settings) FineSoFar
-flag_fine given place option (Some settings) f h stands =
-    one_of (λ r. IfOk r FineSoFar) (is_repeated option given.options) _ _ tt
-    (record { settings = h; paths = f.paths; lower = f.lower; numbers = f.numbers; trace = stands })
-flag_fine given place option None f h stands = record { settings = f.settings; paths = f.paths; lower = f.lower; numbers = f.numbers; trace = f.trace }
+    IfSome settings (MarksWith option place given.options) → IfOk (with_flag given place option settings) FineSoFar
+flag_fine given place option (Some settings) f h m =
+    added_fine (record given { settings = settings }) place option
+    (record { settings = h; paths = f.paths; lower = f.lower; numbers = f.numbers; marks = m })
+flag_fine given place option None f h m = record { settings = f.settings; paths = f.paths; lower = f.lower; numbers = f.numbers; marks = f.marks }
 
 option_fine : (given : Given) (place : ℕ) (option : Option OptionName) (value : Option (List ℕ)) →
     FineSoFar given → IfOk (with_option given place option value) FineSoFar
@@ -341,12 +455,12 @@ option_fine given place None value f = tt
 option_fine given place (Some option) (Some text) f = own_fine given place option text f
 option_fine given place (Some option) None f =
     flag_fine given place option (raise option given.settings) f (raise_fine option given.settings f.settings)
-    (raise_stands option place given.options given.settings f.trace)
+    (raise_marked option place given.options given.settings f.marks)
 
 word_fine : (tool : Tool) (next : Turn) (given : Given) (place : ℕ) (word : List ℕ) → FineSoFar given → IfOk (with_word tool next given place word) FineSoFar
 word_fine tool turn.Any given place word f =
     one_of (λ r. IfOk r FineSoFar) (ends_options word) _ _
-    (record { settings = f.settings; paths = f.paths; lower = f.lower; numbers = f.numbers; trace = f.trace })
+    (record { settings = f.settings; paths = f.paths; lower = f.lower; numbers = f.numbers; marks = f.marks })
     (one_of (λ r. IfOk r FineSoFar) (is_option word) _ _
     (option_fine given place (option_named tool (name_in word)) (value_in word) f)
     (plain_fine tool given place word f))
@@ -373,22 +487,28 @@ nothing_fine = record {
     output = tt;
     newer = tt;
     wants = tt;
+    stop = tt;
+    lists = tt;
   };
   paths = tt;
   lower = tt;
   numbers = tt;
-  trace = λ t. t;
+  marks = record { traced = λ t. t; stops = λ t. t; restarts = λ t. t };
 }
 
-abbrev StartWithin : Origin → Type 0
-StartWithin start = All Valid (paths_in start)
+-- the paths of a start are valid, and only a restart goes on
+record StartWithin (again : Bool) (start : Origin) : Type 0 where
+  valid : All Valid (paths_in start)
+  only : start ≡ restart → again ≡ true
 
-start_fine : (wanting : ℕ) (file : Option (List ℕ)) (paths : List (List ℕ)) (places : List ℕ) →
-    IfSome file Valid → AllByRecursion Valid paths → IfOk (start_by wanting file paths places) StartWithin
-start_fine wanting None [] places v h = tt
-start_fine wanting None (path ∷ paths) places v h = All-from_recursion Valid (path ∷ paths) h
-start_fine wanting (Some file) paths [] v h = All-from_recursion Valid (file ∷ []) (v, tt)
-start_fine wanting (Some file) paths (place ∷ places) v h = tt
+start_fine : (wanting : ℕ) (file : Option (List ℕ)) (again : Bool) (paths : List (List ℕ)) (places : List ℕ) →
+    IfSome file Valid → AllByRecursion Valid paths → IfOk (start_by wanting file again paths places) (StartWithin again)
+start_fine wanting None false [] places v h = tt
+start_fine wanting None false (path ∷ paths) places v h = record { valid = All-from_recursion Valid (path ∷ paths) h; only = λ e. cc }
+start_fine wanting None true paths [] v h = record { valid = All-from_recursion Valid [] tt; only = λ e. refl }
+start_fine wanting None true paths (place ∷ places) v h = tt
+start_fine wanting (Some file) again paths [] v h = record { valid = All-from_recursion Valid (file ∷ []) (v, tt); only = λ e. cc }
+start_fine wanting (Some file) again paths (place ∷ places) v h = tt
 
 abbrev SidesWithin : List ℕ × List ℕ → Type 0
 SidesWithin sides = Valid sides.0 × Valid sides.1
@@ -447,7 +567,26 @@ not_none : (o : Option ℕ) → is_some o ≡ true → o ≢ None
 not_none (Some place) s e = cc
 not_none None s e = cc
 
-one_host : (options : List Placed) (s : Set) → Fits s.common → Stands options s → clash_in options s ≡ None → s.common.trace ≡ true → s.common.hosts ≡ 1
+-- no line applies
+record IsFree (options : List Placed) (s : Set) : Type 0 where
+  hosts : trace_on_hosts options s ≡ None
+  stop : trace_and_stop options s ≡ None
+  lists : no_lists options s ≡ None
+
+neither : (o p : Option ℕ) → option_or o p ≡ None → (o ≡ None) × (p ≡ None)
+neither None p e = (refl, e)
+neither (Some place) p e = cc
+
+is_free : (options : List Placed) (s : Set) → clash_in options s ≡ None → IsFree options s
+is_free options s e =
+    let a = neither (trace_on_hosts options s) _ e in
+    let b = neither (trace_and_stop options s) _ a.1 in
+    let c = neither (input_and_restart options s) _ b.1 in
+    let d = neither (no_lists options s) _ c.1 in
+    record { hosts = a.0; stop = b.0; lists = d.0 }
+
+one_host : (options : List Placed) (s : Set) → Fits s.common → Stands option.Trace options s.common.trace → trace_on_hosts options s ≡ None →
+    s.common.trace ≡ true → s.common.hosts ≡ 1
 one_host options s f stands none t =
     elim (nat_lt 1 s.common.hosts) as
     (λ b. nat_lt 1 s.common.hosts ≡ b → cond b (place_of option.Trace options) None ≡ None → s.common.hosts ≡ 1) [
@@ -455,48 +594,102 @@ one_host options s f stands none t =
       | false ↦ λ few e. only_one s.common.hosts f.hosts.0 few
     ] refl none
 
-common_fine : (given : Given) → FineSoFar given → clash_in given.options given.settings ≡ None → CommonWithin given.settings.common
-common_fine given f none =
+-- where an option that is set stands among none, it is not set
+not_set : (option : OptionName) (options : List Placed) (on : Bool) → Stands option options on → place_of option options ≡ None → on ≡ false
+not_set option options true stands none = absurd (not_none (place_of option options) (stands refl) none)
+not_set option options false stands none = refl
+
+first_none : (o p : Option ℕ) → first_of o p ≡ None → (o ≡ None) × (p ≡ None)
+first_none None p e = (refl, e)
+first_none (Some place) None e = cc
+first_none (Some place) (Some other) e = cc
+
+-- what stops or goes on has lists
+has_lists : (options : List Placed) (lists : Option (List ℕ)) (stop again : Bool) → Stands option.StopAfter options stop →
+    Stands option.Restart options again →
+    cond (is_some lists) None (first_of (place_of option.StopAfter options) (place_of option.Restart options)) ≡ None →
+    (stop ≡ true → is_some lists ≡ true) × (again ≡ true → is_some lists ≡ true)
+has_lists options (Some path) stop again stops restarts e = ((λ t. refl), (λ t. refl))
+has_lists options None stop again stops restarts e =
+    let none = first_none (place_of option.StopAfter options) (place_of option.Restart options) e in (
+      (λ t. absurd (not_none (place_of option.StopAfter options) (stops t) none.0)),
+      (λ t. absurd (not_none (place_of option.Restart options) (restarts t) none.1)),
+    )
+
+common_fine : (given : Given) → FineSoFar given → IsFree given.options given.settings → CommonWithin given.settings.common
+common_fine given f free =
     let fits = f.settings.common in
     record {
       ranks = fits.ranks;
       hosts = fits.hosts;
       seed = fits.seed;
       width = fits.width;
-      trace = one_host given.options given.settings fits f.trace none;
+      trace = one_host given.options given.settings fits f.marks.traced free.hosts;
     }
 
-list_fine : (wanting : ℕ) (chosen : Option Choice) (given : Given) →
-    FineSoFar given → CommonWithin given.settings.common → IfSome chosen ChoiceWithin → IfOk (list_by wanting chosen given) Within
-list_fine wanting chosen given f common c =
-    both StartWithin Within (start_by wanting given.settings.input given.paths given.places) _
-    (start_fine wanting given.settings.input given.paths given.places f.settings.input f.paths)
-    (λ start s. record { common = common; start = s; chosen = c; output = f.settings.output })
+-- a stop has no trace, and a folder for its lists
+stop_within : (stop : Option ℕ) (options : List Placed) (trace listed : Bool) → IfSome stop Stopping → Stands option.Trace options trace →
+    cond (is_some stop) (place_of option.Trace options) None ≡ None → (is_some stop ≡ true → listed ≡ true) →
+    IfSome stop (λ n. (1 ≤ n) × (n < 2 ^ 63) × (trace ≡ false) × (listed ≡ true))
+stop_within None options trace listed fits traced none lists = tt
+stop_within (Some n) options trace listed fits traced none lists =
+    (fits.0, fits.1, not_set option.Trace options trace traced none, lists refl)
 
-asked_fine : (wanting : ℕ) (tool : Tool) (given : Given) → FineSoFar given → CommonWithin given.settings.common → IfOk (asked_of wanting tool given) Within
-asked_fine wanting tool.Walk given f common = list_fine wanting None given f common tt
-asked_fine wanting tool.Find given f common = list_fine wanting (Some (choice_of given.settings)) given f common (choice_fine given.settings f.settings)
-asked_fine wanting tool.Cmp given f common =
+list_fine : (wanting : ℕ) (given : Given) → FineSoFar given → IsFree given.options given.settings → IfOk (asked_of wanting tool.Walk given) Within
+list_fine wanting given f free =
+    let s = given.settings in
+    let lists = has_lists given.options s.lists (is_some s.stop_after) s.restart f.marks.stops f.marks.restarts free.lists in
+    both (StartWithin s.restart) Within (start_by wanting s.input s.restart given.paths given.places) _
+    (start_fine wanting s.input s.restart given.paths given.places f.settings.input f.paths)
+    (λ start w. record {
+      common = common_fine given f free;
+      start = w.valid;
+      chosen = tt;
+      output = f.settings.output;
+      stop = stop_within s.stop_after given.options s.common.trace (is_some s.lists) f.settings.stop f.marks.traced free.stop lists.0;
+      lists = f.settings.lists;
+      restarts = λ e. lists.1 (w.only e);
+    })
+
+find_fine : (wanting : ℕ) (given : Given) → FineSoFar given → IsFree given.options given.settings → IfOk (asked_of wanting tool.Find given) Within
+find_fine wanting given f free =
+    let s = given.settings in
+    both (StartWithin false) Within (start_by wanting s.input false given.paths given.places) _
+    (start_fine wanting s.input false given.paths given.places f.settings.input f.paths)
+    (λ start w. record {
+      common = common_fine given f free;
+      start = w.valid;
+      chosen = choice_fine s f.settings;
+      output = f.settings.output;
+      stop = tt;
+      lists = tt;
+      restarts = λ e. absurd (false≢true (w.only e));
+    })
+
+asked_fine : (wanting : ℕ) (tool : Tool) (given : Given) → FineSoFar given → IsFree given.options given.settings → IfOk (asked_of wanting tool given) Within
+asked_fine wanting tool.Walk given f free = list_fine wanting given f free
+asked_fine wanting tool.Find given f free = find_fine wanting given f free
+asked_fine wanting tool.Cmp given f free =
     both SidesWithin Within (sides_by wanting given.paths given.places) _
     (sides_fine wanting given.paths given.places f.paths)
     (λ sides v. record {
-      common = common;
+      common = common_fine given f free;
       left = v.0;
       right = v.1;
       files = All-from_recursion FileValid given.settings.wants f.settings.wants;
     })
-asked_fine wanting tool.Copy given f common =
+asked_fine wanting tool.Copy given f free =
     both EndsWithin Within (sources_by wanting given.paths) _
     (sources_fine wanting given.paths f.paths)
-    (λ ends e. record { common = common; sources = e.sources; dest = e.dest; some = e.some })
-asked_fine wanting tool.Remove given f common =
+    (λ ends e. record { common = common_fine given f free; sources = e.sources; dest = e.dest; some = e.some })
+asked_fine wanting tool.Remove given f free =
     both (All Lower) Within (targets_by wanting given.lower) _
     (targets_fine wanting given.lower f.lower)
-    (λ paths l. record { common = common; roots = l; choice = choice_fine given.settings f.settings })
-asked_fine wanting tool.Test given f common =
+    (λ paths l. record { common = common_fine given f free; roots = l; choice = choice_fine given.settings f.settings })
+asked_fine wanting tool.Test given f free =
     both Makeable Within (nodes_by wanting given.numbers given.places) _
     (nodes_fine wanting given.numbers given.places f.numbers)
-    (λ nodes n. record { common = common; nodes = n; choice = choice_fine given.settings f.settings })
+    (λ nodes n. record { common = common_fine given f free; nodes = n; choice = choice_fine given.settings f.settings })
 
 last_fine : (r : Result Asked Refusal) (clash : Option ℕ) → (clash ≡ None → IfOk r Within) → IfOk (and_then r (unless_clash clash)) Within
 last_fine (Ok asked) None h = h refl
@@ -505,7 +698,7 @@ last_fine (Err refusal) clash h = tt
 
 command_fine : (wanting : ℕ) (tool : Tool) (given : Given) → FineSoFar given → IfOk (command_of wanting tool given) Within
 command_fine wanting tool given f =
-    last_fine (asked_of wanting tool given) (clash_in given.options given.settings) (λ none. asked_fine wanting tool given f (common_fine given f none))
+    last_fine (asked_of wanting tool given) (clash_in given.options given.settings) (λ none. asked_fine wanting tool given f (is_free given.options given.settings none))
 
 tool_fine : (tool : Option Tool) (words : List (List ℕ)) → IfOk (reading_for tool words) Within
 tool_fine None words = tt

@@ -6,14 +6,15 @@ use Rattle.tool_words.specs.declared.commands.Command.{Command}
 use Rattle.tool_words.specs.declared.commands.Command.TheVariants as command
 use Rattle.tool_words.specs.declared.commands.Common.{Common}
 use Rattle.tool_words.specs.declared.commands.Start.{Start}
-use Rattle.tool_words.specs.declared.commands.Start.TheVariants.{Roots, Input}
+use Rattle.tool_words.specs.declared.commands.Start.TheVariants.{Roots, Input, Restart}
 use Rattle.tool_words.specs.declared.commands.Tests.{Tests}
 use Rattle.tool_words.specs.declared.commands.Want.{Want}
 
--- where a list comes from: a walk of the trees at these paths, or the list in a file
+-- where a list comes from: a walk of the trees at these paths, the list in a file, or what a walk that was cut had done and left
 pub data Origin : Type 0 where
   roots : List (List ℕ) → Origin
   input : List ℕ → Origin
+  restart : Origin
 
 -- what is chosen of a list: what meets all tests, and has changed after each of these paths
 pub record Choice : Type 0 where
@@ -21,13 +22,15 @@ pub record Choice : Type 0 where
   pub newer : List (List ℕ)
 
 -- what dwalk and dfind are asked for: how a walk is to go, where the list comes from, what is chosen of it, if not all, in which order it
--- is printed, and where it is saved
+-- is printed, and where it is saved; after how many paths of one rank the walk stops, and the folder of lists of a walk that is cut
 pub record ListAsked : Type 0 where
   pub common : Common
   pub start : Origin
   pub chosen : Option Choice
   pub sort : Option (Field × Bool)
   pub output : Option (List ℕ)
+  pub stop_after : Option ℕ
+  pub lists : Option (List ℕ)
 
 -- what dtest is asked for: how a walk is to go, how many nodes the made-up tree has, and what is chosen of them
 pub record TestAsked : Type 0 where
@@ -65,15 +68,33 @@ pub data Asked : Type 0 where
 abbrev pub start_in : Start → Origin
 start_in (Roots paths) = roots paths.items
 start_in (Input path) = input path
+start_in Restart = restart
 
 abbrev pub choice_in : Tests → Choice
 choice_in tests = record { tests = tests.tests.items; newer = tests.newer.items }
 
 -- what a command asks for
 abbrev pub asked_by : Command → Asked
-asked_by (command.Walk common start sort output) = list (record { common = common; start = start_in start; chosen = None; sort = sort; output = output })
+asked_by (command.Walk common start sort output stop_after lists) =
+    list (record {
+      common = common;
+      start = start_in start;
+      chosen = None;
+      sort = sort;
+      output = output;
+      stop_after = stop_after;
+      lists = lists;
+    })
 asked_by (command.Find common start tests sort output) =
-    list (record { common = common; start = start_in start; chosen = Some (choice_in tests); sort = sort; output = output })
+    list (record {
+      common = common;
+      start = start_in start;
+      chosen = Some (choice_in tests);
+      sort = sort;
+      output = output;
+      stop_after = None;
+      lists = None;
+    })
 asked_by (command.Cmp common left right wants) = compare (record { common = common; left = left; right = right; wants = wants.items })
 asked_by (command.Copy common sources dest) = copy (record { common = common; sources = sources.items; dest = dest })
 asked_by (command.Remove common paths tests dryrun) = remove (record { common = common; roots = paths.items; choice = choice_in tests; dryrun = dryrun })

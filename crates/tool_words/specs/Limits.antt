@@ -1,8 +1,8 @@
 -- What holds of all that words ask for: paths are valid, and numbers stand within the limits that a run takes. Our own.
-use Rattle.std.specs.Prelude.{◌≡◌, ◌≢◌, ℕ, ◌<◌, ◌≤◌, ◌^◌, List, [], ◌∷◌, length, All, Ok, None, IfSome, true}
+use Rattle.std.specs.Prelude.{◌≡◌, ◌≢◌, ℕ, ◌<◌, ◌≤◌, ◌^◌, List, [], ◌∷◌, length, All, Ok, None, is_some, IfSome, true, false}
 use Rattle.path_text.specs.Path.{refusal}
 use Rattle.tool_words.specs.declared.commands.Common.{Common}
-use Rattle.tool_words.specs.Asked.{Origin, roots, input, Choice, ListAsked, CompareAsked, CopyAsked, RemoveAsked, TestAsked, Asked, list, compare}
+use Rattle.tool_words.specs.Asked.{Origin, roots, input, restart, Choice, ListAsked, CompareAsked, CopyAsked, RemoveAsked, TestAsked, Asked, list, compare}
 use Rattle.tool_words.specs.Asked.{copy, remove, test}
 use Rattle.tool_words.specs.Words.{reading}
 
@@ -13,10 +13,11 @@ Valid path = refusal path ≡ None
 abbrev pub Lower : List ℕ → Type 0
 Lower path = Valid path × (length path ≢ 1)
 
--- the paths of a start: the roots, or the file
+-- the paths of a start: the roots, or the file; none, where a walk goes on
 abbrev pub paths_in : Origin → List (List ℕ)
 paths_in (roots paths) = paths
 paths_in (input file) = file ∷ []
+paths_in restart = []
 
 pub record CommonWithin (common : Common) : Type 0 where
   pub ranks : (1 ≤ common.ranks) × (common.ranks ≤ 64)
@@ -34,6 +35,11 @@ pub record WithinList (asked : ListAsked) : Type 0 where
   pub start : All Valid (paths_in asked.start)
   pub chosen : IfSome asked.chosen ChoiceWithin
   pub output : IfSome asked.output Valid
+  -- a walk stops after a path or more, with no trace, and has a folder for its lists
+  pub stop : IfSome asked.stop_after (λ n. (1 ≤ n) × (n < 2 ^ 63) × (asked.common.trace ≡ false) × (is_some asked.lists ≡ true))
+  pub lists : IfSome asked.lists Valid
+  -- and so has one that goes on
+  pub restarts : asked.start ≡ restart → is_some asked.lists ≡ true
 
 pub record WithinCompare (asked : CompareAsked) : Type 0 where
   pub common : CommonWithin asked.common

@@ -54,6 +54,8 @@ pub enum Start {
     Roots(Vec<Path>),
     /// Nowhere: the list is read from this file.
     Input(Path),
+    /// Where a walk was cut, by the folder of its lists.
+    Restart,
 }
 
 /// What is chosen of a list.
@@ -87,6 +89,10 @@ pub enum Command {
         sort: Option<(Field, bool)>,
         /// The file that the list is written to.
         output: Option<Path>,
+        /// How many paths one rank handles before all stop.
+        stop_after: Option<u64>,
+        /// The folder of the lists that a walk which is cut leaves, and from which another goes on.
+        lists: Option<Path>,
     },
     /// The same of what is chosen alone.
     Find {

@@ -2,7 +2,7 @@
 ghost use Rattle.std.specs.Prelude.{◌≡◌, ◌⊎◌, ◌++◌, ◌∷◌, [], Some, None, Ok, Err, OnOk, IfOk, IfErr, IsTrue, Result, Option, List, ℕ, false, find};
 ghost use Rattle.std.specs.Option.{option_copied};
 ghost use Rattle.tool_words.specs.Asked.{start_in, asked_by};
-ghost use Rattle.tool_words.specs.Clashes.{place_of, trace_on_hosts, clash_in};
+ghost use Rattle.tool_words.specs.Clashes.{place_of, trace_on_hosts, trace_and_stop, input_and_restart, first_of, no_lists, lists_alone, input_and_stop, clash_in};
 ghost use Rattle.tool_words.specs.Parts.{Tells};
 ghost use Rattle.tool_words.specs.Table.{option_named, text_of, Set, set, raise};
 ghost use Rattle.tool_words.specs.Value.{is, number_in, path_in, lower_path_in};
@@ -262,6 +262,11 @@ impl Line {
         ensures { result ≡ clash_in self.now.options self.now.settings }
     {
         self.trace_on_hosts()
+            .or(self.trace_and_stop())
+            .or(self.input_and_restart())
+            .or(self.no_lists())
+            .or(self.lists_alone())
+            .or(self.input_and_stop())
     }
 
     // `--trace` with more than one host.
@@ -270,6 +275,64 @@ impl Line {
     {
         if self.settings.common.hosts > 1 {
             self.place_of(OptionName::Trace)
+        } else {
+            None
+        }
+    }
+
+    // `--trace` with a stop.
+    fn trace_and_stop(&self) -> Option<usize>
+        ensures { result ≡ trace_and_stop self.now.options self.now.settings }
+    {
+        if self.settings.stop_after.is_some() {
+            self.place_of(OptionName::Trace)
+        } else {
+            None
+        }
+    }
+
+    // A list that is read, and a walk that goes on.
+    fn input_and_restart(&self) -> Option<usize>
+        ensures { result ≡ input_and_restart self.now.options self.now.settings }
+    {
+        if self.settings.input.is_some() {
+            self.place_of(OptionName::Restart)
+        } else {
+            None
+        }
+    }
+
+    // A walk that stops or goes on, without a folder of lists.
+    fn no_lists(&self) -> Option<usize>
+        ensures { result ≡ no_lists self.now.options self.now.settings }
+    {
+        if self.settings.lists.is_some() {
+            None
+        } else {
+            first_of(
+                self.place_of(OptionName::StopAfter),
+                self.place_of(OptionName::Restart),
+            )
+        }
+    }
+
+    // A folder of lists, and a walk that neither stops nor goes on.
+    fn lists_alone(&self) -> Option<usize>
+        ensures { result ≡ lists_alone self.now.options self.now.settings }
+    {
+        if self.settings.stop_after.is_none() && !self.settings.restart {
+            self.place_of(OptionName::Lists)
+        } else {
+            None
+        }
+    }
+
+    // A list that is read, and a stop.
+    fn input_and_stop(&self) -> Option<usize>
+        ensures { result ≡ input_and_stop self.now.options self.now.settings }
+    {
+        if self.settings.input.is_some() {
+            self.place_of(OptionName::StopAfter)
         } else {
             None
         }
@@ -322,14 +385,19 @@ impl Line {
             sort,
             input,
             output,
+            stop_after,
+            lists,
+            restart,
             ..
         } = settings;
-        let start = start_of(input, paths, &places, wanting)?;
+        let start = start_of(input, restart, paths, &places, wanting)?;
         Ok(Command::Walk {
             common,
             start,
             sort,
             output,
+            stop_after,
+            lists,
         })
     }
 
@@ -352,7 +420,7 @@ impl Line {
             newer,
             ..
         } = settings;
-        let start = start_of(input, paths, &places, wanting)?;
+        let start = start_of(input, false, paths, &places, wanting)?;
         Ok(Command::Find {
             common,
             start,
@@ -449,23 +517,38 @@ impl Line {
     }
 }
 
-// Where a list comes from: from these paths, or from a file, where the paths stand in words of these numbers.
+// Where a list comes from: from these paths, from a file, or, where a walk goes on, from what it left. The paths stand in words
+// of these numbers.
 fn start_of(
     input: Option<Path>,
+    restart: bool,
     paths: Vec<Path>,
     places: &[usize],
     wanting: usize,
 ) -> Result<Start, WordsError>
-    ensures start { IfOk result (λ start. start_by wanting input paths.items places.now ≡ Ok (start_in start)) }
-    ensures refused { IfErr result (λ e. Tells (start_by wanting input paths.items places.now) e) }
+    ensures start { IfOk result (λ start. start_by wanting input restart paths.items places.now ≡ Ok (start_in start)) }
+    ensures refused { IfErr result (λ e. Tells (start_by wanting input restart paths.items places.now) e) }
 {
-    match input {
-        None if paths.is_empty() => Err(WordsError::NoPath(wanting)),
-        None => Ok(Start::Roots(paths)),
-        Some(file) => match places.first() {
-            Some(place) => Err(WordsError::TooManyPaths(*place)),
-            None => Ok(Start::Input(file)),
-        },
+    let start = match (input, restart) {
+        (None, false) if paths.is_empty() => return Err(WordsError::NoPath(wanting)),
+        (None, false) => return Ok(Start::Roots(paths)),
+        (None, true) => Start::Restart,
+        (Some(file), _) => Start::Input(file),
+    };
+    match places.first() {
+        Some(place) => Err(WordsError::TooManyPaths(*place)),
+        None => Ok(start),
+    }
+}
+
+// The first of two places.
+fn first_of(one: Option<usize>, other: Option<usize>) -> Option<usize>
+    ensures { result ≡ first_of one other }
+{
+    match (one, other) {
+        (None, _) => other,
+        (Some(place), None) => Some(place),
+        (Some(place), Some(other)) => Some(place.min(other)),
     }
 }
 
