@@ -17,6 +17,8 @@ _mfu() {
         dwalk:--sort) words='path name size mtime kind -path -name -size -mtime -kind' ;;
         dwalk:--output) _mfu_paths; return ;;
         dwalk:--input) _mfu_paths; return ;;
+        dwalk:--stop-after) return ;;
+        dwalk:--lists) _mfu_paths; return ;;
         dwalk:--ranks) return ;;
         dwalk:--hosts) return ;;
         dwalk:--split) words='equal random' ;;
@@ -74,7 +76,7 @@ _mfu() {
         dtest:--width) return ;;
         dwalk:*)
             if [[ $cur != -* ]]; then _mfu_paths; return; fi
-            words='--sort --output --input --ranks --hosts --split --seed --width --trace --shares --progress --help' ;;
+            words='--sort --output --input --stop-after --lists --restart --ranks --hosts --split --seed --width --trace --shares --progress --help' ;;
         dfind:*)
             if [[ $cur != -* ]]; then _mfu_paths; return; fi
             words='--name --path --type --size --mtime --mmin --newer --sort --output --input --ranks --hosts --split --seed --width --trace --shares --progress --help' ;;

@@ -8,7 +8,7 @@
 - `man --warnings` has nothing to say, and each shell reads its completion.
 - Each wrong body stands in docs/PROMISES.md, and each definition, function and wrong body that this names stands in the crates.
 - Each link in a Markdown file leads to a file and a heading that are there.
-- Where the program is built, each command in README.md, docs/TOOLS.md, docs/RECIPES.md and docs/LISTS.md that begins with `$ ` prints what
+- Where the program is built, each command in README.md, docs/TOOLS.md, docs/RECIPES.md, docs/LISTS.md and docs/CHECKPOINTS.md that begins with `$ ` prints what
   stands below it. A line `...` stands for any lines.
 
 What needs a tool that is missing is skipped, and a line says so. The exit status is 1 where something is wrong.
@@ -24,7 +24,7 @@ import tempfile
 import make_pages
 
 TOP = make_pages.TOP
-TRIED = ["README.md", "docs/TOOLS.md", "docs/RECIPES.md", "docs/LISTS.md"]
+TRIED = ["README.md", "docs/TOOLS.md", "docs/RECIPES.md", "docs/LISTS.md", "docs/CHECKPOINTS.md"]
 OPTION = r"(?<![\w-])--?[a-z][a-z-]*"
 wrong = []
 
@@ -85,7 +85,7 @@ def helps_begin_with_a_screen(table):
 def options_are_in_help(table):
     helps = helps_of()
     for tool in table.tools:
-        told = set(re.findall(r"^  (--?[a-z]+)", helps.get(tool.name.upper(), ""), re.M))
+        told = set(re.findall(r"^  (--?[a-z][a-z-]*)", helps.get(tool.name.upper(), ""), re.M))
         if not told and tool.name != "dtest":
             said(f"the help says nothing of {tool.name}")
         for name in sorted(told - names(table, tool)):

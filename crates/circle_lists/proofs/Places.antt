@@ -67,7 +67,7 @@ long b d dir =
     let some : eqb (length (b ∷ d ∷ dir)) 0 ≡ false = grind (arith, nat_tests) in
     ap (λ r. cond r (47 ∷ []) (b ∷ d ∷ dir)) some
 
-parent_is : (dir name : List ℕ) → refusal dir ≡ None → list_any is_slash name ≡ false → parent_of (joined dir name) ≡ dir
+pub parent_is : (dir name : List ℕ) → refusal dir ≡ None → list_any is_slash name ≡ false → parent_of (joined dir name) ≡ dir
 parent_is [] name fine bare = absurd cc
 parent_is (b ∷ []) name fine bare =
     let root : b ∷ [] ≡ 47 ∷ [] = ap (λ b. b ∷ []) (first_slash b [] fine) in
@@ -80,7 +80,7 @@ parent_of_file dir rank fine few = parent_is dir (file_name rank) fine (name_bar
 
 -- ---- which paths differ
 
-differ : (p q : List ℕ) → (p ≡ q → ⊥) → pointwise nat_eq p q ≡ false
+pub differ : (p q : List ℕ) → (p ≡ q → ⊥) → pointwise nat_eq p q ≡ false
 differ p q off = by_test (pointwise nat_eq p q) refl
   where
     by_test : (t : Bool) → pointwise nat_eq p q ≡ t → t ≡ false
@@ -94,7 +94,7 @@ folder_differs dir rank = differ dir (file_path dir rank) (λ same. longer (eqb 
     longer true e = absurd (omega arith)
     longer false e = absurd (omega arith)
 
-same_name : (dir m n : List ℕ) → joined dir m ≡ joined dir n → m ≡ n
+pub same_name : (dir m n : List ℕ) → joined dir m ≡ joined dir n → m ≡ n
 same_name dir m n = by_root (eqb (length dir) 1)
   where
     by_root : (t : Bool) → cond t (dir ++ m) (dir ++ 47 ∷ m) ≡ cond t (dir ++ n) (dir ++ 47 ∷ n) → m ≡ n

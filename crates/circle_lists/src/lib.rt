@@ -4,7 +4,7 @@
 //!   number of ranks from 1 to 64.
 //! - A file has whole lines: `circle 1 RANK RANKS`, then each path of the list as [`path_text::escape`] writes it, the oldest
 //!   first, then `end COUNT`, and nothing more.
-//! - [`ListsError`] says why lists are not written or read, and at which path.
+//! - [`ListsError`] says why lists are not written or read, and at which path. [`file_in`] gives the path of a rank's file.
 //!
 //! ```text
 //! write_lists(alloc, &mut files, &dir, &left)?;        // DIR/circle0.txt: "circle 1 0 1\n/t/b\nend 1\n"
@@ -39,5 +39,6 @@ mod writing;
 
 pub use errors::ListsError;
 pub use laws::{damage_is_exact, reading_undoes_saving, spelling_is_unique};
+pub use naming::file_in;
 pub use reading::read_lists;
 pub use writing::write_lists;

@@ -8,7 +8,7 @@ use std::alloc::{AllocError, Global};
 
 /// The path of a rank's file in the folder, unless it would be too long.
 #[tactic(auto, using(crate::proofs::Names::name_fine))]
-pub(crate) fn file_in(alloc: Global, dir: &Path, rank: u64) -> Result<Option<Path>, OutOfMemory>
+pub fn file_in(alloc: Global, dir: &Path, rank: u64) -> Result<Option<Path>, OutOfMemory>
     requires { rank < 64 }
     ensures some { IfOk result (λ found. IfSome found (λ path. (path ≡ file_path dir.now rank) × Fits dir.now rank)) }
     ensures none { IfOk result (λ found. IfNone found (4095 < length (file_path dir.now rank))) }

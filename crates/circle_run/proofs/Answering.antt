@@ -48,6 +48,8 @@ module _ {J S T : Type 0} (shows : S → Shown) where
     wide = ap (λ (s : Shown). length s.serves) shown ∙ length-set (shows r.seat).serves to false ∙ k.wide;
     idle = λ e. absurd (let none : length r.queue ≡ 0 = ap length (k.idle (sym (ap (λ (s : Shown). s.busy) shown) ∙ e)) in
         let all : length r.queue ≡ length batch + length queue = ap length oldest ∙ length-append batch queue in omega arith);
+    waits = λ v e. absurd (let none : length r.queue ≡ 0 = ap length (k.waits v e) in
+        let all : length r.queue ≡ length batch + length queue = ap length oldest ∙ length-append batch queue in omega arith);
     over = λ e. absurd (true_not_false r.ended e live);
     empty = k.empty;
   }
@@ -67,6 +69,7 @@ module _ {J S T : Type 0} (shows : S → Shown) where
     asks = k.asks;
     wide = ap (λ (s : Shown). length s.serves) shown ∙ length-set (shows r.seat).serves to false ∙ k.wide;
     idle = λ e. same ∙ k.idle (sym (ap (λ (s : Shown). s.busy) shown) ∙ e);
+    waits = λ v e. same ∙ k.waits v e;
     over = λ e. same ∙ k.over e;
     empty = k.empty;
   }

@@ -238,18 +238,18 @@ same_batches : (a b : Batches) → Some a ≡ Some b → a ≡ b
 same_batches a b e = cc
 
 -- a rank's whole run
-pub record Whole (n : ℕ) (dealt : Strings) (moves : List Move) (log : Log) (b : Batches) : Type 0 where
+pub record Whole (n : ℕ) (dealt : Strings) (moves : List Move) (log : Log) (left : Strings) (b : Batches) : Type 0 where
   pub given : length b.given ≡ n
   pub taken : length b.taken ≡ n
-  pub weighs : (w : List ℕ → ℕ) → balance.handled w log + of_all w b.given ≡ sum_by w dealt + balance.pushed w log + of_all w b.taken
+  pub weighs : (w : List ℕ → ℕ) → balance.handled w log + sum_by w left + of_all w b.given ≡ sum_by w dealt + balance.pushed w log + of_all w b.taken
   pub gave : (w : List ℕ → ℕ) → of_all w b.given ≡ sum_by w (flat_map given_in moves)
   pub took : (w : List ℕ → ℕ) → of_all w b.taken ≡ sum_by w (flat_map taken_in moves)
   pub logged : log ≡ flat_map handled_in moves
 
-pub whole : (o : Options) (me : ℕ) (dealt : Strings) (log : Log) (b : Batches) (moves : List Move) (last : Side)
+pub whole : (o : Options) (me : ℕ) (dealt : Strings) (log : Log) (left : Strings) (b : Batches) (moves : List Move) (last : Side)
     → DoesAll o me moves (record { queue = dealt; log = []; draws = generator_of o.seed me; batches = Some (unused o.ranks); told = None }) last
-    → last.queue ≡ [] → last.log ≡ log → last.batches ≡ Some b → Whole o.ranks dealt moves log b
-whole o me dealt log b moves last does empty logged kept =
+    → last.queue ≡ left → last.log ≡ log → last.batches ≡ Some b → Whole o.ranks dealt moves log left b
+whole o me dealt log left b moves last does queued logged kept =
     let first : Side = record { queue = dealt; log = []; draws = generator_of o.seed me; batches = Some (unused o.ranks); told = None } in
     let start : Flows o.ranks dealt [] first (unused o.ranks) = record {
       kept = refl;
@@ -266,7 +266,7 @@ whole o me dealt log b moves last does empty logged kept =
     record {
       given = f.given;
       taken = f.taken;
-      weighs = λ w. omega (arith, f.weighs w, ap (balance.handled w) logged, ap (balance.pushed w) logged, ap (sum_by w) empty);
+      weighs = λ w. omega (arith, f.weighs w, ap (balance.handled w) logged, ap (balance.pushed w) logged, ap (sum_by w) queued);
       gave = f.gave;
       took = f.took;
       logged = sym logged ∙ f.logged;
@@ -274,16 +274,17 @@ whole o me dealt log b moves last does empty logged kept =
 
 -- all ranks
 
-module _ (o : Options) (starts : Strings) (logs : List Log) (batches : List Batches) (some : 0 < o.ranks)
-    (all : AllRan o starts logs batches) (w : List ℕ → ℕ) where
+module _ (o : Options) (starts : Strings) (logs : List Log) (left : List Strings) (batches : List Batches) (some : 0 < o.ranks)
+    (all : AllRan o starts logs left batches) (w : List ℕ → ℕ) where
   abbrev batches_at : ℕ → Batches
   batches_at k = get_or batches k (unused o.ranks)
 
-  own : (k : ℕ) → k < o.ranks → RankRan o k (dealt_to o.ranks starts k) (get_or logs k []) (batches_at k)
-  own k h = all.each k [] (unused o.ranks) h
+  own : (k : ℕ) → k < o.ranks → RankRan o k (dealt_to o.ranks starts k) (get_or logs k []) (get_or left k []) (batches_at k)
+  own k h = all.each k [] [] (unused o.ranks) h
 
-  run : (k : ℕ) (h : k < o.ranks) → Whole o.ranks (dealt_to o.ranks starts k) (own k h).moves (get_or logs k []) (batches_at k)
-  run k h = let x = own k h in whole o k (dealt_to o.ranks starts k) (get_or logs k []) (batches_at k) x.moves x.last x.does x.empty x.logged x.kept
+  run : (k : ℕ) (h : k < o.ranks) → Whole o.ranks (dealt_to o.ranks starts k) (own k h).moves (get_or logs k []) (get_or left k []) (batches_at k)
+  run k h = let x = own k h in
+      whole o k (dealt_to o.ranks starts k) (get_or logs k []) (get_or left k []) (batches_at k) x.moves x.last x.does x.queued x.logged x.kept
 
   given_by : (k : ℕ) → k < o.ranks
       → of_all w (batches_at k).given ≡ upto (λ j. of_one w (get_or (batches_at k).given j [])) o.ranks
@@ -309,27 +310,34 @@ module _ (o : Options) (starts : Strings) (logs : List Log) (batches : List Batc
       upto_long (λ (x : Batches). of_all w x.given) batches (unused o.ranks) o.ranks all.as_many ∙ even
       ∙ sym (upto_long (λ (x : Batches). of_all w x.taken) batches (unused o.ranks) o.ranks all.as_many)
 
-  -- each rank's equation, added up
-  summed : upto (λ k. balance.handled w (get_or logs k [])) o.ranks + upto (λ k. of_all w (batches_at k).given) o.ranks
-      ≡ upto (λ k. sum_by w (dealt_to o.ranks starts k)) o.ranks + upto (λ k. balance.pushed w (get_or logs k [])) o.ranks + upto
-      (λ k. of_all w (batches_at k).taken) o.ranks
-  summed =
-      sym (upto_add (λ k. balance.handled w (get_or logs k [])) (λ k. of_all w (batches_at k).given) o.ranks)
-      ∙ upto_same (λ k. balance.handled w (get_or logs k []) + of_all w (batches_at k).given)
-      (λ k. (sum_by w (dealt_to o.ranks starts k) + balance.pushed w (get_or logs k [])) + of_all w (batches_at k).taken) o.ranks (λ k h. (run k h).weighs w)
-      ∙ upto_add (λ k. sum_by w (dealt_to o.ranks starts k) + balance.pushed w (get_or logs k [])) (λ k. of_all w (batches_at k).taken) o.ranks
-      ∙ ap (λ (x : ℕ). x + upto (λ k. of_all w (batches_at k).taken) o.ranks)
-      (upto_add (λ k. sum_by w (dealt_to o.ranks starts k)) (λ k. balance.pushed w (get_or logs k [])) o.ranks)
+  -- what each rank handled and has left, and what it was dealt and pushed
+  abbrev out_at : ℕ → ℕ
+  out_at k = balance.handled w (get_or logs k []) + sum_by w (get_or left k [])
 
-  pub balances : balance.handled w (flat_map (λ l. l) logs) + sum_by w [] ≡ sum_by w starts + balance.pushed w (flat_map (λ l. l) logs)
+  abbrev in_at : ℕ → ℕ
+  in_at k = sum_by w (dealt_to o.ranks starts k) + balance.pushed w (get_or logs k [])
+
+  -- each rank's equation, added up
+  summed : upto out_at o.ranks + upto (λ k. of_all w (batches_at k).given) o.ranks ≡ upto in_at o.ranks + upto (λ k. of_all w (batches_at k).taken) o.ranks
+  summed =
+      sym (upto_add out_at (λ k. of_all w (batches_at k).given) o.ranks)
+      ∙ upto_same (λ k. out_at k + of_all w (batches_at k).given) (λ k. in_at k + of_all w (batches_at k).taken) o.ranks (λ k h. (run k h).weighs w)
+      ∙ upto_add in_at (λ k. of_all w (batches_at k).taken) o.ranks
+
+  pub balances : balance.handled w (flat_map (λ l. l) logs) + sum_by w (flat_map (λ l. l) left)
+      ≡ sum_by w starts + balance.pushed w (flat_map (λ l. l) logs)
   balances =
       omega (
         arith,
         summed,
         even,
+        upto_add (λ k. balance.handled w (get_or logs k [])) (λ k. sum_by w (get_or left k [])) o.ranks,
+        upto_add (λ k. sum_by w (dealt_to o.ranks starts k)) (λ k. balance.pushed w (get_or logs k [])) o.ranks,
         dealt_all w o.ranks 0 starts some,
         flat_weighs (λ (x : List ℕ × List (List ℕ)). w x.0) logs,
         flat_weighs (λ (x : List ℕ × List (List ℕ)). sum_by w x.1) logs,
+        flat_weighs w left,
         upto_long (balance.handled w) logs [] o.ranks all.count,
         upto_long (balance.pushed w) logs [] o.ranks all.count,
+        upto_long (sum_by w) left [] o.ranks all.lists,
       )

@@ -1,6 +1,6 @@
 -- The moves of a turn are a service and then the first that applies.
 use Rattle.std.proofs.Common.{◌≡◌, ◌≢◌, ℕ, zero, suc, ◌-◌, ◌<◌, refl, sym, subst, inl, inr, ap, ◌∙◌, arith, eq-eqb, Bool, true, false, List, [], ◌∷◌}
-use Rattle.std.proofs.Common.{◌++◌, length, Option, Some, None}
+use Rattle.std.proofs.Common.{◌++◌, ◌||◌, length, append_assoc, All, Option, Some, None}
 use Rattle.std.specs.Prelude.{if◌then◌else◌}
 use Rattle.std.specs.List.{flat_map}
 use Rattle.ring_core.specs.World.{darker, is_over}
@@ -12,38 +12,64 @@ use Rattle.ring_core.specs.declared.states.Token.TheVariants.{At, Over}
 use Rattle.post_board.specs.Shown.{Strings, Shown}
 use Rattle.post_board.specs.Told.{Told}
 use Rattle.post_board.specs.Deeds.{Deed, pass, restart, conclude}
-use Rattle.post_board.specs.Calls.{RingTold}
+use Rattle.post_board.specs.Calls.{RingTold, hearing}
 use Rattle.post_board.specs.declared.answers.Ring.{Ring}
-use Rattle.post_board.specs.declared.answers.Ring.TheVariants.{Elsewhere, Here, Over as HeardOver}
+use Rattle.post_board.specs.declared.answers.Ring.TheVariants.{Elsewhere, Here, Over as HeardOver, Halted as HeardHalted}
 use Rattle.circle_run.specs.Balance.{Log}
-use Rattle.circle_run.specs.Moves.{Move, handled, served, did, Side}
+use Rattle.circle_run.specs.Moves.{Move, handled, served, did, Side, IsHalted}
 use Rattle.circle_run.specs.Ranks.{DoesAll, side}
 use Rattle.circle_run.specs.Private.Steps.{Came}
-use Rattle.circle_run.specs.Turns.{Worked}
-use Rattle.circle_run.specs.Private.Steps.{Heard, Served, Acts, with_service}
+use Rattle.circle_run.specs.Turns.{Worked, IsTurn}
+use Rattle.circle_run.specs.Private.Steps.{Heard, Served, Acts, Halts, Ends, WoundUp, with_service, turn_of}
 use Rattle.circle_run.specs.Choices.{Standing, Choice, to_handle, to_move, choice, moved_on, Chosen, ring_of, IsRing, held_after, heard_after}
-use Rattle.circle_run.specs.Choices.{standing, Chooses}
+use Rattle.circle_run.specs.Choices.{standing, Chooses, is_halt, first_of, Closes, has_done_all, is_to_halt}
 use Rattle.circle_run.specs.Private.Steps.{Follows, Works}
 use Rattle.circle_run.specs.declared.steps.Did.{Did}
-use Rattle.circle_run.specs.declared.steps.Did.TheVariants.{Handled, Acted, Waited}
+use Rattle.circle_run.specs.declared.steps.Did.TheVariants.{Handled, Acted, Waited, Stopped}
 use Rattle.circle_run.specs.declared.settings.Options.{Options}
 use Rattle.circle_run.specs.declared.ranks.Rank.{Rank}
 use Rattle.circle_run.proofs.Asked.{not_true, true_not_false}
 use Rattle.circle_run.proofs.Stepped.{came_then, came_as, came_settled}
 
 -- what is read of the ring is what the token says
-elsewhere_is : (token : Token) (me : ℕ) → is_at token me ≡ false → is_over token ≡ false → Elsewhere ≡ ring_of me token
-elsewhere_is (At place colour) me away going = cc
-elsewhere_is Over me away going = absurd (true_not_false true refl going)
+elsewhere_is : (token : Token) (me : ℕ) (called : Bool) → is_at token me ≡ false → is_over token ≡ false → called ≡ false → Elsewhere ≡ ring_of me token called
+elsewhere_is (At place colour) me called away going off =
+    let away_is : Elsewhere ≡ ring_of me (At place colour) false = cc in
+    subst (λ (b : Bool). Elsewhere ≡ ring_of me (At place colour) b) (sym off) away_is
+elsewhere_is Over me called away going off = absurd (true_not_false true refl going)
 
-here_is : (token : Token) (me : ℕ) (colour : Colour) → token ≡ At me colour → Here colour ≡ ring_of me token
-here_is token me colour at = sym (ap (ring_of me) at ∙ ap (λ (b : Bool). if b then Here colour else Elsewhere) (eq-eqb me me refl))
+here_is : (token : Token) (me : ℕ) (colour : Colour) (called : Bool) → token ≡ At me colour → called ≡ false → Here colour ≡ ring_of me token called
+here_is token me colour called at off =
+    sym (ap (λ (t : Token). ring_of me t called) at ∙ ap (ring_of me (At me colour)) off
+    ∙ ap (λ (b : Bool). if b then Here colour else Elsewhere) (eq-eqb me me refl))
+
+halted_is : (token : Token) (me : ℕ) (called : Bool) → is_over token ≡ false → called ≡ true → HeardHalted ≡ ring_of me token called
+halted_is (At place colour) me called going on = sym (ap (ring_of me (At place colour)) on)
+halted_is Over me called going on = absurd (true_not_false true refl going)
 
 pub ring_read : (ring : Ring) (s : Shown) (me : ℕ) (t t' : Option Told) → s.number ≡ me → RingTold s ring t t' → IsRing me t ring
 ring_read ring s me None t' number told = tt
-ring_read Elsewhere s me (Some t) t' number told = elsewhere_is t.token me (subst (λ (k : ℕ). is_at t.token k ≡ false) number told.0.0) told.0.1
-ring_read (Here colour) s me (Some t) t' number told = here_is t.token me colour (subst (λ (k : ℕ). t.token ≡ At k colour) number told.0)
-ring_read HeardOver s me (Some t) t' number told = sym (ap (ring_of me) told.0.1)
+ring_read Elsewhere s me (Some t) t' number told = elsewhere_is t.token me t.halt (subst (λ (k : ℕ). is_at t.token k ≡ false) number told.0.0) told.0.1 told.0.2
+ring_read (Here colour) s me (Some t) t' number told = here_is t.token me colour t.halt (subst (λ (k : ℕ). t.token ≡ At k colour) number told.0.0) told.0.1
+ring_read HeardOver s me (Some t) t' number told = sym (ap (λ (k : Token). ring_of me k t.halt) told.0.1)
+ring_read HeardHalted s me (Some t) t' number told = halted_is t.token me t.halt told.0.0 told.0.1
+
+-- where it read that all are to halt, they are
+pub halt_read : (ring : Ring) (s : Shown) (t t' : Option Told) → ring ≡ HeardHalted → RingTold s ring t t' → IsHalted t'
+halt_read HeardHalted s None t' is told = subst IsHalted (sym told) tt
+halt_read HeardHalted s (Some t) t' is told = subst IsHalted (sym told.1) told.0.1
+halt_read Elsewhere s t t' is told = absurd (true_not_false (is_halt HeardHalted) refl (ap is_halt (sym is)))
+halt_read (Here colour) s t t' is told = absurd (true_not_false (is_halt HeardHalted) refl (ap is_halt (sym is)))
+halt_read HeardOver s t t' is told = absurd (true_not_false (is_halt HeardHalted) refl (ap is_halt (sym is)))
+
+pub knows_read : (ring : Ring) (s s' : Shown) → ring ≡ HeardHalted → s' ≡ hearing s ring → s'.knows_halt ≡ true
+knows_read ring s s' is shown = ap (λ (x : Shown). x.knows_halt) shown ∙ ap (λ (r : Ring). (hearing s r).knows_halt) is
+
+pub halted_kept : (ring : Ring) (s s' : Shown) → s' ≡ hearing s ring → s'.halted ≡ s.halted
+halted_kept Elsewhere s s' shown = ap (λ (x : Shown). x.halted) shown
+halted_kept (Here colour) s s' shown = ap (λ (x : Shown). x.halted) shown
+halted_kept HeardOver s s' shown = ap (λ (x : Shown). x.halted) shown
+halted_kept HeardHalted s s' shown = ap (λ (x : Shown). x.halted) shown
 
 -- how the token is moved on
 pub moved_above : (me : ℕ) (colour : Colour) → 0 < me → moved_on me colour ≡ pass colour
@@ -59,9 +85,33 @@ moved_white me colour first white = ap (λ (k : ℕ). moved_on k colour) first �
 pub follows_moved : (me : ℕ) (own held colour : Colour) (deed : Deed) → colour ≡ darker own held → moved_on me colour ≡ deed
     → Follows Acted me (to_move held) (did deed ∷ [])
 follows_moved me own held colour deed mixed is = record {
-  acts = (deed, refl);
+  acts = (did deed, inl (deed, refl), refl);
   chosen = (own, ap (λ (d : Deed). did d ∷ []) (sym is ∙ ap (moved_on me) mixed));
 }
+
+-- whether it is to halt
+pub halts_is : {J S T : Type 0} (ring : Ring) (r : Rank J S T) (due halts b : Bool) → due ≡ has_done_all r → halts ≡ (due || is_halt ring) → halts ≡ b
+    → is_to_halt ring r ≡ b
+halts_is ring r due halts b done is value = sym (is ∙ ap (λ (d : Bool). d || is_halt ring) done) ∙ value
+
+neither : (a b : Bool) → (a || b) ≡ false → (a ≡ false) × (b ≡ false)
+neither true b e = absurd (true_not_false true refl e)
+neither false b e = (refl, e)
+
+pub goes_neither : (due halts : Bool) (ring : Ring) → halts ≡ (due || is_halt ring) → halts ≡ false → (due ≡ false) × (is_halt ring ≡ false)
+goes_neither due halts ring is goes = neither due (is_halt ring) (sym is ∙ goes)
+
+halted_ring : (ring : Ring) → is_halt ring ≡ true → ring ≡ HeardHalted
+halted_ring HeardHalted e = refl
+halted_ring Elsewhere e = absurd (true_not_false false e refl)
+halted_ring (Here colour) e = absurd (true_not_false false e refl)
+halted_ring HeardOver e = absurd (true_not_false false e refl)
+
+pub halt_unless_due : (due halts : Bool) (ring : Ring) → halts ≡ (due || is_halt ring) → halts ≡ true → due ≡ false → ring ≡ HeardHalted
+halt_unless_due due halts ring is value early = halted_ring ring (sym (is ∙ ap (λ (d : Bool). d || is_halt ring) early) ∙ value)
+
+pub not_halted_ring : (ring : Ring) → is_halt ring ≡ false → ring ≢ HeardHalted
+not_halted_ring ring e is = true_not_false (is_halt ring) (ap is_halt is) e
 
 -- which choice comes first
 choice_busy : (n : ℕ) (queue : Strings) (asked : Option ℕ) (tried : Bool) (ring : Ring) → 0 < length queue
@@ -101,15 +151,32 @@ heard_nothing : (ring : Ring) (moves : List Move) → ring ≢ HeardOver → Hea
 heard_nothing HeardOver moves more h = absurd (more refl)
 heard_nothing Elsewhere moves more h = h
 heard_nothing (Here colour) moves more h = h
+heard_nothing HeardHalted moves more h = h
 
 worked_then : (some : Bool) (done : Did) (answers : List (ℕ × Strings)) (b moves : List Move)
     → (some ≡ false → answers ≡ []) → (some ≡ true → 0 < length answers)
     → Acts done b → moves ≡ served answers ∷ b → Worked (with_service some done) moves
 worked_then some Handled answers b moves none any d is = (answers, d.0, d.1, is ∙ ap (λ (m : List Move). served answers ∷ m) d.2)
-worked_then some Acted answers b moves none any d is = inr (inl (answers, d.0, is ∙ ap (λ (m : List Move). served answers ∷ m) d.1))
+worked_then some Acted answers b moves none any d is = inr (inl (answers, d.0, d.1, is ∙ ap (λ (m : List Move). served answers ∷ m) d.2))
+worked_then some Stopped answers b moves none any d is = (answers, is ∙ ap (λ (m : List Move). served answers ∷ m) d)
 worked_then true Waited answers b moves none any d is = inr (inr (answers, any refl, is ∙ ap (λ (m : List Move). served answers ∷ m) d))
 worked_then false Waited answers b moves none any d is =
     is ∙ ap (λ (m : List Move). served answers ∷ m) d ∙ ap (λ (x : List (ℕ × Strings)). served x ∷ []) (none refl)
+
+-- what is done is that of a turn, also where all are told to halt first
+by_did : (done : Did) (moves : List Move) → Worked done moves → IsTurn false (turn_of done) moves
+by_did Handled moves w = inl w
+by_did Acted moves w = inr (inl w)
+by_did Waited moves w = inl w
+by_did Stopped moves w = inl w
+
+after_halt : (due : Bool) (done : Did) (rest moves : List Move) → done ≢ Handled → Worked done rest → moves ≡ first_of due ++ rest
+    → IsTurn false (turn_of done) moves
+after_halt false done rest moves other w is = subst (IsTurn false (turn_of done)) (sym is) (by_did done rest w)
+after_halt true Handled rest moves other w is = absurd (other refl)
+after_halt true Acted rest moves other w is = inr (inr (rest, w, is))
+after_halt true Waited rest moves other w is = inr (rest, w, is)
+after_halt true Stopped rest moves other w is = inr (rest, w, is)
 
 together : (some : Bool) (done : Did) (before after : Strings) (me : ℕ) (c : Choice) (a b : List Move) → ServedFrom some before after a → Follows done me c b
     → Together some done before after me c (a ++ b)
@@ -122,6 +189,41 @@ together some done before after me c a b s f =
       are = is;
       oldest = s.oldest;
       chosen = f.chosen;
+    }
+
+-- a halt, where it is due, and a service
+pub record Opened (gives some due : Bool) (moves : List Move) : Type 0 where
+  answers : List (ℕ × Strings)
+  are : moves ≡ first_of due ++ served answers ∷ []
+  none : some ≡ false → answers ≡ []
+  any : some ≡ true → 0 < length answers
+  refused : gives ≡ false → All (λ a. a.1 ≡ []) answers
+
+pub opened : (gives some due : Bool) (a b : List Move) → Halts due a → Served gives some b → Opened gives some due (a ++ b)
+opened gives some due a b halts s = record {
+  answers = s.answers;
+  are = ap (λ (m : List Move). m ++ b) halts ∙ ap (λ (m : List Move). first_of due ++ m) s.are;
+  none = s.none;
+  any = s.any;
+  refused = s.refused;
+}
+
+-- and what follows them
+pub wound : (gives some due : Bool) (done : Did) (o : Options) (me : ℕ) (asked : Option ℕ) (a b : List Move)
+    → (o.stop_after ≢ None → gives ≡ false) → with_service some done ≢ Handled
+    → Opened gives some due a → Ends done me asked b → WoundUp (with_service some done) o me due asked (a ++ b)
+wound gives some due done o me asked a b refuses other opening ends =
+    let rest : List Move = served opening.answers ∷ b in
+    let is : a ++ b ≡ first_of due ++ rest =
+    ap (λ (m : List Move). m ++ b) opening.are ∙ append_assoc (first_of due) (served opening.answers ∷ []) b in
+    record {
+      kind = after_halt due (with_service some done) rest (a ++ b) other
+          (worked_then some done opening.answers b rest opening.none opening.any ends.acts refl) is;
+      answers = opening.answers;
+      next = b;
+      are = is;
+      refuses = λ ne. opening.refused (refuses ne);
+      closes = ends.closes;
     }
 
 -- a rank and its board as a turn begins, once the ring was read, after the service, and at the end of what was done
@@ -149,6 +251,7 @@ module _ {J S T P : Type 0} (heard : J → Option (List ℕ)) (shows : S → Sho
   -- what was read, and what the steps behind it leave as it was
   pub record Between (ring : Ring) (w : Way J S T P) : Type 0 where
     pub more : ring ≢ HeardOver
+    pub goes_on : is_to_halt ring w.r ≡ false
     pub read : IsRing w.r.me (tells w.p) ring
     pub queue_is : w.r1.queue ≡ w.r.queue
     pub asked : w.r2.asked ≡ w.r.asked
@@ -163,30 +266,30 @@ module _ {J S T P Q : Type 0} (log : J → Log) (plain : J → Q) (shows : S →
   -- the service that followed the reading of the ring
   came_first : (ring : Ring) (some : Bool) (r : Rank J S T) (p : P) (r1 : Rank J S T) (p1 : P) (r2 : Rank J S T) (p2 : P)
       → ring ≢ HeardOver → r1.queue ≡ r.queue
-      → Came log plain shows tells seats (Heard ring) r p r1 p1 → Came log plain shows tells seats (Served some) r1 p1 r2 p2
+      → Came log plain shows tells seats (Heard ring) r p r1 p1 → Came log plain shows tells seats (Served true some) r1 p1 r2 p2
       → Came log plain shows tells seats (ServedFrom some r.queue r2.queue) r p r2 p2
   came_first ring some r p r1 p1 r2 p2 more same a b =
       came_then log plain shows tells seats (Heard ring) (ServedFrom some r.queue r2.queue) (ServedFrom some r.queue r2.queue) r p r1 p1 r2 p2
       (λ x y h s. subst (λ (m : List Move). ServedFrom some r.queue r2.queue (m ++ y)) (sym (heard_nothing ring x more h)) s)
       a
-      (came_as log plain shows tells seats (Served some) (ServedFrom some r.queue r2.queue) r1 p1 r2 p2
+      (came_as log plain shows tells seats (Served true some) (ServedFrom some r.queue r2.queue) r1 p1 r2 p2
       (λ moves found s does.
       let from : Side = side log plain shows tells seats r1 p1 in
       let to : Side = side log plain shows tells seats r2 p2 in
-      let one = subst (λ (m : List Move). DoesAll r1.options r1.me m from to) s.1 does in
+      let one = subst (λ (m : List Move). DoesAll r1.options r1.me m from to) s.are does in
       record {
-        answers = s.0;
-        are = s.1;
-        none = s.2;
-        any = s.3;
-        oldest = sym same ∙ one.1.oldest ∙ ap (λ (z : Side). flat_map (λ a. a.1) s.0 ++ z.queue) (sym one.2);
+        answers = s.answers;
+        are = s.are;
+        none = s.none;
+        any = s.any;
+        oldest = sym same ∙ one.1.oldest ∙ ap (λ (z : Side). flat_map (λ a. a.1) s.answers ++ z.queue) (sym one.2);
       }) b)
 
 module _ {J S T P Q : Type 0} (log : J → Log) (heard : J → Option (List ℕ)) (plain : J → Q)
     (shows : S → Shown) (tells : P → Option Told) (seats : P → S → Type 0) where
   -- the ring, the service and what was done after it
   pub came_worked : (ring : Ring) (some : Bool) (done : Did) (w : Way J S T P) → Between heard shows tells ring w
-      → Came log plain shows tells seats (Heard ring) w.r w.p w.r1 w.p1 → Came log plain shows tells seats (Served some) w.r1 w.p1 w.r2 w.p2
+      → Came log plain shows tells seats (Heard ring) w.r w.p w.r1 w.p1 → Came log plain shows tells seats (Served true some) w.r1 w.p1 w.r2 w.p2
       → Came log plain shows tells seats (Follows done w.r2.me (choice_of ring w)) (going w) w.p2 w.r3 w.p3
       → Came log plain shows tells seats (Works heard shows tells (with_service some done) w.r w.p w.r3) w.r w.p w.r3 w.p3
   came_worked ring some done w between a b d =
@@ -203,12 +306,13 @@ module _ {J S T P Q : Type 0} (log : J → Log) (heard : J → Option (List ℕ)
       choice_as w.r2.options.ranks w.r.options.ranks w.queue w.r2.asked w.r.asked w.r2.tried w.r.tried ring ranks between.asked between.tried in
       let others : ℕ = length w.queue - 1 in
       record {
-        worked = k.worked;
+        kind = by_did (with_service some done) moves k.worked;
         chosen = record {
           ring = ring;
           is = between.read;
           over = λ e. absurd (between.more e);
-          goes = λ more. record {
+          winds = λ more yes. absurd (true_not_false (is_to_halt ring w.r) yes between.goes_on);
+          goes = λ more on. record {
             answers = k.answers;
             next = k.next;
             are = k.are;
@@ -232,9 +336,44 @@ module _ {J S T P Q : Type 0} (log : J → Log) (heard : J → Option (List ℕ)
   came_over r p r1 p1 read ended job a =
       came_as log plain shows tells seats (Heard HeardOver) (Works heard shows tells Acted r p r1) r p r1 p1
       (λ moves found h does. record {
-        worked = inl h;
-        chosen = record { ring = HeardOver; is = read; over = λ e. (h, ended, ap heard job); goes = λ more. absurd (more refl) };
+        kind = inr (inl (inl h));
+        chosen = record {
+          ring = HeardOver;
+          is = read;
+          over = λ e. (h, ended, ap heard job);
+          goes = λ more on. absurd (more refl);
+          winds = λ more yes. absurd (more refl);
+        };
       }) a
+
+  -- it is to halt
+  pub came_wound : (ring : Ring) (due : Bool) (done : Did) (r : Rank J S T) (p : P) (r1 : Rank J S T) (p1 : P) (r2 : Rank J S T) (p2 : P)
+      → ring ≢ HeardOver → IsRing r.me (tells p) ring → is_to_halt ring r ≡ true → due ≡ has_done_all r → r1.asked ≡ r.asked → r2.job ≡ r.job
+      → Came log plain shows tells seats (Heard ring) r p r1 p1
+      → Came log plain shows tells seats (WoundUp done r1.options r1.me due r1.asked) r1 p1 r2 p2
+      → Came log plain shows tells seats (Works heard shows tells done r p r2) r p r2 p2
+  came_wound ring due done r p r1 p1 r2 p2 more read halts is asked job a b =
+      let K : List Move → Type 0 = WoundUp done r1.options r1.me due r1.asked in
+      came_as log plain shows tells seats K (Works heard shows tells done r p r2) r p r2 p2
+      (λ moves found k does. record {
+        kind = k.kind;
+        chosen = record {
+          ring = ring;
+          is = read;
+          over = λ e. absurd (more e);
+          goes = λ more' on. absurd (true_not_false (is_to_halt ring r) halts on);
+          winds = λ more' yes. record {
+            answers = k.answers;
+            next = k.next;
+            are = k.are ∙ ap (λ (d : Bool). first_of d ++ served k.answers ∷ k.next) is;
+            refuses = λ ne. k.refuses (λ e. ne (ap (λ (o : Options). o.stop_after) (sym a.options) ∙ e));
+            closes = subst (λ (i : ℕ). Closes i r.asked k.next) a.me (subst (λ (v : Option ℕ). Closes r1.me v k.next) asked k.closes);
+            heard_is = ap heard job;
+          };
+        };
+      })
+      (came_then log plain shows tells seats (Heard ring) K K r p r1 p1 r2 p2
+      (λ x y h k. subst (λ (m : List Move). K (m ++ y)) (sym (heard_nothing ring x more h)) k) a b)
 
   -- a rank that has the same seat, and has ended where the other has
   pub chooses_as : (r : Rank J S T) (p : P) (r1 r2 : Rank J S T) (moves : List Move) → r2.seat ≡ r1.seat → r2.ended ≡ r1.ended → r2.job ≡ r1.job
@@ -243,8 +382,11 @@ module _ {J S T P Q : Type 0} (log : J → Log) (heard : J → Option (List ℕ)
     ring = c.ring;
     is = c.is;
     over = λ e. (let o = c.over e in (o.0, ended ∙ o.1, ap heard job ∙ o.2));
-    goes = λ more.
-        let g = c.goes more in
+    winds = λ more yes.
+        let w = c.winds more yes in
+        record { answers = w.answers; next = w.next; are = w.are; refuses = w.refuses; closes = w.closes; heard_is = ap heard job ∙ w.heard_is };
+    goes = λ more on.
+        let g = c.goes more on in
         record {
           answers = g.answers;
           next = g.next;

@@ -64,8 +64,11 @@ module _ (at_end : NothingWaitsAtEnd) (o : Options) (starts : Strings) (endless 
       (λ e. ⊎_elim
       (λ none. ⊎_elim
       (λ waits. inr (subst (λ (q : ℕ). Waits (place from.told q)) e waits))
+      (λ gone. ⊎_elim
       (λ ended. inl (never_again s r (events_of_all (here ++ later))
       (never_handles past (here ++ later) from to a before (turns_played o (turn ∷ turns) k from to (mid, last, plays, idle, rest)) ended)))
+      (λ stopped. (let all = moves_halt o starts (past ++ here) mid (Plays-append o past here (begun o starts) from mid before plays) in
+      let f : true ≡ false = sym stopped ∙ (quiet o mid endless all).1 a in cc)) gone)
       (idle none))
       (λ some. inl (join (comes_now s r (events_of_all here) (events_of_all later) (subst (λ (q : ℕ). By q (events_of_all here)) e (turn_by a turn)) some)))
       (nil_or_some (events_of_all here)))

@@ -1,6 +1,6 @@
 -- What a whole run leaves.
-use Rattle.std.proofs.Common.{◌≡◌, ◌≢◌, ℕ, suc, ◌-◌, ◌^◌, ◌<◌, ◌≤◌, ◌⊎◌, inl, rules, min, refl, sym, subst, ap, ◌∙◌, arith, Bool, true, false, cond}
-use Rattle.std.proofs.Common.{List, [], ◌∷◌, map, length, get_or, Option, Some, None, Vec}
+use Rattle.std.proofs.Common.{◌≡◌, ◌≢◌, ℕ, suc, ◌-◌, ◌^◌, ◌<◌, ◌≤◌, ◌⊎◌, inl, inr, ⊎_elim, rules, min, refl, sym, subst, ap, ◌∙◌, arith, Bool, true}
+use Rattle.std.proofs.Common.{false, cond, List, [], ◌∷◌, ◌++◌, append-nil, map, length, get_or, Option, Some, None, Vec}
 use Rattle.std.specs.Prelude.{IsSome}
 use Rattle.std.proofs.lemmas.List.{length-map, get_or-map, get_or_default}
 use Rattle.std.proofs.lemmas.Simd.{map-map}
@@ -15,18 +15,18 @@ use Rattle.post_board.specs.Shown.{Strings, Shown, is_served}
 use Rattle.post_board.specs.Told.{Told, place}
 use Rattle.post_board.specs.Deeds.{DeedsKeepSound, LateKeepsSound}
 use Rattle.post_board.specs.Fresh.{fresh_told}
-use Rattle.post_board.specs.Calls.{AgreesIfTold, AllDone}
+use Rattle.post_board.specs.Calls.{AgreesIfTold, AllDone, NoneOnTheWay}
 use Rattle.sum_tree.specs.Shown.{SumShown, AllFinished}
 use Rattle.circle_run.specs.Balance.{Log, Balanced}
 use Rattle.circle_run.specs.Left.{all_left}
 use Rattle.circle_run.specs.Moves.{Move}
 use Rattle.circle_run.specs.Stages.{RankSide, Stage, no_side, Plays, events_of_all, begun}
-use Rattle.circle_run.specs.Waiting.{NothingWaits, NothingWaitsAtEnd, all_logged, all_mailed}
+use Rattle.circle_run.specs.Waiting.{NothingWaits, NothingWaitsAtEnd, all_logged, all_queued, all_mailed}
 use Rattle.circle_run.specs.Shares.{handled_by, given_by, taken_by}
 use Rattle.circle_run.specs.Fair.{PlaysTurns, moves_of_turns, RoundsAreFair, IsFair}
 use Rattle.circle_run.specs.Books.{counted}
 use Rattle.circle_run.specs.Progress.{KeptOf, KeptAll}
-use Rattle.circle_run.specs.Hosts.{events_by, NoneLost, NoneWrote, AreAll, Same, AllEnded, rank_of, stage_of, Ran, KeptInOrder}
+use Rattle.circle_run.specs.Hosts.{events_by, NoneLost, AreAll, Same, AllEnded, rank_of, stage_of, Ran, KeptInOrder}
 use Rattle.circle_run.specs.Traced.{IsTraced, share_in, IsProgress}
 use Rattle.circle_run.specs.Private.Outcomes.{IsOutcome, IsRun}
 use Rattle.circle_run.specs.declared.outcomes.Share.{Share}
@@ -34,15 +34,16 @@ use Rattle.circle_run.specs.declared.outcomes.Finished.{Finished}
 use Rattle.circle_run.specs.declared.settings.Options.{Options}
 use Rattle.circle_run.specs.declared.ranks.Rank.{Rank}
 use Rattle.circle_run.proofs.Runs.{moves_are_legal_run}
-use Rattle.circle_run.proofs.Totals.{nothing_mailed, all_is_handled, given_is_taken_or_mailed}
+use Rattle.circle_run.proofs.Totals.{nothing_mailed, moves_are_balanced, given_is_taken_or_mailed}
 use Rattle.circle_run.proofs.Logs.{logs_are_handled}
 use Rattle.circle_run.proofs.Fairness.{turns_are_played}
 use Rattle.circle_run.proofs.Prompt.{moves_answer_first}
-use Rattle.circle_run.proofs.Rounds.{same_all}
 use Rattle.circle_run.proofs.Sounding.{plays_sound, begun_sound}
 use Rattle.circle_run.proofs.Counting.{capped, share_told, share_counts}
-use Rattle.circle_run.proofs.Maps.{map_is, map_same, map_each, flat_none, flat_first, sum_by-map, some_of, sum_same, capped_sum}
+use Rattle.circle_run.proofs.Maps.{map_is, map_same, map_each, flat_first, sum_by-map, some_of, sum_same, capped_sum}
 use Rattle.circle_run.proofs.Beginning.{Begins}
+use Rattle.circle_run.proofs.Turning.{either}
+use Rattle.circle_run.proofs.Leaving.{Gathered, HaveEnded, have_ended, none_left, within, left_by}
 
 -- what is known of a run at its end, as a run of moves
 record Ended (o : Options) (starts : Strings) (moves : List (ℕ × Move)) (last : Stage) : Type 0 where
@@ -70,10 +71,10 @@ module _ {J S T P Q D : Type 0} (log : J → Log) (plain : J → D) (shows : S �
   -- a run of turns at its end
   at_end : (o : Options) (starts : Strings) (ranks : List (Rank J S T)) (p : P) (q : Q) (turns : List (List Move)) (told : Told)
       → NothingWaitsAtEnd → RoundsAreFair → DeedsKeepSound → LateKeepsSound → o.stop_after ≡ None
-      → ((b : P) (s : S) → seats b s → AgreesIfTold (tells b) (shows s)) → 1 ≤ o.ranks → AreAll o ranks
+      → ((b : P) (s : S) → seats b s → AgreesIfTold (tells b) (shows s)) → 1 ≤ o.ranks → AreAll o ranks → HaveEnded ranks
       → AllEnded log shows seats sums_shows sums_seats ranks p q → tells p ≡ Some told → PlaysTurns o 0 turns (begun o starts) (stage_of log tells ranks told)
       → Ended o starts (moves_of_turns o.ranks 0 turns) (stage_of log tells ranks told)
-  at_end o starts ranks p q turns told nothing fair sound late_sound endless agrees some all done after played =
+  at_end o starts ranks p q turns told nothing fair sound late_sound endless agrees some all gone done after played =
       let last : Stage = stage_of log tells ranks told in
       let moves : List (ℕ × Move) = moves_of_turns o.ranks 0 turns in
       let plays : Plays o moves (begun o starts) last = turns_are_played o turns (begun o starts) last played in
@@ -83,7 +84,7 @@ module _ {J S T P Q D : Type 0} (log : J → Log) (plain : J → D) (shows : S �
       let x = done r d inside in
       let knows = x.ready.knows in
       let a = subst (λ (u : Option Told). AgreesIfTold u (shows (get_or ranks r d).seat)) after (agrees p (get_or ranks r d).seat x.ready.mine) in
-      ap (λ (k : ℕ). (place told k).ended) (sym (knows.number ∙ (all.each r d inside).0)) ∙ a.ended ∙ knows.ended ∙ (x.over refl).0) in
+      ap (λ (k : ℕ). (place told k).ended) (sym (knows.number ∙ (all.each r d inside).0)) ∙ a.ended ∙ knows.ended ∙ gone r d inside) in
       record {
         plays = plays;
         ended = ended;
@@ -166,14 +167,14 @@ module _ {J S T P Q D : Type 0} (log : J → Log) (plain : J → D) (shows : S �
     pub agrees : (b : P) (s : S) → seats b s → AgreesIfTold (tells b) (shows s)
     -- how it began
     pub some : 1 ≤ o.ranks
-    pub endless : o.stop_after ≡ None
     pub first : Begins log shows tells seats sums_shows sums_seats o starts ranks0 p0 q0
     pub unshared : (k : ℕ) (d : Rank J S T) → k < length ranks0 → (get_or ranks0 k d).book.share ≡ capped 0 0 0
     pub given_jobs : map (λ (r : Rank J S T). r.job) ranks0 ≡ jobs
     -- how it ended
-    pub done : AllEnded log shows seats sums_shows sums_seats ranks p q
+    pub gathered : List S
+    pub last : Gathered log shows seats sums_shows sums_seats o ranks p q gathered
     pub same : Same plain ranks0 ranks
-    pub wrote : NoneWrote ranks
+    pub mailboxes : (t : Told) → tells p ≡ Some t → NoneOnTheWay t
     pub ran : Ran log tells (KeptInOrder o f.events.items) o (fresh_told o.ranks) ranks0 ranks p
     -- what was taken of the ranks
     pub jobs_are : f.jobs.items ≡ map (λ (r : Rank J S T). r.job) ranks
@@ -183,86 +184,154 @@ module _ {J S T P Q D : Type 0} (log : J → Log) (plain : J → D) (shows : S �
     pub answer : (d : Rank J S T) → (sums_shows (get_or ranks 0 d).sums_seat).answer ≡ Some total
     pub total_is : total ≡ sum_by (λ (r : Rank J S T). (sums_shows r.sums_seat).count) ranks
 
-  pub outcome : (o : Options) (starts : Strings) (jobs : List J) (ranks0 ranks : List (Rank J S T)) (p0 p : P) (q0 q : Q) (total : ℕ) (f : Finished J)
-      → Ending o starts jobs ranks0 ranks p0 p q0 q total f → IsOutcome log plain o starts jobs f × IsRun log o starts f
-  outcome o starts jobs ranks0 ranks p0 p q0 q total f x =
-      let all : AreAll o ranks = same_all plain o ranks0 ranks x.same x.first.all in
-      let moves : List (ℕ × Move) = moves_of_turns o.ranks 0 x.ran.turns in
+  -- the moves of a run, with the shares that they give
+  record Course (o : Options) (starts : Strings) (ranks : List (Rank J S T)) (moves : List (ℕ × Move)) (told : Told) : Type 0 where
+    plays : Plays o moves (begun o starts) (stage_of log tells ranks told)
+    mailed : all_mailed (stage_of log tells ranks told) ≡ []
+    shares : Shared o moves ranks
+
+  course : (o : Options) (starts : Strings) (jobs : List J) (ranks0 ranks : List (Rank J S T)) (p0 p : P) (q0 q : Q) (total : ℕ) (f : Finished J)
+      → (x : Ending o starts jobs ranks0 ranks p0 p q0 q total f) → Course o starts ranks (moves_of_turns o.ranks 0 x.ran.turns) x.ran.told
+  course o starts jobs ranks0 ranks p0 p q0 q total f x =
       let last : Stage = stage_of log tells ranks x.ran.told in
+      let moves : List (ℕ × Move) = moves_of_turns o.ranks 0 x.ran.turns in
       let played : PlaysTurns o 0 x.ran.turns (begun o starts) last =
       subst (λ (s : Stage). PlaysTurns o 0 x.ran.turns s last) x.first.begun_is x.ran.plays in
+      let plays : Plays o moves (begun o starts) last = turns_are_played o x.ran.turns (begun o starts) last played in
+      record {
+        plays = plays;
+        mailed = nothing_mailed last (x.mailboxes x.ran.told x.ran.after);
+        shares = shared o starts moves ranks0 ranks x.ran.told x.same.count x.unshared x.ran.shares plays;
+      }
+
+  -- what is left at the ranks
+  queues_left : (o : Options) (starts : Strings) (jobs : List J) (ranks0 ranks : List (Rank J S T)) (p0 p : P) (q0 q : Q) (total : ℕ) (f : Finished J)
+      → Ending o starts jobs ranks0 ranks p0 p q0 q total f → all_left f.left.items ≡ flat_map queue_of ranks
+  queues_left o starts jobs ranks0 ranks p0 p q0 q total f x =
+      let as_list : Strings → Strings = λ xs. xs in
+      sym (flat_map-map as_list (λ (l : Vec (List ℕ) _). l.items) f.left.items) ∙ ap (flat_map as_list) x.left_are ∙ flat_map-map as_list queue_of ranks
+
+  -- what goes in comes out
+  balance_of : (o : Options) (starts : Strings) (jobs : List J) (ranks0 ranks : List (Rank J S T)) (p0 p : P) (q0 q : Q) (total : ℕ) (f : Finished J)
+      → Ending o starts jobs ranks0 ranks p0 p q0 q total f → Balanced (flat_map log f.jobs.items) (all_left f.left.items) starts
+  balance_of o starts jobs ranks0 ranks p0 p q0 q total f x =
+      let last : Stage = stage_of log tells ranks x.ran.told in
+      let moves : List (ℕ × Move) = moves_of_turns o.ranks 0 x.ran.turns in
+      let c : Course o starts ranks moves x.ran.told = course o starts jobs ranks0 ranks p0 p q0 q total f x in
+      let logs_of : RankSide → Log = λ r. r.log in
+      let strings_of : RankSide → Strings = λ r. r.queue in
+      let side_of : Rank J S T → RankSide = rank_of log tells in
+      let all_logs : all_logged last ≡ flat_map log f.jobs.items =
+      flat_map-map logs_of side_of ranks ∙ sym (flat_map-map log job_of ranks) ∙ ap (flat_map log) (sym x.jobs_are) in
+      let left : all_queued last ++ all_mailed last ≡ all_left f.left.items =
+      ap (λ (xs : Strings). all_queued last ++ xs) c.mailed ∙ append-nil (all_queued last)
+      ∙ flat_map-map strings_of side_of ranks ∙ sym (queues_left o starts jobs ranks0 ranks p0 p q0 q total f x) in
+      subst (λ (l : Log). Balanced l (all_left f.left.items) starts) all_logs
+      (subst (λ (l : Strings). Balanced (all_logged last) l starts) left
+      (moves_are_balanced o starts moves last (let n = x.some in omega arith) c.plays))
+
+  -- what was given was taken
+  moved_of : (o : Options) (starts : Strings) (ranks : List (Rank J S T)) (moves : List (ℕ × Move)) (told : Told) (shares : List Share)
+      → Course o starts ranks moves told
+      → shares ≡ map (λ (k : ℕ). capped (handled_by k moves) (given_by k moves) (taken_by k moves)) (range_with_len 0 o.ranks)
+      → min (sum_by given shares) (2 ^ 128 - 1) ≡ min (sum_by taken shares) (2 ^ 128 - 1)
+  moved_of o starts ranks moves told shares c caps =
+      let cap : ℕ → Share = λ k. capped (handled_by k moves) (given_by k moves) (taken_by k moves) in
+      let g = capped_sum (λ (k : ℕ). given_by k moves) (2 ^ 128 - 1) (range_with_len 0 o.ranks) in
+      let t = capped_sum (λ (k : ℕ). taken_by k moves) (2 ^ 128 - 1) (range_with_len 0 o.ranks) in
+      let gives = sum_by-map given cap (range_with_len 0 o.ranks) in
+      let takes = sum_by-map taken cap (range_with_len 0 o.ranks) in
+      let mailed : length (all_mailed (stage_of log tells ranks told)) ≡ 0 = ap length c.mailed in
+      let even = (given_is_taken_or_mailed o starts moves (stage_of log tells ranks told) c.plays).counts in
+      let level : sum_by (λ (k : ℕ). given_by k moves) (range_with_len 0 o.ranks) ≡ sum_by (λ (k : ℕ). taken_by k moves) (range_with_len 0 o.ranks) =
+      omega (arith, even, mailed) in
+      ap (λ (xs : List Share). min (sum_by given xs) (2 ^ 128 - 1)) caps ∙ ap (λ (n : ℕ). min n (2 ^ 128 - 1)) gives ∙ g
+      ∙ ap (λ (n : ℕ). min n (2 ^ 128 - 1)) level
+      ∙ sym (ap (λ (xs : List Share). min (sum_by taken xs) (2 ^ 128 - 1)) caps ∙ ap (λ (n : ℕ). min n (2 ^ 128 - 1)) takes ∙ t)
+
+  -- with a trace the events are those of the moves
+  events_kept : (o : Options) (ranks0 ranks : List (Rank J S T)) (p : P) (events : List Event) (t : Told)
+      → (ran : Ran log tells (KeptInOrder o events) o t ranks0 ranks p) → (b : Bool) → o.trace ≡ b
+      → events ≡ cond b (events_of_all (moves_of_turns o.ranks 0 ran.turns)) []
+  events_kept o ranks0 ranks p events t ran b is = ran.kept ∙ ap (λ (y : Bool). cond y (events_of_all (moves_of_turns o.ranks 0 ran.turns)) []) is
+
+  outcome : (o : Options) (starts : Strings) (jobs : List J) (ranks0 ranks : List (Rank J S T)) (p0 p : P) (q0 q : Q) (total : ℕ) (f : Finished J)
+      → Ending o starts jobs ranks0 ranks p0 p q0 q total f → IsOutcome log plain o starts jobs f
+  outcome o starts jobs ranks0 ranks p0 p q0 q total f x =
+      let moves : List (ℕ × Move) = moves_of_turns o.ranks 0 x.ran.turns in
+      let c : Course o starts ranks moves x.ran.told = course o starts jobs ranks0 ranks p0 p q0 q total f x in
+      let s : Shared o moves ranks = c.shares in
+      let cap : ℕ → Share = λ k. capped (handled_by k moves) (given_by k moves) (taken_by k moves) in
+      let queued : all_left f.left.items ≡ flat_map queue_of ranks = queues_left o starts jobs ranks0 ranks p0 p q0 q total f x in
+      let many : J → ℕ = λ j. length (log j) in
+      let most : J → ℕ = λ j. min (many j) (2 ^ 64 - 1) in
+      let facts_of : Rank J S T → D = λ r. plain r.job in
+      record {
+        balance = balance_of o starts jobs ranks0 ranks p0 p q0 q total f x;
+        whole = none_left log shows seats sums_shows sums_seats o ranks p q x.gathered (all_left f.left.items) x.last queued;
+        stop = within log shows seats sums_shows sums_seats o ranks p q x.gathered f.jobs.items x.last x.jobs_are;
+        left = left_by log shows seats sums_shows sums_seats o ranks p q x.gathered f.jobs.items (all_left f.left.items) x.last x.jobs_are queued;
+        jobs_count = ap length x.jobs_are ∙ length-map ranks job_of ∙ x.same.count ∙ sym (length-map ranks0 job_of) ∙ ap length x.given_jobs;
+        facts = ap (map plain) x.jobs_are ∙ map-map plain job_of ranks
+            ∙ map_same facts_of facts_of ranks ranks0 x.same.count
+            (λ k d d' h. ap facts_of (get_or_default ranks k d d' h) ∙ x.same.facts k d' (let c = x.same.count in omega arith))
+            ∙ sym (map-map plain job_of ranks0) ∙ ap (map plain) x.given_jobs;
+        lists = sym (length-map f.left.items (λ (l : Vec (List ℕ) _). l.items)) ∙ ap length x.left_are ∙ length-map ranks queue_of ∙ x.same.count
+            ∙ sym (length-map ranks0 job_of) ∙ ap length x.given_jobs;
+        handled = ap (map (λ (y : Share). y.handled)) x.shares_are ∙ map-map (λ (y : Share). y.handled) share_of ranks
+            ∙ map_same (λ (r : Rank J S T). r.book.share.handled) (λ (r : Rank J S T). most r.job) ranks ranks refl
+            (λ k d d' h. ap (λ (y : Share). y.handled) (s.each k d h) ∙ ap (λ (n : ℕ). min n (2 ^ 64 - 1)) (s.handled k d h)
+            ∙ ap (λ (r : Rank J S T). most r.job) (get_or_default ranks k d d' h))
+            ∙ sym (map-map most job_of ranks) ∙ ap (map most) (sym x.jobs_are);
+        moved = moved_of o starts ranks moves x.ran.told f.shares.items c (x.shares_are ∙ map_is share_of cap ranks o.ranks x.last.all.count s.each);
+        untraced = λ off. events_kept o ranks0 ranks p f.events.items (fresh_told o.ranks) x.ran false off;
+        progress = subst (λ (ns : List ℕ). IsProgress ns f.sums.items) (sym (ap (map many) x.jobs_are ∙ map-map many job_of ranks))
+            (progressed o ranks p q total f.sums.items x.last.all x.some x.last.done x.last.found x.answer x.total_is x.sums_are);
+      }
+
+  -- a run that stops after no number, as its events tell it
+  run : (o : Options) (starts : Strings) (jobs : List J) (ranks0 ranks : List (Rank J S T)) (p0 p : P) (q0 q : Q) (total : ℕ) (f : Finished J)
+      → Ending o starts jobs ranks0 ranks p0 p q0 q total f → o.stop_after ≡ None → IsRun log o starts f
+  run o starts jobs ranks0 ranks p0 p q0 q total f x endless =
+      let moves : List (ℕ × Move) = moves_of_turns o.ranks 0 x.ran.turns in
+      let last : Stage = stage_of log tells ranks x.ran.told in
+      let c : Course o starts ranks moves x.ran.told = course o starts jobs ranks0 ranks p0 p q0 q total f x in
+      let played : PlaysTurns o 0 x.ran.turns (begun o starts) last =
+      subst (λ (s : Stage). PlaysTurns o 0 x.ran.turns s last) x.first.begun_is x.ran.plays in
+      let gone : HaveEnded ranks = have_ended log shows seats sums_shows sums_seats o ranks p q x.gathered x.last endless in
       let e : Ended o starts moves last =
-      at_end o starts ranks p q x.ran.turns x.ran.told x.waits x.fair x.sound x.late_sound x.endless x.agrees x.some all x.done x.ran.after played in
-      let s : Shared o moves ranks = shared o starts moves ranks0 ranks x.ran.told x.same.count x.unshared x.ran.shares e.plays in
+      at_end o starts ranks p q x.ran.turns x.ran.told x.waits x.fair x.sound x.late_sound endless x.agrees x.some x.last.all gone x.last.done
+      x.ran.after played in
       let logs_of : RankSide → Log = λ r. r.log in
       let side_of : Rank J S T → RankSide = rank_of log tells in
       let logs : map log f.jobs.items ≡ map logs_of last.ranks =
       ap (map log) x.jobs_are ∙ map-map log job_of ranks ∙ sym (map-map logs_of side_of ranks) in
-      let all_logs : all_logged last ≡ flat_map log f.jobs.items =
-      flat_map-map logs_of side_of ranks ∙ sym (flat_map-map log job_of ranks) ∙ ap (flat_map log) (sym x.jobs_are) in
-      let as_list : Strings → Strings = λ xs. xs in
-      let left : all_left f.left.items ≡ [] =
-      sym (flat_map-map as_list (λ (l : Vec (List ℕ) _). l.items) f.left.items) ∙ ap (flat_map as_list) x.left_are ∙ flat_map-map as_list queue_of ranks
-      ∙ flat_none queue_of ranks (λ k d h. (x.done k d h).ready.knows.over ((x.done k d h).over refl).0) in
-      let cap : ℕ → Share = λ k. capped (handled_by k moves) (given_by k moves) (taken_by k moves) in
-      let caps : f.shares.items ≡ map cap (range_with_len 0 o.ranks) = x.shares_are ∙ map_is share_of cap ranks o.ranks all.count s.each in
-      let mailed : length (all_mailed last) ≡ 0 = ap length (nothing_mailed last e.nothing) in
-      let kept : (b : Bool) → o.trace ≡ b → f.events.items ≡ cond b (events_of_all moves) [] =
-      λ b is. x.ran.kept ∙ ap (λ (y : Bool). cond y (events_of_all moves) []) is in
-      let run : IsTraced o starts (map log f.jobs.items) (events_of_all moves) = record {
+      let traced : IsTraced o starts (map log f.jobs.items) (events_of_all moves) = record {
         moves = moves;
         last = last;
         plays = e.plays;
         are = refl;
-        legal = moves_are_legal_run o starts moves last x.endless e.plays;
+        legal = moves_are_legal_run o starts moves last endless e.plays;
         over = e.over;
         ended = e.ended;
         logs_are = logs;
-        answers = moves_answer_first o starts moves last x.endless e.plays;
+        answers = moves_answer_first o starts moves last endless e.plays;
         fair = e.fair;
       } in
       let counts : f.shares.items ≡ map (share_in (events_of_all moves)) (range_with_len 0 o.ranks) =
-      x.shares_are ∙ map_is share_of (share_in (events_of_all moves)) ranks o.ranks all.count s.told in
-      let balance : Balanced (all_logged last) [] starts = all_is_handled o starts moves last (let n = x.some in omega arith) e.plays e.nothing in
-      let many : J → ℕ = λ j. length (log j) in
-      let most : J → ℕ = λ j. min (many j) (2 ^ 64 - 1) in
-      let facts_of : Rank J S T → D = λ r. plain r.job in (
-        record {
-          balance = subst (λ (l : Log). Balanced l (all_left f.left.items) starts) all_logs
-              (subst (λ (l : Strings). Balanced (all_logged last) l starts) (sym left) balance);
-          whole = left;
-          jobs_count = ap length x.jobs_are ∙ length-map ranks job_of ∙ x.same.count ∙ sym (length-map ranks0 job_of) ∙ ap length x.given_jobs;
-          facts = ap (map plain) x.jobs_are ∙ map-map plain job_of ranks
-              ∙ map_same facts_of facts_of ranks ranks0 x.same.count
-              (λ k d d' h. ap facts_of (get_or_default ranks k d d' h) ∙ x.same.facts k d' (let c = x.same.count in omega arith))
-              ∙ sym (map-map plain job_of ranks0) ∙ ap (map plain) x.given_jobs;
-          lists = sym (length-map f.left.items (λ (l : Vec (List ℕ) _). l.items)) ∙ ap length x.left_are ∙ length-map ranks queue_of ∙ x.same.count
-              ∙ sym (length-map ranks0 job_of) ∙ ap length x.given_jobs;
-          handled = ap (map (λ (y : Share). y.handled)) x.shares_are ∙ map-map (λ (y : Share). y.handled) share_of ranks
-              ∙ map_same (λ (r : Rank J S T). r.book.share.handled) (λ (r : Rank J S T). most r.job) ranks ranks refl
-              (λ k d d' h. ap (λ (y : Share). y.handled) (s.each k d h) ∙ ap (λ (n : ℕ). min n (2 ^ 64 - 1)) (s.handled k d h)
-              ∙ ap (λ (r : Rank J S T). most r.job) (get_or_default ranks k d d' h))
-              ∙ sym (map-map most job_of ranks) ∙ ap (map most) (sym x.jobs_are);
-          moved = (let g = capped_sum (λ (k : ℕ). given_by k moves) (2 ^ 128 - 1) (range_with_len 0 o.ranks) in
-              let t = capped_sum (λ (k : ℕ). taken_by k moves) (2 ^ 128 - 1) (range_with_len 0 o.ranks) in
-              let gives = sum_by-map given cap (range_with_len 0 o.ranks) in
-              let takes = sum_by-map taken cap (range_with_len 0 o.ranks) in
-              let even = (given_is_taken_or_mailed o starts moves last e.plays).counts in
-              let level : sum_by (λ (k : ℕ). given_by k moves) (range_with_len 0 o.ranks) ≡ sum_by (λ (k : ℕ). taken_by k moves) (range_with_len 0 o.ranks) =
-              omega arith in
-              ap (λ (xs : List Share). min (sum_by given xs) (2 ^ 128 - 1)) caps ∙ ap (λ (n : ℕ). min n (2 ^ 128 - 1)) gives ∙ g
-              ∙ ap (λ (n : ℕ). min n (2 ^ 128 - 1)) level
-              ∙ sym (ap (λ (xs : List Share). min (sum_by taken xs) (2 ^ 128 - 1)) caps ∙ ap (λ (n : ℕ). min n (2 ^ 128 - 1)) takes ∙ t));
-          untraced = λ off. kept false off;
-          progress = subst (λ (ns : List ℕ). IsProgress ns f.sums.items) (sym (ap (map many) x.jobs_are ∙ map-map many job_of ranks))
-              (progressed o ranks p q total f.sums.items all x.some x.done (λ k d h. (x.wrote k d h).0) x.answer x.total_is x.sums_are);
-        },
-        record {
-          traced = λ on. subst (IsTraced o starts (map log f.jobs.items)) (sym (kept true on)) run;
-          counts = λ on. counts ∙ ap (λ (es : List Event). map (share_in es) (range_with_len 0 o.ranks)) (sym (kept true on));
-          ran = record { events = events_of_all moves; traced = run; counts = counts; kept = x.ran.kept };
-        },
-      )
+      x.shares_are ∙ map_is share_of (share_in (events_of_all moves)) ranks o.ranks x.last.all.count c.shares.told in
+      let kept : o.trace ≡ true → f.events.items ≡ events_of_all moves =
+      λ on. events_kept o ranks0 ranks p f.events.items (fresh_told o.ranks) x.ran true on in
+      record {
+        traced = λ on. subst (IsTraced o starts (map log f.jobs.items)) (sym (kept on)) traced;
+        counts = λ on. counts ∙ ap (λ (es : List Event). map (share_in es) (range_with_len 0 o.ranks)) (sym (kept on));
+        ran = record { events = events_of_all moves; traced = traced; counts = counts; kept = x.ran.kept };
+      }
+
+  pub closed : (o : Options) (starts : Strings) (jobs : List J) (ranks0 ranks : List (Rank J S T)) (p0 p : P) (q0 q : Q) (total : ℕ) (f : Finished J)
+      → Ending o starts jobs ranks0 ranks p0 p q0 q total f → IsOutcome log plain o starts jobs f × (o.stop_after ≡ None → IsRun log o starts f)
+  closed o starts jobs ranks0 ranks p0 p q0 q total f x =
+      (outcome o starts jobs ranks0 ranks p0 p q0 q total f x, run o starts jobs ranks0 ranks p0 p q0 q total f x)
 
   -- the seats may be gathered
   pub seats_done : (o : Options) (ranks : List (Rank J S T)) (p : P) (q : Q) (all_seats : List S) → AreAll o ranks
@@ -276,8 +345,13 @@ module _ {J S T P Q D : Type 0} (log : J → Log) (plain : J → D) (shows : S �
       (λ k d h.
       let x = done k d h in
       let knows = x.ready.knows in
-      let me = all.each k d h in
-      (x.ready.mine, knows.number ∙ me.0, knows.ranks ∙ ap (λ (q : Options). q.ranks) me.1 ∙ long, inl (knows.ended ∙ (x.over refl).0), x.ready.none))
+      let me = all.each k d h in (
+        x.ready.mine,
+        knows.number ∙ me.0,
+        knows.ranks ∙ ap (λ (q : Options). q.ranks) me.1 ∙ long,
+        ⊎_elim (λ e. inl (knows.ended ∙ e)) (λ s. inr (knows.stopped ∙ s)) (either (get_or ranks k d).ended (get_or ranks k d).stopped (x.over refl).0),
+        x.ready.none,
+      ))
 
   pub sums_done : (o : Options) (ranks : List (Rank J S T)) (p : P) (q : Q) (all_sums : List T) → AreAll o ranks
       → AllEnded log shows seats sums_shows sums_seats ranks p q → all_sums ≡ map (λ (r : Rank J S T). r.sums_seat) ranks

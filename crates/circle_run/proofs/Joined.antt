@@ -83,6 +83,7 @@ module _ {J S T P Q D : Type 0} (log : J → Log) (plain : J → D) (shows : S �
           none = y.none;
           mine = f r.seat y.mine;
           lost = y.lost;
+          bounded = λ found. (let e = y.bounded found in record { counted = e.counted; most = e.most; halts = e.halts; stops = e.stops });
           sums = record {
             mine = g r.sums_seat z.mine;
             number = z.number;

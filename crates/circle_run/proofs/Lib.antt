@@ -1,6 +1,8 @@
 pub mod Weighed
 pub mod Counted
 pub mod Stepped
+pub mod Bounding
+pub mod Winding
 pub mod Asked
 pub mod Choosing
 pub mod Requests
@@ -36,6 +38,7 @@ pub mod Dealt
 pub mod Counting
 pub mod Sounding
 pub mod Beginning
+pub mod Leaving
 pub mod Finishing
 pub mod Lone
 pub mod Upto

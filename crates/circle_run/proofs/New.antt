@@ -8,6 +8,8 @@ use Rattle.post_board.specs.Shown.{Shown, Batches, Strings, is_served}
 use Rattle.post_board.specs.Fresh.{fresh}
 use Rattle.sum_tree.specs.Shown.{SumShown}
 use Rattle.sum_tree.specs.Plain.{fresh as fresh_sums}
+use Rattle.circle_run.specs.declared.outcomes.Share.{Share}
+use Rattle.circle_run.proofs.Bounding.{if_some}
 use Rattle.circle_run.specs.Balance.{Log}
 use Rattle.circle_run.specs.Progress.{Keeps, KeptOf}
 use Rattle.circle_run.specs.Ready.{IsNew, Ready}
@@ -46,17 +48,24 @@ module _ {J S T P Q : Type 0} (log : J → Log) (shows : S → Shown) (seats : P
           asked = ap (λ (x : Shown). x.asked) s ∙ sym (ap (λ (x : Rank J S T). x.asked) is);
           asks = λ v e. (let f : None ≡ Some v = sym (ap (λ (x : Rank J S T). x.asked) is) ∙ e in cc);
           ended = ap (λ (x : Shown). x.ended) s ∙ sym (ap (λ (x : Rank J S T). x.ended) is);
-          stopped = ap (λ (x : Shown). x.stopped) s;
+          stopped = ap (λ (x : Shown). x.stopped) s ∙ sym (ap (λ (x : Rank J S T). x.stopped) is);
           inside = omega (arith, inside, is_me, ranks);
           few = omega (arith, few, ranks);
           wide = ap (λ (x : Shown). length x.serves) s ∙ length-replicate o.ranks false ∙ sym ranks;
           idle = λ e. (let f : true ≡ false = sym (ap (λ (x : Shown). x.busy) s) ∙ e in cc);
+          waits = λ v e. (let f : None ≡ Some v = sym (ap (λ (x : Rank J S T). x.asked) is) ∙ e in cc);
           over = λ e. (let f : true ≡ false = sym e ∙ ap (λ (x : Rank J S T). x.ended) is in cc);
           empty = ap (λ (x : Rank J S T). x.fresh) is;
         };
         none = λ k. ap (λ (x : Shown). is_served x k) s ∙ none_served o.ranks k;
         mine = subst (seats p) (sym there) mine;
         lost = λ l. (let f : true ≡ false = sym l ∙ new.lost in cc);
+        bounded = λ found. record {
+          counted = (let a : r.book.share.handled ≡ 0 = ap (λ (x : Share). x.handled) new.share in omega (arith, a, done));
+          most = if_some r.options.stop_after (λ k. length (log r.job) ≤ k) (λ k e. omega (arith, done));
+          halts = λ e. (let f : true ≡ false = sym e ∙ ap (λ (x : Shown). x.halted) s in cc);
+          stops = λ e. (let f : true ≡ false = sym e ∙ ap (λ (x : Rank J S T). x.stopped) is in cc);
+        };
         sums = record {
           mine = subst (sums_seats q) (sym sum_there) sums_mine;
           number = ap (λ (x : SumShown). x.number) t ∙ sym is_me;

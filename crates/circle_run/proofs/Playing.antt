@@ -121,8 +121,9 @@ module _ {J S T P D : Type 0} (log : J → Log) (plain : J → D) (shows : S →
           after = new.after;
           plays = turns_more o 0 ran.turns w.turn k (stage_of log tells ranks0 t) (stage_of log tells ranks ran.told)
               (stage_of log tells (set ranks k r2) new.told') own ran.plays w.last new.plays
-              (λ none. subst (λ (u : Option Told). MayIdleIfTold k u) ran.after (subst (λ (q : ℕ). MayIdleIfTold q (tells p)) me
-              (w.idle (ap (λ (q : ℕ). flat_map (events_of q) w.turn) me ∙ sym (events_of_turn k w.turn) ∙ none))));
+              (λ none. subst (λ (u : Option Told). MayIdleIfTold k u (Some new.told')) ran.after
+              (subst (λ (u : Option Told). MayIdleIfTold k (tells p) u) new.after (subst (λ (q : ℕ). MayIdleIfTold q (tells p) (tells p')) me
+              (w.idle (ap (λ (q : ℕ). flat_map (events_of q) w.turn) me ∙ sym (events_of_turn k w.turn) ∙ none)))));
           shares = λ j d h. each-set (λ (i : ℕ) (x : Rank J S T). x.book.share ≡ counted (events_by i moves') (get_or ranks0 i d).book.share) ranks k r2
               (share_more o k r p r1 p' r2 moves moves' (get_or ranks0 k d).book.share me w moved more
               (ap (λ (x : Rank J S T). x.book.share) (sym (was d)) ∙ ran.shares k d (omega (arith, count, inside))))

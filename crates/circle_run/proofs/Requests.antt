@@ -27,6 +27,7 @@ module _ {J S T P : Type 0} (log : J → Log) (shows : S → Shown) (tells : P �
     asks = k.asks;
     wide = ap (λ (s : Shown). length s.serves) shown ∙ length-set (shows r.seat).serves to true ∙ k.wide;
     idle = λ e. k.idle (sym (ap (λ (s : Shown). s.busy) shown) ∙ e);
+    waits = k.waits;
     over = k.over;
     empty = k.empty;
   }
@@ -60,6 +61,8 @@ module _ {J S T P : Type 0} (log : J → Log) (shows : S → Shown) (tells : P �
         still = still_then tells p p1 p2 taken.still still;
         rest = ap (λ (x : Rank J S T). record x { seat = seat }) taken.rest;
         here = ap (λ (s : Shown). s.here) shown ∙ taken.here;
+        halted = ap (λ (s : Shown). s.halted) shown ∙ taken.halted;
+        knows_halt = ap (λ (s : Shown). s.knows_halt) shown ∙ taken.knows_halt;
         batches = ap (λ (s : Shown). s.batches) shown ∙ taken.batches;
         told = stays_same (LookedFor (shows r1.seat) (Some to)) (tells p1) (tells p2) stays ∙ taken.told;
         asked = asks_more (shows r1.seat) (shows seat) asks count to serves found.1 found.3 room taken.asked;
@@ -80,6 +83,8 @@ module _ {J S T P : Type 0} (log : J → Log) (shows : S → Shown) (tells : P �
     still = λ e. refl;
     rest = refl;
     here = refl;
+    halted = refl;
+    knows_halt = refl;
     batches = refl;
     told = refl;
     asked = asks_none (shows r.seat) asks none;

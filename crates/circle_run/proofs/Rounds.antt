@@ -120,6 +120,7 @@ module _ {J S T P Q : Type 0} (log : J → Log) (shows : S → Shown) (seats : P
           none = old.ready.none;
           mine = mine;
           lost = old.ready.lost;
+          bounded = λ found. (let b = old.ready.bounded found in record { counted = b.counted; most = b.most; halts = b.halts; stops = b.stops });
           sums = record {
             mine = sums_mine;
             number = sums.number;
@@ -200,12 +201,14 @@ module _ {J S T P Q : Type 0} (log : J → Log) (shows : S → Shown) (seats : P
             asks = knows.asks;
             wide = knows.wide;
             idle = knows.idle;
+            waits = knows.waits;
             over = knows.over;
             empty = knows.empty;
           };
           none = old.ready.none;
           mine = old.ready.mine;
           lost = old.ready.lost;
+          bounded = λ found. (let b = old.ready.bounded found in record { counted = b.counted; most = b.most; halts = b.halts; stops = b.stops });
           sums = record {
             mine = sums.mine;
             number = sums.number;

@@ -146,9 +146,9 @@ deed_moves restart q q' queue few = queue
 deed_moves conclude q q' queue few = queue
 deed_moves see_over q q' queue few = queue
 
-handle_reaches : (w : Seen) (t u : Told) (q : ℕ → Strings) (x y : RankSide) (me : ℕ) (path : List ℕ) (kids : Strings) → Shows w t q → q me ≡ x.queue
-    → Handles me path kids (side x t) (side y u) → Reaches w (Handle me path (length kids) ∷ []) u (put q me y.queue)
-handle_reaches w t u q x y me path kids shows here handles =
+handle_reaches : (o : Options) (w : Seen) (t u : Told) (q : ℕ → Strings) (x y : RankSide) (me : ℕ) (path : List ℕ) (kids : Strings) → Shows w t q
+    → q me ≡ x.queue → Handles o me path kids (side x t) (side y u) → Reaches w (Handle me path (length kids) ∷ []) u (put q me y.queue)
+handle_reaches o w t u q x y me path kids shows here handles =
     let inside : me < length w.0 = subst (λ (n : ℕ). me < n) (sym shows.shape.sized) handles.live.0 in
     let newest : q me ≡ handles.rest ++ path ∷ [] = here ∙ handles.newest in
     let same : u ≡ t = some_is u t (ap (λ (s : Side). s.told) handles.after) in
@@ -175,7 +175,7 @@ handle_reaches w t u q x y me path kids shows here handles =
 move_reaches : (o : Options) → o.stop_after ≡ None → (m : Move) (w : Seen) (t u : Told) (q : ℕ → Strings) (x y : RankSide) (me : ℕ) → Quiet t
     → Shows w t q → q me ≡ x.queue
     → Does o me m (side x t) (side y u) → Reaches w (events_of me m) u (put q me y.queue)
-move_reaches o endless (handled path kids) w t u q x y me calm shows here does = handle_reaches w t u q x y me path kids shows here does
+move_reaches o endless (handled path kids) w t u q x y me calm shows here does = handle_reaches o w t u q x y me path kids shows here does
 move_reaches o endless (served answers) w t u q x y me calm shows here does =
     answers_reach answers w t u q me y.queue shows (here ∙ does.oldest)
     (one_stays o.split answers x.queue y.queue x.draws (⊎_elim (λ split. split.0) (λ none. absurd (none.0 endless)) does.shares) does.oldest) does.told

@@ -1,6 +1,6 @@
 -- A service, one answer after the other, and what it comes to.
 use Rattle.std.proofs.Common.{◌≡◌, ℕ, All, zero, suc, ◌+◌, ◌-◌, ◌<◌, ◌≤◌, ◌⊎◌, refl, sym, subst, ap, ◌∙◌, arith, Bool, true, false, List, [], ◌∷◌}
-use Rattle.std.proofs.Common.{◌++◌, map, take, length, length-append, append_assoc, append-nil, get_or, Option, inl}
+use Rattle.std.proofs.Common.{◌++◌, map, take, length, length-append, append_assoc, append-nil, get_or, Option, None, inl, inr, replicate, ◌≢◌}
 use Rattle.std.specs.Prelude.{if◌then◌else◌}
 use Rattle.std.specs.List.{flat_map}
 use Rattle.std.proofs.lemmas.List.{map-append, length-map, length-take-le, get_or-take, get_or-map}
@@ -15,7 +15,7 @@ use Rattle.post_board.specs.Shown.{Strings, Shown, Batches}
 use Rattle.post_board.specs.Told.{Told}
 use Rattle.post_board.specs.Deeds.{Deed, event_of, Tells}
 use Rattle.circle_run.specs.Balance.{Log}
-use Rattle.circle_run.specs.Moves.{Move, served, Side, answer_of, amounts, events_of, AreAskers, TellsAll, batches_after, batches_after_all}
+use Rattle.circle_run.specs.Moves.{Move, served, Side, answer_of, amounts, events_of, AreAskers, IsHalted, IsShared, TellsAll, batches_after, batches_after_all}
 use Rattle.circle_run.specs.Books.{counted}
 use Rattle.circle_run.specs.Ranks.{DoesAll, Knows, side, Went}
 use Rattle.circle_run.specs.Private.Steps.{Came}
@@ -68,9 +68,12 @@ module _ {J S T P : Type 0} (log : J → Log) (shows : S → Shown) (tells : P �
           sums = refl;
           job = refl;
           ended = refl;
+          stopped = refl;
           asked = refl;
           tried = refl;
           here = refl;
+          halted = refl;
+          knows_halt = refl;
           lost = λ l. l;
           awaits = awaits;
         };
@@ -175,9 +178,12 @@ module _ {J S T P : Type 0} (log : J → Log) (shows : S → Shown) (tells : P �
           sums = a.sums ∙ b.sums;
           job = a.job ∙ b.job;
           ended = a.ended ∙ b.ended;
+          stopped = a.stopped ∙ b.stopped;
           asked = a.asked ∙ b.asked;
           tried = a.tried ∙ b.tried;
           here = a.here ∙ b.here;
+          halted = a.halted ∙ b.halted;
+          knows_halt = a.knows_halt ∙ b.knows_halt;
           lost = λ l. a.lost (b.lost l);
           awaits = a.awaits;
         };
@@ -200,6 +206,22 @@ names_of answers asks count n are total below k d h =
 
 served_below : (xs : List Bool) (r : ℕ) → get_or xs r false ≡ true → r < length xs
 served_below xs r e = dite (dec_le (length xs) r) (λ past. absurd (true_not_false (get_or xs r false) e (get_or-eq_default xs false past))) (λ h. omega arith)
+
+no_zero : (n k : ℕ) → ◌≡◌ {A = ℕ} (get_or (replicate n 0) k 0) 0
+no_zero zero k = refl
+no_zero (suc n) zero = refl
+no_zero (suc n) (suc k) = no_zero n k
+
+all_refused : (answers : List (ℕ × Strings)) (n : ℕ) → map (λ (y : ℕ × Strings). length y.1) answers ≡ replicate n 0
+    → All (λ (y : ℕ × Strings). y.1 ≡ []) answers
+all_refused answers n e k d h = nothing_in (get_or answers k d).1
+    (sym (get_or-map (λ (y : ℕ × Strings). length y.1) answers k d 0 h) ∙ ap (λ (xs : List ℕ). get_or xs k 0) e ∙ no_zero n k)
+
+-- what a service shares out: the amounts of the split, or nothing
+pub record Shares (gives : Bool) (o : Options) (told : Option Told) (lot : Lot) (queued count : ℕ) : Type 0 where
+  pub by_split : gives ≡ true → (from : Lcg) → amounts_of lot count from ≡ amounts o.split queued count from
+  pub nothing : gives ≡ false → lot ≡ Same 0
+  pub refuses : gives ≡ false → (o.stop_after ≢ None) × IsHalted told
 
 module _ {J S T P Q : Type 0} (log : J → Log) (plain : J → Q) (shows : S → Shown) (tells : P → Option Told) (seats : P → S → Type 0) where
   -- what was done from one rank on was done from another that is as much
@@ -225,33 +247,52 @@ module _ {J S T P Q : Type 0} (log : J → Log) (plain : J → Q) (shows : S →
             ∙ ap (λ (k : ℕ). counted (flat_map (events_of k) w.moves) r0.book.share) me;
       }
 
-  went_served : (b : Bool) (r : Rank J S T) (p : P) (r1 : Rank J S T) (p1 : P) (asks : List ℕ) (lot lot1 : Lot) (count m : ℕ)
+  went_served : (gives b : Bool) (r : Rank J S T) (p : P) (r1 : Rank J S T) (p1 : P) (asks : List ℕ) (lot lot1 : Lot) (count m : ℕ)
       → (b ≡ false → count ≡ 0) → (b ≡ true → 0 < count) → m ≡ 0 → count ≤ length asks
-      → ((from : Lcg) → amounts_of lot count from ≡ amounts r.options.split (length r.queue) count from)
+      → Shares gives r.options (tells p) lot (length r.queue) count
       → AreAskers r.me (tells p) (take count asks) → ((j : ℕ) → j < count → get_or asks j 0 < r.options.ranks) → r1.job ≡ r.job
-      → SoFar log shows tells seats r p r1 p1 (take count asks) lot lot1 count m → Went log plain shows tells seats (Served b) r p r1 p1
-  went_served b r p r1 p1 asks lot lot1 count m none some done room are askers below job far =
+      → SoFar log shows tells seats r p r1 p1 (take count asks) lot lot1 count m → Went log plain shows tells seats (Served gives b) r p r1 p1
+  went_served gives b r p r1 p1 asks lot lot1 count m none some done room shares askers below job far =
       let total : length far.answers ≡ count = sym (length-map far.answers (λ (y : ℕ × Strings). y.0)) ∙ ap length far.are ∙ length-take-le count asks room in
       let rest : amounts_of lot1 m r1.draws ≡ ([], r1.draws) = ap (λ (i : ℕ). amounts_of lot1 i r1.draws) done ∙ none_more lot1 r1.draws in
-      let all : amounts r.options.split (length r.queue) (length far.answers) r.draws ≡ amounts_of lot count r.draws =
-      ap (λ (i : ℕ). amounts r.options.split (length r.queue) i r.draws) total ∙ sym (are r.draws) in
+      let lengths : List ℕ = map (λ (y : ℕ × Strings). length y.1) far.answers in
+      let lengths_are : lengths ≡ (amounts_of lot count r.draws).0 =
+      sym (append-nil lengths) ∙ ap (λ (x : List ℕ × Lcg). lengths ++ x.0) (sym rest) ∙ sym far.shares in
+      let drawn : r1.draws ≡ (amounts_of lot count r.draws).1 = ap (λ (x : List ℕ × Lcg). x.1) (sym rest) ∙ sym far.drawn in
+      let refused : gives ≡ false → All (λ (y : ℕ × Strings). y.1 ≡ []) far.answers =
+      λ no. all_refused far.answers count (lengths_are ∙ ap (λ (l : Lot). (amounts_of l count r.draws).0) (shares.nothing no)) in
+      let all : gives ≡ true → amounts r.options.split (length r.queue) (length far.answers) r.draws ≡ amounts_of lot count r.draws =
+      λ yes. ap (λ (i : ℕ). amounts r.options.split (length r.queue) i r.draws) total ∙ sym (shares.by_split yes r.draws) in
       let events : flat_map (events_of r.me) (served far.answers ∷ []) ≡ events_of r.me (served far.answers) =
       append-nil (events_of r.me (served far.answers)) in
       record {
         had = far.had;
         moves = served far.answers ∷ [];
-        are = (far.answers, refl, λ e. nothing_in far.answers (total ∙ none e), λ e. (let h = some e in omega (arith, h, total)));
+        are = record {
+          answers = far.answers;
+          are = refl;
+          none = λ e. nothing_in far.answers (total ∙ none e);
+          any = λ e. (let h = some e in omega (arith, h, total));
+          refused = refused;
+        };
         does = (
           side log plain shows tells seats r1 p1,
           record {
             ranks = subst (AreAskers r.me (tells p)) (sym far.are) askers;
             names = names_of far.answers asks count r.options.ranks far.are total below;
-            shares = inl (
-              sym (append-nil (map (λ (y : ℕ × Strings). length y.1) far.answers))
-                  ∙ ap (λ (x : List ℕ × Lcg). map (λ (y : ℕ × Strings). length y.1) far.answers ++ x.0) (sym rest) ∙ sym far.shares
-                  ∙ ap (λ (x : List ℕ × Lcg). x.0) (sym all),
-              ap (λ (x : List ℕ × Lcg). x.1) (sym rest) ∙ sym far.drawn ∙ ap (λ (x : List ℕ × Lcg). x.1) (sym all),
-            );
+            shares = elim gives as
+                (λ (g : Bool). gives ≡ g → IsShared r.options (tells p) far.answers r.queue r.draws r1.draws) [
+                  | true ↦ λ yes. inl (
+                    lengths_are ∙ ap (λ (x : List ℕ × Lcg). x.0) (sym (all yes)),
+                    drawn ∙ ap (λ (x : List ℕ × Lcg). x.1) (sym (all yes)),
+                  )
+                  | false ↦ λ no. inr (
+                    (shares.refuses no).0,
+                    (shares.refuses no).1,
+                    refused no,
+                    drawn ∙ ap (λ (l : Lot). (amounts_of l count r.draws).1) (shares.nothing no),
+                  )
+                ] refl;
             oldest = far.oldest;
             log = ap log job;
             batches = far.batches;
@@ -263,12 +304,12 @@ module _ {J S T P Q : Type 0} (log : J → Log) (plain : J → Q) (shows : S →
         share = far.share ∙ ap (λ (xs : List Event). counted xs r.book.share) (sym events);
       }
 
-  pub came_served : (b : Bool) (r0 : Rank J S T) (p0 : P) (r : Rank J S T) (p : P) (r1 : Rank J S T) (p1 : P) (asks : List ℕ)
+  pub came_served : (gives b : Bool) (r0 : Rank J S T) (p0 : P) (r : Rank J S T) (p : P) (r1 : Rank J S T) (p1 : P) (asks : List ℕ)
       (lot lot1 : Lot) (k count : ℕ) → (b ≡ false → count ≡ 0) → (b ≡ true → 0 < count) → k ≡ count → count ≤ length asks
-      → ((from : Lcg) → amounts_of lot count from ≡ amounts r.options.split (length r.queue) count from) → AreAskers r0.me (tells p) (take count asks)
+      → Shares gives r.options (tells p) lot (length r.queue) count → AreAskers r0.me (tells p) (take count asks)
       → Taken log shows tells seats r0 p0 r p asks count → Serving log shows tells seats r p r1 p1 asks lot lot1 k count
-      → Came log plain shows tells seats (Served b) r0 p0 r1 p1
-  came_served b r0 p0 r p r1 p1 asks lot lot1 k count none some done room are askers taken serving =
+      → Came log plain shows tells seats (Served gives b) r0 p0 r1 p1
+  came_served gives b r0 p0 r p r1 p1 asks lot lot1 k count none some done room shares askers taken serving =
       let on = serving.on in
       let me : r.me ≡ r0.me = ap (λ (x : Rank J S T). x.me) taken.rest in
       let options : r.options ≡ r0.options = ap (λ (x : Rank J S T). x.options) taken.rest in
@@ -286,10 +327,10 @@ module _ {J S T P Q : Type 0} (log : J → Log) (plain : J → Q) (shows : S →
         sums = on.sums ∙ ap (λ (x : Book). x.sums) book;
         facts = ap plain (on.job ∙ job);
         lost = λ l. on.lost (ap (λ (x : Book). x.lost) book ∙ l);
-        went = λ found. went_from (Served b) r0 p0 r p r1 p1 me options book
+        went = λ found. went_from (Served gives b) r0 p0 r p r1 p1 me options book
             (side_as log plain shows tells seats r0 p0 r p (ap (λ (x : Rank J S T). x.queue) taken.rest) (ap log job)
             (ap (λ (x : Rank J S T). x.draws) taken.rest) taken.batches taken.told)
-            (went_served b r p r1 p1 asks lot lot1 count (count - k) none some (omega arith) room are
+            (went_served gives b r p r1 p1 asks lot lot1 count (count - k) none some (omega arith) room shares
             (subst (λ (i : ℕ). AreAskers i (tells p) (take count asks)) (sym me) askers)
             (λ j h. (let w = taken.knows.wide in
             let b = served_below (shows r.seat).serves (get_or asks j 0) (taken.asked.served j (omega arith) h) in omega arith)) on.job

@@ -22,7 +22,15 @@ bare s = record s { batches = None }
 
 does_bare : (o : Options) (me : ℕ) (m : Move) (s s' : Side) → Does o me m s s' → Does o me m (bare s) (bare s')
 does_bare o me (handled path kids) s s' does =
-    record { rest = does.rest; live = does.live; newest = does.newest; unasked = does.unasked; few = does.few; after = ap bare does.after }
+    record {
+      rest = does.rest;
+      live = does.live;
+      may = does.may;
+      newest = does.newest;
+      unasked = does.unasked;
+      few = does.few;
+      after = ap bare does.after;
+    }
 does_bare o me (served answers) s s' does = record {
   ranks = does.ranks;
   names = does.names;
@@ -91,12 +99,12 @@ staged o me (m ∷ turn) from s inside (mid, does, rest) =
 -- one turn more, which is that of the rank w
 pub turns_more : (o : Options) (k : ℕ) (turns : List (List Move)) (turn : List Move) (w : ℕ) (a b c : Stage)
     → (k + length turns) % o.ranks ≡ w → PlaysTurns o k turns a b → HandlesLast turn
-    → Plays o (moves_in w turn) b c → (events_of_all (moves_in w turn) ≡ [] → MayIdle w b.told) → PlaysTurns o k (turns ++ turn ∷ []) a c
+    → Plays o (moves_in w turn) b c → (events_of_all (moves_in w turn) ≡ [] → MayIdle w b.told c.told) → PlaysTurns o k (turns ++ turn ∷ []) a c
 turns_more o k [] turn w a b c own same last plays idle =
     let first : k % o.ranks ≡ w = ap (λ (q : ℕ). q % o.ranks) (let z : k ≡ k + 0 = omega arith in z) ∙ own in
     subst (λ (s : Stage). PlaysTurns o k (turn ∷ []) s c) same
     (subst (λ (q : ℕ). (mid : Stage) × HandlesLast turn × Plays o (moves_in q turn) b mid
-    × (events_of_all (moves_in q turn) ≡ [] → MayIdle q b.told) × (c ≡ mid)) (sym first) (c, last, plays, idle, refl))
+    × (events_of_all (moves_in q turn) ≡ [] → MayIdle q b.told mid.told) × (c ≡ mid)) (sym first) (c, last, plays, idle, refl))
 turns_more o k (t ∷ turns) turn w a b c own (mid, last', plays', idle', rest) last plays idle =
     let next : (suc k + length turns) % o.ranks ≡ w =
     ap (λ (q : ℕ). q % o.ranks) (let z : suc k + length turns ≡ k + suc (length turns) = omega arith in z) ∙ own in

@@ -8,16 +8,18 @@ use Rattle.ring_core.specs.World.{darker}
 use Rattle.ring_core.specs.declared.states.Colour.{Colour}
 use Rattle.ring_core.specs.declared.states.Colour.TheVariants.{Black}
 use Rattle.ring_core.specs.declared.events.Event.{Event}
-use Rattle.post_board.specs.Shown.{Shown, is_served, mixed, token_of, victim_of}
-use Rattle.post_board.specs.Told.{Told, place, asked}
+use Rattle.ring_core.specs.declared.events.Event.TheVariants.{TakeNone}
+use Rattle.rand_pcg.specs.Lcg.{Lcg}
+use Rattle.post_board.specs.Shown.{Strings, Batches, Shown, is_served, mixed, token_of, victim_of}
+use Rattle.post_board.specs.Told.{Told, place, asked, is_stopped}
 use Rattle.circle_run.specs.Turns.{Waits}
 use Rattle.circle_run.specs.Private.Steps.{with_service}
 use Rattle.circle_run.specs.declared.steps.Did.{Did}
-use Rattle.circle_run.specs.declared.steps.Did.TheVariants.{Handled, Acted, Waited}
-use Rattle.post_board.specs.Deeds.{Deed, event_of, Tells, Stays}
+use Rattle.circle_run.specs.declared.steps.Did.TheVariants.{Handled, Acted, Waited, Stopped}
+use Rattle.post_board.specs.Deeds.{Deed, event_of, Tells, Stays, Late, withdraw, TellsLate}
 use Rattle.post_board.specs.Calls.{AgreesIfTold}
 use Rattle.circle_run.specs.Balance.{Log}
-use Rattle.circle_run.specs.Moves.{Move, handled, did, Side, DoesDeed, events_of, IsLive, NobodyAsks}
+use Rattle.circle_run.specs.Moves.{Move, handled, did, noted, Side, DoesDeed, MayNote, MayHandle, noted_of, events_of, IsLive, NobodyAsks}
 use Rattle.circle_run.specs.Books.{counted, counted_one}
 use Rattle.circle_run.specs.Private.Books.{Writes}
 use Rattle.circle_run.specs.Ranks.{DoesAll, Knows, ServesNone, side, Went}
@@ -25,6 +27,9 @@ use Rattle.circle_run.specs.Private.Steps.{Came, HandledNewest}
 use Rattle.circle_run.specs.declared.settings.Options.{Options}
 use Rattle.circle_run.specs.declared.outcomes.Share.{Share}
 use Rattle.circle_run.specs.declared.ranks.Rank.{Rank}
+
+abbrev made : Strings → Log → Lcg → Option Batches → Option Told → Side
+made queue log draws batches told = record { queue = queue; log = log; draws = draws; batches = batches; told = told }
 
 pub does_then : (o : Options) (me : ℕ) (xs ys : List Move) (a b c : Side) → DoesAll o me xs a b → DoesAll o me ys b c → DoesAll o me (xs ++ ys) a c
 does_then o me [] ys a b c first second = subst (λ (s : Side). DoesAll o me ys s c) first second
@@ -51,6 +56,9 @@ victim_is s v e = ap (λ (o : Option ℕ). elim o [ None ↦ 0 | Some z ↦ z ])
 pub tells_as : (a b : ℕ) (c d : Deed) (t t' : Option Told) → a ≡ b → c ≡ d → Tells a c t t' → Tells b d t t'
 tells_as a b c d t t' e f told = subst (λ (x : Deed). Tells b x t t') f (subst (λ (x : ℕ). Tells x c t t') e told)
 
+pub late_as : (a b : ℕ) (c d : Late) (t t' : Option Told) → a ≡ b → c ≡ d → TellsLate a c t t' → TellsLate b d t t'
+late_as a b c d t t' e f told = subst (λ (x : Late). TellsLate b x t t') f (subst (λ (x : ℕ). TellsLate x c t t') e told)
+
 pub stays_same : (F : Told → Type 0) (a b : Option Told) → Stays F a b → b ≡ a
 stays_same F None b e = e
 stays_same F (Some t) b e = e.1
@@ -60,9 +68,9 @@ live_told None s me agrees number live = tt
 live_told (Some t) s me agrees number live = subst (λ (k : ℕ). IsLive k (Some t)) number (agrees.within, agrees.ended ∙ live)
 
 -- where the rank that was asked has not answered, the own mailbox says so
-pub waiting_told : (a b v : ℕ) (t t' : Option Told) → a ≡ b → Stays (λ x. (place x a).mail ≡ asked v) t t' → Waits b t'
+pub waiting_told : (a b v : ℕ) (t t' : Option Told) → a ≡ b → Stays (λ x. ((place x a).mail ≡ asked v) × (is_stopped x v ≡ false)) t t' → Waits b t'
 waiting_told a b v None t' e stays = subst (Waits b) (sym stays) tt
-waiting_told a b v (Some t) t' e stays = subst (Waits b) (sym stays.1) (v, subst (λ (k : ℕ). (place t k).mail ≡ asked v) e stays.0)
+waiting_told a b v (Some t) t' e stays = subst (Waits b) (sym stays.1) (v, subst (λ (k : ℕ). (place t k).mail ≡ asked v) e stays.0.0)
 
 -- of two steps neither of which changes a board that tells nothing
 pub still_then : {P X : Type 0} (tells : P → Option X) (p p1 p2 : P) → (tells p ≡ None → p1 ≡ p) → (tells p1 ≡ None → p2 ≡ p1) → tells p ≡ None → p2 ≡ p
@@ -165,6 +173,16 @@ module _ {J S T P Q : Type 0} (log : J → Log) (plain : J → Q) (shows : S →
       → side log plain shows tells seats r1 p1 ≡ side log plain shows tells seats r p
   side_as r p r1 p1 queue logs draws batches told = cc
 
+  -- nothing changes but what is told
+  side_told : (r : Rank J S T) (p : P) (r1 : Rank J S T) (p1 : P) → r1.queue ≡ r.queue → log r1.job ≡ log r.job → r1.draws ≡ r.draws
+      → (shows r1.seat).batches ≡ (shows r.seat).batches
+      → side log plain shows tells seats r1 p1 ≡ record (side log plain shows tells seats r p) { told = tells p1 }
+  side_told r p r1 p1 queue logs draws batches =
+      ap (λ (q : Strings). made q (log r1.job) r1.draws (shows r1.seat).batches (tells p1)) queue
+      ∙ ap (λ (l : Log). made r.queue l r1.draws (shows r1.seat).batches (tells p1)) logs
+      ∙ ap (λ (d : Lcg). made r.queue (log r.job) d (shows r1.seat).batches (tells p1)) draws
+      ∙ ap (λ (b : Option Batches). made r.queue (log r.job) r.draws b (tells p1)) batches
+
   -- one deed was done and noted
   pub went_did : (A : List Move → Type 0) (r : Rank J S T) (p : P) (r1 : Rank J S T) (p1 : P) (d : Deed) → A (did d ∷ [])
       → Writes r.options.trace (event_of r.me d ∷ []) r.book r1.book
@@ -179,11 +197,53 @@ module _ {J S T P Q : Type 0} (log : J → Log) (plain : J → Q) (shows : S →
     share = writes.share found;
   }
 
+  -- a request was taken back and noted
+  pub went_withdrew : (A : List Move → Type 0) (r : Rank J S T) (p : P) (r1 : Rank J S T) (p1 : P) (from : ℕ) → A (noted (withdraw from) ∷ [])
+      → Writes r.options.trace (TakeNone r.me from ∷ []) r.book r1.book
+      → from < r.options.ranks → TellsLate r.me (withdraw from) (tells p) (tells p1) → r1.queue ≡ r.queue → log r1.job ≡ log r.job
+      → r1.draws ≡ r.draws → (shows r1.seat).batches ≡ (shows r.seat).batches → r1.book.lost ≡ false
+      → Went log plain shows tells seats A r p r1 p1
+  went_withdrew A r p r1 p1 from a writes inside told queue logs draws batches found = record {
+    had = writes.had found;
+    moves = noted (withdraw from) ∷ [];
+    are = a;
+    does = (
+      side log plain shows tells seats r1 p1,
+      record { may = inside; told = told; after = side_told r p r1 p1 queue logs draws batches },
+      refl,
+    );
+    kept = writes.kept found;
+    share = writes.share found;
+  }
+
+  -- what is no event was done
+  pub went_silent : (A : List Move → Type 0) (r : Rank J S T) (p : P) (r1 : Rank J S T) (p1 : P) (late : Late) → A (noted late ∷ [])
+      → noted_of r.me late ≡ [] → r1.book ≡ r.book
+      → MayNote r.options late (side log plain shows tells seats r p) → TellsLate r.me late (tells p) (tells p1) → r1.queue ≡ r.queue
+      → log r1.job ≡ log r.job → r1.draws ≡ r.draws → (shows r1.seat).batches ≡ (shows r.seat).batches → r1.book.lost ≡ false
+      → Went log plain shows tells seats A r p r1 p1
+  went_silent A r p r1 p1 late a silent book may told queue logs draws batches found =
+      let none : flat_map (events_of r.me) (noted late ∷ []) ≡ [] = append-nil (noted_of r.me late) ∙ silent in
+      record {
+        had = sym (ap (λ (b : _). b.lost) book) ∙ found;
+        moves = noted late ∷ [];
+        are = a;
+        does = (
+          side log plain shows tells seats r1 p1,
+          record { may = may; told = told; after = side_told r p r1 p1 queue logs draws batches },
+          refl,
+        );
+        kept = ap (λ (b : _). b.events.items) book ∙ kept_none r.options.trace r.book.events.items
+            ∙ ap (λ (es : List Event). r.book.events.items ++ (if r.options.trace then es else [])) (sym none);
+        share = ap (λ (b : _). b.share) book ∙ ap (λ (es : List Event). counted es r.book.share) (sym none);
+      }
+
   -- the newest string was handled
   pub went_handled : (A : List Move → Type 0) (r : Rank J S T) (p : P) (r1 : Rank J S T)
-      → ((path : List ℕ) (kids : List (List ℕ)) → A (handled path kids ∷ [])) → IsLive r.me (tells p) → NobodyAsks r.me (tells p)
+      → ((path : List ℕ) (kids : List (List ℕ)) → A (handled path kids ∷ []))
+      → (r.book.lost ≡ false → MayHandle r.options (length (log r.job))) → IsLive r.me (tells p) → NobodyAsks r.me (tells p)
       → HandledNewest log plain r r1 → r1.book.lost ≡ false → Went log plain shows tells seats A r p r1 p
-  went_handled A r p r1 a live unasked newest found =
+  went_handled A r p r1 a may live unasked newest found =
       let n = newest.done found in
       record {
         had = n.writes.had found;
@@ -194,6 +254,7 @@ module _ {J S T P Q : Type 0} (log : J → Log) (plain : J → Q) (shows : S →
           record {
             rest = n.rest;
             live = live;
+            may = may (n.writes.had found);
             newest = n.newest;
             unasked = unasked;
             few = n.few;
@@ -222,21 +283,24 @@ module _ {J S T P Q : Type 0} (log : J → Log) (plain : J → Q) (shows : S →
         tried = ap (λ (s : Shown). s.tried) shown ∙ k.tried ∙ sym (ap (λ (x : Rank J S T). x.tried) newest.same);
         asked = ap (λ (s : Shown). s.asked) shown ∙ k.asked ∙ sym (ap (λ (x : Rank J S T). x.asked) newest.same);
         ended = ap (λ (s : Shown). s.ended) shown ∙ k.ended ∙ sym (ap (λ (x : Rank J S T). x.ended) newest.same);
-        stopped = ap (λ (s : Shown). s.stopped) shown ∙ k.stopped;
+        stopped = ap (λ (s : Shown). s.stopped) shown ∙ k.stopped ∙ sym (ap (λ (x : Rank J S T). x.stopped) newest.same);
         inside = (let i = k.inside in omega (arith, i, me, ranks));
         few = (let f = k.few in omega (arith, f, ranks));
         asks = λ v e. (let f = k.asks v (sym (ap (λ (x : Rank J S T). x.asked) newest.same) ∙ e) in omega (arith, f, ranks));
         wide = ap (λ (s : Shown). length s.serves) shown ∙ k.wide ∙ sym ranks;
         idle = λ e. absurd (let q = k.idle (sym (ap (λ (s : Shown). s.busy) shown) ∙ e) in let n : length r.queue ≡ 0 = ap length q in omega (arith, some));
+        waits = λ v e. absurd (let q = k.waits v (sym (ap (λ (x : Rank J S T). x.asked) newest.same) ∙ e) in let n : length r.queue ≡ 0 = ap length q in
+            omega (arith, some));
         over = λ e. (let f : true ≡ false = sym e ∙ ap (λ (x : Rank J S T). x.ended) newest.same ∙ live in cc);
         empty = newest.empty;
       }
 
   pub came_handled : (A : List Move → Type 0) (r : Rank J S T) (p : P) (r1 : Rank J S T)
-      → ((path : List ℕ) (kids : List (List ℕ)) → A (handled path kids ∷ [])) → Knows shows r → seats p r.seat → ServesNone shows r
+      → ((path : List ℕ) (kids : List (List ℕ)) → A (handled path kids ∷ []))
+      → (r.book.lost ≡ false → MayHandle r.options (length (log r.job))) → Knows shows r → seats p r.seat → ServesNone shows r
       → r.ended ≡ false → 0 < length r.queue → AgreesIfTold (tells p) (shows r.seat) → NobodyAsks r.me (tells p)
       → HandledNewest log plain r r1 → Came log plain shows tells seats A r p r1 p
-  came_handled A r p r1 a k mine none live some agrees unasked newest =
+  came_handled A r p r1 a may k mine none live some agrees unasked newest =
       let seat : r1.seat ≡ r.seat = ap (λ (x : Rank J S T). x.seat) newest.same in
       record {
         knows = knows_handled r r1 k live some newest;
@@ -250,7 +314,7 @@ module _ {J S T P Q : Type 0} (log : J → Log) (plain : J → Q) (shows : S →
         sums = newest.sums;
         facts = newest.facts;
         lost = newest.lost;
-        went = went_handled A r p r1 a (live_told (tells p) (shows r.seat) r.me agrees k.number (k.ended ∙ live)) unasked newest;
+        went = went_handled A r p r1 a may (live_told (tells p) (shows r.seat) r.me agrees k.number (k.ended ∙ live)) unasked newest;
       }
 
   -- a rank that found no memory has dropped its strings
@@ -276,6 +340,7 @@ module _ {J S T P Q : Type 0} (log : J → Log) (plain : J → Q) (shows : S →
           asks = k.asks;
           wide = k.wide;
           idle = λ e. none (k.idle e);
+          waits = λ v e. none (k.waits v e);
           over = λ e. none (k.over e);
           empty = k.empty;
         };
@@ -304,6 +369,7 @@ module _ {J S T P Q : Type 0} (log : J → Log) (plain : J → Q) (shows : S →
 pub waited_alone : (some : Bool) (done : Did) → with_service some done ≡ Waited → done ≡ Waited
 waited_alone some Handled e = e
 waited_alone some Acted e = e
+waited_alone some Stopped e = e
 waited_alone true Waited e = refl
 waited_alone false Waited e = refl
 
@@ -314,9 +380,27 @@ abbrev is_handled : Did → Bool
 is_handled Handled = true
 is_handled Acted = false
 is_handled Waited = false
+is_handled Stopped = false
 
 pub handled_before : (some : Bool) (done : Did) → with_service some done ≡ Handled → done ≡ Handled
 handled_before some Handled e = refl
 handled_before some Acted e = e
+handled_before some Stopped e = e
 handled_before true Waited e = (let f : false ≡ true = ap is_handled e in cc)
 handled_before false Waited e = e
+
+abbrev is_stop : Did → Bool
+is_stop Handled = false
+is_stop Acted = false
+is_stop Waited = false
+is_stop Stopped = true
+
+pub stopped_before : (some : Bool) (done : Did) → with_service some done ≡ Stopped → done ≡ Stopped
+stopped_before some Handled e = e
+stopped_before some Acted e = e
+stopped_before some Stopped e = refl
+stopped_before true Waited e = (let f : false ≡ true = ap is_stop e in cc)
+stopped_before false Waited e = e
+
+pub stopped_still : (some : Bool) (done : Did) → done ≡ Stopped → with_service some done ≡ Stopped
+stopped_still some done e = ap (with_service some) e

@@ -2,6 +2,8 @@
 use Rattle.std.proofs.Common.{◌≡◌, ℕ, zero, suc, ◌+◌, ◌<◌, ◌≤◌, refl, sym, subst, ap, ◌∙◌, arith, Bool, true, false, List, [], ◌∷◌, map, length}
 use Rattle.std.proofs.Common.{length-append, length-set, set, get_or, get_or-set_same, get_or-set_other, replicate, Option, Some, None}
 use Rattle.std.specs.List.{range_with_len}
+use Rattle.std.specs.Prelude.{IfSome}
+use Rattle.rank_queue.specs.Shares.{generator_of}
 use Rattle.std.proofs.lemmas.List.{length-replicate, get_or_past, length-map}
 use Rattle.std.proofs.lemmas.List.FromFn.{length-range_with_len}
 use mathlib.Core.Logic.{dite}
@@ -10,8 +12,8 @@ use Rattle.post_board.specs.Shown.{Strings}
 use Rattle.post_board.specs.Told.{Told, is_stopped}
 use Rattle.post_board.specs.Deeds.{Deed, ask, give, refuse, take, take_none, pass, restart, conclude, see_over, told_after}
 use Rattle.post_board.specs.Deeds.{Late, withdraw, halt, stop, told_late}
-use Rattle.circle_run.specs.Moves.{Move, handled, served, did, noted, Side, answer_of, TellsAll, Does}
-use Rattle.circle_run.specs.Stages.{RankSide, Stage, no_side, rank_side, side, Plays, new_place, begun}
+use Rattle.circle_run.specs.Moves.{Move, handled, served, did, noted, Side, answer_of, IsHalted, TellsAll, MayHandle, Does}
+use Rattle.circle_run.specs.Stages.{RankSide, Stage, no_side, rank_side, side, Plays, dealt_to, new_place, begun}
 use Rattle.circle_run.specs.Stops.{Halts, MovesHalt}
 use Rattle.circle_run.specs.declared.settings.Options.{Options}
 use Rattle.circle_run.proofs.Deeds.{some_is}
@@ -39,6 +41,13 @@ all_words (d ∷ deeds) me t u (mid, (legal, same), rest) =
     let later = all_words deeds me (told_after me d t) u (subst (λ (m : Option Told). TellsAll me deeds m (Some u)) same rest) in
     (later.0 ∙ now.0, later.1 ∙ now.1)
 
+-- where all are to halt, they are after deeds
+pub halted_on : (deeds : List Deed) (me : ℕ) (a b : Option Told) → TellsAll me deeds a b → IsHalted a → IsHalted b
+halted_on [] me a b same halted = subst IsHalted (sym same) halted
+halted_on (d ∷ deeds) me None b (mid, none, rest) halted = halted_on deeds me mid b rest (subst IsHalted (sym none) tt)
+halted_on (d ∷ deeds) me (Some t) b (mid, (legal, same), rest) halted =
+    halted_on deeds me mid b rest (subst IsHalted (sym same) ((deed_words me d t).0 ∙ halted))
+
 -- the stage after a move
 abbrev next : Stage → ℕ → RankSide → Told → Stage
 next stage me x t = record { ranks = set stage.ranks me x; told = t }
@@ -59,13 +68,26 @@ longer : (stage : Stage) (me : ℕ) (x : RankSide) (t : Told) (r k : ℕ) → le
 longer stage me x t r k more old = which (λ (y : RankSide). k ≤ length y.log) stage me x t r
     (λ e. (let was : k ≤ length (rank_side stage me).log = subst (λ (j : ℕ). k ≤ length (rank_side stage j).log) e old in omega arith)) old
 
+-- the log of a rank is no longer than its number of strings
+abbrev Within : Options → RankSide → Type 0
+Within o x = (k : ℕ) → o.stop_after ≡ Some k → length x.log ≤ k
+
+-- so no log is
+most_more : (o : Options) (stage : Stage) (me : ℕ) (x : RankSide) (t : Told) → Within o x → Halts o stage → (r : ℕ)
+    → Within o (rank_side (next stage me x t) r)
+most_more o stage me x t within old r k e = which (λ (y : RankSide). length y.log ≤ k) stage me x t r (λ same. within k e) (old.most r k e)
+
+within_same : (o : Options) (stage : Stage) (me : ℕ) (x : RankSide) → x.log ≡ (rank_side stage me).log → Halts o stage → Within o x
+within_same o stage me x same old k e = (let a = ap length same in let b = old.most me k e in omega arith)
+
 -- a move that leaves the words
 calm : (o : Options) (stage : Stage) (me : ℕ) (x : RankSide) (t : Told) → length t.places ≡ length stage.told.places
-    → length (rank_side stage me).log ≤ length x.log → Words stage.told t → Halts o stage → Halts o (next stage me x t)
-calm o stage me x t places more words old =
+    → length (rank_side stage me).log ≤ length x.log → Within o x → Words stage.told t → Halts o stage → Halts o (next stage me x t)
+calm o stage me x t places more within words old =
     let size = length-set stage.ranks me x in
     record {
       many = size ∙ old.many ∙ sym places;
+      most = most_more o stage me x t within old;
       cause = λ h. (let c = old.cause (sym words.0 ∙ h) in
           (c.0, c.1, c.2, subst (λ (n : ℕ). c.1 < n) (sym size) c.3, longer stage me x t c.1 c.0 more c.4));
       stops = λ r e. words.0 ∙ old.stops r (ap (λ (xs : List Bool). get_or xs r false) (sym words.1) ∙ e);
@@ -74,25 +96,32 @@ calm o stage me x t places more words old =
 same_log : (a b : RankSide) → b.log ≡ a.log → length a.log ≤ length b.log
 same_log a b e = let l = ap length e in omega arith
 
+may_handle : (o : Options) (count k : ℕ) → o.stop_after ≡ Some k → MayHandle o count → count < k
+may_handle o count k e may = (let P : Option ℕ → Type 0 = λ s. IfSome s (λ j. count < j) in subst P e may)
+
 pub halt_step : (o : Options) (stage : Stage) (me : ℕ) (m : Move) (x : RankSide) (t : Told) → Does o me m (side (rank_side stage me) stage.told) (side x t)
     → Halts o stage → Halts o (next stage me x t)
 halt_step o stage me (handled path kids) x t does old =
     let m = moved o me (handled path kids) (rank_side stage me) x stage.told t does in
     let e : t ≡ stage.told = some_is t stage.told (ap (λ (s : Side). s.told) does.after) in
     let more : length x.log ≡ length (rank_side stage me).log + 1 = ap length m.log ∙ length-append (rank_side stage me).log ((path, kids) ∷ []) in
-    calm o stage me x t m.places (omega arith) (ap (λ (v : Told). v.halt) e, ap (λ (v : Told). v.stops) e) old
+    let within : Within o x = λ k q. (let h = may_handle o (length (rank_side stage me).log) k q does.may in omega arith) in
+    calm o stage me x t m.places (omega arith) within (ap (λ (v : Told). v.halt) e, ap (λ (v : Told). v.stops) e) old
 halt_step o stage me (served answers) x t does old =
     calm o stage me x t (moved o me (served answers) (rank_side stage me) x stage.told t does).places (same_log (rank_side stage me) x does.log)
+    (within_same o stage me x does.log old)
     (all_words (map answer_of answers) me stage.told t does.told) old
 halt_step o stage me (did d) x t does old =
     let e : t ≡ told_after me d stage.told = some_is t (told_after me d stage.told) does.told.1 in
     let words = deed_words me d stage.told in
     calm o stage me x t (moved o me (did d) (rank_side stage me) x stage.told t does).places (same_log (rank_side stage me) x does.log)
+    (within_same o stage me x does.log old)
     (ap (λ (v : Told). v.halt) e ∙ words.0, ap (λ (v : Told). v.stops) e ∙ words.1) old
 halt_step o stage me (noted (withdraw from)) x t does old =
     let e : t ≡ told_late me (withdraw from) stage.told = some_is t (told_late me (withdraw from) stage.told) does.told.1 in
     calm o stage me x t (moved o me (noted (withdraw from)) (rank_side stage me) x stage.told t does).places
-    (same_log (rank_side stage me) x (ap (λ (s : Side). s.log) does.after)) (ap (λ (v : Told). v.halt) e, ap (λ (v : Told). v.stops) e) old
+    (same_log (rank_side stage me) x (ap (λ (s : Side). s.log) does.after))
+    (within_same o stage me x (ap (λ (s : Side). s.log) does.after) old) (ap (λ (v : Told). v.halt) e, ap (λ (v : Told). v.stops) e) old
 halt_step o stage me (noted halt) x t does old =
     let m = moved o me (noted halt) (rank_side stage me) x stage.told t does in
     let e : t ≡ told_late me halt stage.told = some_is t (told_late me halt stage.told) does.told.1 in
@@ -101,6 +130,7 @@ halt_step o stage me (noted halt) x t does old =
     let log = same_log (rank_side stage me) x (ap (λ (s : Side). s.log) does.after) in
     record {
       many = size ∙ old.many ∙ sym m.places;
+      most = most_more o stage me x t (within_same o stage me x (ap (λ (s : Side). s.log) does.after) old) old;
       cause = λ h. (
         length (rank_side stage me).log,
         me,
@@ -117,6 +147,7 @@ halt_step o stage me (noted stop) x t does old =
     let size = length-set stage.ranks me x in
     record {
       many = size ∙ old.many ∙ sym m.places;
+      most = most_more o stage me x t (within_same o stage me x (ap (λ (s : Side). s.log) does.after) old) old;
       cause = λ h. (let c = old.cause does.may in
           (c.0, c.1, c.2, subst (λ (n : ℕ). c.1 < n) (sym size) c.3, longer stage me x t c.1 c.0 log c.4));
       stops = λ r q. ap (λ (v : Told). v.halt) e ∙ does.may;
@@ -131,9 +162,16 @@ no_stop zero r = refl
 no_stop (suc n) zero = refl
 no_stop (suc n) (suc r) = no_stop n r
 
+logs_begun : (o : Options) (starts : Strings) (xs : List ℕ) (r : ℕ)
+    → (get_or (map (λ (k : ℕ). record { queue = dealt_to o.ranks starts k; log = []; draws = generator_of o.seed k }) xs) r no_side).log ≡ []
+logs_begun o starts [] r = refl
+logs_begun o starts (x ∷ xs) zero = refl
+logs_begun o starts (x ∷ xs) (suc r) = logs_begun o starts xs r
+
 pub begun_halts : (o : Options) (starts : Strings) → Halts o (begun o starts)
 begun_halts o starts = record {
   many = length-map (range_with_len 0 o.ranks) _ ∙ length-range_with_len 0 o.ranks ∙ sym (length-replicate o.ranks new_place);
+  most = λ r k e. (let l = ap length (logs_begun o starts (range_with_len 0 o.ranks) r) in omega arith);
   cause = λ e. cc;
   stops = λ r e. (let f : false ≡ true = sym (no_stop o.ranks r) ∙ e in cc);
 }

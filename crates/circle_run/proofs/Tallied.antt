@@ -1,21 +1,22 @@
 -- What a rank counts and keeps of progress, turn by turn.
-use Rattle.std.proofs.Common.{◌≡◌, ◌≢◌, ℕ, ◌+◌, ◌<◌, ◌≤◌, refl, sym, subst, inl, inr, ap, ◌∙◌, arith, Bool, true, false, List, [], ◌∷◌, ◌++◌, Option, None}
+use Rattle.std.proofs.Common.{◌≡◌, ◌≢◌, ℕ, ◌+◌, ◌<◌, ◌≤◌, refl, sym, subst, ap, ◌∙◌, arith, Bool, true, false, List, [], ◌∷◌, ◌++◌}
+use Rattle.std.proofs.Common.{length, Option, None}
 use mathlib.Core.Logic.{dite}
 use native.Mathlib.Decide.{dec_le}
-use Rattle.post_board.specs.Shown.{Shown}
+use Rattle.post_board.specs.Shown.{Shown, is_served}
 use Rattle.post_board.specs.Told.{Told}
 use Rattle.sum_tree.specs.Shown.{SumShown, IsLeaf}
 use Rattle.circle_run.specs.Balance.{Log}
-use Rattle.circle_run.specs.Moves.{Move}
 use Rattle.circle_run.specs.Progress.{Rises, Thousands, newest, Keeps, KeptOf, Progress, Counts}
 use Rattle.circle_run.specs.Ranks.{DoesAll, side}
 use Rattle.circle_run.specs.Private.Steps.{Came}
-use Rattle.circle_run.specs.Ready.{SumsReady, Turned}
-use Rattle.circle_run.specs.Turns.{Worked, IsTurn}
+use Rattle.circle_run.specs.Ready.{Ready, SumsReady, Turned}
+use Rattle.circle_run.specs.Turns.{IsTurn}
+use Rattle.circle_run.specs.Choices.{is_done}
 use Rattle.circle_run.specs.Private.Steps.{turn_of, tallied}
 use Rattle.circle_run.specs.Private.Steps.{Works}
 use Rattle.circle_run.specs.declared.steps.Did.{Did}
-use Rattle.circle_run.specs.declared.steps.Did.TheVariants.{Handled, Acted, Waited}
+use Rattle.circle_run.specs.declared.steps.Did.TheVariants.{Handled, Acted, Waited, Stopped}
 use Rattle.circle_run.specs.declared.books.Book.{Book}
 use Rattle.circle_run.specs.declared.settings.Options.{Options}
 use Rattle.circle_run.specs.declared.ranks.Turn.{Turn}
@@ -23,6 +24,7 @@ use Rattle.circle_run.specs.declared.ranks.Rank.{Rank}
 use Rattle.circle_run.proofs.Numbers.{newest_push, rises_push, thousands_push}
 use Rattle.circle_run.proofs.Asked.{not_true, true_not_false}
 use Rattle.circle_run.proofs.Stepped.{kept_none, side_as}
+use Rattle.circle_run.proofs.Bounding.{bounded_as}
 use Rattle.circle_run.proofs.Choosing.{chooses_as}
 
 -- a word that rose is kept where it is far enough above the last number
@@ -104,24 +106,17 @@ module _ {J S T Q : Type 0} (shows : T → SumShown) (seats : Q → T → Type 0
             (λ z. keeps z found) (λ z. passes z found) (λ ne. ap (λ (b : Book). b.sums.items) (rest ne)));
       }
 
-by_did : (done : Did) (moves : List Move) → Worked done moves → IsTurn false (turn_of done) moves
-by_did Handled moves w = inl w
-by_did Acted moves w = inr w
-by_did Waited moves w = w
-
 pub none_tallied : (done : Did) (strings : ℕ) → done ≢ Handled → tallied done strings ≡ strings
 none_tallied Handled strings ne = absurd (ne refl)
 none_tallied Acted strings ne = refl
 none_tallied Waited strings ne = refl
-
-as_turn : (ended : Bool) (done : Did) (moves : List Move) → ended ≡ false → Worked done moves → IsTurn ended (turn_of done) moves
-as_turn ended done moves live w = subst (λ (b : Bool). IsTurn b (turn_of done) moves) (sym live) (by_did done moves w)
+none_tallied Stopped strings ne = refl
 
 module _ {J S T P D : Type 0} (log : J → Log) (heard : J → Option (List ℕ)) (plain : J → D) (shows : S → Shown) (tells : P → Option Told)
     (seats : P → S → Type 0) where
-  -- a turn before the end
+  -- a turn before the rank is done
   pub turned : (done : Did) (turn : Turn) (r : Rank J S T) (p : P) (r1 : Rank J S T) (p1 : P) (r2 : Rank J S T) (queue : List (List ℕ))
-      → turn ≡ turn_of done → r.ended ≡ false → Came log plain shows tells seats (Works heard shows tells done r p r1) r p r1 p1
+      → turn ≡ turn_of done → is_done r ≡ false → Came log plain shows tells seats (Works heard shows tells done r p r1) r p r1 p1
       → r2 ≡ record r1 { sums_seat = r2.sums_seat; book = r2.book } → r2.book ≡ record r1.book { sums = r2.book.sums; lost = r2.book.lost }
       → (r1.book.lost ≡ true → r2.book.lost ≡ true) → (r2.book.lost ≡ false → queue ≡ r2.queue)
       → Turned log heard plain shows tells seats turn r p (record r2 { queue = queue }) p1
@@ -143,7 +138,8 @@ module _ {J S T P D : Type 0} (log : J → Log) (heard : J → Option (List ℕ)
               had = w.had;
               moves = w.moves;
               are = record {
-                kind = subst (λ (t : Turn). IsTurn r.ended t w.moves) (sym is) (as_turn r.ended done w.moves live w.are.worked);
+                kind = subst (λ (t : Turn). IsTurn (is_done r) t w.moves) (sym is)
+                    (subst (λ (b : Bool). IsTurn b (turn_of done) w.moves) (sym live) w.are.kind);
                 chosen = λ going.
                     chooses_as log heard plain shows tells seats r p r1 (record r2 { queue = queue }) w.moves s
                     (ap (λ (x : Rank J S T). x.ended) same) j w.are.chosen;
@@ -154,11 +150,12 @@ module _ {J S T P D : Type 0} (log : J → Log) (heard : J → Option (List ℕ)
             };
       }
 
-  -- a turn after the end
-  pub turned_after : (turn : Turn) (r : Rank J S T) (p : P) (r' : Rank J S T) → r.ended ≡ true → r' ≡ record r { sums_seat = r'.sums_seat; book = r'.book }
+  -- a turn after that
+  pub turned_after : (turn : Turn) (r : Rank J S T) (p : P) (r' : Rank J S T) (queue : List (List ℕ)) → is_done r ≡ true
+      → r' ≡ record r { sums_seat = r'.sums_seat; book = r'.book }
       → r'.book ≡ record r.book { sums = r'.book.sums; lost = r'.book.lost } → (r.book.lost ≡ true → r'.book.lost ≡ true)
-      → Turned log heard plain shows tells seats turn r p r' p
-  turned_after turn r p r' ended same book lost =
+      → (r'.book.lost ≡ false → queue ≡ r'.queue) → Turned log heard plain shows tells seats turn r p (record r' { queue = queue }) p
+  turned_after turn r p r' queue ended same book lost kept =
       let job : r'.job ≡ r.job = ap (λ (x : Rank J S T). x.job) same in
       let seat : r'.seat ≡ r.seat = ap (λ (x : Rank J S T). x.seat) same in
       record {
@@ -172,11 +169,63 @@ module _ {J S T P D : Type 0} (log : J → Log) (heard : J → Option (List ℕ)
           moves = [];
           are = record {
             kind = subst (λ (b : Bool). IsTurn b turn []) (sym ended) refl;
-            chosen = λ going. absurd (true_not_false r.ended ended going);
+            chosen = λ going. absurd (true_not_false (is_done r) ended going);
           };
-          does = side_as log plain shows tells seats r p r' p (ap (λ (x : Rank J S T). x.queue) same) (ap log job) (ap (λ (x : Rank J S T). x.draws) same)
+          does = side_as log plain shows tells seats r p (record r' { queue = queue }) p
+              (kept found ∙ ap (λ (x : Rank J S T). x.queue) same) (ap log job) (ap (λ (x : Rank J S T). x.draws) same)
               (ap (λ (s : S). (shows s).batches) seat) refl;
           kept = ap (λ (b : Book). b.events.items) book ∙ kept_none r.options.trace r.book.events.items;
           share = ap (λ (b : Book). b.share) book;
         };
+      }
+
+module _ {J S T P Q : Type 0} (log : J → Log) (shows : S → Shown) (seats : P → S → Type 0) (sums_shows : T → SumShown) (sums_seats : Q → T → Type 0) where
+  -- a rank that is done, after a turn
+  pub ready_after : (r : Rank J S T) (p : P) (q : Q) (r' : Rank J S T) (q' : Q) (queue : List (List ℕ))
+      → r' ≡ record r { sums_seat = r'.sums_seat; book = r'.book } → r'.book.share ≡ r.book.share → (r.book.lost ≡ true → r'.book.lost ≡ true)
+      → (r'.book.lost ≡ true → queue ≡ []) → (r'.book.lost ≡ false → queue ≡ r'.queue)
+      → SumsReady sums_shows sums_seats (length (log r.job)) r' q' → Ready log shows seats sums_shows sums_seats r p q
+      → Ready log shows seats sums_shows sums_seats (record r' { queue = queue }) p q'
+  ready_after r p q r' q' queue same share lost none kept sums old =
+      let k = old.knows in
+      let seat : r'.seat ≡ r.seat = ap (λ (x : Rank J S T). x.seat) same in
+      let me : r'.me ≡ r.me = ap (λ (x : Rank J S T). x.me) same in
+      let options : r'.options ≡ r.options = ap (λ (x : Rank J S T). x.options) same in
+      let job : r'.job ≡ r.job = ap (λ (x : Rank J S T). x.job) same in
+      let ranks : r'.options.ranks ≡ r.options.ranks = ap (λ (o : Options). o.ranks) options in
+      let empty : r.queue ≡ [] → queue ≡ [] = λ e. elim r'.book.lost as (λ (b : Bool). r'.book.lost ≡ b → queue ≡ [])
+      [ true ↦ λ l. none l | false ↦ λ found. kept found ∙ ap (λ (x : Rank J S T). x.queue) same ∙ e ] refl in
+      let now : Rank J S T = record r' { queue = queue } in
+      record {
+        knows = record {
+          number = ap (λ (s : S). (shows s).number) seat ∙ k.number ∙ sym me;
+          ranks = ap (λ (s : S). (shows s).n) seat ∙ k.ranks ∙ sym ranks;
+          colour = ap (λ (s : S). (shows s).colour) seat ∙ k.colour ∙ sym (ap (λ (x : Rank J S T). x.colour) same);
+          tried = ap (λ (s : S). (shows s).tried) seat ∙ k.tried ∙ sym (ap (λ (x : Rank J S T). x.tried) same);
+          asked = ap (λ (s : S). (shows s).asked) seat ∙ k.asked ∙ sym (ap (λ (x : Rank J S T). x.asked) same);
+          asks = λ v e. (let h = k.asks v (sym (ap (λ (x : Rank J S T). x.asked) same) ∙ e) in omega (arith, h, ranks));
+          ended = ap (λ (s : S). (shows s).ended) seat ∙ k.ended ∙ sym (ap (λ (x : Rank J S T). x.ended) same);
+          stopped = ap (λ (s : S). (shows s).stopped) seat ∙ k.stopped ∙ sym (ap (λ (x : Rank J S T). x.stopped) same);
+          inside = (let h = k.inside in omega (arith, h, me, ranks));
+          few = (let h = k.few in omega (arith, h, ranks));
+          wide = ap (λ (s : S). length (shows s).serves) seat ∙ k.wide ∙ sym ranks;
+          idle = λ e. empty (k.idle (sym (ap (λ (s : S). (shows s).busy) seat) ∙ e));
+          waits = λ v e. empty (k.waits v (sym (ap (λ (x : Rank J S T). x.asked) same) ∙ e));
+          over = λ e. empty (k.over (sym (ap (λ (x : Rank J S T). x.ended) same) ∙ e));
+          empty = ap (λ (x : Rank J S T). x.fresh) same ∙ k.empty;
+        };
+        none = λ i. ap (λ (s : S). is_served (shows s) i) seat ∙ old.none i;
+        mine = subst (seats p) (sym seat) old.mine;
+        lost = none;
+        bounded = λ found. bounded_as log shows r now share job seat options (ap (λ (x : Rank J S T). x.stopped) same)
+            (old.bounded (not_true r.book.lost (λ l. true_not_false r'.book.lost (lost l) found)));
+        sums = subst (λ (j : J). SumsReady sums_shows sums_seats (length (log j)) now q') (sym job) (record {
+          mine = sums.mine;
+          number = sums.number;
+          ranks = sums.ranks;
+          width = sums.width;
+          narrow = sums.narrow;
+          counted = sums.counted;
+          progress = sums.progress;
+        });
       }

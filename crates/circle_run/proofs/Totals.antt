@@ -9,11 +9,12 @@ use Rattle.std.proofs.lemmas.List.Folds.{fold-map, sum_by-replicate}
 use Rattle.std.proofs.lemmas.List.Sums.{sum_by-append, sum_by-cons}
 use Rattle.post_board.specs.Shown.{Strings}
 use Rattle.post_board.specs.Told.{Mail, vacant, asked, full, empty, Place, place, no_place, is_full}
+use Rattle.post_board.specs.Calls.{NoneOnTheWay}
 use Rattle.circle_run.specs.Balance as balance
 use Rattle.circle_run.specs.Balance.{Log, Balanced}
 use Rattle.circle_run.specs.Moves.{Move, served}
 use Rattle.circle_run.specs.Stages.{RankSide, Stage, no_side, rank_side, Plays, dealt_from, new_place, new_told, begun}
-use Rattle.circle_run.specs.Waiting.{NothingWaits, batch_in, all_queued, all_mailed, all_logged, MovesAreBalanced, AllIsHandled}
+use Rattle.circle_run.specs.Waiting.{batch_in, all_queued, all_mailed, all_logged, MovesAreBalanced, AllIsHandled}
 use Rattle.circle_run.specs.Shares.{handled_in, given_in, taken_in, moves_of, of_all, GivenIsTakenOrMailed}
 use Rattle.circle_run.specs.declared.settings.Options.{Options}
 use Rattle.circle_run.proofs.Begun.{new_side, ranks_begun, places_begun}
@@ -183,15 +184,15 @@ not_full (asked r) e = refl
 not_full (full r b) e = cc
 not_full (empty r) e = refl
 
-pub nothing_mailed : (stage : Stage) → NothingWaits stage → all_mailed stage ≡ []
-nothing_mailed stage nothing_waits =
+pub nothing_mailed : (stage : Stage) → NoneOnTheWay stage.told → all_mailed stage ≡ []
+nothing_mailed stage none =
     all_empty (λ (x : Place). batch_in x.mail) no_place stage.told.places
-    (λ r. not_full (place stage.told r).mail (nothing_waits.mailboxes r))
+    (λ r. not_full (place stage.told r).mail (none r))
 
 pub all_is_handled : AllIsHandled
 all_is_handled o starts moves stage some plays nothing_waits =
     let queues : all_queued stage ≡ [] = all_empty (λ (x : RankSide). x.queue) no_side stage.ranks nothing_waits.queues in
-    let mails : all_mailed stage ≡ [] = nothing_mailed stage nothing_waits in
+    let mails : all_mailed stage ≡ [] = nothing_mailed stage nothing_waits.mailboxes in
     subst (λ (left : Strings). Balanced (all_logged stage) left starts)
     (ap (λ (left : Strings). left ++ all_mailed stage) queues ∙ mails)
     (moves_are_balanced o starts moves stage some plays)

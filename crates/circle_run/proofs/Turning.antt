@@ -1,57 +1,88 @@
 -- What a turn of a rank is: moves of which the last alone may handle a string, with an event save where the rank waits or has seen the end.
-use Rattle.std.proofs.Common.{◌≡◌, ℕ, ◌⊎◌, inl, inr, refl, sym, subst, ap, ◌∙◌, arith, Bool, true, false, cond, List, [], ◌∷◌, ◌++◌, map, length}
+use Rattle.std.proofs.Common.{◌≡◌, ◌≢◌, ℕ, ◌⊎◌, inl, inr, ⊎_elim, ◌||◌, refl, sym, subst, ap, ◌∙◌, arith, Bool, true, false, cond, List}
+use Rattle.std.proofs.Common.{[], ◌∷◌, ◌++◌, map, length}
 use Rattle.std.proofs.Common.{length-append, append-nil, Option, Some, None}
 use Rattle.std.proofs.lemmas.List.{length-map}
 use Rattle.std.specs.List.{flat_map}
 use Rattle.ring_core.specs.declared.events.Event.{Event}
-use Rattle.ring_core.specs.declared.events.Event.TheVariants.{Handle, SeeOver}
+use Rattle.ring_core.specs.declared.events.Event.TheVariants.{Handle, TakeNone, SeeOver}
 use Rattle.post_board.specs.Shown.{Strings, Shown}
-use Rattle.post_board.specs.Told.{Told, place}
-use Rattle.post_board.specs.Deeds.{event_of}
+use Rattle.post_board.specs.Told.{Told, place, is_stopped}
+use Rattle.post_board.specs.Deeds.{event_of, halt, TellsLate}
 use Rattle.post_board.specs.Calls.{AgreesIfTold}
 use Rattle.circle_run.specs.Balance.{Log}
-use Rattle.circle_run.specs.Moves.{Move, served, Side, answer_of, events_of}
+use Rattle.circle_run.specs.Moves.{Move, served, noted, Side, answer_of, events_of}
 use Rattle.circle_run.specs.Fair.{HandlesLast, is_waiting}
 use Rattle.circle_run.specs.Ranks.{DoesAll, side, Knows}
 use Rattle.circle_run.specs.Ready.{Turned}
-use Rattle.circle_run.specs.Turns.{Worked, Waits, IsTurn}
+use Rattle.circle_run.specs.Turns.{IsAct, Worked, MayHalt, Waits, IsTurn}
+use Rattle.circle_run.specs.Choices.{is_done}
 use Rattle.circle_run.specs.Hosts.{MayIdleIfTold, Took}
-use Rattle.circle_run.specs.declared.steps.Did.TheVariants.{Handled, Acted}
+use Rattle.circle_run.specs.declared.steps.Did.TheVariants.{Handled, Acted, Waited, Stopped}
 use Rattle.circle_run.specs.declared.settings.Options.{Options}
 use Rattle.circle_run.specs.declared.ranks.Turn.{Turn}
-use Rattle.circle_run.specs.declared.ranks.Turn.TheVariants.{Went as TurnWent, Waited as TurnWaited, Ended as TurnEnded}
+use Rattle.circle_run.specs.declared.ranks.Turn.TheVariants.{Went as TurnWent, Waited as TurnWaited, Stopped as TurnStopped, Ended as TurnEnded}
 use Rattle.circle_run.specs.declared.ranks.Rank.{Rank}
+use Rattle.circle_run.proofs.Asked.{true_not_false}
 
 some_event : (xs ys : List Event) (e : Event) → xs ++ e ∷ ys ≡ [] → ⊥
 some_event xs ys e none = let l = ap length none in absurd (omega (arith, l, length-append xs (e ∷ ys)))
 
 -- a turn in which something was done has an event
-worked_some : (me : ℕ) (moves : List Move) → Worked Handled moves ⊎ Worked Acted moves → flat_map (events_of me) moves ≡ [] → ⊥
-worked_some me moves (inl (answers, path, kids, e)) none =
-    some_event (map (λ x. event_of me (answer_of x)) answers) [] (Handle me path (length kids)) (ap (flat_map (events_of me)) (sym e) ∙ none)
-worked_some me moves (inr (inl e)) none = some_event [] [] (SeeOver me) (ap (flat_map (events_of me)) (sym e) ∙ none)
-worked_some me moves (inr (inr (inl (answers, deed, e)))) none =
-    some_event (map (λ x. event_of me (answer_of x)) answers) [] (event_of me deed) (ap (flat_map (events_of me)) (sym e) ∙ none)
-worked_some me moves (inr (inr (inr (answers, some, e)))) none =
+act_event : (me : ℕ) (answers : List (ℕ × Strings)) (move : Move) → IsAct move → flat_map (events_of me) (served answers ∷ move ∷ []) ≡ [] → ⊥
+act_event me answers move (inl (deed, e)) none =
+    some_event (map (λ x. event_of me (answer_of x)) answers) [] (event_of me deed)
+    (ap (λ (m : Move). flat_map (events_of me) (served answers ∷ m ∷ [])) (sym e) ∙ none)
+act_event me answers move (inr (from, e)) none =
+    some_event (map (λ x. event_of me (answer_of x)) answers) [] (TakeNone me from)
+    (ap (λ (m : Move). flat_map (events_of me) (served answers ∷ m ∷ [])) (sym e) ∙ none)
+
+acted_some : (me : ℕ) (moves : List Move) → Worked Acted moves → flat_map (events_of me) moves ≡ [] → ⊥
+acted_some me moves (inl e) none = some_event [] [] (SeeOver me) (ap (flat_map (events_of me)) (sym e) ∙ none)
+acted_some me moves (inr (inl (answers, move, act, e))) none = act_event me answers move act (ap (flat_map (events_of me)) (sym e) ∙ none)
+acted_some me moves (inr (inr (answers, some, e))) none =
     let f = λ (x : ℕ × Strings). event_of me (answer_of x) in
     let l : length (map f answers ++ []) ≡ 0 = ap length (ap (flat_map (events_of me)) (sym e) ∙ none) in
     absurd (omega (arith, l, length-append (map f answers) [], length-map answers f))
 
-worked_last : (moves : List Move) → Worked Handled moves ⊎ Worked Acted moves → HandlesLast moves
-worked_last moves (inl (answers, path, kids, e)) = subst HandlesLast (sym e) (refl, tt)
-worked_last moves (inr (inl e)) = subst HandlesLast (sym e) tt
-worked_last moves (inr (inr (inl (answers, deed, e)))) = subst HandlesLast (sym e) (refl, tt)
-worked_last moves (inr (inr (inr (answers, some, e)))) = subst HandlesLast (sym e) tt
+worked_some : (me : ℕ) (moves : List Move) → Worked Handled moves ⊎ MayHalt (Worked Acted) moves → flat_map (events_of me) moves ≡ [] → ⊥
+worked_some me moves (inl (answers, path, kids, e)) none =
+    some_event (map (λ x. event_of me (answer_of x)) answers) [] (Handle me path (length kids)) (ap (flat_map (events_of me)) (sym e) ∙ none)
+worked_some me moves (inr (inl w)) none = acted_some me moves w none
+worked_some me moves (inr (inr (rest, w, e))) none = acted_some me rest w (ap (flat_map (events_of me)) (sym e) ∙ none)
 
-turn_last : (ended : Bool) (turn : Turn) (moves : List Move) → IsTurn ended turn moves → HandlesLast moves
+-- of moves that handle none the last alone may, whatever stands before them
+acted_last : (moves : List Move) → Worked Acted moves → HandlesLast moves × HandlesLast (noted halt ∷ moves)
+acted_last moves (inl e) = (subst HandlesLast (sym e) tt, subst (λ (m : List Move). HandlesLast (noted halt ∷ m)) (sym e) (refl, tt))
+acted_last moves (inr (inl (answers, move, act, e))) =
+    (subst HandlesLast (sym e) (refl, tt), subst (λ (m : List Move). HandlesLast (noted halt ∷ m)) (sym e) (refl, (refl, tt)))
+acted_last moves (inr (inr (answers, some, e))) =
+    (subst HandlesLast (sym e) tt, subst (λ (m : List Move). HandlesLast (noted halt ∷ m)) (sym e) (refl, tt))
+
+waited_last : (moves : List Move) → Worked Waited moves → HandlesLast moves × HandlesLast (noted halt ∷ moves)
+waited_last moves e = (subst HandlesLast (sym e) tt, subst (λ (m : List Move). HandlesLast (noted halt ∷ m)) (sym e) (refl, tt))
+
+stopped_last : (moves : List Move) → Worked Stopped moves → HandlesLast moves × HandlesLast (noted halt ∷ moves)
+stopped_last moves (answers, e) =
+    (subst HandlesLast (sym e) (refl, tt), subst (λ (m : List Move). HandlesLast (noted halt ∷ m)) (sym e) (refl, (refl, tt)))
+
+halt_last : (P : List Move → Type 0) (moves : List Move) → ((rest : List Move) → P rest → HandlesLast rest × HandlesLast (noted halt ∷ rest))
+    → MayHalt P moves → HandlesLast moves
+halt_last P moves last (inl w) = (last moves w).0
+halt_last P moves last (inr (rest, w, e)) = subst HandlesLast (sym e) (last rest w).1
+
+turn_last : (before : Bool) (turn : Turn) (moves : List Move) → IsTurn before turn moves → HandlesLast moves
 turn_last true turn moves is = subst HandlesLast (sym is) tt
-turn_last false TurnWent moves is = worked_last moves is
-turn_last false TurnWaited moves is = subst HandlesLast (sym is) tt
+turn_last false TurnWent moves (inl (answers, path, kids, e)) = subst HandlesLast (sym e) (refl, tt)
+turn_last false TurnWent moves (inr w) = halt_last (Worked Acted) moves acted_last w
+turn_last false TurnWaited moves w = halt_last (Worked Waited) moves waited_last w
+turn_last false TurnStopped moves w = halt_last (Worked Stopped) moves stopped_last w
 turn_last false TurnEnded moves is = absurd is
 
-waits_idles : (me : ℕ) (told : Option Told) → Waits me told → MayIdleIfTold me told
-waits_idles me None waits = tt
-waits_idles me (Some t) (victim, mail) = inl (ap is_waiting mail)
+waits_idles : (me : ℕ) (told told' : Option Told) → Waits me told → MayIdleIfTold me told told'
+waits_idles me None told' waits = tt
+waits_idles me (Some t) None waits = tt
+waits_idles me (Some t) (Some t') (victim, mail) = inl (ap is_waiting mail)
 
 -- a service of nobody tells nothing new
 served_none : (o : Options) (me : ℕ) (moves : List Move) (s s' : Side) → moves ≡ served [] ∷ [] → DoesAll o me moves s s' → s'.told ≡ s.told
@@ -59,34 +90,81 @@ served_none o me moves s s' is does =
     let (mid, one, same) = subst (λ (ms : List Move). DoesAll o me ms s s') is does in
     ap (λ (z : Side). z.told) same ∙ one.told
 
-live_idles : (turn : Turn) (o : Options) (me : ℕ) (moves : List Move) (s s' : Side) → IsTurn false turn moves → DoesAll o me moves s s'
-    → (turn ≡ TurnWaited → Waits me s'.told)
-    → flat_map (events_of me) moves ≡ [] → MayIdleIfTold me s.told
-live_idles TurnWent o me moves s s' is does waits none = absurd (worked_some me moves is none)
-live_idles TurnWaited o me moves s s' is does waits none = waits_idles me s.told (subst (Waits me) (served_none o me moves s s' is does) (waits refl))
-live_idles TurnEnded o me moves s s' is does waits none = absurd is
+waits_halt : (me : ℕ) (told told' : Option Told) → TellsLate me halt told told' → Waits me told' → Waits me told
+waits_halt me None told' tells waits = tt
+waits_halt me (Some t) told' tells waits = subst (Waits me) tells.1 waits
 
-ended_idles : (told : Option Told) (s : Shown) (me : ℕ) → AgreesIfTold told s → s.number ≡ me → s.ended ≡ true → MayIdleIfTold me told
-ended_idles None s me agrees number ended = tt
-ended_idles (Some t) s me agrees number ended = inr (ap (λ (k : ℕ). (place t k).ended) (sym number) ∙ agrees.ended ∙ ended)
+waits_before : (o : Options) (me : ℕ) (moves : List Move) (s s' : Side) → MayHalt (Worked Waited) moves → DoesAll o me moves s s'
+    → Waits me s'.told → Waits me s.told
+waits_before o me moves s s' (inl is) does waits = subst (Waits me) (served_none o me moves s s' is does) waits
+waits_before o me moves s s' (inr (rest, is, e)) does waits =
+    let (mid, late, more) = subst (λ (ms : List Move). DoesAll o me ms s s') e does in
+    waits_halt me s.told mid.told late.told (subst (Waits me) (served_none o me rest mid s' is more) waits)
+
+ended_idles : (told told' : Option Told) (s : Shown) (me : ℕ) → AgreesIfTold told s → s.number ≡ me → s.ended ≡ true → MayIdleIfTold me told told'
+ended_idles None told' s me agrees number ended = tt
+ended_idles (Some t) None s me agrees number ended = tt
+ended_idles (Some t) (Some t') s me agrees number ended = inr (inl (ap (λ (k : ℕ). (place t k).ended) (sym number) ∙ agrees.ended ∙ ended))
+
+stopped_idles : (told told' : Option Told) (s : Shown) (me : ℕ) → AgreesIfTold told' s → s.number ≡ me → s.stopped ≡ true → MayIdleIfTold me told told'
+stopped_idles None told' s me agrees number stopped = tt
+stopped_idles (Some t) None s me agrees number stopped = tt
+stopped_idles (Some t) (Some t') s me agrees number stopped =
+    inr (inr (ap (λ (k : ℕ). is_stopped t' k) (sym number) ∙ agrees.stopped ∙ stopped))
+
+abbrev is_stop_turn : Turn → Bool
+is_stop_turn TurnStopped = true
+is_stop_turn _ = false
+
+pub either : (a b : Bool) → (a || b) ≡ true → (a ≡ true) ⊎ (b ≡ true)
+either true b e = inl refl
+either false b e = inr e
 
 nothing_more : (b : Bool) (xs : List Event) → xs ≡ xs ++ cond b [] []
 nothing_more true xs = sym (append-nil xs)
 nothing_more false xs = sym (append-nil xs)
 
+-- a rank that has stopped remains so
+pub remains : {J S T : Type 0} (r r' : Rank J S T) (turn : Turn) → (turn ≡ TurnStopped → r'.stopped ≡ true) → (turn ≢ TurnStopped → r'.stopped ≡ r.stopped)
+    → r.stopped ≡ true → r'.stopped ≡ true
+remains r r' TurnStopped stopped goes was = stopped refl
+remains r r' TurnWent stopped goes was = goes (λ e. true_not_false (is_stop_turn TurnStopped) refl (ap is_stop_turn (sym e))) ∙ was
+remains r r' TurnWaited stopped goes was = goes (λ e. true_not_false (is_stop_turn TurnStopped) refl (ap is_stop_turn (sym e))) ∙ was
+remains r r' TurnEnded stopped goes was = goes (λ e. true_not_false (is_stop_turn TurnStopped) refl (ap is_stop_turn (sym e))) ∙ was
+
+-- what a rank knows before and after its turn, by which it may have no event
+pub record Idling {J S T P : Type 0} (shows : S → Shown) (tells : P → Option Told) (turn : Turn) (r : Rank J S T) (p : P) (r' : Rank J S T)
+    (p' : P) : Type 0 where
+  pub agrees : AgreesIfTold (tells p) (shows r.seat)
+  pub knows : Knows shows r
+  pub agrees' : AgreesIfTold (tells p') (shows r'.seat)
+  pub knows' : Knows shows r'
+  pub waits : turn ≡ TurnWaited → is_done r ≡ false → Waits r.me (tells p')
+  pub stopped : turn ≡ TurnStopped → r'.stopped ≡ true
+  pub remains : r.stopped ≡ true → r'.stopped ≡ true
+
 module _ {J S T P D : Type 0} (log : J → Log) (plain : J → D) (shows : S → Shown) (tells : P → Option Told) (seats : P → S → Type 0) where
-  idles : (turn : Turn) (b : Bool) (r : Rank J S T) (p : P) (r' : Rank J S T) (p' : P) (moves : List Move) → r.ended ≡ b
-      → AgreesIfTold (tells p) (shows r.seat) → Knows shows r → IsTurn b turn moves
+  stops : (turn : Turn) (r : Rank J S T) (p : P) (r' : Rank J S T) (p' : P) → r'.me ≡ r.me → Idling shows tells turn r p r' p' → r'.stopped ≡ true
+      → MayIdleIfTold r.me (tells p) (tells p')
+  stops turn r p r' p' me i stopped =
+      stopped_idles (tells p) (tells p') (shows r'.seat) r.me i.agrees' (i.knows'.number ∙ me) (i.knows'.stopped ∙ stopped)
+
+  idles : (turn : Turn) (b : Bool) (r : Rank J S T) (p : P) (r' : Rank J S T) (p' : P) (moves : List Move) → is_done r ≡ b → r'.me ≡ r.me
+      → Idling shows tells turn r p r' p' → IsTurn b turn moves
       → DoesAll r.options r.me moves (side log plain shows tells seats r p) (side log plain shows tells seats r' p')
-      → (turn ≡ TurnWaited → b ≡ false → Waits r.me (tells p')) → flat_map (events_of r.me) moves ≡ [] → MayIdleIfTold r.me (tells p)
-  idles turn true r p r' p' moves ended agrees knows is does waits none = ended_idles (tells p) (shows r.seat) r.me agrees knows.number (knows.ended ∙ ended)
-  idles turn false r p r' p' moves ended agrees knows is does waits none =
-      live_idles turn r.options r.me moves (side log plain shows tells seats r p) (side log plain shows tells seats r' p') is does (λ w. waits w refl) none
+      → flat_map (events_of r.me) moves ≡ [] → MayIdleIfTold r.me (tells p) (tells p')
+  idles turn true r p r' p' moves done me i is does none = ⊎_elim
+      (λ ended. ended_idles (tells p) (tells p') (shows r.seat) r.me i.agrees i.knows.number (i.knows.ended ∙ ended))
+      (λ stopped. stops turn r p r' p' me i (i.remains stopped)) (either r.ended r.stopped done)
+  idles TurnWent false r p r' p' moves done me i is does none = absurd (worked_some r.me moves is none)
+  idles TurnWaited false r p r' p' moves done me i is does none = waits_idles r.me (tells p) (tells p')
+      (waits_before r.options r.me moves (side log plain shows tells seats r p) (side log plain shows tells seats r' p') is does (i.waits refl done))
+  idles TurnStopped false r p r' p' moves done me i is does none = stops TurnStopped r p r' p' me i (i.stopped refl)
+  idles TurnEnded false r p r' p' moves done me i is does none = absurd is
 
   pub took : (heard : J → Option (List ℕ)) (turn : Turn) (r : Rank J S T) (p : P) (r' : Rank J S T) (p' : P)
-      → AgreesIfTold (tells p) (shows r.seat) → Knows shows r → Turned log heard plain shows tells seats turn r p r' p'
-      → (turn ≡ TurnWaited → r.ended ≡ false → Waits r.me (tells p')) → Took log plain shows tells seats r p r' p'
-  took heard turn r p r' p' agrees knows turned waits = record {
+      → Idling shows tells turn r p r' p' → Turned log heard plain shows tells seats turn r p r' p' → Took log plain shows tells seats r p r' p'
+  took heard turn r p r' p' i turned = record {
     me = turned.me;
     options = turned.options;
     facts = turned.facts;
@@ -95,17 +173,18 @@ module _ {J S T P D : Type 0} (log : J → Log) (plain : J → D) (shows : S →
     went = λ found. (let w = turned.went found in record {
       had = w.had;
       turn = w.moves;
-      last = turn_last r.ended turn w.moves w.are.kind;
+      last = turn_last (is_done r) turn w.moves w.are.kind;
       does = w.does;
       kept = w.kept;
       share = w.share;
-      idle = idles turn r.ended r p r' p' w.moves refl agrees knows w.are.kind w.does waits;
+      idle = idles turn (is_done r) r p r' p' w.moves refl turned.me i w.are.kind w.does;
     });
   }
 
   -- no turn
-  pub skipped : (r : Rank J S T) (p : P) → AgreesIfTold (tells p) (shows r.seat) → Knows shows r → r.ended ≡ true → Took log plain shows tells seats r p r p
-  skipped r p agrees knows ended = record {
+  pub skipped : (r : Rank J S T) (p : P) → AgreesIfTold (tells p) (shows r.seat) → Knows shows r → is_done r ≡ true
+      → Took log plain shows tells seats r p r p
+  skipped r p agrees knows done = record {
     me = refl;
     options = refl;
     facts = refl;
@@ -118,6 +197,8 @@ module _ {J S T P D : Type 0} (log : J → Log) (plain : J → D) (shows : S →
       does = refl;
       kept = nothing_more r.options.trace r.book.events.items;
       share = refl;
-      idle = λ none. ended_idles (tells p) (shows r.seat) r.me agrees knows.number (knows.ended ∙ ended);
+      idle = λ none. ⊎_elim
+          (λ ended. ended_idles (tells p) (tells p) (shows r.seat) r.me agrees knows.number (knows.ended ∙ ended))
+          (λ stopped. stopped_idles (tells p) (tells p) (shows r.seat) r.me agrees knows.number (knows.stopped ∙ stopped)) (either r.ended r.stopped done);
     };
   }

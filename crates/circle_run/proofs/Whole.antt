@@ -8,7 +8,7 @@ use Rattle.std.specs.List.{flat_map, range_with_len, sum_by}
 use Rattle.rank_queue.specs.Shares.{generator_of}
 use Rattle.post_board.specs.Shown.{Strings, Shown, Batches}
 use Rattle.post_board.specs.Fresh.{fresh, AllFresh}
-use Rattle.post_board.specs.Calls.{Even, AllEven, AllDone}
+use Rattle.post_board.specs.Calls.{Even, AllEven, AllDone, Halters}
 use Rattle.post_board.specs.BoardSeats.{unused}
 use Rattle.sum_tree.specs.Shown.{SumShown, AllFinished}
 use Rattle.sum_tree.specs.Plain.{fresh as fresh_sums}
@@ -29,11 +29,12 @@ use Rattle.circle_run.specs.Traced.{IsProgress}
 use Rattle.circle_run.specs.Private.Outcomes.{IsOutcome}
 use Rattle.circle_run.specs.declared.outcomes.Share.{Share}
 use Rattle.circle_run.specs.declared.outcomes.Finished.{Finished}
-use Rattle.circle_run.proofs.Maps.{map_same, flat_none, sum_by-map, some_of, sum_same, capped_sum}
+use Rattle.circle_run.proofs.Maps.{map_same, sum_by-map, some_of, sum_same, capped_sum}
 use Rattle.circle_run.proofs.Counting.{capped, share_alone}
 use Rattle.circle_run.proofs.Apart.{of_all, evened, whole as apart_whole}
 use Rattle.circle_run.proofs.Final.{are_all, all_ended}
 use Rattle.circle_run.proofs.Finishing.{progressed, seats_done, sums_done}
+use Rattle.circle_run.proofs.Leaving.{Gathered, none_left, within, left_by}
 use Rattle.circle_run.proofs.New.{ready_at_first}
 use Rattle.circle_run.specs.Apart.{RankRan, AllRan, HostsAreBalanced}
 use Rattle.circle_run.specs.Private.Away.{InPlace, IsHost}
@@ -132,21 +133,18 @@ module _ {J S T P Q D : Type 0} (log : J → Log) (plain : J → D) (shows : S �
         share = a.share ∙ share_alone r0.options r0.me a.moves (lone_side log shows r0) (lone_side log shows r) r0.book.share one (first.unshared k r inside);
       }
 
-  empty_at : (whole final : List (Rank J S T)) (p : P) (q : Q) → Ending log plain shows seats sums_shows sums_seats whole final p q
-      → (k : ℕ) (d : Rank J S T) → k < length final → (get_or final k d).queue ≡ []
-  empty_at whole final p q last k d h = (let over = (last.ends k d h).over in over.ready.knows.over (over.over refl).0)
-
   rank_ran : (o : Options) (starts : Strings) (whole final : List (Rank J S T)) (p : P) (q : Q) (kept : S → Batches)
       → ((s : S) → (shows s).batches ≡ Some (kept s))
       → Starting log shows seats sums_shows sums_seats o starts whole p q → Ending log plain shows seats sums_shows sums_seats whole final p q
-      → (k : ℕ) (d : Rank J S T) → k < length final → RankRan o k (dealt_to o.ranks starts k) (log (get_or final k d).job) (kept (get_or final k d).seat)
+      → (k : ℕ) (d : Rank J S T) → k < length final → let r = get_or final k d in
+      RankRan o k (dealt_to o.ranks starts k) (log r.job) r.queue (kept r.seat)
   rank_ran o starts whole final p q kept keeps first last k d h =
       let x = own o starts whole final p q first last k d h in
       record {
         moves = x.moves;
         last = lone_side log shows (get_or final k d);
         does = x.does;
-        empty = empty_at whole final p q last k d h;
+        queued = refl;
         logged = refl;
         kept = keeps (get_or final k d).seat;
       }
@@ -160,8 +158,8 @@ module _ {J S T P Q D : Type 0} (log : J → Log) (plain : J → D) (shows : S �
   rank_share o starts whole final p q kept keeps first last k d h =
       let r : Rank J S T = get_or final k d in
       let x = own o starts whole final p q first last k d h in
-      let w = apart_whole o k (dealt_to o.ranks starts k) (log r.job) (kept r.seat) x.moves (lone_side log shows r) x.does
-      (empty_at whole final p q last k d h) refl (keeps r.seat) in
+      let w = apart_whole o k (dealt_to o.ranks starts k) (log r.job) r.queue (kept r.seat) x.moves (lone_side log shows r) x.does
+      refl refl (keeps r.seat) in
       let one : List ℕ → ℕ = λ s. 1 in
       let handled : length (flat_map handled_in x.moves) ≡ length (log r.job) = ap length (sym w.logged) in
       let given : length (flat_map given_in x.moves) ≡ of_all one (kept r.seat).given = sym (one_each (flat_map given_in x.moves)) ∙ sym (w.gave one) in
@@ -176,19 +174,25 @@ module _ {J S T P Q D : Type 0} (log : J → Log) (plain : J → D) (shows : S �
       → ((s : S) → (shows s).batches ≡ Some (kept s)) → 0 < o.ranks
       → Starting log shows seats sums_shows sums_seats o starts whole p q → Ending log plain shows seats sums_shows sums_seats whole final p q
       → all_seats ≡ map (λ (r : Rank J S T). r.seat) final → AllEven shows (seats p) all_seats
-      → AllRan o starts (map (λ (r : Rank J S T). log r.job) final) (map (λ (r : Rank J S T). kept r.seat) final)
+      → AllRan o starts (map (λ (r : Rank J S T). log r.job) final) (map (λ (r : Rank J S T). r.queue) final) (map (λ (r : Rank J S T). kept r.seat) final)
   all_ran o starts whole final p q kept all_seats keeps some first last seats_are even =
       let bs : List Batches = map (λ (r : Rank J S T). kept r.seat) final in
+      let queues : List Strings = map (λ (r : Rank J S T). r.queue) final in
       let long : length final ≡ o.ranks = last.count ∙ first.count in
       let d : Rank J S T = some_of final (omega (arith, long, some)) in
       record {
         count = length-map final (λ (r : Rank J S T). log r.job) ∙ long;
+        lists = length-map final (λ (r : Rank J S T). r.queue) ∙ long;
         as_many = length-map final (λ (r : Rank J S T). kept r.seat) ∙ long;
-        each = λ k l b h. (let g : k < length final = omega (arith, h, long) in
-            subst (λ (x : Log). RankRan o k (dealt_to o.ranks starts k) x (get_or bs k b)) (sym (get_or-map (λ (r : Rank J S T). log r.job) final k d l g))
-            (subst (λ (x : Batches). RankRan o k (dealt_to o.ranks starts k) (log (get_or final k d).job) x)
+        each = λ k l left b h. (let g : k < length final = omega (arith, h, long) in
+            let r : Rank J S T = get_or final k d in
+            subst (λ (x : Log). RankRan o k (dealt_to o.ranks starts k) x (get_or queues k left) (get_or bs k b))
+            (sym (get_or-map (λ (r : Rank J S T). log r.job) final k d l g))
+            (subst (λ (x : Strings). RankRan o k (dealt_to o.ranks starts k) (log r.job) x (get_or bs k b))
+            (sym (get_or-map (λ (r : Rank J S T). r.queue) final k d left g))
+            (subst (λ (x : Batches). RankRan o k (dealt_to o.ranks starts k) (log r.job) r.queue x)
             (sym (get_or-map (λ (r : Rank J S T). kept r.seat) final k d b g))
-            (rank_ran o starts whole final p q kept keeps first last k d g)));
+            (rank_ran o starts whole final p q kept keeps first last k d g))));
         even = λ i j b h g. (let hi : i < length final = omega (arith, h, long) in let hj : j < length final = omega (arith, g, long) in
             let size : length all_seats ≡ length final = ap length seats_are ∙ length-map final (λ (r : Rank J S T). r.seat) in
             let at : (k : ℕ) → k < length final → get_or all_seats k d.seat ≡ (get_or final k d).seat =
@@ -213,6 +217,7 @@ module _ {J S T P Q D : Type 0} (log : J → Log) (plain : J → D) (shows : S �
     pub last : Ending log plain shows seats sums_shows sums_seats whole final p q
     pub found : NoneLost final
     pub even : AllEven shows (seats p) all_seats
+    pub halters : Halters shows (seats p) all_seats
     -- what was taken of the ranks
     pub seats_are : all_seats ≡ map (λ (r : Rank J S T). r.seat) final
     pub jobs_are : f.jobs.items ≡ map (λ (r : Rank J S T). r.job) final
@@ -236,17 +241,26 @@ module _ {J S T P Q D : Type 0} (log : J → Log) (plain : J → D) (shows : S �
       (all_seats : List S) (total : ℕ) (f : Finished J)
       → Closing o starts jobs whole final p q kept all_seats total f → IsOutcome log plain o starts jobs f
   outcome o starts jobs whole final p q kept all_seats total f x =
-      let ran : AllRan o starts (map (λ (r : Rank J S T). log r.job) final) (map (λ (r : Rank J S T). kept r.seat) final) =
-      all_ran o starts whole final p q kept all_seats x.keeps (let n = x.some in omega arith) x.first x.last x.seats_are x.even in
       let logs : List Log = map (λ (r : Rank J S T). log r.job) final in
+      let queues : List Strings = map (λ (r : Rank J S T). r.queue) final in
       let bs : List Batches = map (λ (r : Rank J S T). kept r.seat) final in
+      let ran : AllRan o starts logs queues bs =
+      all_ran o starts whole final p q kept all_seats x.keeps (let n = x.some in omega arith) x.first x.last x.seats_are x.even in
+      let end : Gathered log shows seats sums_shows sums_seats o final p q all_seats = record {
+        all = are_all log plain shows seats sums_shows sums_seats o starts whole final p q x.first x.last;
+        done = all_ended log plain shows seats sums_shows sums_seats whole final p q x.last;
+        found = x.found;
+        seats_are = x.seats_are;
+        halters = x.halters;
+      } in
       let as_list : Strings → Strings = λ xs. xs in
-      let left : all_left f.left.items ≡ [] =
-      sym (flat_map-map as_list (λ (l : Vec (List ℕ) _). l.items) f.left.items) ∙ ap (flat_map as_list) x.left_are ∙ flat_map-map as_list queue_of final
-      ∙ flat_none queue_of final (empty_at whole final p q x.last) in
+      let all_queues : all_left f.left.items ≡ flat_map as_list queues =
+      sym (flat_map-map as_list (λ (l : Vec (List ℕ) _). l.items) f.left.items) ∙ ap (flat_map as_list) x.left_are in
+      let queued : all_left f.left.items ≡ flat_map queue_of final = all_queues ∙ flat_map-map as_list queue_of final in
       let all_logs : flat_map (λ (l : Log). l) logs ≡ flat_map log f.jobs.items =
       flat_map-map (λ (l : Log). l) (λ (r : Rank J S T). log r.job) final ∙ sym (flat_map-map log job_of final) ∙ ap (flat_map log) (sym x.jobs_are) in
-      let balance : Balanced (flat_map (λ (l : Log). l) logs) [] starts = x.law o starts logs bs (let n = x.some in omega arith) ran in
+      let balance : Balanced (flat_map (λ (l : Log). l) logs) (flat_map as_list queues) starts =
+      x.law o starts logs queues bs (let n = x.some in omega arith) ran in
       let many : J → ℕ = λ j. length (log j) in
       let most : J → ℕ = λ j. min (many j) (2 ^ 64 - 1) in
       let facts_of : Rank J S T → D = λ r. plain r.job in
@@ -273,8 +287,10 @@ module _ {J S T P Q D : Type 0} (log : J → Log) (plain : J → D) (shows : S �
       let as_many : length final ≡ length jobs = x.last.count ∙ sym (length-map whole job_of) ∙ ap length x.given_jobs in
       record {
         balance = subst (λ (l : Log). Balanced l (all_left f.left.items) starts) all_logs
-            (subst (λ (l : Strings). Balanced (flat_map (λ (m : Log). m) logs) l starts) (sym left) balance);
-        whole = left;
+            (subst (λ (l : Strings). Balanced (flat_map (λ (m : Log). m) logs) l starts) (sym all_queues) balance);
+        whole = none_left log shows seats sums_shows sums_seats o final p q all_seats (all_left f.left.items) end queued;
+        stop = within log shows seats sums_shows sums_seats o final p q all_seats f.jobs.items end x.jobs_are;
+        left = left_by log shows seats sums_shows sums_seats o final p q all_seats f.jobs.items (all_left f.left.items) end x.jobs_are queued;
         jobs_count = ap length x.jobs_are ∙ length-map final job_of ∙ as_many;
         facts = ap (map plain) x.jobs_are ∙ map-map plain job_of final
             ∙ map_same facts_of facts_of final whole x.last.count
@@ -289,13 +305,12 @@ module _ {J S T P Q D : Type 0} (log : J → Log) (plain : J → D) (shows : S �
             (λ k d d' h. ap (λ (y : Share). y.handled) (shared k d h) ∙ ap (λ (r : Rank J S T). most r.job) (get_or_default final k d d' h))
             ∙ sym (map-map most job_of final) ∙ ap (map most) (sym x.jobs_are);
         moved = total_of given gave (λ k d h. ap given (shared k d h))
-            ∙ ap (λ (n : ℕ). min n cap) (evened o starts logs bs (let n = x.some in omega arith) ran one)
+            ∙ ap (λ (n : ℕ). min n cap) (evened o starts logs queues bs (let n = x.some in omega arith) ran one)
             ∙ sym (total_of taken took (λ k d h. ap taken (shared k d h)));
         untraced = λ off. x.events_are;
         progress = subst (λ (ns : List ℕ). IsProgress ns f.sums.items) (sym (ap (map many) x.jobs_are ∙ map-map many job_of final))
             (progressed log plain shows (λ (b : P). None) seats sums_shows sums_seats o final p q total f.sums.items
-            (are_all log plain shows seats sums_shows sums_seats o starts whole final p q x.first x.last) x.some
-            (all_ended log plain shows seats sums_shows sums_seats whole final p q x.last) x.found x.answer x.total_is x.sums_are);
+            end.all x.some end.done x.found x.answer x.total_is x.sums_are);
       }
 
   -- the seats may be gathered

@@ -11,23 +11,25 @@ use Rattle.circle_run.specs.Ranks.{DoesAll}
 use Rattle.circle_run.specs.Stages.{dealt_to}
 use Rattle.circle_run.specs.declared.settings.Options.{Options}
 
--- a rank that was dealt this, and at its end has this log, no string, and a seat with these batches
-pub record RankRan (o : Options) (me : ℕ) (dealt : Strings) (log : Log) (batches : Batches) : Type 0 where
+-- a rank that was dealt this, and at its end has this log, these strings left, and a seat with these batches
+pub record RankRan (o : Options) (me : ℕ) (dealt : Strings) (log : Log) (left : Strings) (batches : Batches) : Type 0 where
   pub moves : List Move
   pub last : Side
   pub does : DoesAll o me moves (record { queue = dealt; log = []; draws = generator_of o.seed me; batches = Some (unused o.ranks); told = None }) last
-  pub empty : last.queue ≡ []
+  pub queued : last.queue ≡ left
   pub logged : last.log ≡ log
   pub kept : last.batches ≡ Some batches
 
 -- all ranks, by their number
-pub record AllRan (o : Options) (starts : Strings) (logs : List Log) (batches : List Batches) : Type 0 where
+pub record AllRan (o : Options) (starts : Strings) (logs : List Log) (left : List Strings) (batches : List Batches) : Type 0 where
   pub count : length logs ≡ o.ranks
+  pub lists : length left ≡ o.ranks
   pub as_many : length batches ≡ o.ranks
-  pub each : (k : ℕ) (d : Log) (b : Batches) → k < o.ranks → RankRan o k (dealt_to o.ranks starts k) (slice_index_or logs k d) (slice_index_or batches k b)
+  pub each : (k : ℕ) (d : Log) (l : Strings) (b : Batches) → k < o.ranks
+      → RankRan o k (dealt_to o.ranks starts k) (slice_index_or logs k d) (slice_index_or left k l) (slice_index_or batches k b)
   pub even : (i j : ℕ) (b : Batches) → i < o.ranks → j < o.ranks → Even (Some (slice_index_or batches i b)) i (Some (slice_index_or batches j b)) j
 
 -- where each rank made moves of its own to its end, and what each took from each other is what that one gave, the run is balanced
 abbrev pub HostsAreBalanced : Type 0
-HostsAreBalanced = (o : Options) (starts : Strings) (logs : List Log) (batches : List Batches) → 0 < o.ranks → AllRan o starts logs batches
-    → Balanced (flat_map (λ l. l) logs) [] starts
+HostsAreBalanced = (o : Options) (starts : Strings) (logs : List Log) (left : List Strings) (batches : List Batches)
+    → 0 < o.ranks → AllRan o starts logs left batches → Balanced (flat_map (λ l. l) logs) (flat_map (λ l. l) left) starts

@@ -2,7 +2,8 @@
 -- That a rank works on its own strings and asks another once it has none is from LaFon, Misra and Bringhurst, On Distributed File Tree Walk
 -- of Parallel File Systems (SC 2012); that only an idle rank moves the token is EWD840's. The order of these, and that a rank was refused
 -- once before it moves the token, are our own.
-use Rattle.std.specs.Prelude.{◌≡◌, ◌≢◌, ℕ, zero, suc, ◌-◌, ◌==◌, ◌||◌, ◌⊎◌, Bool, true, if◌then◌else◌, List, length, [], ◌∷◌, ◌++◌, Option, Some, None}
+use Rattle.std.specs.Prelude.{◌≡◌, ◌≢◌, ℕ, zero, suc, ◌-◌, ◌==◌, ◌||◌, ◌⊎◌, nat_le, Bool, true, false, if◌then◌else◌, All, List, length, [], ◌∷◌, ◌++◌}
+use Rattle.std.specs.Prelude.{Option, Some, None}
 use Rattle.std.specs.List.{flat_map}
 use Rattle.std.specs.Option.{option_map}
 use Rattle.ring_core.specs.World.{darker}
@@ -12,10 +13,11 @@ use Rattle.ring_core.specs.declared.states.Token.{Token}
 use Rattle.ring_core.specs.declared.states.Token.TheVariants.{At, Over}
 use Rattle.post_board.specs.Shown.{Strings, Shown}
 use Rattle.post_board.specs.Told.{Told}
-use Rattle.post_board.specs.Deeds.{Deed, ask, take, take_none, pass, restart, conclude, see_over}
+use Rattle.post_board.specs.Deeds.{Deed, ask, take, take_none, pass, restart, conclude, see_over, withdraw, halt, stop}
 use Rattle.post_board.specs.declared.answers.Ring.{Ring}
-use Rattle.post_board.specs.declared.answers.Ring.TheVariants.{Elsewhere, Here, Over as HeardOver}
-use Rattle.circle_run.specs.Moves.{Move, handled, served, did}
+use Rattle.post_board.specs.declared.answers.Ring.TheVariants.{Elsewhere, Here, Over as HeardOver, Halted as HeardHalted}
+use Rattle.circle_run.specs.Moves.{Move, handled, served, did, noted}
+use Rattle.circle_run.specs.declared.settings.Options.{Options}
 use Rattle.circle_run.specs.declared.ranks.Rank.{Rank}
 
 -- what a rank goes by
@@ -63,22 +65,27 @@ moved_on zero White = conclude
 moved_on zero Black = restart
 moved_on (suc r) colour = pass colour
 
--- the moves of a choice. Where the answer has not come there is none
+-- the moves of a choice. Where the answer has not come there is none, and a request to a rank that has stopped is taken back
 abbrev pub Chosen : ℕ → Choice → List Move → Type 0
 Chosen me to_handle moves = (path : List ℕ) × (kids : Strings) × (moves ≡ handled path kids ∷ [])
-Chosen me (to_look victim) moves = (moves ≡ []) ⊎ ((moves ≡ did (take_none victim) ∷ []) ⊎ ((batch : Strings) × (moves ≡ did (take victim batch) ∷ [])))
+Chosen me (to_look victim) moves =
+    (moves ≡ [])
+    ⊎ ((moves ≡ did (take_none victim) ∷ [])
+    ⊎ ((moves ≡ noted (withdraw victim) ∷ [])
+    ⊎ ((batch : Strings) × (moves ≡ did (take victim batch) ∷ []))))
 Chosen me (to_move held) moves = (own : Colour) × (moves ≡ did (moved_on me (darker own held)) ∷ [])
 Chosen me to_ask moves = (victim : ℕ) × (moves ≡ did (ask victim) ∷ [])
 
--- what the rank me reads of the ring while the token is so
-abbrev pub ring_of : ℕ → Token → Ring
-ring_of me (At place colour) = if place == me then Here colour else Elsewhere
-ring_of me Over = HeardOver
+-- what the rank me reads of the ring while the token is so, and all are to halt or not
+abbrev pub ring_of : ℕ → Token → Bool → Ring
+ring_of me Over called = HeardOver
+ring_of me (At place colour) true = HeardHalted
+ring_of me (At place colour) false = if place == me then Here colour else Elsewhere
 
 -- where the token is told, this is what the rank me reads of the ring
 abbrev pub IsRing : ℕ → Option Told → Ring → Type 0
 IsRing me None ring = Unit {0}
-IsRing me (Some t) ring = ring ≡ ring_of me t.token
+IsRing me (Some t) ring = ring ≡ ring_of me t.token t.halt
 
 -- the colour of the token, where it was read here
 abbrev pub held_of : Ring → Option Colour
@@ -107,15 +114,58 @@ pub record Goes (n me : ℕ) (x : Standing) (held' : Option Colour) (heard heard
   pub held_is : held' ≡ held_after (choice n (record x { queue = left })) x.ring
   pub heard_is : heard' ≡ heard_after (choice n (record x { queue = left })) (length left - 1) heard
 
+-- a rank that has handled so many strings has handled all that it may
+abbrev pub is_due : Option ℕ → ℕ → Bool
+is_due None count = false
+is_due (Some k) count = nat_le k count
+
+abbrev pub is_halt : Ring → Bool
+is_halt HeardHalted = true
+is_halt _ = false
+
+-- a rank that has handled all that it may tells all to halt
+abbrev pub first_of : Bool → List Move
+first_of true = noted halt ∷ []
+first_of false = []
+
+-- what a rank does last that is to halt: where it asked, it looks for the answer; else it stops
+abbrev pub Closes : ℕ → Option ℕ → List Move → Type 0
+Closes me (Some victim) moves = Chosen me (to_look victim) moves
+Closes me None moves = moves ≡ noted stop ∷ []
+
+-- what a rank does that is to halt: a service in which it gives nothing, and its last. What comes is queued
+pub record WindsUp (o : Options) (me : ℕ) (due : Bool) (asked : Option ℕ) (heard heard' : Option (List ℕ)) (moves : List Move) : Type 0 where
+  pub answers : List (ℕ × Strings)
+  pub next : List Move
+  pub are : moves ≡ first_of due ++ served answers ∷ next
+  pub refuses : o.stop_after ≢ None → All (λ a. a.1 ≡ []) answers
+  pub closes : Closes me asked next
+  pub heard_is : heard' ≡ heard
+
 module _ {J S T : Type 0} where
   abbrev pub standing : Ring → Rank J S T → Standing
   standing ring r = record { queue = r.queue; asked = r.asked; tried = r.tried; ring = ring }
 
+  -- it has handled all that it may
+  abbrev pub has_done_all : Rank J S T → Bool
+  has_done_all r = is_due r.options.stop_after r.book.share.handled
+
+  -- it is to halt: it has handled all that it may, or was told so
+  abbrev pub is_to_halt : Ring → Rank J S T → Bool
+  is_to_halt ring r = has_done_all r || is_halt ring
+
+  -- it does nothing more at the board: it has seen the end, or has stopped
+  abbrev pub is_done : Rank J S T → Bool
+  is_done r = r.ended || r.stopped
+
 module _ {J S T P : Type 0} (heard : J → Option (List ℕ)) (shows : S → Shown) (tells : P → Option Told) where
-  -- which moves a rank makes in a turn before the end, by what it reads of the ring: where all is over it sees that, and does nothing else.
+  -- which moves a rank makes in a turn before it is done, by what it reads of the ring: where all is over it sees that, and does nothing else.
   -- What it read is told, or else it is what the seat shows of the token afterwards
   pub record Chooses (r : Rank J S T) (p : P) (r' : Rank J S T) (moves : List Move) : Type 0 where
     pub ring : Ring
     pub is : IsRing r.me (tells p) ring
     pub over : ring ≡ HeardOver → (moves ≡ did see_over ∷ []) × (r'.ended ≡ true) × (heard r'.job ≡ heard r.job)
-    pub goes : ring ≢ HeardOver → Goes r.options.ranks r.me (standing ring r) (shows r'.seat).here (heard r.job) (heard r'.job) moves
+    pub goes : ring ≢ HeardOver → is_to_halt ring r ≡ false
+        → Goes r.options.ranks r.me (standing ring r) (shows r'.seat).here (heard r.job) (heard r'.job) moves
+    pub winds : ring ≢ HeardOver → is_to_halt ring r ≡ true
+        → WindsUp r.options r.me (has_done_all r) r.asked (heard r.job) (heard r'.job) moves

@@ -7,7 +7,7 @@ use Rattle.ring_core.specs.declared.events.Event.TheVariants.{Handle, Ask, Give,
 use Rattle.ring_core.specs.World.{Seen, rank_of, started}
 use Rattle.ring_core.specs.Step.{asks, after}
 use Rattle.post_board.specs.Shown.{Strings}
-use Rattle.post_board.specs.Told.{Mail, asked, Told, place}
+use Rattle.post_board.specs.Told.{Mail, asked, Told, place, is_stopped}
 use Rattle.circle_run.specs.Moves.{Move, handled}
 use Rattle.circle_run.specs.Stages.{Stage, Plays, events_of_all, begun}
 use Rattle.circle_run.specs.declared.settings.Options.{Options}
@@ -82,16 +82,16 @@ abbrev pub is_waiting : Mail → Bool
 is_waiting (asked r) = true
 is_waiting _ = false
 
--- who has no event in its turn waits for an answer or has seen the end
-abbrev pub MayIdle : ℕ → Told → Type 0
-MayIdle r t = (is_waiting (place t r).mail ≡ true) ⊎ ((place t r).ended ≡ true)
+-- who has no event in its turn waits for an answer or has seen the end before it, or has stopped after it
+abbrev pub MayIdle : ℕ → Told → Told → Type 0
+MayIdle r t t' = (is_waiting (place t r).mail ≡ true) ⊎ (((place t r).ended ≡ true) ⊎ (is_stopped t' r ≡ true))
 
 -- turn number k is that of rank k mod n, so the ranks have their turns in rounds
 abbrev pub PlaysTurns : Options → ℕ → List (List Move) → Stage → Stage → Type 0
 PlaysTurns o k [] from to = to ≡ from
 PlaysTurns o k (turn ∷ turns) from to =
     (mid : Stage) × HandlesLast turn × Plays o (moves_in (k % o.ranks) turn) from mid
-    × (events_of_all (moves_in (k % o.ranks) turn) ≡ [] → MayIdle (k % o.ranks) from.told)
+    × (events_of_all (moves_in (k % o.ranks) turn) ≡ [] → MayIdle (k % o.ranks) from.told mid.told)
     × PlaysTurns o (suc k) turns mid to
 
 abbrev pub moves_of_turns : ℕ → ℕ → List (List Move) → List (ℕ × Move)

@@ -13,6 +13,7 @@ use Rattle.circle_run.specs.Books.{counted}
 use Rattle.circle_run.specs.Fair.{HandlesLast, MayIdle, PlaysTurns, moves_of_turns}
 use Rattle.circle_run.specs.Ranks.{DoesAll, side}
 use Rattle.circle_run.specs.Ready.{Ready}
+use Rattle.circle_run.specs.Choices.{is_done}
 use Rattle.circle_run.specs.declared.settings.Options.{Options}
 use Rattle.circle_run.specs.declared.ranks.Rank.{Rank}
 
@@ -47,10 +48,10 @@ module _ {J S T D : Type 0} (plain : J → D) where
     pub facts : (k : ℕ) (d : Rank J S T) → k < length ranks → plain (slice_index_or ranks' k d).job ≡ plain (slice_index_or ranks k d).job
 
 module _ {J S T P Q : Type 0} (log : J → Log) (shows : S → Shown) (seats : P → S → Type 0) (sums_shows : T → SumShown) (sums_seats : Q → T → Type 0) where
-  -- a rank between two turns, and whether it is done: whether it has ended and knows the final sum
+  -- a rank between two turns, and whether it is over: whether it is done at the board and knows the final sum
   pub record Placed (done : Bool) (r : Rank J S T) (p : P) (q : Q) : Type 0 where
     pub ready : Ready log shows seats sums_shows sums_seats r p q
-    pub over : done ≡ true → (r.ended ≡ true) × ((sums_shows r.sums_seat).answer ≢ None)
+    pub over : done ≡ true → (is_done r ≡ true) × ((sums_shows r.sums_seat).answer ≢ None)
     pub going : done ≡ false → (sums_shows r.sums_seat).answer ≡ None
 
   abbrev pub AllPlaced : List Bool → List (Rank J S T) → P → Q → Type 0
@@ -60,14 +61,14 @@ module _ {J S T P Q : Type 0} (log : J → Log) (shows : S → Shown) (seats : P
   abbrev pub AllReady : List (Rank J S T) → P → Q → Type 0
   AllReady ranks p q = (k : ℕ) (d : Rank J S T) → k < length ranks → Placed false (slice_index_or ranks k d) p q
 
-  -- each rank has ended and knows the final sum
+  -- each rank is done and knows the final sum
   abbrev pub AllEnded : List (Rank J S T) → P → Q → Type 0
   AllEnded ranks p q = (k : ℕ) (d : Rank J S T) → k < length ranks → Placed true (slice_index_or ranks k d) p q
 
--- where it is told, the rank waits for an answer or has seen the end
-abbrev pub MayIdleIfTold : ℕ → Option Told → Type 0
-MayIdleIfTold r None = Unit {0}
-MayIdleIfTold r (Some t) = MayIdle r t
+-- where it is told, the rank may have no event
+abbrev pub MayIdleIfTold : ℕ → Option Told → Option Told → Type 0
+MayIdleIfTold r (Some t) (Some t') = MayIdle r t t'
+MayIdleIfTold r _ _ = Unit {0}
 
 module _ {J S T P D : Type 0} (log : J → Log) (plain : J → D) (shows : S → Shown) (tells : P → Option Told) (seats : P → S → Type 0) where
   -- a rank had this turn, which was counted and, with a trace, kept
@@ -78,7 +79,7 @@ module _ {J S T P D : Type 0} (log : J → Log) (plain : J → D) (shows : S →
     pub does : DoesAll r.options r.me turn (side log plain shows tells seats r p) (side log plain shows tells seats r' p')
     pub kept : r'.book.events.items ≡ r.book.events.items ++ (if r.options.trace then flat_map (events_of r.me) turn else [])
     pub share : r'.book.share ≡ counted (flat_map (events_of r.me) turn) r.book.share
-    pub idle : flat_map (events_of r.me) turn ≡ [] → MayIdleIfTold r.me (tells p)
+    pub idle : flat_map (events_of r.me) turn ≡ [] → MayIdleIfTold r.me (tells p) (tells p')
 
   -- what a turn comes to, or none where the rank is done. Unless it found no memory, it had some turn
   pub record Took (r : Rank J S T) (p : P) (r' : Rank J S T) (p' : P) : Type 0 where

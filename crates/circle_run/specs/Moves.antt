@@ -3,7 +3,7 @@
 -- Handling, asking and giving are those of LaFon, Misra and Bringhurst, On Distributed File Tree Walk of Parallel File Systems (SC 2012),
 -- the token is EWD840's; amounts, the order in a queue and the victims are our own.
 use Rattle.std.specs.Prelude.{◌≡◌, ◌≢◌, ◌⊎◌, ℕ, zero, suc, ◌-◌, ◌<◌, ◌^◌, ◌==◌, ◌&&◌, Bool, true, false, not, if◌then◌else◌, min, All, List, length}
-use Rattle.std.specs.Prelude.{[], ◌∷◌, ◌++◌, map, filter, replicate, Option, Some, None}
+use Rattle.std.specs.Prelude.{[], ◌∷◌, ◌++◌, map, filter, replicate, Option, Some, None, IfSome}
 use Rattle.std.specs.List.{flat_map, range_with_len}
 use Rattle.rand_pcg.specs.Lcg.{Lcg}
 use Rattle.rank_queue.specs.Shares.{word, after_word, equal_share, random_share, victim}
@@ -143,10 +143,15 @@ pub record Serves (o : Options) (me : ℕ) (answers : List (ℕ × Strings)) (s 
   pub batches : s'.batches ≡ batches_after_all (map answer_of answers) s.batches
   pub told : TellsAll me (map answer_of answers) s.told s'.told
 
+-- a rank that has handled so many strings may handle one more
+abbrev pub MayHandle : Options → ℕ → Type 0
+MayHandle o count = IfSome o.stop_after (λ k. count < k)
+
 -- the newest string is handled, and the strings pushed for it are queued in order, while nobody asks
-pub record Handles (me : ℕ) (path : List ℕ) (kids : Strings) (s s' : Side) : Type 0 where
+pub record Handles (o : Options) (me : ℕ) (path : List ℕ) (kids : Strings) (s s' : Side) : Type 0 where
   pub rest : Strings
   pub live : IsLive me s.told
+  pub may : MayHandle o (length s.log)
   pub newest : s.queue ≡ rest ++ path ∷ []
   pub unasked : NobodyAsks me s.told
   pub few : length (rest ++ kids) < 2 ^ 64
@@ -179,7 +184,7 @@ pub record DoesLate (o : Options) (me : ℕ) (late : Late) (s s' : Side) : Type 
   pub after : s' ≡ record s { told = s'.told }
 
 abbrev pub Does : Options → ℕ → Move → Side → Side → Type 0
-Does o me (handled path kids) s s' = Handles me path kids s s'
+Does o me (handled path kids) s s' = Handles o me path kids s s'
 Does o me (served answers) s s' = Serves o me answers s s'
 Does o me (did deed) s s' = DoesDeed o me deed s s'
 Does o me (noted late) s s' = DoesLate o me late s s'

@@ -24,11 +24,12 @@ module _ {J S T : Type 0} (shows : S → Shown) where
     pub asked : (shows r.seat).asked ≡ r.asked
     pub asks : (v : ℕ) → r.asked ≡ Some v → v < r.options.ranks
     pub ended : (shows r.seat).ended ≡ r.ended
-    pub stopped : (shows r.seat).stopped ≡ false
+    pub stopped : (shows r.seat).stopped ≡ r.stopped
     pub inside : r.me < r.options.ranks
     pub few : r.options.ranks ≤ 64
     pub wide : length (shows r.seat).serves ≡ r.options.ranks
     pub idle : (shows r.seat).busy ≡ false → r.queue ≡ []
+    pub waits : (v : ℕ) → r.asked ≡ Some v → r.queue ≡ []
     pub over : r.ended ≡ true → r.queue ≡ []
     pub empty : r.fresh ≡ []
 

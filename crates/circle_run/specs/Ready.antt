@@ -1,5 +1,5 @@
 -- A rank between two turns, and what a turn comes to. Our own.
-use Rattle.std.specs.Prelude.{◌≡◌, ℕ, ◌≤◌, true, false, List, length, [], Option, None}
+use Rattle.std.specs.Prelude.{◌≡◌, ℕ, ◌-◌, ◌^◌, ◌≤◌, ◌⊎◌, min, true, false, List, length, [], Option, Some, None, IfSome}
 use Rattle.rank_queue.specs.Shares.{generator_of}
 use Rattle.ring_core.specs.declared.states.Colour.TheVariants.{White}
 use Rattle.post_board.specs.Shown.{Shown}
@@ -11,7 +11,7 @@ use Rattle.circle_run.specs.Progress.{Progress, Counts}
 use Rattle.circle_run.specs.Ranks.{Knows, ServesNone, Went}
 use Rattle.circle_run.specs.Moves.{Move}
 use Rattle.circle_run.specs.Turns.{IsTurn}
-use Rattle.circle_run.specs.Choices.{Chooses}
+use Rattle.circle_run.specs.Choices.{is_done, Chooses}
 use Rattle.circle_run.specs.declared.settings.Options.{Options}
 use Rattle.circle_run.specs.declared.ranks.Rank.{Rank}
 use Rattle.circle_run.specs.declared.ranks.Turn.{Turn}
@@ -30,6 +30,7 @@ pub record IsNew {J S T : Type 0} (job : J) (seat : S) (sums_seat : T) (queue : 
     tried = false;
     asked = None;
     ended = false;
+    stopped = false;
     book = r.book;
     fresh = [];
     alloc = r.alloc;
@@ -50,6 +51,17 @@ module _ {J S T Q : Type 0} (sums_shows : T → SumShown) (sums_seats : Q → T 
     pub counted : r.book.lost ≡ false → Counts strings (sums_shows r.sums_seat)
     pub progress : r.book.lost ≡ false → Progress r.me r.book.sums.items (sums_shows r.sums_seat)
 
+module _ {J S T : Type 0} (log : J → Log) (shows : S → Shown) where
+  -- a rank that counted its strings, of which a run that stops has set a number
+  pub record Bounded (r : Rank J S T) : Type 0 where
+    pub counted : r.book.share.handled ≡ min (length (log r.job)) (2 ^ 64 - 1)
+    -- it handles no more
+    pub most : IfSome r.options.stop_after (λ k. length (log r.job) ≤ k)
+    -- it tells all to halt once it has handled as many
+    pub halts : (shows r.seat).halted ≡ true → r.options.stop_after ≡ Some (length (log r.job))
+    -- it stops where it told all to halt, or knows that one did
+    pub stops : r.stopped ≡ true → ((shows r.seat).halted ≡ true) ⊎ ((shows r.seat).knows_halt ≡ true)
+
 module _ {J S T P Q : Type 0} (log : J → Log) (shows : S → Shown) (seats : P → S → Type 0) (sums_shows : T → SumShown) (sums_seats : Q → T → Type 0) where
   -- a rank between two turns. One that found no memory has no string
   pub record Ready (r : Rank J S T) (p : P) (q : Q) : Type 0 where
@@ -57,14 +69,15 @@ module _ {J S T P Q : Type 0} (log : J → Log) (shows : S → Shown) (seats : P
     pub none : ServesNone shows r
     pub mine : seats p r.seat
     pub lost : r.book.lost ≡ true → r.queue ≡ []
+    pub bounded : r.book.lost ≡ false → Bounded log shows r
     pub sums : SumsReady sums_shows sums_seats (length (log r.job)) r q
 
 module _ {J S T P D : Type 0} (log : J → Log) (heard : J → Option (List ℕ)) (plain : J → D) (shows : S → Shown) (tells : P → Option Told)
     (seats : P → S → Type 0) where
-  -- the moves of a turn: what came of it says which there are, and before the end each is the first that applies
+  -- the moves of a turn: what came of it says which there are, and before the rank is done each is the first that applies
   pub record TurnMoves (turn : Turn) (r : Rank J S T) (p : P) (r' : Rank J S T) (moves : List Move) : Type 0 where
-    pub kind : IsTurn r.ended turn moves
-    pub chosen : r.ended ≡ false → Chooses heard shows tells r p r' moves
+    pub kind : IsTurn (is_done r) turn moves
+    pub chosen : is_done r ≡ false → Chooses heard shows tells r p r' moves
 
   -- what a turn comes to. Unless the rank found no memory, it is moves of a turn, which were counted and, with a trace, kept
   pub record Turned (turn : Turn) (r : Rank J S T) (p : P) (r' : Rank J S T) (p' : P) : Type 0 where

@@ -1,4 +1,5 @@
--- What a stop rests on: only where some rank has handled its number of strings are all to halt, and only then does any stop. Our own.
+-- What a stop rests on: no rank handles more than its number of strings, only where some rank has handled as many are all to halt, and only
+-- then does any stop. Our own.
 use Rattle.std.specs.Prelude.{◌≡◌, ℕ, ◌<◌, ◌≤◌, true, List, length, Some}
 use Rattle.post_board.specs.Shown.{Strings}
 use Rattle.post_board.specs.Told.{is_stopped}
@@ -9,6 +10,8 @@ use Rattle.circle_run.specs.declared.settings.Options.{Options}
 pub record Halts (o : Options) (stage : Stage) : Type 0 where
   -- as many places as ranks
   pub many : length stage.ranks ≡ length stage.told.places
+  -- no rank has handled more
+  pub most : (r k : ℕ) → o.stop_after ≡ Some k → length (rank_side stage r).log ≤ k
   -- where all are to halt, some rank has handled so many
   pub cause : stage.told.halt ≡ true → (k r : ℕ) × (o.stop_after ≡ Some k) × (r < length stage.ranks) × (k ≤ length (rank_side stage r).log)
   -- a rank stops only where all are to halt

@@ -2,14 +2,14 @@
 use Rattle.std.specs.Prelude.{◌≡◌, ℕ, ◌+◌, ◌<◌, ◌⊎◌, Bool, true, false, List, length, [], ◌∷◌, Option, Some, None}
 use Rattle.post_board.specs.Shown.{Strings}
 use Rattle.post_board.specs.Told.{Told, asked, place}
-use Rattle.post_board.specs.Deeds.{Deed, see_over}
+use Rattle.post_board.specs.Deeds.{Deed, see_over, withdraw, halt, stop}
 use Rattle.sum_tree.specs.Shown.{SumShown}
 use Rattle.sum_tree.specs.Told.{SumTold, words_below}
-use Rattle.circle_run.specs.Moves.{Move, handled, served, did}
+use Rattle.circle_run.specs.Moves.{Move, handled, served, did, noted}
 use Rattle.circle_run.specs.declared.steps.Did.{Did}
-use Rattle.circle_run.specs.declared.steps.Did.TheVariants.{Handled, Acted, Waited}
+use Rattle.circle_run.specs.declared.steps.Did.TheVariants.{Handled, Acted, Waited, Stopped}
 use Rattle.circle_run.specs.declared.ranks.Turn.{Turn}
-use Rattle.circle_run.specs.declared.ranks.Turn.TheVariants.{Went as TurnWent, Waited as TurnWaited, Ended as TurnEnded}
+use Rattle.circle_run.specs.declared.ranks.Turn.TheVariants.{Went as TurnWent, Waited as TurnWaited, Stopped as TurnStopped, Ended as TurnEnded}
 
 -- where it is told, the rank waits for an answer to its request
 abbrev pub Waits : ℕ → Option Told → Type 0
@@ -20,18 +20,29 @@ Waits me (Some t) = (victim : ℕ) × ((place t me).mail ≡ asked victim)
 abbrev pub AddsUp : SumShown → SumTold → Type 0
 AddsUp s t = s.word ≡ s.count + words_below t s.number
 
--- a service and then a string handled; that it saw the end, or a service and then what it did, or a service of some; or nothing, and nobody asked
+-- it asks, takes what came, moves the token, or takes its request back
+abbrev pub IsAct : Move → Type 0
+IsAct move = ((deed : Deed) × (move ≡ did deed)) ⊎ ((from : ℕ) × (move ≡ noted (withdraw from)))
+
+-- a service and then a string handled; that it saw the end, or a service and then what it did, or a service of some; or nothing, and nobody
+-- asked; or a service and then the stop
 abbrev pub Worked : Did → List Move → Type 0
 Worked Handled moves = (answers : List (ℕ × Strings)) × (path : List ℕ) × (kids : Strings) × (moves ≡ served answers ∷ handled path kids ∷ [])
 Worked Acted moves =
     (moves ≡ did see_over ∷ [])
-    ⊎ (((answers : List (ℕ × Strings)) × (deed : Deed) × (moves ≡ served answers ∷ did deed ∷ []))
+    ⊎ (((answers : List (ℕ × Strings)) × (move : Move) × IsAct move × (moves ≡ served answers ∷ move ∷ []))
     ⊎ ((answers : List (ℕ × Strings)) × (0 < length answers) × (moves ≡ served answers ∷ [])))
 Worked Waited moves = moves ≡ served [] ∷ []
+Worked Stopped moves = (answers : List (ℕ × Strings)) × (moves ≡ served answers ∷ noted stop ∷ [])
 
--- the moves of a turn, by whether the rank had ended before
+-- these moves, before which the rank may tell all to halt
+abbrev pub MayHalt : (List Move → Type 0) → List Move → Type 0
+MayHalt P moves = P moves ⊎ ((rest : List Move) × P rest × (moves ≡ noted halt ∷ rest))
+
+-- the moves of a turn, by whether the rank was done before
 abbrev pub IsTurn : Bool → Turn → List Move → Type 0
 IsTurn true turn moves = moves ≡ []
-IsTurn false TurnWent moves = Worked Handled moves ⊎ Worked Acted moves
-IsTurn false TurnWaited moves = Worked Waited moves
+IsTurn false TurnWent moves = Worked Handled moves ⊎ MayHalt (Worked Acted) moves
+IsTurn false TurnWaited moves = MayHalt (Worked Waited) moves
+IsTurn false TurnStopped moves = MayHalt (Worked Stopped) moves
 IsTurn false TurnEnded moves = ⊥

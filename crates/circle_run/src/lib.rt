@@ -22,7 +22,9 @@
 //!                  (the oldest strings)   look for the answer to a request; move the token; ask by lot
 //! ```
 //!
-//! Then the rank counts what it handled. After the end a turn asks for the final sum.
+//! Then the rank counts what it handled. After the end a turn asks for the final sum. In a run that stops after some number, a rank
+//! that has handled as many tells all to halt, and who is told so refuses all that ask; then it looks for the answer to a request
+//! that is open, and stops where none is.
 //!
 //! Proved of a turn, whatever the job, the board and the sums do, unless the rank found no memory: it is moves of a turn, that
 //! is, that it saw the end, or a service and then the first of the picture that applies, by what waits after the service and
@@ -35,18 +37,19 @@
 //! passed over, and the last is the final sum. A rank that found no memory has no string and goes on to the end.
 //!
 //! A [`Host`] has ranks and gives each that is not done a turn, in rounds and in ascending order, until all are done. Proved:
-//! the ranks come back in their order, each has seen the end and knows the final sum, and plain data are as before. Over a
+//! the ranks come back in their order, each has seen the end or has stopped and knows the final sum, and plain data are as before. Over a
 //! board that tells its places, where the host has all ranks and none was refused memory, their turns are played one behind the
 //! other, and each share counts what its rank's moves say. A board, or sums, that tell nothing stay the same value; there each
 //! rank made moves of its own, which its share counts.
 //!
 //! Proved of [`begin`], whatever the job does: the run is *balanced*. Each string was handled or is left as often as it was a
 //! start or was pushed ([`balance_is_as_often`]), so no string is lost and none is handled more often. Nothing is left unless the
-//! run was to stop. The jobs come back in their order with their plain data, and what a share counts is what its job's log
-//! holds; what all ranks gave all ranks took. The shares are what the events of some whole run say, with a trace or without,
-//! and with one those events are kept: `IsTraced` in `specs/Traced.antt` says what a whole run is. The numbers of progress are
-//! each but the last at least 1,000 above the one before it, and the last is the number of strings handled in all. Only memory can
-//! fail.
+//! run was to stop after some number; then no rank handles more strings than that, and something is left only where some rank
+//! handled as many. The jobs come back in their order with their plain data, and what a share counts is what its job's log
+//! holds; what all ranks gave all ranks took. Where the run was not to stop, the shares are what the events of some whole run
+//! say, with a trace or without, and with one those events are kept: `IsTraced` in `specs/Traced.antt` says what a whole run is.
+//! The numbers of progress are each but the last at least 1,000 above the one before it, and the last is the number of strings
+//! handled in all. Only memory can fail.
 //! That a run ends is not proved: a job may push for ever.
 //!
 //! What is proved of a run rests on laws over its moves. What a rank does is a *move*: it handles a string, answers those that
@@ -72,8 +75,8 @@
 //! balance follows from what the seats say when they come together ([`hosts_are_balanced`]). What [`begin`] says of a whole run
 //! and its events is asked for one host. The ranks of a host whose thread was refused run with those of host 0. All memory that
 //! starting and joining take is taken before the first start, and nothing is left early until host 0 is done: the other ranks
-//! would wait for its ranks for ever. A host whose ranks have no string yields its processor after a round. No turn halts or stops
-//! yet, and [`begin`] asks for no stop.
+//! would wait for its ranks for ever. A host whose ranks have no string yields its processor after a round. A run stops in the
+//! same way on one host and on several: each seat that knows that all are to halt knows it of one that told all so.
 //!
 //! `specs/Balance.antt` has the definitions of a balance, `specs/Moves.antt` those of a rank's moves, `specs/Choices.antt` which
 //! move a rank makes, `specs/Ready.antt` what holds of a rank between two turns and what a turn comes to; `specs/Stages.antt`
@@ -85,6 +88,7 @@
 mod backs;
 mod books;
 mod errors;
+mod halting;
 mod hosts;
 mod jobs;
 mod laws;

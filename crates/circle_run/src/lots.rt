@@ -1,8 +1,9 @@
 //! What each rank that asks gets of a queue.
-ghost use Rattle.std.specs.Prelude.{◌≡◌, ◌<◌, ◌≤◌, ◌+◌, ◌-◌, ◌∷◌, ◌⊎◌, ℕ, suc};
+ghost use Rattle.std.specs.Prelude.{◌≡◌, ◌<◌, ◌≤◌, ◌+◌, ◌-◌, ◌∷◌, ◌⊎◌, ℕ, suc, true, false};
 ghost use Rattle.rand_pcg.specs.Lcg.{Lcg};
 ghost use Rattle.circle_run.specs.Moves.{amounts};
 ghost use Rattle.circle_run.specs.Private.Services.{amounts_of, Fits};
+ghost use Rattle.circle_run.specs.declared.lots.Lot.TheVariants.{Same};
 
 use crate::settings::Split;
 use rand_pcg::Pcg32;
@@ -18,8 +19,22 @@ pub(crate) enum Lot {
 }
 
 impl Lot {
+    /// What is shared out, or nothing where a rank refuses all.
+    pub(crate) fn of(gives: bool, split: Split, queued: u64, askers: u64) -> Lot
+        requires { askers ≤ 64 }
+        ensures amounts { gives ≡ true → (from : Lcg) → amounts_of result askers from ≡ amounts split queued askers from }
+        ensures nothing { gives ≡ false → result ≡ Same 0 }
+        ensures fits { Fits result askers queued }
+    {
+        if gives {
+            Lot::make(split, queued, askers)
+        } else {
+            Lot::Same(0)
+        }
+    }
+
     /// What is shared out of `queued` strings among `askers` ranks. Lots see at most 2^32 strings.
-    pub(crate) fn make(split: Split, queued: u64, askers: u64) -> Lot
+    fn make(split: Split, queued: u64, askers: u64) -> Lot
         requires { askers ≤ 64 }
         ensures amounts { (from : Lcg) → amounts_of result askers from ≡ amounts split queued askers from }
         ensures fits { Fits result askers queued }

@@ -1,6 +1,6 @@
 //! A run whose ranks are spread over several threads.
 ghost use Rattle.std.specs.Prelude.{◌≡◌, ◌<◌, ◌≤◌, [], map, length, sum_by, All, IfOk, Some, true, false, slice_index_or};
-ghost use Rattle.post_board.specs.Calls.{AllDone, AllEven};
+ghost use Rattle.post_board.specs.Calls.{AllDone, AllEven, Halters};
 ghost use Rattle.post_board.specs.Fresh.{AllFresh};
 ghost use Rattle.post_board.specs.BoardSeats.{IsSeat as IsBoardSeat, shown_by as board_shown, unused};
 ghost use Rattle.sum_tree.specs.Shown.{AllFinished};
@@ -110,6 +110,7 @@ fn gather_all(board: &Board, seats: Vec<BoardSeat>, tree: &SumTree, sums_seats: 
     requires all { AllDone board_shown (IsBoardSeat board.now) seats.items }
     requires finished { AllFinished sum_shown (IsSumSeat tree.now) sums_seats.items }
     ensures even { AllEven board_shown (IsBoardSeat board.now) seats.items }
+    ensures halters { Halters board_shown (IsBoardSeat board.now) seats.items }
     ensures sum { result ≡ sum_by (λ seat. (sum_shown seat).count) sums_seats.items }
     ensures first { (d : SumSeat) → (sum_shown (slice_index_or sums_seats.items 0 d)).answer ≡ Some result }
 {

@@ -16,6 +16,8 @@ pub enum Turn {
     Went,
     /// The rank waits: for the answer to its request, or for the final sums of the ranks below it in the tree of sums.
     Waited,
+    /// The rank stopped at the board, since all are to halt. Its final sum is still to come.
+    Stopped,
     /// The rank has nothing left to do, and its final sum is known.
     Ended,
 }
@@ -45,6 +47,8 @@ pub struct RankState<J, S, T> {
     pub asked: Option<u32>,
     /// Whether it has seen the end.
     pub ended: bool,
+    /// Whether it has stopped, since all are to halt.
+    pub stopped: bool,
     /// What it wrote down of what it did.
     pub book: Book,
     /// Where the job puts what it pushes. It is empty but while a string is handled.

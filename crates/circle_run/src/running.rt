@@ -33,9 +33,8 @@ pub fn begin<R: Threads + Wait + Sync, J: Job + Send + Drop>(
 ) -> Result<Finished<J>, CircleError>
     requires ranks { (1 ≤ options.now.ranks) × (options.now.ranks ≤ 64) }
     requires hosts { (1 ≤ options.now.hosts) × (options.now.hosts ≤ 64) }
-    requires trace { options.now.trace ≡ true → options.now.hosts ≡ 1 }
+    requires trace { options.now.trace ≡ true → (options.now.hosts ≡ 1) × (options.now.stop_after ≡ None) }
     requires width { (2 ≤ options.now.width) × (options.now.width ≤ 64) }
-    requires stop_after { options.now.stop_after ≡ None }
     requires jobs { length jobs.items ≡ options.now.ranks }
     requires unused { All (λ job. J.log job ≡ []) jobs.items }
 
@@ -58,7 +57,7 @@ pub fn begin<R: Threads + Wait + Sync, J: Job + Send + Drop>(
     ensures traced { IfOk result (λ f. options.now.trace ≡ true → IsTraced options.now starts.items (map J.log f.jobs.items) f.events.items) }
     ensures untraced { IfOk result (λ f. options.now.trace ≡ false → f.events.items ≡ []) }
     ensures counts { IfOk result (λ f. options.now.trace ≡ true → f.shares.items ≡ map (share_in f.events.items) (range_with_len 0 options.now.ranks)) }
-    ensures ran { IfOk result (λ f. options.now.hosts ≡ 1 → WasRun options.now starts.items (map J.log f.jobs.items) f.shares.items f.events.items) }
+    ensures ran { IfOk result (λ f. options.now.hosts ≡ 1 → options.now.stop_after ≡ None → WasRun options.now starts.items (map J.log f.jobs.items) f.shares.items f.events.items) }
     ensures progress { IfOk result (λ f. IsProgress (map (λ job. length (J.log job)) f.jobs.items) f.sums.items) }
 {
     if options.hosts > 1 {
@@ -85,7 +84,6 @@ fn run_whole<R: Wait, J: Job + Drop, S: Drop, T: Drop, P: Post<Seat = S>, Q: Sum
 ) -> Result<Finished<J>, OutOfMemory>
     requires ranks { (1 ≤ options.now.ranks) × (options.now.ranks ≤ 64) }
     requires width { options.now.width ≤ 64 }
-    requires stop_after { options.now.stop_after ≡ None }
     requires jobs { length jobs.items ≡ options.now.ranks }
     requires unused { All (λ job. J.log job ≡ []) jobs.items }
     requires told { P.tells post.old ≡ Some (fresh_told options.now.ranks) }
@@ -93,7 +91,7 @@ fn run_whole<R: Wait, J: Job + Drop, S: Drop, T: Drop, P: Post<Seat = S>, Q: Sum
     requires sums_shown { map Q.shows sums_seats.items ≡ map (fresh options.now.ranks options.now.width) (range_with_len 0 options.now.ranks) }
     requires sums_seats { (k : ℕ) (d : T) → k < options.now.ranks → Q.seats sums.old (slice_index_or sums_seats.items k d) }
     ensures outcome { IfOk result (λ f. IsOutcome J.log J.plain options.now starts.items jobs.items f) }
-    ensures run { IfOk result (λ f. IsRun J.log options.now starts.items f) }
+    ensures run { IfOk result (λ f. options.now.stop_after ≡ None → IsRun J.log options.now starts.items f) }
 {
     nothing_waits_at_end();
     rounds_are_fair();

@@ -1,8 +1,8 @@
 //! The service at the beginning of a turn: all ranks that ask get their answers.
-ghost use Rattle.std.specs.Prelude.{◌≡◌, ◌≢◌, ◌<◌, ◌≤◌, ◌++◌, ◌⊎◌, [], take, length, true, false, if◌then◌else◌, IfSome, IfNone};
+ghost use Rattle.std.specs.Prelude.{◌≡◌, ◌≢◌, ◌<◌, ◌≤◌, ◌++◌, ◌⊎◌, [], take, length, true, false, if◌then◌else◌, IfSome, IfNone, None};
 ghost use Rattle.ring_core.specs.declared.states.Colour.TheVariants.{Black};
 ghost use Rattle.post_board.specs.Shown.{is_served};
-ghost use Rattle.circle_run.specs.Moves.{AreAskers, NobodyAsks};
+ghost use Rattle.circle_run.specs.Moves.{AreAskers, NobodyAsks, IsHalted};
 ghost use Rattle.circle_run.specs.Ranks.{Knows, ServesNone};
 ghost use Rattle.circle_run.specs.Private.Steps.{Came};
 ghost use Rattle.circle_run.specs.Private.Steps.{Served};
@@ -17,24 +17,29 @@ use rank_queue::{Batch, RankQueue};
 use ring_core::{Colour, Event};
 
 impl<J: Job, S, T> RankState<J, S, T> {
-    /// Takes up all requests and answers each of them. Says whether there was one.
-    pub(crate) fn serve<P: Post<Seat = S>>(&mut self, post: &mut P) -> bool
+    /// Takes up all requests and answers each of them: it gives, or refuses all. Says whether there was one.
+    pub(crate) fn serve<P: Post<Seat = S>>(&mut self, post: &mut P, gives: bool) -> bool
         requires seat { P.seats post.old self.old.seat }
         requires knows { Knows P.shows self.old }
         requires none { ServesNone P.shows self.old }
         requires live { self.old.ended ≡ false }
-        ensures came { Came J.log J.plain P.shows P.tells P.seats (Served result) self.old post.old self.new post.new }
+        requires going { self.old.stopped ≡ false }
+        requires refuses { gives ≡ false → (self.old.options.stop_after ≢ None) × IsHalted (P.tells post.old) }
+        ensures came { Came J.log J.plain P.shows P.tells P.seats (Served gives result) self.old post.old self.new post.new }
         ensures unasked { NobodyAsks self.old.me (P.tells post.new) }
         ensures job { self.new.job ≡ self.old.job }
         ensures ended { self.new.ended ≡ false }
         ensures asked { self.new.asked ≡ self.old.asked }
         ensures tried { self.new.tried ≡ self.old.tried }
         ensures here { (P.shows self.new.seat).here ≡ (P.shows self.old.seat).here }
+        ensures goes { self.new.stopped ≡ false }
+        ensures halted { (P.shows self.new.seat).halted ≡ (P.shows self.old.seat).halted }
+        ensures knows_halt { (P.shows self.new.seat).knows_halt ≡ (P.shows self.old.seat).knows_halt }
     {
         let mut asks = [0; 64];
         let count = self.take_up(post, &mut asks);
         let queued = self.queue.len() as u64;
-        let mut lot = Lot::make(self.options.split, queued, count as u64);
+        let mut lot = Lot::of(gives, self.options.split, queued, count as u64);
         for k in 0..count {
             let share = lot.next(&mut self.draws);
             self.answer_one(post, asks[k], share);
@@ -48,6 +53,7 @@ impl<J: Job, S, T> RankState<J, S, T> {
         requires knows { Knows P.shows self.old }
         requires none { ServesNone P.shows self.old }
         requires live { self.old.ended ≡ false }
+        requires going { self.old.stopped ≡ false }
         ensures taken { Taken J.log P.shows P.tells P.seats self.old post.old self.new post.new asks.new result }
         ensures awaits { Awaits (P.shows self.new.seat) (P.tells post.new) }
         ensures askers { AreAskers self.old.me (P.tells post.new) (take result asks.new) }
@@ -66,6 +72,7 @@ impl<J: Job, S, T> RankState<J, S, T> {
         requires seat { P.seats post.old self.old.seat }
         requires knows { Knows P.shows self.old }
         requires live { self.old.ended ≡ false }
+        requires going { self.old.stopped ≡ false }
         requires served { is_served (P.shows self.old.seat) to ≡ true }
         requires awaits { Awaits (P.shows self.old.seat) (P.tells post.old) }
         ensures { Answered J.log P.shows P.tells P.seats to share self.old post.old self.new post.new }

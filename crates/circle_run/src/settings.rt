@@ -24,6 +24,6 @@ pub struct Options {
     pub width: u32,
     /// Whether the events of the run are kept.
     pub trace: bool,
-    /// How many strings one rank handles before all stop.
+    /// How many strings a rank handles at most. Once one has handled as many, it and all others stop; none where all are to be handled.
     pub stop_after: Option<u64>,
 }

@@ -1,15 +1,15 @@
 //! The steps of a turn by which a rank goes on.
 ghost use Rattle.std.specs.Prelude.{◌≡◌, ◌≢◌, ◌+◌, ◌-◌, ◌<◌, ◌⊎◌, [], length, true, false, Some, None};
 ghost use Rattle.post_board.specs.Shown.{is_here};
-ghost use Rattle.post_board.specs.declared.answers.Ring.TheVariants.{Over as HeardOver, Elsewhere as HeardElsewhere};
+ghost use Rattle.post_board.specs.declared.answers.Ring.TheVariants.{Over as HeardOver, Elsewhere as HeardElsewhere, Halted as HeardHalted};
 ghost use Rattle.circle_run.specs.Choices.{to_handle, to_look, to_move, to_ask, choice, standing, IsRing, held_of, held_after, heard_after};
-ghost use Rattle.circle_run.specs.Moves.{NobodyAsks};
+ghost use Rattle.circle_run.specs.Moves.{MayHandle, NobodyAsks, IsHalted};
 ghost use Rattle.circle_run.specs.Ranks.{Knows, ServesNone};
 ghost use Rattle.circle_run.specs.Private.Steps.{Came, HandledNewest};
 ghost use Rattle.circle_run.specs.Turns.{Waits};
 ghost use Rattle.circle_run.specs.Private.Steps.{Heard};
 ghost use Rattle.circle_run.specs.Private.Steps.{Follows};
-ghost use Rattle.circle_run.specs.declared.steps.Did.TheVariants.{Handled as DidHandle, Acted as DidAct, Waited as DidWait};
+ghost use Rattle.circle_run.specs.declared.steps.Did.TheVariants.{Handled as DidHandle, Acted as DidAct, Waited as DidWait, Stopped as DidStop};
 
 use crate::jobs::Job;
 use crate::ranks::RankState;
@@ -26,6 +26,8 @@ pub(crate) enum Did {
     Acted,
     /// The answer to its request has not come.
     Waited,
+    /// It stopped.
+    Stopped,
 }
 
 impl<J: Job, S, T> RankState<J, S, T> {
@@ -35,6 +37,7 @@ impl<J: Job, S, T> RankState<J, S, T> {
         requires knows { Knows P.shows self.old }
         requires none { ServesNone P.shows self.old }
         requires live { self.old.ended ≡ false }
+        requires going { self.old.stopped ≡ false }
         ensures came { Came J.log J.plain P.shows P.tells P.seats (Heard result) self.old post.old self.new post.new }
         ensures over { result ≡ HeardOver → self.new.ended ≡ true }
         ensures more { result ≢ HeardOver → self.new.ended ≡ false }
@@ -42,6 +45,9 @@ impl<J: Job, S, T> RankState<J, S, T> {
         ensures elsewhere { result ≡ HeardElsewhere → 1 < self.new.options.ranks }
         ensures read { IsRing self.old.me (P.tells post.old) result }
         ensures held { (P.shows self.new.seat).here ≡ held_of result }
+        ensures halted { (P.shows self.new.seat).halted ≡ (P.shows self.old.seat).halted }
+        ensures knows_halt { result ≡ HeardHalted → (P.shows self.new.seat).knows_halt ≡ true }
+        ensures told { result ≡ HeardHalted → IsHalted (P.tells post.new) }
         ensures same { self.new ≡ record self.old { seat = self.new.seat; ended = self.new.ended; book = self.new.book } }
     {
         let ring = post.ring(&mut self.seat);
@@ -80,11 +86,12 @@ impl<J: Job, S, T> RankState<J, S, T> {
     }
 
     /// Looks for the answer to the open request, and queues what came.
-    fn look<P: Post<Seat = S>>(&mut self, post: &mut P, victim: u32) -> Did
+    pub(crate) fn look<P: Post<Seat = S>>(&mut self, post: &mut P, victim: u32) -> Did
         requires seat { P.seats post.old self.old.seat }
         requires knows { Knows P.shows self.old }
         requires none { ServesNone P.shows self.old }
         requires live { self.old.ended ≡ false }
+        requires going { self.old.stopped ≡ false }
         requires empty { self.old.queue ≡ [] }
         requires open { self.old.asked ≡ Some victim }
         ensures came { Came J.log J.plain P.shows P.tells P.seats (Follows result self.old.me (to_look victim)) self.old post.old self.new post.new }
@@ -92,6 +99,9 @@ impl<J: Job, S, T> RankState<J, S, T> {
         ensures waits { result ≡ DidWait → Waits self.new.me (P.tells post.new) }
         ensures job { self.new.job ≡ self.old.job }
         ensures other { result ≢ DidHandle }
+        ensures goes { (result ≢ DidStop) × (self.new.stopped ≡ false) }
+        ensures halted { (P.shows self.new.seat).halted ≡ (P.shows self.old.seat).halted }
+        ensures knows_halt { (P.shows self.new.seat).knows_halt ≡ (P.shows self.old.seat).knows_halt }
     {
         let rank = self.me;
         let trace = self.options.trace;
@@ -126,6 +136,7 @@ impl<J: Job, S, T> RankState<J, S, T> {
         requires knows { Knows P.shows self.old }
         requires none { ServesNone P.shows self.old }
         requires live { self.old.ended ≡ false }
+        requires going { self.old.stopped ≡ false }
         requires empty { self.old.queue ≡ [] }
         requires rest { self.old.asked ≡ None }
         requires here { (P.shows self.old.seat).here ≡ Some held }
@@ -133,6 +144,8 @@ impl<J: Job, S, T> RankState<J, S, T> {
         ensures came { Came J.log J.plain P.shows P.tells P.seats (Follows DidAct self.old.me (to_move held)) self.old post.old self.new post.new }
         ensures gone { (P.shows self.new.seat).here ≡ None }
         ensures job { self.new.job ≡ self.old.job }
+        ensures goes { self.new.stopped ≡ false }
+        ensures halted { (P.shows self.new.seat).halted ≡ (P.shows self.old.seat).halted }
     {
         let rank = self.me;
         let trace = self.options.trace;
@@ -163,12 +176,15 @@ impl<J: Job, S, T> RankState<J, S, T> {
         requires knows { Knows P.shows self.old }
         requires none { ServesNone P.shows self.old }
         requires live { self.old.ended ≡ false }
+        requires going { self.old.stopped ≡ false }
         requires empty { self.old.queue ≡ [] }
         requires rest { self.old.asked ≡ None }
         requires many { 1 < self.old.options.ranks }
         ensures came { Came J.log J.plain P.shows P.tells P.seats (Follows DidAct self.old.me to_ask) self.old post.old self.new post.new }
         ensures held { (P.shows self.new.seat).here ≡ (P.shows self.old.seat).here }
         ensures job { self.new.job ≡ self.old.job }
+        ensures goes { self.new.stopped ≡ false }
+        ensures halted { (P.shows self.new.seat).halted ≡ (P.shows self.old.seat).halted }
     {
         let rank = self.me;
         let victim = victim(&mut self.draws, rank, self.options.ranks);
@@ -184,8 +200,11 @@ impl<J: Job, S, T> RankState<J, S, T> {
         requires knows { Knows P.shows self.old }
         requires none { ServesNone P.shows self.old }
         requires live { self.old.ended ≡ false }
+        requires going { self.old.stopped ≡ false }
         requires unasked { NobodyAsks self.old.me (P.tells post.old) }
+        requires may { self.old.book.lost ≡ false → MayHandle self.old.options (length (J.log self.old.job)) }
         requires over { ring ≢ HeardOver }
+        requires halt { ring ≢ HeardHalted }
         requires elsewhere { ring ≡ HeardElsewhere → 1 < self.old.options.ranks }
         requires held { (P.shows self.old.seat).here ≡ held_of ring }
         ensures came { Came J.log J.plain P.shows P.tells P.seats (Follows result self.old.me (choice self.old.options.ranks (standing ring self.old))) self.old post.old self.new post.new }
@@ -194,6 +213,8 @@ impl<J: Job, S, T> RankState<J, S, T> {
         ensures waits { result ≡ DidWait → Waits self.new.me (P.tells post.new) }
         ensures handled { result ≡ DidHandle → self.new.book.lost ≡ false → length (J.log self.new.job) ≡ length (J.log self.old.job) + 1 }
         ensures other { result ≢ DidHandle → J.log self.new.job ≡ J.log self.old.job }
+        ensures goes { (result ≢ DidStop) × (self.new.stopped ≡ false) }
+        ensures halted { (P.shows self.new.seat).halted ≡ (P.shows self.old.seat).halted }
     {
         if self.queue.len() > 0 {
             self.handle_newest();

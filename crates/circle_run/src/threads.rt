@@ -1,5 +1,5 @@
 //! Hosts in threads, and back.
-ghost use Rattle.std.specs.Prelude.{◌≡◌, ◌≤◌, ℕ, ◌+◌, [], length, IfOk, IfErr, All, None};
+ghost use Rattle.std.specs.Prelude.{◌≡◌, ◌≤◌, ◌<◌, ℕ, ◌+◌, [], length, IfOk, IfErr, All, None};
 ghost use Rattle.std.specs.List.{sum_by};
 ghost use Rattle.circle_run.specs.Hosts.{AllReady};
 ghost use Rattle.circle_run.specs.Private.Away.{HostRan, Gives, MayRun, IsOne, IsHost, AreDone, InPlace};
@@ -119,6 +119,13 @@ fn add_host<
     }
 }
 
+// The flag of a host.
+fn flag_at(flags: &[AtomicBool], k: usize) -> &AtomicBool
+    requires { k < length flags.now }
+{
+    &flags[k]
+}
+
 /// Takes the memory that starting and joining need, and then runs all hosts. There are `count` ranks.
 pub(crate) fn run_all<
     's,
@@ -191,7 +198,8 @@ fn run_hosts<
 {
     let mut k = 0;
     for ranks in others {
-        add_host(rt, scope, &flags[k], post, sums, whole, &mut pool, ranks);
+        let flag = flag_at(flags, k);
+        add_host(rt, scope, flag, post, sums, whole, &mut pool, ranks);
         k += 1;
     }
     let Pool {

@@ -8,11 +8,13 @@ ghost use Rattle.circle_run.specs.Private.Steps.{Came};
 ghost use Rattle.circle_run.specs.Private.Steps.{Works};
 ghost use Rattle.circle_run.specs.Turns.{Waits, AddsUp};
 ghost use Rattle.circle_run.specs.Private.Steps.{with_service, turn_of, tallied};
-ghost use Rattle.circle_run.specs.Ready.{IsNew, Ready, SumsReady, Turned};
-ghost use Rattle.circle_run.specs.declared.steps.Did.TheVariants.{Handled as DidHandle, Waited as DidWait};
-ghost use Rattle.circle_run.specs.declared.ranks.Turn.TheVariants.{Went as TurnWent, Waited as TurnWaited, Ended as TurnEnded};
+ghost use Rattle.circle_run.specs.Ready.{IsNew, Bounded, Ready, SumsReady, Turned};
+ghost use Rattle.circle_run.specs.Choices.{is_done};
+ghost use Rattle.circle_run.specs.declared.steps.Did.TheVariants.{Handled as DidHandle, Waited as DidWait, Stopped as DidStop};
+ghost use Rattle.circle_run.specs.declared.ranks.Turn.TheVariants.{Went as TurnWent, Waited as TurnWaited, Stopped as TurnStopped, Ended as TurnEnded};
 
 use crate::books::Book;
+use crate::halting::is_to_halt;
 use crate::jobs::Job;
 use crate::outcomes::Share;
 use crate::ranks::{Rank, RankState, Turn};
@@ -62,6 +64,7 @@ impl<J: Job, S, T> Rank<J, S, T> {
             tried: false,
             asked: None,
             ended: false,
+            stopped: false,
             book,
             fresh: Batch::make(alloc),
             alloc,
@@ -107,19 +110,24 @@ impl<J: Job, S, T> Rank<J, S, T> {
         ensures sums_others { (other : T) → (Q.shows other).number ≢ self.old.me → Q.seats sums.old other → Q.seats sums.new other }
         ensures sums_still { Q.tells sums.old ≡ None → sums.new ≡ sums.old }
 
-        // It waits for an answer before the end, and for final sums after it. After the end nothing happens at the board.
-        ensures waits { result ≡ TurnWaited → self.old.ended ≡ false → Waits self.old.me (P.tells post.new) }
-        ensures ended { result ≡ TurnEnded → (self.new.ended ≡ true) × ((Q.shows self.new.sums_seat).answer ≢ None) }
+        // It waits for an answer before it is done, and for final sums after that. Once it is done nothing happens at the board.
+        ensures waits { result ≡ TurnWaited → is_done self.old ≡ false → Waits self.old.me (P.tells post.new) }
+        ensures ended { result ≡ TurnEnded → (is_done self.new ≡ true) × ((Q.shows self.new.sums_seat).answer ≢ None) }
         ensures unfinished { result ≢ TurnEnded → (Q.shows self.new.sums_seat).answer ≡ None }
-        ensures late { result ≡ TurnWaited → self.old.ended ≡ true → IfSome (Q.tells sums.old) (Finishes (Q.shows self.old.sums_seat).number None) }
+        ensures stopped { result ≡ TurnStopped → self.new.stopped ≡ true }
+        ensures goes { result ≢ TurnStopped → self.new.stopped ≡ self.old.stopped }
+        ensures late { result ≡ TurnWaited → is_done self.old ≡ true → IfSome (Q.tells sums.old) (Finishes (Q.shows self.old.sums_seat).number None) }
 
-        // Before the end a rank with others below it at the sums shows in each turn what it and they counted, and each rank does
+        // Before it is done a rank with others below it at the sums shows in each turn what it and they counted, and each rank does
         // where it handled a string.
-        ensures sums { self.old.ended ≡ false → (IsLeaf (Q.shows self.old.sums_seat) → length (J.log self.old.job) < length (J.log self.new.job)) → IfSome (Q.tells sums.old) (AddsUp (Q.shows self.new.sums_seat)) }
-        ensures over { self.old.ended ≡ true → (result ≢ TurnWent) × (self.new.ended ≡ true) × (post.new ≡ post.old) }
+        ensures sums { is_done self.old ≡ false → (IsLeaf (Q.shows self.old.sums_seat) → length (J.log self.old.job) < length (J.log self.new.job)) → IfSome (Q.tells sums.old) (AddsUp (Q.shows self.new.sums_seat)) }
+        ensures over { is_done self.old ≡ true → (result ≢ TurnWent) × (result ≢ TurnStopped) × (is_done self.new ≡ true) × (post.new ≡ post.old) }
     {
-        if self.state.ended {
-            return self.state.finish(sums);
+        let done = self.state.is_done();
+        if done {
+            let turn = self.state.finish(sums);
+            settle(&mut self.state.queue, &self.state.book, self.state.alloc);
+            return turn;
         }
         let did = self.state.work(post);
         self.state.tally(sums, did);
@@ -129,22 +137,39 @@ impl<J: Job, S, T> Rank<J, S, T> {
 }
 
 impl<J: Job, S, T> RankState<J, S, T> {
-    /// What the rank does at the board in a turn before its end.
+    /// Whether it does nothing more at the board.
+    fn is_done(&self) -> bool
+        ensures { result ≡ is_done self.now }
+    {
+        self.ended || self.stopped
+    }
+
+    /// What the rank does at the board in a turn before it is done.
     fn work<P: Post<Seat = S>>(&mut self, post: &mut P) -> Did
         requires seat { P.seats post.old self.old.seat }
         requires knows { Knows P.shows self.old }
         requires none { ServesNone P.shows self.old }
         requires live { self.old.ended ≡ false }
+        requires going { self.old.stopped ≡ false }
+        requires bounded { self.old.book.lost ≡ false → Bounded J.log P.shows self.old }
         ensures came { Came J.log J.plain P.shows P.tells P.seats (Works J.heard P.shows P.tells result self.old post.old self.new) self.old post.old self.new post.new }
+        ensures bounded { self.new.book.lost ≡ false → Bounded J.log P.shows self.new }
         ensures waits { result ≡ DidWait → Waits self.old.me (P.tells post.new) }
         ensures handled { result ≡ DidHandle → self.new.book.lost ≡ false → length (J.log self.new.job) ≡ length (J.log self.old.job) + 1 }
         ensures other { result ≢ DidHandle → J.log self.new.job ≡ J.log self.old.job }
+        ensures stopped { result ≡ DidStop → self.new.stopped ≡ true }
+        ensures goes { result ≢ DidStop → self.new.stopped ≡ false }
     {
+        let due = self.has_done_all();
         let ring = self.hear(post);
         if let Ring::Over = ring {
             return Did::Acted;
         }
-        let some = self.serve(post);
+        let halts = is_to_halt(due, ring);
+        if halts {
+            return self.wind_up(post, due);
+        }
+        let some = self.serve(post, true);
         settle(&mut self.queue, &self.book, self.alloc);
         let did = self.go_on(post, ring);
         in_all(some, did)
@@ -220,7 +245,7 @@ impl<J: Job, S, T> RankState<J, S, T> {
         ensures ended { result ≡ TurnEnded → (Q.shows self.new.sums_seat).answer ≢ None }
         ensures unfinished { result ≢ TurnEnded → (Q.shows self.new.sums_seat).answer ≡ None }
         ensures late { result ≡ TurnWaited → IfSome (Q.tells sums.old) (Finishes (Q.shows self.old.sums_seat).number None) }
-        ensures over { result ≢ TurnWent }
+        ensures over { (result ≢ TurnWent) × (result ≢ TurnStopped) }
     {
         match sums.finish(&mut self.sums_seat) {
             None => Turn::Waited,
@@ -240,12 +265,13 @@ fn as_turn(did: Did) -> Turn
 {
     match did {
         Did::Waited => Turn::Waited,
+        Did::Stopped => Turn::Stopped,
         _ => Turn::Went,
     }
 }
 
-// What a rank did in all, where some asked it or none.
-fn in_all(some: bool, did: Did) -> Did
+/// What a rank did in all, where some asked it or none.
+pub(crate) fn in_all(some: bool, did: Did) -> Did
     ensures { result ≡ with_service some did }
 {
     match did {

@@ -159,6 +159,7 @@ module _ (laws : Laws) (asked : CopyAsked) (before after : Side) (within : Withi
   not_nowhere stop.NoDirectory p = not_ok place.NoDest fine.pairs (sym (told_due asked before.tree files (Err place.NoDest) fine.side.told p) ∙ fine.places)
   not_nowhere stop.OutOfMemory p = absurd p
   not_nowhere stop.TooMany p = absurd p
+  not_nowhere (stop.Stopped handled left) p = absurd p
   not_nowhere (stop.Damaged path line) p = absurd p
   not_nowhere (stop.ListFile why path) p = absurd p
 

@@ -36,5 +36,6 @@ IsNowhere asked tree stop.Overlap = Places asked.sources asked.dest tree (Err pl
 IsNowhere asked tree stop.NoDirectory = Places asked.sources asked.dest tree (Err place.NoDest)
 IsNowhere asked tree stop.OutOfMemory = ⊥
 IsNowhere asked tree stop.TooMany = ⊥
+IsNowhere asked tree (stop.Stopped handled left) = ⊥
 IsNowhere asked tree (stop.Damaged path line) = ⊥
 IsNowhere asked tree (stop.ListFile why path) = ⊥

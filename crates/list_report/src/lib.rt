@@ -20,3 +20,4 @@ mod printing;
 pub use laws::{fine_list_succeeds, fine_test_succeeds};
 pub use lists::{ListTask, report_of_list};
 pub use made::{TestTask, report_of_test};
+pub use printing::list_report;

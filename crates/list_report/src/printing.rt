@@ -15,7 +15,7 @@ use tool_text::{Text, put_list, put_summary};
 use tool_words::Common;
 
 /// The report of a list: a line for each entry that is chosen, in the order that is asked for, and the summary.
-pub(crate) fn list_report(
+pub fn list_report(
     alloc: Global,
     found: Findings,
     common: &Common,

@@ -238,11 +238,181 @@ fn lists_of_command_lines(rt: HostRuntime) -> Result<(), Fail> {
             return Err(Fail::new("a walk was asked for"));
         };
         let input = match start {
-            Start::Roots(_) => None,
+            Start::Roots(_) | Start::Restart => None,
             Start::Input(file) => Some(file),
         };
         assert_eq!(rt; (text_of(&input), text_of(&output)), (file, place));
         assert!(rt; sort == order, "{words:?}");
+    }
+    Ok(())
+}
+
+// Lines of walks in stages, where each begins, or that it goes on, the number of paths that it stops after, and the folder of its lists.
+static STAGES: [(&[&str], Option<&[&str]>, Option<u64>, &str); 7] = [
+    (&["dwalk", "/t"], Some(&["/t"]), None, ""),
+    (
+        &["dwalk", "--stop-after", "1", "--lists", "/s/", "/t", "/u"],
+        Some(&["/t", "/u"]),
+        Some(1),
+        "/s",
+    ),
+    (
+        &[
+            "dwalk",
+            "/t",
+            "--lists=/s",
+            "--stop-after=009",
+            "--sort=size",
+        ],
+        Some(&["/t"]),
+        Some(9),
+        "/s",
+    ),
+    (&["dwalk", "--restart", "--lists", "/s"], None, None, "/s"),
+    (
+        &["dwalk", "--lists=/s", "--restart", "--trace", "--shares"],
+        None,
+        None,
+        "/s",
+    ),
+    (
+        &[
+            "dwalk",
+            "--stop-after",
+            "9223372036854775807",
+            "--restart",
+            "--lists",
+            "/s",
+        ],
+        None,
+        Some(9223372036854775807),
+        "/s",
+    ),
+    (
+        &["dwalk", "--hosts=2", "--restart", "--lists=/s", "--"],
+        None,
+        None,
+        "/s",
+    ),
+];
+
+#[test]
+fn walks_in_stages(rt: HostRuntime) -> Result<(), Fail> {
+    for (words, roots, stop, folder) in STAGES.iter() {
+        let line = line_of(rt.alloc(), words)?;
+        let Command::Walk {
+            start,
+            stop_after,
+            lists,
+            ..
+        } = read_words(rt.alloc(), &line)?
+        else {
+            return Err(Fail::new("a walk was asked for"));
+        };
+        assert!(rt; begins_at(&start, *roots), "{words:?}");
+        assert_eq!(rt; (stop_after, text_of(&lists)), (*stop, *folder));
+    }
+    Ok(())
+}
+
+// Whether a walk begins at these paths, or goes on where there are none.
+fn begins_at(start: &Start, paths: Option<&[&str]>) -> bool {
+    match (start, paths) {
+        (Start::Roots(roots), Some(paths)) => {
+            let mut pairs = roots.iter().zip(paths);
+            roots.len() == paths.len() && pairs.all(|(root, path)| root.text() == *path)
+        }
+        (Start::Restart, None) => true,
+        _ => false,
+    }
+}
+
+// Of the options that may not stand together the first line that applies is told, after all else.
+static REFUSED_STAGES: [(&[&str], WordsError); 26] = [
+    (
+        &["dwalk", "--hosts=2", "--stop-after=1", "/t", "--trace"],
+        WordsError::Clash(4),
+    ),
+    (
+        &["dwalk", "--trace", "--stop-after=1", "--lists=/s", "/t"],
+        WordsError::Clash(1),
+    ),
+    (
+        &["dwalk", "--stop-after=1", "--trace", "/t"],
+        WordsError::Clash(2),
+    ),
+    (
+        &["dwalk", "--input=/l", "--restart", "--lists=/s"],
+        WordsError::Clash(2),
+    ),
+    (
+        &["dwalk", "--stop-after=1", "--restart", "--input=/l"],
+        WordsError::Clash(2),
+    ),
+    (&["dwalk", "--stop-after", "1", "/t"], WordsError::Clash(1)),
+    (&["dwalk", "--restart"], WordsError::Clash(1)),
+    (
+        &["dwalk", "--restart", "--stop-after", "1"],
+        WordsError::Clash(1),
+    ),
+    (
+        &["dwalk", "--shares", "--stop-after=1", "--restart"],
+        WordsError::Clash(2),
+    ),
+    (
+        &["dwalk", "--input=/l", "--stop-after=1"],
+        WordsError::Clash(2),
+    ),
+    (&["dwalk", "--lists", "/s", "/t"], WordsError::Clash(1)),
+    (&["dwalk", "--input=/l", "--lists=/s"], WordsError::Clash(2)),
+    (
+        &["dwalk", "--lists=/s", "--input=/l", "--stop-after=1"],
+        WordsError::Clash(3),
+    ),
+    (&["dwalk", "--restart", "--restart"], WordsError::Clash(2)),
+    (
+        &["dwalk", "--stop-after=1", "--stop-after=2"],
+        WordsError::Clash(2),
+    ),
+    (&["dwalk", "--restart", "/t"], WordsError::TooManyPaths(2)),
+    (
+        &["dwalk", "/t", "--restart", "--lists=/s", "/u"],
+        WordsError::TooManyPaths(1),
+    ),
+    (
+        &["dwalk", "--stop-after=1", "--lists=/s"],
+        WordsError::NoPath(3),
+    ),
+    (
+        &["dwalk", "--stop-after", "0", "--lists=/s", "/t"],
+        WordsError::BadValue(2),
+    ),
+    (
+        &["dwalk", "--stop-after", "9223372036854775808", "/t"],
+        WordsError::BadValue(2),
+    ),
+    (&["dwalk", "--lists", "s", "/t"], WordsError::BadValue(2)),
+    (&["dwalk", "--restart="], WordsError::BadValue(1)),
+    (&["dwalk", "/t", "--lists"], WordsError::NoValue(2)),
+    (&["dfind", "--restart", "/t"], WordsError::UnknownOption(1)),
+    (
+        &["dtest", "--stop-after=1", "10"],
+        WordsError::UnknownOption(1),
+    ),
+    (
+        &["dcp", "--lists=/s", "/p", "/q"],
+        WordsError::UnknownOption(1),
+    ),
+];
+
+#[test]
+fn refused_walks_in_stages(rt: HostRuntime) -> Result<(), Fail> {
+    for (words, refusal) in REFUSED_STAGES.iter() {
+        let line = line_of(rt.alloc(), words)?;
+        assert!(rt;
+            read_words(rt.alloc(), &line).err() == Some(*refusal),
+            "{words:?}"
+        );
     }
     Ok(())
 }

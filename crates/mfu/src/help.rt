@@ -30,12 +30,14 @@ Exit status:
   3  no memory was left
   4  an output could not be written; no line says so
   5  more than 4194304 entries
+  6  the walk stopped after a number of paths; standard error says how many
   7  the file of --input is no list; standard error says in which line
   8  a list file could not be read or written; standard error says why
 ";
 
 const DWALK: &str = "usage: mfu dwalk [OPTION].. PATH..
        mfu dwalk [OPTION].. --input FILE
+       mfu dwalk [OPTION].. --restart --lists DIR
 
 Lists what stands at each path and below it, in path order: the kind (f, d, l or
 o), the size of a file and the path, and at last a summary. Links are not
@@ -53,7 +55,15 @@ Exit status:
   0  all was done
   1  all that could be done was done; standard error names what could not
   2  words refused       3  no memory left      4  an output failed
-  5  too many entries    7  FILE is no list     8  a list not read or written
+  5  too many entries    6  it stopped          7  FILE is no list
+  8  a list not read or written
+
+A walk can stop, and a later one go on:
+  --stop-after K  stops once one rank has handled K paths: what was found and
+                  what is left is saved, and no list is printed
+  --lists DIR     the folder in which that is saved
+  --restart       goes on from what was saved in DIR; no path is given then
+--stop-after and --restart need --lists; --trace doesn't go with --stop-after.
 
 Further options change nothing of the list:
   --split RULE   what a rank gives to one that asks: equal, the same part to
@@ -80,6 +90,9 @@ Notes on standard error:
   unnamed P K                   K names in P are no UTF-8
   too long P K                  K children of P have a path of more than 4095
                                 bytes
+
+A walk that stopped says so on standard error, and nothing is printed:
+  stopped handled H left L      H paths were handled, and L are left
 
 A list that is not read or written is named on standard error, and nothing is
 printed:

@@ -1,23 +1,36 @@
 -- When a run succeeds, a line a tool.
-use Rattle.tool_words.specs.Asked.{list, compare, copy, remove, test}
+use Rattle.std.proofs.Common.{inl, ℕ}
+use Rattle.tool_words.specs.Asked.{Asked, list, stage, compare, copy, remove, test}
 use Rattle.compare_report.specs.Laws.{FineCompareSucceeds}
 use Rattle.copy_report.specs.Laws.{FineCopySucceeds}
 use Rattle.list_report.specs.Laws.{FineListSucceeds, FineTestSucceeds}
 use Rattle.remove_report.specs.Laws.{FineRemoveSucceeds}
-use Rattle.mfu_top.specs.Run.{FineRunsSucceed}
+use Rattle.stage_report.specs.Laws.{FineStageSucceeds}
+use Rattle.run_report.specs.Sides.{Side}
+use Rattle.run_report.specs.Stops.{Succeeds}
+use Rattle.mfu_top.specs.Run.{Reports, Stops, RunSucceeds, FineRunsSucceed}
 
 -- the law of each room
 pub record Rooms : Type 0 where
   pub lists : FineListSucceeds
+  pub stages : FineStageSucceeds
   pub compares : FineCompareSucceeds
   pub copies : FineCopySucceeds
   pub removes : FineRemoveSucceeds
   pub tests : FineTestSucceeds
 
+-- what stops for want of memory alone ends in time
+in_time : (asked : Asked) (now : ℕ) (before after : Side) → Succeeds (Reports asked now before after) (Stops asked before after) →
+    RunSucceeds asked now before after
+in_time asked now before after s = record { names_nothing = s.names_nothing; ends_in_time = λ why by. inl (s.stops_for_memory why by) }
+
 pub succeeds : Rooms → FineRunsSucceed
-succeeds rooms (list asked) now before after within fine = rooms.lists asked now before after within fine
-succeeds rooms (compare asked) now before after within fine = rooms.compares asked before after within fine
-succeeds rooms (copy asked) now before after within fine = rooms.copies asked before after within fine
-succeeds rooms (remove asked) now before after within fine = rooms.removes asked now before after within fine
+succeeds rooms (list asked) now before after within fine = in_time (list asked) now before after (rooms.lists asked now before after within fine)
+succeeds rooms (stage asked) now before after within fine =
+    let s = rooms.stages asked before after within fine in record { names_nothing = s.names_nothing; ends_in_time = s.stops_in_time }
+succeeds rooms (compare asked) now before after within fine = in_time (compare asked) now before after (rooms.compares asked before after within fine)
+succeeds rooms (copy asked) now before after within fine = in_time (copy asked) now before after (rooms.copies asked before after within fine)
+succeeds rooms (remove asked) now before after within fine = in_time (remove asked) now before after (rooms.removes asked now before after within fine)
 succeeds rooms (test asked) now before after within fine =
-    let s = rooms.tests asked now within fine in record { names_nothing = s.names_nothing; stops_for_memory = s.stops_for_memory }
+    let s = rooms.tests asked now within fine in
+    record { names_nothing = s.names_nothing; ends_in_time = λ why by. inl (s.stops_for_memory why by) }

@@ -5,12 +5,14 @@ use compare_report::fine_compare_succeeds;
 use copy_report::fine_copy_succeeds;
 use list_report::{fine_list_succeeds, fine_test_succeeds};
 use remove_report::fine_remove_succeeds;
+use stage_report::fine_stages_succeed;
 
-/// Where nothing stands against a run, it names nothing, and stops for want of memory alone.
+/// Where nothing stands against a run, it names nothing, and stops for want of memory alone, or with a checkpoint where its words say so.
 pub fn fine_runs_succeed()
     ensures { FineRunsSucceed }
 {
     fine_list_succeeds();
+    fine_stages_succeed();
     fine_compare_succeeds();
     fine_copy_succeeds();
     fine_remove_succeeds();

@@ -32,6 +32,7 @@
 mod laws;
 mod reporting;
 mod running;
+mod walks;
 
 pub use run_report::Status;
 pub use running::run;

@@ -7,6 +7,7 @@ ghost use Rattle.tool_words.specs.Limits.{Within};
 ghost use Rattle.run_report.specs.Sides.{side_of};
 ghost use Rattle.mfu_top.specs.Run.{Reports, Stops, Leaves, is_apart};
 
+use crate::walks::{report_of_walk, walk_task};
 use compare_report::{CompareTask, report_of_compare};
 use copy_report::{CopyTask, report_of_copy};
 use list_report::{ListTask, TestTask, report_of_list, report_of_test};
@@ -46,15 +47,11 @@ where
             start,
             sort,
             output,
+            stop_after,
+            lists,
         } => {
-            let task = ListTask {
-                common,
-                start,
-                tests: None,
-                sort,
-                output,
-            };
-            report_of_list(rt, alloc, task, files, now)
+            let task = walk_task(common, start, sort, output, stop_after, lists);
+            report_of_walk(rt, alloc, task, files, now)
         }
         Command::Find {
             common,

@@ -13,7 +13,7 @@ ghost use Rattle.run_report.specs.Lines.{memory_line, refusal_line};
 ghost use Rattle.run_report.specs.Sides.{side_of, stream_of};
 ghost use Rattle.run_report.specs.Statuses.{has_reason};
 ghost use Rattle.run_report.specs.Stops.{status_of, stop_line};
-ghost use Rattle.mfu_top.specs.Run.{Reports, Stops, Leaves, is_apart, Fine};
+ghost use Rattle.mfu_top.specs.Run.{Reports, Stops, Leaves, is_apart, Fine, EndedWell};
 
 use crate::laws::fine_runs_succeed;
 use crate::reporting::report_of;
@@ -25,7 +25,7 @@ use std::thread::Threads;
 use tool_words::{Command, WordsError, read_words, words_ask_within_limits};
 
 /// Does all that the program does, in this order: reads the words; places the targets of a copy; looks at the paths of
-/// `--newer`; reads a list, or walks; copies it, removes what is chosen of it, or writes it to a file, where that is asked for;
+/// `--newer`; reads a list or a checkpoint, or walks; writes a checkpoint where the walk was cut, and else copies it, removes what is chosen of it, or writes it to a file, where that is asked for;
 /// writes `out`, and then `notes`. All memory is taken before the first byte goes to `out`. `now` is in seconds since 1970. The status's number is the program's exit status.
 pub fn run<T: Threads + Wait + Sync, G: Ground + Send, O: Sink, E: Sink>(
     rt: &T,
@@ -79,9 +79,9 @@ where
         × Stops asked (side_of (G.tree files.old) (G.count files.old)) (side_of (G.tree files.new) (G.count files.new)) why × (out.new ≡ out.old)
         × GrewByLine (stop_line why) (stream_of (E.text notes.old) (E.count notes.old)) (stream_of (E.text notes.new) (E.count notes.new))) }
 
-    // When a run succeeds: nothing stands against it, and no sink fails.
+    // When a run succeeds, or stops with a checkpoint where its words say so: nothing stands against it, and no sink fails.
     ensures complete { IfOk (reading (map string_bytes words.now)) (λ asked. Fine asked now (side_of (G.tree files.old) (G.count files.old)) (side_of (G.tree files.new) (G.count files.new))
-        → StoodStill (O.count out.old) (O.count out.new) → StoodStill (E.count notes.old) (E.count notes.new) → (result ≡ Status.Done) ⊎ (result ≡ Status.Memory)) }
+        → StoodStill (O.count out.old) (O.count out.new) → StoodStill (E.count notes.old) (E.count notes.new) → EndedWell asked result) }
 {
     fine_runs_succeed();
     let command = match read_command(alloc, words) {

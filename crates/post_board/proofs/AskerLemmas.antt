@@ -13,7 +13,7 @@ use Rattle.post_board.specs.Plain.{plain, wants, no_rank, fresh_rank, told_of, s
 use Rattle.post_board.specs.declared.plain_seats.PlainSeat.{PlainSeat}
 use Rattle.post_board.proofs.PlainFrames.{told_place}
 use Rattle.post_board.proofs.PlainDeeds.{own_rest, serving_mail}
-use Rattle.post_board.specs.declared.plain_ranks.PlainMailbox.TheVariants.{Rest, Wants, Served}
+use Rattle.post_board.specs.declared.plain_ranks.PlainMailbox.TheVariants.{Rest, Wants}
 use Rattle.post_board.specs.declared.plain_ranks.PlainRank.{PlainRank}
 use Rattle.post_board.proofs.PlainStart.{read_of_copies}
 use Rattle.post_board.proofs.BitLemmas.{bit_set, bit_else, bit_gone, bit_stays}
@@ -69,15 +69,16 @@ noted_asks ranks masks N r inside x v there rested asks =
     (ap (λ d. wants d v) asks ∙ eq-eqb v v refl ∙ sym (bit_set mask r))
     (λ k ne. bit_else mask r k ne)
 
--- the rank v, which the rank r asked, takes that up
+-- the rank r, which asked the rank v, asks nobody any more
 pub noted_taken : (ranks : List PlainRank) (masks : List ℕ) → Noted ranks masks → (r : ℕ) → r < length ranks → (x : PlainRank) (v : ℕ) → v < length ranks
-    → (plain ranks r).mailbox ≡ Wants v → x.mailbox ≡ Served v → Noted (set ranks r x) (set masks v (bit_xor (get_or masks v 0) (2 ^ r)))
-noted_taken ranks masks N r inside x v there asked served =
+    → (plain ranks r).mailbox ≡ Wants v → ((w : ℕ) → wants x.mailbox w ≡ false)
+    → Noted (set ranks r x) (set masks v (bit_xor (get_or masks v 0) (2 ^ r)))
+noted_taken ranks masks N r inside x v there asked quiet =
     let mask : ℕ = get_or masks v 0 in
     let on : has_bit mask r ≡ true = sym (N.asks r v there) ∙ ap (λ d. wants d v) asked ∙ eq-eqb v v refl in
     noted_one ranks masks N r inside x v (bit_xor mask (2 ^ r)) there
-    (λ w ne. ap (λ d. wants d w) served ∙ sym (ap (λ d. wants d w) asked ∙ ne_eqb v w (λ e. ne (sym e))))
-    (ap (λ d. wants d v) served ∙ sym (bit_gone mask r on))
+    (λ w ne. quiet w ∙ sym (ap (λ d. wants d w) asked ∙ ne_eqb v w (λ e. ne (sym e))))
+    (quiet v ∙ sym (bit_gone mask r on))
     (λ k ne. bit_stays mask r k ne)
 
 -- a mask without a bit says that nobody asks

@@ -6,10 +6,10 @@ use Rattle.std.proofs.lemmas.List.{get_or_append_left}
 use Rattle.std.proofs.lemmas.List.Elements.{All-nil, All-cons, All-append, Contains-append_left, Contains-push}
 use mathlib.Core.Logic.{dite}
 use native.Mathlib.Decide.{ℕ_discrete}
-use Rattle.post_board.specs.Calls.{AllDone}
+use Rattle.post_board.specs.Calls.{AllDone, Halters as HaltersAmong}
 use Rattle.atomic_table.specs.Seated.{TableId}
 use Rattle.post_board.specs.BoardRule.{both}
-use Rattle.post_board.specs.BoardSteps.{SeatState, Squares}
+use Rattle.post_board.specs.BoardSteps.{SeatState, Squares, Halters}
 use Rattle.post_board.proofs.CallLemmas.{serves_none}
 use Rattle.post_board.specs.BoardSeats.{IsSeat, shown_by}
 use Rattle.post_board.specs.declared.board_views.Known.{Known}
@@ -34,6 +34,7 @@ pub record Together (all left : List BoardSeat) (v : View) (over : Bool) : Type 
   pub same : (k : ℕ) (d : BoardSeat) → k < length left → get_or left k d ≡ get_or all k d
   pub has : (i : ℕ) (d : BoardSeat) → length left ≤ i → i < length all → Contains (v.own ∷ v.kept) (get_or all i d).seat.me.0.own
   pub done : All IsDone (v.own ∷ v.kept)
+  pub size : v.own.n ≡ length all
   pub over_is : (d : BoardSeat) → over ≡ (get_or all (length left) d).seat.me.0.own.ended
 
 module _ (b : Board) (all : List BoardSeat) (D : AllDone shown_by (IsSeat b) all) where
@@ -53,6 +54,7 @@ module _ (b : Board) (all : List BoardSeat) (D : AllDone shown_by (IsSeat b) all
         done = All-cons IsDone last.seat.me.0.own last.seat.me.0.kept
             (subst (λ (x : BoardSeat). IsDone x.seat.me.0.own) (at last) (D (length left) last (omega arith)).3)
             (subst (All IsDone) (sym alone) (All-nil IsDone));
+        size = ap (λ (x : BoardSeat). x.seat.me.0.own.n) (sym (at last)) ∙ (D (length left) last (omega arith)).2;
         over_is = λ d. sym (ap (λ (x : BoardSeat). x.seat.me.0.own.ended) (at d));
       }
 
@@ -78,6 +80,7 @@ module _ (b : Board) (all : List BoardSeat) (D : AllDone shown_by (IsSeat b) all
         done = subst (All IsDone) push (All-append IsDone ks (other.seat.me.0.own ∷ []) T.done
             (All-cons IsDone other.seat.me.0.own [] (subst (λ (x : BoardSeat). IsDone x.seat.me.0.own) (at other) (D (length left') other (omega arith)).3)
             (All-nil IsDone)));
+        size = T.size;
         over_is = λ d. sym (ap (λ (x : BoardSeat). x.seat.me.0.own.ended) (at d));
       }
 
@@ -145,3 +148,21 @@ module _ (b : Board) (all : List BoardSeat) (D : AllDone shown_by (IsSeat b) all
       ∙ ap (λ (z : Known). get_or z.taken (get_or ks cx.0 x).number []) (sym cy.2)
       ∙ sq ∙ ap (λ (z : Known). get_or z.given (get_or ks cy.0 y).number []) cx.2 ∙ ap (λ (z : Known). get_or x.given z.number []) cy.2
       ∙ ap (λ (k : ℕ). get_or x.given k []) ny
+
+  -- where one knows of the halt, one has halted
+  pub halters_of : (left : List BoardSeat) (v : View) (over : Bool) → Together all left v over → length left ≡ 0 → Halters v
+      → HaltersAmong shown_by (IsSeat b) all
+  halters_of left v over T none H k d h knows =
+      let ks : List Known = v.own ∷ v.kept in
+      let x : Known = (get_or all k d).seat.me.0.own in
+      let cx : Contains ks x = T.has k d (omega arith) h in
+      let P : Known → Type 0 = λ y. y.knows_halt ≡ true → (r : ℕ) × (r < v.own.n) × All (λ z. z.number ≡ r → z.halted ≡ true) ks in
+      let at_k : Known = get_or ks cx.0 x in
+      let p = subst P {x = at_k} cx.2 (H cx.0 x cx.1) knows in
+      let r : ℕ = p.0 in
+      let below : r < length all = subst (λ (j : ℕ). r < j) T.size p.1 in
+      let y : Known = (get_or all r d).seat.me.0.own in
+      let cy : Contains ks y = T.has r d (omega arith) below in
+      let Q : Known → Type 0 = λ z. z.number ≡ r → z.halted ≡ true in
+      let at_r : Known = get_or ks cy.0 y in
+      (r, below, subst Q {x = at_r} cy.2 (p.2 cy.0 y cy.1) (D r d below).1)

@@ -14,7 +14,7 @@ use Rattle.post_board.proofs.WordLemmas.{sign_of_word}
 use Rattle.post_board.specs.BoardRule.{Parcel, TableState, MailboxFacts, RingFacts, Rule, serves, signs_in, slots_in, token_in, halt_in, stops_in}
 use Rattle.post_board.specs.BoardRule.{OwnFits, OpenFits, Away, asked_of}
 use Rattle.post_board.specs.BoardSteps.{Going, SeatState, noted, knows, after_rest, after_look, learn}
-use Rattle.post_board.specs.LateSteps.{SetHaltTells, halt_seen, LoadHaltTells, StopTells, stop_seen, LoadStopsTells, WithdrawTells}
+use Rattle.post_board.specs.LateSteps.{SetHaltTells, halt_seen, LoadHaltTells, StopTells, stop_seen, after_stops, LoadStopsTells, WithdrawTells}
 use Rattle.post_board.specs.declared.board_views.Known.{Known}
 use Rattle.post_board.specs.declared.board_views.View.{View}
 use Rattle.post_board.specs.declared.board_views.OwnMailbox.{OwnMailbox}
@@ -180,7 +180,7 @@ pub allows_load_stops : (n slots id : ℕ) (m : SeatState) → Going m → Allow
 allows_load_stops n slots id m G s o wide here small =
     let was = o.seated id m.0 here G.live in
     let r : ℕ = get_or s.words (n + 2) 0 in
-    let W : Known → Known = λ v. record (noted v (n + 2) r r) { own = stop_seen v.own r } in
+    let W : Known → Known = λ v. after_stops v (n + 2) r in
     let k : Known = o.known id in (
       knows m.0 (W m.0.own),
       keeps,
@@ -194,7 +194,11 @@ allows_load_stops n slots id m G s o wide here small =
           refl refl
           (λ v e. ⊎_elim (λ q. o.moment.halt.left id v was.0 q)
           (λ q. o.moment.halt.bits v (o.moment.mailboxes.away id was.0 v (ap asked_of q.0)).0 ∙ q.1) (stop_left k.own r v e))),
-      refl,
+      (
+        refl,
+        λ v e. subst (λ (j : ℕ). v < j) (sym (o.moment.mailboxes.named id was.0).1 ∙ ap (λ (x : Known). x.n) was.1)
+            (o.moment.mailboxes.away id was.0 v (ap asked_of (ap (λ (x : Known). x.own) was.1 ∙ e))).0,
+      ),
     )
 
 abbrev pub Goes : ℕ → TableState → ℕ → ℕ → SeatState → (ℕ → SeatState → Type 0) → ℕ → Type 0
@@ -270,6 +274,16 @@ pub allows_set_halt_at : (n slots id word : ℕ) (m : SeatState) → Going m →
     → Allows (Rule n) slots id m word (λ _. 1) (SetHaltTells (step slots word 1 0 none) m)
 allows_set_halt_at n slots id word m G is = subst (λ (w : ℕ). Allows (Rule n) slots id m w (λ _. 1) (SetHaltTells (step slots w 1 0 none) m)) (sym is)
     (allows_set_halt n slots id m G)
+
+pub allows_load_halt_at : (n slots id word : ℕ) (m : SeatState) → Going m → word ≡ n + 1
+    → Allows (Rule n) slots id m word (λ r. r) (LoadHaltTells (step slots word 0 0 none) m)
+allows_load_halt_at n slots id word m G is = subst (λ (w : ℕ). Allows (Rule n) slots id m w (λ r. r) (LoadHaltTells (step slots w 0 0 none) m)) (sym is)
+    (allows_load_halt n slots id m G)
+
+pub allows_load_stops_at : (n slots id word : ℕ) (m : SeatState) → Going m → word ≡ n + 2
+    → Allows (Rule n) slots id m word (λ r. r) (LoadStopsTells (step slots word 0 0 none) m)
+allows_load_stops_at n slots id word m G is = subst (λ (w : ℕ). Allows (Rule n) slots id m w (λ r. r) (LoadStopsTells (step slots w 0 0 none) m)) (sym is)
+    (allows_load_stops n slots id m G)
 
 pub allows_stop_at : (n slots id word bit : ℕ) (m : SeatState) → Going m → m.0.own.own ≡ Resting
     → ((r : ℕ) → serves m.0.own r ≡ false) → word ≡ n + 2 → bit ≡ 2 ^ m.0.own.number

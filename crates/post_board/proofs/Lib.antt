@@ -7,6 +7,7 @@ pub mod PlainDeeds
 pub mod PlainStart
 pub mod AskerLemmas
 pub mod PlainHalts
+pub mod PlainWithdraw
 pub mod Puts
 pub mod Sheets
 pub mod FactLemmas
@@ -20,4 +21,5 @@ pub mod MailboxSteps
 pub mod MomentLemmas
 pub mod SeatSteps
 pub mod CallLemmas
+pub mod FindLemmas
 pub mod GatherLemmas

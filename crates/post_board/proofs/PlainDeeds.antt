@@ -28,17 +28,18 @@ use Rattle.post_board.proofs.PlainFrames.{After, told_put, told_place, Alike, fr
 pub inside : (ranks : List PlainRank) (r : ℕ) → r < length ranks → r < length (map place_of ranks)
 inside ranks r h = subst (λ (n : ℕ). r < n) (sym (length-map ranks place_of)) h
 
-acts : (ranks : List PlainRank) (token : Token) (s : PlainSeat) → IsSeat ranks token s → s.ended ≡ false → Acts s.number (told_of ranks token)
+pub acts : (ranks : List PlainRank) (token : Token) (s : PlainSeat) → IsSeat ranks token s → s.ended ≡ false → Acts s.number (told_of ranks token)
 acts ranks token s seat live = (inside ranks s.number seat.0.inside, ap (λ (y : Place). y.ended) (told_place ranks token s.number) ∙ seat.0.matches.3 ∙ live)
 
 -- the rank's own place as it is told
-mine : (ranks : List PlainRank) (token : Token) (s : PlainSeat) (x : PlainRank) → x ≡ plain ranks s.number → place (told_of ranks token) s.number ≡ place_of x
+pub mine : (ranks : List PlainRank) (token : Token) (s : PlainSeat) (x : PlainRank) → x ≡ plain ranks s.number
+    → place (told_of ranks token) s.number ≡ place_of x
 mine ranks token s x e = told_place ranks token s.number ∙ ap place_of (sym e)
 
-matching : (ranks : List PlainRank) (token : Token) (s : PlainSeat) (x : PlainRank) → x ≡ plain ranks s.number → Fits ranks token s → Match x s
+pub matching : (ranks : List PlainRank) (token : Token) (s : PlainSeat) (x : PlainRank) → x ≡ plain ranks s.number → Fits ranks token s → Match x s
 matching ranks token s x e fits = subst (λ (y : PlainRank). Match y s) (sym e) fits.matches
 
-mail_is : (ranks : List PlainRank) (token : Token) (s : PlainSeat) (x : PlainRank) (d : PlainMailbox) → x ≡ plain ranks s.number → x.mailbox ≡ d
+pub mail_is : (ranks : List PlainRank) (token : Token) (s : PlainSeat) (x : PlainRank) (d : PlainMailbox) → x ≡ plain ranks s.number → x.mailbox ≡ d
     → (place (told_of ranks token) s.number).mail ≡ mail_of d
 mail_is ranks token s x d e lies = ap (λ (y : Place). y.mail) (mine ranks token s x e) ∙ ap mail_of lies
 
@@ -56,14 +57,14 @@ own_refused (Some v) r fits = ap Some (sym fits)
 no_more : (a : Option ℕ) (v : ℕ) (P : Type 0) → a ≡ None → a ≡ Some v → P
 no_more a v P e f = cc
 
-asked_is : (a : Option ℕ) (r : ℕ) → a ≡ Some r → elim a [ None ↦ 0 | Some v ↦ v ] ≡ r
+pub asked_is : (a : Option ℕ) (r : ℕ) → a ≡ Some r → elim a [ None ↦ 0 | Some v ↦ v ] ≡ r
 asked_is None r e = cc
 asked_is (Some v) r e = cc
 
 some_same : (u v : ℕ) → Some u ≡ Some v → u ≡ v
 some_same u v e = cc
 
-unlike : (d e : PlainMailbox) (k : ℕ) → d ≢ Served k → e ≢ Served k → Alike d e k
+pub unlike : (d e : PlainMailbox) (k : ℕ) → d ≢ Served k → e ≢ Served k → Alike d e k
 unlike d e k a b = ((λ h. absurd (a h)), (λ h. absurd (b h)))
 
 alike_same : (d e : PlainMailbox) (k : ℕ) → d ≡ e → Alike d e k

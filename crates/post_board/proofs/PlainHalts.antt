@@ -1,6 +1,6 @@
 -- What seats of a plain board know of the halt and of the stops stays so, where a deed replaces ranks.
 use Rattle.std.proofs.Common.{◌≡◌, ℕ, ◌<◌, ◌≢◌, ⊎_elim, inr, refl, sym, subst, ap, ◌∙◌, arith, Bool, true, false, List, length, map, set, get_or}
-use Rattle.std.proofs.Common.{get_or-set_same, get_or-set_other, length-set, Option, Some}
+use Rattle.std.proofs.Common.{get_or-set_same, get_or-set_other, length-set, Option, Some, None}
 use Rattle.std.proofs.lemmas.List.{length-map, get_or_past}
 use mathlib.Core.Logic.{dite}
 use native.Mathlib.Decide.{ℕ_discrete, dec_lt}
@@ -9,8 +9,8 @@ use Rattle.ring_core.specs.declared.states.Token.TheVariants.{Over}
 use Rattle.ring_core.specs.Picture.{is_filled, PictureInvariant}
 use Rattle.post_board.specs.Told.{Mail, vacant, asked, full, empty, mailbox, Place, Told, no_place, place, picture, is_full}
 use Rattle.post_board.specs.Deeds.{Deed, ask, give, refuse, take, take_none, pass, restart, conclude, see_over, Legal, told_after}
-use Rattle.post_board.specs.Calls.{AllDone, NoneOnTheWay}
-use Rattle.post_board.specs.Plain.{mail_of, place_of, told_of, told_by, worded, no_rank, plain, shown_by, Gone, HaltFits, IsSeat, Noted, Seats}
+use Rattle.post_board.specs.Calls.{AllDone, Halters, NoneOnTheWay}
+use Rattle.post_board.specs.Plain.{mail_of, place_of, told_of, told_by, worded, is_some, no_rank, plain, shown_by, Gone, HaltFits, IsSeat, Noted, Seats}
 use Rattle.post_board.specs.declared.plain_boards.PlainBoard.{PlainBoard}
 use Rattle.post_board.specs.declared.plain_ranks.PlainMailbox.{PlainMailbox}
 use Rattle.post_board.specs.declared.plain_ranks.PlainMailbox.TheVariants.{Rest, Served}
@@ -48,16 +48,20 @@ after_worded me restart t halter stops = refl
 after_worded me conclude t halter stops = refl
 after_worded me see_over t halter stops = refl
 
+-- a seat knows of the words what it knew
+abbrev pub SameWords : PlainSeat → PlainSeat → Type 0
+SameWords o o' = (o'.number ≡ o.number) × (o'.halted ≡ o.halted) × (o'.knows_halt ≡ o.knows_halt) × (o'.stopped ≡ o.stopped)
+
 -- what seats know of the words is so after the ranks changed, whatever else the seats came to know
 abbrev pub Keeps : Option ℕ → List Bool → List PlainRank → List PlainRank → Type 0
 Keeps halter stops ranks ranks' =
-    (o o' : PlainSeat) → HaltFits halter stops ranks o → o'.number ≡ o.number → o'.halted ≡ o.halted → o'.stopped ≡ o.stopped → HaltFits halter stops ranks' o'
+    (o o' : PlainSeat) → HaltFits halter stops ranks o → SameWords o o' → HaltFits halter stops ranks' o'
 
 module _ (halter : Option ℕ) (stops : List Bool) (ranks : List PlainRank) where
   -- one rank is replaced that has not stopped, and none that has stopped serves it
   pub keeps_put : (r : ℕ) (x : PlainRank) → get_or stops r false ≡ false → ((k : ℕ) → x.mailbox ≡ Served k → get_or stops k false ≡ false)
       → Keeps halter stops ranks (set ranks r x)
-  keeps_put r x live serves o o' fits number halted stopped =
+  keeps_put r x live serves o o' fits (number, halted, knows, stopped) =
       let size : length (set ranks r x) ≡ length ranks = length-set ranks r x in
       record {
         many = fits.many ∙ sym size;
@@ -77,12 +81,13 @@ module _ (halter : Option ℕ) (stops : List Bool) (ranks : List PlainRank) wher
                   (λ other. old.2 j (ap (λ (y : PlainRank). y.mailbox) (sym (get_or-set_other ranks r j x no_rank other)) ∙ m))),
             ));
         halted = λ e. fits.halted (sym halted ∙ e);
+        knows = λ e. fits.knows (sym knows ∙ e);
         within = λ k e. subst (λ (n : ℕ). k < n) (sym size) (fits.within k e);
         by = λ e. halted ∙ fits.by (e ∙ ap Some number);
       }
 
   pub keeps_then : (mid ranks' : List PlainRank) → Keeps halter stops ranks mid → Keeps halter stops mid ranks' → Keeps halter stops ranks ranks'
-  keeps_then mid ranks' f g o o' fits a b c = g o o' (f o o fits refl refl refl) a b c
+  keeps_then mid ranks' f g o o' fits same = g o o' (f o o fits (refl, refl, refl, refl)) same
 
   -- a rank whose mailbox is not at rest has not stopped
   pub serves_on : (s : PlainSeat) (r : ℕ) → HaltFits halter stops ranks s → (plain ranks r).mailbox ≢ Rest → get_or stops r false ≡ false
@@ -108,15 +113,15 @@ pub record Done (me : ℕ) (d : Deed) (halter : Option ℕ) (stops : List Bool) 
 
 pub done_by : {me : ℕ} {d : Deed} {halter : Option ℕ} {stops : List Bool} {ranks ranks' : List PlainRank} {masks masks' : List ℕ} {token token' : Token}
     {s s' : PlainSeat} → After me d ranks token ranks' token' s' → Noted ranks' masks' → HaltFits halter stops ranks s → Keeps halter stops ranks ranks'
-    → (s'.number ≡ s.number) × (s'.halted ≡ s.halted) × (s'.stopped ≡ s.stopped)
+    → SameWords s s'
     → Done me d halter stops ranks masks token ranks' masks' token' s'
 done_by {me} {d} {halter} {stops} {ranks} {ranks'} {masks} {masks'} {token} {token'} {s} {s'} after noted fits keeps same = record {
   told = (
     legal_worded me d (told_of ranks token) halter stops after.legal,
     ap (λ (t : Told). Some (worded halter stops t)) after.told ∙ ap Some (after_worded me d (told_of ranks token) halter stops),
   );
-  mine = (after.mine, noted, keeps s s' fits same.0 same.1 same.2);
-  others = λ o ne b. (after.others o ne b.0, noted, keeps o o b.2 refl refl refl);
+  mine = (after.mine, noted, keeps s s' fits same);
+  others = λ o ne b. (after.others o ne b.0, noted, keeps o o b.2 (refl, refl, refl, refl));
 }
 
 full_box : (m : Mail) → is_full m ≡ true → is_filled (mailbox m) ≡ true
@@ -146,3 +151,17 @@ none_left_over b all d some done r = dite (dec_lt r (length all))
     (λ h. (let x = done 0 d some in
     let size = x.0.0.0.sized in let n = x.2 in let many = length-map b.ranks.items place_of in
     ap (λ (y : Place). is_full y.mail) (get_or_past (map place_of b.ranks.items) r no_place (omega arith))))
+
+some_is : (a : Option ℕ) → is_some a ≡ true → (r : ℕ) × (a ≡ Some r)
+some_is None e = cc
+some_is (Some r) e = (r, refl)
+
+-- where a seat knows of a halt, the seat of who told it shows so
+pub halters_of : (b : PlainBoard) (all : List PlainSeat) → 0 < length all → AllDone shown_by (Seats b) all → Halters shown_by (Seats b) all
+halters_of b all some done k d h knows =
+    let x = done k d h in
+    let by = some_is b.halter (x.0.2.knows knows) in
+    let r = by.0 in
+    let below : r < length all = (let w = x.0.2.within r by.1 in let size = x.0.0.0.sized in let n = x.2 in omega arith) in
+    let y = done r d below in
+    (r, below, y.0.2.by (by.1 ∙ ap Some (sym y.1)))

@@ -93,6 +93,7 @@ halts_at_first n k s stops none below shown = record {
       ∙ sym (ap (λ (x : Shown). x.stopped) shown);
   gone = λ r e. absurd (serves_nobody n r (ap (λ (xs : List Bool). get_or xs r false) (sym none) ∙ e));
   halted = λ e. (let f : false ≡ true = sym (ap (λ (x : Shown). x.halted) shown) ∙ e in cc);
+  knows = λ e. (let f : false ≡ true = sym (ap (λ (x : Shown). x.knows_halt) shown) ∙ e in cc);
   within = λ r e. cc;
   by = λ e. cc;
 }

@@ -4,7 +4,7 @@
 -- Of each rank the rule speaks by what its seat knows (`Known`), which changes only at a step of that seat. The token, busy and colour are
 -- EWD840's (Dijkstra, Feijen, van Gasteren); mailboxes, slots, halt and stops are our own.
 -- The rule has three parts: `MailboxFacts` (the words and slots of mailboxes, and the history of batches), `RingFacts` (the picture with
--- the token) and `HaltFacts` (halt and stops, which no call reads yet).
+-- the token) and `HaltFacts` (halt and stops).
 use Rattle.std.specs.Prelude.{All, ◌≡◌, ◌≢◌, ℕ, ◌+◌, ◌<◌, ◌≤◌, ◌⊎◌, ◌==◌, nat_lt, Bool, true, false, if◌then◌else◌, List, [], ◌∷◌, ◌++◌, length, map}
 use Rattle.std.specs.Prelude.{slice_index, slice_index_or, replicate, Option, Some, None}
 use Rattle.std.specs.List.{range_with_len}

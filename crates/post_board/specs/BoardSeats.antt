@@ -6,14 +6,9 @@ use Rattle.post_board.specs.Shown.{Batches, Shown}
 use Rattle.post_board.specs.BoardRule.{asked_of, serves}
 use Rattle.post_board.specs.declared.board_views.Known.{Known}
 use Rattle.post_board.specs.declared.board_views.OwnMailbox.{OwnMailbox}
-use Rattle.post_board.specs.declared.board_views.OwnMailbox.TheVariants.{Resting, Open, Left}
+use Rattle.post_board.specs.declared.board_views.OwnMailbox.TheVariants.{Resting, Open}
 use Rattle.post_board.specs.declared.boards.Board.{Board}
 use Rattle.post_board.specs.declared.boards.BoardSeat.{BoardSeat}
-
--- it knows that the rank that it asked has stopped
-abbrev pub is_left : OwnMailbox → Bool
-is_left (Left v) = true
-is_left _ = false
 
 -- what a seat shows of what it knows
 abbrev pub shown_known : Known → Shown
@@ -30,7 +25,6 @@ shown_known v =
       ended = v.ended;
       halted = v.halted;
       knows_halt = v.knows_halt;
-      knows_stop = is_left v.own;
       stopped = v.stopped;
       batches = Some (record { given = v.given; taken = v.taken });
     }

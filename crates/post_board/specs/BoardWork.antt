@@ -1,14 +1,21 @@
 -- What the calls of a board of atomic words do within themselves. Our own. Private clauses alone cite this.
-use Rattle.std.specs.Prelude.{◌≡◌, ◌≢◌, ℕ, ◌+◌, ◌<◌, ◌==◌, if◌then◌else◌, ◌∷◌, map, length, true, None}
+use Rattle.std.specs.Prelude.{◌≡◌, ◌≢◌, ℕ, ◌+◌, ◌<◌, ◌⊎◌, ◌==◌, if◌then◌else◌, ◌∷◌, map, length, true, false, Some, None}
 use Rattle.std.specs.List.{Contains}
 use Rattle.std.proofs.Common.{deque_capacity}
 use Rattle.atomic_table.specs.Seated.{TableId}
+use Rattle.ring_core.specs.World.{is_over}
+use Rattle.ring_core.specs.Step.{is_at}
 use Rattle.ring_core.specs.declared.states.Token.{Token}
 use Rattle.ring_core.specs.declared.states.Token.TheVariants.{At, Over}
 use Rattle.post_board.specs.declared.answers.Ring.{Ring}
-use Rattle.post_board.specs.declared.answers.Ring.TheVariants.{Elsewhere, Here, Over as HeardOver}
+use Rattle.post_board.specs.declared.answers.Ring.TheVariants.{Elsewhere, Here, Over as HeardOver, Halted}
 use Rattle.post_board.specs.BoardRule.{serves}
-use Rattle.post_board.specs.BoardSteps.{SeatState, Going}
+use Rattle.post_board.specs.Words.{asking, serving, full, emptied, sign, token_read, has_bit}
+use Rattle.post_board.specs.BoardSteps.{SeatState, Going, noted, knowing}
+use Rattle.post_board.specs.declared.board_answers.Reply.{Reply}
+use Rattle.post_board.specs.declared.board_answers.Reply.TheVariants.{Waiting, Full, Refused, Withdrawn}
+use Rattle.post_board.specs.declared.board_views.Known.{Known}
+use Rattle.post_board.specs.declared.board_views.OwnMailbox.TheVariants.{Resting, Filled, Emptied}
 use Rattle.post_board.specs.declared.boards.Board.{Board}
 use Rattle.post_board.specs.declared.boards.BoardSeat.{BoardSeat}
 
@@ -24,6 +31,51 @@ pub record Mine (b : Board) (id : TableId) (m : SeatState) (me : ℕ) : Type 0 w
 abbrev pub ring_read : Token → ℕ → Ring
 ring_read Over me = HeardOver
 ring_read (At p c) me = if p == me then Here c else Elsewhere
+
+-- the word of the ring, and that of the halt unless all is over, say this to the rank me
+abbrev pub Heard : ℕ → Ring → ℕ → ℕ → Type 0
+Heard me HeardOver token halt = token_read token ≡ Over
+Heard me Elsewhere token halt = (is_at (token_read token) me ≡ false) × (is_over (token_read token) ≡ false) × (halt ≢ 1)
+Heard me (Here c) token halt = (token_read token ≡ At me c) × (halt ≢ 1)
+Heard me Halted token halt = (is_over (token_read token) ≡ false) × (halt ≡ 1)
+
+-- what its seat knows then
+abbrev pub after_hearing : ℕ → Known → Ring → ℕ → ℕ → Known
+after_hearing n v HeardOver token halt = record (noted v 0 token token) { here = None; ended = true }
+after_hearing n v Elsewhere token halt = record (noted (noted v 0 token token) (n + 1) halt halt) { here = None }
+after_hearing n v (Here c) token halt = record (noted (noted v 0 token token) (n + 1) halt halt) { here = Some c }
+after_hearing n v Halted token halt = record (noted (noted v 0 token token) (n + 1) halt halt) { here = None; knows_halt = true }
+
+-- the rank me looked where the token is and, unless all is over, whether all are to halt
+pub record Hears (n me : ℕ) (m : SeatState) (ring : Ring) (m' : SeatState) : Type 0 where
+  pub token : ℕ
+  pub halt : ℕ
+  pub heard : Heard me ring token halt
+  pub after : m' ≡ knowing m (after_hearing n m.0.own ring token halt)
+  pub over : ring ≡ HeardOver → m.0.own.busy ≡ false
+  pub elsewhere : ring ≡ Elsewhere → 1 < n
+  pub halted : m.0.own.halted ≡ true → (ring ≡ Halted) ⊎ (ring ≡ HeardOver)
+
+-- the word of the stops, and the own mailbox after it, say this of a request to v
+abbrev pub Replied : ℕ → Reply → ℕ → ℕ → Type 0
+Replied v Waiting stops word = (has_bit stops v ≡ false) × ((sign word ≡ asking v) ⊎ (sign word ≡ serving v))
+Replied v Full stops word = sign word ≡ full v
+Replied v Refused stops word = sign word ≡ emptied v
+Replied v Withdrawn stops word = (has_bit stops v ≡ true) × (sign word ≡ asking v)
+
+-- what the seat of the rank me knows then
+abbrev pub after_finding : ℕ → ℕ → ℕ → Known → Reply → ℕ → ℕ → Known
+after_finding n me v k Waiting stops word = noted (noted k (n + 2) stops stops) (me + 1) word word
+after_finding n me v k Full stops word = record (noted (noted k (n + 2) stops stops) (me + 1) word word) { own = Filled v }
+after_finding n me v k Refused stops word = record (noted (noted k (n + 2) stops stops) (me + 1) word word) { own = Emptied v }
+after_finding n me v k Withdrawn stops word = record (noted (noted k (n + 2) stops stops) (me + 1) word 0) { own = Resting; tried = true }
+
+-- the rank me, with a request to v, looked which ranks have stopped and then for the answer
+pub record Finds (n me v : ℕ) (m : SeatState) (reply : Reply) (m' : SeatState) : Type 0 where
+  pub stops : ℕ
+  pub word : ℕ
+  pub replied : Replied v reply stops word
+  pub after : m' ≡ knowing m (after_finding n me v m.0.own reply stops word)
 
 -- the slot of a rank that is served is in front, and no more in the list
 pub record Fronted (s : BoardSeat) (to : ℕ) (s' : BoardSeat) : Type 0 where

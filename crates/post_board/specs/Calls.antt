@@ -6,11 +6,11 @@ use Rattle.ring_core.specs.declared.states.Colour.TheVariants.{White, Black}
 use Rattle.ring_core.specs.declared.states.Token.TheVariants.{At}
 use Rattle.post_board.specs.Shown.{Strings, Batches, Shown, is_served, victim_of, with_given, with_taken}
 use Rattle.post_board.specs.Told.{asked, Told, place, is_full, is_stopped}
-use Rattle.post_board.specs.Deeds.{take, take_none, see_over, Tells, Stays}
+use Rattle.post_board.specs.Deeds.{take, take_none, see_over, Tells, Stays, withdraw, TellsLate}
 use Rattle.post_board.specs.declared.answers.Answer.{Answer}
 use Rattle.post_board.specs.declared.answers.Answer.TheVariants.{Pending, Nothing, Work}
 use Rattle.post_board.specs.declared.answers.Ring.{Ring}
-use Rattle.post_board.specs.declared.answers.Ring.TheVariants.{Elsewhere, Here, Over}
+use Rattle.post_board.specs.declared.answers.Ring.TheVariants.{Elsewhere, Here, Over, Halted}
 
 abbrev pub asking : Shown → ℕ → Shown
 asking s victim = record s { busy = false; asked = Some victim }
@@ -20,9 +20,10 @@ answered s Pending = s
 answered s Nothing = record s { asked = None; tried = true }
 answered s (Work batch) = record s { asked = None; busy = true; tried = false; batches = with_taken s.batches (victim_of s) batch }
 
+-- a request to a rank that has stopped is taken back, unless that one had answered it
 abbrev pub AnswerTold : Shown → Answer → Option Told → Option Told → Type 0
-AnswerTold s Pending before after = Stays (λ t. (place t s.number).mail ≡ asked (victim_of s)) before after
-AnswerTold s Nothing before after = Tells s.number (take_none (victim_of s)) before after
+AnswerTold s Pending before after = Stays (λ t. ((place t s.number).mail ≡ asked (victim_of s)) × (is_stopped t (victim_of s) ≡ false)) before after
+AnswerTold s Nothing before after = Tells s.number (take_none (victim_of s)) before after ⊎ TellsLate s.number (withdraw (victim_of s)) before after
 AnswerTold s (Work batch) before after = Tells s.number (take (victim_of s) batch) before after
 
 abbrev pub serving : Shown → Option ℕ → Shown
@@ -51,11 +52,13 @@ abbrev pub hearing : Shown → Ring → Shown
 hearing s Elsewhere = record s { here = None }
 hearing s (Here colour) = record s { here = Some colour }
 hearing s Over = record s { here = None; ended = true }
+hearing s Halted = record s { here = None; knows_halt = true }
 
 abbrev pub RingTold : Shown → Ring → Option Told → Option Told → Type 0
-RingTold s Elsewhere before after = Stays (λ t. (is_at t.token s.number ≡ false) × (is_over t.token ≡ false)) before after
-RingTold s (Here colour) before after = Stays (λ t. t.token ≡ At s.number colour) before after
+RingTold s Elsewhere before after = Stays (λ t. (is_at t.token s.number ≡ false) × (is_over t.token ≡ false) × (t.halt ≡ false)) before after
+RingTold s (Here colour) before after = Stays (λ t. (t.token ≡ At s.number colour) × (t.halt ≡ false)) before after
 RingTold s Over before after = Tells s.number see_over before after
+RingTold s Halted before after = Stays (λ t. (is_over t.token ≡ false) × (t.halt ≡ true)) before after
 
 abbrev pub passed : Shown → Shown
 passed s = record s { colour = White; here = None }
@@ -91,6 +94,11 @@ module _ {S : Type 0} (shows : S → Shown) (seats : S → Type 0) where
   abbrev pub AllEven : List S → Type 0
   AllEven all = (i j : ℕ) (d : S) → i < length all → j < length all
       → Even (shows (slice_index_or all i d)).batches i (shows (slice_index_or all j d)).batches j
+
+  -- where one knows that all are to halt, one told them so
+  abbrev pub Halters : List S → Type 0
+  Halters all = (k : ℕ) (d : S) → k < length all → (shows (slice_index_or all k d)).knows_halt ≡ true
+      → (j : ℕ) × (j < length all) × ((shows (slice_index_or all j d)).halted ≡ true)
 
 -- what is told of the seat's rank is what the seat shows
 pub record Agrees (t : Told) (s : Shown) : Type 0 where

@@ -21,7 +21,6 @@ fresh n k batches =
       ended = false;
       halted = false;
       knows_halt = false;
-      knows_stop = false;
       stopped = false;
       batches = batches;
     }

@@ -1,6 +1,6 @@
--- The steps by which all ranks are told to halt and a rank stops, and those, which no call makes yet, by which ranks read that, and one
--- that waits for a rank that has stopped takes its request back. Our own.
-use Rattle.std.specs.Prelude.{◌≡◌, ◌≢◌, ℕ, ◌+◌, ◌^◌, ◌⊎◌, ◌==◌, Bool, true, false, if◌then◌else◌, bit_or, None}
+-- The steps by which all ranks are told to halt and a rank stops, and those by which ranks read that, and one that waits for a rank that
+-- has stopped takes its request back. Our own.
+use Rattle.std.specs.Prelude.{◌≡◌, ◌≢◌, ℕ, ◌+◌, ◌^◌, ◌<◌, ◌⊎◌, ◌==◌, Bool, true, false, if◌then◌else◌, bit_or, None}
 use prog.Atomic.{either}
 use mathlib.Core.Option.{none}
 use Rattle.atomic_table.specs.Table.{Allows, step}
@@ -33,13 +33,16 @@ after_stop v word found = record (noted v word found (bit_or found (2 ^ v.number
 abbrev pub StopTells : Telling
 StopTells st m r n = n ≡ knowing m (after_stop m.0.own st.word r)
 
--- load stops
+-- load stops: an open request went to one of the ranks
 abbrev pub stop_seen : OwnMailbox → ℕ → OwnMailbox
 stop_seen (Open v) found = if has_bit found v then Left v else Open v
 stop_seen o found = o
 
+abbrev pub after_stops : Known → ℕ → ℕ → Known
+after_stops v word found = record (noted v word found found) { own = stop_seen v.own found }
+
 abbrev pub LoadStopsTells : Telling
-LoadStopsTells st m r n = n ≡ knowing m (record (noted m.0.own st.word r r) { own = stop_seen m.0.own.own r })
+LoadStopsTells st m r n = (n ≡ knowing m (after_stops m.0.own st.word r)) × ((v : ℕ) → m.0.own.own ≡ Open v → v < m.0.own.n)
 
 -- withdraw: a compare_exchange of the own mailbox; where it fails, a look, which read full or empty
 abbrev pub WithdrawTells : Telling

@@ -71,8 +71,7 @@ shown_by s =
       here = s.here;
       ended = s.ended;
       halted = s.halted;
-      knows_halt = false;
-      knows_stop = false;
+      knows_halt = s.knows_halt;
       stopped = s.stopped;
       batches = None;
     }
@@ -125,6 +124,7 @@ pub record HaltFits (halter : Option ℕ) (stops : List Bool) (ranks : List Plai
   pub own : slice_index_or stops s.number false ≡ s.stopped
   pub gone : (r : ℕ) → slice_index_or stops r false ≡ true → Gone ranks r
   pub halted : s.halted ≡ true → is_some halter ≡ true
+  pub knows : s.knows_halt ≡ true → is_some halter ≡ true
   pub within : (r : ℕ) → halter ≡ Some r → r < length ranks
   pub by : halter ≡ Some s.number → s.halted ≡ true
 

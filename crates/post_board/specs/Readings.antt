@@ -1,15 +1,16 @@
 -- The steps that each call makes on the words of a board, where a seat tells them. Our own.
-use Rattle.std.specs.Prelude.{All, ◌≡◌, ◌≢◌, ℕ, zero, suc, ◌+◌, ◌^◌, ◌==◌, ◌⊎◌, false, if◌then◌else◌, List, map, [], ◌∷◌, ◌++◌, bit_or, Option, Some, None}
+use Rattle.std.specs.Prelude.{All, ◌≡◌, ◌≢◌, ℕ, zero, suc, ◌+◌, ◌^◌, ◌==◌, ◌⊎◌, true, false, if◌then◌else◌, List, map, [], ◌∷◌, ◌++◌, bit_or}
+use Rattle.std.specs.Prelude.{Option, Some, None}
 use Rattle.ring_core.specs.World.{is_over}
 use Rattle.ring_core.specs.Step.{is_at}
 use Rattle.ring_core.specs.declared.states.Token.{Token}
 use Rattle.ring_core.specs.declared.states.Token.TheVariants.{At, Over as TokenOver}
 use Rattle.post_board.specs.Shown.{Shown, victim_of}
-use Rattle.post_board.specs.Words.{Sign, sign, resting, asking, serving, full, fetching, emptied, token_read}
+use Rattle.post_board.specs.Words.{Sign, sign, resting, asking, serving, full, fetching, emptied, token_read, has_bit}
 use Rattle.post_board.specs.declared.answers.Answer.{Answer}
 use Rattle.post_board.specs.declared.answers.Answer.TheVariants.{Pending, Nothing, Work}
 use Rattle.post_board.specs.declared.answers.Ring.{Ring}
-use Rattle.post_board.specs.declared.answers.Ring.TheVariants.{Elsewhere, Here, Over}
+use Rattle.post_board.specs.declared.answers.Ring.TheVariants.{Elsewhere, Here, Over, Halted}
 use Rattle.post_board.specs.declared.answers.Reading.{Reading}
 
 abbrev pub Steps : Type 1
@@ -40,16 +41,26 @@ Two P Q steps = (x y : Reading) × P x × Q y × (steps ≡ x ∷ y ∷ [])
 abbrev pub Three : (Reading → Type 0) → (Reading → Type 0) → (Reading → Type 0) → Steps
 Three P Q R steps = (x y z : Reading) × P x × Q y × R z × (steps ≡ x ∷ y ∷ z ∷ [])
 
+abbrev pub Four : (Reading → Type 0) → (Reading → Type 0) → (Reading → Type 0) → (Reading → Type 0) → Steps
+Four P Q R S steps = (x y z u : Reading) × P x × Q y × R z × S u × (steps ≡ x ∷ y ∷ z ∷ u ∷ [])
+
 abbrev pub AskSteps : Shown → ℕ → Steps
 AskSteps s victim = One (Step (s.number + 1) (Is resting) (Is (asking victim)))
 
--- still asked or taken up; refused and put to rest; filled, fetched and put to rest
+-- First the word of the stops is read, so that no answer can come any more where the bit of the rank that was asked is set. Then the own
+-- mailbox: still asked or taken up, where that bit was not set; refused and put to rest, or, where it was set, taken back in one step that
+-- found it asked still; filled, fetched and put to rest, whether it was set or not.
 abbrev pub AnswerSteps : Shown → Answer → Steps
-AnswerSteps s Pending = One (Read (s.number + 1) (λ w. Is (asking (victim_of s)) w ⊎ Is (serving (victim_of s)) w))
-AnswerSteps s Nothing = Two (Read (s.number + 1) (Is (emptied (victim_of s)))) (Step (s.number + 1) (Is (emptied (victim_of s))) (Is resting))
-AnswerSteps s (Work batch) =
-    Three (Read (s.number + 1) (Is (full (victim_of s)))) (Step (s.number + 1) (Is (full (victim_of s))) (Is (fetching (victim_of s))))
-    (Step (s.number + 1) (Is (fetching (victim_of s))) (Is resting))
+AnswerSteps s Pending steps =
+    Two (Read (s.n + 2) (λ w. has_bit w (victim_of s) ≡ false))
+    (Read (s.number + 1) (λ w. Is (asking (victim_of s)) w ⊎ Is (serving (victim_of s)) w)) steps
+AnswerSteps s Nothing steps =
+    Three (Read (s.n + 2) (λ w. Unit {0})) (Read (s.number + 1) (Is (emptied (victim_of s))))
+    (Step (s.number + 1) (Is (emptied (victim_of s))) (Is resting)) steps
+    ⊎ Two (Read (s.n + 2) (λ w. has_bit w (victim_of s) ≡ true)) (Step (s.number + 1) (Is (asking (victim_of s))) (Is resting)) steps
+AnswerSteps s (Work batch) steps =
+    Four (Read (s.n + 2) (λ w. Unit {0})) (Read (s.number + 1) (Is (full (victim_of s))))
+    (Step (s.number + 1) (Is (full (victim_of s))) (Is (fetching (victim_of s)))) (Step (s.number + 1) (Is (fetching (victim_of s))) (Is resting)) steps
 
 -- the mailboxes of the first k ranks but this one, in order
 abbrev pub others_below : ℕ → ℕ → List ℕ
@@ -72,10 +83,13 @@ GiveSteps s to = One (Step (to + 1) (Is (serving s.number)) (Is (full s.number))
 abbrev pub RefuseSteps : Shown → ℕ → Steps
 RefuseSteps s to = One (Step (to + 1) (Is (serving s.number)) (Is (emptied s.number)))
 
+-- the token, and the halt word after it, unless all is over
 abbrev pub RingSteps : Shown → Ring → Steps
-RingSteps s Elsewhere = One (Read 0 (λ w. (is_at (token_read w) s.number ≡ false) × (is_over (token_read w) ≡ false)))
-RingSteps s (Here colour) = One (Read 0 (λ w. token_read w ≡ At s.number colour))
+RingSteps s Elsewhere =
+    Two (Read 0 (λ w. (is_at (token_read w) s.number ≡ false) × (is_over (token_read w) ≡ false))) (Read (s.n + 1) (λ w. w ≢ 1))
+RingSteps s (Here colour) = Two (Read 0 (λ w. token_read w ≡ At s.number colour)) (Read (s.n + 1) (λ w. w ≢ 1))
 RingSteps s Over = One (Read 0 (λ w. token_read w ≡ TokenOver))
+RingSteps s Halted = Two (Read 0 (λ w. is_over (token_read w) ≡ false)) (Read (s.n + 1) (λ w. w ≡ 1))
 
 -- the token was found so and left so
 abbrev pub TokenSteps : Token → Token → Steps

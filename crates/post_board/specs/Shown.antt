@@ -30,10 +30,9 @@ pub record Shown : Type 0 where
   pub here : Option Colour
   -- it saw the end
   pub ended : Bool
-  -- it told all to halt; it knows that one did; it knows that the rank it asked has stopped; it has stopped itself
+  -- it told all to halt; it knows that one did; it has stopped
   pub halted : Bool
   pub knows_halt : Bool
-  pub knows_stop : Bool
   pub stopped : Bool
   -- where the seat keeps them
   pub batches : Option Batches

@@ -22,6 +22,8 @@ pub enum Ring {
     Here(Colour),
     /// All is over.
     Over,
+    /// All are to halt.
+    Halted,
 }
 
 /// What is seen when all seats have come together.

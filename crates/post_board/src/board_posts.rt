@@ -1,13 +1,14 @@
 //! What ranks do to a board of atomic words, each call by the steps of `src/board_steps.rt`.
 ghost use Rattle.std.specs.Prelude.{◌≡◌, ◌<◌, Some, None, length, slice_index_or};
 ghost use Rattle.post_board.specs.Deeds.{Stays};
-ghost use Rattle.post_board.specs.Calls.{AllDone, AllEven, NoneOnTheWay};
+ghost use Rattle.post_board.specs.Calls.{AllDone, AllEven, Halters, NoneOnTheWay};
 ghost use Rattle.post_board.specs.BoardSeats.{shown_by, IsSeat};
 
 use crate::answers::{Answer, Gathered, Ring};
+use crate::board_answers::Reply;
 use crate::boards::{Board, BoardSeat};
 use crate::posts::Post;
-use crate::ring_words::{read_ring, word_at};
+use crate::ring_words::word_at;
 use rank_queue::Batch;
 use ring_core::{Colour, Token};
 
@@ -32,17 +33,22 @@ impl<'b> Post for &'b Board {
         let Some(victim) = seat.asked else {
             unreachable!()
         };
-        let found = self.look_step(&mut seat.seat, me);
-        if found == 8 * (victim as u64) + 3 {
-            let batch = self.fetch(&mut seat.seat, me, victim);
-            seat.asked = None;
-            Answer::Work(batch)
-        } else if found == 8 * (victim as u64) + 5 {
-            self.empty_step(&mut seat.seat, me, victim);
-            seat.asked = None;
-            Answer::Nothing
-        } else {
-            Answer::Pending
+        match self.find(&mut seat.seat, me, victim) {
+            Reply::Waiting => Answer::Pending,
+            Reply::Full => {
+                let batch = self.fetch(&mut seat.seat, me, victim);
+                seat.asked = None;
+                Answer::Work(batch)
+            }
+            Reply::Refused => {
+                self.empty_step(&mut seat.seat, me, victim);
+                seat.asked = None;
+                Answer::Nothing
+            }
+            Reply::Withdrawn => {
+                seat.asked = None;
+                Answer::Nothing
+            }
         }
     }
 
@@ -74,8 +80,7 @@ impl<'b> Post for &'b Board {
     }
 
     fn ring(&mut self, seat: &mut BoardSeat) -> Ring {
-        let found = self.ring_step(&mut seat.seat, seat.number);
-        let heard = read_ring(found, seat.number);
+        let heard = self.hear(&mut seat.seat, seat.number);
         seat.here = match heard {
             Ring::Here(colour) => Some(colour),
             _ => None,
@@ -127,6 +132,7 @@ impl<'b> Post for &'b Board {
         ensures over { (d : BoardSeat) → result.over ≡ (shown_by (slice_index_or all.items 0 d)).ended }
         ensures told { Stays NoneOnTheWay None None }
         ensures batches { AllEven shown_by (IsSeat self.old.now) all.items }
+        ensures halters { Halters shown_by (IsSeat self.old.now) all.items }
     {
         let Some(last) = all.pop() else {
             unreachable!()

@@ -2,7 +2,7 @@
 ghost use Rattle.post_board.specs.BoardRule.{Rule, opened, dealing, dealt_out, both, spent};
 ghost use Rattle.post_board.specs.BoardSteps.{AskTells, LookTells, TakeUpTells, ScanTells, GiveTells, RefuseTells, FetchTells, RestTells};
 ghost use Rattle.post_board.specs.BoardSteps.{RestEmptyTells, RingTells, PassTells, RestartTells, ConcludeTells, LastLookTells};
-ghost use Rattle.post_board.specs.LateSteps.{SetHaltTells, StopTells};
+ghost use Rattle.post_board.specs.LateSteps.{SetHaltTells, LoadHaltTells, StopTells, LoadStopsTells, WithdrawTells};
 
 use crate::board_views::View;
 use atomic_table::{Join, Play, Split, TableRule};
@@ -108,11 +108,32 @@ impl Play<Option<Batch>, View> for SetHalt {
     ghost then = { SetHaltTells };
 }
 
+/// A rank looks whether all are to halt.
+pub struct LoadHalt;
+
+impl Play<Option<Batch>, View> for LoadHalt {
+    ghost then = { LoadHaltTells };
+}
+
 /// A rank stops.
 pub struct Stop;
 
 impl Play<Option<Batch>, View> for Stop {
     ghost then = { StopTells };
+}
+
+/// A rank with an open request looks which ranks have stopped.
+pub struct LoadStops;
+
+impl Play<Option<Batch>, View> for LoadStops {
+    ghost then = { LoadStopsTells };
+}
+
+/// A rank takes its request back, where its mailbox asks still.
+pub struct Withdraw;
+
+impl Play<Option<Batch>, View> for Withdraw {
+    ghost then = { WithdrawTells };
 }
 
 /// The last look, of a seat that took all others in.

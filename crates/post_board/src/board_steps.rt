@@ -10,17 +10,17 @@ ghost use Rattle.ring_core.specs.declared.states.Colour.{Colour};
 ghost use Rattle.ring_core.specs.declared.states.Colour.TheVariants.{White, Black};
 ghost use Rattle.ring_core.specs.declared.states.Token.TheVariants.{At, Over};
 ghost use Rattle.post_board.specs.Shown.{Strings};
-ghost use Rattle.post_board.specs.Words.{sign, resting, asking, serving, full, fetching, emptied, word_of, token_read, word_of_token};
+ghost use Rattle.post_board.specs.Words.{sign, resting, asking, serving, full, fetching, emptied, word_of, token_read, word_of_token, has_bit as has_bit_of};
 ghost use Rattle.post_board.specs.BoardRule.{serves, OwnFits};
 ghost use Rattle.post_board.specs.BoardSteps.{SeatState, noted, knows, knowing, after_ask, after_look, after_taking, front, after_post};
 ghost use Rattle.post_board.specs.BoardSteps.{after_refusing, after_fetch, after_rest, heard_at, after_pass, after_restart, after_conclude};
-ghost use Rattle.post_board.specs.LateSteps.{after_halt, after_stop};
+ghost use Rattle.post_board.specs.LateSteps.{after_halt, halt_seen, after_stop, after_stops};
 ghost use Rattle.post_board.specs.BoardWork.{Mine};
 ghost use Rattle.post_board.specs.declared.board_views.OwnMailbox.TheVariants.{Resting, Open, Left, Filled, Emptied, Getting};
 
 use crate::board_rules::{
-    Ask, Conclude, Fetch, LoadRing, Look, Pass, PostBatch, PostNone, Rest, RestEmpty, Restart,
-    Scan, SetHalt, Stop, TakeUp,
+    Ask, Conclude, Fetch, LoadHalt, LoadRing, LoadStops, Look, Pass, PostBatch, PostNone, Rest,
+    RestEmpty, Restart, Scan, SetHalt, Stop, TakeUp, Withdraw,
 };
 use crate::board_views::View;
 use crate::boards::Board;
@@ -269,6 +269,17 @@ impl Board {
         self.table.shared.swap::<SetHalt>(seat, word, 1);
     }
 
+    /// Looks whether all are to halt. One that told all to does see it.
+    pub(crate) fn hear_step(&self, seat: &mut Seat<Option<Batch>, View>, me: u32) -> u64
+        requires mine { Mine self.now seat.old.table_id seat.old.me me }
+        ensures table { seat.new.table_id ≡ seat.old.table_id }
+        ensures after { seat.new.me ≡ knowing seat.old.me (halt_seen (noted seat.old.me.0.own (self.now.n + 1) result result) (result == 1)) }
+        ensures halted { seat.old.me.0.own.halted ≡ true → result ≡ 1 }
+    {
+        let word = self.n as usize + 1;
+        self.table.shared.load::<LoadHalt>(seat, word)
+    }
+
     /// Stops, at rest and serving nobody.
     pub(crate) fn stop_step(&self, seat: &mut Seat<Option<Batch>, View>, me: u32)
         requires mine { Mine self.now seat.old.table_id seat.old.me me }
@@ -280,6 +291,37 @@ impl Board {
         let word = self.n as usize + 2;
         self.table.shared.fetch_or::<Stop>(seat, word, bit_of(me));
     }
+
+    /// Looks which ranks have stopped.
+    pub(crate) fn stops_step(&self, seat: &mut Seat<Option<Batch>, View>, me: u32) -> u64
+        requires mine { Mine self.now seat.old.table_id seat.old.me me }
+        ensures table { seat.new.table_id ≡ seat.old.table_id }
+        ensures after { seat.new.me ≡ knowing seat.old.me (after_stops seat.old.me.0.own (self.now.n + 2) result) }
+        ensures inside { (v : ℕ) → seat.old.me.0.own.own ≡ Open v → v < self.now.n }
+    {
+        let word = self.n as usize + 2;
+        self.table.shared.load::<LoadStops>(seat, word)
+    }
+
+    /// Takes back the request to the rank `victim`, which has stopped, where the own mailbox asks it still. Answers what was found there.
+    pub(crate) fn withdraw_step(
+        &self,
+        seat: &mut Seat<Option<Batch>, View>,
+        me: u32,
+        victim: u32,
+    ) -> u64
+        requires mine { Mine self.now seat.old.table_id seat.old.me me }
+        requires left { seat.old.me.0.own.own ≡ Left victim }
+        ensures table { seat.new.table_id ≡ seat.old.table_id }
+        ensures hit { result ≡ word_of (asking victim) → seat.new.me ≡ knowing seat.old.me (after_rest seat.old.me.0.own (me + 1) result true) }
+        ensures miss { result ≢ word_of (asking victim) → ((sign result ≡ full victim) ⊎ (sign result ≡ emptied victim))
+            × (seat.new.me ≡ knowing seat.old.me (after_look seat.old.me.0.own (me + 1) result)) }
+    {
+        let word = me as usize + 1;
+        self.table
+            .shared
+            .compare_exchange::<Withdraw>(seat, word, 8 * (victim as u64) + 1, 0)
+    }
 }
 
 /// The bit of the rank `r` in the word of the stops.
@@ -288,4 +330,12 @@ fn bit_of(r: u32) -> u64
     ensures { result ≡ 2 ^ r }
 {
     1 << r
+}
+
+/// Whether a word has the bit of the rank `r`.
+pub(crate) fn has_bit(word: u64, r: u32) -> bool
+    requires { r < 64 }
+    ensures { result ≡ has_bit_of word r }
+{
+    (word >> r) % 2 == 1
 }

@@ -26,7 +26,7 @@ pub struct BoardSeat {
 
 /// A board that threads share through `&Board`, with no lock: each call of [`Post`](crate::Post) is a fixed number of steps on
 /// atomic words, and none waits, tries again or takes memory. The words are the ring, where the token lies, a mailbox for each rank,
-/// and two for the halt and the stops, which no call reads yet; a batch for a rank lies in that rank's slot.
+/// and two for the halt and the stops; a batch for a rank lies in that rank's slot.
 #[derive(Drop)]
 pub struct Board {
     pub(crate) table: Table<Option<Batch>, View, u64, Order, Global>,

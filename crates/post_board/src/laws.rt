@@ -50,8 +50,8 @@ pub fn board_is_sound_at_every_moment()
     ensures end { (n : ℕ) (s : TableState) (o : Rule n s) (r : ℕ) → r < n → (o.known r).ended ≡ true → NothingLeft n s o }
 {}
 
-/// The rule of a [`Board`](crate::Board) keeps the steps too by which ranks halt, stop, and take back a request to a rank that has
-/// stopped. Calls make the first and the third; none makes the others yet.
+/// The rule of a [`Board`](crate::Board) keeps the steps too by which ranks halt, stop, hear of that, and take back a request to a
+/// rank that has stopped.
 pub fn late_steps_keep_the_rule()
     ensures set_halt { SetHaltKeeps }
     ensures load_halt { LoadHaltKeeps }

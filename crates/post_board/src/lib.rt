@@ -28,12 +28,16 @@
 //!
 //! A seat *shows* what its rank knows (`Shown` in `specs/Shown.antt`), and each call is one equation on it: all that the call
 //! does to the seat, and that nothing else changes. A board may *tell* its picture, with the batches on their way (`Told`); then
-//! each call but `gather` is a *deed* (`specs/Deeds.antt`), or what is *late* and no event of the world: a halt or a stop. It is
-//! legal on what was told, and what is told afterwards is what it leaves. A seat may tell the *readings* that its calls made (`specs/Readings.antt`). So the cause of each answer stands in two
-//! clauses, by what is told and by what was read, and a board tells one or the other. Which seats are a board's own is a member
-//! of the trait (`seats`); each call keeps its own seat and every seat of another number, and what a seat shows is what its
-//! board tells. No call answers otherwise after a halt or a stop yet: a rank does not hear of a halt, and a request to a rank that
-//! has stopped stays open.
+//! each call but `gather` is a *deed* (`specs/Deeds.antt`), or what is *late* and no event of the world: a halt, a stop, or a request
+//! that is taken back from a rank that has stopped. It is legal on what was told, and what is told afterwards is what it leaves. A
+//! seat may tell the *readings* that its calls made (`specs/Readings.antt`). So the cause of each answer stands in two clauses, by
+//! what is told and by what was read, and a board tells one or the other. Which seats are a board's own is a member of the trait
+//! (`seats`); each call keeps its own seat and every seat of another number, and what a seat shows is what its board tells.
+//!
+//! A rank hears of a *halt* where it looks for the token ([`Ring::Halted`]), unless it sees the end; one that told all to halt always
+//! does. A rank that asked one that has *stopped* gets what that one gave before it stopped, or is refused as it was; else its request
+//! is taken back, and it is told [`Answer::Nothing`], so it never waits for a rank that has stopped. What a halt is to mean is the
+//! callers' affair. Where a gathered seat knows of a halt, one of the gathered seats told all to.
 //!
 //! # The board of atomic words
 //!
@@ -47,8 +51,10 @@
 //! A slot is with the rank that serves its owner from the taking up until the answer, and with its owner while that takes the batch
 //! out. A rank looks for requests by a load of each mailbox, and takes one up by a compare_exchange where it read a request to
 //! itself. A board of words tells no picture, since it has none that stands still; its seats tell their readings and keep their
-//! batches. The rule keeps the steps of a halt and of stops too ([`late_steps_keep_the_rule`]); those that read them or take a
-//! request back no call makes yet.
+//! batches. The rule keeps the steps of a halt and of stops too ([`late_steps_keep_the_rule`]): a look at the ring is followed by one at
+//! the halt, unless it read the end, and a look at the own mailbox comes after one at the stops. Where the bit of the rank that was
+//! asked is set there, the mailbox is put to rest by a compare_exchange that expects the request; it fails where an answer lies there,
+//! which is then taken.
 //!
 //! # What is proved
 //!
@@ -68,6 +74,7 @@
 
 mod answers;
 mod askers;
+mod board_answers;
 mod board_batches;
 mod board_gathers;
 mod board_makes;

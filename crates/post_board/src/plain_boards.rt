@@ -1,7 +1,10 @@
 //! A board that one thread keeps.
-ghost use Rattle.std.specs.Prelude.{◌≡◌, ◌≢◌, ◌<◌, ◌≤◌, true, false, length, replicate, if◌then◌else◌, Some, None, IfOk};
+ghost use Rattle.std.specs.Prelude.{◌≡◌, ◌≢◌, ◌<◌, ◌≤◌, true, false, length, slice_index_or, replicate, if◌then◌else◌, Some, None, IfOk};
 ghost use Rattle.ring_core.specs.declared.states.Colour.TheVariants.{Black};
-ghost use Rattle.post_board.specs.Calls.{serving};
+ghost use Rattle.post_board.specs.Shown.{victim_of};
+ghost use Rattle.post_board.specs.Deeds.{withdraw as withdraw_of, TellsLate};
+ghost use Rattle.post_board.specs.Calls.{serving, answered};
+ghost use Rattle.post_board.specs.declared.answers.Answer.TheVariants.{Nothing};
 ghost use Rattle.post_board.specs.Fresh.{fresh_told, AllFresh};
 ghost use Rattle.post_board.specs.Plain.{plain, wants, token_colour, shown_by, told_by, Seats};
 ghost use Rattle.post_board.specs.declared.plain_seats.PlainSeat.{PlainSeat};
@@ -76,6 +79,26 @@ impl PlainBoard {
         self.askers.take_away(seat.number, r);
         self.ranks[r as usize].mailbox = PlainMailbox::Served(seat.number);
         seat.serves[r as usize] = true;
+    }
+
+    /// Takes back the request of this seat's rank to the rank `victim`, which has stopped.
+    pub(crate) fn withdraw(&mut self, seat: &mut PlainSeat, victim: u32)
+        requires seat { Seats self.old seat.old }
+        requires live { (seat.old.ended ≡ false) × (seat.old.stopped ≡ false) }
+        requires asked { seat.old.asked ≡ Some victim }
+        requires asks { wants (plain self.old.ranks.items seat.old.number).mailbox victim ≡ true }
+        requires left { slice_index_or self.old.stops.items victim false ≡ true }
+        ensures shown { shown_by seat.new ≡ answered (shown_by seat.old) Nothing }
+        ensures told { TellsLate seat.old.number (withdraw_of (victim_of (shown_by seat.old))) (Some (told_by self.old)) (Some (told_by self.new)) }
+        ensures mine { Seats self.new seat.new }
+        ensures others { (other : PlainSeat) → other.number ≢ seat.old.number → Seats self.old other → Seats self.new other }
+    {
+        self.askers.take_away(victim, seat.number);
+        let rank = &mut self.ranks[seat.number as usize];
+        rank.tried = true;
+        rank.mailbox = PlainMailbox::Rest;
+        seat.asked = None;
+        seat.tried = true;
     }
 
     /// The token's colour.

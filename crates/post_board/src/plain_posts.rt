@@ -1,7 +1,7 @@
 //! What the ranks do to a plain board.
 ghost use Rattle.std.specs.Prelude.{◌≡◌, ◌<◌, Some, None, length, slice_index_or};
 ghost use Rattle.post_board.specs.Deeds.{Stays};
-ghost use Rattle.post_board.specs.Calls.{AllDone, AllEven, NoneOnTheWay};
+ghost use Rattle.post_board.specs.Calls.{AllDone, AllEven, Halters, NoneOnTheWay};
 ghost use Rattle.post_board.specs.Plain.{shown_by, told_by, Seats};
 ghost use Rattle.post_board.specs.Agreed.{agreed};
 ghost use Rattle.post_board.specs.declared.plain_seats.PlainSeat.{PlainSeat};
@@ -36,6 +36,13 @@ impl Post for PlainBoard {
     }
 
     fn answer(&mut self, seat: &mut PlainSeat) -> Answer {
+        let Some(victim) = seat.asked else {
+            unreachable!()
+        };
+        if self.stops[victim as usize] && self.asks(seat.number, victim) {
+            self.withdraw(seat, victim);
+            return Answer::Nothing;
+        }
         let rank = &mut self.ranks[seat.number as usize];
         match mem::replace(&mut rank.mailbox, PlainMailbox::Rest) {
             PlainMailbox::Holds(_, batch) => {
@@ -92,6 +99,11 @@ impl Post for PlainBoard {
                 seat.ended = true;
                 Ring::Over
             }
+            _ if self.halter.is_some() => {
+                seat.here = None;
+                seat.knows_halt = true;
+                Ring::Halted
+            }
             Token::At(place, colour) if place == seat.number => {
                 seat.here = Some(colour);
                 Ring::Here(colour)
@@ -144,6 +156,7 @@ impl Post for PlainBoard {
         ensures over { (d : PlainSeat) → result.over ≡ (shown_by (slice_index_or all.items 0 d)).ended }
         ensures told { Stays NoneOnTheWay (Some (told_by self.old)) (Some (told_by self.new)) }
         ensures batches { AllEven shown_by (Seats self.old) all.items }
+        ensures halters { Halters shown_by (Seats self.old) all.items }
     {
         Gathered { over: all[0].ended }
     }

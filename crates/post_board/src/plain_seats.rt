@@ -20,6 +20,7 @@ pub struct PlainSeat {
     pub(crate) here: Option<Colour>,
     pub(crate) ended: bool,
     pub(crate) halted: bool,
+    pub(crate) knows_halt: bool,
     pub(crate) stopped: bool,
 }
 
@@ -41,6 +42,7 @@ impl PlainSeat {
             here: None,
             ended: false,
             halted: false,
+            knows_halt: false,
             stopped: false,
         })
     }

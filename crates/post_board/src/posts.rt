@@ -7,10 +7,10 @@ ghost use Rattle.post_board.specs.Told.{Told};
 ghost use Rattle.post_board.specs.Deeds.{ask as asking_of, give as giving_of, refuse as refusing_of, pass as passing_of, restart as restarting_of};
 ghost use Rattle.post_board.specs.Deeds.{conclude as concluding_of, Tells, Stays, halt as halting_of, stop as stopping_of, TellsLate};
 ghost use Rattle.post_board.specs.Calls.{asking, answered, AnswerTold, serving, Found, LookedFor, given, served, hearing, RingTold, passed};
-ghost use Rattle.post_board.specs.Calls.{restarted, concluded, halting, stopping, NoneOnTheWay, AllDone, AllEven, AgreesIfTold};
+ghost use Rattle.post_board.specs.Calls.{restarted, concluded, halting, stopping, NoneOnTheWay, AllDone, AllEven, Halters, AgreesIfTold};
 ghost use Rattle.post_board.specs.Readings.{Adds, AskSteps, AnswerSteps, RequestSteps, GiveSteps, RefuseSteps, RingSteps, TokenSteps, HaltSteps, StopSteps};
 ghost use Rattle.post_board.specs.declared.answers.Reading.{Reading};
-ghost use Rattle.post_board.specs.declared.answers.Ring.TheVariants.{Over as HeardOver, Elsewhere as HeardElsewhere};
+ghost use Rattle.post_board.specs.declared.answers.Ring.TheVariants.{Over as HeardOver, Elsewhere as HeardElsewhere, Halted as HeardHalted};
 
 use crate::answers::{Answer, Gathered, Ring};
 use rank_queue::Batch;
@@ -46,7 +46,8 @@ pub trait Post {
         ensures mine { seats self.new seat.new }
         ensures others { (other : Self.Seat) → (shows other).number ≢ (shows seat.old).number → seats self.old other → seats self.new other };
 
-    /// Looks for the answer to the open request.
+    /// Looks for the answer to the open request. A request to a rank that has stopped is taken back at once; an answer that came
+    /// before is never.
     fn answer(&mut self, seat: &mut Self::Seat) -> Answer
         requires seat { seats self.old seat.old }
         requires live { Live (shows seat.old) }
@@ -96,13 +97,15 @@ pub trait Post {
         ensures mine { seats self.new seat.new }
         ensures others { (other : Self.Seat) → (shows other).number ≢ (shows seat.old).number → seats self.old other → seats self.new other };
 
-    /// Looks where the token is. A rank that sees the end has no strings.
+    /// Looks where the token is, and whether all are to halt. A rank that sees the end has no strings; one that told all to halt sees
+    /// the halt or the end.
     fn ring(&mut self, seat: &mut Self::Seat) -> Ring
         requires seat { seats self.old seat.old }
         requires live { Live (shows seat.old) }
         ensures shown { shows seat.new ≡ hearing (shows seat.old) result }
         ensures over { result ≡ HeardOver → (shows seat.old).busy ≡ false }
         ensures elsewhere { result ≡ HeardElsewhere → 1 < (shows seat.old).n }
+        ensures halted { (shows seat.old).halted ≡ true → (result ≡ HeardHalted) ⊎ (result ≡ HeardOver) }
         ensures told { RingTold (shows seat.old) result (tells self.old) (tells self.new) }
         ensures still { tells self.old ≡ None → self.new ≡ self.old }
         ensures reads { Adds (reads seat.old) (RingSteps (shows seat.old) result) (reads seat.new) }
@@ -158,7 +161,7 @@ pub trait Post {
         ensures mine { seats self.new seat.new }
         ensures others { (other : Self.Seat) → (shows other).number ≢ (shows seat.old).number → seats self.old other → seats self.new other };
 
-    /// Tells all ranks to halt. What that is to mean for them is the callers' affair: no call answers otherwise after it.
+    /// Tells all ranks to halt: from then on each look at the token sees it, unless it sees the end.
     fn halt(&mut self, seat: &mut Self::Seat)
         requires seat { seats self.old seat.old }
         requires live { Live (shows seat.old) }
@@ -169,7 +172,7 @@ pub trait Post {
         ensures mine { seats self.new seat.new }
         ensures others { (other : Self.Seat) → (shows other).number ≢ (shows seat.old).number → seats self.old other → seats self.new other };
 
-    /// Stops: this rank does nothing more at the board. A request to it is not answered any more.
+    /// Stops: this rank does nothing more at the board. A request to it is not answered any more: who asked takes it back.
     fn stop(&mut self, seat: &mut Self::Seat)
         requires seat { seats self.old seat.old }
         requires live { Live (shows seat.old) }
@@ -187,7 +190,8 @@ pub trait Post {
         requires all { AllDone shows (seats self.old) all.items }
         ensures over { (d : Self.Seat) → result.over ≡ (shows (slice_index_or all.items 0 d)).ended }
         ensures told { Stays NoneOnTheWay (tells self.old) (tells self.new) }
-        ensures batches { AllEven shows (seats self.old) all.items };
+        ensures batches { AllEven shows (seats self.old) all.items }
+        ensures halters { Halters shows (seats self.old) all.items };
 
     // What the board tells of a seat's rank is what the seat shows.
     ghost agrees: { (b : Self) (s : Self.Seat) → seats b s → AgreesIfTold (tells b) (shows s) };

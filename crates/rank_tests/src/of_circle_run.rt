@@ -11,7 +11,7 @@ use std::sync::Wait;
 use std::test::Fail;
 use std::thread::Threads;
 
-const CHILDREN: [(&str, &str); 7] = [
+pub(crate) const CHILDREN: [(&str, &str); 7] = [
     ("/b", "/b/x"),
     ("/b", "/b/y"),
     ("/b/y", "/b/y/z"),
@@ -49,7 +49,7 @@ over 1
 // A string that was handled.
 #[derive(Drop)]
 pub(crate) struct Step {
-    item: Path,
+    pub(crate) item: Path,
     waiting: u64,
     pushed: Vec<Path>,
 }
@@ -120,7 +120,7 @@ fn put_children(alloc: Global, item: &Path, fresh: &mut Batch) -> Result<Vec<Pat
     Ok(pushed)
 }
 
-fn families(alloc: Global, count: u32) -> Result<Vec<Family>, OutOfMemory>
+pub(crate) fn families(alloc: Global, count: u32) -> Result<Vec<Family>, OutOfMemory>
     ensures count { IfOk result (λ jobs. length jobs.items ≡ count) }
     ensures unused { IfOk result (λ jobs. All (λ f. f.steps.items ≡ []) jobs.items) }
 {

@@ -25,7 +25,7 @@ const OPTIONS: Options = Options {
     stop_after: None,
 };
 
-fn paths(alloc: Global, texts: &[&str]) -> Result<Vec<Path>, Fail> {
+pub(crate) fn paths(alloc: Global, texts: &[&str]) -> Result<Vec<Path>, Fail> {
     let mut paths = Vec::new(alloc);
     for text in texts {
         paths.push(Path::parse(alloc, text)?)?;
@@ -54,7 +54,7 @@ fn roots_are_what_is_under_no_other(rt: HostRuntime) -> Result<(), Fail> {
 }
 
 // `/t` with the file `a`, the directory `b`, the file `b-x`, and the empty file `c` in `b`.
-fn tree_t(alloc: Global) -> Result<MemGround, Fail> {
+pub(crate) fn tree_t(alloc: Global) -> Result<MemGround, Fail> {
     let mut files = MemGround::empty(alloc)?;
     files.put_dir(&Path::parse(alloc, "/t")?, 0, None)?;
     files.put_file(&Path::parse(alloc, "/t/a")?, b"hello", Some(86400))?;
@@ -85,7 +85,7 @@ fn walked<R: Threads + Wait + Sync>(
 
 // Whether the list has just these paths, each with its mark.
 fn has(rt: &impl Abort, report: &WalkReport, entries: &[(&str, Mark)]) -> Result<(), Fail> {
-    assert!(rt; report.walked == Walked::Whole);
+    assert!(rt; matches!(report.walked, Walked::Whole));
     assert_eq!(rt; report.list.len(), entries.len());
     let mut cursor = report.list.cursor()?;
     for (path, mark) in entries {

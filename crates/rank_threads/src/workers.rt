@@ -60,7 +60,7 @@ fn turn_to_end<R: Wait>(
         match rank.turn(&mut post, &mut tree) {
             Turn::Ended => return Some(rank.share()),
             Turn::Waited => thread::yield_now(),
-            Turn::Went => {}
+            Turn::Went | Turn::Stopped => {}
         }
         if stop.load(Ordering::SeqCst) != 0 {
             return None;

@@ -199,6 +199,7 @@ for_memory start files before after stop.Overlap laws exact valid told f stood s
 for_memory start files before after stop.NoDirectory laws exact valid told f stood stops = absurd stops
 for_memory start files before after stop.TooMany laws exact valid told f stood stops =
     absurd (too_much start files before after laws exact valid told stops f stood)
+for_memory start files before after (stop.Stopped handled left) laws exact valid told f stood stops = absurd stops
 for_memory start files before after (stop.Damaged path line) laws exact valid told f stood stops =
     absurd (damaged start files before path line exact told stops f)
 for_memory start files before after (stop.ListFile trouble.Absent path) laws exact valid told f stood stops =
@@ -313,6 +314,7 @@ at_for_memory output between after stop.OutOfMemory told can stood stops = refl
 at_for_memory output between after stop.Overlap told can stood stops = absurd stops
 at_for_memory output between after stop.NoDirectory told can stood stops = absurd stops
 at_for_memory output between after stop.TooMany told can stood stops = absurd stops
+at_for_memory output between after (stop.Stopped handled left) told can stood stops = absurd stops
 at_for_memory output between after (stop.Damaged path line) told can stood stops = absurd stops
 at_for_memory output between after (stop.ListFile trouble.Absent path) told can stood stops = absurd stops
 at_for_memory output between after (stop.ListFile trouble.NoPlace path) told can stood stops =

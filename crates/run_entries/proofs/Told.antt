@@ -1,5 +1,6 @@
 -- What is told of a walk, from its roots on.
-use Rattle.std.proofs.Common.{ℕ, List, Option, Some, None, IfSome, ◌≡◌, Bool, true, false, ◌&&◌, refl, arith}
+use Rattle.std.proofs.Common.{ℕ, List, Option, Some, None, IfSome, ◌≡◌, Bool, true, false, ◌&&◌, refl, arith, ⊎_elim}
+use Rattle.std.proofs.lemmas.Bool.{false≢true}
 use Rattle.std.specs.Prelude.{Result, Ok, Err, IfOk, ◌||◌, ◌==◌}
 use Rattle.std.specs.List.{flat_map}
 use Rattle.std.specs.List.Sorted.{IsStrictlySortedBy}
@@ -13,7 +14,9 @@ use Rattle.tool_words.specs.Limits.{CommonWithin}
 use Rattle.tree_walk.specs.declared.errors.WalkError.{WalkError}
 use Rattle.tree_walk.specs.Walk.{walk, answers_in}
 use Rattle.tree_walk.specs.Roots.{IsRoots}
-use Rattle.tree_walk.specs.Found.{IsFound, IsWalkOf}
+use Rattle.tree_walk.specs.Found.{IsFound, IsWalkOf, IsTooMuch, IfTooMany}
+use Rattle.tree_walk.specs.Cut.{IsTooMany}
+use Rattle.tree_walk.specs.declared.errors.WalkError.TheVariants as error
 use Rattle.run_report.specs.Sides.{Side}
 use Rattle.run_entries.specs.declared.accounts.Entries.{Entries}
 use Rattle.run_entries.specs.Entries.{Walked}
@@ -55,3 +58,9 @@ pub told : (common : Common) (before after : Side) (given starts : List (List �
 unfolding walked_from
 told common before after given starts (Ok entries) are is account = (walked_from before after given starts entries.list are is, account)
 told common before after given starts (Err e) are is account = tt
+
+-- without a stop only a whole walk is too much
+pub too_much : (e : WalkError) (tree : Option Files) (starts : List (List ℕ)) (old new : ℕ) → IfTooMany e (IsTooMany None tree starts old new) →
+    IfTooMany e (IsTooMuch tree starts old new)
+too_much error.OutOfMemory tree starts old new h = tt
+too_much (error.TooMany n) tree starts old new h = ⊎_elim (λ whole. whole) (λ cut. absurd (false≢true cut.0)) h

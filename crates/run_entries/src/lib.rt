@@ -2,7 +2,8 @@
 //!
 //! [`find`] looks at the paths of `--newer`; walks the files below the roots of the paths that the words give, by as many ranks as
 //! they ask for, or reads the list file that they name; and chooses of that what meets the tests. [`walk_side`] walks alone, for a
-//! run that has several walks, and [`name_entries`] names what failed in each, and whether it is that of a destination.
+//! run that has several walks, and [`name_entries`] names what failed in each, and whether it is that of a destination;
+//! [`walk_roots`] walks roots as they are. [`read_list`] reads a list file,
 //! [`save_list`] writes a list to a file, and [`save_lists`] several, one after the other. [`in_asked_order`] puts a list in the
 //! order that is asked for, and [`Account::put`] writes what is told of a walk.
 //!
@@ -43,8 +44,9 @@ pub use laws::{
     fine_finds_name_nothing, fine_finds_stop_for_memory, fine_places_stop_for_memory,
     fine_walks_name_nothing, fine_walks_stop_for_memory,
 };
-pub use naming::name_entries;
+pub use naming::{failures, name_entries};
 pub use ordering::in_asked_order;
 pub use printing::notes_text;
+pub use reading::read_list;
 pub use saving::{Output, save_list, save_lists};
-pub use starting::walk_side;
+pub use starting::{stop_by, walk_roots, walk_side};

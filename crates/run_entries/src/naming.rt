@@ -12,11 +12,7 @@ use std::alloc::Global;
 use tool_text::{Note, Why, in_order, notes_of};
 
 /// The notes of all that failed, in their order: of the looks, and of the entries.
-pub(crate) fn failures(
-    alloc: Global,
-    looks: &[Look],
-    list: &FlatList,
-) -> Result<Vec<Note>, OutOfMemory>
+pub fn failures(alloc: Global, looks: &[Look], list: &FlatList) -> Result<Vec<Note>, OutOfMemory>
     ensures { IfOk result (λ notes. AreInOrder (failures_in looks.now list.now) notes.items) }
 {
     let mut notes = Vec::new(alloc);

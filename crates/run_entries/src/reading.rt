@@ -20,11 +20,7 @@ use run_report::{Stop, Trouble};
 use std::alloc::Global;
 
 /// The list that the file at the path tells.
-pub(crate) fn read_list<G: Ground>(
-    alloc: Global,
-    files: &mut G,
-    path: Path,
-) -> Result<FlatList, Stop>
+pub fn read_list<G: Ground>(alloc: Global, files: &mut G, path: Path) -> Result<FlatList, Stop>
     ensures read { IfOk result (λ list. IsRead path list (side_of (G.tree files.old) (G.count files.old))) }
     ensures few { IfOk result (λ list. length list ≤ 4194304) }
     ensures ascend { IfOk result (λ list. IsStrictlySortedBy path_cmp (paths list)) }

@@ -50,6 +50,7 @@ where
 {
     match start {
         Start::Roots(paths) => walk_side(rt, alloc, common, paths, files),
+        Start::Restart => walk_side(rt, alloc, common, Vec::new(alloc), files),
         Start::Input(path) => Ok(Entries {
             list: read_list(alloc, files, path)?,
             account: Account::of_nothing(alloc),
@@ -85,8 +86,8 @@ where
     }
 }
 
-// Why a walk gave no list.
-fn stop_by(why: WalkError) -> Stop
+/// Why a walk gave no list.
+pub fn stop_by(why: WalkError) -> Stop
     ensures { result ≡ stop_by why }
 {
     match why {
@@ -118,7 +119,7 @@ where
     ensures count { RoseBy 0 (G.count files.old) (G.count files.new) }
 {
     let roots = roots_of(given)?;
-    walked_from(rt, alloc, common, roots, files)
+    walk_roots(rt, alloc, common, roots, files)
 }
 
 // Whether the events of a walk are kept: for `--trace`, and on one host for `--shares` too, which then tell what the events count.
@@ -128,9 +129,9 @@ fn keeps_events(common: &Common) -> bool
     common.trace || (common.shares && common.hosts == 1)
 }
 
-// Walks these roots, with as many ranks as are asked for.
+/// Walks these roots, with as many ranks as are asked for.
 #[tactic(auto, using(crate::proofs::Told::kept_on_one_host))]
-fn walked_from<T: Threads + Wait + Sync, G: Ground>(
+pub fn walk_roots<T: Threads + Wait + Sync, G: Ground>(
     rt: &T,
     alloc: Global,
     common: &Common,

@@ -28,6 +28,10 @@ refusal_line refusal = codes "refused word " ++ decimal refusal.word ++ 32 ∷ c
 abbrev pub list_line : List ℕ → List ℕ → List ℕ
 list_line why path = codes "list " ++ why ++ 32 ∷ (escape path ++ 10 ∷ [])
 
+-- the line of a walk that stopped: how many strings it handled, and how many it left
+abbrev pub stopped_line : ℕ → ℕ → List ℕ
+stopped_line handled left = codes "stopped handled " ++ decimal handled ++ codes " left " ++ decimal left ++ 10 ∷ []
+
 -- the line about a list file that is none
 abbrev pub damaged_line : List ℕ → ℕ → List ℕ
 damaged_line path line = codes "damaged " ++ escape path ++ codes " line " ++ decimal line ++ 10 ∷ []

@@ -11,6 +11,7 @@ number_of status.Words = 2
 number_of status.Memory = 3
 number_of status.Sink = 4
 number_of status.TooMany = 5
+number_of status.Stopped = 6
 number_of status.Damaged = 7
 number_of status.ListFile = 8
 
@@ -22,5 +23,6 @@ has_reason status.Words = true
 has_reason status.Memory = false
 has_reason status.Sink = false
 has_reason status.TooMany = true
+has_reason status.Stopped = true
 has_reason status.Damaged = true
 has_reason status.ListFile = true

@@ -9,7 +9,7 @@ use Rattle.run_report.specs.declared.stops.Trouble.TheVariants as trouble
 use Rattle.run_report.specs.declared.stops.Stop.{Stop}
 use Rattle.run_report.specs.declared.stops.Stop.TheVariants as stop
 use Rattle.run_report.specs.Ends.{GrewByLine}
-use Rattle.run_report.specs.Lines.{memory_line, refusal_line, list_line, damaged_line}
+use Rattle.run_report.specs.Lines.{memory_line, refusal_line, list_line, stopped_line, damaged_line}
 use Rattle.run_report.specs.Sides.{Stream}
 
 -- the status of each reason
@@ -18,6 +18,7 @@ status_of stop.OutOfMemory = status.Memory
 status_of stop.Overlap = status.Words
 status_of stop.NoDirectory = status.Words
 status_of stop.TooMany = status.TooMany
+status_of (stop.Stopped handled left) = status.Stopped
 status_of (stop.Damaged path line) = status.Damaged
 status_of (stop.ListFile why path) = status.ListFile
 
@@ -32,6 +33,7 @@ stop_line stop.OutOfMemory = memory_line
 stop_line stop.Overlap = codes "refused overlap" ++ 10 ∷ []
 stop_line stop.NoDirectory = codes "refused no directory" ++ 10 ∷ []
 stop_line stop.TooMany = codes "too many entries" ++ 10 ∷ []
+stop_line (stop.Stopped handled left) = stopped_line handled left
 stop_line (stop.Damaged path line) = damaged_line path line
 stop_line (stop.ListFile why path) = list_line (trouble_word why) path
 

@@ -15,6 +15,8 @@ pub enum Status {
     Sink,
     /// The list has more entries than a list may have.
     TooMany,
+    /// The walk stopped when it was to, and its lists are written.
+    Stopped,
     /// The file that was to be read is no list file.
     Damaged,
     /// A list file could not be read, or could not be written.
@@ -36,6 +38,7 @@ impl Status {
             Status::Memory => 3,
             Status::Sink => 4,
             Status::TooMany => 5,
+            Status::Stopped => 6,
             Status::Damaged => 7,
             Status::ListFile => 8,
         }

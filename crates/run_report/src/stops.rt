@@ -24,6 +24,13 @@ pub enum Stop {
     NoDirectory,
     /// The list has more entries than a list may have.
     TooMany,
+    /// The walk stopped after it had handled so many strings, and left so many: its lists are written.
+    Stopped {
+        /// How many strings were handled.
+        handled: u64,
+        /// How many are left.
+        left: u64,
+    },
     /// The file at the path is no list file, which its line of this number, the first being 1, is the first to show.
     Damaged(Path, u64),
     /// The list file at the path can't be read or written.

@@ -3,7 +3,7 @@ ghost use Rattle.std.specs.Prelude.{◌≡◌, ◌++◌, ◌∷◌, [], codes, S
 ghost use Rattle.outside.specs.Count.{RoseBy};
 ghost use Rattle.tool_words.specs.Refusals.{refusal_in};
 ghost use Rattle.run_report.specs.Ends.{GrewByLine};
-ghost use Rattle.run_report.specs.Lines.{memory_line, cause_text, refusal_line, damaged_line, list_line};
+ghost use Rattle.run_report.specs.Lines.{memory_line, cause_text, refusal_line, stopped_line, damaged_line, list_line};
 ghost use Rattle.run_report.specs.Sides.{stream_of};
 ghost use Rattle.run_report.specs.Stops.{status_of, trouble_word, stop_line, Told, ToldRefusal};
 
@@ -101,6 +101,7 @@ fn status_of(stop: &Stop) -> Status
         Stop::OutOfMemory => Status::Memory,
         Stop::Overlap | Stop::NoDirectory => Status::Words,
         Stop::TooMany => Status::TooMany,
+        Stop::Stopped { .. } => Status::Stopped,
         Stop::Damaged(..) => Status::Damaged,
         Stop::ListFile(..) => Status::ListFile,
     }
@@ -115,9 +116,17 @@ fn stop_line(alloc: Global, stop: &Stop) -> Result<Text, OutOfMemory>
         Stop::Overlap => text_of(alloc, "refused overlap"),
         Stop::NoDirectory => text_of(alloc, "refused no directory"),
         Stop::TooMany => text_of(alloc, "too many entries"),
+        Stop::Stopped { handled, left } => stopped_line(alloc, *handled, *left),
         Stop::Damaged(path, line) => damaged_line(alloc, path, *line),
         Stop::ListFile(trouble, path) => list_line(alloc, trouble_word(*trouble), path),
     }
+}
+
+fn stopped_line(alloc: Global, handled: u64, left: u64) -> Result<Text, OutOfMemory>
+    ensures { IfOk result (λ text. text ≡ stopped_line handled left) }
+{
+    let line = format!(in alloc; "stopped handled {handled} left {left}")?;
+    text_of(alloc, &line)
 }
 
 fn damaged_line(alloc: Global, path: &Path, line: u64) -> Result<Text, OutOfMemory>

@@ -25,4 +25,6 @@ mod of_hosts;
 #[cfg(test)]
 mod of_lists;
 #[cfg(test)]
+mod of_stages;
+#[cfg(test)]
 mod rows;

@@ -7,6 +7,7 @@ use Rattle.std.specs.List.{AllByRecursion, before_first, after_first, position_o
 use Rattle.std.proofs.lemmas.List.Elements.{All-cons, All-from_recursion, All-take}
 use Rattle.std.proofs.lemmas.List.Folds.{find-append}
 use Rattle.std.proofs.lemmas.Bool.Decides.{nat_tests}
+use Rattle.flat_list.specs.declared.ordering.Field.{Field}
 use Rattle.path_text.specs.Path.{refusal}
 use Rattle.tree_cmp.specs.declared.conditions.Condition.{Condition}
 use Rattle.tree_cmp.specs.Expressions.{expr_reading}
@@ -21,14 +22,14 @@ use Rattle.tool_words.specs.declared.tables.OptionName.TheVariants as option
 use Rattle.tool_words.specs.declared.tables.Placed.{Placed}
 use Rattle.tool_words.specs.declared.turns.Turn.{Turn}
 use Rattle.tool_words.specs.declared.turns.Turn.TheVariants as turn
-use Rattle.tool_words.specs.Asked.{Origin, Choice, Asked}
-use Rattle.tool_words.specs.Clashes.{place_of, clash_in}
+use Rattle.tool_words.specs.Asked.{Origin, roots, input, Asked, walk_by}
+use Rattle.tool_words.specs.Clashes.{place_of, trace_on_hosts, trace_and_stop, clash_in}
 use Rattle.tool_words.specs.Limits.{Valid, Lower, paths_in, CommonWithin, ChoiceWithin, Within}
 use Rattle.tool_words.specs.Table.{tool_named, text_of, option_named, Set, set, raise}
 use Rattle.tool_words.specs.Value.{is, trimmed, number_in, split_in, path_in, lower_path_in, order_in, test_in, is_colon, if_expr, want_by, want_in}
 use Rattle.tool_words.specs.Words.{ends_options, is_option, name_in, value_in, Given, nothing, and_then, at_end, with_words}
 use Rattle.tool_words.specs.Words.{with_path, with_lower, with_number, with_plain, with_settings, is_repeated, with_another, with_own_value, with_next_value}
-use Rattle.tool_words.specs.Words.{with_flag, with_option, with_word, start_by, sides_by, sources_by, targets_by, nodes_by, choice_of, list_by}
+use Rattle.tool_words.specs.Words.{with_flag, with_option, with_word, start_by, begin_by, sides_by, sources_by, targets_by, nodes_by, choice_of}
 use Rattle.tool_words.specs.Words.{asked_of, unless_clash, command_of, reading_for, reading}
 
 one_of : {X : Type 0} (P : X → Type 0) (b : Bool) (x y : X) → P x → P y → P (cond b x y)
@@ -58,12 +59,22 @@ record Fits (common : Common) : Type 0 where
   seed : common.seed < 2 ^ 64
   width : (2 ≤ common.width) × (common.width ≤ 64)
 
-record Fine (s : Set) : Type 0 where
-  common : Fits s.common
-  input : IfSome s.input Valid
-  output : IfSome s.output Valid
-  newer : AllByRecursion Valid s.newer
-  wants : AllByRecursion FileValid s.wants
+-- a number of paths after which a rank may stop
+abbrev Stopping : ℕ → Type 0
+Stopping n = (1 ≤ n) × (n < 2 ^ 63)
+
+-- what has limits of all that is set
+record Sound (how : Common) (from to : Option (List ℕ)) (since : List (List ℕ)) (saved : List Want) (after : Option ℕ) (folder : Option (List ℕ)) : Type 0 where
+  common : Fits how
+  input : IfSome from Valid
+  output : IfSome to Valid
+  newer : AllByRecursion Valid since
+  wants : AllByRecursion FileValid saved
+  stop : IfSome after Stopping
+  lists : IfSome folder Valid
+
+abbrev Fine : Set → Type 0
+Fine s = Sound s.common s.input s.output s.newer s.wants s.stop_after s.lists
 
 -- a number of nodes that a made-up tree may have
 abbrev Makeable : ℕ → Type 0
@@ -127,16 +138,48 @@ the_want text want e = let h = want_valid text in rw e at h
 
 -- what is set stays fine where one part of it changes
 with_common : (s : Set) (common : Common) → Fine s → Fits common → Fine (record s { common = common })
-with_common s common f c = record { common = c; input = f.input; output = f.output; newer = f.newer; wants = f.wants }
+with_common s common f c = record {
+  common = c;
+  input = f.input;
+  output = f.output;
+  newer = f.newer;
+  wants = f.wants;
+  stop = f.stop;
+  lists = f.lists;
+}
 
 with_input : (s : Set) (path : List ℕ) → Fine s → Valid path → Fine (record s { input = Some path })
-with_input s path f v = record { common = f.common; input = v; output = f.output; newer = f.newer; wants = f.wants }
+with_input s path f v = record {
+  common = f.common;
+  input = v;
+  output = f.output;
+  newer = f.newer;
+  wants = f.wants;
+  stop = f.stop;
+  lists = f.lists;
+}
 
 with_output : (s : Set) (path : List ℕ) → Fine s → Valid path → Fine (record s { output = Some path })
-with_output s path f v = record { common = f.common; input = f.input; output = v; newer = f.newer; wants = f.wants }
+with_output s path f v = record {
+  common = f.common;
+  input = f.input;
+  output = v;
+  newer = f.newer;
+  wants = f.wants;
+  stop = f.stop;
+  lists = f.lists;
+}
 
 with_newer : (s : Set) (path : List ℕ) → Fine s → Valid path → Fine (record s { newer = s.newer ++ path ∷ [] })
-with_newer s path f v = record { common = f.common; input = f.input; output = f.output; newer = one_more Valid s.newer path f.newer v; wants = f.wants }
+with_newer s path f v = record {
+  common = f.common;
+  input = f.input;
+  output = f.output;
+  newer = one_more Valid s.newer path f.newer v;
+  wants = f.wants;
+  stop = f.stop;
+  lists = f.lists;
+}
 
 with_want : (s : Set) (want : Want) → Fine s → FileValid want → Fine (record s { wants = s.wants ++ want ∷ [] })
 with_want s want f v = record {
@@ -145,6 +188,30 @@ with_want s want f v = record {
   output = f.output;
   newer = f.newer;
   wants = one_more FileValid s.wants want f.wants v;
+  stop = f.stop;
+  lists = f.lists;
+}
+
+with_stop : (s : Set) (n : ℕ) → Fine s → (1 ≤ n) × (n ≤ 2 ^ 63 - 1) → Fine (record s { stop_after = Some n })
+with_stop s n f w = record {
+  common = f.common;
+  input = f.input;
+  output = f.output;
+  newer = f.newer;
+  wants = f.wants;
+  stop = (w.0, omega (arith, w.1));
+  lists = f.lists;
+}
+
+with_lists : (s : Set) (path : List ℕ) → Fine s → Valid path → Fine (record s { lists = Some path })
+with_lists s path f v = record {
+  common = f.common;
+  input = f.input;
+  output = f.output;
+  newer = f.newer;
+  wants = f.wants;
+  stop = f.stop;
+  lists = v;
 }
 
 ranks_fine : (common : Common) (n : ℕ) → Fits common → (1 ≤ n) × (n ≤ 64) → Fits (record common { ranks = n })
@@ -179,21 +246,24 @@ set_fine option.Width text s f = mapped Fine _ (number_in 2 64 text) (λ n e. wi
 set_fine option.Trace text s f = tt
 set_fine option.Shares text s f = tt
 set_fine option.Progress text s f = tt
-set_fine option.Sort text s f =
-    mapped Fine _ (order_in text) (λ order e. record { common = f.common; input = f.input; output = f.output; newer = f.newer; wants = f.wants })
+set_fine option.Sort text s f = mapped Fine _ (order_in text) (λ order e. f)
 set_fine option.Input text s f = mapped Fine _ (path_in text) (λ path e. with_input s path f (the_path text path e))
 set_fine option.Output text s f = mapped Fine _ (path_in text) (λ path e. with_output s path f (the_path text path e))
-set_fine (option.Test name) text s f =
-    mapped Fine _ (test_in name text) (λ test e. record { common = f.common; input = f.input; output = f.output; newer = f.newer; wants = f.wants })
+set_fine (option.Test name) text s f = mapped Fine _ (test_in name text) (λ test e. f)
 set_fine option.Newer text s f = mapped Fine _ (path_in text) (λ path e. with_newer s path f (the_path text path e))
 set_fine option.Want text s f = mapped Fine _ (want_in text) (λ want e. with_want s want f (the_want text want e))
 set_fine option.Dryrun text s f = tt
+set_fine option.StopAfter text s f =
+    mapped Fine _ (number_in 1 (2 ^ 63 - 1) text) (λ n e. with_stop s n f (number_within 1 (2 ^ 63 - 1) text n e))
+set_fine option.Lists text s f = mapped Fine _ (path_in text) (λ path e. with_lists s path f (the_path text path e))
+set_fine option.Restart text s f = tt
 
 raise_fine : (option : OptionName) (s : Set) → Fine s → IfSome (raise option s) Fine
 raise_fine option.Trace s f = with_common s _ f (same_limits s.common _ f.common refl refl refl refl)
 raise_fine option.Shares s f = with_common s _ f (same_limits s.common _ f.common refl refl refl refl)
 raise_fine option.Progress s f = with_common s _ f (same_limits s.common _ f.common refl refl refl refl)
-raise_fine option.Dryrun s f = record { common = f.common; input = f.input; output = f.output; newer = f.newer; wants = f.wants }
+raise_fine option.Dryrun s f = f
+raise_fine option.Restart s f = f
 raise_fine _ s f = tt
 
 -- a value leaves the trace as it was
@@ -216,6 +286,9 @@ set_leaves (option.Test name) text s = mapped (SameTrace s) _ (test_in name text
 set_leaves option.Newer text s = mapped (SameTrace s) _ (path_in text) (λ path e. refl)
 set_leaves option.Want text s = mapped (SameTrace s) _ (want_in text) (λ want e. refl)
 set_leaves option.Dryrun text s = tt
+set_leaves option.StopAfter text s = mapped (SameTrace s) _ (number_in 1 (2 ^ 63 - 1) text) (λ n e. refl)
+set_leaves option.Lists text s = mapped (SameTrace s) _ (path_in text) (λ path e. refl)
+set_leaves option.Restart text s = tt
 
 -- the option is `--trace`
 abbrev is_trace : Placed → Bool
@@ -252,6 +325,7 @@ raise_stands option.Trace place options s h = λ t. now_stands options place
 raise_stands option.Shares place options s h = still_stands options _ s h
 raise_stands option.Progress place options s h = still_stands options _ s h
 raise_stands option.Dryrun place options s h = still_stands options _ s h
+raise_stands option.Restart place options s h = still_stands options _ s h
 raise_stands _ place options s h = tt
 
 path_fine : (given : Given) (place : ℕ) (path : Option (List ℕ)) → FineSoFar given → IfSome path Valid → IfOk (with_path given place path) FineSoFar
@@ -373,6 +447,8 @@ nothing_fine = record {
     output = tt;
     newer = tt;
     wants = tt;
+    stop = tt;
+    lists = tt;
   };
   paths = tt;
   lower = tt;
@@ -389,6 +465,17 @@ start_fine wanting None [] places v h = tt
 start_fine wanting None (path ∷ paths) places v h = All-from_recursion Valid (path ∷ paths) h
 start_fine wanting (Some file) paths [] v h = All-from_recursion Valid (file ∷ []) (v, tt)
 start_fine wanting (Some file) paths (place ∷ places) v h = tt
+
+-- where a walk begins, if not where an earlier one stopped
+abbrev BeginWithin : Option Origin → Type 0
+BeginWithin begin = IfSome begin StartWithin
+
+begin_fine : (wanting : ℕ) (file : Option (List ℕ)) (again : Bool) (paths : List (List ℕ)) (places : List ℕ) →
+    IfSome file Valid → AllByRecursion Valid paths → IfOk (begin_by wanting file again paths places) BeginWithin
+begin_fine wanting file false paths places v h =
+    both StartWithin BeginWithin (start_by wanting file paths places) (λ start. Ok (Some start)) (start_fine wanting file paths places v h) (λ start s. s)
+begin_fine wanting file true paths [] v h = tt
+begin_fine wanting file true paths (place ∷ places) v h = tt
 
 abbrev SidesWithin : List ℕ × List ℕ → Type 0
 SidesWithin sides = Valid sides.0 × Valid sides.1
@@ -447,7 +534,22 @@ not_none : (o : Option ℕ) → is_some o ≡ true → o ≢ None
 not_none (Some place) s e = cc
 not_none None s e = cc
 
-one_host : (options : List Placed) (s : Set) → Fits s.common → Stands options s → clash_in options s ≡ None → s.common.trace ≡ true → s.common.hosts ≡ 1
+-- no line on a trace applies
+record IsFree (options : List Placed) (s : Set) : Type 0 where
+  hosts : trace_on_hosts options s ≡ None
+  stop : trace_and_stop options s ≡ None
+
+neither : (o p : Option ℕ) → option_or o p ≡ None → (o ≡ None) × (p ≡ None)
+neither None p e = (refl, e)
+neither (Some place) p e = cc
+
+is_free : (options : List Placed) (s : Set) → clash_in options s ≡ None → IsFree options s
+is_free options s e =
+    let first = neither (trace_on_hosts options s) _ e in
+    let second = neither (trace_and_stop options s) _ first.1 in
+    record { hosts = first.0; stop = second.0 }
+
+one_host : (options : List Placed) (s : Set) → Fits s.common → Stands options s → trace_on_hosts options s ≡ None → s.common.trace ≡ true → s.common.hosts ≡ 1
 one_host options s f stands none t =
     elim (nat_lt 1 s.common.hosts) as
     (λ b. nat_lt 1 s.common.hosts ≡ b → cond b (place_of option.Trace options) None ≡ None → s.common.hosts ≡ 1) [
@@ -455,28 +557,56 @@ one_host options s f stands none t =
       | false ↦ λ few e. only_one s.common.hosts f.hosts.0 few
     ] refl none
 
-common_fine : (given : Given) → FineSoFar given → clash_in given.options given.settings ≡ None → CommonWithin given.settings.common
-common_fine given f none =
+common_fine : (given : Given) → FineSoFar given → IsFree given.options given.settings → CommonWithin given.settings.common
+common_fine given f free =
     let fits = f.settings.common in
     record {
       ranks = fits.ranks;
       hosts = fits.hosts;
       seed = fits.seed;
       width = fits.width;
-      trace = one_host given.options given.settings fits f.trace none;
+      trace = one_host given.options given.settings fits f.trace free.hosts;
     }
 
-list_fine : (wanting : ℕ) (chosen : Option Choice) (given : Given) →
-    FineSoFar given → CommonWithin given.settings.common → IfSome chosen ChoiceWithin → IfOk (list_by wanting chosen given) Within
-list_fine wanting chosen given f common c =
+-- and a stop has no trace
+abbrev StopWithin : Bool → ℕ → Type 0
+StopWithin trace n = (1 ≤ n) × (n < 2 ^ 63) × (trace ≡ false)
+
+no_trace : (place : Option ℕ) (trace : Bool) → (trace ≡ true → is_some place ≡ true) → place ≡ None → trace ≡ false
+no_trace place true stands none = absurd (not_none place (stands refl) none)
+no_trace place false stands none = refl
+
+stop_fine : (stop : Option ℕ) (place : Option ℕ) (trace : Bool) → IfSome stop Stopping → (trace ≡ true → is_some place ≡ true) →
+    cond (is_some stop) place None ≡ None → IfSome stop (StopWithin trace)
+stop_fine None place trace fits stands none = tt
+stop_fine (Some n) place trace fits stands none = (fits.0, fits.1, no_trace place trace stands none)
+
+-- a walk that is whole, and one that stops or goes on
+walk_fine : (common : Common) (begin : Option Origin) (sort : Option (Field × Bool)) (output : Option (List ℕ)) (stop : Option ℕ) (lists : Option (List ℕ)) →
+    CommonWithin common → BeginWithin begin → IfSome output Valid → IfSome stop (StopWithin common.trace) → IfSome lists Valid →
+    Within (walk_by common begin sort output stop lists)
+walk_fine common None sort output stop (Some lists) c b o s l = record { common = c; starts = tt; stop = s; lists = l; output = o }
+walk_fine common (Some (roots paths)) sort output (Some n) (Some lists) c b o s l = record { common = c; starts = b; stop = s; lists = l; output = o }
+walk_fine common (Some (roots paths)) sort output (Some n) None c b o s l = record { common = c; start = b; chosen = tt; output = o }
+walk_fine common (Some (roots paths)) sort output None lists c b o s l = record { common = c; start = b; chosen = tt; output = o }
+walk_fine common (Some (input file)) sort output stop lists c b o s l = record { common = c; start = b; chosen = tt; output = o }
+walk_fine common None sort output stop None c b o s l = record { common = c; start = All-from_recursion Valid [] tt; chosen = tt; output = o }
+
+asked_fine : (wanting : ℕ) (tool : Tool) (given : Given) → FineSoFar given → IsFree given.options given.settings → CommonWithin given.settings.common →
+    IfOk (asked_of wanting tool given) Within
+asked_fine wanting tool.Walk given f free common =
+    let s = given.settings in
+    both BeginWithin Within (begin_by wanting s.input s.restart given.paths given.places) _
+    (begin_fine wanting s.input s.restart given.paths given.places f.settings.input f.paths)
+    (λ begin b.
+    walk_fine s.common begin s.sort s.output s.stop_after s.lists common b f.settings.output
+    (stop_fine s.stop_after (place_of option.Trace given.options) s.common.trace f.settings.stop f.trace free.stop)
+    f.settings.lists)
+asked_fine wanting tool.Find given f free common =
     both StartWithin Within (start_by wanting given.settings.input given.paths given.places) _
     (start_fine wanting given.settings.input given.paths given.places f.settings.input f.paths)
-    (λ start s. record { common = common; start = s; chosen = c; output = f.settings.output })
-
-asked_fine : (wanting : ℕ) (tool : Tool) (given : Given) → FineSoFar given → CommonWithin given.settings.common → IfOk (asked_of wanting tool given) Within
-asked_fine wanting tool.Walk given f common = list_fine wanting None given f common tt
-asked_fine wanting tool.Find given f common = list_fine wanting (Some (choice_of given.settings)) given f common (choice_fine given.settings f.settings)
-asked_fine wanting tool.Cmp given f common =
+    (λ start s. record { common = common; start = s; chosen = choice_fine given.settings f.settings; output = f.settings.output })
+asked_fine wanting tool.Cmp given f free common =
     both SidesWithin Within (sides_by wanting given.paths given.places) _
     (sides_fine wanting given.paths given.places f.paths)
     (λ sides v. record {
@@ -485,15 +615,15 @@ asked_fine wanting tool.Cmp given f common =
       right = v.1;
       files = All-from_recursion FileValid given.settings.wants f.settings.wants;
     })
-asked_fine wanting tool.Copy given f common =
+asked_fine wanting tool.Copy given f free common =
     both EndsWithin Within (sources_by wanting given.paths) _
     (sources_fine wanting given.paths f.paths)
     (λ ends e. record { common = common; sources = e.sources; dest = e.dest; some = e.some })
-asked_fine wanting tool.Remove given f common =
+asked_fine wanting tool.Remove given f free common =
     both (All Lower) Within (targets_by wanting given.lower) _
     (targets_fine wanting given.lower f.lower)
     (λ paths l. record { common = common; roots = l; choice = choice_fine given.settings f.settings })
-asked_fine wanting tool.Test given f common =
+asked_fine wanting tool.Test given f free common =
     both Makeable Within (nodes_by wanting given.numbers given.places) _
     (nodes_fine wanting given.numbers given.places f.numbers)
     (λ nodes n. record { common = common; nodes = n; choice = choice_fine given.settings f.settings })
@@ -505,7 +635,8 @@ last_fine (Err refusal) clash h = tt
 
 command_fine : (wanting : ℕ) (tool : Tool) (given : Given) → FineSoFar given → IfOk (command_of wanting tool given) Within
 command_fine wanting tool given f =
-    last_fine (asked_of wanting tool given) (clash_in given.options given.settings) (λ none. asked_fine wanting tool given f (common_fine given f none))
+    last_fine (asked_of wanting tool given) (clash_in given.options given.settings)
+    (λ none. let free = is_free given.options given.settings none in asked_fine wanting tool given f free (common_fine given f free))
 
 tool_fine : (tool : Option Tool) (words : List (List ℕ)) → IfOk (reading_for tool words) Within
 tool_fine None words = tt

@@ -1,12 +1,12 @@
 -- What a command line asks for: a record a report. Our own.
-use Rattle.std.specs.Prelude.{ℕ, Bool, List, Option, Some, None}
+use Rattle.std.specs.Prelude.{ℕ, Bool, List, [], Option, Some, None}
 use Rattle.find_tests.specs.declared.testing.Test.{Test}
 use Rattle.flat_list.specs.declared.ordering.Field.{Field}
 use Rattle.tool_words.specs.declared.commands.Command.{Command}
 use Rattle.tool_words.specs.declared.commands.Command.TheVariants as command
 use Rattle.tool_words.specs.declared.commands.Common.{Common}
 use Rattle.tool_words.specs.declared.commands.Start.{Start}
-use Rattle.tool_words.specs.declared.commands.Start.TheVariants.{Roots, Input}
+use Rattle.tool_words.specs.declared.commands.Start.TheVariants.{Roots, Input, Restart}
 use Rattle.tool_words.specs.declared.commands.Tests.{Tests}
 use Rattle.tool_words.specs.declared.commands.Want.{Want}
 
@@ -26,6 +26,16 @@ pub record ListAsked : Type 0 where
   pub common : Common
   pub start : Origin
   pub chosen : Option Choice
+  pub sort : Option (Field × Bool)
+  pub output : Option (List ℕ)
+
+-- what a dwalk is asked for that stops, or goes on from where an earlier one stopped: how the walk is to go; the paths at which it begins, or
+-- none where it goes on from the lists; after how many paths of one rank it stops; the folder of the lists; order; and where it is saved
+pub record StageAsked : Type 0 where
+  pub common : Common
+  pub starts : Option (List (List ℕ))
+  pub stop_after : Option ℕ
+  pub lists : List ℕ
   pub sort : Option (Field × Bool)
   pub output : Option (List ℕ)
 
@@ -57,21 +67,46 @@ pub record RemoveAsked : Type 0 where
 
 pub data Asked : Type 0 where
   list : ListAsked → Asked
+  stage : StageAsked → Asked
   compare : CompareAsked → Asked
   copy : CopyAsked → Asked
   remove : RemoveAsked → Asked
   test : TestAsked → Asked
 
+-- where a list comes from; a walk that goes on has no paths of its own
 abbrev pub start_in : Start → Origin
 start_in (Roots paths) = roots paths.items
 start_in (Input path) = input path
+start_in Restart = roots []
+
+-- where a walk begins, or none where it goes on from where an earlier one stopped
+abbrev pub begin_in : Start → Option Origin
+begin_in (Roots paths) = Some (roots paths.items)
+begin_in (Input path) = Some (input path)
+begin_in Restart = None
 
 abbrev pub choice_in : Tests → Choice
 choice_in tests = record { tests = tests.tests.items; newer = tests.newer.items }
 
+-- all of a list
+abbrev pub whole_by : Common → Origin → Option (Field × Bool) → Option (List ℕ) → Asked
+whole_by common start sort output = list (record { common = common; start = start; chosen = None; sort = sort; output = output })
+
+-- a walk that stops or goes on
+abbrev pub stage_by : Common → Option (List (List ℕ)) → Option (Field × Bool) → Option (List ℕ) → Option ℕ → List ℕ → Asked
+stage_by common starts sort output stop lists =
+    stage (record { common = common; starts = starts; stop_after = stop; lists = lists; sort = sort; output = output })
+
+-- what dwalk is asked for; words never ask for a stop, or to go on, without a folder of lists
+abbrev pub walk_by : Common → Option Origin → Option (Field × Bool) → Option (List ℕ) → Option ℕ → Option (List ℕ) → Asked
+walk_by common None sort output stop (Some lists) = stage_by common None sort output stop lists
+walk_by common (Some (roots paths)) sort output (Some n) (Some lists) = stage_by common (Some paths) sort output (Some n) lists
+walk_by common (Some start) sort output stop lists = whole_by common start sort output
+walk_by common None sort output stop None = whole_by common (roots []) sort output
+
 -- what a command asks for
 abbrev pub asked_by : Command → Asked
-asked_by (command.Walk common start sort output) = list (record { common = common; start = start_in start; chosen = None; sort = sort; output = output })
+asked_by (command.Walk common start sort output stop lists) = walk_by common (begin_in start) sort output stop lists
 asked_by (command.Find common start tests sort output) =
     list (record { common = common; start = start_in start; chosen = Some (choice_in tests); sort = sort; output = output })
 asked_by (command.Cmp common left right wants) = compare (record { common = common; left = left; right = right; wants = wants.items })

@@ -1,9 +1,9 @@
 -- What holds of all that words ask for: paths are valid, and numbers stand within the limits that a run takes. Our own.
-use Rattle.std.specs.Prelude.{◌≡◌, ◌≢◌, ℕ, ◌<◌, ◌≤◌, ◌^◌, List, [], ◌∷◌, length, All, Ok, None, IfSome, true}
+use Rattle.std.specs.Prelude.{◌≡◌, ◌≢◌, ℕ, ◌<◌, ◌≤◌, ◌^◌, List, [], ◌∷◌, length, All, Ok, None, IfSome, true, false}
 use Rattle.path_text.specs.Path.{refusal}
 use Rattle.tool_words.specs.declared.commands.Common.{Common}
-use Rattle.tool_words.specs.Asked.{Origin, roots, input, Choice, ListAsked, CompareAsked, CopyAsked, RemoveAsked, TestAsked, Asked, list, compare}
-use Rattle.tool_words.specs.Asked.{copy, remove, test}
+use Rattle.tool_words.specs.Asked.{Origin, roots, input, Choice, ListAsked, StageAsked, CompareAsked, CopyAsked, RemoveAsked, TestAsked, Asked, list, stage}
+use Rattle.tool_words.specs.Asked.{compare, copy, remove, test}
 use Rattle.tool_words.specs.Words.{reading}
 
 abbrev pub Valid : List ℕ → Type 0
@@ -35,6 +35,14 @@ pub record WithinList (asked : ListAsked) : Type 0 where
   pub chosen : IfSome asked.chosen ChoiceWithin
   pub output : IfSome asked.output Valid
 
+-- a walk stops after a path or more, and has no trace then
+pub record WithinStage (asked : StageAsked) : Type 0 where
+  pub common : CommonWithin asked.common
+  pub starts : IfSome asked.starts (All Valid)
+  pub stop : IfSome asked.stop_after (λ n. (1 ≤ n) × (n < 2 ^ 63) × (asked.common.trace ≡ false))
+  pub lists : Valid asked.lists
+  pub output : IfSome asked.output Valid
+
 pub record WithinCompare (asked : CompareAsked) : Type 0 where
   pub common : CommonWithin asked.common
   pub left : Valid asked.left
@@ -62,6 +70,7 @@ pub record WithinTest (asked : TestAsked) : Type 0 where
 
 abbrev pub Within : Asked → Type 0
 Within (list asked) = WithinList asked
+Within (stage asked) = WithinStage asked
 Within (compare asked) = WithinCompare asked
 Within (copy asked) = WithinCopy asked
 Within (remove asked) = WithinRemove asked

@@ -49,9 +49,13 @@ text_of (option.Test name.Minutes) = codes "--mmin"
 text_of option.Newer = codes "--newer"
 text_of option.Want = codes "-o"
 text_of option.Dryrun = codes "--dryrun"
+text_of option.StopAfter = codes "--stop-after"
+text_of option.Lists = codes "--lists"
+text_of option.Restart = codes "--restart"
 
 -- the options of a group: how a walk is to go; what is told of it; where a list comes from, in which order it is printed, and where it is
--- saved; the tests; what is saved of a comparison; and whether something is removed
+-- saved; the tests; what is saved of a comparison; whether something is removed; and after how much a walk stops, where its lists are, and
+-- whether it goes on from those of an earlier one
 abbrev pub options_in : Group → List OptionName
 options_in group.Common = option.Ranks ∷ option.Hosts ∷ option.Split ∷ option.Seed ∷ option.Width ∷ []
 options_in group.Telling = option.Trace ∷ option.Shares ∷ option.Progress ∷ []
@@ -61,10 +65,11 @@ options_in group.Testing =
     ∷ option.Newer ∷ []
 options_in group.Comparing = option.Want ∷ []
 options_in group.Removing = option.Dryrun ∷ []
+options_in group.Stopping = option.StopAfter ∷ option.Lists ∷ option.Restart ∷ []
 
 -- the groups of options that a tool takes
 abbrev pub groups_of : Tool → List Group
-groups_of tool.Walk = group.Common ∷ group.Telling ∷ group.Listing ∷ []
+groups_of tool.Walk = group.Common ∷ group.Telling ∷ group.Listing ∷ group.Stopping ∷ []
 groups_of tool.Find = group.Common ∷ group.Telling ∷ group.Listing ∷ group.Testing ∷ []
 groups_of tool.Cmp = group.Common ∷ group.Comparing ∷ []
 groups_of tool.Copy = group.Common ∷ []
@@ -82,8 +87,8 @@ option_named tool text = find (λ o. is (text_of o) text) (options_of tool)
 abbrev pub standard : Common
 standard = record { ranks = 4; hosts = 1; split = Equal; seed = 0; width = 64; trace = false; shares = false; progress = false }
 
--- what options set: how a walk is to go, the order, the files, the tests, the paths of `--newer`, what is saved of a comparison, and
--- whether nothing is to be removed
+-- what options set: how a walk is to go, the order, the files, the tests, the paths of `--newer`, what is saved of a comparison, whether
+-- nothing is to be removed, after how many paths of one rank a walk stops, the folder of its lists, and whether it goes on from them
 pub record Set : Type 0 where
   pub common : Common
   pub sort : Option (Field × Bool)
@@ -93,9 +98,24 @@ pub record Set : Type 0 where
   pub newer : List (List ℕ)
   pub wants : List Want
   pub dryrun : Bool
+  pub stop_after : Option ℕ
+  pub lists : Option (List ℕ)
+  pub restart : Bool
 
 abbrev pub unset : Set
-unset = record { common = standard; sort = None; input = None; output = None; tests = []; newer = []; wants = []; dryrun = false }
+unset = record {
+  common = standard;
+  sort = None;
+  input = None;
+  output = None;
+  tests = [];
+  newer = [];
+  wants = [];
+  dryrun = false;
+  stop_after = None;
+  lists = None;
+  restart = false;
+}
 
 -- tests add up, and so do the paths of `--newer` and what is saved of a comparison; every other option is given once
 abbrev pub adds_up : OptionName → Bool
@@ -121,6 +141,9 @@ set (option.Test name) text s = option_map (λ test. record s { tests = s.tests 
 set option.Newer text s = option_map (λ path. record s { newer = s.newer ++ path ∷ [] }) (path_in text)
 set option.Want text s = option_map (λ want. record s { wants = s.wants ++ want ∷ [] }) (want_in text)
 set option.Dryrun text s = None
+set option.StopAfter text s = option_map (λ n. record s { stop_after = Some n }) (number_in 1 (2 ^ 63 - 1) text)
+set option.Lists text s = option_map (λ path. record s { lists = Some path }) (path_in text)
+set option.Restart text s = None
 
 -- what is set after a flag; the other options have a value
 abbrev pub raise : OptionName → Set → Option Set
@@ -128,4 +151,5 @@ raise option.Trace s = Some (record s { common = record s.common { trace = true 
 raise option.Shares s = Some (record s { common = record s.common { shares = true } })
 raise option.Progress s = Some (record s { common = record s.common { progress = true } })
 raise option.Dryrun s = Some (record s { dryrun = true })
+raise option.Restart s = Some (record s { restart = true })
 raise _ s = None

@@ -1,7 +1,7 @@
 -- The grammar of command lines: what the words ask for, or the first word that is refused. The tools are mpiFileUtils', `--` and values are
 -- as in POSIX's guidelines for utilities and GNU's long options; what is refused is our own.
 use Rattle.std.specs.Prelude.{ℕ, ◌+◌, Bool, ◌&&◌, not, List, [], ◌∷◌, ◌++◌, length, take, if◌then◌else◌, ◌==◌, nat_lt, slice_index, slice_index_or}
-use Rattle.std.specs.Prelude.{codes, Result, Ok, Err, Option, Some, None}
+use Rattle.std.specs.Prelude.{codes, Result, Ok, Err, Option, Some, None, true, false}
 use Rattle.std.specs.List.{list_any, before_first, after_first, position_or_len}
 use Rattle.tool_words.specs.declared.errors.Cause.TheVariants as cause
 use Rattle.tool_words.specs.declared.errors.Refusal.{Refusal}
@@ -11,7 +11,7 @@ use Rattle.tool_words.specs.declared.tables.Tool.{Tool}
 use Rattle.tool_words.specs.declared.tables.Tool.TheVariants as tool
 use Rattle.tool_words.specs.declared.turns.Turn.{Turn}
 use Rattle.tool_words.specs.declared.turns.Turn.TheVariants as turn
-use Rattle.tool_words.specs.Asked.{Origin, roots, input, Choice, Asked, list, compare, copy, remove, test}
+use Rattle.tool_words.specs.Asked.{Origin, roots, input, Choice, Asked, list, walk_by, compare, copy, remove, test}
 use Rattle.tool_words.specs.Clashes.{clash_in}
 use Rattle.tool_words.specs.Refusals.{refuse}
 use Rattle.tool_words.specs.Table.{tool_named, text_of, option_named, Set, unset, adds_up, set, raise}
@@ -144,6 +144,12 @@ start_by wanting None (path ∷ paths) places = Ok (roots (path ∷ paths))
 start_by wanting (Some file) paths [] = Ok (input file)
 start_by wanting (Some file) paths (place ∷ places) = refuse place cause.TooManyPaths
 
+-- where a walk begins: one root or more, or a file and then no root; or nowhere, where it goes on, and then no root either
+abbrev pub begin_by : ℕ → Option (List ℕ) → Bool → List (List ℕ) → List ℕ → Result (Option Origin) Refusal
+begin_by wanting file false paths places = and_then (start_by wanting file paths places) (λ start. Ok (Some start))
+begin_by wanting file true paths [] = Ok None
+begin_by wanting file true paths (place ∷ places) = refuse place cause.TooManyPaths
+
 -- a source and a destination, no more and no less
 abbrev pub sides_by : ℕ → List (List ℕ) → List ℕ → Result (List ℕ × List ℕ) Refusal
 sides_by wanting paths (first ∷ second ∷ another ∷ places) = refuse another cause.TooManyPaths
@@ -170,8 +176,11 @@ nodes_by wanting numbers places = refuse wanting cause.NoPath
 abbrev pub choice_of : Set → Choice
 choice_of s = record { tests = s.tests; newer = s.newer }
 
-abbrev pub list_of : Set → Option Choice → Origin → Asked
-list_of s chosen start = list (record { common = s.common; start = start; chosen = chosen; sort = s.sort; output = s.output })
+abbrev pub walk_of : Set → Option Origin → Asked
+walk_of s begin = walk_by s.common begin s.sort s.output s.stop_after s.lists
+
+abbrev pub find_of : Set → Origin → Asked
+find_of s start = list (record { common = s.common; start = start; chosen = Some (choice_of s); sort = s.sort; output = s.output })
 
 abbrev pub compare_of : Set → List ℕ → List ℕ → Asked
 compare_of s left right = compare (record { common = s.common; left = left; right = right; wants = s.wants })
@@ -185,15 +194,11 @@ remove_of s paths = remove (record { common = s.common; roots = paths; choice = 
 abbrev pub test_of : Set → ℕ → Asked
 test_of s nodes = test (record { common = s.common; nodes = nodes; choice = choice_of s })
 
--- a list, of which this is chosen
-abbrev pub list_by : ℕ → Option Choice → Given → Result Asked Refusal
-list_by wanting chosen given =
-    and_then (start_by wanting given.settings.input given.paths given.places) (λ start. Ok (list_of given.settings chosen start))
-
 -- what the words of a tool ask for, if no options clash
 abbrev pub asked_of : ℕ → Tool → Given → Result Asked Refusal
-asked_of wanting tool.Walk given = list_by wanting None given
-asked_of wanting tool.Find given = list_by wanting (Some (choice_of given.settings)) given
+asked_of wanting tool.Walk given =
+    and_then (begin_by wanting given.settings.input given.settings.restart given.paths given.places) (λ begin. Ok (walk_of given.settings begin))
+asked_of wanting tool.Find given = and_then (start_by wanting given.settings.input given.paths given.places) (λ start. Ok (find_of given.settings start))
 asked_of wanting tool.Cmp given = and_then (sides_by wanting given.paths given.places) (λ sides. Ok (compare_of given.settings sides.0 sides.1))
 asked_of wanting tool.Copy given = and_then (sources_by wanting given.paths) (λ ends. Ok (copy_of given.settings ends.0 ends.1))
 asked_of wanting tool.Remove given = and_then (targets_by wanting given.lower) (λ paths. Ok (remove_of given.settings paths))

@@ -54,6 +54,8 @@ pub enum Start {
     Roots(Vec<Path>),
     /// Nowhere: the list is read from this file.
     Input(Path),
+    /// At none: the walk goes on from where an earlier one stopped.
+    Restart,
 }
 
 /// What is chosen of a list.
@@ -87,6 +89,10 @@ pub enum Command {
         sort: Option<(Field, bool)>,
         /// The file that the list is written to.
         output: Option<Path>,
+        /// After how many paths of one rank the walk stops.
+        stop_after: Option<u64>,
+        /// The folder of the lists that a walk which stops leaves, and from which another goes on.
+        lists: Option<Path>,
     },
     /// The same of what is chosen alone.
     Find {

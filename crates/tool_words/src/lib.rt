@@ -3,7 +3,8 @@
 //! [`read_words`] reads the words behind the program's name, of which word 0 names a tool, and gives a [`Command`]. There are
 //! six tools:
 //!
-//! - `dwalk` lists what stands below paths, one or more, or reads the list from a file.
+//! - `dwalk` lists what stands below paths, one or more, or reads the list from a file; or it stops on the way, or goes on from
+//!   where an earlier one stopped, and has no path then.
 //! - `dfind` does the same, and keeps what meets all tests.
 //! - `dcmp` compares what stands below two paths, a source and a destination.
 //! - `dcp` copies what stands below paths, one or more, to the destination, which is one more path and the last.
@@ -28,6 +29,17 @@
 //! | `--sort` | `path`, `name`, `size`, `mtime` or `kind`, or one of these behind `-`: downwards | path order |
 //! | `--input` | the file to read the list from; there is no path then | the paths are walked |
 //! | `--output` | the file to write the list to | none is written |
+//!
+//! And these are of `dwalk` alone:
+//!
+//! | Option | Value | Without it |
+//! |---|---|---|
+//! | `--stop-after` | after how many paths of one rank the walk stops, 1 to 2^63 - 1 | it goes to its end |
+//! | `--lists` | the folder of the lists of a walk that stops or goes on | no walk does |
+//! | `--restart` | none: the walk goes on from these lists | it begins at the paths |
+//!
+//! `--stop-after` and `--restart` want `--lists`, and it wants one of them. `--trace` may not stand with `--stop-after`, and
+//! `--input` with neither.
 //!
 //! And these are the tests of `dfind`, `drm` and `dtest`. Where there is none, everything is kept:
 //!
@@ -78,6 +90,10 @@
 //! dwalk --                              // NoPath(2)
 //! dwalk --trace --hosts 2 /t            // Clash(1)
 //! dwalk --trace --hosts 2               // NoPath(4)
+//! dwalk --stop-after 9 --lists /s /t    // walks `/t`, and stops once a rank has handled 9 paths
+//! dwalk --restart --lists /s            // goes on from the lists in `/s`
+//! dwalk --restart /t                    // TooManyPaths(2)
+//! dwalk --stop-after 9 /t               // Clash(1)
 //! ```
 //!
 //! The words are read from left to right, and the first offence is the answer, with the number of its word; that paths or

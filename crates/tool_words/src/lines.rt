@@ -1,12 +1,12 @@
 //! A command line as far as it was read.
 ghost use Rattle.std.specs.Prelude.{◌≡◌, ◌⊎◌, ◌++◌, ◌∷◌, [], Some, None, Ok, Err, OnOk, IfOk, IfErr, IsTrue, Result, Option, List, ℕ, false, find};
 ghost use Rattle.std.specs.Option.{option_copied};
-ghost use Rattle.tool_words.specs.Asked.{start_in, asked_by};
-ghost use Rattle.tool_words.specs.Clashes.{place_of, trace_on_hosts, clash_in};
+ghost use Rattle.tool_words.specs.Asked.{start_in, begin_in, asked_by};
+ghost use Rattle.tool_words.specs.Clashes.{place_of, trace_on_hosts, trace_and_stop, input_and_restart, first_of, no_lists, lists_alone, input_and_stop, clash_in};
 ghost use Rattle.tool_words.specs.Parts.{Tells};
 ghost use Rattle.tool_words.specs.Table.{option_named, text_of, Set, set, raise};
 ghost use Rattle.tool_words.specs.Value.{is, number_in, path_in, lower_path_in};
-ghost use Rattle.tool_words.specs.Words.{Given, nothing, ends_options, is_option, name_in, value_in, with_path, with_lower, with_number, with_plain, was_given, is_repeated, with_another, with_own_value, with_next_value, with_flag, with_option, with_word, at_end, start_by, sides_by, sources_by, targets_by, nodes_by, asked_of, command_of};
+ghost use Rattle.tool_words.specs.Words.{Given, nothing, ends_options, is_option, name_in, value_in, with_path, with_lower, with_number, with_plain, was_given, is_repeated, with_another, with_own_value, with_next_value, with_flag, with_option, with_word, at_end, start_by, begin_by, sides_by, sources_by, targets_by, nodes_by, asked_of, command_of};
 
 use crate::commands::{Command, Start, Tests};
 use crate::errors::WordsError;
@@ -262,6 +262,11 @@ impl Line {
         ensures { result ≡ clash_in self.now.options self.now.settings }
     {
         self.trace_on_hosts()
+            .or(self.trace_and_stop())
+            .or(self.input_and_restart())
+            .or(self.no_lists())
+            .or(self.lists_alone())
+            .or(self.input_and_stop())
     }
 
     // `--trace` with more than one host.
@@ -270,6 +275,64 @@ impl Line {
     {
         if self.settings.common.hosts > 1 {
             self.place_of(OptionName::Trace)
+        } else {
+            None
+        }
+    }
+
+    // `--trace` with a stop.
+    fn trace_and_stop(&self) -> Option<usize>
+        ensures { result ≡ trace_and_stop self.now.options self.now.settings }
+    {
+        if self.settings.stop_after.is_some() {
+            self.place_of(OptionName::Trace)
+        } else {
+            None
+        }
+    }
+
+    // A list that is read, with a walk that goes on.
+    fn input_and_restart(&self) -> Option<usize>
+        ensures { result ≡ input_and_restart self.now.options self.now.settings }
+    {
+        if self.settings.input.is_some() {
+            self.place_of(OptionName::Restart)
+        } else {
+            None
+        }
+    }
+
+    // A walk that stops or goes on, without a folder of lists.
+    fn no_lists(&self) -> Option<usize>
+        ensures { result ≡ no_lists self.now.options self.now.settings }
+    {
+        if self.settings.lists.is_some() {
+            None
+        } else {
+            first_of(
+                self.place_of(OptionName::StopAfter),
+                self.place_of(OptionName::Restart),
+            )
+        }
+    }
+
+    // A folder of lists, with a walk that neither stops nor goes on.
+    fn lists_alone(&self) -> Option<usize>
+        ensures { result ≡ lists_alone self.now.options self.now.settings }
+    {
+        if self.settings.stop_after.is_none() && !self.settings.restart {
+            self.place_of(OptionName::Lists)
+        } else {
+            None
+        }
+    }
+
+    // A list that is read, with a stop.
+    fn input_and_stop(&self) -> Option<usize>
+        ensures { result ≡ input_and_stop self.now.options self.now.settings }
+    {
+        if self.settings.input.is_some() {
+            self.place_of(OptionName::StopAfter)
         } else {
             None
         }
@@ -322,14 +385,19 @@ impl Line {
             sort,
             input,
             output,
+            stop_after,
+            lists,
+            restart,
             ..
         } = settings;
-        let start = start_of(input, paths, &places, wanting)?;
+        let start = begin_of(input, restart, paths, &places, wanting)?;
         Ok(Command::Walk {
             common,
             start,
             sort,
             output,
+            stop_after,
+            lists,
         })
     }
 
@@ -449,6 +517,26 @@ impl Line {
     }
 }
 
+// Where a walk begins, or that it goes on, where the paths stand in words of these numbers.
+fn begin_of(
+    input: Option<Path>,
+    restart: bool,
+    paths: Vec<Path>,
+    places: &[usize],
+    wanting: usize,
+) -> Result<Start, WordsError>
+    ensures begin { IfOk result (λ start. begin_by wanting input restart paths.items places.now ≡ Ok (begin_in start)) }
+    ensures refused { IfErr result (λ e. Tells (begin_by wanting input restart paths.items places.now) e) }
+{
+    if !restart {
+        return start_of(input, paths, places, wanting);
+    }
+    match places.first() {
+        Some(place) => Err(WordsError::TooManyPaths(*place)),
+        None => Ok(Start::Restart),
+    }
+}
+
 // Where a list comes from: from these paths, or from a file, where the paths stand in words of these numbers.
 fn start_of(
     input: Option<Path>,
@@ -457,6 +545,7 @@ fn start_of(
     wanting: usize,
 ) -> Result<Start, WordsError>
     ensures start { IfOk result (λ start. start_by wanting input paths.items places.now ≡ Ok (start_in start)) }
+    ensures begin { IfOk result (λ start. begin_in start ≡ Some (start_in start)) }
     ensures refused { IfErr result (λ e. Tells (start_by wanting input paths.items places.now) e) }
 {
     match input {
@@ -466,6 +555,17 @@ fn start_of(
             Some(place) => Err(WordsError::TooManyPaths(*place)),
             None => Ok(Start::Input(file)),
         },
+    }
+}
+
+// The first of two places.
+fn first_of(one: Option<usize>, other: Option<usize>) -> Option<usize>
+    ensures { result ≡ first_of one other }
+{
+    match (one, other) {
+        (None, _) => other,
+        (Some(place), None) => Some(place),
+        (Some(place), Some(other)) => Some(place.min(other)),
     }
 }
 

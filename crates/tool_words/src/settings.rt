@@ -13,6 +13,9 @@ use path_text::Path;
 use std::alloc::Global;
 use std::marker::Model;
 
+/// The most paths that one rank may handle before all stop.
+const MOST_STOP: u64 = 9_223_372_036_854_775_807;
+
 /// What the options set, whatever the tool.
 #[derive(Debug, Drop)]
 pub(crate) struct Settings {
@@ -24,6 +27,9 @@ pub(crate) struct Settings {
     pub(crate) newer: Vec<Path>,
     pub(crate) wants: Vec<Want>,
     pub(crate) dryrun: bool,
+    pub(crate) stop_after: Option<u64>,
+    pub(crate) lists: Option<Path>,
+    pub(crate) restart: bool,
 }
 
 impl Model for Settings {
@@ -31,7 +37,7 @@ impl Model for Settings {
 
     ghost Value = { Set };
 
-    ghost view = { λ s. record { common = s.common; sort = s.sort; input = s.input; output = s.output; tests = s.tests.items; newer = s.newer.items; wants = s.wants.items; dryrun = s.dryrun } };
+    ghost view = { λ s. record { common = s.common; sort = s.sort; input = s.input; output = s.output; tests = s.tests.items; newer = s.newer.items; wants = s.wants.items; dryrun = s.dryrun; stop_after = s.stop_after; lists = s.lists; restart = s.restart } };
 }
 
 impl Settings {
@@ -48,6 +54,9 @@ impl Settings {
             newer: Vec::new(alloc),
             wants: Vec::new(alloc),
             dryrun: false,
+            stop_after: None,
+            lists: None,
+            restart: false,
         }
     }
 
@@ -69,14 +78,18 @@ impl Settings {
             OptionName::Split => self.common.split = split_in(text).ok_or(bad)?,
             OptionName::Seed => self.common.seed = number_in(0, u64::MAX, text).ok_or(bad)?,
             OptionName::Width => self.common.width = small_number_in(2, 64, text).ok_or(bad)?,
-            OptionName::Trace | OptionName::Shares | OptionName::Progress | OptionName::Dryrun =>
-                return Err(bad),
+            OptionName::Trace | OptionName::Shares | OptionName::Progress => return Err(bad),
+            OptionName::Dryrun | OptionName::Restart => return Err(bad),
             OptionName::Sort => self.sort = Some(order_in(text).ok_or(bad)?),
             OptionName::Input => self.input = Some(path_in(alloc, text, place)?),
             OptionName::Output => self.output = Some(path_in(alloc, text, place)?),
             OptionName::Test(name) => self.tests.push(test_in(alloc, name, text, place)?)?,
             OptionName::Newer => self.newer.push(path_in(alloc, text, place)?)?,
             OptionName::Want => self.wants.push(want_in(alloc, text, place)?)?,
+            OptionName::StopAfter => {
+                self.stop_after = Some(number_in(1, MOST_STOP, text).ok_or(bad)?)
+            }
+            OptionName::Lists => self.lists = Some(path_in(alloc, text, place)?),
         }
         Ok(())
     }
@@ -91,6 +104,7 @@ impl Settings {
             OptionName::Shares => self.common.shares = true,
             OptionName::Progress => self.common.progress = true,
             OptionName::Dryrun => self.dryrun = true,
+            OptionName::Restart => self.restart = true,
             _ => return false,
         }
         true

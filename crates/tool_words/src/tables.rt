@@ -42,7 +42,12 @@ impl Tool {
         ensures { result.now ≡ groups_of self }
     {
         match self {
-            Tool::Walk => &[Group::Common, Group::Telling, Group::Listing],
+            Tool::Walk => &[
+                Group::Common,
+                Group::Telling,
+                Group::Listing,
+                Group::Stopping,
+            ],
             Tool::Find => &[
                 Group::Common,
                 Group::Telling,
@@ -91,6 +96,8 @@ pub(crate) enum Group {
     Comparing,
     /// Whether something is removed.
     Removing,
+    /// After how much a walk stops, where its lists are, and whether it goes on from those of an earlier one.
+    Stopping,
 }
 
 impl Group {
@@ -118,6 +125,11 @@ impl Group {
             ],
             Group::Comparing => &[OptionName::Want],
             Group::Removing => &[OptionName::Dryrun],
+            Group::Stopping => &[
+                OptionName::StopAfter,
+                OptionName::Lists,
+                OptionName::Restart,
+            ],
         }
     }
 }
@@ -147,6 +159,9 @@ pub(crate) enum OptionName {
     Newer,
     Want,
     Dryrun,
+    StopAfter,
+    Lists,
+    Restart,
 }
 
 impl OptionName {
@@ -176,6 +191,9 @@ impl OptionName {
             OptionName::Newer => "--newer",
             OptionName::Want => "-o",
             OptionName::Dryrun => "--dryrun",
+            OptionName::StopAfter => "--stop-after",
+            OptionName::Lists => "--lists",
+            OptionName::Restart => "--restart",
         }
     }
 

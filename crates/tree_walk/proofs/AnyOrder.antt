@@ -57,7 +57,7 @@ tells_each ds list p rise =
     let P : Entry → Type 0 = λ e. answers_in list e.path ≡ answer_in e in
     of_entries P ds (moved P list (entries_of ds) (IsPermutation-sym (entries_of ds) list p) (tells_itself list rise))
 
-own : (files : Files) (a : Answers) (ds : List Held) → AllByRecursion (IsDone files) ds → AllByRecursion (λ d. a d.0.path ≡ answer_in d.0) ds →
+pub own : (files : Files) (a : Answers) (ds : List Held) → AllByRecursion (IsDone files) ds → AllByRecursion (λ d. a d.0.path ≡ answer_in d.0) ds →
     AllByRecursion (λ d. IsOwn files a d.0) ds
 own files a [] h t = tt
 own files a (d ∷ ds) h t = (h.0.entry ∙ ap (λ x. entry_of x (get files d.0.path) d.0.path) (sym t.0), own files a ds h.1 t.1)
@@ -89,12 +89,12 @@ walks_rise files a (p ∷ ps) t l = walks_ascend files a (p ∷ ps) (t (omega ar
 
 -- ---- the list is the walk of the starts in order
 
-pub whole : (files : Files) (ds : List Held) (list : List Entry) (starts ordered : List (List ℕ)) → IsGathered ds list starts →
+pub whole : (files : Files) (ds : List Held) (list : List Entry) (starts ordered : List (List ℕ)) → IsGathered ds list [] starts →
     AllByRecursion (IsDone files) ds → IsPermutation starts ordered → IsStrictlySortedBy path_cmp ordered →
     list ≡ flat_map (walk files (answers_in list)) ordered
 whole files ds list starts ordered h done m o =
     let a = answers_in list in
-    let rise = list_rises ds list starts h in
+    let rise = list_rises ds list [] starts h in
     let l = lined ordered o (λ x. omega (arith, from_apart starts h.apart x, sum_by-IsPermutation (covers x) starts ordered m)) in
     let told = tells_each ds list h.moves rise in
     let F = λ (q : List ℕ). entry_of (a q) (get files q) q in

@@ -12,6 +12,7 @@ pub mod Told
 pub mod Parents
 pub mod Often
 pub mod AnyOrder
+pub mod Cuts
 pub mod Ranks
 pub mod Held
 pub mod Looked
@@ -20,6 +21,6 @@ pub mod Rooted
 pub mod InBytes
 pub mod Unique
 pub mod Traced
-pub mod Cuts
 pub mod Ordered
 pub mod Restarts
+pub mod Stops

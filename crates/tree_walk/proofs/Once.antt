@@ -87,11 +87,12 @@ pub sum_by-map : {X Y : Type 0} (f : Y → ℕ) (g : X → Y) (xs : List X) → 
 sum_by-map f g [] = refl
 sum_by-map f g (x ∷ xs) = sum_by-cons f (g x) (map g xs) ∙ (λ i. f (g x) + sum_by-map f g xs i) ∙ sym (sum_by-cons (λ y. f (g y)) x xs)
 
--- what was handled from the starts on, which are apart, is balanced; what was pushed are children; and the list is it, put in path order
-pub record IsGathered (ds : List Held) (list : List Entry) (starts : List (List ℕ)) : Type 0 where
+-- what was handled from the starts on, which are apart, is balanced over what is left; what was pushed are children; and the list is what
+-- was handled, put in path order
+pub record IsGathered (ds : List Held) (list : List Entry) (left starts : List (List ℕ)) : Type 0 where
   pub pushes : AllByRecursion IsPush ds
   pub apart : Apart starts
-  pub balance : Balanced (log_of ds) [] starts
+  pub balance : Balanced (log_of ds) left starts
   pub moves : IsPermutation (entries_of ds) list
   pub sorted : IsSortedByKey (λ e. e.path) path_cmp list
 
@@ -100,11 +101,11 @@ pub as_often : (k : Entry → ℕ) (ds : List Held) (list : List Entry) → IsPe
 as_often k ds list p = sum_by-IsPermutation k (entries_of ds) list p ∙ sum_by-map k (λ (d : Held). d.0) ds
 
 -- so it ascends strictly
-pub list_rises : (ds : List Held) (list : List Entry) (starts : List (List ℕ)) → IsGathered ds list starts →
+pub list_rises : (ds : List Held) (list : List Entry) (left starts : List (List ℕ)) → IsGathered ds list left starts →
     IsStrictlySortedBy path_cmp (map (λ e. e.path) list)
-list_rises ds list starts h =
+list_rises ds list left starts h =
     rises list h.sorted
-    (λ x. omega (arith, covered x ds [] starts h.pushes h.balance, from_apart starts h.apart x, as_often (λ e. one x e.path) ds list h.moves))
+    (λ x. omega (arith, covered x ds left starts h.pushes h.balance, from_apart starts h.apart x, as_often (λ e. one x e.path) ds list h.moves))
 
 -- ---- each path is a start or under one
 
@@ -117,10 +118,10 @@ each_here (e ∷ es) =
           (λ d h. omega (arith, h, sum_by-cons (λ (f : Entry). one d.path f.path) e es)) es (each_here es),
     )
 
-pub list_within : (ds : List Held) (list : List Entry) (starts : List (List ℕ)) → IsGathered ds list starts →
+pub list_within : (ds : List Held) (list : List Entry) (left starts : List (List ℕ)) → IsGathered ds list left starts →
     AllByRecursion (λ e. is_in_some starts e.path ≡ true) list
-list_within ds list starts h =
+list_within ds list left starts h =
     weaker (λ (e : Entry). 1 ≤ sum_by (λ f. one e.path f.path) list) (λ (e : Entry). is_in_some starts e.path ≡ true)
     (λ e n. some_covers e.path starts
-    (omega (arith, n, covered e.path ds [] starts h.pushes h.balance, as_often (λ f. one e.path f.path) ds list h.moves)))
+    (omega (arith, n, covered e.path ds left starts h.pushes h.balance, as_often (λ f. one e.path f.path) ds list h.moves)))
     list (each_here list)

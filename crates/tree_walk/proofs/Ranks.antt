@@ -2,7 +2,8 @@
 use Rattle.std.proofs.Common.{◌≡◌, ℕ, ◌+◌, ◌-◌, ◌^◌, ◌<◌, min, true, List, [], ◌∷◌, ◌++◌, map, length, refl, ap, ◌∙◌, sym, subst, arith, Option, Some, None}
 use Rattle.std.proofs.Common.{IfSome, length-append, append-nil}
 use Rattle.std.specs.List.{AllByRecursion, All, sum_by, flat_map}
-use Rattle.std.specs.List.Sorted.{IsPermutation}
+use Rattle.std.specs.List.Sorted.{IsPermutation, IsSortedByKey}
+use Rattle.path_text.specs.Order.{path_cmp}
 use Rattle.std.proofs.lemmas.List.Sorted.{sum_by-IsPermutation}
 use Rattle.std.proofs.lemmas.List.Sums.{sum_by-cons, sum_by-append}
 use Rattle.std.proofs.lemmas.List.Concat.{flat_map-append}
@@ -15,12 +16,14 @@ use Rattle.flat_list.specs.Entries.{is_shaped}
 use Rattle.circle_run.specs.Balance.{Balanced}
 use Rattle.circle_run.specs.declared.outcomes.Share.{Share}
 use Rattle.tree_walk.specs.Walk.{weight_of}
-use Rattle.tree_walk.specs.Roots.{is_in_some}
+use Rattle.tree_walk.specs.Roots.{is_in_some, Apart}
 use Rattle.tree_walk.specs.Held.{Held, IsDone, IsPush, Holds, log_of, entries_of}
 use Rattle.tree_walk.specs.Found.{IsFound, IsWalkOf}
+use Rattle.tree_walk.specs.Cut.{IsCut, IsCutFound}
 use Rattle.tree_walk.proofs.Lists.{weaker, all_flat}
 use Rattle.tree_walk.proofs.Once.{IsGathered, list_rises, list_within, sum_by-map}
 use Rattle.tree_walk.proofs.AnyOrder.{whole, valid_files, moved, to_entries, ones}
+use Rattle.tree_walk.proofs.Cuts.{is_cut, valid_done, gathered_beside, left_apart, done_beside, all_within}
 
 pub unused_logs : {R : Type 0} (jobs : List (R × List Held)) → AllByRecursion (λ job. job.1 ≡ []) jobs → All (λ job. log_of job.1 ≡ []) jobs
 unused_logs jobs h = All-from_recursion (λ job. log_of job.1 ≡ []) jobs (each jobs h)
@@ -47,10 +50,10 @@ same_plain {R = R} tree told xs ys e h = back ys (subst (AllByRecursion (λ t. t
 
 -- what the jobs hold, over readers that all tell this tree or none, is gathered into the list
 pub record IsRun {R : Type 0} (tree : R → Option Files) (count : R → ℕ) (told : Option Files) (jobs : List (R × List Held)) (list : List Entry)
-    (starts : List (List ℕ)) : Type 0 where
+    (left starts : List (List ℕ)) : Type 0 where
   pub tells : AllByRecursion (λ j. tree j.0 ≡ told) jobs
   pub holds : AllByRecursion (λ j. Holds (tree j.0) (count j.0) j.1) jobs
-  pub gathered : IsGathered (flat_map (λ j. j.1) jobs) list starts
+  pub gathered : IsGathered (flat_map (λ j. j.1) jobs) list left starts
 
 each_done : {R : Type 0} (tree : R → Option Files) (count : R → ℕ) (files : Files) (jobs : List (R × List Held)) →
     AllByRecursion (λ j. tree j.0 ≡ Some files) jobs → AllByRecursion (λ j. Holds (tree j.0) (count j.0) j.1) jobs →
@@ -62,8 +65,8 @@ each_done tree count files (j ∷ jobs) e h = (
 )
 
 pub all_done : {R : Type 0} (tree : R → Option Files) (count : R → ℕ) (files : Files) (jobs : List (R × List Held)) (list : List Entry)
-    (starts : List (List ℕ)) → IsRun tree count (Some files) jobs list starts → AllByRecursion (IsDone files) (flat_map (λ j. j.1) jobs)
-all_done tree count files jobs list starts run = all_flat (IsDone files) (λ j. j.1) jobs (each_done tree count files jobs run.tells run.holds)
+    (left starts : List (List ℕ)) → IsRun tree count (Some files) jobs list left starts → AllByRecursion (IsDone files) (flat_map (λ j. j.1) jobs)
+all_done tree count files jobs list left starts run = all_flat (IsDone files) (λ j. j.1) jobs (each_done tree count files jobs run.tells run.holds)
 
 -- what holds of what each job holds
 part : {R : Type 0} (tree : R → Option Files) (count : R → ℕ) (P : Held → Type 0) (jobs : List (R × List Held)) →
@@ -76,18 +79,35 @@ pub all_pushes : {R : Type 0} (tree : R → Option Files) (count : R → ℕ) (j
 all_pushes tree count jobs h = part tree count IsPush jobs (λ j k. k.pushes) h
 
 pub all_balanced : {R : Type 0} (jobs : List (R × List Held)) (left starts : List (List ℕ)) → Balanced (flat_map (λ job. log_of job.1) jobs) left starts →
-    left ≡ [] → Balanced (log_of (flat_map (λ j. j.1) jobs)) [] starts
-all_balanced jobs left starts b none =
-    subst (λ q. Balanced (log_of (flat_map (λ j. j.1) jobs)) q starts) none (subst (λ log. Balanced log left starts) (all_logs jobs) b)
+    Balanced (log_of (flat_map (λ j. j.1) jobs)) left starts
+all_balanced jobs left starts b = subst (λ log. Balanced log left starts) (all_logs jobs) b
+
+-- so it is with the jobs that a run gave back, their logs and the list of these
+pub is_run : {R : Type 0} (tree : R → Option Files) (count : R → ℕ) (told : Option Files) (made jobs : List (R × List Held)) (logs list : List Entry)
+    (left starts : List (List ℕ)) → AllByRecursion (λ j. tree j.0 ≡ told) made → map (λ j. tree j.0) jobs ≡ map (λ j. tree j.0) made →
+    AllByRecursion (λ j. Holds (tree j.0) (count j.0) j.1) jobs → Apart starts → Balanced (flat_map (λ job. log_of job.1) jobs) left starts →
+    logs ≡ entries_of (flat_map (λ j. j.1) jobs) → IsPermutation logs list → IsSortedByKey (λ e. e.path) path_cmp list →
+    IsRun tree count told jobs list left starts
+is_run tree count told made jobs logs list left starts tells plain holds apart balance is all sorted = record {
+  tells = same_plain tree told made jobs plain tells;
+  holds = holds;
+  gathered = record {
+    pushes = all_pushes tree count jobs holds;
+    apart = apart;
+    balance = all_balanced jobs left starts balance;
+    moves = subst (λ es. IsPermutation es list) is all;
+    sorted = sorted;
+  };
+}
 
 -- what the files told, where they tell anything
 told_walk : {R : Type 0} (tree : R → Option Files) (count : R → ℕ) (told : Option Files) (jobs : List (R × List Held)) (list : List Entry)
-    (starts : List (List ℕ)) → IsRun tree count told jobs list starts →
+    (starts : List (List ℕ)) → IsRun tree count told jobs list [] starts →
     IfSome told (λ files. IsWalkOf files list starts) × (0 < length starts → IfSome told IsTree)
 told_walk tree count None jobs list starts run = (tt, λ some. tt)
 told_walk {R = R} tree count (Some files) jobs list starts run =
     let ds = flat_map (λ (j : R × List Held). j.1) jobs in
-    let done = all_done tree count files jobs list starts run in
+    let done = all_done tree count files jobs list [] starts run in
     ((λ ordered m o. whole files ds list starts ordered run.gathered done m o), valid_files files ds starts done run.gathered.balance)
 
 -- the failed answers that the list tells were counted
@@ -95,20 +115,57 @@ weighed : (held list : List Entry) (a b c : ℕ) → IsPermutation held list →
 weighed held list a b c p same r =
     record { kept = omega (arith, r.kept, same); rose = omega (arith, r.rose, same, sum_by-IsPermutation weight_of held list p) }
 
+-- what each entry tells by itself
+all_shaped : {R : Type 0} (tree : R → Option Files) (count : R → ℕ) (told : Option Files) (jobs : List (R × List Held)) (list : List Entry)
+    (left starts : List (List ℕ)) → IsRun tree count told jobs list left starts → AllByRecursion (λ e. is_shaped e ≡ true) list
+all_shaped {R = R} tree count told jobs list left starts run =
+    let ds = flat_map (λ (j : R × List Held). j.1) jobs in
+    let Shaped : Entry → Type 0 = λ e. is_shaped e ≡ true in
+    let shaped = to_entries Shaped ds (part tree count (λ d. Shaped d.0) jobs (λ j k. k.shaped) run.holds) in
+    moved Shaped (entries_of ds) list run.gathered.moves shaped
+
 pub found : {R : Type 0} (tree : R → Option Files) (count : R → ℕ) (told : Option Files) (jobs : List (R × List Held)) (list : List Entry)
-    (starts : List (List ℕ)) (old before after : ℕ) → IsRun tree count told jobs list starts → before ≡ old →
+    (starts : List (List ℕ)) (old before after : ℕ) → IsRun tree count told jobs list [] starts → before ≡ old →
     RoseBy (sum_by weight_of (entries_of (flat_map (λ job. job.1) jobs))) before after → IsFound told starts old after list
 found {R = R} tree count told jobs list starts old before after run same r =
     let ds = flat_map (λ (j : R × List Held). j.1) jobs in
-    let Shaped : Entry → Type 0 = λ e. is_shaped e ≡ true in
     let files = told_walk tree count told jobs list starts run in
-    let shaped = to_entries Shaped ds (part tree count (λ d. Shaped d.0) jobs (λ j k. k.shaped) run.holds) in
     record {
       told = files.0;
       valid = files.1;
-      ascend = list_rises ds list starts run.gathered;
-      within = All-from_recursion (λ (e : Entry). is_in_some starts e.path ≡ true) list (list_within ds list starts run.gathered);
-      shaped = All-from_recursion Shaped list (moved Shaped (entries_of ds) list run.gathered.moves shaped);
+      ascend = list_rises ds list [] starts run.gathered;
+      within = All-from_recursion (λ (e : Entry). is_in_some starts e.path ≡ true) list (list_within ds list [] starts run.gathered);
+      shaped = All-from_recursion (λ (e : Entry). is_shaped e ≡ true) list (all_shaped tree count told jobs list [] starts run);
+      counted = weighed (entries_of ds) list old before after run.gathered.moves same r;
+    }
+
+-- ---- a cut
+
+-- what is done and left of the recursive walk, where the files tell anything
+told_cut : {R : Type 0} (tree : R → Option Files) (count : R → ℕ) (told : Option Files) (jobs : List (R × List Held)) (list : List Entry)
+    (left starts : List (List ℕ)) → IsRun tree count told jobs list left starts →
+    IfSome told (λ files. IsCut files starts list left) × (0 < length list → IfSome told IsTree)
+told_cut tree count None jobs list left starts run = (tt, λ some. tt)
+told_cut {R = R} tree count (Some files) jobs list left starts run =
+    let ds = flat_map (λ (j : R × List Held). j.1) jobs in
+    let done = all_done tree count files jobs list left starts run in
+    (is_cut files ds list left starts done run.gathered, valid_done files ds list done run.gathered.moves)
+
+pub cut_found : {R : Type 0} (tree : R → Option Files) (count : R → ℕ) (told : Option Files) (jobs : List (R × List Held)) (list : List Entry)
+    (left starts : List (List ℕ)) (old before after : ℕ) → IsRun tree count told jobs list left starts → before ≡ old →
+    RoseBy (sum_by weight_of (entries_of (flat_map (λ job. job.1) jobs))) before after → IsCutFound told starts old after list left
+cut_found {R = R} tree count told jobs list left starts old before after run same r =
+    let ds = flat_map (λ (j : R × List Held). j.1) jobs in
+    let files = told_cut tree count told jobs list left starts run in
+    let beside = gathered_beside ds list left starts run.gathered in
+    record {
+      told = files.0;
+      valid = files.1;
+      ascend = list_rises ds list left starts run.gathered;
+      apart = left_apart list left beside;
+      beside = done_beside list left beside;
+      within = all_within ds list left starts run.gathered;
+      shaped = All-from_recursion (λ (e : Entry). is_shaped e ≡ true) list (all_shaped tree count told jobs list left starts run);
       counted = weighed (entries_of ds) list old before after run.gathered.moves same r;
     }
 

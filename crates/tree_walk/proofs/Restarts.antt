@@ -1,6 +1,6 @@
 -- A walk that was cut goes on from what is left.
-use Rattle.std.proofs.Common.{◌≡◌, ℕ, ◌+◌, ◌-◌, ◌<◌, ◌≤◌, List, [], ◌∷◌, ◌++◌, map, length, refl, ap, ◌∙◌, sym, subst, arith, zero, suc, None}
-use Rattle.std.specs.List.{AllByRecursion, All, sum_by, flat_map}
+use Rattle.std.proofs.Common.{◌≡◌, ℕ, ◌+◌, ◌-◌, ◌≤◌, List, [], ◌∷◌, ◌++◌, map, length, refl, ap, ◌∙◌, sym, subst, arith, zero, suc, None}
+use Rattle.std.specs.List.{AllByRecursion, sum_by, flat_map}
 use Rattle.std.specs.FinMap.{get}
 use Rattle.std.specs.List.Sorted.{IsStrictlySortedBy, IsPermutation}
 use Rattle.std.proofs.lemmas.List.Sums.{sum_by-cons, sum_by-append}
@@ -16,14 +16,13 @@ use Rattle.flat_list.specs.declared.entries.Mark.TheVariants as mark
 use Rattle.tree_walk.specs.Walk.{Answer, Answers, bare, answer_in, answers_in, entry_of, children_of, walk_down, walk, paths_of}
 use Rattle.tree_walk.specs.Held.{Held, IsDone, IsPush, log_of}
 use Rattle.tree_walk.specs.Roots.{Apart}
-use Rattle.tree_walk.specs.Found.{IsWalkOf}
 use Rattle.tree_walk.specs.Cut.{IsCut, IsJoined, RestartIsWalk, CutGoesOn, LeftIsApart, log_by}
 use Rattle.tree_walk.proofs.Lists.{weaker, all_append, all_parts}
 use Rattle.tree_walk.proofs.Names.{no_names}
 use Rattle.tree_walk.proofs.Recursive.{of_children, children_short}
 use Rattle.tree_walk.proofs.Covers.{covers, one, lined, from_apart}
 use Rattle.tree_walk.proofs.Often.{often, sum_by-flat_map}
-use Rattle.tree_walk.proofs.Once.{covered, falls, one-same, rises, sum_by-map}
+use Rattle.tree_walk.proofs.Once.{covered, falls, rises, sum_by-map}
 use Rattle.tree_walk.proofs.Same.{same_paths}
 use Rattle.tree_walk.proofs.Lawful.{IsOwn, path_is, walks_ascend, walks_own}
 use Rattle.tree_walk.proofs.AnyOrder.{Tells, tells_itself, by_path, moved}

@@ -47,23 +47,23 @@ handled_paths {R = R} jobs list moves =
 
 -- and pushed what the recursive walk goes on with
 pushed_children : {R : Type 0} (tree : R → Option Files) (count : R → ℕ) (files : Files) (jobs : List (R × List Held)) (list : List Entry)
-    (starts : List (List ℕ)) → IsRun tree count (Some files) jobs list starts →
+    (starts : List (List ℕ)) → IsRun tree count (Some files) jobs list [] starts →
     All (λ x. x.1 ≡ children_of (answers_in list x.0) files x.0) (whole_log (logs_of jobs))
 pushed_children {R = R} tree count files jobs list starts run =
     let ds = flat_map (λ (j : R × List Held). j.1) jobs in
     let P : List ℕ × List (List ℕ) → Type 0 = λ x. x.1 ≡ children_of (answers_in list x.0) files x.0 in
-    let told = tells_each ds list run.gathered.moves (list_rises ds list starts run.gathered) in
-    subst (All P) (sym (log_is jobs)) (All-from_recursion P (log_of ds) (pushes files list ds (all_done tree count files jobs list starts run) told))
+    let told = tells_each ds list run.gathered.moves (list_rises ds list [] starts run.gathered) in
+    subst (All P) (sym (log_is jobs)) (All-from_recursion P (log_of ds) (pushes files list ds (all_done tree count files jobs list [] starts run) told))
 
 pushed_where : {R : Type 0} (tree : R → Option Files) (count : R → ℕ) (told : Option Files) (jobs : List (R × List Held)) (list : List Entry)
-    (starts : List (List ℕ)) → IsRun tree count told jobs list starts →
+    (starts : List (List ℕ)) → IsRun tree count told jobs list [] starts →
     IfSome told (λ files. All (λ x. x.1 ≡ children_of (answers_in list x.0) files x.0) (whole_log (logs_of jobs)))
 pushed_where tree count None jobs list starts run = tt
 pushed_where tree count (Some files) jobs list starts run = pushed_children tree count files jobs list starts run
 
 -- the whole run that the ranks made is the walk
 pub was_walked : {R : Type 0} (tree : R → Option Files) (count : R → ℕ) (told : Option Files) (jobs : List (R × List Held)) (list : List Entry)
-    (starts : List (List ℕ)) (o : Options) (shares : List Share) (kept : List Event) → IsRun tree count told jobs list starts →
+    (starts : List (List ℕ)) (o : Options) (shares : List Share) (kept : List Event) → IsRun tree count told jobs list [] starts →
     WasRun o starts (logs_of jobs) shares kept → WasWalked told o starts list shares kept
 was_walked tree count told jobs list starts o shares kept run was = record {
   events = was.events;

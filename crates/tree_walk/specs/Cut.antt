@@ -1,17 +1,23 @@
 -- A walk that is cut, and goes on. The checkpoint is libcircle's (LaFon, Misra and Bringhurst, On Distributed File Tree Walk of Parallel File
 -- Systems, SC 2012): where all stop, the strings that wait are left, and another run goes on with them. The entries beside them, and what
 -- both together are, are our own.
-use Rattle.std.specs.Prelude.{◌≡◌, ℕ, false, List, ◌++◌, map, None, All}
-use Rattle.std.specs.List.Sorted.{IsSortedByKey, IsPermutation}
+use Rattle.std.specs.Prelude.{◌≡◌, ◌⊎◌, ℕ, ◌<◌, true, false, List, ◌++◌, map, length, Option, is_some, IfSome, None, All}
+use Rattle.std.specs.List.{sum_by}
+use Rattle.std.specs.List.Sorted.{IsStrictlySortedBy, IsSortedByKey, IsPermutation}
 use Rattle.std.specs.FinMap.{get}
 use Rattle.path_text.specs.Path.{refusal}
 use Rattle.path_text.specs.Order.{path_cmp}
 use Rattle.outside.specs.Tree.{Files, IsTree}
+use Rattle.outside.specs.Count.{RoseBy}
 use Rattle.flat_list.specs.declared.entries.Entry.{Entry}
+use Rattle.flat_list.specs.Entries.{is_shaped}
 use Rattle.circle_run.specs.Balance.{Log, Balanced}
-use Rattle.tree_walk.specs.Walk.{answer_in, entry_of, children_of}
+use Rattle.tree_walk.specs.declared.reports.Cut.{Cut}
+use Rattle.tree_walk.specs.declared.reports.Walked.{Walked}
+use Rattle.tree_walk.specs.declared.reports.Walked.TheVariants as walked
+use Rattle.tree_walk.specs.Walk.{answer_in, entry_of, children_of, weight_of, paths_of}
 use Rattle.tree_walk.specs.Roots.{is_in_some, Apart}
-use Rattle.tree_walk.specs.Found.{IsWalkOf}
+use Rattle.tree_walk.specs.Found.{IsWalkOf, IsTooMuch, max_entries}
 
 -- the log that done entries are: their paths, each with those that the recursive walk goes on with, by the answer that the entry tells
 abbrev pub log_by : Files → List Entry → Log
@@ -23,6 +29,46 @@ pub record IsCut (files : Files) (starts : List (List ℕ)) (done : List Entry) 
   pub own : All (λ e. e ≡ entry_of (answer_in e) (get files e.path) e.path) done
   -- the done paths and the left strings are, as often, the starts and the children of the done entries
   pub balance : Balanced (log_by files done) left starts
+
+-- what a walk of the starts that was cut found, over files that may tell a tree and whose count of faults went from old to new
+pub record IsCutFound (tree : Option Files) (starts : List (List ℕ)) (old new : ℕ) (done : List Entry) (left : List (List ℕ)) : Type 0 where
+  -- over files that tell their tree it is a cut of the recursive walk
+  pub told : IfSome tree (λ files. IsCut files starts done left)
+  -- and that is a tree, where something was looked at
+  pub valid : 0 < length done → IfSome tree IsTree
+  -- over all files each done path comes once, in path order
+  pub ascend : IsStrictlySortedBy path_cmp (paths_of done)
+  -- no left string is equal to or under another, and nothing done is equal to or under one: so they all differ
+  pub apart : Apart left
+  pub beside : All (λ e. is_in_some left e.path ≡ false) done
+  -- each done path and each left string is a start or under one
+  pub within : All (λ path. is_in_some starts path ≡ true) (paths_of done ++ left)
+  -- each entry has the shape that its mark asks for
+  pub shaped : All (λ e. is_shaped e ≡ true) done
+  -- and the failed answers that the entries tell were counted
+  pub counted : RoseBy (sum_by weight_of done) old new
+
+-- what was found: the list of a whole walk, and what was done of one that was cut
+abbrev pub found_in : Walked → List Entry → List Entry
+found_in walked.Whole list = list
+found_in (walked.Cut cut) list = cut.done
+
+-- what holds of a cut
+abbrev pub IfCut : Walked → (Cut → Type 0) → Type 0
+IfCut walked.Whole P = Unit {0}
+IfCut (walked.Cut cut) P = P cut
+
+-- what was done of a walk that was cut has n entries, more than a list may have
+pub record IsTooMuchDone (tree : Option Files) (starts : List (List ℕ)) (old new n : ℕ) : Type 0 where
+  pub done : List Entry
+  pub left : List (List ℕ)
+  pub found : IsCutFound tree starts old new done left
+  pub number : n ≡ length done
+  pub above : max_entries < n
+
+-- a walk found n entries, more than a list may have: a whole one, or, with a stop, one that was cut
+abbrev pub IsTooMany : (stop : Option ℕ) (tree : Option Files) (starts : List (List ℕ)) (old new n : ℕ) → Type 0
+IsTooMany stop tree starts old new n = IsTooMuch tree starts old new n ⊎ ((is_some stop ≡ true) × IsTooMuchDone tree starts old new n)
 
 -- done entries and entries found later, together in path order
 pub record IsJoined (done later list : List Entry) : Type 0 where

@@ -4,5 +4,5 @@ pub mod Told
 pub mod Held
 pub mod Looking
 pub mod Found
-pub mod Traced
 pub mod Cut
+pub mod Traced

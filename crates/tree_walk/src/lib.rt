@@ -13,6 +13,9 @@
 //! // ..
 //! ```
 //!
+//! Where the options have a stop the walk may be [`Walked::Cut`]: then the report has what was done and what is left, a
+//! checkpoint from which another walk goes on, with any number of ranks.
+//!
 //! What fails is no error: the entry of the path says so by its mark, and the files have counted it. A list of more than
 //! [`MAX_ENTRIES`] entries is refused, as is want of memory.
 //!
@@ -28,6 +31,11 @@
 //! list has, what all gave all took, and the numbers of progress rise to the number of entries, by the thousand where there is
 //! one rank.
 //!
+//! Proved of a walk that was cut: where the files tell their tree, what was done and what is left is a cut of the recursive
+//! walk: the entries done are its own, and their paths and the left strings are, as often, the starts and the children of those
+//! entries. Over all files the done paths and the left strings all differ. No rank handled more strings than the stop says, one
+//! handled as many, and a string is left.
+//!
 //! Only tested: that each path is asked for its stat once, and each directory for its names once. Over files that change, what
 //! is no directory any more when it is asked for its names has the mark `Changed`.
 //!
@@ -37,11 +45,11 @@
 //! [`walk_ascends`], [`walk_has_each_path_once`], [`walk_finds_all`], [`walk_without_faults_is_fine`],
 //! [`entries_are_told`], [`parents_are_listed`]. So have the roots: [`roots_are_unique`]. And so has a cut of the walk, which is
 //! some entries of it and the strings that are left: a walk of these goes on, and with the entries is the whole
-//! ([`restart_is_walk`], [`cut_goes_on`], [`left_is_apart`]). No walk is cut yet.
+//! ([`restart_is_walk`], [`cut_goes_on`], [`left_is_apart`]).
 //!
 //! Definitions stand in `specs/`: `Walk` (the recursive walk and failed answers), `Roots`, `Told` (what entries tell of the tree),
-//! `Found` (what a walk gives), `Cut` (a walk that is cut, and how another goes on), `Traced` (what events, shares and progress
-//! tell), `Held` (what a job keeps), and `Looking` (what the files' answers make of a path), which no public clause cites.
+//! `Found` (what a walk gives), `Cut` (what one that was cut gives, and how another goes on), `Traced` (what events, shares and
+//! progress tell), `Held` (what a job keeps), and `Looking` (what the files' answers make of a path), which no public clause cites.
 #![tactic(auto)]
 
 mod errors;
@@ -60,6 +68,6 @@ pub use laws::{
     roots_are_unique, walk_ascends, walk_finds_all, walk_has_each_path_once, walk_is_recursive,
     walk_without_faults_is_fine,
 };
-pub use reports::{WalkReport, Walked};
-pub use rooting::roots_of;
+pub use reports::{Cut, WalkReport, Walked};
+pub use rooting::{is_in, roots_of};
 pub use walking::{MAX_ENTRIES, walk};

@@ -15,8 +15,8 @@ pub fn roots_of(paths: Vec<Path>) -> Result<Vec<Path>, OutOfMemory>
     Ok(roots)
 }
 
-// Whether x is the path p or is under it.
-fn is_in(x: &Path, p: &Path) -> bool
+/// Whether x is the path p or is under it.
+pub fn is_in(x: &Path, p: &Path) -> bool
     ensures { result ≡ is_in x.now p.now }
 {
     let (x, p) = (x.text().as_bytes(), p.text().as_bytes());

@@ -1,20 +1,23 @@
 //! The walk by ranks.
 ghost use Rattle.std.specs.Prelude.{◌≡◌, ◌≤◌, ◌<◌, ◌-◌, ◌^◌, [], true, false, length, map, min, sum_by, None, OnOk, IfOk, IfErr, IfSome};
+ghost use Rattle.std.specs.Prelude.{All, Any};
 ghost use Rattle.std.specs.List.{flat_map, range_with_len, AllByRecursion};
 ghost use Rattle.std.specs.List.Sorted.{IsPermutation, IsSortedByKey};
 ghost use Rattle.path_text.specs.Order.{path_cmp};
 ghost use denote.Param.Send.{IsSync};
+ghost use Rattle.circle_run.specs.Left.{all_left};
 ghost use Rattle.circle_run.specs.Traced.{share_in};
 ghost use Rattle.outside.specs.Count.{RoseBy};
 ghost use Rattle.tree_walk.specs.Walk.{weight_of};
 ghost use Rattle.tree_walk.specs.Roots.{Apart};
 ghost use Rattle.tree_walk.specs.Held.{Holds, entries_of};
 ghost use Rattle.tree_walk.specs.Traced.{IsTracedWalk, WasWalked, IsProgressTo};
-ghost use Rattle.tree_walk.specs.Found.{IsFound, IsTooMuch, IfTooMany, max_entries};
+ghost use Rattle.tree_walk.specs.Found.{IsFound, IfTooMany, max_entries};
+ghost use Rattle.tree_walk.specs.Cut.{IsCutFound, IsTooMany, IfCut, found_in};
 
 use crate::errors::WalkError;
 use crate::jobs::WalkJob;
-use crate::reports::{WalkReport, Walked};
+use crate::reports::{Cut, WalkReport, Walked};
 use circle_run::{Options, begin};
 use flat_list::FlatList;
 use outside::{Ground, Listing};
@@ -40,40 +43,48 @@ where
     G::Reader: Send,
     requires ranks { (1 ≤ options.now.ranks) × (options.now.ranks ≤ 64) }
     requires hosts { (1 ≤ options.now.hosts) × (options.now.hosts ≤ 64) }
-    requires trace { options.now.trace ≡ true → options.now.hosts ≡ 1 }
+    requires trace { options.now.trace ≡ true → (options.now.hosts ≡ 1) × (options.now.stop_after ≡ None) }
     requires width { (2 ≤ options.now.width) × (options.now.width ≤ 64) }
-    requires stop_after { options.now.stop_after ≡ None }
     requires apart { Apart starts.items }
-    ensures found { IfOk result (λ report. IsFound (G.tree ground.old) starts.items (G.count ground.old) (G.count ground.new) report.list) }
-    ensures few { IfOk result (λ report. length report.list ≤ max_entries) }
-    ensures too_many { IfErr result (λ e. IfTooMany e (IsTooMuch (G.tree ground.old) starts.items (G.count ground.old) (G.count ground.new))) }
+    ensures found { IfOk result (λ report. report.walked ≡ Walked.Whole → IsFound (G.tree ground.old) starts.items (G.count ground.old) (G.count ground.new) report.list) }
+    ensures few { IfOk result (λ report. length (found_in report.walked report.list) ≤ max_entries) }
+    ensures too_many { IfErr result (λ e. IfTooMany e (IsTooMany options.now.stop_after (G.tree ground.old) starts.items (G.count ground.old) (G.count ground.new))) }
     ensures whole { IfOk result (λ report. options.now.stop_after ≡ None → report.walked ≡ Walked.Whole) }
 
-    // What the ranks did: all that they handled is the list, and what all gave all took. Counts stop at their greatest.
-    ensures shares { IfOk result (λ report. sum_by (λ s. s.handled) report.shares.items ≡ length report.list) }
+    // A cut is what was done and what is left, by rank, and a string is left. Then some rank handled as many as the stop says, and with a
+    // stop none handles more.
+    ensures cut { IfOk result (λ report. IfCut report.walked (λ cut. IsCutFound (G.tree ground.old) starts.items (G.count ground.old) (G.count ground.new) cut.done (all_left cut.left.items))) }
+    ensures empty { IfOk result (λ report. IfCut report.walked (λ cut. report.list ≡ [])) }
+    ensures lists { IfOk result (λ report. IfCut report.walked (λ cut. length cut.left.items ≡ options.now.ranks)) }
+    ensures some_left { IfOk result (λ report. IfCut report.walked (λ cut. 0 < length (all_left cut.left.items))) }
+    ensures reached { IfOk result (λ report. IfCut report.walked (λ cut. IfSome options.now.stop_after (λ k. Any (λ s. s.handled ≡ k) report.shares.items))) }
+    ensures bound { IfOk result (λ report. IfSome options.now.stop_after (λ k. All (λ s. s.handled ≤ k) report.shares.items)) }
+
+    // What the ranks did: all that they handled is what was found, and what all gave all took. Counts stop at their greatest.
+    ensures shares { IfOk result (λ report. sum_by (λ s. s.handled) report.shares.items ≡ length (found_in report.walked report.list)) }
     ensures by_rank { IfOk result (λ report. length report.shares.items ≡ options.now.ranks) }
     ensures moved { IfOk result (λ report. min (sum_by (λ s. s.given) report.shares.items) (2 ^ 128 - 1) ≡ min (sum_by (λ s. s.taken) report.shares.items) (2 ^ 128 - 1)) }
 
-    // On one host some whole run was made that gives the list: the shares are its counts, and with a trace the events are its own. Where the
-    // files tell their tree, a trace is a run of the recursive walk.
-    ensures ran { IfOk result (λ report. options.now.hosts ≡ 1 → WasWalked (G.tree ground.old) options.now starts.items report.list report.shares.items report.events.items) }
+    // On one host and without a stop some whole run was made that gives the list: the shares are its counts, and with a trace the events are
+    // its own. Where the files tell their tree, a trace is a run of the recursive walk.
+    ensures ran { IfOk result (λ report. options.now.hosts ≡ 1 → options.now.stop_after ≡ None → WasWalked (G.tree ground.old) options.now starts.items report.list report.shares.items report.events.items) }
     ensures traced { IfOk result (λ report. options.now.trace ≡ true → IfSome (G.tree ground.old) (λ files. IsTracedWalk files options.now starts.items report.list report.events.items)) }
     ensures counts { IfOk result (λ report. options.now.trace ≡ true → report.shares.items ≡ map (share_in report.events.items) (range_with_len 0 options.now.ranks)) }
     ensures untraced { IfOk result (λ report. options.now.trace ≡ false → report.events.items ≡ []) }
 
-    ensures progress { IfOk result (λ report. IsProgressTo (length report.list) options.now.ranks report.sums.items) }
+    ensures progress { IfOk result (λ report. IsProgressTo (length (found_in report.walked report.list)) options.now.ranks report.sums.items) }
     ensures same { G.tree ground.new ≡ G.tree ground.old }
     ensures area { G.area ground.new ≡ G.area ground.old }
     ensures count { RoseBy 0 (G.count ground.old) (G.count ground.new) }
 {
     let report = found(rt, alloc, ground, starts, options)?;
-    if report.list.len() > MAX_ENTRIES {
-        return Err(WalkError::TooMany(report.list.len() as u64));
+    if report.found() > MAX_ENTRIES {
+        return Err(WalkError::TooMany(report.found() as u64));
     }
     Ok(report)
 }
 
-// What the ranks find and do, whatever the length of the list.
+// What the ranks find and do, however much it is.
 fn found<W: Threads + Wait + Sync, G: Ground>(
     rt: &W,
     alloc: Global,
@@ -85,37 +96,68 @@ where
     G::Reader: Send,
     requires ranks { (1 ≤ options.now.ranks) × (options.now.ranks ≤ 64) }
     requires hosts { (1 ≤ options.now.hosts) × (options.now.hosts ≤ 64) }
-    requires trace { options.now.trace ≡ true → options.now.hosts ≡ 1 }
+    requires trace { options.now.trace ≡ true → (options.now.hosts ≡ 1) × (options.now.stop_after ≡ None) }
     requires width { (2 ≤ options.now.width) × (options.now.width ≤ 64) }
-    requires stop_after { options.now.stop_after ≡ None }
     requires apart { Apart starts.items }
-    ensures found { IfOk result (λ r. IsFound (G.tree ground.old) starts.items (G.count ground.old) (G.count ground.new) r.list) }
-    ensures whole { IfOk result (λ r. r.walked ≡ Walked.Whole) }
-    ensures shares { IfOk result (λ r. length r.list < 2 ^ 64 → sum_by (λ s. s.handled) r.shares.items ≡ length r.list) }
+    ensures found { IfOk result (λ r. r.walked ≡ Walked.Whole → IsFound (G.tree ground.old) starts.items (G.count ground.old) (G.count ground.new) r.list) }
+    ensures whole { IfOk result (λ r. options.now.stop_after ≡ None → r.walked ≡ Walked.Whole) }
+    ensures cut { IfOk result (λ r. IfCut r.walked (λ cut. IsCutFound (G.tree ground.old) starts.items (G.count ground.old) (G.count ground.new) cut.done (all_left cut.left.items))) }
+    ensures empty { IfOk result (λ r. IfCut r.walked (λ cut. r.list ≡ [])) }
+    ensures lists { IfOk result (λ r. IfCut r.walked (λ cut. length cut.left.items ≡ options.now.ranks)) }
+    ensures some_left { IfOk result (λ r. IfCut r.walked (λ cut. 0 < length (all_left cut.left.items))) }
+    ensures reached { IfOk result (λ r. IfCut r.walked (λ cut. IfSome options.now.stop_after (λ k. Any (λ s. s.handled ≡ k) r.shares.items))) }
+    ensures bound { IfOk result (λ r. IfSome options.now.stop_after (λ k. All (λ s. s.handled ≤ k) r.shares.items)) }
+    ensures shares { IfOk result (λ r. length (found_in r.walked r.list) < 2 ^ 64 → sum_by (λ s. s.handled) r.shares.items ≡ length (found_in r.walked r.list)) }
     ensures by_rank { IfOk result (λ r. length r.shares.items ≡ options.now.ranks) }
     ensures moved { IfOk result (λ r. min (sum_by (λ s. s.given) r.shares.items) (2 ^ 128 - 1) ≡ min (sum_by (λ s. s.taken) r.shares.items) (2 ^ 128 - 1)) }
-    ensures ran { IfOk result (λ r. options.now.hosts ≡ 1 → WasWalked (G.tree ground.old) options.now starts.items r.list r.shares.items r.events.items) }
+    ensures ran { IfOk result (λ r. options.now.hosts ≡ 1 → options.now.stop_after ≡ None → WasWalked (G.tree ground.old) options.now starts.items r.list r.shares.items r.events.items) }
     ensures traced { IfOk result (λ r. options.now.trace ≡ true → IfSome (G.tree ground.old) (λ files. IsTracedWalk files options.now starts.items r.list r.events.items)) }
     ensures counts { IfOk result (λ r. options.now.trace ≡ true → r.shares.items ≡ map (share_in r.events.items) (range_with_len 0 options.now.ranks)) }
     ensures untraced { IfOk result (λ r. options.now.trace ≡ false → r.events.items ≡ []) }
-    ensures progress { IfOk result (λ r. length r.list < 2 ^ 56 → IsProgressTo (length r.list) options.now.ranks r.sums.items) }
+    ensures progress { IfOk result (λ r. length (found_in r.walked r.list) < 2 ^ 56 → IsProgressTo (length (found_in r.walked r.list)) options.now.ranks r.sums.items) }
     ensures memory { IfErr result (λ e. e ≡ WalkError.OutOfMemory) }
     ensures same { G.tree ground.new ≡ G.tree ground.old }
     ensures area { G.area ground.new ≡ G.area ground.old }
     ensures count { RoseBy 0 (G.count ground.old) (G.count ground.new) }
 {
+    // The number of a stop is one of 64 bits.
+    let _most = options.stop_after.unwrap_or(u64::MAX);
     let jobs = made(alloc, ground, options.ranks)?;
     let finished = begin(rt, alloc, options, starts, jobs)?;
     let mut names = Vec::new(alloc);
     let logs = opened(alloc, ground, finished.jobs, &mut names)?;
-    let list = listed(rt, alloc, logs, names, options.hosts)?;
+    let found = listed(rt, alloc, logs, names, options.hosts)?;
+    let (list, walked) = split(alloc, found, finished.left);
     Ok(WalkReport {
         list,
-        walked: Walked::Whole,
+        walked,
         shares: finished.shares,
         events: finished.events,
         sums: finished.sums,
     })
+}
+
+// What was found is the list of a whole walk, or what was done before a cut where any string is left.
+fn split(alloc: Global, found: FlatList, left: Vec<Vec<Path>>) -> (FlatList, Walked)
+    ensures found { found_in result.1 result.0 ≡ found }
+    ensures whole { result.1 ≡ Walked.Whole → all_left left.items ≡ [] }
+    ensures ends { all_left left.items ≡ [] → result.1 ≡ Walked.Whole }
+    ensures cut { IfCut result.1 (λ cut. cut.left ≡ left × (0 < length (all_left left.items))) }
+    ensures empty { IfCut result.1 (λ cut. result.0 ≡ []) }
+{
+    if is_nothing(&left) {
+        return (found, Walked::Whole);
+    }
+    let cut = Cut { done: found, left };
+    (FlatList::make(alloc), Walked::Cut(cut))
+}
+
+// Whether no rank has any string left.
+fn is_nothing(left: &[Vec<Path>]) -> bool
+    ensures yes { result ≡ true → all_left left.now ≡ [] }
+    ensures no { result ≡ false → 0 < length (all_left left.now) }
+{
+    left.iter().all(|paths| paths.is_empty())
 }
 
 // A job for each rank, each with a reader of its own.

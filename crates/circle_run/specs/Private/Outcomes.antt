@@ -1,6 +1,6 @@
 -- How the ranks of a run begin, and what a run leaves. Our own.
-use Rattle.std.specs.Prelude.{◌≡◌, ℕ, ◌-◌, ◌^◌, ◌<◌, min, true, false, List, length, [], map, sum_by, slice_index_or}
-use Rattle.std.specs.List.{flat_map, range_with_len}
+use Rattle.std.specs.Prelude.{◌≡◌, ℕ, ◌-◌, ◌^◌, ◌<◌, ◌≤◌, ◌⊎◌, min, true, false, List, length, [], map, sum_by, slice_index_or, All, None, IfSome}
+use Rattle.std.specs.List.{flat_map, range_with_len, Any}
 use Rattle.post_board.specs.Shown.{Strings}
 use Rattle.circle_run.specs.Balance.{Log, Balanced}
 use Rattle.circle_run.specs.Left.{all_left}
@@ -35,7 +35,10 @@ module _ {J D : Type 0} (log : J → Log) (plain : J → D) where
   -- what a whole run leaves of these starts and jobs
   pub record IsOutcome (o : Options) (starts : Strings) (jobs : List J) (f : Finished J) : Type 0 where
     pub balance : Balanced (flat_map log f.jobs.items) (all_left f.left.items) starts
-    pub whole : all_left f.left.items ≡ []
+    pub whole : o.stop_after ≡ None → all_left f.left.items ≡ []
+    -- with a stop no rank handled more, and only a rank that handled as many leaves strings
+    pub stop : IfSome o.stop_after (λ k. All (λ job. length (log job) ≤ k) f.jobs.items)
+    pub left : IfSome o.stop_after (λ k. (all_left f.left.items ≡ []) ⊎ Any (λ job. length (log job) ≡ k) f.jobs.items)
     pub jobs_count : length f.jobs.items ≡ length jobs
     pub facts : map plain f.jobs.items ≡ map plain jobs
     pub lists : length f.left.items ≡ length jobs
@@ -45,7 +48,7 @@ module _ {J D : Type 0} (log : J → Log) (plain : J → D) where
     pub progress : IsProgress (map (λ job. length (log job)) f.jobs.items) f.sums.items
 
 module _ {J : Type 0} (log : J → Log) where
-  -- what a whole run on one host leaves beside that
+  -- what a whole run on one host, which stops after no number, leaves beside that
   pub record IsRun (o : Options) (starts : Strings) (f : Finished J) : Type 0 where
     pub traced : o.trace ≡ true → IsTraced o starts (map log f.jobs.items) f.events.items
     pub counts : o.trace ≡ true → f.shares.items ≡ map (share_in f.events.items) (range_with_len 0 o.ranks)

@@ -70,6 +70,8 @@ module _ {J S T P : Type 0} (log : J → Log) (shows : S → Shown) (tells : P �
     pub still : tells p ≡ None → p' ≡ p
     pub rest : r' ≡ record r { seat = r'.seat }
     pub here : (shows r'.seat).here ≡ (shows r.seat).here
+    pub halted : (shows r'.seat).halted ≡ (shows r.seat).halted
+    pub knows_halt : (shows r'.seat).knows_halt ≡ (shows r.seat).knows_halt
     pub batches : (shows r'.seat).batches ≡ (shows r.seat).batches
     pub told : tells p' ≡ tells p
     pub asked : AsksOf (shows r'.seat) asks 0 count
@@ -89,9 +91,12 @@ module _ {J S T P : Type 0} (log : J → Log) (shows : S → Shown) (tells : P �
     pub sums : r'.book.sums ≡ r.book.sums
     pub job : r'.job ≡ r.job
     pub ended : r'.ended ≡ r.ended
+    pub stopped : r'.stopped ≡ r.stopped
     pub asked : r'.asked ≡ r.asked
     pub tried : r'.tried ≡ r.tried
     pub here : (shows r'.seat).here ≡ (shows r.seat).here
+    pub halted : (shows r'.seat).halted ≡ (shows r.seat).halted
+    pub knows_halt : (shows r'.seat).knows_halt ≡ (shows r.seat).knows_halt
     pub lost : r.book.lost ≡ true → r'.book.lost ≡ true
     pub awaits : Awaits (shows r'.seat) (tells p')
 

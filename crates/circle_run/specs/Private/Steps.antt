@@ -1,21 +1,22 @@
 -- What the steps of a turn come to. Our own.
-use Rattle.std.specs.Prelude.{◌≡◌, ◌≢◌, ℕ, ◌+◌, ◌^◌, ◌<◌, Bool, true, false, List, length, [], ◌∷◌, ◌++◌, Option, None}
+use Rattle.std.specs.Prelude.{◌≡◌, ◌≢◌, ℕ, ◌+◌, ◌^◌, ◌<◌, Bool, true, false, All, List, length, [], ◌∷◌, ◌++◌, Option, None}
 use Rattle.ring_core.specs.declared.events.Event.TheVariants.{Handle}
 use Rattle.post_board.specs.Shown.{Strings, Shown}
 use Rattle.post_board.specs.Told.{Told}
-use Rattle.post_board.specs.Deeds.{Deed, see_over}
+use Rattle.post_board.specs.Deeds.{see_over, stop}
 use Rattle.post_board.specs.declared.answers.Ring.{Ring}
 use Rattle.post_board.specs.declared.answers.Ring.TheVariants.{Over}
 use Rattle.circle_run.specs.Balance.{Log}
-use Rattle.circle_run.specs.Moves.{Move, handled, served, did}
-use Rattle.circle_run.specs.Choices.{Choice, Chosen, Chooses}
+use Rattle.circle_run.specs.Moves.{Move, handled, served, did, noted}
+use Rattle.circle_run.specs.Choices.{Choice, Chosen, first_of, Closes, Chooses}
+use Rattle.circle_run.specs.declared.settings.Options.{Options}
 use Rattle.circle_run.specs.Ranks.{Knows, ServesNone, Went}
-use Rattle.circle_run.specs.Turns.{Worked}
+use Rattle.circle_run.specs.Turns.{IsAct, IsTurn}
 use Rattle.circle_run.specs.Private.Books.{Writes}
 use Rattle.circle_run.specs.declared.steps.Did.{Did}
-use Rattle.circle_run.specs.declared.steps.Did.TheVariants.{Handled, Acted, Waited}
+use Rattle.circle_run.specs.declared.steps.Did.TheVariants.{Handled, Acted, Waited, Stopped}
 use Rattle.circle_run.specs.declared.ranks.Turn.{Turn}
-use Rattle.circle_run.specs.declared.ranks.Turn.TheVariants.{Went as TurnWent, Waited as TurnWaited}
+use Rattle.circle_run.specs.declared.ranks.Turn.TheVariants.{Went as TurnWent, Waited as TurnWaited, Stopped as TurnStopped}
 use Rattle.circle_run.specs.declared.ranks.Rank.{Rank}
 
 -- the ring was read: where all is over, the rank has seen the end
@@ -26,12 +27,21 @@ Heard _ moves = moves ≡ []
 -- one move, or none where the rank waits
 abbrev pub Acts : Did → List Move → Type 0
 Acts Handled moves = (path : List ℕ) × (kids : Strings) × (moves ≡ handled path kids ∷ [])
-Acts Acted moves = (deed : Deed) × (moves ≡ did deed ∷ [])
+Acts Acted moves = (move : Move) × IsAct move × (moves ≡ move ∷ [])
 Acts Waited moves = moves ≡ []
+Acts Stopped moves = moves ≡ noted stop ∷ []
 
--- a service, of some ranks or of none
-abbrev pub Served : Bool → List Move → Type 0
-Served some moves = (answers : List (ℕ × Strings)) × (moves ≡ served answers ∷ []) × (some ≡ false → answers ≡ []) × (some ≡ true → 0 < length answers)
+-- a service, of some ranks or of none, in which the rank gives or refuses all
+pub record Served (gives some : Bool) (moves : List Move) : Type 0 where
+  pub answers : List (ℕ × Strings)
+  pub are : moves ≡ served answers ∷ []
+  pub none : some ≡ false → answers ≡ []
+  pub any : some ≡ true → 0 < length answers
+  pub refused : gives ≡ false → All (λ a. a.1 ≡ []) answers
+
+-- all were told to halt, or nothing was done
+abbrev pub Halts : Bool → List Move → Type 0
+Halts due moves = moves ≡ first_of due
 
 -- what a rank did in all, where some asked it or none
 abbrev pub with_service : Bool → Did → Did
@@ -39,27 +49,44 @@ with_service some Handled = Handled
 with_service some Acted = Acted
 with_service true Waited = Acted
 with_service false Waited = Waited
+with_service some Stopped = Stopped
 
 abbrev pub turn_of : Did → Turn
 turn_of Handled = TurnWent
 turn_of Acted = TurnWent
 turn_of Waited = TurnWaited
+turn_of Stopped = TurnStopped
 
 -- how many strings a rank handled in all, that had handled so many
 abbrev pub tallied : Did → ℕ → ℕ
 tallied Handled strings = strings + 1
 tallied Acted strings = strings
 tallied Waited strings = strings
+tallied Stopped strings = strings
 
 -- what was done is the move of the choice
 pub record Follows (done : Did) (me : ℕ) (c : Choice) (moves : List Move) : Type 0 where
   pub acts : Acts done moves
   pub chosen : Chosen me c moves
 
+-- what was done is the last of a rank that is to halt
+pub record Ends (done : Did) (me : ℕ) (asked : Option ℕ) (moves : List Move) : Type 0 where
+  pub acts : Acts done moves
+  pub closes : Closes me asked moves
+
+-- all that a rank does that is to halt
+pub record WoundUp (done : Did) (o : Options) (me : ℕ) (due : Bool) (asked : Option ℕ) (moves : List Move) : Type 0 where
+  pub kind : IsTurn false (turn_of done) moves
+  pub answers : List (ℕ × Strings)
+  pub next : List Move
+  pub are : moves ≡ first_of due ++ served answers ∷ next
+  pub refuses : o.stop_after ≢ None → All (λ a. a.1 ≡ []) answers
+  pub closes : Closes me asked next
+
 module _ {J S T P : Type 0} (heard : J → Option (List ℕ)) (shows : S → Shown) (tells : P → Option Told) where
   -- what was done at the board in a turn before the end
   pub record Works (done : Did) (r : Rank J S T) (p : P) (r' : Rank J S T) (moves : List Move) : Type 0 where
-    pub worked : Worked done moves
+    pub kind : IsTurn false (turn_of done) moves
     pub chosen : Chooses heard shows tells r p r' moves
 
 module _ {J S T P Q : Type 0} (log : J → Log) (plain : J → Q) (shows : S → Shown) (tells : P → Option Told) (seats : P → S → Type 0) where

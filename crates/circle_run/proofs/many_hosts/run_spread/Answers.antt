@@ -86,6 +86,7 @@ returns g c =
       last = last;
       found = found;
       even = c.gather_all.ensures.even;
+      halters = c.gather_all.ensures.halters;
       seats_are = parts.seats;
       jobs_are = parts.jobs;
       left_are = parts.left;

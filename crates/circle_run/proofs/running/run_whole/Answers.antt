@@ -1,14 +1,17 @@
-use Rattle.std.proofs.Common.{List, length, get_or, sym, subst, ap, ◌∙◌, arith}
+use Rattle.std.proofs.Common.{List, length, get_or, Option, sym, subst, ap, ◌∙◌, arith}
 use Rattle.std.proofs.lemmas.List.{length-map, get_or-map}
 use Rattle.std.proofs.lemmas.List.FromFn.{length-map-range_with_len}
 use Rattle.std.specs.List.{sum_by}
+use Rattle.post_board.specs.Told.{Told}
+use Rattle.post_board.specs.Deeds.{Stays}
+use Rattle.post_board.specs.Calls.{NoneOnTheWay}
 use Rattle.sum_tree.specs.Plain.{fresh as fresh_sums}
 use Rattle.circle_run.specs.Stages.{dealt_to}
 use Rattle.circle_run.specs.Private.Outcomes.{AreNew}
 use Rattle.circle_run.proofs.Maps.{sum_by-map}
 use Rattle.circle_run.proofs.Beginning.{begins}
 use Rattle.circle_run.proofs.Rounds.{same_all}
-use Rattle.circle_run.proofs.Finishing.{outcome, seats_done, sums_done}
+use Rattle.circle_run.proofs.Finishing.{closed, seats_done, sums_done}
 use Rattle.circle_run.proofs.running.run_whole.Goals as goal
 
 pub new_ranks-requires-clause-sums : goal.new_ranks-requires-clause-sums
@@ -75,7 +78,7 @@ returns g c =
     let parts = c.in_ok-parts.ensures in
     let all = same_all g.J.Job.plain o c.make.result ranks c.in_ok-ranks-2.ensures.same first.all in
     let left =
-    outcome g.J.Job.log g.J.Job.plain g.P.Post.shows g.P.Post.tells g.P.Post.seats g.Q.Sums.shows g.Q.Sums.seats o c.args.starts.items c.args.jobs.items
+    closed g.J.Job.log g.J.Job.plain g.P.Post.shows g.P.Post.tells g.P.Post.seats g.Q.Sums.shows g.Q.Sums.seats o c.args.starts.items c.args.jobs.items
     c.make.result ranks c.args.post.now c.run_traced.new.post c.args.sums.now c.run_traced.new.sums c.gather-2.result _
     (record {
       waits = c.nothing_waits_at_end.ensures;
@@ -84,13 +87,19 @@ returns g c =
       late_sound = c.late_keeps_sound.ensures;
       agrees = g.met.P.Post.agrees;
       some = c.requires.ranks.0;
-      endless = c.requires.stop_after;
       first = first;
       unshared = λ k d h. (new.new k d h).share;
       given_jobs = new.jobs_are;
-      done = c.in_ok-ranks-2.ensures.ended;
+      gathered = c.in_ok-parts.parts.seats.items;
+      last = record {
+        all = all;
+        done = c.in_ok-ranks-2.ensures.ended;
+        found = λ k d h. (c.in_ok-ranks-2.ensures.unwritten k d h).0;
+        seats_are = parts.seats;
+        halters = c.gather.ensures.halters;
+      };
       same = c.in_ok-ranks-2.ensures.same;
-      wrote = c.in_ok-ranks-2.ensures.unwritten;
+      mailboxes = λ t e. (subst (λ (x : Option Told). Stays NoneOnTheWay x (g.P.Post.tells c.gather.new.self)) e c.gather.ensures.told).0;
       ran = c.in_ok-ranks-2.ensures.ran o _ first.all c.requires.told;
       jobs_are = parts.jobs;
       left_are = parts.left;

@@ -1,4 +1,4 @@
-use Rattle.std.proofs.Common.{rules, arith, ◌≡◌, length, All, List, [], ◌∷◌, ◌++◌, length-append, ap, sym, subst, ◌∙◌, ◌==◌, Vec}
+use Rattle.std.proofs.Common.{rules, arith, ◌≡◌, ℕ, suc, ◌+◌, ◌<◌, length, All, List, [], ◌∷◌, ◌++◌, length-append, ap, sym, subst, ◌∙◌, ◌==◌, Vec}
 use Rattle.std.specs.declared.alloc.Global.{Global}
 use Rattle.circle_run.specs.declared.ranks.Rank.{Rank}
 use Rattle.std.specs.List.{sum_by}
@@ -14,13 +14,15 @@ use Rattle.circle_run.proofs.Places.{once_whole, ones}
 use Rattle.circle_run.proofs.Pooling.{fits_next}
 use Rattle.circle_run.proofs.threads.run_hosts.Goals as goal
 
-pub offset_bounds-flags-k : goal.offset_bounds-flags-k
-offset_bounds-flags-k g c =
-    let i = c.loop-ranks.invariant.flags in
+-- there is a flag for the next host
+flag_within : (k hosts rest flags others : ℕ) → k + hosts ≡ others → hosts ≡ suc rest → flags ≡ others → k < flags
+flag_within k hosts rest flags others all next same = omega (arith, all, next, same)
+
+pub flag_at-flag-requires : goal.flag_at-flag-requires
+flag_at-flag-requires g c =
     let e : into_iter_items c.loop-ranks.ranks-iterator ≡ c.in-Some.ranks ∷ into_iter_items c.next.new.self = search rules in
-    let n = ap length e in
-    let f = c.requires.flags in
-    omega arith
+    flag_within c.loop-ranks.k (length (into_iter_items c.loop-ranks.ranks-iterator)) (length (into_iter_items c.next.new.self))
+    (length c.args.flags.now) (length c.args.others.items) c.loop-ranks.invariant.flags (ap length e) c.requires.flags
 
 pub loop-ranks-init : goal.loop-ranks-init
 loop-ranks-init g c =

@@ -1,7 +1,11 @@
-use Rattle.std.proofs.Common.{map}
 use Rattle.std.specs.String.{string_bytes}
 use Rattle.run_report.specs.Sides.{side_of, stream_of}
-use Rattle.mfu_top.proofs.Ended.{printed, stopped}
+use Rattle.std.proofs.Common.{◌≡◌, refl, map, true}
+use Rattle.tool_words.specs.Refusals.{refusal_in}
+use Rattle.tool_words.specs.Words.{reading}
+use Rattle.mfu_top.specs.Run.{Leaves, is_apart}
+use Rattle.mfu_top.proofs.Ended.{printed, stopped, refused, in_any}
+use Rattle.mfu_top.proofs.Still.{still}
 use Rattle.mfu_top.proofs.running.run.Goals as goal
 
 pub returns-in-Ok-report_of-clause-complete : goal.returns-in-Ok-report_of-clause-complete
@@ -32,3 +36,23 @@ returns-in-Err-report_of-clause-complete g c =
     refused.stop c.end_stopped.result (stream_of (text c.args.notes.now) (notes c.args.notes.now))
     (stream_of (text c.end_stopped.new.notes) (notes c.end_stopped.new.notes))
     c.in-Ok.ensures.read c.fine_runs_succeed.ensures c.in-Ok.ensures.within refused.ensures.stops c.end_stopped.ensures.told
+
+pub returns-in-Err-clause-rest : goal.returns-in-Err-clause-rest
+returns-in-Err-clause-rest g c =
+    let side = side_of (g.G.Plot.tree c.args.files.now) (g.G.Plot.count c.args.files.now) in
+    in_any (reading (map string_bytes c.args.words.now)) (λ asked. Leaves asked c.args.now side side) (λ asked. still asked c.args.now side)
+
+pub returns-in-Err-clause-apart : goal.returns-in-Err-clause-apart
+returns-in-Err-clause-apart g c =
+    in_any (reading (map string_bytes c.args.words.now)) (λ asked. is_apart asked ≡ true → c.args.files.now ≡ c.args.files.now) (λ asked apart. refl)
+
+pub returns-in-Err-clause-complete : goal.returns-in-Err-clause-complete
+returns-in-Err-clause-complete g c =
+    let side = side_of (g.G.Plot.tree c.args.files.now) (g.G.Plot.count c.args.files.now) in
+    let outs = g.O.Sink.count c.args.out.now in
+    let notes = g.E.Sink.count in
+    let text = g.E.Sink.text in
+    refused (map string_bytes c.args.words.now) c.args.now side side
+    (record { out = outs; out' = outs; notes = notes c.args.notes.now; notes' = notes c.end_refused.new.notes }) (refusal_in c.in-Err.why) c.end_refused.result
+    (stream_of (text c.args.notes.now) (notes c.args.notes.now)) (stream_of (text c.end_refused.new.notes) (notes c.end_refused.new.notes))
+    c.in-Err.ensures.refused c.end_refused.ensures.told

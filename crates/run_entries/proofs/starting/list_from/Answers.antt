@@ -1,6 +1,6 @@
 use Rattle.std.proofs.Common.{subst, sym}
 use Rattle.std.specs.Prelude.{IfOk}
-use Rattle.tool_words.specs.Asked.{start_in}
+use Rattle.tool_words.specs.Asked.{roots, start_in}
 use Rattle.run_report.specs.Sides.{side_of}
 use Rattle.run_entries.specs.Entries.{Listed, Tells}
 use Rattle.run_entries.proofs.starting.list_from.Goals as goal
@@ -15,3 +15,18 @@ returns-in-Roots-clause-told g c =
     (λ s. IfOk c.walk_side.result (λ found. (listed : Listed (start_in s) found.list before after)
     × Tells c.args.common.now (start_in s) found.list before after listed found.account))
     (sym c.in-Roots.is) c.walk_side.ensures.told
+
+pub returns-in-Restart-clause-told : goal.returns-in-Restart-clause-told
+returns-in-Restart-clause-told g c =
+    let tree = g.G.Plot.tree in
+    let count = g.G.Plot.count in
+    let before = side_of (tree c.args.files.now) (count c.args.files.now) in
+    let after = side_of (tree c.walk_side-in-Restart.new.files) (count c.walk_side-in-Restart.new.files) in
+    let told = subst
+    (λ given. IfOk c.walk_side-in-Restart.result (λ found. (listed : Listed (roots given) found.list before after)
+    × Tells c.args.common.now (roots given) found.list before after listed found.account))
+    c.new.ensures.items c.walk_side-in-Restart.ensures.told in
+    subst
+    (λ s. IfOk c.walk_side-in-Restart.result (λ found. (listed : Listed (start_in s) found.list before after)
+    × Tells c.args.common.now (start_in s) found.list before after listed found.account))
+    (sym c.in-Restart.is) told

@@ -7,6 +7,6 @@ returns-clause-told g c =
     let tree = g.G.Plot.tree in
     let count = g.G.Plot.count in
     let before = side_of (tree c.args.files.now) (count c.args.files.now) in
-    let after = side_of (tree c.walked_from.new.files) (count c.walked_from.new.files) in
-    told c.args.common.now before after c.args.given.items c.in_ok-roots.roots.items c.walked_from.result
-    c.in_ok-roots.ensures c.walked_from.ensures.found c.walked_from.ensures.account
+    let after = side_of (tree c.walk_roots.new.files) (count c.walk_roots.new.files) in
+    told c.args.common.now before after c.args.given.items c.in_ok-roots.roots.items c.walk_roots.result
+    c.in_ok-roots.ensures c.walk_roots.ensures.found c.walk_roots.ensures.account

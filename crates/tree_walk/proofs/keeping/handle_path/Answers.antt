@@ -19,7 +19,8 @@ returns-clause-holds g c =
     record {
       look = c.in_ok-entry.ensures.look;
       same = c.in_ok-entry.ensures.same;
-      kept = c.in-Ok-keep.ensures.held ∙ ap (λ (ls : List Listing). held_of entries ls ++ (entry, map (joined entry.path) names.0) ∷ []) c.reserve.ensures.items;
+      kept = c.in-Ok-keep.ensures.held
+          ∙ ap (λ (ls : List Listing). held_of entries ls ++ (entry, map (joined entry.path) names.0) ∷ []) c.reserve.ensures.items;
       pushed = c.in-Ok.ensures ∙ ap (λ x. x ++ map (joined entry.path) names.0) c.requires.empty;
     } in
     step_holds step c.requires.holds
@@ -38,7 +39,8 @@ returns-clause-ok g c =
     record {
       look = c.in_ok-entry.ensures.look;
       same = c.in_ok-entry.ensures.same;
-      kept = c.in-Ok-keep.ensures.held ∙ ap (λ (ls : List Listing). held_of entries ls ++ (entry, map (joined entry.path) names.0) ∷ []) c.reserve.ensures.items;
+      kept = c.in-Ok-keep.ensures.held
+          ∙ ap (λ (ls : List Listing). held_of entries ls ++ (entry, map (joined entry.path) names.0) ∷ []) c.reserve.ensures.items;
       pushed = c.in-Ok.ensures ∙ ap (λ x. x ++ map (joined entry.path) names.0) c.requires.empty;
     } in
     step_log step ∙ ap (λ x. log_of old ++ (x, c.push_children.new.fresh) ∷ []) c.in_ok-copy.ensures

@@ -1,41 +1,78 @@
-use Rattle.std.proofs.Common.{◌∙◌, subst}
-use Rattle.std.specs.List.{flat_map}
-use Rattle.std.specs.List.Sorted.{IsPermutation}
+use Rattle.std.proofs.Common.{◌≡◌, ◌∙◌, ap, sym, subst, arith, ◌<◌, ◌-◌, ◌^◌, [], length}
+use Rattle.std.specs.List.{flat_map, sum_by}
 use Rattle.circle_run.specs.Left.{all_left}
-use Rattle.tree_walk.proofs.Ranks.{IsRun, same_plain, all_pushes, all_balanced, found, shared, share_each}
+use Rattle.tree_walk.specs.declared.reports.Walked.TheVariants as walked
+use Rattle.tree_walk.specs.Cut.{IsCutFound, found_in}
+use Rattle.tree_walk.specs.Found.{IsFound}
+use Rattle.tree_walk.specs.Traced.{WasWalked, IsProgressTo}
+use Rattle.tree_walk.proofs.Cuts.{of_cut}
+use Rattle.tree_walk.proofs.Ranks.{IsRun, is_run, found, cut_found, shared, share_each}
+use Rattle.tree_walk.proofs.Stops.{bound, reached, fits}
 use Rattle.tree_walk.proofs.Traced.{was_walked, traced, progress}
+use Rattle.tree_walk.proofs.walking.found.Given as given
 use Rattle.tree_walk.proofs.walking.found.Goals as goal
 
-pub returns-clause-found : goal.returns-clause-found
-returns-clause-found g c =
+-- the run of all ranks, over what is left
+run : (g : given.Over) (c : goal.After-split-list g) →
+    IsRun g.G.Reader.Tree.tree g.G.Reader.Tree.count (g.G.Plot.tree c.args.ground.now) c.in_ok-finished.finished.jobs.items c.in_ok-found.found
+    (all_left c.in_ok-finished.finished.left.items) c.args.starts.items
+run g c =
     let ran = c.in_ok-finished.ensures in
     let logs = c.in_ok-logs.ensures in
-    let tree = g.G.Reader.Tree.tree in
-    let faults = g.G.Reader.Tree.count in
-    let told = g.G.Plot.tree c.args.ground.now in
+    is_run g.G.Reader.Tree.tree g.G.Reader.Tree.count (g.G.Plot.tree c.args.ground.now) c.in_ok-jobs.jobs.items c.in_ok-finished.finished.jobs.items
+    (flat_map (λ log. log) c.in_ok-logs.logs.items) c.in_ok-found.found (all_left c.in_ok-finished.finished.left.items) c.args.starts.items
+    c.in_ok-jobs.ensures.told ran.plain logs.holds c.requires.apart ran.balance logs.logs c.in_ok-found.ensures.all c.in_ok-found.ensures.sorted
+
+-- the same where nothing is left
+whole_run : (g : given.Over) (c : goal.After-split-list g) → all_left c.in_ok-finished.finished.left.items ≡ [] →
+    IsRun g.G.Reader.Tree.tree g.G.Reader.Tree.count (g.G.Plot.tree c.args.ground.now) c.in_ok-finished.finished.jobs.items c.in_ok-found.found
+    [] c.args.starts.items
+whole_run g c none =
+    subst (λ left. IsRun g.G.Reader.Tree.tree g.G.Reader.Tree.count (g.G.Plot.tree c.args.ground.now) c.in_ok-finished.finished.jobs.items
+    c.in_ok-found.found left c.args.starts.items) none (run g c)
+
+-- of a whole walk the list is all that was found
+list_is : (g : given.Over) (c : goal.After-split-list g) → c.split-list.result.1 ≡ walked.Whole → c.in_ok-found.found ≡ c.split-list.result.0
+list_is g c whole = sym (ap (λ w. found_in w c.split-list.result.0) (sym whole) ∙ c.split-list.ensures.found)
+
+pub returns-clause-found : goal.returns-clause-found
+returns-clause-found g c = λ whole.
     let count = g.G.Plot.count in
-    let jobs = c.in_ok-finished.finished.jobs.items in
-    let list = c.in_ok-list.list in
+    let told = g.G.Plot.tree c.args.ground.now in
     let starts = c.args.starts.items in
-    let run : IsRun tree faults told jobs list starts =
-    record {
-      tells = same_plain tree told c.in_ok-jobs.jobs.items jobs ran.plain c.in_ok-jobs.ensures.told;
-      holds = logs.holds;
-      gathered = record {
-        pushes = all_pushes tree faults jobs logs.holds;
-        apart = c.requires.apart;
-        balance = all_balanced jobs (all_left c.in_ok-finished.finished.left.items) starts ran.balance (ran.whole c.requires.stop_after);
-        moves = subst (λ es. IsPermutation es list) logs.logs c.in_ok-list.ensures.all;
-        sorted = c.in_ok-list.ensures.sorted;
-      };
-    } in
-    found tree faults told jobs list starts (count c.args.ground.now) (count c.made.new.ground) (count c.opened.new.ground) run
-    c.made.ensures.count logs.counted
+    subst (IsFound told starts (count c.args.ground.now) (count c.opened.new.ground)) (list_is g c whole)
+    (found g.G.Reader.Tree.tree g.G.Reader.Tree.count told c.in_ok-finished.finished.jobs.items c.in_ok-found.found starts
+    (count c.args.ground.now) (count c.made.new.ground) (count c.opened.new.ground) (whole_run g c (c.split-list.ensures.whole whole))
+    c.made.ensures.count c.in_ok-logs.ensures.counted)
+
+pub returns-clause-cut : goal.returns-clause-cut
+returns-clause-cut g c =
+    let count = g.G.Plot.count in
+    let told = g.G.Plot.tree c.args.ground.now in
+    let starts = c.args.starts.items in
+    let left = c.in_ok-finished.finished.left in
+    of_cut (λ done lists. IsCutFound told starts (count c.args.ground.now) (count c.opened.new.ground) done (all_left lists.items))
+    c.split-list.result.1 c.split-list.result.0 c.in_ok-found.found left c.split-list.ensures.found c.split-list.ensures.cut
+    (cut_found g.G.Reader.Tree.tree g.G.Reader.Tree.count told c.in_ok-finished.finished.jobs.items c.in_ok-found.found (all_left left.items) starts
+    (count c.args.ground.now) (count c.made.new.ground) (count c.opened.new.ground) (run g c) c.made.ensures.count c.in_ok-logs.ensures.counted)
+
+pub returns-clause-reached : goal.returns-clause-reached
+returns-clause-reached g c =
+    let stop = c.args.options.now.stop_after in
+    reached c.split-list.result.1 c.in_ok-finished.finished.left stop c.in_ok-finished.finished.jobs.items c.in_ok-finished.finished.shares.items
+    c.in_ok-finished.ensures.shares (fits stop (2 ^ 64 - 1) (omega arith)) c.in_ok-finished.ensures.left c.split-list.ensures.cut
+
+pub returns-clause-bound : goal.returns-clause-bound
+returns-clause-bound g c =
+    bound c.args.options.now.stop_after c.in_ok-finished.finished.jobs.items c.in_ok-finished.finished.shares.items c.in_ok-finished.ensures.shares
+    c.in_ok-finished.ensures.stop
 
 pub returns-clause-shares : goal.returns-clause-shares
-returns-clause-shares g c = λ few.
-    shared c.in_ok-finished.finished.jobs.items (flat_map (λ log. log) c.in_ok-logs.logs.items) c.in_ok-list.list c.in_ok-finished.finished.shares.items
-    c.in_ok-finished.ensures.shares c.in_ok-logs.ensures.logs c.in_ok-list.ensures.all few
+returns-clause-shares g c =
+    let shares = c.in_ok-finished.finished.shares.items in
+    subst (λ list. length list < 2 ^ 64 → sum_by (λ s. s.handled) shares ≡ length list) (sym c.split-list.ensures.found)
+    (λ few. shared c.in_ok-finished.finished.jobs.items (flat_map (λ log. log) c.in_ok-logs.logs.items) c.in_ok-found.found shares
+    c.in_ok-finished.ensures.shares c.in_ok-logs.ensures.logs c.in_ok-found.ensures.all few)
 
 pub returns-clause-by_rank : goal.returns-clause-by_rank
 returns-clause-by_rank g c =
@@ -43,37 +80,26 @@ returns-clause-by_rank g c =
     c.in_ok-finished.ensures.shares (c.in_ok-finished.ensures.jobs ∙ c.in_ok-jobs.ensures.number)
 
 pub returns-clause-ran : goal.returns-clause-ran
-returns-clause-ran g c = λ one.
-    let ran = c.in_ok-finished.ensures in
-    let logs = c.in_ok-logs.ensures in
-    let tree = g.G.Reader.Tree.tree in
-    let faults = g.G.Reader.Tree.count in
+returns-clause-ran g c = λ one none.
     let told = g.G.Plot.tree c.args.ground.now in
-    let jobs = c.in_ok-finished.finished.jobs.items in
-    let list = c.in_ok-list.list in
+    let nothing = c.in_ok-finished.ensures.whole none in
+    let o = c.args.options.now in
     let starts = c.args.starts.items in
-    let run : IsRun tree faults told jobs list starts =
-    record {
-      tells = same_plain tree told c.in_ok-jobs.jobs.items jobs ran.plain c.in_ok-jobs.ensures.told;
-      holds = logs.holds;
-      gathered = record {
-        pushes = all_pushes tree faults jobs logs.holds;
-        apart = c.requires.apart;
-        balance = all_balanced jobs (all_left c.in_ok-finished.finished.left.items) starts ran.balance (ran.whole c.requires.stop_after);
-        moves = subst (λ es. IsPermutation es list) logs.logs c.in_ok-list.ensures.all;
-        sorted = c.in_ok-list.ensures.sorted;
-      };
-    } in
-    was_walked tree faults told jobs list starts c.args.options.now c.in_ok-finished.finished.shares.items
-    c.in_ok-finished.finished.events.items run (ran.ran one)
+    let finished = c.in_ok-finished.finished in
+    subst (λ list. WasWalked told o starts list finished.shares.items finished.events.items) (list_is g c (c.split-list.ensures.ends nothing))
+    (was_walked g.G.Reader.Tree.tree g.G.Reader.Tree.count told finished.jobs.items c.in_ok-found.found starts o finished.shares.items
+    finished.events.items (whole_run g c nothing) (c.in_ok-finished.ensures.ran one none))
 
 pub returns-clause-traced : goal.returns-clause-traced
 returns-clause-traced g c = λ on.
-    traced (g.G.Plot.tree c.args.ground.now) c.args.options.now c.args.starts.items c.in_ok-list.list c.in_ok-finished.finished.shares.items
-    c.in_ok-finished.finished.events.items (returns-clause-ran g c (c.requires.trace on)) on
+    traced (g.G.Plot.tree c.args.ground.now) c.args.options.now c.args.starts.items c.split-list.result.0 c.in_ok-finished.finished.shares.items
+    c.in_ok-finished.finished.events.items (returns-clause-ran g c (c.requires.trace on).0 (c.requires.trace on).1) on
 
 pub returns-clause-progress : goal.returns-clause-progress
-returns-clause-progress g c = λ few.
+returns-clause-progress g c =
     let finished = c.in_ok-finished.finished in
-    progress finished.jobs.items (flat_map (λ log. log) c.in_ok-logs.logs.items) c.in_ok-list.list c.args.options.now.ranks finished.sums.items
-    c.in_ok-finished.ensures.progress (c.in_ok-finished.ensures.jobs ∙ c.in_ok-jobs.ensures.number) c.in_ok-logs.ensures.logs c.in_ok-list.ensures.all few
+    let ranks = c.args.options.now.ranks in
+    subst (λ list. length list < 2 ^ 56 → IsProgressTo (length list) ranks finished.sums.items) (sym c.split-list.ensures.found)
+    (λ few. progress finished.jobs.items (flat_map (λ log. log) c.in_ok-logs.logs.items) c.in_ok-found.found ranks finished.sums.items
+    c.in_ok-finished.ensures.progress (c.in_ok-finished.ensures.jobs ∙ c.in_ok-jobs.ensures.number) c.in_ok-logs.ensures.logs
+    c.in_ok-found.ensures.all few)

@@ -33,6 +33,9 @@ returns-in-Some g c =
         asked = refl;
         tried = refl;
         here = ap (λ (s : Shown). s.here) shown;
+        stopped = refl;
+        halted = ap (λ (s : Shown). s.halted) shown;
+        knows_halt = ap (λ (s : Shown). s.knows_halt) shown;
         lost = λ l. c.note.ensures.lost (ap (λ (b : Book). b.lost) had ∙ l);
         awaits = awaits_given (g.P.Post.shows c.args.self.now.seat) (g.P.Post.shows c.give.new.seat) (g.P.Post.tells c.args.post.now)
             (g.P.Post.tells c.give.new.self) c.args.to c.in-Some.batch shown c.give.ensures.told c.requires.awaits;
@@ -75,6 +78,9 @@ returns-in-None g c =
         asked = refl;
         tried = refl;
         here = ap (λ (s : Shown). s.here) shown;
+        stopped = refl;
+        halted = ap (λ (s : Shown). s.halted) shown;
+        knows_halt = ap (λ (s : Shown). s.knows_halt) shown;
         lost = writes.lost;
         awaits = awaits_refused (g.P.Post.shows c.args.self.now.seat) (g.P.Post.shows c.refuse.new.seat) (g.P.Post.tells c.args.post.now)
             (g.P.Post.tells c.refuse.new.self) c.args.to shown c.refuse.ensures.told c.requires.awaits;

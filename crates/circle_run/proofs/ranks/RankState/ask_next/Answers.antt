@@ -1,4 +1,5 @@
-use Rattle.std.proofs.Common.{◌≡◌, ap, ◌∙◌, refl, arith, rules, length}
+use Rattle.std.proofs.Common.{◌≡◌, ap, ◌∙◌, refl, inl, arith, rules, length}
+use Rattle.circle_run.specs.Moves.{did}
 use Rattle.post_board.specs.Shown.{Shown, is_served}
 use Rattle.post_board.specs.Deeds.{ask}
 use Rattle.circle_run.specs.Choices.{to_ask}
@@ -22,7 +23,8 @@ returns-clause-came g c = record {
   lost = c.note.ensures.lost;
   went = went_did g.J.Job.log g.J.Job.plain g.P.Post.shows g.P.Post.tells g.P.Post.seats (Follows DidAct c.args.self.now.me to_ask) _ _ _ _
       (ask c.victim-victim.result)
-      (record { acts = (ask c.victim-victim.result, refl); chosen = (c.victim-victim.result, refl) }) c.note.ensures (record {
+      (record { acts = (did (ask c.victim-victim.result), inl (ask c.victim-victim.result, refl), refl); chosen = (c.victim-victim.result, refl) })
+      c.note.ensures (record {
         queue = (c.requires.empty, c.requires.empty);
         names = tt;
         few = (let q = c.requires.empty in let n : length c.args.self.now.queue ≡ 0 = ap length q in omega arith);

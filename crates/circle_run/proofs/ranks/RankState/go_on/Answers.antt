@@ -12,5 +12,5 @@ returns-then-len-gt0-clause-came g c =
     let x = standing c.args.ring r in
     let some : 0 < length r.queue = omega (arith, c.if-len-gt0.true, c.len.ensures) in
     came_handled g.J.Job.log g.J.Job.plain g.P.Post.shows g.P.Post.tells g.P.Post.seats (Follows DidHandle r.me (choice r.options.ranks x)) _ _ _
-    (λ path kids. follows_handled r.options.ranks r.me x path kids some) c.requires.knows c.requires.seat c.requires.none c.requires.live some
+    (λ path kids. follows_handled r.options.ranks r.me x path kids some) c.requires.may c.requires.knows c.requires.seat c.requires.none c.requires.live some
     (g.met.P.Post.agrees c.args.post.now c.args.self.now.seat c.requires.seat) c.requires.unasked c.handle_newest.ensures.newest

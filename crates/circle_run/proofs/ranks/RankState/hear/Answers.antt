@@ -5,6 +5,7 @@ use Rattle.post_board.specs.declared.answers.Ring.{Ring}
 use Rattle.circle_run.specs.Moves.{did}
 use Rattle.circle_run.specs.Private.Steps.{Heard}
 use Rattle.circle_run.proofs.Stepped.{tells_as, went_did}
+use Rattle.circle_run.proofs.Choosing.{halt_read, knows_read}
 use Rattle.circle_run.proofs.ranks.RankState.hear.Goals as goal
 
 pub returns-in-Over-clause-came : goal.returns-in-Over-clause-came
@@ -32,3 +33,11 @@ returns-in-Over-clause-came g c = record {
             (g.P.Post.tells c.ring-ring.new.self) c.requires.knows.number refl c.in-Over.ensures.told;
       });
 }
+
+pub returns-in_default-clause-told : goal.returns-in_default-clause-told
+returns-in_default-clause-told g c = λ is. halt_read c.ring-ring.result (g.P.Post.shows c.args.self.now.seat) (g.P.Post.tells c.args.post.now)
+    (g.P.Post.tells c.ring-ring.new.self) is c.ring-ring.ensures.told
+
+pub returns-in_default-clause-knows_halt : goal.returns-in_default-clause-knows_halt
+returns-in_default-clause-knows_halt g c = λ is. knows_read c.ring-ring.result (g.P.Post.shows c.args.self.now.seat) (g.P.Post.shows c.ring-ring.new.seat) is
+    c.ring-ring.ensures.shown

@@ -1,10 +1,14 @@
-use Rattle.std.proofs.Common.{◌≡◌, ℕ, ◌+◌, ap, sym, ◌∙◌, subst, length}
+use Rattle.std.proofs.Common.{◌≡◌, ℕ, ◌+◌, ap, sym, ◌∙◌, subst, length, Bool, true, false, refl, Some}
+use Rattle.circle_run.specs.declared.settings.Options.{Options}
 use Rattle.circle_run.specs.Private.Steps.{Came}
 use Rattle.circle_run.specs.Turns.{Waits}
+use Rattle.circle_run.specs.Moves.{MayHandle}
 use Rattle.circle_run.specs.Private.Steps.{Works}
 use Rattle.circle_run.specs.declared.steps.Did.{Did}
-use Rattle.circle_run.proofs.Stepped.{waited_alone, handled_still, handled_before}
-use Rattle.circle_run.proofs.Choosing.{came_worked}
+use Rattle.circle_run.proofs.Stepped.{waited_alone, handled_still, handled_before, stopped_before}
+use Rattle.circle_run.proofs.Choosing.{came_worked, came_wound, halts_is, goes_neither, halt_unless_due, not_halted_ring}
+use Rattle.circle_run.proofs.Bounding.{bounded, may_handle, has_all, not_halted}
+use Rattle.circle_run.proofs.Asked.{true_not_false}
 use Rattle.circle_run.proofs.ranks.RankState.work.Goals as goal
 
 pub returns : goal.returns
@@ -19,35 +23,113 @@ returns g c =
     let some = c.serve-some.result in
     let did = c.go_on-did.result in
     let log : g.J.Job.log c.serve-some.new.self.job ≡ g.J.Job.log r.job = ap g.J.Job.log (served.job ∙ heard.job) in
+    let early = (goes_neither c.has_done_all-due.result c.is_to_halt-halts.result c.hear-ring.result c.is_to_halt-halts.ensures c.if-halts.false).0 in
+    let came = subst (λ (d : Did). Came g.J.Job.log g.J.Job.plain g.P.Post.shows g.P.Post.tells g.P.Post.seats
+    (Works g.J.Job.heard g.P.Post.shows g.P.Post.tells d r c.args.post.now last) r c.args.post.now last board) (sym same)
+    (came_worked g.J.Job.log g.J.Job.heard g.J.Job.plain g.P.Post.shows g.P.Post.tells g.P.Post.seats c.hear-ring.result some did
+    (record {
+      r = r;
+      p = c.args.post.now;
+      r1 = c.hear-ring.new.self;
+      p1 = c.hear-ring.new.post;
+      r2 = c.serve-some.new.self;
+      p2 = c.serve-some.new.post;
+      queue = c.settle.new.queue;
+      r3 = last;
+      p3 = board;
+    })
+    (record {
+      more = c.in_default.not-Over;
+      goes_on = halts_is c.hear-ring.result r c.has_done_all-due.result c.is_to_halt-halts.result false c.has_done_all-due.ensures.done
+          c.is_to_halt-halts.ensures c.if-halts.false;
+      read = heard.read;
+      queue_is = ap (λ (x : _). x.queue) heard.same;
+      asked = served.asked ∙ ap (λ (x : _). x.asked) heard.same;
+      tried = served.tried ∙ ap (λ (x : _). x.tried) heard.same;
+      lost = c.settle.ensures.lost;
+      kept = c.settle.ensures.kept;
+      job = served.job ∙ heard.job;
+      held = went.held;
+      heard_is = went.heard;
+    }) heard.came served.came went.came) in
     record {
-      came = subst (λ (d : Did). Came g.J.Job.log g.J.Job.plain g.P.Post.shows g.P.Post.tells g.P.Post.seats
-          (Works g.J.Job.heard g.P.Post.shows g.P.Post.tells d r c.args.post.now last) r c.args.post.now last board) (sym same)
-          (came_worked g.J.Job.log g.J.Job.heard g.J.Job.plain g.P.Post.shows g.P.Post.tells g.P.Post.seats c.hear-ring.result some did
-          (record {
-            r = r;
-            p = c.args.post.now;
-            r1 = c.hear-ring.new.self;
-            p1 = c.hear-ring.new.post;
-            r2 = c.serve-some.new.self;
-            p2 = c.serve-some.new.post;
-            queue = c.settle.new.queue;
-            r3 = last;
-            p3 = board;
-          })
-          (record {
-            more = c.in_default.not-Over;
-            read = heard.read;
-            queue_is = ap (λ (x : _). x.queue) heard.same;
-            asked = served.asked ∙ ap (λ (x : _). x.asked) heard.same;
-            tried = served.tried ∙ ap (λ (x : _). x.tried) heard.same;
-            lost = c.settle.ensures.lost;
-            kept = c.settle.ensures.kept;
-            job = served.job ∙ heard.job;
-            held = went.held;
-            heard_is = went.heard;
-          }) heard.came served.came went.came);
+      came = came;
+      bounded = λ found.
+          let w = came.went found in
+          let b = c.requires.bounded w.had in
+          bounded g.J.Job.log g.J.Job.plain g.P.Post.shows g.P.Post.tells g.P.Post.seats _ r c.args.post.now last board came.options w b
+          (λ halted. absurd (not_halted g.J.Job.log g.P.Post.shows r b c.has_done_all-due.ensures.few (sym c.has_done_all-due.ensures.done ∙ early)
+          (sym heard.halted ∙ sym served.halted ∙ sym went.halted ∙ halted)))
+          (λ stopped. absurd (true_not_false last.stopped stopped went.goes.1));
       waits = λ e. subst (λ (k : ℕ). Waits k (g.P.Post.tells board)) (went.came.me ∙ served.came.me ∙ heard.came.me)
           (went.waits (waited_alone some did (sym same ∙ e)));
       handled = λ e found. went.handled (handled_before some did (sym same ∙ e)) found ∙ ap (λ (l : _). length l + 1) log;
       other = λ ne. went.other (λ e. ne (same ∙ handled_still some did e)) ∙ log;
+      stopped = λ e. absurd (went.goes.0 (stopped_before some did (sym same ∙ e)));
+      goes = λ ne. went.goes.1;
     }
+
+pub returns-then-halts : goal.returns-then-halts
+returns-then-halts g c =
+    let r = c.args.self.now in
+    let heard = c.hear-ring.ensures in
+    let wound = c.wind_up.ensures in
+    let last = c.wind_up.new.self in
+    let board = c.wind_up.new.post in
+    let log : g.J.Job.log last.job ≡ g.J.Job.log r.job = ap g.J.Job.log (wound.job ∙ heard.job) in
+    let came = came_wound g.J.Job.log g.J.Job.heard g.J.Job.plain g.P.Post.shows g.P.Post.tells g.P.Post.seats c.hear-ring.result
+    c.has_done_all-due.result c.wind_up.result r c.args.post.now c.hear-ring.new.self c.hear-ring.new.post last board c.in_default.not-Over heard.read
+    (halts_is c.hear-ring.result r c.has_done_all-due.result c.is_to_halt-halts.result true c.has_done_all-due.ensures.done
+    c.is_to_halt-halts.ensures c.if-halts.true) c.has_done_all-due.ensures.done (ap (λ (x : _). x.asked) heard.same) (wound.job ∙ heard.job)
+    heard.came wound.came in
+    record {
+      came = came;
+      bounded = λ found.
+          let w = came.went found in
+          let b = c.requires.bounded w.had in
+          bounded g.J.Job.log g.J.Job.plain g.P.Post.shows g.P.Post.tells g.P.Post.seats _ r c.args.post.now last board came.options w b
+          (λ halted. elim c.has_done_all-due.result as
+          (λ (d : Bool). c.has_done_all-due.result ≡ d → last.options.stop_after ≡ Some (length (g.J.Job.log last.job))) [
+            | true ↦ λ due. ap (λ (o : Options). o.stop_after) came.options
+                ∙ has_all g.J.Job.log g.P.Post.shows r b (sym c.has_done_all-due.ensures.done ∙ due)
+                ∙ ap (λ (l : _). Some (length l)) (sym log)
+            | false ↦ λ due. ap (λ (o : Options). o.stop_after) came.options ∙ b.halts (sym heard.halted ∙ sym (wound.halts due) ∙ halted)
+                ∙ ap (λ (l : _). Some (length l)) (sym log)
+          ] refl)
+          (λ stopped. wound.knows_halt);
+      waits = λ e. subst (λ (k : ℕ). Waits k (g.P.Post.tells board)) (wound.came.me ∙ heard.came.me) (wound.waits e);
+      handled = λ e. absurd (wound.other e);
+      other = λ ne. log;
+      stopped = wound.stopped;
+      goes = wound.goes;
+    }
+
+pub go_on-did-requires-clause-halt : goal.go_on-did-requires-clause-halt
+go_on-did-requires-clause-halt g c = not_halted_ring c.hear-ring.result
+    (goes_neither c.has_done_all-due.result c.is_to_halt-halts.result c.hear-ring.result c.is_to_halt-halts.ensures c.if-halts.false).1
+
+pub go_on-did-requires-clause-may : goal.go_on-did-requires-clause-may
+go_on-did-requires-clause-may g c = λ found.
+    let r = c.args.self.now in
+    let early = (goes_neither c.has_done_all-due.result c.is_to_halt-halts.result c.hear-ring.result c.is_to_halt-halts.ensures c.if-halts.false).0 in
+    let served = c.serve-some.ensures in
+    let heard = c.hear-ring.ensures in
+    let had = (heard.came.went (served.came.went found).had).had in
+    let may = may_handle g.J.Job.log g.P.Post.shows r (c.requires.bounded had) c.has_done_all-due.ensures.few
+    (sym c.has_done_all-due.ensures.done ∙ early) in
+    subst (λ (j : _). MayHandle c.serve-some.new.self.options (length (g.J.Job.log j))) (sym (served.job ∙ heard.job))
+    (subst (λ (o : Options). MayHandle o (length (g.J.Job.log r.job))) (sym (served.came.options ∙ heard.came.options)) may)
+
+pub wind_up-requires-clause-halted : goal.wind_up-requires-clause-halted
+wind_up-requires-clause-halted g c = λ early.
+    let is = halt_unless_due c.has_done_all-due.result c.is_to_halt-halts.result c.hear-ring.result c.is_to_halt-halts.ensures c.if-halts.true early in
+    (c.hear-ring.ensures.told is, c.hear-ring.ensures.knows_halt is)
+
+pub wind_up-requires-clause-due : goal.wind_up-requires-clause-due
+wind_up-requires-clause-due g c = λ due found.
+    let r = c.args.self.now in
+    let heard = c.hear-ring.ensures in
+    let had = (heard.came.went found).had in
+    ap (λ (o : Options). o.stop_after) heard.came.options
+    ∙ has_all g.J.Job.log g.P.Post.shows r (c.requires.bounded had) (sym c.has_done_all-due.ensures.done ∙ due)
+    ∙ ap (λ (j : _). Some (length (g.J.Job.log j))) (sym heard.job)

@@ -1,6 +1,6 @@
 use Rattle.std.proofs.Common.{◌≡◌, ◌∙◌, refl, ap, arith, [], ◌∷◌, ◌++◌, length}
 use Rattle.post_board.specs.BoardSteps.{SeatState}
-use Rattle.post_board.proofs.GatherLemmas.{begun, fits, went_on, squares_of}
+use Rattle.post_board.proofs.GatherLemmas.{begun, fits, went_on, squares_of, halters_of}
 use Rattle.post_board.proofs.board_posts.RefBoardPost.gather.Goals as goal
 
 pub loop-other-init : goal.loop-other-init
@@ -58,3 +58,10 @@ returns-clause-batches c =
     let none : length c.loop-other.all.items ≡ 0 = (let a = c.in_default-pop.ensures.cases in let b = c.loop-other.all.ok in omega arith) in
     squares_of c.args.self.now.now c.args.all.items c.requires.all c.loop-other.all.items c.loop-other.first.me.0 c.loop-other.over inv.together none
     c.settle_step.ensures.squares
+
+pub returns-clause-halters : goal.returns-clause-halters
+returns-clause-halters c =
+    let inv = c.loop-other.invariant in
+    let none : length c.loop-other.all.items ≡ 0 = (let a = c.in_default-pop.ensures.cases in let b = c.loop-other.all.ok in omega arith) in
+    halters_of c.args.self.now.now c.args.all.items c.requires.all c.loop-other.all.items c.loop-other.first.me.0 c.loop-other.over inv.together none
+    c.settle_step.ensures.halters

@@ -26,7 +26,7 @@ returns c =
     let noted : Noted (set ranks r (record rank { mailbox = Served seat.number })) c.take_away.new.self.masks.items =
     subst (Noted _) (sym c.take_away.ensures)
     (noted_taken ranks masks c.requires.seat.1 r c.requires.asks.0 (record rank { mailbox = Served seat.number }) seat.number fits.inside
-    (wants_is (plain ranks r).mailbox seat.number c.requires.asks.2) refl) in
+    (wants_is (plain ranks r).mailbox seat.number c.requires.asks.2) (λ w. refl)) in
     let halts = c.requires.seat.2 in
     let halter = c.args.self.now.halter in
     let stops = c.args.self.now.stops.items in
@@ -38,6 +38,6 @@ returns c =
     record {
       shown = refl;
       told = ap (worded halter stops) done.0;
-      mine = (done.1, noted, keeps seat (record seat { serves = with_item seat.serves r true }) halts refl refl refl);
-      others = λ o ne b. (done.2 o ne b.0, noted, keeps o o b.2 refl refl refl);
+      mine = (done.1, noted, keeps seat (record seat { serves = with_item seat.serves r true }) halts (refl, refl, refl, refl));
+      others = λ o ne b. (done.2 o ne b.0, noted, keeps o o b.2 (refl, refl, refl, refl));
     }

@@ -1,4 +1,4 @@
-use Rattle.std.proofs.Common.{◌≡◌, ap, refl, sym, ◌∙◌}
+use Rattle.std.proofs.Common.{◌≡◌, ap, refl, sym, ◌∙◌, inl}
 use Rattle.std.proofs.lemmas.List.{get_or_read}
 use Rattle.post_board.specs.Plain.{no_rank, plain}
 use Rattle.post_board.proofs.PlainDeeds.{take_left, none_left}
@@ -29,7 +29,7 @@ returns-in-Holds c =
     (noted_same ranks masks N seat.number fits.inside _ (λ v. ap (λ (d : PlainMailbox). wants d v) c.replace.ensures.after
     ∙ sym (ap (λ (y : PlainRank). wants y.mailbox v) (sym read) ∙ ap (λ (d : PlainMailbox). wants d v) (sym c.replace.ensures.value ∙ c.in-Holds.is))))
     halts (keeps_put halter stops ranks seat.number _ (halts.own ∙ c.requires.live.1)
-    (λ k e. (let lies : Rest ≡ Served k = sym c.replace.ensures.after ∙ e in cc))) (refl, refl, refl) in
+    (λ k e. (let lies : Rest ≡ Served k = sym c.replace.ensures.after ∙ e in cc))) (refl, refl, refl, refl) in
     record { shown = refl; still = λ e. cc; told = done.told; reads = refl; mine = done.mine; others = done.others }
 
 pub returns-in-Refused : goal.returns-in-Refused
@@ -51,5 +51,5 @@ returns-in-Refused c =
     (noted_same ranks masks N seat.number fits.inside _ (λ v. ap (λ (d : PlainMailbox). wants d v) c.replace.ensures.after
     ∙ sym (ap (λ (y : PlainRank). wants y.mailbox v) (sym read) ∙ ap (λ (d : PlainMailbox). wants d v) (sym c.replace.ensures.value ∙ c.in-Refused.is))))
     halts (keeps_put halter stops ranks seat.number _ (halts.own ∙ c.requires.live.1)
-    (λ k e. (let lies : Rest ≡ Served k = sym c.replace.ensures.after ∙ e in cc))) (refl, refl, refl) in
-    record { shown = refl; still = λ e. cc; told = done.told; reads = refl; mine = done.mine; others = done.others }
+    (λ k e. (let lies : Rest ≡ Served k = sym c.replace.ensures.after ∙ e in cc))) (refl, refl, refl, refl) in
+    record { shown = refl; still = λ e. cc; told = inl done.told; reads = refl; mine = done.mine; others = done.others }

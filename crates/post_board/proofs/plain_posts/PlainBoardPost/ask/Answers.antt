@@ -26,5 +26,5 @@ returns c =
     (subst (Noted _) (sym c.add.ensures) (noted_asks ranks masks N seat.number fits.inside
     (record rank { busy = false; mailbox = Wants c.args.victim }) c.args.victim (subst (λ (n : ℕ). c.args.victim < n) fits.sized c.requires.victim.0)
     (rests ranks c.args.self.now.token seat fits c.requires.free.0) refl))
-    halts (keeps_put halter stops ranks seat.number _ (halts.own ∙ c.requires.live.1) (λ k e. cc)) (refl, refl, refl) in
+    halts (keeps_put halter stops ranks seat.number _ (halts.own ∙ c.requires.live.1) (λ k e. cc)) (refl, refl, refl, refl) in
     record { shown = refl; still = λ e. cc; told = done.told; reads = refl; mine = done.mine; others = done.others }

@@ -24,5 +24,5 @@ returns c =
     (conclude_deed ranks c.args.self.now.token seat rank read c.requires.seat.0 c.requires.live.0 c.requires.free.0 c.requires.here c.requires.tried
     c.requires.first c.requires.white)
     (noted_same ranks masks N seat.number fits.inside _ (λ v. ap (λ (y : PlainRank). wants y.mailbox v) read))
-    halts (keeps_own halter stops ranks seat _ halts c.requires.live.1 (ap (λ (y : PlainRank). y.mailbox) read)) (refl, refl, refl) in
+    halts (keeps_own halter stops ranks seat _ halts c.requires.live.1 (ap (λ (y : PlainRank). y.mailbox) read)) (refl, refl, refl, refl) in
     record { shown = refl; still = λ e. cc; told = done.told; reads = refl; mine = done.mine; others = done.others }

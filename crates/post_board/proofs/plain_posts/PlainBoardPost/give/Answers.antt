@@ -46,5 +46,5 @@ returns c =
     halts (keeps_then halter stops ranks changed _
     (keeps_own halter stops ranks seat _ halts c.requires.live.1 (ap (λ (y : PlainRank). y.mailbox) read))
     (keeps_put halter stops changed to _ (serves_on halter stops ranks seat to halts (λ e. (let rests : Served seat.number ≡ Rest = sym lies ∙ e in cc)))
-    (λ k e. cc))) (refl, refl, refl) in
+    (λ k e. cc))) (refl, refl, refl, refl) in
     record { shown = search rules; still = λ e. cc; told = done.told; reads = refl; mine = done.mine; others = done.others }

@@ -31,5 +31,5 @@ returns c =
     (λ v. ap (λ (d : PlainMailbox). wants d v) (sym (fits.serves to c.requires.served))))
     halts (keeps_put halter stops ranks to _
     (serves_on halter stops ranks seat to halts
-    (λ e. (let lies : Served seat.number ≡ Rest = sym (fits.serves to c.requires.served) ∙ e in cc))) (λ k e. cc)) (refl, refl, refl) in
+    (λ e. (let lies : Served seat.number ≡ Rest = sym (fits.serves to c.requires.served) ∙ e in cc))) (λ k e. cc)) (refl, refl, refl, refl) in
     record { shown = refl; still = λ e. cc; told = done.told; reads = refl; mine = done.mine; others = done.others }

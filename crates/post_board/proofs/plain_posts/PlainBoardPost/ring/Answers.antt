@@ -1,4 +1,4 @@
-use Rattle.std.proofs.Common.{◌≡◌, ap, refl}
+use Rattle.std.proofs.Common.{◌≡◌, ap, refl, inr}
 use Rattle.std.proofs.lemmas.List.{get_or_read}
 use Rattle.post_board.specs.Plain.{no_rank, plain}
 use Rattle.post_board.proofs.PlainDeeds.{over_deed, over_quiet}
@@ -24,11 +24,12 @@ returns-in-Over c =
     let done = done_by
     (over_deed ranks token seat rank read c.in-Over.is c.requires.seat.0 c.requires.live.0)
     (noted_same ranks masks N seat.number fits.inside _ (λ v. ap (λ (y : PlainRank). wants y.mailbox v) read))
-    halts (keeps_own halter stops ranks seat _ halts c.requires.live.1 (ap (λ (y : PlainRank). y.mailbox) read)) (refl, refl, refl) in
+    halts (keeps_own halter stops ranks seat _ halts c.requires.live.1 (ap (λ (y : PlainRank). y.mailbox) read)) (refl, refl, refl, refl) in
     record {
       shown = refl;
       over = λ _. over_quiet ranks token seat c.requires.seat.0 c.in-Over.is;
       elsewhere = λ e. cc;
+      halted = λ _. inr refl;
       still = λ e. cc;
       told = done.told;
       reads = refl;

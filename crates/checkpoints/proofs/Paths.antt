@@ -1,0 +1,54 @@
+-- The paths of a checkpoint's files: that of the list file stands in the folder, and is none of the ranks'.
+use Rattle.std.proofs.Common.{◌≡◌, ℕ, ◌+◌, ◌<◌, ◌≤◌, ◌^◌, zero, suc, false, cond, eqb, None, List, ◌++◌, length, get_or, refl, ap, sym, ◌∙◌, arith}
+use Rattle.std.specs.Prelude.{codes, nat_eq}
+use Rattle.std.specs.Bool.{IsTrue}
+use Rattle.std.specs.Fmt.{decimal}
+use Rattle.std.specs.Cmp.Lexicographic.{pointwise}
+use Rattle.std.proofs.lemmas.Fmt.{decimal_digit, decimal_nonempty, first_decimal}
+use Rattle.std.proofs.lemmas.List.{append_cancel_left, get_or_append_left}
+use Rattle.path_text.specs.Path.{refusal, is_name, parent_of}
+use Rattle.path_text.proofs.Joined.{joined_length}
+use Rattle.circle_lists.specs.Checkpoint.{file_name, file_path}
+use Rattle.circle_lists.proofs.Places.{parent_is, differ, same_name}
+use Rattle.checkpoints.specs.Kept.{list_path}
+
+pub name_fine : IsTrue (is_name (codes "circle.list"))
+name_fine = refl
+
+-- ---- the list file's is none of the ranks'
+
+first_digit : (n : ℕ) → n < 2 ^ 64 → 48 ≤ get_or (decimal n) 0 0
+first_digit zero l = omega (arith, ap (λ ds. get_or ds 0 0) (decimal_digit 0 (omega arith)))
+first_digit (suc n) l = let first = first_decimal (suc n) (omega arith) l in omega (arith, first)
+
+names_differ : (rank : ℕ) → rank < 64 → codes "circle.list" ≡ file_name rank → ⊥
+names_differ rank few same =
+    let small : rank < 2 ^ 64 = omega (arith, few) in
+    let ends : codes ".list" ≡ decimal rank ++ codes ".txt" = append_cancel_left (codes "circle") _ _ same in
+    let firsts : 46 ≡ get_or (decimal rank ++ codes ".txt") 0 0 = ap (λ bytes. get_or bytes 0 0) ends in
+    let first = get_or_append_left (decimal rank) (codes ".txt") 0 0 (decimal_nonempty rank small) in
+    absurd (omega (arith, firsts, first, first_digit rank small))
+
+pub list_differs : (dir : List ℕ) (rank : ℕ) → rank < 64 → pointwise nat_eq (list_path dir) (file_path dir rank) ≡ false
+list_differs dir rank few =
+    differ (list_path dir) (file_path dir rank) (λ same. names_differ rank few (same_name dir (codes "circle.list") (file_name rank) same))
+
+pub file_differs : (dir : List ℕ) (rank : ℕ) → rank < 64 → pointwise nat_eq (file_path dir rank) (list_path dir) ≡ false
+file_differs dir rank few =
+    differ (file_path dir rank) (list_path dir) (λ same. names_differ rank few (sym (same_name dir (file_name rank) (codes "circle.list") same)))
+
+-- ---- it stands in the folder
+
+pub parent_of_list : (dir : List ℕ) → refusal dir ≡ None → parent_of (list_path dir) ≡ dir
+parent_of_list dir fine = parent_is dir (codes "circle.list") fine refl
+
+-- ---- it is as long as that of rank 0
+
+first_name : length (file_name 0) ≡ 11
+first_name = ap (λ digits. length (codes "circle" ++ (digits ++ codes ".txt"))) (decimal_digit 0 (omega arith))
+
+pub as_long : (dir : List ℕ) → length (list_path dir) ≡ length (file_path dir 0)
+as_long dir =
+    joined_length dir (codes "circle.list")
+    ∙ ap (λ n. cond (eqb (length dir) 1) (length dir + n) (length dir + (n + 1))) (sym first_name)
+    ∙ sym (joined_length dir (file_name 0))

@@ -1,0 +1,8 @@
+use Rattle.std.specs.Option.{option_copied}
+use Rattle.checkpoints.specs.Lefts.{numbered}
+use Rattle.checkpoints.proofs.Looked.{Stands}
+use Rattle.checkpoints.proofs.placing.lowest_misplaced.Given as goal
+
+abbrev pub invariant-loop-at : goal.invariant-loop-at
+invariant-loop-at l =
+    Stands l.done (numbered l.lefts) (record { at = l.at; ahead = l.ahead; closed = l.closed; above = option_copied l.above; lowest = l.lowest })

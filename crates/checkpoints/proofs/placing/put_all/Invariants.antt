@@ -1,0 +1,7 @@
+use Rattle.std.proofs.Common.{◌≡◌, ◌++◌, length, take}
+use Rattle.std.specs.List.{enumerate_from}
+use Rattle.checkpoints.specs.Lefts.{numbered}
+use Rattle.checkpoints.proofs.placing.put_all.Given as goal
+
+abbrev pub invariant-loop-path : goal.invariant-loop-path
+invariant-loop-path l = numbered l.lefts.items ≡ numbered l.fn.lefts.items ++ enumerate_from (length l.fn.lefts.items) (take l.path-index l.list)

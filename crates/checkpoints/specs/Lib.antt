@@ -1,0 +1,6 @@
+pub mod Placing
+pub mod Passing
+pub mod Lefts
+pub mod Kept
+pub mod Stopping
+pub mod Laws

@@ -1,0 +1,105 @@
+//! What a rank does that is to halt.
+ghost use Rattle.std.specs.Prelude.{◌≡◌, ◌≢◌, ◌-◌, ◌^◌, ◌≤◌, ◌⊎◌, ◌||◌, length, true, false, Some, None, IfSome};
+ghost use Rattle.circle_run.specs.Choices.{has_done_all, is_halt};
+ghost use Rattle.circle_run.specs.Moves.{IsHalted};
+ghost use Rattle.circle_run.specs.Ranks.{Knows, ServesNone};
+ghost use Rattle.circle_run.specs.Private.Steps.{Came, Halts, Ends, WoundUp};
+ghost use Rattle.circle_run.specs.Turns.{Waits};
+ghost use Rattle.circle_run.specs.declared.steps.Did.TheVariants.{Handled as DidHandle, Waited as DidWait, Stopped as DidStop};
+
+use crate::jobs::Job;
+use crate::ranks::RankState;
+use crate::steps::Did;
+use crate::turns::in_all;
+use post_board::{Post, Ring};
+
+impl<J: Job, S, T> RankState<J, S, T> {
+    /// Whether it has handled all that it may.
+    pub(crate) fn has_done_all(&self) -> bool
+        ensures done { result ≡ has_done_all self.now }
+        ensures few { IfSome self.now.options.stop_after (λ k. k ≤ 2 ^ 64 - 1) }
+    {
+        match self.options.stop_after {
+            None => false,
+            Some(k) => k <= self.book.share.handled,
+        }
+    }
+
+    /// Refuses all that ask. Then it looks for the answer to its open request, or stops where it has none. A rank that has handled
+    /// all that it may tells all to halt first.
+    pub(crate) fn wind_up<P: Post<Seat = S>>(&mut self, post: &mut P, due: bool) -> Did
+        requires seat { P.seats post.old self.old.seat }
+        requires knows { Knows P.shows self.old }
+        requires none { ServesNone P.shows self.old }
+        requires live { self.old.ended ≡ false }
+        requires going { self.old.stopped ≡ false }
+        requires due { due ≡ true → self.old.book.lost ≡ false → self.old.options.stop_after ≡ Some (length (J.log self.old.job)) }
+        requires halted { due ≡ false → IsHalted (P.tells post.old) × ((P.shows self.old.seat).knows_halt ≡ true) }
+        ensures came { Came J.log J.plain P.shows P.tells P.seats (WoundUp result self.old.options self.old.me due self.old.asked) self.old post.old self.new post.new }
+        ensures job { self.new.job ≡ self.old.job }
+        ensures waits { result ≡ DidWait → Waits self.new.me (P.tells post.new) }
+        ensures other { result ≢ DidHandle }
+        ensures stopped { result ≡ DidStop → self.new.stopped ≡ true }
+        ensures goes { result ≢ DidStop → self.new.stopped ≡ false }
+        ensures halts { due ≡ false → (P.shows self.new.seat).halted ≡ (P.shows self.old.seat).halted }
+        ensures knows_halt { ((P.shows self.new.seat).halted ≡ true) ⊎ ((P.shows self.new.seat).knows_halt ≡ true) }
+    {
+        self.tell_halt(post, due);
+        let gives = self.options.stop_after.is_none();
+        let some = self.serve(post, gives);
+        let did = self.close(post);
+        in_all(some, did)
+    }
+
+    /// Tells all to halt, where that is due.
+    fn tell_halt<P: Post<Seat = S>>(&mut self, post: &mut P, due: bool)
+        requires seat { P.seats post.old self.old.seat }
+        requires knows { Knows P.shows self.old }
+        requires none { ServesNone P.shows self.old }
+        requires live { self.old.ended ≡ false }
+        requires going { self.old.stopped ≡ false }
+        requires due { due ≡ true → self.old.book.lost ≡ false → self.old.options.stop_after ≡ Some (length (J.log self.old.job)) }
+        requires halted { due ≡ false → IsHalted (P.tells post.old) × ((P.shows self.old.seat).knows_halt ≡ true) }
+        ensures came { Came J.log J.plain P.shows P.tells P.seats (Halts due) self.old post.old self.new post.new }
+        ensures same { self.new ≡ record self.old { seat = self.new.seat } }
+        ensures told { IsHalted (P.tells post.new) }
+        ensures halts { due ≡ false → (P.shows self.new.seat).halted ≡ (P.shows self.old.seat).halted }
+        ensures knows_halt { ((P.shows self.new.seat).halted ≡ true) ⊎ ((P.shows self.new.seat).knows_halt ≡ true) }
+    {
+        if due {
+            post.halt(&mut self.seat);
+        }
+    }
+
+    /// Looks for the answer to its open request, or stops where it has none.
+    fn close<P: Post<Seat = S>>(&mut self, post: &mut P) -> Did
+        requires seat { P.seats post.old self.old.seat }
+        requires knows { Knows P.shows self.old }
+        requires none { ServesNone P.shows self.old }
+        requires live { self.old.ended ≡ false }
+        requires going { self.old.stopped ≡ false }
+        requires halted { self.old.book.lost ≡ false → IsHalted (P.tells post.old) }
+        ensures came { Came J.log J.plain P.shows P.tells P.seats (Ends result self.old.me self.old.asked) self.old post.old self.new post.new }
+        ensures job { self.new.job ≡ self.old.job }
+        ensures waits { result ≡ DidWait → Waits self.new.me (P.tells post.new) }
+        ensures other { result ≢ DidHandle }
+        ensures stopped { result ≡ DidStop → self.new.stopped ≡ true }
+        ensures goes { result ≢ DidStop → self.new.stopped ≡ false }
+        ensures halted { (P.shows self.new.seat).halted ≡ (P.shows self.old.seat).halted }
+        ensures knows_halt { (P.shows self.new.seat).knows_halt ≡ (P.shows self.old.seat).knows_halt }
+    {
+        if let Some(victim) = self.asked {
+            return self.look(post, victim);
+        }
+        post.stop(&mut self.seat);
+        self.stopped = true;
+        Did::Stopped
+    }
+}
+
+/// Whether a rank is to halt that has handled all that it may, or that reads this of the ring.
+pub(crate) fn is_to_halt(due: bool, ring: Ring) -> bool
+    ensures { result ≡ (due || is_halt ring) }
+{
+    due || matches!(ring, Ring::Halted)
+}

@@ -1,0 +1,4 @@
+pub mod Children
+pub mod Local
+pub mod Restart
+pub mod Sorts

@@ -1,0 +1,108 @@
+use Rattle.std.proofs.Common.{◌≡◌, ◌≢◌, ◌∙◌, ◌+◌, ◌*◌, ◌⊎◌, ⊎_elim, sym, ap, arith, true, false}
+use Rattle.post_board.specs.Words.{asking, serving, full, emptied, sign, has_bit}
+use Rattle.post_board.specs.BoardSteps.{SeatState, knowing, learn, after_rest}
+use Rattle.post_board.specs.LateSteps.{stop_seen}
+use Rattle.post_board.specs.declared.board_views.OwnMailbox.TheVariants.{Open, Filled, Emptied}
+use Rattle.post_board.proofs.WordLemmas.{sign_of_word}
+use Rattle.post_board.proofs.CallLemmas.{pending, full_word, learn_full, learn_empty, learn_none}
+use Rattle.post_board.proofs.FindLemmas.{stops_open, looked}
+use Rattle.post_board.proofs.boards.Board.find.Goals as goal
+
+pub look_step-found-requires-clause-open : goal.look_step-found-requires-clause-open
+look_step-found-requires-clause-open c = (
+  c.args.victim,
+  ap (λ (m : SeatState). m.0.own.own) c.stops_step-stops.ensures.after ∙ stops_open c.args.seat.now.me.0.own.own c.stops_step-stops.result c.args.victim
+      c.requires.open (sym c.has_bit.ensures ∙ c.if-has_bit.false),
+)
+
+pub returns-then-found-asks-clause-finds : goal.returns-then-found-asks-clause-finds
+returns-then-found-asks-clause-finds c =
+    let s = c.stops_step-stops.result in
+    let w = c.withdraw_step-found.result in
+    record {
+      stops = s;
+      word = w;
+      replied = (sym c.has_bit.ensures ∙ c.if-has_bit.true, ap sign c.if-found-asks.true ∙ sign_of_word (asking c.args.victim));
+      after = c.withdraw_step-found.ensures.hit c.if-found-asks.true
+          ∙ ap (λ (x : SeatState). knowing x (after_rest x.0.own (c.args.me + 1) w true)) c.stops_step-stops.ensures.after;
+    }
+
+pub returns-then-found-asks-2-clause-finds : goal.returns-then-found-asks-2-clause-finds
+returns-then-found-asks-2-clause-finds c =
+    let s = c.stops_step-stops.result in
+    let w = c.withdraw_step-found.result in
+    let v = c.args.victim in
+    let is : w ≡ 8 * v + 3 = (let e = c.if-found-asks-2.true in omega arith) in
+    record {
+      stops = s;
+      word = w;
+      replied = ap sign is ∙ sign_of_word (full v);
+      after = looked c.args.self.now.n c.args.me s w c.args.seat.now.me c.stops_step-stops.new.seat.me c.withdraw_step-found.new.seat.me (Filled v)
+          c.stops_step-stops.ensures.after (c.withdraw_step-found.ensures.miss c.if-found-asks.false).1
+          (learn_full (stop_seen c.args.seat.now.me.0.own.own s) w v is);
+    }
+
+pub returns-else-found-asks-2-clause-finds : goal.returns-else-found-asks-2-clause-finds
+returns-else-found-asks-2-clause-finds c =
+    let s = c.stops_step-stops.result in
+    let w = c.withdraw_step-found.result in
+    let v = c.args.victim in
+    let not_full : w ≢ 8 * v + 3 = (λ e. c.if-found-asks-2.false (let f = e in omega arith)) in
+    let refused : sign w ≡ emptied v =
+    ⊎_elim (λ e. absurd (not_full (full_word w v e))) (λ e. e) (c.withdraw_step-found.ensures.miss c.if-found-asks.false).0 in
+    record {
+      stops = s;
+      word = w;
+      replied = refused;
+      after = looked c.args.self.now.n c.args.me s w c.args.seat.now.me c.stops_step-stops.new.seat.me c.withdraw_step-found.new.seat.me (Emptied v)
+          c.stops_step-stops.ensures.after (c.withdraw_step-found.ensures.miss c.if-found-asks.false).1
+          (ap (learn (stop_seen c.args.seat.now.me.0.own.own s)) refused);
+    }
+
+pub returns-then-found-asks-3-clause-finds : goal.returns-then-found-asks-3-clause-finds
+returns-then-found-asks-3-clause-finds c =
+    let s = c.stops_step-stops.result in
+    let w = c.look_step-found.result in
+    let v = c.args.victim in
+    let is : w ≡ 8 * v + 3 = (let e = c.if-found-asks-3.true in omega arith) in
+    record {
+      stops = s;
+      word = w;
+      replied = ap sign is ∙ sign_of_word (full v);
+      after = looked c.args.self.now.n c.args.me s w c.args.seat.now.me c.stops_step-stops.new.seat.me c.look_step-found.new.seat.me (Filled v)
+          c.stops_step-stops.ensures.after c.look_step-found.ensures.after (learn_full (stop_seen c.args.seat.now.me.0.own.own s) w v is);
+    }
+
+pub returns-then-found-asks-4-clause-finds : goal.returns-then-found-asks-4-clause-finds
+returns-then-found-asks-4-clause-finds c =
+    let s = c.stops_step-stops.result in
+    let w = c.look_step-found.result in
+    let v = c.args.victim in
+    let is : w ≡ 8 * v + 5 = (let e = c.if-found-asks-4.true in omega arith) in
+    record {
+      stops = s;
+      word = w;
+      replied = ap sign is ∙ sign_of_word (emptied v);
+      after = looked c.args.self.now.n c.args.me s w c.args.seat.now.me c.stops_step-stops.new.seat.me c.look_step-found.new.seat.me (Emptied v)
+          c.stops_step-stops.ensures.after c.look_step-found.ensures.after (learn_empty (stop_seen c.args.seat.now.me.0.own.own s) w v is);
+    }
+
+pub returns-else-found-asks-4-clause-finds : goal.returns-else-found-asks-4-clause-finds
+returns-else-found-asks-4-clause-finds c =
+    let s = c.stops_step-stops.result in
+    let w = c.look_step-found.result in
+    let v = c.args.victim in
+    let own = c.args.seat.now.me.0.own.own in
+    let stays : has_bit s v ≡ false = sym c.has_bit.ensures ∙ c.if-has_bit.false in
+    let still : stop_seen own s ≡ Open v = stops_open own s v c.requires.open stays in
+    let first = c.stops_step-stops.ensures.after in
+    let waits : (sign w ≡ asking v) ⊎ (sign w ≡ serving v) =
+    pending c.stops_step-stops.new.seat.me.0.own.own w v (ap (λ (m : SeatState). m.0.own.own) first ∙ still) c.look_step-found.ensures.fits
+    (λ e. c.if-found-asks-3.false (let f = e in omega arith)) (λ e. c.if-found-asks-4.false (let f = e in omega arith)) in
+    record {
+      stops = s;
+      word = w;
+      replied = (stays, waits);
+      after = looked c.args.self.now.n c.args.me s w c.args.seat.now.me c.stops_step-stops.new.seat.me c.look_step-found.new.seat.me own first
+          c.look_step-found.ensures.after (learn_none (stop_seen own s) (sign w) v waits ∙ still ∙ sym c.requires.open);
+    }

@@ -1,0 +1,274 @@
+//! Checkpoints in a folder: written, read back, and refused by each cause.
+ghost use Rattle.std.specs.Prelude.{◌≡◌, [], IfOk};
+ghost use Rattle.outside.specs.Writes.{all_but};
+
+use crate::of_tree_walk::paths;
+use checkpoints::{read_checkpoint, write_checkpoint};
+use files_mem::{Call, MemGround};
+use flat_list::FlatList;
+use outside::{Ground, LoadError, Plot, load};
+use path_text::Path;
+use run_report::Stop;
+use std::alloc::Global;
+use std::process::Abort;
+use std::test::Fail;
+
+// What is done: a directory, and a file in it.
+const DONE: &str = "mfu list 1
+d 0 - ok 0 0 /t
+f 5 86400 ok 0 0 /t/a
+end 2
+";
+
+// Files with the folder `/c`, of which no part is lent.
+fn with_folder(alloc: Global) -> Result<MemGround, Fail>
+    ensures { IfOk result (λ files. files.area ≡ all_but []) }
+{
+    let mut files = MemGround::empty(alloc)?;
+    files.put_dir(&Path::parse(alloc, "/c")?, 0, None)?;
+    Ok(files)
+}
+
+// Puts a file with this text, where there is one.
+fn put(alloc: Global, files: &mut MemGround, path: &str, text: Option<&str>) -> Result<(), Fail>
+    ensures { files.new.area ≡ files.old.area }
+{
+    if let Some(text) = text {
+        files.put_file(&Path::parse(alloc, path)?, text.as_bytes(), None)?;
+    }
+    Ok(())
+}
+
+fn reason(alloc: Global, stop: &Stop) -> Result<String, Fail> {
+    let text = match stop {
+        Stop::Damaged(path, line) => format!(in alloc; "damaged {} {line}", path.text())?,
+        Stop::ListFile(trouble, path) => format!(in alloc; "{trouble:?} {}", path.text())?,
+        _ => format!(in alloc; "another reason")?,
+    };
+    Ok(text)
+}
+
+// How many entries are done, and what each rank has left, with a blank behind each string and `;` behind each list; or why
+// nothing is read.
+fn reading(alloc: Global, files: &mut MemGround, dir: &Path) -> Result<String, Fail>
+    ensures { files.new.area ≡ files.old.area }
+{
+    let kept = match read_checkpoint(alloc, files, dir) {
+        Ok(kept) => kept,
+        Err(stop) => return reason(alloc, &stop),
+    };
+    let mut text = format!(in alloc; "{} ", kept.done.len())?;
+    for list in &kept.left {
+        put_list(&mut text, list)?;
+    }
+    Ok(text)
+}
+
+fn put_list(text: &mut String, list: &[Path]) -> Result<(), Fail> {
+    for path in list {
+        text.push_str(path.text())?;
+        text.push(' ')?;
+    }
+    text.push(';')?;
+    Ok(())
+}
+
+// Why no checkpoint is written with these strings left, a list for each rank; nothing where it is written.
+fn writing(
+    alloc: Global,
+    files: &mut MemGround,
+    dir: &Path,
+    lists: &[&[&str]],
+) -> Result<String, Fail>
+    requires { files.old.area ≡ all_but [] }
+    ensures { files.new.area ≡ all_but [] }
+{
+    let done = FlatList::decode(alloc, DONE.as_bytes())?;
+    let mut left = Vec::new(alloc);
+    for list in lists {
+        left.push(paths(alloc, list)?)?;
+    }
+    if left.is_empty() || left.len() > 64 {
+        return Ok(String::from_str(alloc, "another number of ranks")?);
+    }
+    match write_checkpoint(alloc, files, dir, &done, &left) {
+        Ok(()) => Ok(String::new(alloc)),
+        Err(stop) => reason(alloc, &stop),
+    }
+}
+
+// Whether the file has this text, or is not there.
+fn holds(
+    rt: &impl Abort,
+    alloc: Global,
+    files: &mut MemGround,
+    path: &str,
+    text: Option<&str>,
+) -> Result<(), Fail>
+    ensures { files.new.area ≡ files.old.area }
+{
+    let mut reader = files.reader(alloc)?;
+    let bytes = load(alloc, &mut reader, &Path::parse(alloc, path)?);
+    files.take_reader(reader);
+    match (bytes, text) {
+        (Ok(bytes), Some(text)) => assert!(rt; bytes.as_slice() == text.as_bytes(), "{path}"),
+        (Err(LoadError::NoFile), None) => {}
+        _ => assert!(rt; false, "{path}"),
+    }
+    Ok(())
+}
+
+#[test]
+fn what_is_written_is_read_back(rt: HostRuntime) -> Result<(), Fail> {
+    let alloc = rt.alloc();
+    let mut files = with_folder(alloc)?;
+    let dir = Path::parse(alloc, "/c")?;
+    let told = writing(alloc, &mut files, &dir, &[&["/t/b"]])?;
+    assert_eq!(rt; told.as_str(), "");
+    holds(&rt, alloc, &mut files, "/c/circle.list", Some(DONE))?;
+    let text = "circle 1 0 1\n/t/b\nend 1\n";
+    holds(&rt, alloc, &mut files, "/c/circle0.txt", Some(text))?;
+    assert_eq!(rt; reading(alloc, &mut files, &dir)?.as_str(), "2 /t/b ;");
+    let told = writing(
+        alloc,
+        &mut files,
+        &dir,
+        &[&["/t/c", "/t/b"], &[], &["/t/d"]],
+    )?;
+    assert_eq!(rt; told.as_str(), "");
+    let text = "circle 1 0 3\n/t/c\n/t/b\nend 2\n";
+    holds(&rt, alloc, &mut files, "/c/circle0.txt", Some(text))?;
+    let text = "circle 1 2 3\n/t/d\nend 1\n";
+    holds(&rt, alloc, &mut files, "/c/circle2.txt", Some(text))?;
+    assert_eq!(rt;
+        reading(alloc, &mut files, &dir)?.as_str(),
+        "2 /t/c /t/b ;;/t/d ;"
+    );
+    assert_eq!(rt; files.faults(), 0);
+    Ok(())
+}
+
+// Each row has the text of `circle.list`, of `circle0.txt` and of `circle1.txt`, and what is told.
+#[test]
+fn each_checkpoint_that_is_none_is_refused_by_its_cause(rt: HostRuntime) -> Result<(), Fail> {
+    let alloc = rt.alloc();
+    let one = Some("circle 1 0 2\n/t/b\nend 1\n");
+    let two = Some("circle 1 1 2\n/t/c\n/t/d\nend 2\n");
+    let clash = Some("circle 1 0 2\n/t/b\n/t/a/x\nend 2\n");
+    for (list, first, second, want) in [
+        (Some(DONE), one, two, "2 /t/b ;/t/c /t/d ;"),
+        (None, one, two, "Absent /c/circle.list"),
+        (Some(DONE), None, two, "Absent /c/circle0.txt"),
+        (Some(DONE), one, None, "Absent /c/circle1.txt"),
+        // what is damaged: the list first, and then the files of the ranks
+        (
+            Some("mfu list 1\n"),
+            clash,
+            None,
+            "damaged /c/circle.list 2",
+        ),
+        (
+            Some(DONE),
+            Some("circle 1 0 2\nt\nend 1\n"),
+            None,
+            "damaged /c/circle0.txt 2",
+        ),
+        (Some(DONE), one, one, "damaged /c/circle1.txt 1"),
+        // and last the strings that are misplaced, of which the first is told
+        (
+            Some(DONE),
+            clash,
+            Some("circle 1 1 2\nt\nend 1\n"),
+            "damaged /c/circle1.txt 2",
+        ),
+        (Some(DONE), clash, two, "damaged /c/circle0.txt 3"),
+        (
+            Some(DONE),
+            one,
+            Some("circle 1 1 2\n/u\n/t/a\nend 2\n"),
+            "damaged /c/circle1.txt 3",
+        ),
+    ] {
+        let mut files = with_folder(alloc)?;
+        put(alloc, &mut files, "/c/circle.list", list)?;
+        put(alloc, &mut files, "/c/circle0.txt", first)?;
+        put(alloc, &mut files, "/c/circle1.txt", second)?;
+        let told = reading(alloc, &mut files, &Path::parse(alloc, "/c")?)?;
+        assert_eq!(rt; told.as_str(), want);
+    }
+    Ok(())
+}
+
+#[test]
+fn a_folder_that_is_absent_has_no_place(rt: HostRuntime) -> Result<(), Fail> {
+    let alloc = rt.alloc();
+    let mut files = with_folder(alloc)?;
+    let dir = Path::parse(alloc, "/c/d")?;
+    let told = reading(alloc, &mut files, &dir)?;
+    assert_eq!(rt; told.as_str(), "Absent /c/d/circle.list");
+    let told = writing(alloc, &mut files, &dir, &[&["/t/b"]])?;
+    assert_eq!(rt; told.as_str(), "NoPlace /c/d/circle0.txt");
+    holds(&rt, alloc, &mut files, "/c/d/circle.list", None)?;
+    Ok(())
+}
+
+// A folder with a path of so many bytes.
+fn long_folder(alloc: Global, len: usize) -> Result<Path, Fail> {
+    let mut text = String::from_str(alloc, "/")?;
+    for _ in 1..len {
+        text.push('a')?;
+    }
+    Ok(Path::parse(alloc, &text)?)
+}
+
+#[test]
+fn a_path_that_would_be_too_long_is_told_by_its_folder(rt: HostRuntime) -> Result<(), Fail> {
+    let alloc = rt.alloc();
+    let mut files = with_folder(alloc)?;
+    let dir = long_folder(alloc, 4084)?;
+    let want = format!(in alloc; "Absent {}", dir.text())?;
+    assert_eq!(rt; reading(alloc, &mut files, &dir)?.as_str(), want.as_str());
+    let want = format!(in alloc; "NoPlace {}", dir.text())?;
+    assert_eq!(rt;
+        writing(alloc, &mut files, &dir, &[&[]])?.as_str(),
+        want.as_str()
+    );
+    let dir = long_folder(alloc, 4083)?;
+    let want = format!(in alloc; "Absent {}/circle.list", dir.text())?;
+    assert_eq!(rt; reading(alloc, &mut files, &dir)?.as_str(), want.as_str());
+    Ok(())
+}
+
+// The files of the ranks are written first, and the list of what is done stays until then.
+#[test]
+fn a_fault_leaves_all_else_in_the_folder(rt: HostRuntime) -> Result<(), Fail> {
+    let alloc = rt.alloc();
+    let mut files = with_folder(alloc)?;
+    let dir = Path::parse(alloc, "/c")?;
+    put(alloc, &mut files, "/c/circle.list", Some("old"))?;
+    put(alloc, &mut files, "/c/circle5.txt", Some("other"))?;
+    files.plan(Call::Write, &Path::parse(alloc, "/c/circle1.txt")?)?;
+    let told = writing(alloc, &mut files, &dir, &[&["/t/b"], &["/t/c"]])?;
+    assert_eq!(rt; told.as_str(), "Fault /c/circle1.txt");
+    holds(&rt, alloc, &mut files, "/c/circle.list", Some("old"))?;
+    holds(&rt, alloc, &mut files, "/c/circle5.txt", Some("other"))?;
+    files.plan(Call::Write, &Path::parse(alloc, "/c/circle.list")?)?;
+    let told = writing(alloc, &mut files, &dir, &[&["/t/b"]])?;
+    assert_eq!(rt; told.as_str(), "Fault /c/circle.list");
+    holds(&rt, alloc, &mut files, "/c/circle5.txt", Some("other"))?;
+    assert!(rt; files.faults() > 1);
+    Ok(())
+}
+
+#[test]
+fn a_list_that_has_no_place_is_told_after_the_ranks(rt: HostRuntime) -> Result<(), Fail> {
+    let alloc = rt.alloc();
+    let mut files = with_folder(alloc)?;
+    let dir = Path::parse(alloc, "/c")?;
+    files.put_dir(&Path::parse(alloc, "/c/circle.list")?, 0, None)?;
+    let told = writing(alloc, &mut files, &dir, &[&["/t/b"]])?;
+    assert_eq!(rt; told.as_str(), "NoPlace /c/circle.list");
+    let text = "circle 1 0 1\n/t/b\nend 1\n";
+    holds(&rt, alloc, &mut files, "/c/circle0.txt", Some(text))?;
+    Ok(())
+}

@@ -1,0 +1,142 @@
+-- When a stage succeeds.
+use Rattle.std.proofs.Common.{◌≡◌, inl, inr, ◌⊎◌, ℕ, ◌≤◌, true, List, [], length, Option, Some, None, IfSome, ap, ◌∙◌, sym, subst, arith}
+use Rattle.std.specs.Option.{is_some}
+use Rattle.std.specs.List.{All}
+use Rattle.std.proofs.lemmas.List.Elements.{All-from_recursion}
+use Rattle.outside.specs.Tree.{Files}
+use Rattle.outside.specs.Count.{StoodStill}
+use Rattle.outside.specs.Whole.{can_save}
+use Rattle.flat_list.specs.declared.entries.Entry.{Entry}
+use Rattle.tool_text.specs.NoteOrder.{AreInOrder, NothingToOrder}
+use Rattle.tool_words.specs.Asked.{StageAsked}
+use Rattle.tool_words.specs.Limits.{WithinStage}
+use Rattle.tree_walk.specs.Walk.{WalkWithoutFaultsIsFine}
+use Rattle.tree_walk.specs.Roots.{RootsAreUnique}
+use Rattle.tree_walk.specs.Cut.{IsTooMany}
+use Rattle.run_report.specs.declared.reports.Report.{Report}
+use Rattle.run_report.specs.declared.stops.Stop.{Stop}
+use Rattle.run_report.specs.declared.stops.Stop.TheVariants as stop
+use Rattle.run_report.specs.Sides.{Side, side_of}
+use Rattle.run_entries.specs.declared.saving.Output.{Output}
+use Rattle.run_entries.specs.Fine.{FinePlacesStopForMemory}
+use Rattle.run_entries.specs.Saving.{output_of}
+use Rattle.checkpoints.specs.Kept.{checkpoint_paths}
+use Rattle.checkpoints.specs.Laws.{CheckpointsAreOne, FineReadsStopForMemory, FineWritesStopForMemory, IsFree}
+use Rattle.stage_report.specs.Stages.{Begun, kept_paths, FindsTooMany, ReportsStage, StopsBeginning, StopsSavingStage}
+use Rattle.stage_report.specs.Stages.{StopsKeeping, StopsStage, IsFineBeginning, FineStage}
+use Rattle.stage_report.specs.Laws.{FineStageSucceeds}
+use Rattle.stage_report.proofs.Printing.{stood_within}
+use Rattle.stage_report.proofs.Fine.{IsFineBegun, most_of, begun_fine, found_fine, cut_few, joined_fine, joined_few, no_failures}
+
+-- the laws that this rests on
+pub record Laws : Type 0 where
+  pub one_roots : RootsAreUnique
+  pub one_kept : CheckpointsAreOne
+  pub walks : WalkWithoutFaultsIsFine
+  pub reads : FineReadsStopForMemory
+  pub writes : FineWritesStopForMemory
+  pub places : FinePlacesStopForMemory
+  pub notes : NothingToOrder
+
+-- a stage against which nothing stands, within its limits
+record IsFineStage (asked : StageAsked) (before after : Side) : Type 0 where
+  laws : Laws
+  within : WithinStage asked
+  fine : FineStage asked before after
+
+begun : {asked : StageAsked} {before after : Side} (s : IsFineStage asked before after) (b : Begun asked before) → IsFineBegun s.fine.files b.done b.starts
+begun {asked} {before} s b =
+    begun_fine s.laws.one_roots s.laws.one_kept asked.starts asked.lists before s.fine.files b.done b.starts s.within.starts s.fine.told s.fine.begins b.begins
+
+-- no fault was counted while it walked
+still : {asked : StageAsked} {before after : Side} (s : IsFineStage asked before after) (b : Begun asked before) (found : ℕ) → b.count ≤ found →
+    found ≤ after.count → StoodStill b.count found
+still {asked} {before} {after} s b found from to = stood_within before.count b.count found after.count b.kept from to s.fine.stood
+
+-- nor after that
+after_still : {asked : StageAsked} {before after : Side} (s : IsFineStage asked before after) (b : Begun asked before) (found : ℕ) → b.count ≤ found →
+    found ≤ after.count → StoodStill found after.count
+after_still {asked} {before} {after} s b found from to =
+    stood_within before.count found after.count after.count (omega (arith, b.kept, from)) to (omega arith) s.fine.stood
+
+-- ---- it names nothing
+
+names_nothing : {asked : StageAsked} {before after : Side} (s : IsFineStage asked before after) (report : Report) → ReportsStage asked before after report →
+    report.failed ≡ 0
+names_nothing {asked} {before} {after} s report r =
+    let b = begun s r.begun in
+    let f = r.finished in
+    let is = found_fine s.laws.walks s.fine.files r.begun.done r.begun.starts before.tree r.begun.count r.found f.later s.fine.told b f.walked
+    (still s r.begun r.found f.walked.counted.kept r.later) in
+    let all = joined_fine r.begun.done f.later r.list f.joined b.fine is.fine in
+    r.counts ∙ ap length (s.laws.notes.none r.notes (subst (λ given. AreInOrder given r.notes) (no_failures r.list all) r.names))
+
+-- ---- it is not too long
+
+too_many : {asked : StageAsked} {before after : Side} (s : IsFineStage asked before after) (b : Begun asked before) (n : ℕ) →
+    IsTooMany asked.stop_after before.tree b.starts b.count after.count n → ⊥
+too_many {asked} {before} {after} s b n (inl whole) =
+    let is = found_fine s.laws.walks s.fine.files b.done b.starts before.tree b.count after.count whole.list s.fine.told (begun s b) whole.found
+    (still s b after.count whole.found.counted.kept (omega arith)) in
+    absurd (omega (arith, whole.number, whole.above, is.few, (begun s b).few))
+too_many {asked} {before} {after} s b n (inr cut) =
+    let c = cut.1 in
+    let few = cut_few s.fine.files b.done b.starts before.tree b.count after.count c.done c.left s.fine.told (begun s b) c.found
+    (still s b after.count c.found.counted.kept (omega arith)) in
+    absurd (omega (arith, c.number, c.above, few, (begun s b).few))
+
+too_long : {asked : StageAsked} {before after : Side} (s : IsFineStage asked before after) (b : Begun asked before) →
+    FindsTooMany asked.stop_after asked.common before.tree b.done b.starts b.count after.count → ⊥
+too_long s b (inl many) = too_many s b many.0 many.1
+too_long {asked} {before} {after} s b (inr (list, many, inl (account, f))) =
+    let is = found_fine s.laws.walks s.fine.files b.done b.starts before.tree b.count after.count f.later s.fine.told (begun s b) f.walked
+    (still s b after.count f.walked.counted.kept (omega arith)) in
+    joined_few b.done f.later list (most_of (begun s b)) f.joined (begun s b).few is.few many
+too_long {asked} {before} {after} s b (inr (list, many, inr (handled, left, c))) =
+    let few = cut_few s.fine.files b.done b.starts before.tree b.count after.count c.later _ s.fine.told (begun s b) c.cut
+    (still s b after.count c.cut.counted.kept (omega arith)) in
+    joined_few b.done c.later list (most_of (begun s b)) c.joined (begun s b).few few many
+
+-- ---- it stops for want of memory alone, or since it was to stop
+
+no_beginning : {asked : StageAsked} {before after : Side} (s : IsFineStage asked before after) (why : Stop) → StopsBeginning asked before after why →
+    why ≡ stop.OutOfMemory
+no_beginning {asked} {before} {after} s why b =
+    let f = subst (λ starts. IsFineBeginning s.fine.files starts asked.lists) b.goes_on s.fine.begins in
+    s.laws.reads asked.lists f.done f.left s.fine.files before after why s.fine.told s.fine.stood f.kept b.stops
+
+-- the output has a place, where there is one
+has_place : (files : Files) (output : Option (List ℕ)) (list : List Entry) → IfSome output (λ path. can_save files path ≡ true) →
+    All (λ o. can_save files o.path ≡ true) (output_of output list)
+has_place files None list can = All-from_recursion (λ (o : Output). can_save files o.path ≡ true) [] tt
+has_place files (Some path) list can = All-from_recursion (λ (o : Output). can_save files o.path ≡ true) (output_of (Some path) list) (can, tt)
+
+no_saving : {asked : StageAsked} {before after : Side} (s : IsFineStage asked before after) (why : Stop) → StopsSavingStage asked before after why →
+    why ≡ stop.OutOfMemory
+no_saving {asked} {before} {after} s why b =
+    s.laws.places (output_of asked.output b.list) s.fine.files (side_of before.tree b.found) after why s.fine.told
+    (has_place s.fine.files asked.output b.list s.fine.place) (after_still s b.begun b.found b.finished.walked.counted.kept b.later) b.stops
+
+no_keeping : {asked : StageAsked} {before after : Side} (s : IsFineStage asked before after) (why : Stop) → StopsKeeping asked before after why →
+    why ≡ stop.OutOfMemory
+no_keeping {asked} {before} {after} s why b =
+    let room = subst (λ n. All (IsFree s.fine.files) (kept_paths n asked.lists asked.common.ranks)) b.cut.is_most s.fine.room in
+    let places = subst (λ n. All (IsFree s.fine.files) (checkpoint_paths asked.lists n)) (sym b.cut.ranks) room in
+    s.laws.writes asked.lists (length b.left) b.list s.fine.files (side_of before.tree b.found) after why s.within.lists
+    (omega (arith, b.cut.ranks, s.within.common.ranks.1)) s.fine.told (after_still s b.begun b.found b.cut.cut.counted.kept b.later) places b.stops
+
+abbrev InTime : StageAsked → Stop → Type 0
+InTime asked why = (why ≡ stop.OutOfMemory) ⊎ ((is_some asked.stop_after ≡ true) × ((handled left : ℕ) × (why ≡ stop.Stopped handled left)))
+
+in_time : {asked : StageAsked} {before after : Side} (s : IsFineStage asked before after) (why : Stop) → StopsStage asked before after why → InTime asked why
+in_time s why (inl is) = inl is
+in_time s why (inr (inl b)) = inl (no_beginning s why b)
+in_time s why (inr (inr (inl b))) = absurd (too_long s b.begun b.many)
+in_time s why (inr (inr (inr (inl b)))) = inl (no_saving s why b)
+in_time s why (inr (inr (inr (inr (inl b))))) = inl (no_keeping s why b)
+in_time s why (inr (inr (inr (inr (inr b))))) = inr (ap is_some b.cut.is_most, (b.handled, _, b.named))
+
+pub stage_succeeds : Laws → FineStageSucceeds
+stage_succeeds laws asked before after within fine =
+    let s : IsFineStage asked before after = record { laws = laws; within = within; fine = fine } in
+    record { names_nothing = names_nothing s; stops_in_time = in_time s }

@@ -1,0 +1,6 @@
+use Rattle.std.proofs.Common.{◌≡◌, map}
+use Rattle.stage_report.specs.Stages.{all_of}
+use Rattle.stage_report.proofs.beginning.all_of.Given as goal
+
+abbrev pub invariant-loop-list : goal.invariant-loop-list
+invariant-loop-list l = l.all.items ≡ all_of (map (λ list. list.items) l.yielded)

@@ -1,0 +1,212 @@
+//! The walk of a stage.
+ghost use Rattle.std.specs.Prelude.{◌≡◌, ◌≤◌, length, IfOk, IfErr, Some, None};
+ghost use Rattle.std.specs.List.Sorted.{IsStrictlySortedBy};
+ghost use Rattle.path_text.specs.Order.{path_cmp};
+ghost use Rattle.outside.specs.Count.{RoseBy};
+ghost use Rattle.tool_words.specs.Limits.{CommonWithin};
+ghost use Rattle.tree_walk.specs.Roots.{Apart};
+ghost use Rattle.tree_walk.specs.Walk.{paths_of};
+ghost use Rattle.tree_walk.specs.Found.{max_entries};
+ghost use Rattle.tree_walk.specs.Cut.{found_in};
+ghost use Rattle.stage_report.specs.Private.{list_in, IsBeside, IsStage, IsStageOf, IsWritable, StopsWalk};
+
+use crate::beginning::Beginning;
+use crate::joining::joined;
+use circle_run::Options;
+use flat_list::FlatList;
+use outside::Ground;
+use path_text::{OutOfMemory, Path};
+use run_entries::{Account, Entries, stop_by, walk_roots};
+use run_report::Stop;
+use std::alloc::Global;
+use std::sync::Wait;
+use std::thread::Threads;
+use tool_words::Common;
+use tree_walk::{MAX_ENTRIES, WalkReport, Walked, walk};
+
+/// What a stage comes to.
+#[derive(Drop)]
+pub(crate) enum Stage {
+    /// The whole list, and what its ranks did in this stage.
+    Finished {
+        list: FlatList,
+        account: Account,
+    },
+    /// How many paths were handled in this stage, all that is done, and what each rank has left.
+    Cut {
+        handled: u64,
+        done: FlatList,
+        left: Vec<Vec<Path>>,
+    },
+}
+
+/// Walks with as many ranks as are asked for, till each path is handled or one rank has handled as many as it may.
+pub(crate) fn walk_stage<T: Threads + Wait + Sync, G: Ground>(
+    rt: &T,
+    alloc: Global,
+    common: &Common,
+    stop_after: Option<u64>,
+    beginning: Beginning,
+    files: &mut G,
+) -> Result<Stage, Stop>
+where
+    G::Reader: Send,
+    requires within { CommonWithin common.now }
+    requires apart { Apart beginning.starts.items }
+    requires beside { IsBeside beginning.done beginning.starts.items }
+    requires writable { IsWritable beginning.done }
+    ensures stage { IfOk result (IsStage stop_after common.now (G.tree files.old) beginning.done beginning.starts.items (G.count files.old) (G.count files.new)) }
+    ensures few { IfOk result (λ stage. length (list_in stage) ≤ max_entries) }
+    ensures writable { IfOk result (λ stage. IsWritable (list_in stage)) }
+    ensures stopped { IfErr result (StopsWalk stop_after common.now (G.tree files.old) beginning.done beginning.starts.items (G.count files.old) (G.count files.new)) }
+    ensures same { G.tree files.new ≡ G.tree files.old }
+    ensures area { G.area files.new ≡ G.area files.old }
+    ensures count { RoseBy 0 (G.count files.old) (G.count files.new) }
+{
+    // The count of faults is a number of 64 bits.
+    let _faults = files.faults();
+    let Beginning { done, starts } = beginning;
+    match stop_after {
+        Some(most) => stop_or_finish(rt, alloc, common, most, done, starts, files),
+        None => finish(rt, alloc, common, done, starts, files),
+    }
+}
+
+// Walks to the end.
+fn finish<T: Threads + Wait + Sync, G: Ground>(
+    rt: &T,
+    alloc: Global,
+    common: &Common,
+    done: FlatList,
+    starts: Vec<Path>,
+    files: &mut G,
+) -> Result<Stage, Stop>
+where
+    G::Reader: Send,
+    requires within { CommonWithin common.now }
+    requires apart { Apart starts.items }
+    requires beside { IsBeside done starts.items }
+    requires writable { IsWritable done }
+    ensures stage { IfOk result (IsStage None common.now (G.tree files.old) done starts.items (G.count files.old) (G.count files.new)) }
+    ensures few { IfOk result (λ stage. length (list_in stage) ≤ max_entries) }
+    ensures writable { IfOk result (λ stage. IsWritable (list_in stage)) }
+    ensures stopped { IfErr result (StopsWalk None common.now (G.tree files.old) done starts.items (G.count files.old) (G.count files.new)) }
+    ensures same { G.tree files.new ≡ G.tree files.old }
+    ensures area { G.area files.new ≡ G.area files.old }
+    ensures count { RoseBy 0 (G.count files.old) (G.count files.new) }
+{
+    // The count of faults is a number of 64 bits.
+    let _faults = files.faults();
+    let entries = match walk_roots(rt, alloc, common, starts, files) {
+        Ok(entries) => entries,
+        Err(why) => return Err(stop_by(why)),
+    };
+    let Entries { list, account } = entries;
+    let list = joined(rt, alloc, common.hosts, done, list)?;
+    if list.len() > MAX_ENTRIES {
+        return Err(Stop::TooMany);
+    }
+    Ok(Stage::Finished { list, account })
+}
+
+// Walks till a rank has handled so many paths, or to the end.
+fn stop_or_finish<T: Threads + Wait + Sync, G: Ground>(
+    rt: &T,
+    alloc: Global,
+    common: &Common,
+    most: u64,
+    done: FlatList,
+    starts: Vec<Path>,
+    files: &mut G,
+) -> Result<Stage, Stop>
+where
+    G::Reader: Send,
+    requires within { CommonWithin common.now }
+    requires apart { Apart starts.items }
+    requires beside { IsBeside done starts.items }
+    requires writable { IsWritable done }
+    ensures stage { IfOk result (IsStage (Some most) common.now (G.tree files.old) done starts.items (G.count files.old) (G.count files.new)) }
+    ensures few { IfOk result (λ stage. length (list_in stage) ≤ max_entries) }
+    ensures writable { IfOk result (λ stage. IsWritable (list_in stage)) }
+    ensures stopped { IfErr result (StopsWalk (Some most) common.now (G.tree files.old) done starts.items (G.count files.old) (G.count files.new)) }
+    ensures same { G.tree files.new ≡ G.tree files.old }
+    ensures area { G.area files.new ≡ G.area files.old }
+    ensures count { RoseBy 0 (G.count files.old) (G.count files.new) }
+{
+    // The count of faults is a number of 64 bits.
+    let _faults = files.faults();
+    let options = Options {
+        ranks: common.ranks,
+        hosts: common.hosts,
+        split: common.split,
+        seed: common.seed,
+        width: common.width,
+        trace: false,
+        stop_after: Some(most),
+    };
+    let report = match walk(rt, alloc, files, starts, &options) {
+        Ok(report) => report,
+        Err(why) => return Err(stop_by(why)),
+    };
+    let stage = stage_of(rt, alloc, common.hosts, done, report)?;
+    if stage.list().len() > MAX_ENTRIES {
+        return Err(Stop::TooMany);
+    }
+    Ok(stage)
+}
+
+// What a walk comes to, with what was done before it.
+fn stage_of<T: Threads + Sync>(
+    rt: &T,
+    alloc: Global,
+    hosts: u32,
+    done: FlatList,
+    report: WalkReport,
+) -> Result<Stage, OutOfMemory>
+    requires hosts { 1 ≤ hosts }
+    requires ascend { IsStrictlySortedBy path_cmp (paths_of (found_in report.walked report.list)) }
+    ensures { IfOk result (IsStageOf done report) }
+{
+    let WalkReport {
+        list,
+        walked,
+        shares,
+        events,
+        sums,
+    } = report;
+    match walked {
+        Walked::Whole => {
+            let list = joined(rt, alloc, hosts, done, list)?;
+            let account = Account {
+                events,
+                shares,
+                sums,
+            };
+            Ok(Stage::Finished { list, account })
+        }
+        Walked::Cut(cut) => {
+            let handled = cut.done.len() as u64;
+            let done = joined(rt, alloc, hosts, done, cut.done)?;
+            Ok(Stage::Cut {
+                handled,
+                done,
+                left: cut.left,
+            })
+        }
+    }
+}
+
+impl Stage {
+    ghost use Rattle.std.specs.Prelude.{◌≡◌};
+    ghost use Rattle.stage_report.specs.Private.{list_in};
+
+    // All that is done.
+    fn list(&self) -> &FlatList
+        ensures { result.now ≡ list_in self.now }
+    {
+        match self {
+            Stage::Finished { list, .. } => list,
+            Stage::Cut { done, .. } => done,
+        }
+    }
+}
