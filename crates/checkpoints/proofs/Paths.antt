@@ -9,7 +9,8 @@ use Rattle.std.proofs.lemmas.List.{append_cancel_left, get_or_append_left}
 use Rattle.path_text.specs.Path.{refusal, is_name, parent_of}
 use Rattle.path_text.proofs.Joined.{joined_length}
 use Rattle.circle_lists.specs.Checkpoint.{file_name, file_path}
-use Rattle.circle_lists.proofs.Places.{parent_is, differ, same_name}
+use Rattle.path_text.proofs.Parents.{parent_joined}
+use Rattle.circle_lists.proofs.Places.{differ, same_name}
 use Rattle.checkpoints.specs.Kept.{list_path}
 
 pub name_fine : IsTrue (is_name (codes "circle.list"))
@@ -40,7 +41,7 @@ file_differs dir rank few =
 -- ---- it stands in the folder
 
 pub parent_of_list : (dir : List ℕ) → refusal dir ≡ None → parent_of (list_path dir) ≡ dir
-parent_of_list dir fine = parent_is dir (codes "circle.list") fine refl
+parent_of_list dir fine = parent_joined dir (codes "circle.list") fine refl
 
 -- ---- it is as long as that of rank 0
 

@@ -12,71 +12,15 @@ use Rattle.std.proofs.lemmas.List.{take_at, get_or-append_right, append_cancel_l
 use Rattle.std.proofs.lemmas.List.Sums.{suffix_len_is}
 use Rattle.std.proofs.Math.Seq.{get_or-append_seam}
 use Rattle.path_text.specs.Path.{is_slash, refusal, joined, parent_of}
-use Rattle.path_text.proofs.Joined.{first_slash, joined_length}
+use Rattle.path_text.proofs.Joined.{joined_length}
+use Rattle.path_text.proofs.Parents.{parent_joined}
 use Rattle.circle_lists.specs.Checkpoint.{file_name, file_path}
 use Rattle.circle_lists.proofs.Names.{name_bare}
 
--- ---- what stands before the last slash
-
-neither : (a b : Bool) → (a || b) ≡ false → (a ≡ false) × (b ≡ false)
-neither true b e = absurd (false≢true (sym e))
-neither false b e = (refl, e)
-
-all_bare : (y : List ℕ) (k : ℕ) → list_any is_slash y ≡ false → k < length y → not (is_slash (get_or y k 0)) ≡ true
-all_bare [] k e l = absurd (omega arith)
-all_bare (b ∷ y) k e l = let n = neither (is_slash b) (list_any is_slash y) e in
-    elim k as (λ k. k < length (b ∷ y) → not (is_slash (get_or (b ∷ y) k 0)) ≡ true) [
-      | zero ↦ λ l. ap not n.0
-      | suc j ↦ λ l. all_bare y j n.1 (omega arith)
-    ] l
-
-before_is : (before base : List ℕ) → list_any is_slash base ≡ false → before_last is_slash (before ++ 47 ∷ base) ≡ before
-before_is before base bare =
-    let n : suffix_len (λ x. not (is_slash x)) all ≡ length all - (length before + 1) =
-    suffix_len_is (λ x. not (is_slash x)) all (length before + 1) 0 (omega (arith, len)) later at in
-    ap (λ k. take k all) (omega (arith, len, n)) ∙ take_at before (47 ∷ base) (length before) refl
-  where
-    all : List ℕ
-    all = before ++ 47 ∷ base
-
-    len : length all ≡ length before + (length base + 1)
-    len = omega (arith, length-append before (47 ∷ base))
-
-    parts : all ≡ (before ++ 47 ∷ []) ++ base
-    parts = sym (append_assoc before (47 ∷ []) base)
-
-    later : (k : ℕ) → length before + 1 ≤ k → k < length all → not (is_slash (get_or all k 0)) ≡ true
-    later k l m =
-        ap (λ xs. not (is_slash (get_or xs k 0))) parts
-        ∙ ap (λ b. not (is_slash b)) (get_or-append_right (before ++ 47 ∷ []) base (length before + 1) k 0 (omega (arith, length-append before (47 ∷ []))) l)
-        ∙ all_bare base (k - (length before + 1)) bare (omega (arith, len))
-
-    at : 0 < length before + 1 → not (is_slash (get_or all (length before + 1 - 1) 0)) ≡ false
-    at l = ap (λ k. not (is_slash (get_or all k 0))) (back (length before)) ∙ ap (λ b. not (is_slash b)) (get_or-append_seam before 47 base 0)
-      where
-        back : (k : ℕ) → k + 1 - 1 ≡ k
-        back k = omega arith
-
 -- ---- the folder of a file
 
-below_root : (b d : ℕ) (dir name : List ℕ) → joined (b ∷ d ∷ dir) name ≡ b ∷ d ∷ dir ++ 47 ∷ name
-below_root b d dir name = grind (arith, nat_tests)
-
-long : (b d : ℕ) (dir : List ℕ) → cond (eqb (length (b ∷ d ∷ dir)) 0) (47 ∷ []) (b ∷ d ∷ dir) ≡ b ∷ d ∷ dir
-long b d dir =
-    let some : eqb (length (b ∷ d ∷ dir)) 0 ≡ false = grind (arith, nat_tests) in
-    ap (λ r. cond r (47 ∷ []) (b ∷ d ∷ dir)) some
-
-pub parent_is : (dir name : List ℕ) → refusal dir ≡ None → list_any is_slash name ≡ false → parent_of (joined dir name) ≡ dir
-parent_is [] name fine bare = absurd cc
-parent_is (b ∷ []) name fine bare =
-    let root : b ∷ [] ≡ 47 ∷ [] = ap (λ b. b ∷ []) (first_slash b [] fine) in
-    ap (λ d. parent_of (joined d name)) root ∙ ap (λ b. cond (eqb (length b) 0) (47 ∷ []) b) (before_is [] name bare) ∙ sym root
-parent_is (b ∷ d ∷ dir) name fine bare =
-    ap parent_of (below_root b d dir name) ∙ ap (λ b. cond (eqb (length b) 0) (47 ∷ []) b) (before_is (b ∷ d ∷ dir) name bare) ∙ long b d dir
-
 pub parent_of_file : (dir : List ℕ) (rank : ℕ) → refusal dir ≡ None → rank < 64 → parent_of (file_path dir rank) ≡ dir
-parent_of_file dir rank fine few = parent_is dir (file_name rank) fine (name_bare rank few)
+parent_of_file dir rank fine few = parent_joined dir (file_name rank) fine (name_bare rank few)
 
 -- ---- which paths differ
 

@@ -16,7 +16,7 @@ use Rattle.tree_copy.specs.Copying.{target_of, is_target}
 use Rattle.tree_copy.specs.declared.pairs.Pair.{Pair}
 use Rattle.tree_walk.specs.Walk.{Answer, told, stat_failed, list_failed, Answers, entry_of, children_of, walk_down, walk}
 use Rattle.copy_report.proofs.Apart.{In}
-use Rattle.copy_report.proofs.Parents.{parent_joined}
+use Rattle.path_text.proofs.Parents.{parent_joined}
 
 -- the path has an entry with a stat
 abbrev pub Has : List Entry → List ℕ → Type 0

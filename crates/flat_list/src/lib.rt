@@ -59,7 +59,6 @@ mod merging;
 mod ordering;
 mod packing;
 mod passing;
-mod prefixes;
 mod reading;
 mod runs;
 mod seeking;

@@ -6,7 +6,7 @@ ghost use Rattle.flat_list.specs.Pack.{shared_by, head_from, starts_by};
 
 use crate::entries::Entry;
 use crate::heads::{Head, Heads};
-use crate::prefixes::common_len;
+use path_text::common_len;
 use path_text::OutOfMemory;
 
 /// How many bytes a path shares with the one before.

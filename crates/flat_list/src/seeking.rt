@@ -5,7 +5,7 @@ ghost use Rattle.flat_list.specs.Pack.{same_after, unpacked};
 ghost use Rattle.flat_list.specs.Private.Kept.{IsSeek};
 
 use crate::heads::{Head, Heads};
-use crate::prefixes::common_len;
+use path_text::common_len;
 
 /// The first place of a path among the entries that are kept. Of each path it only looks at what it does not share with the one
 /// before, where that shares as much with the wanted one.

@@ -14,71 +14,11 @@ use Rattle.std.specs.Ordering.{eq_by_cmp}
 use Rattle.std.specs.Cmp.Lexicographic.{bytes_decides}
 use Rattle.path_text.specs.Order.{path_cmp, front}
 use Rattle.path_text.specs.Total.{path_cmp_ties}
+use Rattle.path_text.proofs.Parents.{cut_at_slash, around_slash}
 use Rattle.path_text.specs.Path.{is_slash, refusal, first_fault, name_fault, parent_of}
 use Rattle.outside.specs.Tree.{Files, is_root, is_one_name, name_below, names_in, ChildrenHaveParents}
 use Rattle.outside.proofs.Children.{name_below-front}
 use Rattle.outside.proofs.Names.{split_more, last_fine, after_slash}
-
--- a text that has a slash, cut at its last one
-record Cut (x : List ℕ) : Type 0 where
-  before : List ℕ
-  base : List ℕ
-  whole : x ≡ before ++ 47 ∷ base
-  bare : list_any is_slash base ≡ false
-
-slash_is : (b : ℕ) → is_slash b ≡ true → b ≡ 47
-slash_is b e = grind (arith, nat_tests)
-
-or_first : (a b : Bool) → (a || b) ≡ true → b ≡ false → a ≡ true
-or_first true b e f = refl
-or_first false b e f = absurd (false≢true (sym f ∙ e))
-
-last_slash : (x : List ℕ) → list_any is_slash x ≡ true → Cut x
-last_slash [] e = absurd (false≢true e)
-last_slash (b ∷ x) e =
-    elim (list_any is_slash x) as (λ s. list_any is_slash x ≡ s → Cut (b ∷ x)) [
-      | true ↦ λ is. let c = last_slash x is in record { before = b ∷ c.before; base = c.base; whole = ap (λ r. b ∷ r) c.whole; bare = c.bare }
-      | false ↦ λ is. record { before = []; base = x; whole = ap (λ b. b ∷ x) (slash_is b (or_first (is_slash b) (list_any is_slash x) e is)); bare = is }
-    ] refl
-
-neither : (a b : Bool) → (a || b) ≡ false → (a ≡ false) × (b ≡ false)
-neither true b e = absurd (false≢true (sym e))
-neither false b e = (refl, e)
-
-all_bare : (y : List ℕ) (k : ℕ) → list_any is_slash y ≡ false → k < length y → not (is_slash (get_or y k 0)) ≡ true
-all_bare [] k e l = absurd (omega arith)
-all_bare (b ∷ y) k e l = let n = neither (is_slash b) (list_any is_slash y) e in
-    elim k as (λ k. k < length (b ∷ y) → not (is_slash (get_or (b ∷ y) k 0)) ≡ true) [
-      | zero ↦ λ l. ap not n.0
-      | suc j ↦ λ l. all_bare y j n.1 (omega arith)
-    ] l
-
-before_is : (before base : List ℕ) → list_any is_slash base ≡ false → before_last is_slash (before ++ 47 ∷ base) ≡ before
-before_is before base bare =
-    let n : suffix_len (λ x. not (is_slash x)) all ≡ length all - (length before + 1) =
-    suffix_len_is (λ x. not (is_slash x)) all (length before + 1) 0 (omega (arith, len)) later at in
-    ap (λ k. take k all) (omega (arith, len, n)) ∙ take_at before (47 ∷ base) (length before) refl
-  where
-    all : List ℕ
-    all = before ++ 47 ∷ base
-
-    len : length all ≡ length before + (length base + 1)
-    len = omega (arith, length-append before (47 ∷ base))
-
-    parts : all ≡ (before ++ 47 ∷ []) ++ base
-    parts = sym (append_assoc before (47 ∷ []) base)
-
-    later : (k : ℕ) → length before + 1 ≤ k → k < length all → not (is_slash (get_or all k 0)) ≡ true
-    later k l m =
-        ap (λ xs. not (is_slash (get_or xs k 0))) parts
-        ∙ ap (λ b. not (is_slash b)) (get_or-append_right (before ++ 47 ∷ []) base (length before + 1) k 0 (omega (arith, length-append before (47 ∷ []))) l)
-        ∙ all_bare base (k - (length before + 1)) bare (omega (arith, len))
-
-    at : 0 < length before + 1 → not (is_slash (get_or all (length before + 1 - 1) 0)) ≡ false
-    at l = ap (λ k. not (is_slash (get_or all k 0))) (back (length before)) ∙ ap (λ b. not (is_slash b)) (get_or-append_seam before 47 base 0)
-      where
-        back : (k : ℕ) → k + 1 - 1 ≡ k
-        back k = omega arith
 
 -- the base is a name, and the parent and it make the path
 
@@ -104,7 +44,7 @@ over_long a b before = let e : eqb (length (a ∷ b ∷ before)) 0 ≡ false = g
 child_at : (q before base : List ℕ) → q ≡ before ++ 47 ∷ base → list_any is_slash base ≡ false → refusal q ≡ None → length q ≢ 1
     → name_below (parent_of q) q ≡ Some base
 child_at q [] base e bare fine long =
-    ap (λ p. name_below p q) (ap parent_of e ∙ ap (λ b. cond (eqb (length b) 0) (47 ∷ []) b) (before_is [] base bare))
+    ap (λ p. name_below p q) (ap parent_of e ∙ ap (λ b. cond (eqb (length b) 0) (47 ∷ []) b) (around_slash [] base bare).first)
     ∙ name_below-front (47 ∷ []) q base e
     ∙ ap (λ b. cond b (Some base) None) (named base bare (λ z. long (ap length e ∙ alone base z)))
   where
@@ -116,7 +56,7 @@ child_at q (a ∷ []) base e bare fine long = absurd (clash (after_slash a (47 �
     clash : first_fault (slice_split is_slash (47 ∷ base)) ≡ None → ⊥
     clash h = cc
 child_at q (a ∷ b ∷ before) base e bare fine long =
-    ap (λ p. name_below p q) (ap parent_of e ∙ ap (λ b. cond (eqb (length b) 0) (47 ∷ []) b) (before_is (a ∷ b ∷ before) base bare) ∙ over_long a b before)
+    ap (λ p. name_below p q) (ap parent_of e ∙ ap (λ b. cond (eqb (length b) 0) (47 ∷ []) b) (around_slash (a ∷ b ∷ before) base bare).first ∙ over_long a b before)
     ∙ name_below-front (a ∷ b ∷ before) q base (e ∙ sym (append_assoc (a ∷ b ∷ before) (47 ∷ []) base) ∙ ap (λ f. f ++ base) (sym (front_long a b before)))
     ∙ ap (λ b. cond b (Some base) None) (named base bare parts)
   where
@@ -141,7 +81,7 @@ root_is (b ∷ c ∷ q) h l = absurd (omega arith)
 -- a path other than `/` is a child of its parent
 pub child_of_parent : ChildrenHaveParents
 child_of_parent q fine off =
-    let c = last_slash q (has_slash q fine) in
+    let c = cut_at_slash q (has_slash q fine) in
     ap is_some (child_at q c.before c.base c.whole c.bare fine (λ l. false≢true (sym off ∙ root_is q fine l)))
 
 -- so where no name is in a directory, no path has it as its parent

@@ -9,6 +9,8 @@ pub mod Preordered
 pub mod Under
 pub mod Moved
 pub mod Words
+pub mod Shared
 pub mod Parts
 pub mod Readable
 pub mod Refused
+pub mod Parents

@@ -9,6 +9,7 @@
 //! Paths are in *path order*: `/` comes before every other byte, and the other bytes are as they are. It is preorder with
 //! siblings in byte order, so a list of the paths of a tree that is in path order reads as a walk of that tree from the top
 //! down ([`path_order_is_preorder`]), in which all that is under a path stands right behind it ([`under_is_contiguous`]).
+//! [`compare`] compares bytes so, whether they make a path or not, and [`common_len`] tells how many bytes two texts begin with.
 //!
 //! [`escape`] writes a path so that it fills one line of printable text, whatever bytes its names hold, and [`unescape`]
 //! reads that text, and no other, as the path ([`reading_undoes_writing`]).
@@ -35,6 +36,7 @@ mod laws;
 mod names;
 mod ordering;
 mod paths;
+mod prefixes;
 mod reading;
 mod written;
 
@@ -44,5 +46,7 @@ pub use laws::{
     below_keeps_order, below_undoes_graft, graft_undoes_below, path_order_is_preorder,
     path_order_reads_slash_as_zero, reading_undoes_writing, under_is_contiguous,
 };
+pub use ordering::compare;
 pub use paths::{MAX_PATH, Path, valid_name};
+pub use prefixes::common_len;
 pub use reading::unescape;

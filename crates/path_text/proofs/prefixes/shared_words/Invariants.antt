@@ -1,5 +1,5 @@
 use Rattle.std.proofs.Common.{◌≡◌, ◌≤◌, ◌-◌, take, min, length}
-use Rattle.flat_list.proofs.prefixes.shared_words.Given as goal
+use Rattle.path_text.proofs.prefixes.shared_words.Given as goal
 
 -- the words so far are the same
 abbrev pub invariant-loop-at : goal.invariant-loop-at

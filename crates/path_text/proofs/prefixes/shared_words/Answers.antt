@@ -1,6 +1,6 @@
 use Rattle.std.proofs.Common.{◌∙◌, sym, arith}
 use Rattle.path_text.proofs.Words.{next_word}
-use Rattle.path_text.proofs.ordering.shared_words.Goals as goal
+use Rattle.path_text.proofs.prefixes.shared_words.Goals as goal
 
 pub loop-at-preserved : goal.loop-at-preserved
 loop-at-preserved c = record {

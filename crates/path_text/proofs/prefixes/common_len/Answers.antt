@@ -1,5 +1,5 @@
-use Rattle.flat_list.proofs.Inverse.{prefix_past}
-use Rattle.flat_list.proofs.prefixes.common_len.Goals as goal
+use Rattle.path_text.proofs.Shared.{prefix_past}
+use Rattle.path_text.proofs.prefixes.common_len.Goals as goal
 
 pub loop-i-init : goal.loop-i-init
 loop-i-init c =

@@ -3,9 +3,9 @@ ghost use Rattle.std.specs.Prelude.{◌≡◌, ◌+◌, ◌≤◌, length, take,
 ghost use Rattle.std.specs.List.{common_prefix_len};
 ghost use Rattle.std.specs.Int.{from_be_bytes, w64};
 
-/// How many bytes both begin with: eight are compared at a time, and from the first eight that differ each byte.
-#[tactic(auto, using(crate::proofs::Inverse::prefix_done, crate::proofs::Inverse::prefix_short))]
-pub(crate) fn common_len(a: &[u8], b: &[u8]) -> usize
+/// How many bytes both begin with: eight are compared at a time, and from the first eight that differ each byte. Our own.
+#[tactic(auto, using(crate::proofs::Shared::prefix_done, crate::proofs::Shared::prefix_short))]
+pub fn common_len(a: &[u8], b: &[u8]) -> usize
     ensures common { result ≡ common_prefix_len nat_eq a.now b.now }
     ensures short { result ≤ length b.now }
 {
@@ -19,8 +19,8 @@ pub(crate) fn common_len(a: &[u8], b: &[u8]) -> usize
     both
 }
 
-// How many bytes, in whole words, both begin with.
-fn shared_words(a: &[u8], b: &[u8]) -> usize
+/// How many bytes, in whole words, both begin with.
+pub(crate) fn shared_words(a: &[u8], b: &[u8]) -> usize
     ensures in_a { result ≤ length a.now }
     ensures in_b { result ≤ length b.now }
     ensures same { take result a.now ≡ take result b.now }
