@@ -254,6 +254,18 @@ read_back (b ∷ p) =
       | false ↦ λ e. subst (λ l. ReadBack (b ∷ p) (l ++ escape p)) (sym (as_itself b e)) (plain_back b p (escape p) e (read_back p))
     ] refl
 
+no_less : (n : ℕ) → nat_lt n n ≡ false
+no_less n = grind (arith, nat_tests)
+
+-- a text in which each byte stands for itself is read as it stands
+pub reads_itself : (text : List ℕ) → escape text ≡ text → reading text ≡ path_of (refusal text) text
+reads_itself text e =
+    let w = read_back text in
+    let good : good_len text ≡ length text = ap good_len (sym e) ∙ w.good ∙ ap length e in
+    let all : nat_lt (good_len text) (length text) ≡ false = ap (λ n. nat_lt n (length text)) good ∙ no_less (length text) in
+    ap (λ b. cond b (Err (BadEscape (good_len text))) (path_of (refusal (unescaped text)) (unescaped text))) all
+    ∙ ap (λ s. path_of (refusal s) s) (ap unescaped (sym e) ∙ w.read)
+
 -- a good text is what is written for the bytes that it is read as
 pub spelled : (n : ℕ) (s : List ℕ) → length s ≤ n → good_len s ≡ length s → s ≡ escape (unescaped s)
 spelled n [] l h = refl

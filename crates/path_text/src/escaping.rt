@@ -48,8 +48,8 @@ fn append_escaped(text: &mut Vec<u8>, bytes: &[u8]) -> Result<(), OutOfMemory>
     Ok(())
 }
 
-// The first byte that does not stand for itself.
-fn first_escaped(bytes: &[u8]) -> Option<usize>
+/// The first byte that does not stand for itself.
+pub(crate) fn first_escaped(bytes: &[u8]) -> Option<usize>
     ensures found { IfSome result (λ k. (k < length bytes.now) × (is_escaped (slice_index bytes.now k) ≡ true)
         × (escape bytes.now ≡ take k bytes.now ++ (escaped (slice_index bytes.now k) ++ escape (drop (k + 1) bytes.now)))) }
     ensures none { IfNone result (escape bytes.now ≡ bytes.now) }

@@ -1,16 +1,16 @@
 //! A path read from printable text.
 ghost use Rattle.std.specs.Prelude.{◌≡◌, ◌≢◌, ◌+◌, ◌*◌, ◌&&◌, not, ◌<◌, ◌≤◌, ◌⊎◌, ◌∷◌, ◌++◌, length, take, drop, slice_index, IfOk, IfErr, IsErrOf, IsOk, Ok, Err, IsTrue, List, ℕ};
 ghost use Rattle.std.specs.String.{string_bytes};
-ghost use Rattle.path_text.specs.Escape.{hex_value, told_byte, is_escaped, begins_escape, good_len, unescaped, reading};
+ghost use Rattle.path_text.specs.Escape.{hex_value, told_byte, is_escaped, begins_escape, good_len, unescaped, escape, reading};
 
 use crate::errors::{EscapeError, PathError};
-use crate::escaping::{escape_of, is_escaped};
+use crate::escaping::{escape_of, first_escaped, is_escaped};
 use crate::paths::Path;
 use crate::written::told_refusal;
 use std::alloc::{AllocError, Global};
 
 /// The path whose printable text this is, as [`escape`](crate::escape) writes it. The text is looked at before memory is
-/// taken.
+/// taken. Where each byte stands for itself, which is seen many bytes at a time, the text is the path's own.
 #[tactic(auto, using(crate::proofs::Refused::never_memory))]
 pub fn unescape(alloc: Global, text: &str) -> Result<Path, EscapeError>
     ensures ok { IfOk result (λ path. reading text.now ≡ Ok path) }
@@ -18,6 +18,9 @@ pub fn unescape(alloc: Global, text: &str) -> Result<Path, EscapeError>
     ensures fault { IfErr result (λ e. e ≢ EscapeError.Path PathError.OutOfMemory) }
     ensures memory { IsErrOf result EscapeError.OutOfMemory → IsOk (reading text.now) }
 {
+    if first_escaped(text.as_bytes()).is_none() {
+        return plain(alloc, text);
+    }
     let good = good_len(text.as_bytes());
     if good < text.len() {
         return Err(EscapeError::BadEscape(good));
@@ -27,6 +30,22 @@ pub fn unescape(alloc: Global, text: &str) -> Result<Path, EscapeError>
     }
     let bytes = unescaped(alloc, text)?;
     Ok(Path::of_text(bytes))
+}
+
+// The path that a text is in which each byte stands for itself.
+#[tactic(auto, using(crate::proofs::Readable::reads_itself, crate::proofs::Refused::never_memory))]
+fn plain(alloc: Global, text: &str) -> Result<Path, EscapeError>
+    requires { escape text.now ≡ text.now }
+    ensures ok { IfOk result (λ path. reading text.now ≡ Ok path) }
+    ensures refused { IfErr result (λ e. (reading text.now ≡ Err e) ⊎ (e ≡ EscapeError.OutOfMemory)) }
+    ensures fault { IfErr result (λ e. e ≢ EscapeError.Path PathError.OutOfMemory) }
+    ensures memory { IsErrOf result EscapeError.OutOfMemory → IsOk (reading text.now) }
+{
+    match Path::parse(alloc, text) {
+        Ok(path) => Ok(path),
+        Err(PathError::OutOfMemory) => Err(EscapeError::OutOfMemory),
+        Err(fault) => Err(EscapeError::Path(fault)),
+    }
 }
 
 // How many bytes stand before the first bad one.
