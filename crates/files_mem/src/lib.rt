@@ -25,8 +25,8 @@
 //! look at the same time. Proved of it: it meets what every ground is to meet, its counts rise and its areas change as those of
 //! the ground inside. What its readers answer is tested.
 //!
-//! Both types are seen as a `Memory`: the nodes by their paths, the calls that are planned to fail, and the count of faults.
-//! Proved: each call answers exactly what that tells, changes exactly what its clauses name, and leaves a tree; only want of
+//! [`MemGround`] and its readers are seen as a `Memory`: the nodes by their paths, the calls that are planned to fail, and the count of faults;
+//! [`Blind`] and its readers as their counts and areas alone. Proved: each call answers exactly what that tells, changes exactly what its clauses name, and leaves a tree; only want of
 //! memory may stand in place of an answer. Listing a directory costs its children and not what is under them, which is
 //! measured and not proved; a write costs the bytes that it writes and not those of the file, unless a reader is out.
 //! A part takes its nodes out of the ground, so a lease costs what it lends and not all, unless a reader is out; the bytes of

@@ -1,5 +1,5 @@
 -- Packing and unpacking are inverse, and packing goes on behind.
-use Rattle.std.proofs.Common.{◌≡◌, ℕ, zero, suc, ◌+◌, ◌<◌, ◌≤◌, ◌%◌, true, false, cond, List, [], ◌∷◌, ◌++◌, length, take, drop, get_or, min, refl}
+use Rattle.std.proofs.Common.{◌≡◌, ℕ, zero, suc, ◌+◌, ◌<◌, ◌≤◌, ◌%◌, true, false, cond, List, [], ◌∷◌, ◌++◌, length, take, drop, get_or, refl}
 use Rattle.std.proofs.Common.{ap, sym, Result, Ok, Err, ◌∙◌, arith, append_assoc}
 use Rattle.std.specs.Prelude.{nat_eq, ◌==◌, ◌&&◌}
 use Rattle.std.specs.List.{common_prefix_len, list_all, sum_by}
@@ -51,6 +51,13 @@ shared_same place before path =
     (λ t. take (cond t 0 (common_prefix_len nat_eq before path)) before ≡ take (cond t 0 (common_prefix_len nat_eq before path)) path) [
       | true ↦ refl
       | false ↦ prefix_same before path
+    ]
+
+pub shared_front : (place : ℕ) (before path : List ℕ) → shared_by place before path ≤ length before
+shared_front place before path =
+    elim (place % 256 == 0) as (λ t. cond t 0 (common_prefix_len nat_eq before path) ≤ length before) [
+      | true ↦ omega arith
+      | false ↦ (common_prefix_len-le nat_eq before path).0
     ]
 
 pub shared_short : (place : ℕ) (before path : List ℕ) → shared_by place before path ≤ length path

@@ -1,18 +1,21 @@
 -- A cursor passes an entry.
-use Rattle.std.proofs.Common.{◌≡◌, ℕ, ◌+◌, ◌-◌, ◌<◌, ◌≤◌, true, false, List, [], ◌∷◌, ◌++◌, length, take, drop, get_or, refl, subst, ap, sym, ◌∙◌, arith}
+use Rattle.std.proofs.Common.{◌≡◌, ℕ, ◌+◌, ◌-◌, ◌<◌, ◌≤◌, true, false, List, [], ◌∷◌, ◌++◌, length, take, drop, get_or, refl, subst, ap, ap₂, sym, ◌∙◌, arith}
 use Rattle.std.specs.Prelude.{Some, None, slice_get, ◌&&◌, is_none}
 use Rattle.std.specs.Str.{is_utf8}
 use Rattle.std.specs.List.{list_all}
-use Rattle.std.proofs.lemmas.List.{drop_more, take_more, drop-drop, length-drop, length-append}
+use Rattle.std.specs.Ordering.{is_lt}
+use Rattle.std.proofs.lemmas.List.{drop_more, take_more, drop-drop, length-drop, length-append, take-append-drop}
 use Rattle.std.proofs.lemmas.List.Folds.{list_all_at}
 use Rattle.std.proofs.Math.Seq.{drop-append_seam}
 use Rattle.std.proofs.lemmas.Option.{slice_get-get_or, slice_get_within, get_or_from_slice_get}
 use Rattle.path_text.specs.Path.{refusal}
+use Rattle.path_text.specs.Order.{path_cmp}
+use Rattle.path_text.proofs.Words.{behind, rest_of}
 use Rattle.flat_list.specs.declared.entries.Entry.{Entry}
 use Rattle.flat_list.specs.declared.heads.Head.{Head}
 use Rattle.flat_list.specs.Pack.{rest_by, head_by, heads_from, rests_from, path_by, entry_by, unpacked}
-use Rattle.flat_list.specs.Private.Kept.{IsKept, IsAt, IsBefore, is_path}
-use Rattle.flat_list.proofs.Inverse.{path_back, kept_many}
+use Rattle.flat_list.specs.Private.Kept.{IsKept, IsAt, IsBefore, RisesAt, is_path}
+use Rattle.flat_list.proofs.Inverse.{path_back, kept_many, shared_front}
 
 pub refusal_of : (p : List ℕ) → is_path p ≡ true → refusal p ≡ None
 refusal_of p = elim (refusal p) as (λ r. (is_none r && is_utf8 p) ≡ true → r ≡ None) [ None ↦ λ e. refl | Some x ↦ λ e. cc ]
@@ -63,6 +66,7 @@ before_first {hs} {starts} {bytes} {path} k held = record {
 -- the next entry: its rest is inside, and its path is one
 pub record IsStep (hs : List Head) (bytes : List ℕ) (passed at : ℕ) (held : List ℕ) (entries : List Entry) (h : Head) : Type 0 where
   pub room : at + h.rest ≤ length bytes
+  pub short : h.shared ≤ length held
   pub path : is_path (path_by held h (drop at bytes)) ≡ true
   pub next : IsAt hs bytes (passed + 1) (at + h.rest) (path_by held h (drop at bytes)) entries
   pub here : slice_get entries passed ≡ Some (entry_by h (path_by held h (drop at bytes)))
@@ -94,6 +98,7 @@ step {hs} {bytes} {passed} {at} {held} {entries} h k sg =
     ) in
     record {
       room = room;
+      short = subst (λ (h : Head). h.shared ≤ length held) head (shared_front passed held x.path);
       path = ap is_path path ∙ path_at entries passed d lx k.paths;
       next = record {
         paths = k.paths;
@@ -109,6 +114,26 @@ step {hs} {bytes} {passed} {at} {held} {entries} h k sg =
       };
       here = slice_get-get_or entries passed d lx ∙ ap Some (sym entry);
     }
+
+-- how the next path stands to the one passed last is how what they do not share stands
+tail_stands : (shared : ℕ) (held rest : List ℕ) → shared ≤ length held → path_cmp (take shared held ++ rest) held ≡ path_cmp rest (drop shared held)
+tail_stands shared held rest short = ap (path_cmp (take shared held ++ rest)) (sym (take-append-drop shared held)) ∙ behind (take shared held) rest (drop shared held)
+
+pub rises_next : {hs : List Head} {bytes : List ℕ} {passed at : ℕ} {held : List ℕ} {entries : List Entry} (h : Head) (n m : ℕ) (last : Entry) →
+    n ≡ h.rest → m ≡ length held - h.shared → IsAt hs bytes passed at held entries → slice_get hs passed ≡ Some h → last.path ≡ held → 0 < passed →
+    slice_get entries (passed - 1) ≡ Some last → is_lt (path_cmp (take n (drop at bytes)) (take m (drop h.shared held))) ≡ false → RisesAt entries (passed - 1)
+rises_next {hs} {bytes} {passed} {at} {held} {entries} h n m last is ms k sg path some before stands d lt =
+    let s = step h k sg in
+    let next : path_by held h (drop at bytes) ≡ take h.shared held ++ take n (drop at bytes) = ap (λ (n : ℕ). take h.shared held ++ take n (drop at bytes)) (sym is) in
+    let here : get_or entries passed d ≡ entry_by h (path_by held h (drop at bytes)) = get_or_from_slice_get entries passed _ d s.here in
+    let there : get_or entries (passed - 1) d ≡ last = get_or_from_slice_get entries (passed - 1) last d before in
+    let one : passed - 1 + 1 ≡ passed = omega arith in
+    let rest : take m (drop h.shared held) ≡ drop h.shared held = ap (λ (m : ℕ). take m (drop h.shared held)) ms ∙ rest_of held h.shared in
+    ap₂ (λ (x y : List ℕ). is_lt (path_cmp x y))
+    (ap (λ (i : ℕ). (get_or entries i d).path) one ∙ ap (λ (e : Entry). e.path) here ∙ next)
+    (ap (λ (e : Entry). e.path) there ∙ path)
+    ∙ ap is_lt (tail_stands h.shared held (take n (drop at bytes)) s.short ∙ ap (path_cmp (take n (drop at bytes))) (sym rest))
+    ∙ stands
 
 -- the same, where so many bytes of the rests are taken
 pub made_path : {hs : List Head} {bytes : List ℕ} {passed at : ℕ} {held : List ℕ} {entries : List Entry} (h : Head) (n : ℕ) → n ≡ h.rest →

@@ -9,6 +9,7 @@ use Rattle.std.proofs.lemmas.List.Quantifiers.{position-Some}
 use Rattle.std.proofs.lemmas.List.Elements.{recursion_from_All}
 use Rattle.std.proofs.lemmas.Grind.{get_or_default_zero}
 use Rattle.std.proofs.Math.Seq.{drop-cons}
+use Rattle.memchr.specs.Find.{IsFirstByte, is_byte}
 use Rattle.flat_list.specs.Private.Reading.{cut, onto_word}
 
 -- the byte is not among them
@@ -70,21 +71,24 @@ cut_none c text word rest e free is =
     cc
 
 -- the place of the byte, as the code finds it
+
+-- a place of the byte before which none is
+pub cut_at : (c : ℕ) (text : List ℕ) (k : ℕ) → k < length text → get_or text k 0 ≡ c → ((j : ℕ) → j < k → eqb (get_or text j 0) c ≡ false) →
+    cut c text ≡ Some (take k text, drop (k + 1) text)
+cut_at c text k lt byte none =
+    let free : IsFree c (take k text) = recursion_from_All (λ b. eqb b c ≡ false) (take k text) (λ j d below. before j d (omega (arith, length-take k text))) in
+    let parts : text ≡ take k text ++ c ∷ drop (k + 1) text = sym (take-append-drop k text)
+    ∙ ap (λ l. take k text ++ l) (rw (add-one) (drop-cons text k 0 lt) ∙ ap (λ b. b ∷ drop (k + 1) text) byte) in
+    ap (cut c) parts ∙ cut_again c (take k text) (drop (k + 1) text) free
+  where
+    before : (j d : ℕ) → j < k → eqb (get_or (take k text) j d) c ≡ false
+    before j d below = ap (λ b. eqb b c) (get_or-take k text j d below ∙ get_or_default_zero text j d (omega (arith, lt, below))) ∙ none j below
+
 pub placed_some : (c : ℕ) (text : List ℕ) (k : ℕ) → position (λ b. eqb b c) text ≡ Some k →
     (k < length text) × (cut c text ≡ Some (take k text, drop (k + 1) text))
 placed_some c text k e =
     let at = position-Some (λ b. eqb b c) text k 0 e in
-    let lt : k < length text = at.0 in
-    let byte : get_or text k 0 ≡ c = eqb_is (get_or text k 0) c at.1 in
-    let free : IsFree c (take k text) =
-    recursion_from_All (λ b. eqb b c ≡ false) (take k text) (λ j d below. before j d (omega (arith, length-take k text)) at.2) in
-    let parts : text ≡ take k text ++ c ∷ drop (k + 1) text = sym (take-append-drop k text)
-    ∙ ap (λ l. take k text ++ l) (rw (add-one) (drop-cons text k 0 lt) ∙ ap (λ b. b ∷ drop (k + 1) text) byte) in
-    (lt, ap (cut c) parts ∙ cut_again c (take k text) (drop (k + 1) text) free)
-  where
-    before : (j d : ℕ) → j < k → ((j : ℕ) → j < k → eqb (get_or text j 0) c ≡ false) → eqb (get_or (take k text) j d) c ≡ false
-    before j d lt all = ap (λ b. eqb b c)
-        (get_or-take k text j d lt ∙ get_or_default_zero text j d (omega (arith, position-Some (λ b. eqb b c) text k 0 e))) ∙ all j lt
+    (at.0, cut_at c text k at.0 (eqb_is (get_or text k 0) c at.1) at.2)
 
 no_place : (c : ℕ) (text : List ℕ) → ltb (position_or_len (λ b. eqb b c) text) (length text) ≡ false → cut c text ≡ None
 unfolding cut
@@ -109,5 +113,26 @@ placed_none c text e = no_place c text (by_test (ltb (position_or_len (λ b. eqb
         ltb (position_or_len (λ b. eqb b c) text) (length text) ≡ false
     by_test true is e = absurd cc
     by_test false is e = is
+
+-- ---- the first place of the byte, as it is sought many bytes at a time
+
+not_true : (b : Bool) → (b ≡ true → ⊥) → b ≡ false
+not_true true h = absurd (h refl)
+not_true false h = refl
+
+pub first_some : (c : ℕ) (text : List ℕ) (k : ℕ) → IsFirstByte (is_byte c) text (Some k) →
+    (k < length text) × (cut c text ≡ Some (take k text, drop (k + 1) text))
+first_some c text k first =
+    let lt : k < length text = first.0.high in
+    (lt, cut_at c text k lt (eqb_is (get_or text k 0) c first.1) (λ j below. not_true (eqb (get_or text j 0) c) (first.0.before j (omega arith) below)))
+
+pub first_none : (c : ℕ) (text : List ℕ) → IsFirstByte (is_byte c) text None → cut c text ≡ None
+unfolding cut
+first_none c [] none = refl
+first_none c (b ∷ text) none =
+    ap (λ t. cond t (Some ([], text)) (onto_word b (cut c text))) (not_true (eqb b c) (none 0 (omega arith) (omega arith)))
+    ∙ ap (onto_word b) (first_none c text (λ j low below. none (suc j) (omega arith) (omega (arith, below))))
+
+pub ruleset firsts = (first_some, first_none)
 
 pub ruleset places = (placed_some, placed_none)

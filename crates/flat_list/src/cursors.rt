@@ -1,5 +1,6 @@
 //! A cursor over the entries of a list.
-ghost use Rattle.std.specs.Prelude.{◌≡◌, ◌+◌, ◌-◌, ◌<◌, ◌≤◌, ◌++◌, ◌∷◌, [], nat_lt, if◌then◌else◌, Some, length, take, slice_get, OnErr, IfOk};
+ghost use Rattle.std.specs.Prelude.{◌≡◌, ◌+◌, ◌-◌, ◌<◌, ◌≤◌, ◌++◌, ◌∷◌, [], false, nat_lt, if◌then◌else◌, Some, length, take, slice_get, OnErr, IfOk};
+ghost use Rattle.flat_list.specs.Private.Kept.{RisesAt};
 
 use crate::entries::Entry;
 use crate::passing::Reader;
@@ -45,6 +46,14 @@ impl<'a> Cursor<'a> {
         }
         self.reader.pass()?;
         Ok(true)
+    }
+
+    // Whether there is a next entry whose path comes before that of the entry passed last.
+    pub(crate) fn falls(&self) -> bool
+        requires { 0 < self.now.1 }
+        ensures { result ≡ false → RisesAt self.now.0 (self.now.1 - 1) }
+    {
+        self.reader.falls()
     }
 
     /// The entry that was passed last.

@@ -8,7 +8,7 @@ ghost use Rattle.flat_list.specs.Private.Reading.{cut, entry_at, end_at, IsLast,
 use crate::entries::Entry;
 use crate::errors::CacheError;
 use crate::lists::FlatList;
-use crate::reading::{cut, end_at, entry_at};
+use crate::reading::{cut_line, end_at, entry_at};
 use path_text::{OutOfMemory, Path, reading_undoes_writing};
 use std::alloc::Global;
 
@@ -28,7 +28,7 @@ pub(crate) fn decode(alloc: Global, bytes: &[u8]) -> Result<FlatList, CacheError
     let mut list = FlatList::make(alloc);
     let mut last = None;
     let mut rest = rest;
-    while let Some((text, behind)) = cut(rest, b'\n') {
+    while let Some((text, behind)) = cut_line(rest) {
         if is_end(text, &list) {
             return ended(list, behind);
         }
@@ -49,7 +49,7 @@ fn behind_header(bytes: &[u8]) -> Option<&[u8]>
     ensures some { IfSome result (λ rest. cut 10 bytes.now ≡ Some (header_text, rest.now)) }
     ensures none { IfNone result (IsRefused bytes.now 1) }
 {
-    let (text, rest) = cut(bytes, b'\n')?;
+    let (text, rest) = cut_line(bytes)?;
     if text != b"mfu list 1".as_slice() {
         return None;
     }

@@ -6,7 +6,8 @@
 //!   bytes. So no slice of entries leaves the crate: they are made again, one by one.
 //! - [`FlatList::from_logs`] joins what several ranks found and kept packed, and puts it in path order: each log is unpacked a
 //!   piece at a time, in several threads where there are more, and each piece becomes a run, a short list in order; the runs
-//!   are merged. [`FlatList::from_jobs`] does so with logs that are not packed, each of which becomes one run.
+//!   are merged. [`FlatList::from_jobs`] does so with logs that are not packed, each of which becomes one run, and
+//!   [`FlatList::from_lists`] with lists that are in path order already, which are the runs.
 //! - A [`Cursor`] goes over the entries. It makes each path from the one before in one place, so it takes the memory of one
 //!   entry. [`FlatList::retain`] drops some of them.
 //! - [`FlatList::sort_by`] sorts by a [`Field`], upwards or downwards, and always by path where the field ties.

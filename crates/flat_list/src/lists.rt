@@ -192,7 +192,7 @@ impl FlatList {
         ensures sorted { IfOk result (λ list. IsSortedByKey (λ e. e.path) path_cmp list) }
     {
         let runs = run_each(alloc, logs)?;
-        let list = FlatList::of_runs(alloc, runs)?;
+        let list = FlatList::from_lists(alloc, runs)?;
         Ok(list)
     }
 
@@ -210,12 +210,13 @@ impl FlatList {
         ensures sorted { IfOk result (λ list. IsSortedByKey (λ e. e.path) path_cmp list) }
     {
         let runs = runs_by(rt, alloc, logs, hosts)?;
-        let list = FlatList::of_runs(alloc, runs)?;
+        let list = FlatList::from_lists(alloc, runs)?;
         Ok(list)
     }
 
-    // All entries of the runs, in path order.
-    fn of_runs(alloc: Global, runs: Vec<FlatList>) -> Result<FlatList, OutOfMemory>
+    /// All entries of some lists, in path order: soonest where each is in path order already, since such lists are merged. The
+    /// lists are dropped when they are merged, so it takes room for all entries, packed, once more.
+    pub fn from_lists(alloc: Global, runs: Vec<FlatList>) -> Result<FlatList, OutOfMemory>
         ensures all { IfOk result (λ list. IsPermutation (flat_map (λ run. run) runs.items) list) }
         ensures sorted { IfOk result (λ list. IsSortedByKey (λ e. e.path) path_cmp list) }
     {
@@ -251,16 +252,13 @@ impl FlatList {
         &self.rests[start..end]
     }
 
-    // Whether the entries are in path order. It takes the memory of two entries.
+    // Whether the entries are in path order. It takes the memory of one entry.
     fn ascends(&self) -> Result<bool, OutOfMemory>
         ensures { IfOk result (λ yes. yes ≡ true → IsSortedByKey (λ e. e.path) path_cmp self.now) }
     {
-        let mut behind = self.cursor()?;
-        let mut ahead = self.cursor()?;
-        ahead.advance()?;
-        while ahead.advance()? {
-            behind.advance()?;
-            if ahead.entry().path.cmp(&behind.entry().path).is_lt() {
+        let mut cursor = self.cursor()?;
+        while cursor.advance()? {
+            if cursor.falls() {
                 return Ok(false);
             }
         }
@@ -268,7 +266,7 @@ impl FlatList {
     }
 
     /// Puts the entries in path order. Entries of one path stay in their order. A list that is in path order already takes
-    /// one pass and room for two paths; any other is unpacked while it is sorted. A refusal leaves the list.
+    /// one pass and room for one path; any other is unpacked while it is sorted. A refusal leaves the list.
     pub fn sort_path(&mut self) -> Result<(), OutOfMemory>
         ensures all { IsPermutation self.old self.new }
         ensures sorted { OnOk result (IsSortedByKey (λ e. e.path) path_cmp self.new) }

@@ -1,11 +1,11 @@
 //! The entries of a list made again, one by one.
-ghost use Rattle.std.specs.Prelude.{◌≡◌, ◌+◌, ◌*◌, ◌<◌, ◌≤◌, ◌++◌, [], true, false, Some, length, take, slice_get, OnOk, OnErr, IfOk};
+ghost use Rattle.std.specs.Prelude.{◌≡◌, ◌+◌, ◌-◌, ◌*◌, ◌<◌, ◌≤◌, ◌++◌, [], true, false, Some, length, take, slice_get, OnOk, OnErr, IfOk};
 ghost use Rattle.flat_list.specs.Pack.{entry_by, unpacked};
-ghost use Rattle.flat_list.specs.Private.Kept.{is_path, IsBefore};
+ghost use Rattle.flat_list.specs.Private.Kept.{is_path, IsBefore, RisesAt};
 
 use crate::entries::{Entry, Mark};
 use crate::heads::{Head, Leads};
-use path_text::{OutOfMemory, Path};
+use path_text::{OutOfMemory, Path, compare};
 use std::alloc::Global;
 use std::marker::Model;
 
@@ -74,6 +74,22 @@ impl<'a> Reader<'a> {
         self.heads.pass();
         self.at = end;
         Ok(())
+    }
+
+    /// Whether there is a next entry whose path comes before that of the entry passed last. What the two share is not looked at,
+    /// and no path is made.
+    pub fn falls(&self) -> bool
+        requires some { 0 < self.now.1 }
+        requires last { slice_get self.now.0 (self.now.1 - 1) ≡ Some self.now.2 }
+        ensures { result ≡ false → RisesAt self.now.0 (self.now.1 - 1) }
+    {
+        if self.heads.is_over() {
+            return false;
+        }
+        let head = self.heads.head();
+        let end = self.at + head.rest as usize;
+        let last = self.entry.path.text().as_bytes();
+        compare(&self.rests[self.at..end], &last[head.shared as usize..]).is_lt()
     }
 
     /// The entry that was passed last.

@@ -8,6 +8,7 @@ ghost use Rattle.flat_list.specs.Entries.{is_sized, is_kind, is_of, shape_by};
 ghost use Rattle.flat_list.specs.Private.Reading.{cut, number_of, LeadsNumber, ok_of, time_from, kind_from, mark_from, word_at, stat_from, is_told, told_at, path_from, entry_at, end_at};
 
 use crate::entries::{Entry, Mark};
+use memchr::memchr;
 use outside::{Kind, Stat};
 use path_text::{EscapeError, OutOfMemory, Path, unescape};
 use std::alloc::Global;
@@ -27,6 +28,22 @@ pub(crate) fn cut(text: &[u8], at: u8) -> Option<(&[u8], &[u8])>
 {
     let place = place_of(text, at)?;
     Some((&text[..place], &text[place + 1..]))
+}
+
+/// The first line of a text without its end, and what stands behind it. Lines are long, so the end is sought many bytes at a time.
+pub(crate) fn cut_line(text: &[u8]) -> Option<(&[u8], &[u8])>
+    ensures { option_map (λ parts. (parts.0.now, parts.1.now)) result ≡ cut 10 text.now }
+{
+    let end = line_end(text)?;
+    Some((&text[..end], &text[end + 1..]))
+}
+
+#[tactic(auto, using(crate::proofs::Words::firsts))]
+fn line_end(text: &[u8]) -> Option<usize>
+    ensures found { IfSome result (λ k. (k < length text.now) × (cut 10 text.now ≡ Some (take k text.now, drop (k + 1) text.now))) }
+    ensures none { IfNone result (cut 10 text.now ≡ None) }
+{
+    memchr(b'\n', text)
 }
 
 #[tactic(auto, using(crate::proofs::Words::places))]

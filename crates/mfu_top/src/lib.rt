@@ -6,6 +6,7 @@
 //! - `running` has the call.
 //! - `reporting` has what it does for each tool, a line a tool: each has a room of its own, as [`list_report`] is that of dwalk,
 //!   dfind and dtest, [`compare_report`] that of dcmp, [`copy_report`] that of dcp, and [`remove_report`] that of drm.
+//! - `walks` tells a dwalk that lists from a walk in stages, whose room is [`stage_report`].
 //! - `laws` has when it succeeds.
 //!
 //! Proved: for all files, words and sinks, `run` meets its clauses. Where the files tell their tree, a run of status 0 or 1
@@ -17,12 +18,14 @@
 //! its sources, or named why not: a file at its target has the bytes of the source then, and every path but the targets is as
 //! before, whatever the status is. drm chose as dfind does, and of the chosen
 //! paths alone some are gone: each goes or stays as its line and its note say, and whatever the status is, every other path is as
-//! before. Each other status but 3 comes by its cause; where nothing stands against a run and no sink fails, it ends with status 0, or with 3 for want of memory.
+//! before. A walk that stops leaves a checkpoint that is a cut of the recursive walk, and the stage that goes on from it and ends
+//! prints what one walk prints. Each other status but 3 comes by its cause; where nothing stands against a run and no sink fails, it ends with status 0, or with 3 for want of memory.
 //! All this holds for any number of ranks, split rule and seed. The trace is that of a run of these ranks from the roots in
 //! which each path of the walk is handled once; the shares are what its events count, and add up to the walk; and the numbers of
 //! progress rise to its number of entries.
 //!
-//! `specs/Run` has what a run does by five words, a line a tool; each stands in the tool's room. How a run ends is
+//! `specs/Run` has what a run does, a line a tool: what it reports, why it stops, what it leaves of the files, and what hinders it; each word
+//! stands in the tool's room. How a run ends is
 //! [`run_report`]'s, what it finds and saves [`run_entries`]', and the words are read as [`tool_words`] says: all that is proved here
 //! follows from their contracts and laws.
 //!

@@ -102,7 +102,7 @@ where
         Err(why) => return Err(stop_by(why)),
     };
     let Entries { list, account } = entries;
-    let list = joined(rt, alloc, common.hosts, done, list)?;
+    let list = joined(alloc, done, list)?;
     if list.len() > MAX_ENTRIES {
         return Err(Stop::TooMany);
     }
@@ -148,7 +148,7 @@ where
         Ok(report) => report,
         Err(why) => return Err(stop_by(why)),
     };
-    let stage = stage_of(rt, alloc, common.hosts, done, report)?;
+    let stage = stage_of(alloc, done, report)?;
     if stage.list().len() > MAX_ENTRIES {
         return Err(Stop::TooMany);
     }
@@ -156,14 +156,7 @@ where
 }
 
 // What a walk comes to, with what was done before it.
-fn stage_of<T: Threads + Sync>(
-    rt: &T,
-    alloc: Global,
-    hosts: u32,
-    done: FlatList,
-    report: WalkReport,
-) -> Result<Stage, OutOfMemory>
-    requires hosts { 1 ≤ hosts }
+fn stage_of(alloc: Global, done: FlatList, report: WalkReport) -> Result<Stage, OutOfMemory>
     requires ascend { IsStrictlySortedBy path_cmp (paths_of (found_in report.walked report.list)) }
     ensures { IfOk result (IsStageOf done report) }
 {
@@ -176,7 +169,7 @@ fn stage_of<T: Threads + Sync>(
     } = report;
     match walked {
         Walked::Whole => {
-            let list = joined(rt, alloc, hosts, done, list)?;
+            let list = joined(alloc, done, list)?;
             let account = Account {
                 events,
                 shares,
@@ -186,7 +179,7 @@ fn stage_of<T: Threads + Sync>(
         }
         Walked::Cut(cut) => {
             let handled = cut.done.len() as u64;
-            let done = joined(rt, alloc, hosts, done, cut.done)?;
+            let done = joined(alloc, done, cut.done)?;
             Ok(Stage::Cut {
                 handled,
                 done,

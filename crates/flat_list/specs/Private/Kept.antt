@@ -1,9 +1,11 @@
 -- What a packed list keeps, and where one stands who goes over it.
-use Rattle.std.specs.Prelude.{◌≡◌, ℕ, ◌+◌, ◌*◌, ◌<◌, ◌≤◌, length, take, drop, nat_eq, ◌&&◌, Bool, List, [], true, is_none, Some, slice_get}
+use Rattle.std.specs.Prelude.{◌≡◌, ℕ, ◌+◌, ◌*◌, ◌<◌, ◌≤◌, length, take, drop, nat_eq, ◌&&◌, Bool, List, [], true, false, is_none, Some, slice_get, slice_index_or}
+use Rattle.std.specs.Ordering.{is_lt}
 use Rattle.std.specs.List.{list_all, common_prefix_len, position_or_len, sum_by}
 use Rattle.std.specs.Cmp.Lexicographic.{pointwise}
 use Rattle.std.specs.Str.{is_utf8}
 use Rattle.path_text.specs.Path.{refusal}
+use Rattle.path_text.specs.Order.{path_cmp}
 use Rattle.flat_list.specs.declared.entries.Entry.{Entry}
 use Rattle.flat_list.specs.declared.heads.Head.{Head}
 use Rattle.flat_list.specs.Pack.{heads_from, rests_from, last_path, unpacked}
@@ -51,3 +53,7 @@ pub record IsSeek (hs : List Head) (bytes wanted : List ℕ) (k at same : ℕ) (
 -- a place and a byte before which one may begin: the front of a page, whatever path is held
 abbrev pub IsBefore : List Head → List ℕ → ℕ → ℕ → Type 0
 IsBefore hs bytes passed at = (held : List ℕ) → IsAt hs bytes passed at held (unpacked [] hs bytes)
+
+-- the entry behind a place does not come before that at the place
+abbrev pub RisesAt : List Entry → ℕ → Type 0
+RisesAt entries k = (d : Entry) → k + 1 < length entries → is_lt (path_cmp (slice_index_or entries (k + 1) d).path (slice_index_or entries k d).path) ≡ false

@@ -3,7 +3,7 @@ use Rattle.std.specs.List.Sorted.{IsPermutation}
 use Rattle.std.proofs.lemmas.List.Sorted.{IsPermutation-trans}
 use Rattle.flat_list.specs.declared.entries.Entry.{Entry}
 use Rattle.flat_list.proofs.Merged.{flat}
-use Rattle.flat_list.proofs.lists.FlatList.of_runs.Goals as goal
+use Rattle.flat_list.proofs.lists.FlatList.from_lists.Goals as goal
 
 pub returns-clause-all : goal.returns-clause-all
 returns-clause-all c =
