@@ -25,16 +25,16 @@
 //! look at the same time. Proved of it: it meets what every ground is to meet, its counts rise and its areas change as those of
 //! the ground inside. What its readers answer is tested.
 //!
-//! [`MemGround`] and its readers are seen as a `Memory`: the nodes by their paths, the calls that are planned to fail, and the count of faults;
-//! [`Blind`] and its readers as their counts and areas alone. Proved: each call answers exactly what that tells, changes exactly what its clauses name, and leaves a tree; only want of
-//! memory may stand in place of an answer. Listing a directory costs its children and not what is under them, which is
-//! measured and not proved; a write costs the bytes that it writes and not those of the file, unless a reader is out.
-//! A part takes its nodes out of the ground, so a lease costs what it lends and not all, unless a reader is out; the bytes of
-//! files are copied with their nodes. A part that comes back waits in a place that its lease made, without memory, and the next
-//! call that may find none joins it; what is told never waits. Proved too: a part's nodes are those at and under its tops, and
-//! with any parts out, in any order of coming back, the ground stays a tree.
-//! Definitions stand in `specs/`: `Memory`, `Planned` (what is planned to fail) and `Stored` (the tree that a map in memory
-//! is); `PrivateHeld` (what a ground keeps while parts are out) is for private clauses.
+//! [`MemGround`] and its readers are seen as a `Memory`: the nodes by their paths, the calls that are planned to fail, and the
+//! count of faults; [`Blind`] and its readers as their counts and areas alone. Proved: each call answers exactly what that
+//! tells, changes exactly what its clauses name, and leaves a tree; only want of memory may stand in place of an answer.
+//! Listing a directory costs its children and not what is under them, which is measured and not proved; a write costs the bytes
+//! that it writes and not those of the file, unless a reader is out. A part takes its nodes out of the ground, so a lease costs
+//! what it lends and not all, unless a reader is out; the bytes of files are copied with their nodes. A part that comes back
+//! waits in a place that its lease made, without memory, and the next call that may find none joins it; what is told never
+//! waits. Proved too: a part's nodes are those at and under its tops, and with any parts out, in any order of coming back, the
+//! ground stays a tree. Definitions stand in `specs/`: `Memory`, `Planned` (what is planned to fail) and `Stored` (the tree
+//! that a map in memory is); `PrivateHeld` (what a ground keeps while parts are out) is for private clauses.
 #![tactic(auto)]
 
 mod blind;
