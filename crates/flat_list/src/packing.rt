@@ -6,8 +6,7 @@ ghost use Rattle.flat_list.specs.Pack.{shared_by, head_from, starts_by};
 
 use crate::entries::Entry;
 use crate::heads::{Head, Heads};
-use path_text::common_len;
-use path_text::OutOfMemory;
+use path_text::{OutOfMemory, common_len};
 
 /// How many bytes a path shares with the one before.
 #[tactic(auto, using(crate::proofs::Inverse::shared_short))]
