@@ -27,4 +27,6 @@ mod of_lists;
 #[cfg(test)]
 mod of_stages;
 #[cfg(test)]
+mod of_stops;
+#[cfg(test)]
 mod rows;

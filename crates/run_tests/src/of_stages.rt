@@ -5,7 +5,10 @@ use memory_runs::WholeFiles;
 use mfu_top::Status;
 use path_text::Path;
 use std::alloc::Global;
+use std::process::Abort;
+use std::sync::Wait;
 use std::test::Fail;
+use std::thread::Threads;
 
 // The trees, and an empty folder for lists.
 fn trees_and_folder(alloc: Global) -> Result<WholeFiles, Fail> {
@@ -23,7 +26,7 @@ fn folder_of(alloc: Global, texts: &[(&str, &str)]) -> Result<WholeFiles, Fail> 
     Ok(files)
 }
 
-const EMPTY_C: &str =
+pub(crate) const EMPTY_C: &str =
     "d            0 /c\nitems 1 dirs 1 files 0 links 0 others 0 bytes 0 failed 0\n";
 
 const DONE_T: &str = "mfu list 1\nd 0 86400 ok 0 0 /t\nf 1 86400 ok 0 0 /t/b-x\nend 2\n";
@@ -222,6 +225,124 @@ const STAGE_0: (&str, &str) = ("/c/circle0.txt", "circle 1 0 2\n/t/b\nend 1\n");
 const STAGE_1: (&str, &str) = ("/c/circle1.txt", "circle 1 1 2\n/t/a\nend 1\n");
 
 const STAGE_LIST: (&str, &str) = ("/c/circle.list", DONE_T);
+
+// A file of the folder with another text.
+fn in_list(text: &str) -> (&str, &str) {
+    ("/c/circle.list", text)
+}
+
+fn in_zero(text: &str) -> (&str, &str) {
+    ("/c/circle0.txt", text)
+}
+
+fn in_one(text: &str) -> (&str, &str) {
+    ("/c/circle1.txt", text)
+}
+
+// The line of a restart over these texts.
+fn tells<T: Abort + Threads + Wait + Sync>(
+    rt: &T,
+    alloc: Global,
+    list: (&str, &str),
+    zero: (&str, &str),
+    one: (&str, &str),
+    line: &str,
+) -> Result<(), Fail> {
+    let mut files = folder_of(alloc, &[list, zero, one])?;
+    let damaged: Want = (GO_ON, Status::Damaged, "", line);
+    do_as_wanted(rt, alloc, &mut files, &[damaged])
+}
+
+#[test]
+fn files_of_another_form_are_told(rt: HostRuntime) -> Result<(), Fail> {
+    let alloc = rt.alloc();
+    for (list, zero, one, line) in [
+        // the list, then the ranks' files
+        (
+            in_list(""),
+            STAGE_0,
+            STAGE_1,
+            "damaged /c/circle.list line 1\n",
+        ),
+        (
+            STAGE_LIST,
+            in_zero("circle 1 0 65\nend 0\n"),
+            STAGE_1,
+            "damaged /c/circle0.txt line 1\n",
+        ),
+        (
+            STAGE_LIST,
+            STAGE_0,
+            in_one("circle 1 1 3\n/t/a\nend 1\n"),
+            "damaged /c/circle1.txt line 1\n",
+        ),
+        (
+            STAGE_LIST,
+            STAGE_0,
+            in_one("circle 1 0 2\n/t/a\nend 1\n"),
+            "damaged /c/circle1.txt line 1\n",
+        ),
+        (
+            STAGE_LIST,
+            STAGE_0,
+            in_one("circle 1 1 2\n/t/a\nend 2\n"),
+            "damaged /c/circle1.txt line 3\n",
+        ),
+        // an error of form comes before a string that cannot be left
+        (
+            STAGE_LIST,
+            in_zero("circle 1 0 2\n/t\nend 1\n"),
+            in_one("circle 1 1 2\n/t/a\n"),
+            "damaged /c/circle1.txt line 3\n",
+        ),
+    ] {
+        tells(&rt, alloc, list, zero, one, line)?;
+    }
+    let mut files = folder_of(alloc, &[STAGE_LIST, STAGE_0])?;
+    let absent: Want = (GO_ON, Status::ListFile, "", "list absent /c/circle1.txt\n");
+    do_as_wanted(&rt, alloc, &mut files, &[absent])
+}
+
+// Done already, below a file that is done, above what is done, the same twice, and one under another.
+#[test]
+fn strings_that_cannot_be_left_are_told(rt: HostRuntime) -> Result<(), Fail> {
+    let alloc = rt.alloc();
+    for (zero, one, line) in [
+        (
+            STAGE_0,
+            in_one("circle 1 1 2\n/t/b-x\nend 1\n"),
+            "damaged /c/circle1.txt line 2\n",
+        ),
+        (
+            STAGE_0,
+            in_one("circle 1 1 2\n/t/a\n/t/b-x/y\nend 2\n"),
+            "damaged /c/circle1.txt line 3\n",
+        ),
+        (
+            STAGE_0,
+            in_one("circle 1 1 2\n/\nend 1\n"),
+            "damaged /c/circle0.txt line 2\n",
+        ),
+        (
+            in_zero("circle 1 0 2\nend 0\n"),
+            in_one("circle 1 1 2\n/\nend 1\n"),
+            "damaged /c/circle1.txt line 2\n",
+        ),
+        (
+            STAGE_0,
+            in_one("circle 1 1 2\n/t/b\nend 1\n"),
+            "damaged /c/circle0.txt line 2\n",
+        ),
+        (
+            STAGE_0,
+            in_one("circle 1 1 2\n/t/a\n/t/b/c\nend 2\n"),
+            "damaged /c/circle1.txt line 3\n",
+        ),
+    ] {
+        tells(&rt, alloc, STAGE_LIST, zero, one, line)?;
+    }
+    Ok(())
+}
 
 #[test]
 fn files_that_fail_stop_a_stage(rt: HostRuntime) -> Result<(), Fail> {

@@ -1,0 +1,183 @@
+//! A walk that is stopped at every number of paths, on one host and on several, goes on to the whole.
+use crate::of_stages::EMPTY_C;
+use crate::rows::{AMPLE, do_as_wanted, run_with};
+use memory_runs::WholeFiles;
+use mfu_top::Status;
+use path_text::Path;
+use std::alloc::Global;
+use std::process::Abort;
+use std::sync::Wait;
+use std::test::Fail;
+use std::thread::Threads;
+
+// A tree of 100 nodes and an empty folder: node k is named n and k, and stands under node (k - 1) / 8, which is a directory.
+fn hundred(alloc: Global) -> Result<WholeFiles, Fail> {
+    let mut files = WholeFiles::empty(alloc)?;
+    files.put_dir(&Path::parse(alloc, "/c")?, 0, None)?;
+    let root = String::from_str(alloc, "/n0")?;
+    let mut paths = Vec::new(alloc);
+    paths.push(root)?;
+    for k in 1..100usize {
+        let above = paths.get((k - 1) / 8).ok_or("a node above")?;
+        let path = format!(in alloc; "{above}/n{k}")?;
+        paths.push(path)?;
+    }
+    for (k, text) in paths.iter().enumerate() {
+        let path = Path::parse(alloc, text)?;
+        if 8 * k + 1 < 100 {
+            files.put_dir(&path, 0, None)?;
+        } else {
+            let mut bytes = Vec::new(alloc);
+            for _ in 0..37 * k % 101 {
+                bytes.push((k % 256) as u8)?;
+            }
+            files.put_file(&path, &bytes, None)?;
+        }
+    }
+    Ok(files)
+}
+
+// Stops the walk, goes on with three ranks where it was cut, and gives whether it was.
+fn stop_and_go_on<T: Abort + Threads + Wait + Sync>(
+    rt: &T,
+    alloc: Global,
+    words: &[&str],
+    text: &[u8],
+) -> Result<bool, Fail> {
+    let mut files = hundred(alloc)?;
+    let told = run_with(rt, alloc, &mut files, words, (AMPLE, AMPLE))?;
+    if told.0 == Status::Stopped {
+        assert_eq!(rt; told.1.text(), b"".as_slice(), "{words:?}");
+        let again = ["dwalk", "--restart", "--lists", "/c", "--ranks", "3"];
+        let whole = run_with(rt, alloc, &mut files, &again, (AMPLE, AMPLE))?;
+        assert_eq!(rt; whole.0, Status::Done, "{words:?}");
+        assert_eq!(rt; whole.1.text(), text, "{words:?}");
+        return Ok(true);
+    }
+    assert_eq!(rt; told.0, Status::Done, "{words:?}");
+    assert_eq!(rt; told.1.text(), text, "{words:?}");
+    let empty = (["dwalk", "/c"].as_slice(), Status::Done, EMPTY_C, "");
+    do_as_wanted(rt, alloc, &mut files, &[empty])?;
+    Ok(false)
+}
+
+// The text of the walk without a stop.
+fn whole_text<T: Abort + Threads + Wait + Sync>(rt: &T, alloc: Global) -> Result<Vec<u8>, Fail> {
+    let mut files = hundred(alloc)?;
+    let told = run_with(rt, alloc, &mut files, &["dwalk", "/n0"], (AMPLE, AMPLE))?;
+    assert_eq!(rt; told.0, Status::Done);
+    let mut text = Vec::new(alloc);
+    for byte in told.1.text() {
+        text.push(*byte)?;
+    }
+    Ok(text)
+}
+
+// Whether a stop after so many paths cuts the walk by these ranks.
+fn is_cut_at<T: Abort + Threads + Wait + Sync>(
+    rt: &T,
+    alloc: Global,
+    most: u64,
+    ranks: &str,
+    text: &[u8],
+) -> Result<bool, Fail> {
+    let number = format!(in alloc; "{most}")?;
+    let words = [
+        "dwalk",
+        "--stop-after",
+        &number,
+        "--lists",
+        "/c",
+        "--ranks",
+        ranks,
+        "/n0",
+    ];
+    stop_and_go_on(rt, alloc, &words, text)
+}
+
+#[test]
+fn every_stop_goes_on_to_the_whole(rt: HostRuntime) -> Result<(), Fail> {
+    let alloc = rt.alloc();
+    let text = whole_text(&rt, alloc)?;
+    for most in 1..=100u64 {
+        let was_cut = is_cut_at(&rt, alloc, most, "1", &text)?;
+        assert!(rt; was_cut == (most < 100), "{most}");
+        is_cut_at(&rt, alloc, most, "4", &text)?;
+    }
+    Ok(())
+}
+
+#[test]
+fn every_stop_on_four_hosts_goes_on_to_the_whole(rt: HostRuntime) -> Result<(), Fail> {
+    let alloc = rt.alloc();
+    let text = whole_text(&rt, alloc)?;
+    for seed in 0..20u64 {
+        let lot = format!(in alloc; "{seed}")?;
+        for step in 0..20u64 {
+            let number = format!(in alloc; "{}", 5 * step + seed % 5 + 1)?;
+            let words = [
+                "dwalk",
+                "--stop-after",
+                &number,
+                "--lists",
+                "/c",
+                "--ranks",
+                "4",
+                "--hosts",
+                "4",
+                "--split",
+                "random",
+                "--seed",
+                &lot,
+                "/n0",
+            ];
+            stop_and_go_on(&rt, alloc, &words, &text)?;
+        }
+    }
+    Ok(())
+}
+
+// A walk in many stages, each with another number of ranks and hosts.
+#[test]
+fn many_stages_come_to_the_whole(rt: HostRuntime) -> Result<(), Fail> {
+    let alloc = rt.alloc();
+    let text = whole_text(&rt, alloc)?;
+    let mut files = hundred(alloc)?;
+    let first = [
+        "dwalk",
+        "--stop-after",
+        "3",
+        "--lists",
+        "/c",
+        "--ranks",
+        "2",
+        "/n0",
+    ];
+    let mut told = run_with(&rt, alloc, &mut files, &first, (AMPLE, AMPLE))?;
+    let mut stages = 1u64;
+    for stage in 1..100u64 {
+        if told.0 != Status::Stopped {
+            break;
+        }
+        let ranks = format!(in alloc; "{}", stage % 5 + 1)?;
+        let hosts = format!(in alloc; "{}", stage % 3 + 1)?;
+        let next = [
+            "dwalk",
+            "--restart",
+            "--lists",
+            "/c",
+            "--stop-after",
+            "3",
+            "--ranks",
+            &ranks,
+            "--hosts",
+            &hosts,
+        ];
+        told = run_with(&rt, alloc, &mut files, &next, (AMPLE, AMPLE))?;
+        stages = stage + 1;
+    }
+    assert_eq!(rt; told.0, Status::Done);
+    assert_eq!(rt; told.1.text(), text.as_slice());
+    assert!(rt; stages > 7);
+    Ok(())
+}
