@@ -3,18 +3,9 @@ use Rattle.std.specs.Prelude.{◌≡◌, ℕ, Bool, true, false, not, ◌&&◌, 
 use Rattle.std.specs.List.{flat_map, list_any, count_by}
 use Rattle.outside.specs.declared.trees.Kind.TheVariants as kind
 use Rattle.flat_list.specs.declared.entries.Entry.{Entry}
-use Rattle.flat_list.specs.declared.entries.Mark.{Mark}
-use Rattle.flat_list.specs.declared.entries.Mark.TheVariants as mark
 use Rattle.flat_list.specs.Entries.{is_of}
+use Rattle.tree_walk.specs.Held.{is_fine}
 use Rattle.tree_walk.specs.Roots.{is_in}
-
--- whether the files answered as they are
-abbrev pub is_fine : Mark → Bool
-is_fine mark.Fine = true
-is_fine mark.StatFailed = false
-is_fine mark.ListFailed = false
-is_fine mark.Gone = false
-is_fine mark.Changed = false
 
 -- what is under it may still be left: a directory whose names were told
 abbrev pub is_open : Entry → Bool

@@ -46,6 +46,7 @@ pub record Holds (tree : Option Files) (count : ℕ) (held : List Held) : Type 0
   pub shaped : AllByRecursion (λ h. is_shaped h.0 ≡ true) held
   pub faults : RoseBy (sum_by weight_of (entries_of held)) 0 count
 
+-- whether the files answered as they are
 abbrev pub is_fine : Mark → Bool
 is_fine mark.Fine = true
 is_fine mark.StatFailed = false
