@@ -1,23 +1,20 @@
 -- Pairs that are due are apart, and each target stands in the destination, or is it.
-use Rattle.std.proofs.Common.{◌≡◌, ◌≢◌, ℕ, ◌+◌, ◌-◌, ◌<◌, ◌≤◌, zero, suc, Bool, true, false, not, ◌||◌, List, [], ◌∷◌, ◌++◌, length, map, take, drop}
-use Rattle.std.proofs.Common.{get_or, None, refl, ap, ◌∙◌, sym, subst, cond, arith, length-append, append_assoc}
-use Rattle.std.specs.Prelude.{◌==◌, nat_eq}
-use Rattle.std.specs.List.{All, list_any, before_last, after_last, suffix_len}
-use Rattle.std.specs.Cmp.Lexicographic.{pointwise, bytes_decides}
+use Rattle.std.proofs.Common.{◌≡◌, ℕ, Bool, true, false, ◌||◌, List, [], ◌∷◌, ◌++◌, map}
+use Rattle.std.proofs.Common.{get_or, None, refl, ap, ◌∙◌, sym, subst, cond, arith}
+use Rattle.std.specs.List.{All, list_any}
+use Rattle.std.specs.Cmp.Lexicographic.{bytes_decides}
 use Rattle.std.proofs.lemmas.Bool.{false≢true}
 use Rattle.std.proofs.lemmas.Bool.Decides.{nat_tests}
-use Rattle.std.proofs.lemmas.List.{take_at, drop_at, get_or-map, get_or-append_right, length-map}
+use Rattle.std.proofs.lemmas.List.{get_or-map, length-map}
 use Rattle.std.proofs.lemmas.List.Elements.{All-map}
 use Rattle.std.proofs.lemmas.List.Folds.{list_any_at}
-use Rattle.std.proofs.lemmas.List.Sums.{suffix_len_is}
-use Rattle.std.proofs.Math.Seq.{get_or-append_seam}
 use Rattle.path_text.specs.Order.{is_within}
-use Rattle.path_text.specs.Path.{is_slash, refusal, joined, base_of, parent_of}
+use Rattle.path_text.specs.Path.{refusal, joined, base_of, parent_of}
 use Rattle.path_text.proofs.Parents.{base_bare, parent_joined}
 use Rattle.outside.specs.Tree.{is_root}
 use Rattle.tree_copy.specs.declared.pairs.Pair.{Pair}
-use Rattle.tree_copy.specs.Placing.{overlap, target_in, pairs_in, placed, AreApart, PlacedAreApart}
-use Rattle.tree_copy.proofs.Due.{AreDue, are_due, targets_in, sources_in}
+use Rattle.tree_copy.specs.Placing.{overlap, target_in, PlacedAreApart}
+use Rattle.tree_copy.proofs.Due.{are_due, targets_in, sources_in}
 use Rattle.tree_copy.proofs.Overlaps.{meets, target, overlap_append}
 
 -- ---- `/` overlaps every path
@@ -39,6 +36,10 @@ root_meets root dest r h =
     over dest h = ap (λ b. is_within (47 ∷ []) dest || b) (within dest h) ∙ or_true (is_within (47 ∷ []) dest)
 
 -- ---- pairs that are due
+
+neither : (a b : Bool) → (a || b) ≡ false → (a ≡ false) × (b ≡ false)
+neither true b e = absurd (false≢true (sym e))
+neither false b e = (refl, e)
 
 -- no source overlaps a target
 across : (xs ys : List (List ℕ)) → overlap (xs ++ ys) ≡ false → list_any (λ x. list_any (meets x) ys) xs ≡ false

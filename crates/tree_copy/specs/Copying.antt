@@ -3,7 +3,7 @@ use Rattle.std.specs.Prelude.{⊤, ◌≡◌, ◌⊎◌, ℕ, Bool, true, false,
 use Rattle.std.specs.Prelude.{Option, Some, None, is_some, IfSome, All}
 use Rattle.std.specs.List.{list_any, filter, sum_by, zip}
 use Rattle.std.specs.List.Sorted.{IsStrictlySortedBy}
-use Rattle.std.specs.Option.{option_map, option_or}
+use Rattle.std.specs.Option.{option_map}
 use Rattle.std.specs.FinMap.{get}
 use Rattle.std.specs.Cmp.Lexicographic.{pointwise}
 use Rattle.path_text.specs.Graft.{grafted, below_of}

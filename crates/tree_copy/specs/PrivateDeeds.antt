@@ -6,10 +6,8 @@ use Rattle.outside.specs.Writes.{empty_dir, new_file}
 use Rattle.outside.specs.declared.trees.Kind.{Kind}
 use Rattle.outside.specs.declared.trees.Kind.TheVariants as kind
 use Rattle.outside.specs.declared.trees.Stat.{Stat}
-use Rattle.flat_list.specs.declared.entries.Entry.{Entry}
 use Rattle.flat_list.specs.Entries.{size_by}
 use Rattle.level_work.specs.Acts.{Deed}
-use Rattle.level_work.specs.declared.items.Fate.{Fate}
 use Rattle.level_work.specs.declared.items.Fate.TheVariants as fate
 
 -- A directory is made, or the one that is there is kept. `seen` is the tree that the actor's reader tells
