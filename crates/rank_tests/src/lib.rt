@@ -11,6 +11,8 @@ mod of_checkpoints;
 #[cfg(test)]
 mod of_circle_run;
 #[cfg(test)]
+mod of_halts;
+#[cfg(test)]
 mod of_hosts;
 #[cfg(test)]
 mod of_placing;
@@ -28,3 +30,5 @@ mod of_storms;
 mod of_sum_tree;
 #[cfg(test)]
 mod of_tree_walk;
+#[cfg(test)]
+mod of_walk_cuts;
