@@ -6,11 +6,8 @@ use Rattle.std.proofs.Math.Seq.{take-suc}
 use Rattle.path_text.specs.Escape.{escape}
 use Rattle.flat_list.specs.Spelling.{line, end_text}
 use Rattle.flat_list.proofs.Ascending.{all_more}
-use Rattle.flat_list.proofs.Encoded.{one_digit, more_digits}
 use Rattle.flat_list.proofs.Files.{flat_end}
 use Rattle.circle_lists.specs.Spelling.{IsRank, head_text, IsWritable, path_lines, Spells}
-
-pub ruleset decimal_steps = (one_digit, more_digits)
 
 -- the words of a head, one after the other
 pub head_joined : (a b c old : List ℕ) → ((old ++ a) ++ b ++ 32 ∷ []) ++ c ≡ old ++ (a ++ (b ++ 32 ∷ c))

@@ -5,6 +5,7 @@ ghost use Rattle.path_text.specs.Escape.{escape};
 ghost use Rattle.flat_list.specs.Spelling.{line, end_text};
 ghost use Rattle.circle_lists.specs.Spelling.{IsRank, head_text, IsWritable, Spells};
 
+use itoa::Buffer;
 use path_text::{OutOfMemory, Path, put_escaped};
 use std::alloc::Global;
 
@@ -59,15 +60,9 @@ fn put_path(text: &mut Vec<u8>, path: &Path) -> Result<(), OutOfMemory>
     Ok(())
 }
 
-#[tactic(auto, using(crate::proofs::Encoded::decimal_steps))]
 fn put_decimal(text: &mut Vec<u8>, n: u64) -> Result<(), OutOfMemory>
     ensures { OnOk result (text.new.items ≡ text.old.items ++ decimal n) }
 {
-    if n < 10 {
-        text.push(b'0' + n as u8)?;
-        return Ok(());
-    }
-    put_decimal(text, n / 10)?;
-    text.push(b'0' + (n % 10) as u8)?;
+    text.extend_from_slice(Buffer::new().format(n).as_bytes())?;
     Ok(())
 }

@@ -10,7 +10,7 @@ use Rattle.flat_list.specs.declared.entries.Entry.{Entry}
 use Rattle.flat_list.specs.declared.heads.Head.{Head}
 use Rattle.flat_list.specs.declared.summaries.Summary.{Summary}
 use Rattle.flat_list.specs.Entries.{is_of, bytes_by, mark_notes, note_count, summary_of}
-use Rattle.flat_list.specs.Pack.{entry_by, path_by, unpacked}
+use Rattle.flat_list.specs.Pack.{entry_by, path_by, path_len, unpacked}
 
 -- the entry of a head
 entry_at : (before : List ℕ) (hs : List Head) (bytes : List ℕ) (k : ℕ) (h : Head) → slice_get hs k ≡ Some h →
@@ -76,3 +76,11 @@ counted_more {old} {new} {h} xs ys path k is more =
     let bytes = k.bytes ∙ ap (λ (s : Summary). s.bytes + bytes_by h.stat) is ∙ sym (sum_more (λ e. bytes_by e.stat) xs e) in
     let failed = k.failed ∙ ap (λ (s : Summary). s.failed + note_count e) is ∙ sym (sum_more note_count xs e) in
     same _ _ _ _ _ _ _ _ _ _ _ _ _ _ items dirs files links others bytes failed ∙ ap summary_of (sym more)
+
+-- the bytes of so many paths, and of one more
+pub bytes_more : (hs : List Head) (k : ℕ) (h : Head) → slice_get hs k ≡ Some h → sum_by path_len (take k hs) + path_len h ≡ sum_by path_len (take (k + 1) hs)
+bytes_more hs k h is =
+    let one : take (k + 1) hs ≡ take k hs ++ h ∷ [] =
+    take_more hs k h (slice_get_within hs k h is) ∙ ap (λ (g : Head). take k hs ++ g ∷ []) (get_or_from_slice_get hs k h h is) in
+    let last : sum_by path_len (h ∷ []) ≡ path_len h = omega arith in
+    sym (ap (sum_by path_len) one ∙ sum_by-append path_len (take k hs) (h ∷ []) ∙ ap (λ (n : ℕ). sum_by path_len (take k hs) + n) last)

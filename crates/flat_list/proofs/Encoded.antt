@@ -1,9 +1,7 @@
 -- The steps of writing a list file.
-use Rattle.std.proofs.Common.{◌≡◌, ℕ, ◌+◌, ◌<◌, ◌≤◌, ◌^◌, ◌/◌, ◌%◌, List, [], ◌∷◌, ◌++◌, length, take, ap, sym, ◌∙◌, subst, append_assoc, append-nil}
+use Rattle.std.proofs.Common.{◌≡◌, ℕ, ◌+◌, ◌<◌, ◌≤◌, ◌^◌, List, [], ◌∷◌, ◌++◌, length, take, ap, sym, ◌∙◌, subst, append_assoc, append-nil}
 use Rattle.std.specs.List.{AllByRecursion, flat_map}
 use Rattle.std.specs.List.Sorted.{IsStrictlySortedBy}
-use Rattle.std.specs.Fmt.{decimal}
-use Rattle.std.proofs.lemmas.Fmt.{decimal_digit, decimal_step}
 use Rattle.std.proofs.lemmas.List.{take_all, map-append}
 use Rattle.path_text.specs.Order.{path_cmp}
 use Rattle.flat_list.specs.declared.entries.Entry.{Entry}
@@ -11,14 +9,6 @@ use Rattle.flat_list.specs.Spelling.{text_of, line, header_text, end_text, entry
 use Rattle.flat_list.proofs.Ascending.{all_more}
 use Rattle.flat_list.proofs.Dealt.{Turn, taken}
 use Rattle.flat_list.proofs.Files.{flat_end}
-
-pub one_digit : (old : List ℕ) (n : ℕ) → n < 10 → old ++ (48 + n) ∷ [] ≡ old ++ decimal n
-one_digit old n lt = ap (λ l. old ++ l) (sym (decimal_digit n lt))
-
-pub more_digits : (old : List ℕ) (n : ℕ) → 10 ≤ n → n < 2 ^ 64 → (old ++ decimal (n / 10)) ++ (48 + n % 10) ∷ [] ≡ old ++ decimal n
-more_digits old n le lt = append_assoc old (decimal (n / 10)) ((48 + n % 10) ∷ []) ∙ ap (λ l. old ++ l) (sym (decimal_step n le lt))
-
-pub ruleset decimal_steps = (one_digit, more_digits)
 
 -- what is written of so many entries: the header and their lines
 pub record Written (text : List ℕ) (es : List Entry) (i : ℕ) : Type 0 where

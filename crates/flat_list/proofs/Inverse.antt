@@ -3,7 +3,7 @@ use Rattle.std.proofs.Common.{◌≡◌, ℕ, zero, suc, ◌+◌, ◌<◌, ◌�
 use Rattle.std.proofs.Common.{ap, sym, Result, Ok, Err, ◌∙◌, arith, append_assoc}
 use Rattle.std.specs.Prelude.{nat_eq, ◌==◌, ◌&&◌}
 use Rattle.std.specs.List.{common_prefix_len, list_all, sum_by}
-use Rattle.std.proofs.lemmas.List.{take-append-drop, take-append-le, take_all, length-append}
+use Rattle.std.proofs.lemmas.List.{take-append-drop, take-append-le, take_all, length-append, length-drop}
 use Rattle.std.proofs.Math.Seq.{take-append_seam, drop-append_seam}
 use Rattle.std.proofs.lemmas.List.{append-nil}
 use Rattle.std.proofs.lemmas.List.Sums.{common_prefix_len-le, common_prefix_len-drop_yes, common_prefix_len-drop_no, sum_by-cons}
@@ -11,7 +11,7 @@ use Rattle.std.proofs.lemmas.Bool.Decides.{nat_tests}
 use Rattle.path_text.specs.Path.{refusal}
 use Rattle.flat_list.specs.declared.entries.Entry.{Entry}
 use Rattle.flat_list.specs.declared.heads.Head.{Head}
-use Rattle.flat_list.specs.Pack.{head_from, shared_by, rest_by, head_by, heads_from, rests_from, entry_by, unpacked, last_path, starts_by}
+use Rattle.flat_list.specs.Pack.{head_from, shared_by, rest_by, head_by, heads_from, rests_from, entry_by, unpacked, last_path, starts_by, path_len}
 use Rattle.flat_list.specs.Private.Kept.{IsKept, AreStarts, is_path, rest_sum}
 use Rattle.std.specs.Prelude.{Some, None, slice_get, OnOk, OnErr, ◌*◌, ◌<◌}
 use Rattle.std.proofs.Common.{inl, inr}
@@ -143,6 +143,18 @@ all_more (x ∷ es) e h p =
       | true ↦ λ h. all_more es e h p
       | false ↦ λ h. h
     ] h
+
+path_many : (place : ℕ) (before : List ℕ) (e : Entry) → path_len (head_by place before e) ≡ length e.path
+path_many place before e = omega (arith, shared_short place before e.path, length-drop (shared_by place before e.path) e.path)
+
+-- as many bytes in all paths as the heads say
+pub paths_many : (place : ℕ) (before : List ℕ) (xs : List Entry) → sum_by path_len (heads_from place before xs) ≡ sum_by (λ e. length e.path) xs
+paths_many place before [] = refl
+paths_many place before (x ∷ xs) =
+    sum_by-cons path_len (head_by place before x) (heads_from (place + 1) x.path xs)
+    ∙ ap (λ (n : ℕ). n + sum_by path_len (heads_from (place + 1) x.path xs)) (path_many place before x)
+    ∙ ap (λ (n : ℕ). length x.path + n) (paths_many (place + 1) x.path xs)
+    ∙ sym (sum_by-cons (λ (e : Entry). length e.path) x xs)
 
 -- as many bytes as the heads say
 pub rests_many : (place : ℕ) (before : List ℕ) (xs : List Entry) (n : ℕ) →

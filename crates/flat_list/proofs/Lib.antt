@@ -12,6 +12,7 @@ pub mod Decoded
 pub mod Encoded
 pub mod Unique
 pub mod Merged
+pub mod Cuts
 pub mod Sourced
 pub mod Halved
 pub mod Inverse
@@ -22,3 +23,4 @@ pub mod Turns
 pub mod Retained
 pub mod Counted
 pub mod Slimmed
+pub mod Appended

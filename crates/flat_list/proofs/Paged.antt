@@ -16,7 +16,7 @@ use Rattle.flat_list.specs.Private.Kept.{IsKept, IsBefore, AreStarts, rest_sum}
 use Rattle.flat_list.proofs.Inverse.{kept_many, rests_many, all_rests}
 use Rattle.flat_list.proofs.Passed.{any_front, any_rests}
 
-rests_split : (place : ℕ) (before : List ℕ) (xs ys : List Entry)
+pub rests_split : (place : ℕ) (before : List ℕ) (xs ys : List Entry)
     → rests_from place before (xs ++ ys) ≡ rests_from place before xs ++ rests_from (place + length xs) (last_path before xs) ys
 rests_split place before [] ys = let at : place + 0 ≡ place = omega arith in ap (λ (n : ℕ). rests_from n before ys) (sym at)
 rests_split place before (x ∷ xs) ys =
@@ -37,7 +37,7 @@ heads_drop place before (x ∷ xs) (suc n) =
 next_mod : (a b : ℕ) → a % 256 ≡ b % 256 → (a + 1) % 256 ≡ (b + 1) % 256
 next_mod a b e = omega (arith, e)
 
-rests_shift : (a b : ℕ) (before : List ℕ) (xs : List Entry) → a % 256 ≡ b % 256 → rests_from a before xs ≡ rests_from b before xs
+pub rests_shift : (a b : ℕ) (before : List ℕ) (xs : List Entry) → a % 256 ≡ b % 256 → rests_from a before xs ≡ rests_from b before xs
 rests_shift a b before [] e = refl
 rests_shift a b before (x ∷ xs) e =
     let one : rest_by a before x.path ≡ rest_by b before x.path = ap (λ (m : ℕ). drop (cond (m == 0) 0 (common_prefix_len nat_eq before x.path)) x.path) e in
@@ -47,7 +47,7 @@ rests_shift a b before (x ∷ xs) e =
 page_is : (k : ℕ) (before : List ℕ) (xs : List Entry) → rests_from (256 * k) before xs ≡ rests_from 0 [] xs
 page_is k before xs = rests_shift (256 * k) 0 before xs (omega arith) ∙ any_rests before xs
 
-heads_shift : (a b : ℕ) (before : List ℕ) (xs : List Entry) → a % 256 ≡ b % 256 → heads_from a before xs ≡ heads_from b before xs
+pub heads_shift : (a b : ℕ) (before : List ℕ) (xs : List Entry) → a % 256 ≡ b % 256 → heads_from a before xs ≡ heads_from b before xs
 heads_shift a b before [] e = refl
 heads_shift a b before (x ∷ xs) e =
     let one : head_by a before x ≡ head_by b before x =

@@ -70,7 +70,7 @@ heads_back (h ∷ hs) =
     ap₂ (λ (g : Head) (gs : List Head). g ∷ gs) (ap (told (slim_by h)) (first_back h more) ∙ told_back h)
     (ap (heads_of (map slim_by hs)) (after_back h more) ∙ heads_back hs)
 
-odds_many : (hs : List Head) → length (flat_map odds_by hs) ≡ sum_by odd_count hs
+pub odds_many : (hs : List Head) → length (flat_map odds_by hs) ≡ sum_by odd_count hs
 odds_many [] = refl
 odds_many (h ∷ hs) = length-append (odds_by h) (flat_map odds_by hs) ∙ ap (λ (n : ℕ). odd_count h + n) (odds_many hs) ∙ sym (sum_by-cons odd_count h hs)
 

@@ -49,6 +49,10 @@ path_by before h bytes = take h.shared before ++ take h.rest bytes
 abbrev pub entry_by : Head → List ℕ → Entry
 entry_by h path = record { path = path; stat = h.stat; mark = h.mark; unnamed = h.unnamed; far = h.far }
 
+-- how many bytes the path of a head has
+abbrev pub path_len : Head → ℕ
+path_len h = h.shared + h.rest
+
 -- the entries that heads and rests tell
 abbrev pub unpacked : List ℕ → List Head → List ℕ → List Entry
 unpacked before [] bytes = []

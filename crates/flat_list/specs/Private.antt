@@ -3,3 +3,4 @@ pub mod Reading
 pub mod Left
 pub mod Kept
 pub mod Slim
+pub mod Cut

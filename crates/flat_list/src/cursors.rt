@@ -56,6 +56,11 @@ impl<'a> Cursor<'a> {
         self.reader.falls()
     }
 
+    // How many bytes the path passed last shares with the one before, or fewer. Speed alone rests on the answer.
+    pub(crate) fn shared(&self) -> usize {
+        self.reader.shared()
+    }
+
     /// The entry that was passed last.
     pub fn entry(&self) -> &Entry
         requires { 0 < self.now.1 }

@@ -9,8 +9,12 @@ ghost use Rattle.flat_list.specs.Spelling.{kind_by, kind_word, time_word, mark_w
 
 use crate::entries::{Entry, Mark};
 use crate::lists::FlatList;
+use itoa::Buffer;
 use outside::{Kind, Stat};
 use path_text::{OutOfMemory, put_escaped};
+
+// What a line has beside its path, where it tells a size of six digits and a time, and no number of names.
+const LINE_LEN: usize = 28;
 
 /// The list file of a list.
 pub(crate) fn encode(list: &FlatList) -> Result<Vec<u8>, OutOfMemory>
@@ -18,7 +22,7 @@ pub(crate) fn encode(list: &FlatList) -> Result<Vec<u8>, OutOfMemory>
     requires shaped { All (λ e. is_shaped e ≡ true) list.now }
     ensures { IfOk result (λ bytes. Spells bytes.items list.now) }
 {
-    let mut text = Vec::new(list.alloc());
+    let mut text = Vec::with_capacity(list.alloc(), expected_len(list))?;
     text.extend_from_slice(b"mfu list 1\n")?;
     let mut cursor = list.cursor()?;
     while cursor.advance()? {
@@ -26,6 +30,12 @@ pub(crate) fn encode(list: &FlatList) -> Result<Vec<u8>, OutOfMemory>
     }
     put_end(&mut text, list.len())?;
     Ok(text)
+}
+
+// So many bytes the file has where no byte of a path is escaped, or somewhat fewer or more.
+fn expected_len(list: &FlatList) -> usize {
+    let paths = usize::try_from(list.path_bytes()).unwrap_or(0);
+    paths.saturating_add(list.len().saturating_mul(LINE_LEN))
 }
 
 fn put_end(text: &mut Vec<u8>, count: usize) -> Result<(), OutOfMemory>
@@ -132,15 +142,9 @@ fn put_number(text: &mut Vec<u8>, n: u64) -> Result<(), OutOfMemory>
     Ok(())
 }
 
-#[tactic(auto, using(crate::proofs::Encoded::decimal_steps))]
 fn put_decimal(text: &mut Vec<u8>, n: u64) -> Result<(), OutOfMemory>
     ensures { OnOk result (text.new.items ≡ text.old.items ++ decimal n) }
 {
-    if n < 10 {
-        text.push(b'0' + n as u8)?;
-        return Ok(());
-    }
-    put_decimal(text, n / 10)?;
-    text.push(b'0' + (n % 10) as u8)?;
+    text.extend_from_slice(Buffer::new().format(n).as_bytes())?;
     Ok(())
 }

@@ -1,7 +1,7 @@
 //! What a walk tells of a path.
-ghost use Rattle.std.specs.Prelude.{◌≡◌, IfOk};
+ghost use Rattle.std.specs.Prelude.{◌≡◌, IfOk, OnOk, OnErr};
 
-use outside::Stat;
+use outside::{Kind, Stat};
 use path_text::{OutOfMemory, Path};
 
 /// How the files answered of a path.
@@ -45,4 +45,25 @@ pub(crate) fn copy_of(entry: &Entry) -> Result<Entry, OutOfMemory>
         unnamed: entry.unnamed,
         far: entry.far,
     })
+}
+
+// An entry becomes another, in its own memory where that is enough. A refusal leaves it.
+pub(crate) fn write_over(slot: &mut Entry, entry: &Entry) -> Result<(), OutOfMemory>
+    ensures ok { OnOk result (slot.new ≡ entry.now) }
+    ensures err { OnErr result (slot.new ≡ slot.old) }
+{
+    slot.path.rewrite(0, entry.path.text().as_bytes())?;
+    slot.stat = entry.stat;
+    slot.mark = entry.mark;
+    slot.unnamed = entry.unnamed;
+    slot.far = entry.far;
+    Ok(())
+}
+
+// Whether a directory stands there, as far as was told.
+pub(crate) fn is_dir(entry: &Entry) -> bool {
+    match entry.stat {
+        Some(stat) => stat.kind == Kind::Dir,
+        None => false,
+    }
 }

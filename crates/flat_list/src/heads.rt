@@ -1,6 +1,7 @@
 //! What a list keeps of its entries beside the bytes of their paths.
-ghost use Rattle.std.specs.Prelude.{◌≡◌, ◌+◌, ◌*◌, ◌^◌, ◌<◌, ◌≤◌, ◌++◌, ◌∷◌, [], true, false, Some, length, slice_get, if◌then◌else◌, OnOk, OnErr, IfOk};
+ghost use Rattle.std.specs.Prelude.{◌≡◌, ◌+◌, ◌*◌, ◌%◌, ◌^◌, ◌<◌, ◌≤◌, ◌++◌, ◌∷◌, [], true, false, Some, length, slice_get, if◌then◌else◌, OnOk, OnErr, IfOk};
 
+use crate::appending::{extend_reserved, put_shifted};
 use crate::entries::Mark;
 use crate::slims::{Odd, Slim, odd_at, put_slim};
 use outside::Stat;
@@ -76,6 +77,22 @@ impl Heads {
         ensures err { OnErr result (self.new ≡ self.old) }
     {
         put_slim(&mut self.slims, &mut self.odds, &mut self.starts, head)
+    }
+
+    // Puts the heads of others behind these, which end where a page begins. A refusal leaves them.
+    pub fn append(&mut self, other: &Heads) -> Result<(), OutOfMemory>
+        requires { length self.old % 256 ≡ 0 }
+        ensures ok { OnOk result (self.new ≡ self.old ++ other.now) }
+        ensures err { OnErr result (self.new ≡ self.old) }
+    {
+        let base = self.odds.len();
+        self.slims.reserve(other.slims.len())?;
+        self.odds.reserve(other.odds.len())?;
+        self.starts.reserve(other.starts.len())?;
+        extend_reserved(&mut self.slims, &other.slims);
+        extend_reserved(&mut self.odds, &other.odds);
+        put_shifted(&mut self.starts, base, &other.starts);
+        Ok(())
     }
 
     // The heads, none of which was passed.

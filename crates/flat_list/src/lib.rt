@@ -4,10 +4,10 @@
 //! - A [`FlatList`] is seen as the list of its entries. It keeps them packed, in pages of 256: of each a head, and of its path
 //!   what it does not share with the one before; the first path of a page stands whole. [`FlatList::page`] shows a page's
 //!   bytes. So no slice of entries leaves the crate: they are made again, one by one.
-//! - [`FlatList::from_logs`] joins what several ranks found and kept packed, and puts it in path order: each log is unpacked a
-//!   piece at a time, in several threads where there are more, and each piece becomes a run, a short list in order; the runs
-//!   are merged. [`FlatList::from_jobs`] does so with logs that are not packed, each of which becomes one run, and
-//!   [`FlatList::from_lists`] with lists that are in path order already, which are the runs.
+//! - [`FlatList::from_logs`] joins what several ranks found and kept packed, and puts it in path order: each log is read once, in
+//!   several threads where there are more, and becomes runs, short lists in order. Runs that come in falling order, as those of
+//!   one rank do, are joined page by page, as they are kept; others are merged. [`FlatList::from_jobs`] does so with logs that
+//!   are not packed, and [`FlatList::from_lists`] with lists that are in path order already, which are the runs.
 //! - A [`Cursor`] goes over the entries. It makes each path from the one before in one place, so it takes the memory of one
 //!   entry. [`FlatList::retain`] drops some of them.
 //! - [`FlatList::sort_by`] sorts by a [`Field`], upwards or downwards, and always by path where the field ties.
@@ -45,7 +45,7 @@
 //! not claimed, nor is how soon a list stands in order.
 #![tactic(auto)]
 
-mod arranging;
+mod appending;
 mod cursors;
 mod dealing;
 mod decoding;
@@ -60,6 +60,7 @@ mod merging;
 mod ordering;
 mod packing;
 mod passing;
+mod piles;
 mod reading;
 mod runs;
 mod seeking;

@@ -1,6 +1,6 @@
 //! Lists of entries.
-ghost use Rattle.std.specs.Prelude.{◌≡◌, ◌+◌, ◌*◌, ◌<◌, ◌≤◌, ◌++◌, ◌∷◌, [], true, ◌==◌, Some, length, map, slice_get, slice_index_or, if◌then◌else◌, OnOk, OnErr, IfOk, IfErr, All};
-ghost use Rattle.std.specs.List.{flat_map, range_with_len};
+ghost use Rattle.std.specs.Prelude.{◌≡◌, ◌+◌, ◌*◌, ◌%◌, ◌<◌, ◌≤◌, ◌++◌, ◌∷◌, [], true, ◌==◌, Some, length, map, slice_get, slice_index_or, if◌then◌else◌, OnOk, OnErr, IfOk, IfErr, All};
+ghost use Rattle.std.specs.List.{flat_map, range_with_len, sum_by};
 ghost use Rattle.std.specs.Fn.{CalledAt};
 ghost use Rattle.std.specs.List.Retain.{IsFiltered};
 ghost use Rattle.std.specs.List.Sorted.{IsPermutation, IsSorted, IsSortedByKey, IsStrictlySortedBy, IsStable, IsStableByKey};
@@ -10,6 +10,7 @@ ghost use Rattle.flat_list.specs.Pack.{page_of};
 ghost use Rattle.flat_list.specs.Spelling.{paths, Spells, max_entries, IsCause};
 ghost use Rattle.flat_list.specs.Orders.{place_of, sort_order, level_count, places_at, dealt};
 
+use crate::appending::{extend_reserved, put_shifted};
 use crate::cursors::Cursor;
 use crate::dealing::{levels_of, pieces_of};
 use crate::decoding::decode;
@@ -18,14 +19,15 @@ use crate::entries::{Entry, copy_of};
 use crate::errors::CacheError;
 use crate::halving::runs_by;
 use crate::heads::Heads;
-use crate::merging::{len_of, merged};
+use crate::merging::{joined, len_of};
 use crate::ordering::{Field, sort_order};
-use crate::packing::{head_of, put, shared_of};
+use crate::packing::{cut_back, head_of, put, shared_of};
 use crate::passing::Reader;
 use crate::runs::run_each;
 use crate::seeking::place_in;
-use crate::summaries::{Summary, summary_of};
-use path_text::{OutOfMemory, Path};
+use crate::sources::Source;
+use crate::summaries::{Summary, path_bytes, summary_of};
+use path_text::{OutOfMemory, Path, compare};
 use std::alloc::Global;
 use std::marker::Model;
 use std::thread::Threads;
@@ -100,6 +102,17 @@ impl FlatList {
         Ok(list)
     }
 
+    // Copies of the entries, packed.
+    pub(crate) fn packed_from(alloc: Global, entries: &[Entry]) -> Result<FlatList, OutOfMemory>
+        ensures { IfOk result (λ list. list ≡ entries.now) }
+    {
+        let mut list = FlatList::with_room(alloc, entries.len())?;
+        for entry in entries {
+            list.add(entry)?;
+        }
+        Ok(list)
+    }
+
     // Copies of the entries.
     fn copies(&self) -> Result<Vec<Entry>, OutOfMemory>
         ensures { IfOk result (λ entries. entries.items ≡ self.now) }
@@ -148,6 +161,49 @@ impl FlatList {
         )
     }
 
+    /// Puts the entries of another list behind those of this one, which ends where a page begins: what is kept of them is copied
+    /// as it stands. A refusal leaves the list.
+    pub(crate) fn append(&mut self, other: &FlatList) -> Result<(), OutOfMemory>
+        requires { length self.old % 256 ≡ 0 }
+        ensures ok { OnOk result (self.new ≡ self.old ++ other.now) }
+        ensures err { OnErr result (self.new ≡ self.old) }
+    {
+        if other.is_empty() {
+            return Ok(());
+        }
+        let base = self.rests.len();
+        self.starts.reserve(other.starts.len())?;
+        self.rests.reserve(other.rests.len())?;
+        self.last.reserve(other.last.len())?;
+        self.heads.append(&other.heads)?;
+        put_shifted(&mut self.starts, base, &other.starts);
+        extend_reserved(&mut self.rests, &other.rests);
+        cut_back(&mut self.last, 0, &other.last);
+        Ok(())
+    }
+
+    // Puts the entries of another list behind those of this one, as they are kept where this one ends at a page.
+    pub(crate) fn put_behind(&mut self, other: &FlatList) -> Result<(), OutOfMemory>
+        ensures { OnOk result (self.new ≡ self.old ++ other.now) }
+    {
+        if self.len() % 256 == 0 {
+            return self.append(other);
+        }
+        Source::make(other)?.give_all(self)
+    }
+
+    // Whether the last path comes before the first one of another list. Speed alone rests on the answer.
+    pub(crate) fn is_before(&self, other: &FlatList) -> bool {
+        let heads = other.heads.leads();
+        if heads.is_over() {
+            return true;
+        }
+        match other.rests.get(..heads.head().rest as usize) {
+            Some(first) => compare(&self.last, first).is_lt(),
+            None => false,
+        }
+    }
+
     /// Keeps the entries for which `keep` answers `true`, in their order, and drops the others. A refusal leaves the list. What
     /// is kept is packed beside the list before that is dropped.
     pub fn retain<F: FnMut(&Entry) -> bool>(&mut self, keep: F) -> Result<(), OutOfMemory>
@@ -185,8 +241,7 @@ impl FlatList {
         self.add(entry)
     }
 
-    /// All entries of the logs, in path order. They are moved while each log is put in order, and each is dropped as soon as
-    /// it is packed. Logs that ranks of a walk made are soonest in order.
+    /// All entries of the logs, in path order, soonest where ranks of a walk made them.
     pub fn from_jobs(alloc: Global, logs: Vec<Vec<Entry>>) -> Result<FlatList, OutOfMemory>
         ensures all { IfOk result (λ list. IsPermutation (flat_map (λ log. log.items) logs.items) list) }
         ensures sorted { IfOk result (λ list. IsSortedByKey (λ e. e.path) path_cmp list) }
@@ -196,9 +251,9 @@ impl FlatList {
         Ok(list)
     }
 
-    /// All entries of the logs, in path order, soonest where ranks of a walk made them. Up to `hosts` threads unpack the logs, a
-    /// piece at a time, and put each piece in order; the pieces are then brought together. A log is dropped as soon as it is
-    /// read. So it takes room for all entries, packed, once more.
+    /// All entries of the logs, in path order, soonest where ranks of a walk made them. Up to `hosts` threads read the logs, and
+    /// put them in order a piece at a time; the pieces are then brought together. A log is dropped as soon as it is read, and a
+    /// piece as soon as it is joined to others. So it takes room for all entries, packed, once more.
     pub fn from_logs<R: Threads + Sync>(
         rt: &R,
         alloc: Global,
@@ -220,8 +275,7 @@ impl FlatList {
         ensures all { IfOk result (λ list. IsPermutation (flat_map (λ run. run) runs.items) list) }
         ensures sorted { IfOk result (λ list. IsSortedByKey (λ e. e.path) path_cmp list) }
     {
-        let mut list = merged(alloc, &runs)?;
-        drop(runs);
+        let mut list = joined(alloc, runs)?;
         list.sort_path()?;
         Ok(list)
     }
@@ -343,6 +397,13 @@ impl FlatList {
         ensures { result ≡ summary_of self.now }
     {
         summary_of(self.heads.leads(), self.heads.len())
+    }
+
+    /// How many bytes the paths of all entries have. It takes no memory, and makes no path.
+    pub fn path_bytes(&self) -> u128
+        ensures { result ≡ sum_by (λ e. length e.path) self.now }
+    {
+        path_bytes(self.heads.leads(), self.heads.len())
     }
 
     /// A cursor before the first entry. It takes the memory of one entry.

@@ -1,19 +1,53 @@
 //! Runs that become one list.
 //!
-//! The run whose next entry comes first gives its entries until that of another comes first. Which run is next is found by
-//! halving among the others, kept in falling order of their next entries, so of many runs few paths are compared. Nothing is
-//! promised of the order: whoever wants a list in order goes over it once more.
+//! Where each run comes before the one before it, as those of one rank do, they are joined as they are kept, the last one first.
+//! Others are merged: the run whose next entry comes first gives its entries until that of another comes first. Which run is
+//! next is found by halving among the others, kept in falling order of their next entries, so of many runs few paths are
+//! compared. Nothing is promised of the order: whoever wants a list in order goes over it once more.
 ghost use Rattle.std.specs.Prelude.{◌≡◌, ◌++◌, ◌≤◌, length, OnOk, IfOk};
 ghost use Rattle.std.specs.List.{flat_map};
 ghost use Rattle.std.specs.List.Sorted.{IsPermutation};
 
 use crate::lists::FlatList;
 use crate::sources::Source;
-use path_text::OutOfMemory;
+use path_text::{OutOfMemory, common_len};
 use std::alloc::Global;
 
-/// All entries of the runs; where each run is in path order, so are they.
-pub(crate) fn merged(alloc: Global, runs: &[FlatList]) -> Result<FlatList, OutOfMemory>
+/// All entries of the runs; where each run is in path order, so are they. Runs that come in falling order, as one rank's do,
+/// are joined as they are kept.
+pub(crate) fn joined(alloc: Global, runs: Vec<FlatList>) -> Result<FlatList, OutOfMemory>
+    ensures { IfOk result (λ all. IsPermutation (flat_map (λ run. run) runs.items) all) }
+{
+    if fall(&runs) {
+        return turned(alloc, runs);
+    }
+    merged(alloc, &runs)
+}
+
+// Whether each run comes before the one before it.
+fn fall(runs: &[FlatList]) -> bool {
+    for at in 1..runs.len() {
+        if !runs[at].is_before(&runs[at - 1]) {
+            return false;
+        }
+    }
+    true
+}
+
+// All entries of the runs, those of the last one first. Each run is dropped as soon as it is joined.
+fn turned(alloc: Global, runs: Vec<FlatList>) -> Result<FlatList, OutOfMemory>
+    ensures { IfOk result (λ all. IsPermutation (flat_map (λ run. run) runs.items) all) }
+{
+    let mut all = FlatList::with_room_of(alloc, &runs)?;
+    let mut runs = runs;
+    while let Some(run) = runs.pop() {
+        all.put_behind(&run)?;
+    }
+    Ok(all)
+}
+
+// All entries of the runs, merged.
+fn merged(alloc: Global, runs: &[FlatList]) -> Result<FlatList, OutOfMemory>
     ensures { IfOk result (λ all. IsPermutation (flat_map (λ run. run) runs.now) all) }
 {
     let mut all = FlatList::with_room_of(alloc, runs)?;
@@ -63,13 +97,13 @@ fn give_in_turn(
 ) -> Result<(), OutOfMemory>
     ensures { OnOk result (IsPermutation (all.old ++ flat_map (λ s. s) sources.old.items) (all.new ++ flat_map (λ s. s) sources.new.items)) }
 {
-    let mut at = waiting.pop().unwrap_or(sources.len());
+    let mut turn = first_turn(sources, waiting);
     for _ in 0..count {
-        if at >= sources.len() {
+        if turn.at >= sources.len() {
             return Ok(());
         }
-        sources[at].give(all)?;
-        at = next_turn(sources, waiting, at);
+        sources[turn.at].give(all)?;
+        turn = next_turn(sources, waiting, turn);
     }
     Ok(())
 }
@@ -85,20 +119,43 @@ fn give_rest(all: &mut FlatList, sources: Vec<Source<'_>>) -> Result<(), OutOfMe
     Ok(())
 }
 
-// Which source is next, behind one that just gave an entry.
-fn next_turn(sources: &[Source<'_>], waiting: &mut Vec<usize>, at: usize) -> usize {
-    if is_over(sources, at) {
-        return waiting.pop().unwrap_or(sources.len());
+// Which source gives, and how many bytes its next path shares with that of the source that waits at the end; more than any path
+// has where that is not known.
+#[derive(Clone, Copy, Drop)]
+struct Turn {
+    at: usize,
+    same: usize,
+}
+
+// The source that waits at the end is next.
+fn first_turn(sources: &[Source<'_>], waiting: &mut Vec<usize>) -> Turn {
+    Turn {
+        at: waiting.pop().unwrap_or(sources.len()),
+        same: usize::MAX,
+    }
+}
+
+// Which source is next, behind one that just gave an entry. Where its next path shares more with the one that it gave than that
+// did with the one that waits, it comes first as that did, and no paths are compared.
+fn next_turn(sources: &[Source<'_>], waiting: &mut Vec<usize>, turn: Turn) -> Turn {
+    if is_over(sources, turn.at) {
+        return first_turn(sources, waiting);
     }
     let Some(next) = waiting.last().copied() else {
-        return at;
+        return turn;
     };
-    if !comes_before(sources, next, at) {
-        return at;
+    if shared(sources, turn.at) > turn.same {
+        return turn;
     }
-    let _ = waiting.pop();
-    wait(sources, waiting, at);
-    next
+    if !comes_before(sources, next, turn.at) {
+        return Turn {
+            at: turn.at,
+            same: same_len(sources, turn.at, next),
+        };
+    }
+    let first = first_turn(sources, waiting);
+    wait(sources, waiting, turn.at);
+    first
 }
 
 // A source waits among the others, before those that come no later.
@@ -122,5 +179,27 @@ fn comes_before(sources: &[Source<'_>], one: usize, other: usize) -> bool {
     match (one.next(), other.next()) {
         (Some(one), Some(other)) => one.path.cmp(&other.path).is_lt(),
         _ => false,
+    }
+}
+
+// How many bytes the next path of a source shares with the one that it gave last, or fewer.
+fn shared(sources: &[Source<'_>], at: usize) -> usize {
+    match sources.get(at) {
+        Some(source) => source.shared(),
+        None => 0,
+    }
+}
+
+// How many bytes the next paths of two sources share.
+fn same_len(sources: &[Source<'_>], one: usize, other: usize) -> usize {
+    let (Some(one), Some(other)) = (sources.get(one), sources.get(other)) else {
+        return usize::MAX;
+    };
+    match (one.next(), other.next()) {
+        (Some(one), Some(other)) => common_len(
+            one.path.text().as_bytes(),
+            other.path.text().as_bytes(),
+        ),
+        _ => usize::MAX,
     }
 }

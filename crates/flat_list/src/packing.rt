@@ -4,6 +4,7 @@ ghost use Rattle.std.specs.Vec.{vec_len, vec_capacity};
 ghost use Rattle.path_text.specs.Path.{refusal};
 ghost use Rattle.flat_list.specs.Pack.{shared_by, head_from, starts_by};
 
+use crate::appending::extend_reserved;
 use crate::entries::Entry;
 use crate::heads::{Head, Heads};
 use path_text::{OutOfMemory, common_len};
@@ -82,21 +83,11 @@ pub(crate) fn put_start(starts: &mut Vec<usize>, place: usize, at: usize)
     }
 }
 
-// The first bytes of some bytes, and others behind them, for which there is room.
-fn cut_back(bytes: &mut Vec<u8>, shared: usize, rest: &[u8])
+/// The first bytes of some bytes, and others behind them, for which there is room.
+pub(crate) fn cut_back(bytes: &mut Vec<u8>, shared: usize, rest: &[u8])
     requires { vec_len bytes.old + length rest.now ≤ vec_capacity bytes.old }
     ensures { bytes.new.items ≡ take shared bytes.old.items ++ rest.now }
 {
     bytes.truncate(shared);
     extend_reserved(bytes, rest);
-}
-
-// Adds bytes for which there is room.
-fn extend_reserved(bytes: &mut Vec<u8>, rest: &[u8])
-    requires { vec_len bytes.old + length rest.now ≤ vec_capacity bytes.old }
-    ensures { bytes.new.items ≡ bytes.old.items ++ rest.now }
-{
-    let Ok(()) = bytes.extend_from_slice(rest) else {
-        unreachable!()
-    };
 }

@@ -16,6 +16,7 @@ pub(crate) struct Reader<'a> {
     rests: &'a [u8],
     at: usize,
     entry: Entry,
+    shared: usize,
 }
 
 impl<'a> Model for Reader<'a> {
@@ -49,6 +50,7 @@ impl<'a> Reader<'a> {
             rests,
             at,
             entry,
+            shared: 0,
         })
     }
 
@@ -73,6 +75,7 @@ impl<'a> Reader<'a> {
         rewrite(&mut self.entry, head, &self.rests[self.at..end])?;
         self.heads.pass();
         self.at = end;
+        self.shared = head.shared as usize;
         Ok(())
     }
 
@@ -90,6 +93,12 @@ impl<'a> Reader<'a> {
         let end = self.at + head.rest as usize;
         let last = self.entry.path.text().as_bytes();
         compare(&self.rests[self.at..end], &last[head.shared as usize..]).is_lt()
+    }
+
+    /// How many bytes the path passed last shares with the one before, as far as is kept: none at the front of a page. Speed
+    /// alone rests on the answer.
+    pub fn shared(&self) -> usize {
+        self.shared
     }
 
     /// The entry that was passed last.

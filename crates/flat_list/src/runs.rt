@@ -1,85 +1,267 @@
 //! Logs of a walk, cut into runs: short lists, each in path order.
 //!
-//! A log is unpacked a piece at a time, so few entries are held unpacked, and it is dropped as soon as it is read.
-ghost use Rattle.std.specs.Prelude.{◌≡◌, ◌++◌, [], OnOk, IfOk};
+//! A rank handles its newest string first, so its log has each directory before what is below it, and siblings in falling
+//! order. Where a directory waits until what is below it was passed, the entries come in falling path order. So a piece of
+//! them that is turned around is in path order, and comes before the piece that was made before it. What a rank was given on
+//! the way begins anew in its log: a piece of many entries ends there, and one of few goes on, and is sorted. A log is read an
+//! entry at a time, and its entries wait in slots that are used again.
+ghost use Rattle.std.specs.Prelude.{◌≡◌, ◌+◌, ◌<◌, ◌≤◌, ◌++◌, ◌∷◌, [], true, length, OnOk, IfOk};
 ghost use Rattle.std.specs.List.{flat_map};
 ghost use Rattle.std.specs.List.Sorted.{IsPermutation};
+ghost use Rattle.flat_list.specs.Private.Cut.{all_of, held_by};
 
-use crate::arranging::arrange;
-use crate::entries::{Entry, copy_of};
+use crate::entries::{Entry, is_dir};
 use crate::lists::FlatList;
+use crate::piles::Pile;
 use path_text::OutOfMemory;
 use std::alloc::Global;
-use std::mem;
 
-// So many entries of a log are unpacked at a time.
-const PIECE: usize = 16_384;
+// So many entries of a log make a run; a multiple of a page, so that runs can be joined page by page.
+const PIECE: usize = 8192;
+
+// Where a log begins anew, a piece of fewer entries goes on.
+const SHORT: usize = 64;
+
+// And so does one of fewer than such a part of its log, so that the merge has no great number of runs to keep apart.
+const PARTS: usize = 64;
 
 /// All entries of the logs as runs.
 pub(crate) fn runs_of(alloc: Global, logs: Vec<FlatList>) -> Result<Vec<FlatList>, OutOfMemory>
     ensures { IfOk result (λ runs. IsPermutation (flat_map (λ log. log) logs.items) (flat_map (λ run. run) runs.items)) }
 {
-    let mut runs = Vec::new(alloc);
-    for log in logs {
-        cut(&log, &mut runs)?;
-    }
+    let cut = cut_of(alloc, logs)?;
+    let runs = cut.into_runs()?;
     Ok(runs)
 }
 
-/// The entries of each log as one run.
+/// The entries of each log as runs.
 pub(crate) fn run_each(alloc: Global, logs: Vec<Vec<Entry>>) -> Result<Vec<FlatList>, OutOfMemory>
     ensures { IfOk result (λ runs. IsPermutation (flat_map (λ log. log.items) logs.items) (flat_map (λ run. run) runs.items)) }
 {
-    let mut runs = Vec::with_capacity(alloc, logs.len())?;
-    for log in logs {
-        runs.push(run_of(alloc, log)?)?;
-    }
+    let cut = cut_each(alloc, logs)?;
+    let runs = cut.into_runs()?;
     Ok(runs)
 }
 
-// The entries of a log go behind others, as runs.
-fn cut(log: &FlatList, runs: &mut Vec<FlatList>) -> Result<(), OutOfMemory>
-    ensures { OnOk result (IsPermutation (flat_map (λ run. run) runs.old.items ++ log.now) (flat_map (λ run. run) runs.new.items)) }
+// The logs, read. Each is dropped as soon as it is.
+fn cut_of(alloc: Global, logs: Vec<FlatList>) -> Result<Cut, OutOfMemory>
+    ensures { IfOk result (λ cut. IsPermutation (flat_map (λ log. log) logs.items) (all_of cut)) }
 {
-    let mut piece = Vec::new(log.alloc());
-    let mut cursor = log.cursor()?;
-    while cursor.advance()? {
-        piece.push(copy_of(cursor.entry())?)?;
-        close_full(&mut piece, runs)?;
+    let mut cut = Cut::make(alloc);
+    for log in logs {
+        cut.read(&log)?;
     }
-    close(&mut piece, runs)?;
-    Ok(())
+    Ok(cut)
 }
 
-// A piece that is full becomes a run.
-fn close_full(piece: &mut Vec<Entry>, runs: &mut Vec<FlatList>) -> Result<(), OutOfMemory>
-    ensures { OnOk result (IsPermutation (flat_map (λ run. run) runs.old.items ++ piece.old.items) (flat_map (λ run. run) runs.new.items ++ piece.new.items)) }
+// The same of logs that are not packed.
+fn cut_each(alloc: Global, logs: Vec<Vec<Entry>>) -> Result<Cut, OutOfMemory>
+    ensures { IfOk result (λ cut. IsPermutation (flat_map (λ log. log.items) logs.items) (all_of cut)) }
 {
-    if piece.len() < PIECE {
-        return Ok(());
+    let mut cut = Cut::make(alloc);
+    for log in logs {
+        cut.take_all(&log)?;
     }
-    close(piece, runs)?;
-    Ok(())
+    Ok(cut)
 }
 
-// A piece becomes a run.
-fn close(piece: &mut Vec<Entry>, runs: &mut Vec<FlatList>) -> Result<(), OutOfMemory>
-    ensures moved { OnOk result (IsPermutation (flat_map (λ run. run) runs.old.items ++ piece.old.items) (flat_map (λ run. run) runs.new.items)) }
-    ensures empty { OnOk result (piece.new.items ≡ []) }
-{
-    let alloc = *piece.allocator();
-    let entries = mem::replace(piece, Vec::new(alloc));
-    runs.push(run_of(alloc, entries)?)?;
-    Ok(())
+/// The runs, and the piece that is to be the next one.
+#[derive(Debug, Drop)]
+struct Pieces {
+    runs: Vec<FlatList>,
+    piece: Pile,
+    // Whether each entry of the piece comes before the one that was put before it.
+    falls: bool,
+    // So many entries make the next run.
+    room: usize,
+    // So many make a run where the log begins anew.
+    many: usize,
 }
 
-// The entries in path order, packed. They are moved while they are put in order, and each is dropped as soon as it is packed.
-fn run_of(alloc: Global, entries: Vec<Entry>) -> Result<FlatList, OutOfMemory>
-    ensures { IfOk result (λ run. IsPermutation entries.items run) }
-{
-    let mut entries = entries;
-    arrange(&mut entries)?;
-    entries.sort_by(|a, b| a.path.cmp(&b.path))?;
-    let run = FlatList::packed(alloc, entries)?;
-    Ok(run)
+impl Pieces {
+    fn make(alloc: Global) -> Pieces
+        ensures { held_by result ≡ [] }
+    {
+        Pieces {
+            runs: Vec::new(alloc),
+            piece: Pile::make(alloc),
+            falls: true,
+            room: PIECE,
+            many: SHORT,
+        }
+    }
+
+    // A log of so many entries begins. Its first run is the short one, so that the others end where a page does.
+    fn begin(&mut self, len: usize)
+        ensures { held_by self.new ≡ held_by self.old }
+    {
+        let short = len % PIECE;
+        self.room = if short == 0 { PIECE } else { short };
+        self.many = SHORT.max(len / PARTS);
+    }
+
+    // An entry goes into the piece, or begins the next one.
+    fn put(&mut self, entry: &Entry) -> Result<(), OutOfMemory>
+        ensures { OnOk result (IsPermutation (held_by self.old ++ entry.now ∷ []) (held_by self.new)) }
+    {
+        self.end_long(entry)?;
+        self.piece.put(entry)?;
+        self.end_full()?;
+        Ok(())
+    }
+
+    // Whether an entry comes before the last one of the piece.
+    fn comes_first(&self, entry: &Entry) -> bool {
+        match self.piece.last() {
+            Some(last) => entry.path.cmp(&last.path).is_lt(),
+            None => true,
+        }
+    }
+
+    // Where the log begins anew with an entry, a piece of many entries becomes a run, and one of few falls no more.
+    fn end_long(&mut self, entry: &Entry) -> Result<(), OutOfMemory>
+        ensures { OnOk result (IsPermutation (held_by self.old) (held_by self.new)) }
+    {
+        if self.comes_first(entry) {
+            return Ok(());
+        }
+        if self.piece.len() < self.many {
+            self.falls = false;
+            return Ok(());
+        }
+        self.end()?;
+        Ok(())
+    }
+
+    // A piece that is full becomes a run.
+    fn end_full(&mut self) -> Result<(), OutOfMemory>
+        ensures { OnOk result (IsPermutation (held_by self.old) (held_by self.new)) }
+    {
+        if self.piece.len() < self.room {
+            return Ok(());
+        }
+        self.end()?;
+        Ok(())
+    }
+
+    // The piece becomes a run, if it holds an entry.
+    fn end(&mut self) -> Result<(), OutOfMemory>
+        ensures moved { OnOk result (IsPermutation (held_by self.old) (held_by self.new)) }
+        ensures empty { OnOk result (self.new.piece ≡ []) }
+    {
+        if self.piece.len() == 0 {
+            return Ok(());
+        }
+        self.piece.put_in_order(self.falls)?;
+        let alloc = *self.runs.allocator();
+        self.runs
+            .push(FlatList::packed_from(alloc, self.piece.entries())?)?;
+        self.piece.clear();
+        self.falls = true;
+        self.room = PIECE;
+        Ok(())
+    }
+}
+
+/// Logs that are read: their runs, and the directories that wait until what is below them was passed.
+#[derive(Debug, Drop)]
+struct Cut {
+    pieces: Pieces,
+    waiting: Pile,
+}
+
+impl Cut {
+    fn make(alloc: Global) -> Cut
+        ensures { all_of result ≡ [] }
+    {
+        Cut {
+            pieces: Pieces::make(alloc),
+            waiting: Pile::make(alloc),
+        }
+    }
+
+    // The entries of a log go behind others.
+    fn read(&mut self, log: &FlatList) -> Result<(), OutOfMemory>
+        ensures { OnOk result (IsPermutation (all_of self.old ++ log.now) (all_of self.new)) }
+    {
+        self.pieces.begin(log.len());
+        let mut cursor = log.cursor()?;
+        while cursor.advance()? {
+            self.put(cursor.entry())?;
+        }
+        self.end()?;
+        Ok(())
+    }
+
+    // The same of a log that is not packed.
+    fn take_all(&mut self, log: &[Entry]) -> Result<(), OutOfMemory>
+        ensures { OnOk result (IsPermutation (all_of self.old ++ log.now) (all_of self.new)) }
+    {
+        self.pieces.begin(log.len());
+        for entry in log {
+            self.put(entry)?;
+        }
+        self.end()?;
+        Ok(())
+    }
+
+    // The next entry of a log. Directories that it is not below wait no more.
+    fn put(&mut self, entry: &Entry) -> Result<(), OutOfMemory>
+        ensures { OnOk result (IsPermutation (all_of self.old ++ entry.now ∷ []) (all_of self.new)) }
+    {
+        while self.leaves(entry) {
+            self.pass_last()?;
+        }
+        if is_dir(entry) {
+            self.waiting.put(entry)?;
+            return Ok(());
+        }
+        self.pieces.put(entry)?;
+        Ok(())
+    }
+
+    // Whether a directory waits that the entry is not below.
+    fn leaves(&self, entry: &Entry) -> bool
+        ensures { result ≡ true → 0 < length self.now.waiting }
+    {
+        match self.waiting.last() {
+            Some(last) => !entry.path.is_under(&last.path),
+            None => false,
+        }
+    }
+
+    // The directory that waits last goes into the piece.
+    fn pass_last(&mut self) -> Result<(), OutOfMemory>
+        requires { 0 < length self.old.waiting }
+        ensures moved { OnOk result (IsPermutation (all_of self.old) (all_of self.new)) }
+        ensures fewer { OnOk result (length self.new.waiting + 1 ≡ length self.old.waiting) }
+    {
+        let Some(last) = self.waiting.last() else {
+            return Ok(());
+        };
+        self.pieces.put(last)?;
+        self.waiting.drop_last();
+        Ok(())
+    }
+
+    // All that waits becomes runs.
+    fn end(&mut self) -> Result<(), OutOfMemory>
+        ensures moved { OnOk result (IsPermutation (all_of self.old) (all_of self.new)) }
+        ensures all { OnOk result (all_of self.new ≡ flat_map (λ run. run) self.new.pieces.runs.items) }
+    {
+        while self.waiting.len() > 0 {
+            self.pass_last()?;
+        }
+        self.pieces.end()?;
+        Ok(())
+    }
+
+    // All as runs.
+    fn into_runs(self) -> Result<Vec<FlatList>, OutOfMemory>
+        ensures { IfOk result (λ runs. IsPermutation (all_of self) (flat_map (λ run. run) runs.items)) }
+    {
+        let mut cut = self;
+        cut.end()?;
+        Ok(cut.pieces.runs)
+    }
 }

@@ -55,6 +55,11 @@ impl<'a> Source<'a> {
         Some(self.cursor.entry())
     }
 
+    /// How many bytes the next path shares with that of the entry given last, or fewer. Speed alone rests on the answer.
+    pub fn shared(&self) -> usize {
+        self.cursor.shared()
+    }
+
     /// Its next entry goes behind others, if one is left.
     pub fn give(&mut self, all: &mut FlatList) -> Result<(), OutOfMemory>
         ensures moved { OnOk result (all.new ++ self.new ≡ all.old ++ self.old) }

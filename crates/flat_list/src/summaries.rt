@@ -3,7 +3,7 @@ ghost use Rattle.std.specs.Prelude.{◌≡◌, ◌+◌, ◌<◌, ◌≤◌, ◌^
 ghost use Rattle.std.specs.List.{sum_by, count_by};
 ghost use Rattle.outside.specs.declared.trees.Kind.TheVariants as kind;
 ghost use Rattle.flat_list.specs.Entries.{is_of, bytes_by, mark_notes, summary_of};
-ghost use Rattle.flat_list.specs.Pack.{unpacked};
+ghost use Rattle.flat_list.specs.Pack.{unpacked, path_len};
 
 use crate::entries::Mark;
 use crate::heads::{Head, Leads};
@@ -107,4 +107,20 @@ fn bytes(stat: Option<Stat>) -> u64
         Kind::File => stat.size,
         _ => 0,
     }
+}
+
+// How many bytes the paths have whose heads these are.
+pub(crate) fn path_bytes(heads: Leads<'_>, count: usize) -> u128
+    requires first { heads.1 ≡ 0 }
+    requires all { count ≡ length heads.0 }
+    ensures { result ≡ sum_by path_len heads.entry.0 }
+{
+    let mut leads = heads;
+    let mut bytes = 0u128;
+    for _ in 0..count {
+        let head = leads.head();
+        bytes += u128::from(head.shared) + u128::from(head.rest);
+        leads.pass();
+    }
+    bytes
 }

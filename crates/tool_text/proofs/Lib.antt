@@ -1,5 +1,4 @@
 pub mod Drafted
-pub mod Digits
 pub mod Noted
 pub mod Ascending
 pub mod NotesCompared

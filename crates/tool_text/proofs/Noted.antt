@@ -1,5 +1,5 @@
 -- How many notes entries have.
-use Rattle.std.proofs.Common.{◌≡◌, ℕ, ◌+◌, false, List, ◌++◌, length, cond, refl, ap, ◌∙◌, arith, length-append}
+use Rattle.std.proofs.Common.{◌≡◌, ℕ, ◌+◌, false, List, [], ◌∷◌, ◌++◌, length, cond, refl, ap, ◌∙◌, arith, length-append}
 use Rattle.std.proofs.lemmas.List.{length-map}
 use Rattle.std.specs.List.{sum_by}
 use Rattle.std.proofs.lemmas.List.Concat.{length-flat_map}
@@ -34,3 +34,11 @@ of_entry e =
 -- as many as the summary says
 pub length-notes_of : (entries : List Entry) → length (notes_of entries) ≡ sum_by note_count entries
 length-notes_of entries = length-flat_map entry_notes entries ∙ (λ i. sum_by (λ e. of_entry e i) entries)
+
+nothing : {A : Type 0} (xs : List A) → length xs ≡ 0 → [] ≡ xs
+nothing [] e = refl
+nothing (x ∷ xs) e = absurd (omega (arith, e))
+
+-- where the summary says none, there are none
+pub no_notes : (entries : List Entry) → sum_by note_count entries ≡ 0 → [] ≡ notes_of entries
+no_notes entries none = nothing (notes_of entries) (length-notes_of entries ∙ none)

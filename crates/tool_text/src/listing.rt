@@ -18,7 +18,7 @@ pub(crate) fn add_list(draft: &mut Draft, list: &FlatList) -> Result<(), OutOfMe
     ensures ok { OnOk result (draft.new.1 ≡ draft.old.1 ++ lines_of list.now) }
     ensures stands { draft.new.0 ≡ draft.old.0 }
 {
-    draft.reserve(expected_len(list)?)?;
+    draft.reserve(expected_len(list))?;
     let mut cursor = list.cursor()?;
     while cursor.advance()? {
         add_entry(draft, cursor.entry())?;
@@ -26,21 +26,10 @@ pub(crate) fn add_list(draft: &mut Draft, list: &FlatList) -> Result<(), OutOfMe
     Ok(())
 }
 
-// So many bytes the lines have where no byte of a path is escaped, or somewhat fewer.
-fn expected_len(list: &FlatList) -> Result<usize, OutOfMemory> {
-    let mut len = 0usize;
-    let mut cursor = list.cursor()?;
-    while cursor.advance()? {
-        len = len.saturating_add(line_len(cursor.entry()));
-    }
-    Ok(len)
-}
-
-fn line_len(entry: &Entry) -> usize {
-    match entry.stat {
-        Some(_) => entry.path.text().len().saturating_add(LINE_LEN),
-        None => 0,
-    }
+// So many bytes the lines have where each entry has a stat and no byte of a path is escaped.
+fn expected_len(list: &FlatList) -> usize {
+    let paths = usize::try_from(list.path_bytes()).unwrap_or(usize::MAX);
+    paths.saturating_add(list.len().saturating_mul(LINE_LEN))
 }
 
 fn add_entry(draft: &mut Draft, entry: &Entry) -> Result<(), OutOfMemory>

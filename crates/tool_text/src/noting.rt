@@ -65,6 +65,9 @@ pub fn notes_of(alloc: Global, list: &FlatList) -> Result<Vec<Note>, OutOfMemory
     ensures count { IfOk result (λ notes. length notes.items ≡ (summary_of list.now).failed) }
 {
     let mut notes = Vec::new(alloc);
+    if list.summary().failed == 0 {
+        return Ok(notes);
+    }
     let mut cursor = list.cursor()?;
     while cursor.advance()? {
         push_notes(&mut notes, cursor.entry())?;

@@ -1,5 +1,5 @@
-use Rattle.flat_list.proofs.Merged.{log_more}
+use Rattle.std.proofs.lemmas.List.Sorted.{IsPermutation-trans}
 use Rattle.flat_list.proofs.runs.runs_of.Goals as goal
 
-pub loop-log-preserved : goal.loop-log-preserved
-loop-log-preserved c = log_more (λ log. log) c.loop-log.yielded c.in-Some.log _ _ c.loop-log.invariant c.in_ok-cut.ensures
+pub returns : goal.returns
+returns c = IsPermutation-trans _ _ _ c.in_ok-cut.ensures c.in_ok-runs.ensures

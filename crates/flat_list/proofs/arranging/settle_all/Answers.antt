@@ -1,5 +1,0 @@
-use Rattle.std.proofs.lemmas.List.Sorted.{IsPermutation-trans}
-use Rattle.flat_list.proofs.arranging.settle_all.Goals as goal
-
-pub loop-at-preserved : goal.loop-at-preserved
-loop-at-preserved c = IsPermutation-trans _ _ _ c.loop-at.invariant c.settle.ensures

@@ -1,0 +1,7 @@
+use Rattle.std.proofs.Common.{subst}
+use Rattle.std.specs.List.Sorted.{IsPermutation}
+use Rattle.flat_list.specs.Private.Cut.{all_of}
+use Rattle.flat_list.proofs.runs.Cut.into_runs.Goals as goal
+
+pub returns : goal.returns
+returns c = subst (IsPermutation (all_of c.args.self)) c.in_ok-end.ensures.all c.in_ok-end.ensures.moved

@@ -1,0 +1,104 @@
+//! Entries in slots that are used again.
+ghost use Rattle.std.specs.Prelude.{◌≡◌, ◌-◌, ◌++◌, ◌∷◌, [], length, take, OnOk, OnErr, IfSome, IfNone, IfOk};
+ghost use Rattle.std.specs.List.Sorted.{IsPermutation};
+
+use crate::entries::{Entry, copy_of, write_over};
+use path_text::OutOfMemory;
+use std::alloc::{AllocError, Global};
+use std::marker::Model;
+
+/// Copies of entries, seen as their list. What is taken away leaves its slot, and the next entry is written over what stands
+/// there, so that few paths take memory of their own. Our own.
+#[derive(Debug, Drop)]
+pub(crate) struct Pile {
+    slots: Vec<Entry>,
+    len: usize,
+}
+
+impl Model for Pile {
+    ghost use Rattle.std.specs.Prelude.{List, take, length, ◌≤◌};
+    ghost use Rattle.flat_list.specs.declared.entries.Entry.{Entry};
+
+    ghost Value = { List Entry };
+
+    ghost view = { λ p. take p.len p.slots.items };
+
+    ghost invariant = { λ p. p.len ≤ length p.slots.items };
+}
+
+impl Pile {
+    /// No entries. It takes no memory.
+    pub fn make(alloc: Global) -> Pile
+        ensures { result ≡ [] }
+    {
+        Pile {
+            slots: Vec::new(alloc),
+            len: 0,
+        }
+    }
+
+    pub fn len(&self) -> usize
+        ensures { result ≡ length self.now }
+    {
+        self.len
+    }
+
+    /// The entry that was put last.
+    pub fn last(&self) -> Option<&Entry>
+        ensures some { IfSome result (λ last. self.now ≡ take (length self.now - 1) self.now ++ last.now ∷ []) }
+        ensures none { IfNone result (length self.now ≡ 0) }
+    {
+        if self.len == 0 {
+            return None;
+        }
+        Some(&self.slots[self.len - 1])
+    }
+
+    /// Puts a copy of an entry behind the others. A refusal leaves them.
+    pub fn put(&mut self, entry: &Entry) -> Result<(), OutOfMemory>
+        ensures ok { OnOk result (self.new ≡ self.old ++ entry.now ∷ []) }
+        ensures err { OnErr result (self.new ≡ self.old) }
+    {
+        if self.len < self.slots.len() {
+            write_over(&mut self.slots[self.len], entry)?;
+        } else {
+            self.slots.push(copy_of(entry)?)?;
+        }
+        self.len += 1;
+        Ok(())
+    }
+
+    /// Takes the last entry away, if there is one.
+    pub fn drop_last(&mut self)
+        ensures { self.new ≡ take (length self.old - 1) self.old }
+    {
+        self.len = self.len.saturating_sub(1);
+    }
+
+    /// Takes all entries away.
+    pub fn clear(&mut self)
+        ensures { self.new ≡ [] }
+    {
+        self.len = 0;
+    }
+
+    /// Puts the entries in path order: where each comes before the one before it, as `falls` says, by turning them around.
+    pub fn put_in_order(&mut self, falls: bool) -> Result<(), AllocError>
+        ensures { IsPermutation self.old self.new }
+    {
+        self.slots.truncate(self.len);
+        if falls {
+            self.slots.reverse();
+            return Ok(());
+        }
+        self.slots.sort_by(|a, b| a.path.cmp(&b.path))?;
+        Ok(())
+    }
+
+    /// The entries.
+    pub fn entries(&self) -> &[Entry]
+        ensures { result.now ≡ self.now }
+    {
+        &self.slots[..self.len]
+    }
+}
