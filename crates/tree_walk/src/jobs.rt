@@ -19,6 +19,8 @@ pub struct WalkJob<R: Tree> {
     reader: R,
     entries: FlatList,
     names: Vec<Listing>,
+    // A path that is done with, whose memory the next one takes.
+    spare: Option<Path>,
 }
 
 impl<R: Tree> Model for WalkJob<R> {
@@ -44,6 +46,7 @@ impl<R: Tree> WalkJob<R> {
             reader,
             entries: FlatList::make(alloc),
             names: Vec::new(alloc),
+            spare: None,
         }
     }
 
@@ -57,6 +60,7 @@ impl<R: Tree> WalkJob<R> {
             reader,
             entries,
             names,
+            ..
         } = self;
         (reader, entries, names)
     }
@@ -82,6 +86,7 @@ impl<R: Tree> Job for WalkJob<R> {
             &mut self.reader,
             &mut self.entries,
             &mut self.names,
+            &mut self.spare,
             item,
             fresh,
         )

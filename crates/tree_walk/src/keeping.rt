@@ -1,5 +1,5 @@
 //! What a job keeps of one path.
-ghost use Rattle.std.specs.Prelude.{◌≡◌, ◌++◌, ◌∷◌, ◌<◌, [], true, false, map, length, OnOk, OnErr};
+ghost use Rattle.std.specs.Prelude.{◌≡◌, ◌++◌, ◌∷◌, ◌<◌, [], true, false, map, length, OnOk, OnErr, IfOk};
 ghost use Rattle.std.specs.List.{count_by};
 ghost use Rattle.std.specs.Vec.{vec_len, vec_capacity};
 ghost use Rattle.path_text.specs.Path.{joined};
@@ -11,11 +11,12 @@ use outside::{Listing, Tree};
 use path_text::{OutOfMemory, Path};
 use rank_queue::Batch;
 
-// Handles one path: its entry is kept, and its children are pushed.
+// Handles one path: its entry is kept, and its children are pushed. The memory of a path that is done with is used again.
 pub fn handle_path<R: Tree>(
     reader: &mut R,
     entries: &mut FlatList,
     names: &mut Vec<Listing>,
+    spare: &mut Option<Path>,
     item: &Path,
     fresh: &mut Batch,
 ) -> Result<(), OutOfMemory>
@@ -31,34 +32,48 @@ pub fn handle_path<R: Tree>(
 {
     names.reserve(1)?;
     let alloc = *names.allocator();
-    let (entry, listing) = look(alloc, reader, item.copy()?)?;
+    let path = copied(spare, item)?;
+    let (entry, listing) = look(alloc, reader, path)?;
     let Ok(()) = push_children(&entry.path, &listing, fresh) else {
         fresh.clear();
         return Err(OutOfMemory);
     };
-    let Ok(()) = keep(entries, names, entry, listing) else {
+    let Ok(()) = keep(entries, names, &entry, listing) else {
         fresh.clear();
         return Err(OutOfMemory);
     };
+    *spare = Some(entry.path);
     Ok(())
+}
+
+// A copy of a path, in the memory of another where there is one.
+fn copied(spare: &mut Option<Path>, path: &Path) -> Result<Path, OutOfMemory>
+    ensures { IfOk result (λ copy. copy ≡ path.now) }
+{
+    let Some(other) = spare.take() else {
+        return path.copy();
+    };
+    let mut copy = other;
+    copy.rewrite(0, path.text().as_bytes())?;
+    Ok(copy)
 }
 
 // Keeps an entry, packed, and the names where it was listed. A refusal keeps nothing.
 fn keep(
     entries: &mut FlatList,
     names: &mut Vec<Listing>,
-    entry: Entry,
+    entry: &Entry,
     listing: Listing,
 ) -> Result<(), OutOfMemory>
     requires names { vec_len names.old < vec_capacity names.old }
     requires pairs { count_by is_listed entries.old ≡ length names.old.items }
-    requires alone { is_listed entry ≡ false → listing.0 ≡ [] }
-    ensures held { OnOk result (held_of entries.new names.new.items ≡ held_of entries.old names.old.items ++ (entry, map (joined entry.path) listing.0) ∷ []) }
+    requires alone { is_listed entry.now ≡ false → listing.0 ≡ [] }
+    ensures held { OnOk result (held_of entries.new names.new.items ≡ held_of entries.old names.old.items ++ (entry.now, map (joined entry.now.path) listing.0) ∷ []) }
     ensures pairs { count_by is_listed entries.new ≡ length names.new.items }
     ensures err { OnErr result (held_of entries.new names.new.items ≡ held_of entries.old names.old.items) }
 {
-    entries.add(&entry)?;
-    if !is_listed(&entry) {
+    entries.add(entry)?;
+    if !is_listed(entry) {
         return Ok(());
     }
     names.push_reserved(listing);

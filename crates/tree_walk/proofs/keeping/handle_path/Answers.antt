@@ -15,7 +15,7 @@ returns-clause-holds g c =
     let old = held_of entries c.args.names.now.items in
     let new = held_of c.keep.new.entries c.keep.new.names.items in
     let step : IsStep (tree c.args.reader.now) (tree c.look.new.reader) (count c.args.reader.now) (count c.look.new.reader) old new
-    c.in_ok-copy.field-0 c.push_children.new.fresh entry names =
+    c.in_ok-path.path c.push_children.new.fresh entry names =
     record {
       look = c.in_ok-entry.ensures.look;
       same = c.in_ok-entry.ensures.same;
@@ -35,7 +35,7 @@ returns-clause-ok g c =
     let old = held_of entries c.args.names.now.items in
     let new = held_of c.keep.new.entries c.keep.new.names.items in
     let step : IsStep (tree c.args.reader.now) (tree c.look.new.reader) (count c.args.reader.now) (count c.look.new.reader) old new
-    c.in_ok-copy.field-0 c.push_children.new.fresh entry names =
+    c.in_ok-path.path c.push_children.new.fresh entry names =
     record {
       look = c.in_ok-entry.ensures.look;
       same = c.in_ok-entry.ensures.same;
@@ -43,4 +43,4 @@ returns-clause-ok g c =
           ∙ ap (λ (ls : List Listing). held_of entries ls ++ (entry, map (joined entry.path) names.0) ∷ []) c.reserve.ensures.items;
       pushed = c.in-Ok.ensures ∙ ap (λ x. x ++ map (joined entry.path) names.0) c.requires.empty;
     } in
-    step_log step ∙ ap (λ x. log_of old ++ (x, c.push_children.new.fresh) ∷ []) c.in_ok-copy.ensures
+    step_log step ∙ ap (λ x. log_of old ++ (x, c.push_children.new.fresh) ∷ []) c.in_ok-path.ensures
