@@ -1,6 +1,5 @@
 pub mod Numbered
 pub mod Placed
 pub mod Filled
-pub mod Kept
 pub mod Valid
 pub mod Lawful

@@ -1,5 +1,5 @@
 -- The path of a node: its parent, its base and its length.
-use Rattle.std.proofs.Common.{◌≡◌, ◌≢◌, ℕ, ◌+◌, ◌-◌, ◌*◌, ◌/◌, ◌<◌, ◌≤◌, ◌^◌, ◌⊎◌, inl, inr, zero, suc, Bool, true, false, not, cond, ◌||◌, List, [], ◌∷◌}
+use Rattle.std.proofs.Common.{◌≡◌, ◌≢◌, ℕ, ◌+◌, ◌-◌, ◌*◌, ◌/◌, ◌%◌, ◌<◌, ◌≤◌, ◌^◌, ◌⊎◌, inl, inr, zero, suc, Bool, true, false, not, cond, ◌||◌, List, [], ◌∷◌}
 use Rattle.std.proofs.Common.{◌++◌, length, take, drop, get_or, refl, ap, ◌∙◌, sym, subst, arith, length-append, append_assoc}
 use Rattle.std.specs.Prelude.{◌==◌}
 use Rattle.std.specs.List.{list_any, before_last, after_last, suffix_len}
@@ -34,6 +34,22 @@ next_place k = omega arith
 
 pub place_over-suc : (k : ℕ) → place_over (suc k) ≡ path_of (k / 8)
 place_over-suc k = ap place (sym (next_place k))
+
+-- eight nodes in a row have one place
+pub same_place : (k : ℕ) → k % 8 ≢ 1 → place_over (k - 1) ≡ place_over k
+same_place k h = ap place (omega arith)
+
+new_row : (k : ℕ) → k % 8 ≡ 1 → suc (k / 8) ≡ (k + 7) / 8
+new_row k h = omega arith
+
+pub new_place : (k : ℕ) → k % 8 ≡ 1 → path_of (k / 8) ≡ place_over k
+new_place k h = ap place (new_row k h)
+
+up_row : (k : ℕ) → k ≢ 0 → suc ((k - 1) / 8) ≡ (k + 7) / 8
+up_row k h = omega arith
+
+pub up_place : (k : ℕ) → k ≢ 0 → path_of ((k - 1) / 8) ≡ place_over k
+up_place k h = ap place (up_row k h)
 
 -- the path of a node is that of its place and its name
 pub path_joined : (k : ℕ) → path_of k ≡ joined (place_over k) (name_of k)

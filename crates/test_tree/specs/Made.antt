@@ -1,5 +1,5 @@
 -- The tree while it is made, node after node. Our own.
-use Rattle.std.specs.Prelude.{◌≡◌, ℕ, ◌+◌, ◌/◌, List, [], ◌∷◌, map, min, zero, suc}
+use Rattle.std.specs.Prelude.{ℕ, ◌+◌, ◌/◌, List, [], ◌∷◌, map, zero, suc}
 use Rattle.std.specs.List.{range_with_len}
 use Rattle.std.specs.FinMap.{from_entries}
 use Rattle.outside.specs.Tree.{Files}
@@ -20,11 +20,6 @@ place (suc k) = path_of k
 abbrev pub place_over : ℕ → List ℕ
 place_over k = place ((k + 7) / 8)
 
--- `/`, and the directories among the first k of n nodes
-abbrev pub places : ℕ → ℕ → List (List ℕ)
-places n k = map place (range_with_len 0 (min k ((n + 6) / 8) + 1))
-
--- files in memory and the places in them, when the first k of n nodes are made
-pub record IsMade (n k : ℕ) (m : Memory) (dirs : List (List ℕ)) : Type 0 where
-  pub files : m ≡ record { files = first_files n k; planned = []; count = 0; area = all_but [] }
-  pub kept : dirs ≡ places n k
+-- files in memory in which the first k of n nodes are put
+abbrev pub made : ℕ → ℕ → Memory
+made n k = record { files = first_files n k; planned = []; count = 0; area = all_but [] }

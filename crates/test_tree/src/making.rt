@@ -1,11 +1,10 @@
 //! The made-up tree, node after node.
-ghost use Rattle.std.specs.Prelude.{◌≡◌, ◌≢◌, ◌+◌, ◌*◌, ◌<◌, ◌≤◌, [], ◌∷◌, ◌++◌, None, OnOk, IfOk, IsTrue, length, replicate};
+ghost use Rattle.std.specs.Prelude.{◌≡◌, ◌+◌, ◌-◌, ◌*◌, ◌<◌, ◌≤◌, [], ◌∷◌, None, OnOk, IfOk, replicate};
 ghost use Rattle.std.specs.String.{string_bytes};
 ghost use Rattle.outside.specs.Writes.{all_but};
-ghost use Rattle.path_text.specs.Path.{joined, is_name};
 ghost use Rattle.files_mem.specs.Memory.{put_refusal, with_node};
 ghost use Rattle.test_tree.specs.Nodes.{name_of, path_of, node_of, test_files};
-ghost use Rattle.test_tree.specs.Made.{IsMade, places, place_over};
+ghost use Rattle.test_tree.specs.Made.{made, place_over};
 
 use files_mem::{MemGround, PutError};
 use path_text::{JoinError, OutOfMemory, Path};
@@ -17,53 +16,60 @@ pub fn made(alloc: Global, nodes: u64) -> Result<MemGround, OutOfMemory>
     ensures { IfOk result (λ files. files ≡ record { files = test_files nodes; planned = []; count = 0; area = all_but [] }) }
 {
     let mut files = MemGround::empty(alloc)?;
-    let mut dirs = only_root(alloc)?;
+    let mut place = root(alloc)?;
     for k in 0..nodes {
-        put_next(alloc, &mut files, &mut dirs, nodes, k)?;
+        place = next_place(alloc, place, k)?;
+        put_next(alloc, &mut files, &place, nodes, k)?;
     }
     Ok(files)
 }
 
-fn only_root(alloc: Global) -> Result<Vec<Path>, OutOfMemory>
-    ensures { IfOk result (λ dirs. dirs.items ≡ (47 ∷ []) ∷ []) }
+fn root(alloc: Global) -> Result<Path, OutOfMemory>
+    ensures { IfOk result (λ root. root ≡ 47 ∷ []) }
 {
-    let Ok(root) = Path::parse(alloc, "/") else {
-        return Err(OutOfMemory);
+    match Path::parse(alloc, "/") {
+        Ok(root) => Ok(root),
+        Err(_) => Err(OutOfMemory),
+    }
+}
+
+// The place of node k, given that of the node before it. Eight nodes in a row have one, so no other is kept.
+fn next_place(alloc: Global, place: Path, k: u64) -> Result<Path, OutOfMemory>
+    requires limit { k < 1000000 }
+    requires place { place ≡ place_over (k - 1) }
+    ensures { IfOk result (λ next. next ≡ place_over k) }
+{
+    if k % 8 != 1 {
+        return Ok(place);
+    }
+    path_of(alloc, k / 8)
+}
+
+// The path of node k, made from those of the nodes over it, of which there are seven at most.
+fn path_of(alloc: Global, k: u64) -> Result<Path, OutOfMemory>
+    requires { k < 1000000 }
+    ensures { IfOk result (λ path. path ≡ path_of k) }
+{
+    let place = if k == 0 {
+        root(alloc)?
+    } else {
+        path_of(alloc, (k - 1) / 8)?
     };
-    let mut dirs = Vec::new(alloc);
-    dirs.push(root)?;
-    Ok(dirs)
+    child(alloc, &place, k)
 }
 
-// Puts node k, where those before it are there, and keeps its path where it is a directory.
-fn put_next(
-    alloc: Global,
-    files: &mut MemGround,
-    dirs: &mut Vec<Path>,
-    nodes: u64,
-    k: u64,
-) -> Result<(), OutOfMemory>
-    requires below { k < nodes }
-    requires limit { nodes ≤ 1000000 }
-    requires made { IsMade nodes k files.old dirs.old.items }
-    ensures { OnOk result (IsMade nodes (k + 1) files.new dirs.new.items) }
-{
-    let path = path_of(alloc, dirs, nodes, k)?;
-    put(files, &path, nodes, k)?;
-    keep(dirs, path, nodes, k)?;
-    Ok(())
-}
-
-// The path of node k. `/` is the first of the places, and node j follows as the one with the number j + 1: so node (k - 1) / 8
-// has the number (k + 7) / 8, and so has `/` for node 0.
-fn path_of(alloc: Global, dirs: &Vec<Path>, nodes: u64, k: u64) -> Result<Path, OutOfMemory>
-    requires below { k < nodes }
-    requires limit { nodes ≤ 1000000 }
-    requires dirs { dirs.now.items ≡ places nodes k }
+// The path of node k, which stands there.
+fn child(alloc: Global, place: &Path, k: u64) -> Result<Path, OutOfMemory>
+    requires limit { k < 1000000 }
+    requires place { place.now ≡ place_over k }
     ensures { IfOk result (λ path. path ≡ path_of k) }
 {
     let name = name_of(alloc, k)?;
-    child(&dirs[((k + 7) / 8) as usize], &name)
+    match place.join(&name) {
+        Ok(child) => Ok(child),
+        Err(JoinError::OutOfMemory) => Err(OutOfMemory),
+        Err(JoinError::TooLong) => unreachable!(),
+    }
 }
 
 fn name_of(alloc: Global, k: u64) -> Result<String, AllocError>
@@ -72,16 +78,22 @@ fn name_of(alloc: Global, k: u64) -> Result<String, AllocError>
     format!(in alloc; "n{k}")
 }
 
-fn child(path: &Path, name: &str) -> Result<Path, OutOfMemory>
-    requires name { IsTrue (is_name name.now) }
-    requires short { length (joined path.now name.now) ≤ 4095 }
-    ensures { IfOk result (λ child. child ≡ joined path.now name.now) }
+// Puts node k, which stands there, where those before it are put.
+fn put_next(
+    alloc: Global,
+    files: &mut MemGround,
+    place: &Path,
+    nodes: u64,
+    k: u64,
+) -> Result<(), OutOfMemory>
+    requires below { k < nodes }
+    requires limit { nodes ≤ 1000000 }
+    requires place { place.now ≡ place_over k }
+    requires made { files.old ≡ made nodes k }
+    ensures { OnOk result (files.new ≡ made nodes (k + 1)) }
 {
-    match path.join(name) {
-        Ok(child) => Ok(child),
-        Err(JoinError::OutOfMemory) => Err(OutOfMemory),
-        Err(JoinError::TooLong) => unreachable!(),
-    }
+    let path = child(alloc, place, k)?;
+    put(files, &path, nodes, k)
 }
 
 // Puts node k at its path, where nothing is, in a directory.
@@ -102,17 +114,4 @@ fn put(files: &mut MemGround, path: &Path, nodes: u64, k: u64) -> Result<(), Out
         Err(PutError::Exists) => unreachable!(),
         Err(PutError::NoParent) => unreachable!(),
     }
-}
-
-// Keeps the path of node k for its children, where it has some.
-fn keep(dirs: &mut Vec<Path>, path: Path, nodes: u64, k: u64) -> Result<(), AllocError>
-    requires limit { k ≤ 1000000 }
-    requires path { path ≡ path_of k }
-    requires dirs { dirs.old.items ≡ places nodes k }
-    ensures { OnOk result (dirs.new.items ≡ places nodes (k + 1)) }
-{
-    if 8 * k + 1 < nodes {
-        dirs.push(path)?;
-    }
-    Ok(())
 }

@@ -1,5 +1,6 @@
-use Rattle.test_tree.specs.Made.{IsMade}
+use Rattle.std.proofs.Common.{◌≡◌, ◌-◌}
+use Rattle.test_tree.specs.Made.{made, place_over}
 use Rattle.test_tree.proofs.making.made.Given as goal
 
 abbrev pub invariant-loop-k : goal.invariant-loop-k
-invariant-loop-k l = IsMade l.nodes l.k l.files l.dirs.items
+invariant-loop-k l = (l.files ≡ made l.nodes l.k) × (l.place ≡ place_over (l.k - 1))

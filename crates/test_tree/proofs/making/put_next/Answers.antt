@@ -1,4 +1,5 @@
-use Rattle.std.proofs.Common.{[], ◌∙◌, sym, ap, arith}
+use Rattle.std.proofs.Common.{◌≡◌, [], ◌∙◌, ap, sym, subst, arith}
+use Rattle.std.specs.Prelude.{OnOk}
 use Rattle.outside.specs.Writes.{all_but}
 use Rattle.files_mem.specs.Memory.{with_node}
 use Rattle.test_tree.specs.Nodes.{node_of}
@@ -6,12 +7,11 @@ use Rattle.test_tree.proofs.Filled.{next_free, grown}
 use Rattle.test_tree.proofs.making.put_next.Goals as goal
 
 pub put-requires-clause-free : goal.put-requires-clause-free
-put-requires-clause-free c = next_free c.args.nodes c.args.k _ _ (ap (λ m. m.files) c.requires.made.files) c.in_ok-path.ensures c.requires.below (omega arith)
+put-requires-clause-free c = next_free c.args.nodes c.args.k _ _ (ap (λ m. m.files) c.requires.made) c.in_ok-path.ensures c.requires.below (omega arith)
 
 pub returns : goal.returns
-returns c = record {
-  files = c.in_ok-put.ensures
-      ∙ (λ i. with_node (c.requires.made.files i) (c.in_ok-path.ensures i) (node_of c.args.nodes c.args.k))
-      ∙ ap (λ files. record { files = files; planned = []; count = 0; area = all_but [] }) (sym (grown c.args.nodes c.args.k (omega arith)));
-  kept = c.in_ok-keep.ensures;
-}
+returns c =
+    subst (λ m. OnOk c.put.result (c.put.new.files ≡ m))
+    ((λ i. with_node (c.requires.made i) (c.in_ok-path.ensures i) (node_of c.args.nodes c.args.k))
+    ∙ ap (λ files. record { files = files; planned = []; count = 0; area = all_but [] }) (sym (grown c.args.nodes c.args.k (omega arith))))
+    c.put.ensures
