@@ -5,7 +5,7 @@ use Rattle.std.specs.Prelude.{IfSome, is_some, nat_eq}
 use Rattle.std.specs.List.{list_any, range_with_len}
 use Rattle.std.specs.Cmp.Lexicographic.{pointwise}
 use Rattle.std.specs.FinMap.{insert}
-use Rattle.std.proofs.lemmas.Bool.{false≢true}
+use Rattle.std.proofs.lemmas.Bool.{false≢true, or_parts}
 use Rattle.outside.specs.Tree.{Files}
 use Rattle.outside.specs.Writes.{new_file}
 use Rattle.outside.specs.Whole.{HoldsFile}
@@ -52,16 +52,12 @@ all_kept dir path done left (Some files) new is few holds saved =
 
 -- ---- what is as before
 
-neither : (a b : Bool) → (a || b) ≡ false → (a ≡ false) × (b ≡ false)
-neither true b e = absurd (false≢true (sym e))
-neither false b e = (refl, e)
-
 -- what is told of none of some paths in a row is told of each not to be so
 none_at : (p : List ℕ → Bool) (f : ℕ → List ℕ) (a n : ℕ) → list_any p (map f (range_with_len a n)) ≡ false → (k : ℕ) → k < n → p (f (a + k)) ≡ false
 none_at p f a zero off k lt = absurd (omega (arith, lt))
-none_at p f a (suc n) off zero lt = ap (λ i. p (f i)) (add-zero a) ∙ (neither (p (f a)) (list_any p (map f (range_with_len (a + 1) n))) off).0
+none_at p f a (suc n) off zero lt = ap (λ i. p (f i)) (add-zero a) ∙ (or_parts (p (f a)) (list_any p (map f (range_with_len (a + 1) n))) off).0
 none_at p f a (suc n) off (suc k) lt =
-    let later = none_at p f (a + 1) n (neither (p (f a)) (list_any p (map f (range_with_len (a + 1) n))) off).1 k (omega (arith, lt)) in
+    let later = none_at p f (a + 1) n (or_parts (p (f a)) (list_any p (map f (range_with_len (a + 1) n))) off).1 k (omega (arith, lt)) in
     let same : a + suc k ≡ a + 1 + k = omega arith in
     ap (λ i. p (f i)) same ∙ later
 
@@ -72,7 +68,7 @@ pub record WroteRanks (dir : List ℕ) (ranks : ℕ) (old new : Option Files) : 
 
 ranks_same : (dir : List ℕ) (ranks : ℕ) (old new : Files) → SameButFiles dir ranks old new → SameButAll (checkpoint_paths dir ranks) old new
 ranks_same dir ranks old new same q off =
-    let others = (neither (pointwise nat_eq q (list_path dir)) (list_any (pointwise nat_eq q) (map (file_path dir) (range_with_len 0 ranks))) off).1 in
+    let others = (or_parts (pointwise nat_eq q (list_path dir)) (list_any (pointwise nat_eq q) (map (file_path dir) (range_with_len 0 ranks))) off).1 in
     let none = none_at (pointwise nat_eq q) (file_path dir) 0 ranks others in
     same q (λ rank lt. ap (λ k. pointwise nat_eq q (file_path dir k)) (sym (zero-add rank)) ∙ none rank lt)
 
@@ -85,7 +81,7 @@ ranks_rest dir ranks (Some old) (Some new) rest = ranks_same dir ranks old new r
 both_same : (dir : List ℕ) (ranks : ℕ) (old mid new : Files) → SameButFiles dir ranks old mid → SameButAll (list_path dir ∷ []) mid new →
     SameButAll (checkpoint_paths dir ranks) old new
 both_same dir ranks old mid new first second q off =
-    let here = (neither (pointwise nat_eq q (list_path dir)) (list_any (pointwise nat_eq q) (map (file_path dir) (range_with_len 0 ranks))) off).0 in
+    let here = (or_parts (pointwise nat_eq q (list_path dir)) (list_any (pointwise nat_eq q) (map (file_path dir) (range_with_len 0 ranks))) off).0 in
     second q (λ i. here i || false) ∙ ranks_same dir ranks old mid first q off
 
 pub all_rest : (dir path : List ℕ) (ranks : ℕ) (old mid new : Option Files) → path ≡ list_path dir → WroteRanks dir ranks old mid →

@@ -1,7 +1,7 @@
 -- What stands apart: the sources of pairs, and where the paths within them go.
 use Rattle.std.proofs.Common.{◌≡◌, ◌⊎◌, inl, inr, ⊎_elim, ℕ, ◌<◌, ◌≤◌, zero, suc, get_or, Bool, true, false, cond, ◌||◌, List, [], ◌∷◌}
 use Rattle.std.proofs.Common.{◌++◌, length, None, refl, ap, ◌∙◌, sym, subst, arith, length-append}
-use Rattle.std.proofs.lemmas.Bool.{false≢true}
+use Rattle.std.proofs.lemmas.Bool.{false≢true, or_parts}
 use Rattle.std.specs.Prelude.{nat_eq, ◌==◌}
 use Rattle.std.specs.List.{AllByRecursion, Contains, list_any}
 use Rattle.std.specs.Cmp.Lexicographic.{pointwise, bytes_decides}
@@ -33,14 +33,10 @@ pub in_front : (x : List ℕ) (xs ys : List (List ℕ)) → In x xs → In x (xs
 in_front x [] ys i = absurd i
 in_front x (z ∷ xs) ys i = ⊎_elim (λ e. inl e) (λ j. inr (in_front x xs ys j)) i
 
-pub neither : (a b : Bool) → (a || b) ≡ false → (a ≡ false) × (b ≡ false)
-neither true b e = absurd (false≢true (sym e))
-neither false b e = (refl, e)
-
 pub one_off : (f : List ℕ → Bool) (x : List ℕ) (xs : List (List ℕ)) → In x xs → list_any f xs ≡ false → f x ≡ false
 one_off f x [] i e = absurd i
 one_off f x (y ∷ ys) i e =
-    let n = neither (f y) (list_any f ys) e in ⊎_elim (λ is. ap f is ∙ n.0) (λ j. one_off f x ys j n.1) i
+    let n = or_parts (f y) (list_any f ys) e in ⊎_elim (λ is. ap f is ∙ n.0) (λ j. one_off f x ys j n.1) i
 
 not_under_itself : (x : List ℕ) → is_under x x ≡ true → ⊥
 not_under_itself x u = let n = names_under x x u in long x n.names n.some n.whole
@@ -56,15 +52,15 @@ not_under_itself x u = let n = names_under x x u in long x n.names n.some n.whol
 pub none_under : (a b : List ℕ) (xs : List (List ℕ)) → overlap xs ≡ false → In a xs → In b xs → is_under a b ≡ true → ⊥
 none_under a b [] off i j u = absurd i
 none_under a b (x ∷ xs) off i j u =
-    let n = neither (list_any (λ other. is_within x other || is_within other x) xs) (overlap xs) off in
+    let n = or_parts (list_any (λ other. is_within x other || is_within other x) xs) (overlap xs) off in
     let within = or_under a b u in
     ⊎_elim
     (λ is. ⊎_elim
     (λ same. not_under_itself a (subst (λ y. is_under a y ≡ true) (same ∙ sym is) u))
-    (λ later. false≢true (sym (neither (is_within x b) (is_within b x) (one_off (λ other. is_within x other || is_within other x) b xs later n.0)).0
+    (λ later. false≢true (sym (or_parts (is_within x b) (is_within b x) (one_off (λ other. is_within x other || is_within other x) b xs later n.0)).0
     ∙ subst (λ y. is_within y b ≡ true) is within)) j)
     (λ later. ⊎_elim
-    (λ same. false≢true (sym (neither (is_within x a) (is_within a x) (one_off (λ other. is_within x other || is_within other x) a xs later n.0)).1
+    (λ same. false≢true (sym (or_parts (is_within x a) (is_within a x) (one_off (λ other. is_within x other || is_within other x) a xs later n.0)).1
     ∙ subst (λ y. is_within a y ≡ true) same within))
     (λ other. none_under a b xs n.1 later other u) j) i
 
@@ -76,10 +72,10 @@ in_back x (z ∷ xs) ys i = inr (in_back x xs ys i)
 pub none_within : (a b : List ℕ) (xs ys : List (List ℕ)) → overlap (xs ++ ys) ≡ false → In a xs → In b ys → is_within a b ≡ false
 none_within a b [] ys off i j = absurd i
 none_within a b (x ∷ xs) ys off i j =
-    let n = neither (list_any (λ other. is_within x other || is_within other x) (xs ++ ys)) (overlap (xs ++ ys)) off in
+    let n = or_parts (list_any (λ other. is_within x other || is_within other x) (xs ++ ys)) (overlap (xs ++ ys)) off in
     ⊎_elim
     (λ is. subst (λ y. is_within y b ≡ false) (sym is)
-    (neither (is_within x b) (is_within b x) (one_off (λ other. is_within x other || is_within other x) b (xs ++ ys) (in_back b xs ys j) n.0)).0)
+    (or_parts (is_within x b) (is_within b x) (one_off (λ other. is_within x other || is_within other x) b (xs ++ ys) (in_back b xs ys j) n.0)).0)
     (λ later. none_within a b xs ys n.1 later j) i
 
 -- ---- where a path goes

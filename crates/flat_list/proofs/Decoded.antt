@@ -1,8 +1,9 @@
 -- The steps of reading a list file.
-use Rattle.std.proofs.Common.{◌≡◌, ℕ, suc, ◌+◌, ◌-◌, ◌<◌, ◌≤◌, Bool, true, false, eqb, List, [], ◌∷◌, ◌++◌, length, take, Option, Some}
+use Rattle.std.proofs.Common.{◌≡◌, ℕ, suc, ◌+◌, ◌-◌, ◌<◌, ◌≤◌, Bool, true, false, cond, eqb, List, [], ◌∷◌, ◌++◌, length, take, Option, Some}
 use Rattle.std.proofs.Common.{None, Result, Ok, Err, length-append, refl, ap, sym, ◌∙◌, subst, arith, append_assoc}
 use Rattle.std.specs.List.Sorted.{IsStrictlySortedBy}
 use Rattle.std.specs.Ordering.{is_lt}
+use Rattle.std.specs.Str.{IsUtf8}
 use Rattle.std.specs.declared.cmp.Ordering.{Ordering}
 use Rattle.std.specs.declared.cmp.Ordering.TheVariants.{Less, Equal, Greater}
 use Rattle.std.specs.Prelude.{slice_get, not, IfOk, IfErr}
@@ -13,9 +14,10 @@ use Rattle.path_text.specs.Escape.{ReadingUndoesWriting}
 use Rattle.path_text.specs.Order.{path_cmp}
 use Rattle.path_text.specs.Total.{path_cmp_total}
 use Rattle.flat_list.specs.declared.entries.Entry.{Entry}
+use Rattle.flat_list.specs.declared.reading.Told.{Told}
 use Rattle.flat_list.specs.Spelling.{text_of, line, header_text, end_text, entry_lines, paths, IsList, Follows, Spells, lines_of, max_entries}
 use Rattle.flat_list.specs.Spelling.{IsTooLong, IsRefused}
-use Rattle.flat_list.specs.Private.Reading.{cut, entry_at, end_at, IsLast, Adds, NoneFollows}
+use Rattle.flat_list.specs.Private.Reading.{cut, told_at, path_from, path_behind, if_behind, path_after, entry_at, entry_behind, end_at, ◌>>=◌, IsLast, Adds, NoneFollows}
 use Rattle.flat_list.proofs.Words.{cut_takes}
 use Rattle.flat_list.proofs.Lines.{entry_takes, entry_again, end_takes, end_again}
 use Rattle.flat_list.proofs.Files.{line_same, line_first, free_uncut, torn, no_lines}
@@ -55,7 +57,7 @@ last_is es new e is =
     let back : length es ≡ length (es ++ e ∷ []) - 1 = omega (arith, length-append es (e ∷ [])) in
     ap (λ l. slice_get l (length l - 1)) is ∙ ap (slice_get (es ++ e ∷ [])) (sym back) ∙ slice_end es e
 
-pub precedes_yes : (es : List Entry) (e : Entry) (path : List ℕ) → slice_get es (length es - 1) ≡ Some e → IsStrictlySortedBy path_cmp (paths es) →
+precedes_yes : (es : List Entry) (e : Entry) (path : List ℕ) → slice_get es (length es - 1) ≡ Some e → IsStrictlySortedBy path_cmp (paths es) →
     is_lt (path_cmp e.path path) ≡ true → IsStrictlySortedBy path_cmp (paths es ++ path ∷ [])
 precedes_yes es e path is sorted lt =
     let f = with_last es e is in
@@ -63,7 +65,7 @@ precedes_yes es e path is sorted lt =
     subst (λ ps. IsStrictlySortedBy path_cmp (ps ++ path ∷ [])) (sym same)
     (sorted_more path_cmp path_cmp_total.trans (paths f.0) e.path path (subst (IsStrictlySortedBy path_cmp) same sorted) (lt_is _ lt))
 
-pub precedes_no : (es : List Entry) (e : Entry) (path : List ℕ) → slice_get es (length es - 1) ≡ Some e → is_lt (path_cmp e.path path) ≡ false →
+precedes_no : (es : List Entry) (e : Entry) (path : List ℕ) → slice_get es (length es - 1) ≡ Some e → is_lt (path_cmp e.path path) ≡ false →
     IsStrictlySortedBy path_cmp (paths es ++ path ∷ []) → ⊥
 precedes_no es e path is off sorted =
     let f = with_last es e is in
@@ -71,8 +73,76 @@ precedes_no es e path is off sorted =
     let lt = sorted_last path_cmp (paths f.0) e.path path (subst (λ ps. IsStrictlySortedBy path_cmp (ps ++ path ∷ [])) same sorted) in
     false≢true (sym off ∙ ap is_lt lt)
 
-pub precedes_first : (es : List Entry) (path : List ℕ) → slice_get es (length es - 1) ≡ None → IsStrictlySortedBy path_cmp (paths es ++ path ∷ [])
+precedes_first : (es : List Entry) (path : List ℕ) → slice_get es (length es - 1) ≡ None → IsStrictlySortedBy path_cmp (paths es ++ path ∷ [])
 precedes_first es path is = subst (λ l. IsStrictlySortedBy path_cmp (paths l ++ path ∷ [])) (sym (none_empty es is)) (sorted_one path_cmp path)
+
+-- ---- an entry behind the one before it
+
+-- an entry, if its path comes behind that of another, where there is one
+abbrev if_after : Option Entry → Entry → Option Entry
+if_after None e = Some e
+if_after (Some before) e = cond (is_lt (path_cmp before.path e.path)) (Some e) None
+
+abbrev with_path : Told → List ℕ → Entry
+with_path told path = record { path = path; stat = told.stat; mark = told.mark; unnamed = told.unnamed; far = told.far }
+
+after_one : (before : Option Entry) (told : Told) (word : List ℕ) (o : Option (List ℕ)) → path_from word ≡ o →
+    (path_after before word >>= λ path. Some (with_path told path)) ≡ ((o >>= λ path. Some (with_path told path)) >>= if_after before)
+unfolding path_behind
+after_one None told word None e = ap (λ o. o >>= λ path. Some (with_path told path)) e
+after_one None told word (Some path) e = ap (λ o. o >>= λ path. Some (with_path told path)) e
+after_one (Some before) told word None e = ap (λ o. (o >>= if_behind before.path) >>= λ path. Some (with_path told path)) e
+after_one (Some before) told word (Some path) e =
+    ap (λ o. (o >>= if_behind before.path) >>= λ path. Some (with_path told path)) e
+    ∙ by_test (is_lt (path_cmp before.path path))
+  where
+    by_test : (b : Bool) → (cond b (Some path) None >>= λ path. Some (with_path told path)) ≡ cond b (Some (with_path told path)) None
+    by_test true = refl
+    by_test false = refl
+
+after_told : (before : Option Entry) (o : Option (Told × List ℕ)) →
+    (o >>= λ told. path_after before told.1 >>= λ path. Some (with_path told.0 path))
+    ≡ ((o >>= λ told. path_from told.1 >>= λ path. Some (with_path told.0 path)) >>= if_after before)
+after_told before None = refl
+after_told before (Some told) = after_one before told.0 told.1 (path_from told.1) refl
+
+after_is : (before : Option Entry) (text : List ℕ) → entry_behind before text ≡ (entry_at text >>= if_after before)
+unfolding entry_behind entry_at
+after_is before text = after_told before (told_at text)
+
+paths_more : (es : List Entry) (e : Entry) → paths (es ++ e ∷ []) ≡ paths es ++ e.path ∷ []
+paths_more es e = map-append (λ e. e.path) es (e ∷ [])
+
+pub none_behind : (before : Option Entry) (text : List ℕ) (es : List Entry) → entry_behind before text ≡ None → IsLast before es →
+    NoneFollows (entry_at text) es
+none_behind before text es none last = by_entry (entry_at text) before (sym (after_is before text) ∙ none) last
+  where
+    by_entry : (o before : Option Entry) → (o >>= if_after before) ≡ None → IsLast before es → NoneFollows o es
+    by_entry None before e last = tt
+    by_entry (Some d) None e last = absurd cc
+    by_entry (Some d) (Some b) e last = by_test (is_lt (path_cmp b.path d.path)) refl e
+      where
+        by_test : (t : Bool) → is_lt (path_cmp b.path d.path) ≡ t → cond t (Some d) None ≡ None → Follows es d → ⊥
+        by_test true lt e follows = absurd cc
+        by_test false off e follows = precedes_no es b d.path last off (subst (IsStrictlySortedBy path_cmp) (paths_more es d) follows)
+
+pub some_behind : (before : Option Entry) (text : List ℕ) (es new : List Entry) (d : Entry) → entry_behind before text ≡ Some d → IsUtf8 d.path →
+    IsLast before es → IsStrictlySortedBy path_cmp (paths es) → new ≡ es ++ d ∷ [] → Adds (entry_at text) es new
+some_behind before text es new d some utf8 last sorted more = by_entry (entry_at text) before (sym (after_is before text) ∙ some) last
+  where
+    adds : (x : Entry) → x ≡ d → IsStrictlySortedBy path_cmp (paths es ++ d.path ∷ []) → Adds (Some x) es new
+    adds x same follows = subst (λ x. Adds (Some x) es new) (sym same)
+        (utf8, (subst (IsStrictlySortedBy path_cmp) (sym (paths_more es d)) follows, more))
+
+    by_entry : (o before : Option Entry) → (o >>= if_after before) ≡ Some d → IsLast before es → Adds o es new
+    by_entry None before e last = absurd cc
+    by_entry (Some x) None e last = let same : x ≡ d = cc in adds x same (precedes_first es d.path last)
+    by_entry (Some x) (Some b) e last = by_test (is_lt (path_cmp b.path x.path)) refl e
+      where
+        by_test : (t : Bool) → is_lt (path_cmp b.path x.path) ≡ t → cond t (Some x) None ≡ Some d → Adds (Some x) es new
+        by_test true lt e = let same : x ≡ d = cc in
+            adds x same (precedes_yes es b d.path last sorted (ap (λ x. is_lt (path_cmp b.path x.path)) (sym same) ∙ lt))
+        by_test false off e = absurd cc
 
 -- ---- the header
 

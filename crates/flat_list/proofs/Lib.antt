@@ -2,6 +2,8 @@ pub mod Dealt
 pub mod Ordered
 pub mod Words
 pub mod Numbers
+pub mod Digits
+pub mod Near
 pub mod Escapes
 pub mod Lines
 pub mod WholeLines

@@ -50,7 +50,7 @@ number_none word off = by_value (number_of word) refl
     by_value None e = refl
     by_value (Some n) e = let is = number_takes word n e in absurd (off n is.small is.text)
 
-first_digit : (n : ℕ) → n < 2 ^ 64 → (48 ≤ get_or (decimal n) 0 0) × (get_or (decimal n) 0 0 ≤ 57)
+pub first_digit : (n : ℕ) → n < 2 ^ 64 → (48 ≤ get_or (decimal n) 0 0) × (get_or (decimal n) 0 0 ≤ 57)
 first_digit n lt = let d = digit_at (decimal n) 0 (decimal_is_IsNumeral n lt).0.1 (decimal_is_IsNumeral n lt).0.0 in (omega (arith, d), omega (arith, d))
 
 pub none_empty : (word : List ℕ) → length word ≡ 0 → number_of word ≡ None

@@ -8,8 +8,8 @@ ghost use Rattle.flat_list.specs.Private.Reading.{cut, entry_at, end_at, IsLast,
 use crate::entries::Entry;
 use crate::errors::CacheError;
 use crate::lists::FlatList;
-use crate::reading::{cut_line, end_at, entry_at};
-use path_text::{OutOfMemory, Path, reading_undoes_writing};
+use crate::reading::{cut_line, end_at, entry_behind};
+use path_text::{OutOfMemory, reading_undoes_writing};
 use std::alloc::Global;
 
 const MAX_ENTRIES: usize = 4_194_304;
@@ -80,30 +80,14 @@ fn add_entry(
     ensures yes { IfOk result (λ added. added ≡ true → Adds (entry_at text.now) list.old list.new) }
     ensures no { IfOk result (λ added. added ≡ false → NoneFollows (entry_at text.now) list.old) }
     ensures kept { IfOk result (λ added. added ≡ false → list.new ≡ list.old) }
-    ensures last { OnOk result (IsLast last.new list.new) }
+    ensures last { IfOk result (λ added. added ≡ true → IsLast last.new list.new) }
 {
-    let Some(entry) = entry_at(alloc, text)? else {
+    let Some(entry) = entry_behind(alloc, last.take(), text)? else {
         return Ok(false);
     };
-    if !precedes(list, last, &entry.path) {
-        return Ok(false);
-    }
     list.add(&entry)?;
     *last = Some(entry);
     Ok(true)
-}
-
-// Whether a path comes after those of a list that ascends strictly, of which the last entry is given.
-fn precedes(list: &FlatList, last: &Option<Entry>, path: &Path) -> bool
-    requires ascend { IsStrictlySortedBy path_cmp (paths list.now) }
-    requires last { IsLast last.now list.now }
-    ensures yes { result ≡ true → IsStrictlySortedBy path_cmp (paths list.now ++ path.now ∷ []) }
-    ensures no { result ≡ false → IsStrictlySortedBy path_cmp (paths list.now ++ path.now ∷ []) → ⊥ }
-{
-    match last {
-        None => true,
-        Some(last) => last.path.cmp(path).is_lt(),
-    }
 }
 
 // The list, if nothing stands behind its end line.

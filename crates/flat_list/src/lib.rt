@@ -52,6 +52,7 @@ mod decoding;
 mod encoding;
 mod entries;
 mod errors;
+mod following;
 mod halving;
 mod heads;
 mod laws;

@@ -1,17 +1,20 @@
 //! The text of a line of a list file, read word by word.
 ghost use Rattle.std.specs.Prelude.{◌≡◌, ◌+◌, ◌<◌, ◌≤◌, take, drop, IfOk, IfSome, IfNone, Some, None, true, false, length, ◌==◌};
-ghost use Rattle.path_text.specs.Escape.{reading};
 ghost use Rattle.std.specs.List.{position};
 ghost use Rattle.std.specs.Option.{option_map};
 ghost use Rattle.std.specs.Str.{IsUtf8};
 ghost use Rattle.flat_list.specs.Entries.{is_sized, is_kind, is_of, shape_by};
-ghost use Rattle.flat_list.specs.Private.Reading.{cut, number_of, LeadsNumber, ok_of, time_from, kind_from, mark_from, word_at, stat_from, is_told, told_at, path_from, entry_at, end_at};
+ghost use Rattle.flat_list.specs.Private.Reading.{cut, number_of, LeadsNumber, time_from, kind_from, mark_from, word_at, IsNumberWord, AreDigits, stat_from, is_told, told_at};
+ghost use Rattle.flat_list.specs.Private.Reading.{entry_behind, end_at};
 
 use crate::entries::{Entry, Mark};
+use crate::following::{path_behind, path_from};
 use memchr::memchr;
 use outside::{Kind, Stat};
-use path_text::{EscapeError, OutOfMemory, Path, unescape};
+use path_text::OutOfMemory;
 use std::alloc::Global;
+
+const MAX_DIGITS: usize = 19;
 
 /// What a line tells beside the path.
 #[derive(Clone, Copy, Drop)]
@@ -146,11 +149,49 @@ fn mark_from(word: &[u8]) -> Option<Mark>
     }
 }
 
+// Digits at the front of a text: how many they are, and the number that they write.
+#[derive(Clone, Copy, Drop)]
+pub(crate) struct Digits {
+    value: u64,
+    len: usize,
+}
+
+// The number of at most 19 digits that a space ends; `None` where the first word is none, or is longer.
+#[tactic(auto, using(crate::proofs::Digits::ended))]
+fn digits_word(text: &[u8]) -> Option<Digits>
+    ensures { IfSome result (IsNumberWord text.now) }
+{
+    let digits = digits_of(text);
+    if digits.len == 0 || digits.len >= text.len() || text[digits.len] != b' ' {
+        return None;
+    }
+    if text[0] == b'0' && digits.len > 1 {
+        return None;
+    }
+    Some(digits)
+}
+
+// The first digits, of which 19 are the most that always have 64 bits.
+fn digits_of(text: &[u8]) -> Digits
+    ensures { AreDigits text.now result }
+{
+    let mut value = 0u64;
+    let mut len = 0;
+    while len < MAX_DIGITS && len < text.len() && text[len].is_ascii_digit() {
+        value = value * 10 + (text[len] - b'0') as u64;
+        len += 1;
+    }
+    Digits { value, len }
+}
+
 // The number before a space, and what is behind it.
 #[tactic(auto, unfolding(crate::specs::Private::Reading::word_at))]
 fn number_at(text: &[u8]) -> Option<(u64, &[u8])>
     ensures { option_map (λ found. (found.0, found.1.now)) result ≡ word_at number_of text.now }
 {
+    if let Some(digits) = digits_word(text) {
+        return Some((digits.value, &text[digits.len + 1..]));
+    }
     let (word, rest) = cut(text, b' ')?;
     Some((number_of(word)?, rest))
 }
@@ -159,6 +200,9 @@ fn number_at(text: &[u8]) -> Option<(u64, &[u8])>
 fn time_at(text: &[u8]) -> Option<(Option<u64>, &[u8])>
     ensures { option_map (λ found. (found.0, found.1.now)) result ≡ word_at time_from text.now }
 {
+    if let Some(digits) = digits_word(text) {
+        return Some((Some(digits.value), &text[digits.len + 1..]));
+    }
     let (word, rest) = cut(text, b' ')?;
     Some((time_from(word)?, rest))
 }
@@ -258,43 +302,24 @@ fn told_at(text: &[u8]) -> Option<(Told, &[u8])>
     Some((told, rest))
 }
 
-#[tactic(auto, using(crate::proofs::Numbers::path_texts))]
-fn path_from(alloc: Global, word: &[u8]) -> Result<Option<Path>, OutOfMemory>
-    ensures read { IfOk result (λ path. path ≡ path_from word.now) }
-    ensures utf8 { IfOk result (λ path. IfSome path (λ p. IsUtf8 p)) }
-{
-    match str::from_utf8(word) {
-        Ok(text) => path_of(alloc, text),
-        Err(_) => Ok(None),
-    }
-}
-
-fn path_of(alloc: Global, text: &str) -> Result<Option<Path>, OutOfMemory>
-    ensures read { IfOk result (λ path. path ≡ ok_of (reading text.now)) }
-    ensures utf8 { IfOk result (λ path. IfSome path (λ p. IsUtf8 p)) }
-{
-    match unescape(alloc, text) {
-        Ok(path) => {
-            // That a path is UTF-8 is told by its text alone.
-            let _text = path.text();
-            Ok(Some(path))
-        }
-        Err(EscapeError::OutOfMemory) => Err(OutOfMemory),
-        Err(EscapeError::BadEscape(_)) => Ok(None),
-        Err(EscapeError::Path(_)) => Ok(None),
-    }
-}
-
-/// The entry whose text this is, if there is one.
-#[tactic(auto, unfolding(crate::specs::Private::Reading::entry_at))]
-pub(crate) fn entry_at(alloc: Global, text: &[u8]) -> Result<Option<Entry>, OutOfMemory>
-    ensures read { IfOk result (λ found. found ≡ entry_at text.now) }
+/// The entry that a line's text tells, if there is one and it comes behind the one before it, of which it takes the path's memory.
+#[tactic(auto, unfolding(crate::specs::Private::Reading::entry_behind))]
+pub(crate) fn entry_behind(
+    alloc: Global,
+    before: Option<Entry>,
+    text: &[u8],
+) -> Result<Option<Entry>, OutOfMemory>
+    ensures read { IfOk result (λ found. found ≡ entry_behind before text.now) }
     ensures utf8 { IfOk result (λ found. IfSome found (λ entry. IsUtf8 entry.path)) }
 {
     let Some((told, word)) = told_at(text) else {
         return Ok(None);
     };
-    let Some(path) = path_from(alloc, word)? else {
+    let path = match before {
+        None => path_from(alloc, word)?,
+        Some(before) => path_behind(alloc, before.path, word)?,
+    };
+    let Some(path) = path else {
         return Ok(None);
     };
     Ok(Some(Entry {

@@ -2,7 +2,7 @@
 use Rattle.std.proofs.Common.{◌≡◌, ◌≢◌, ◌⊎◌, ◌↔◌, inl, inr, ℕ, zero, suc, ◌+◌, ◌-◌, ◌<◌, ◌≤◌, Bool, true, false, cond, ◌||◌, List, [], ◌∷◌, length}
 use Rattle.std.proofs.Common.{Option, Some, None, IfSome, refl, ap, ◌∙◌, sym, subst, arith, nat_eq, nat_le, is_some, slice_get, ◌++◌, ◌&&◌}
 use Rattle.std.proofs.Common.{length-append}
-use Rattle.std.proofs.lemmas.Bool.{false≢true}
+use Rattle.std.proofs.lemmas.Bool.{false≢true, or_parts}
 use Rattle.std.proofs.lemmas.Bool.Decides.{nat_tests}
 use Rattle.std.specs.Prelude.{◌==◌, Result, Ok, Err, OnErr}
 use Rattle.std.specs.List.{before_last}
@@ -71,16 +71,8 @@ parent_above q fine off =
 pub is_no_item : (items : List Item) (q : List ℕ) (k : ℕ) (x : Item) → is_item items q ≡ false → slice_get items k ≡ Some x → pointwise nat_eq q x.path ≡ false
 is_no_item [] q k x off at = cc
 is_no_item (y ∷ items) q zero x off at =
-    subst (λ (z : Item). pointwise nat_eq q z.path ≡ false) (same_some y x at) (neither (pointwise nat_eq q y.path) _ off).0
-  where
-    neither : (a b : Bool) → (a || b) ≡ false → (a ≡ false) × (b ≡ false)
-    neither true b e = absurd (false≢true (sym e))
-    neither false b e = (refl, e)
-is_no_item (y ∷ items) q (suc k) x off at = is_no_item items q k x (neither (pointwise nat_eq q y.path) _ off).1 at
-  where
-    neither : (a b : Bool) → (a || b) ≡ false → (a ≡ false) × (b ≡ false)
-    neither true b e = absurd (false≢true (sym e))
-    neither false b e = (refl, e)
+    subst (λ (z : Item). pointwise nat_eq q z.path ≡ false) (same_some y x at) (or_parts (pointwise nat_eq q y.path) _ off).0
+is_no_item (y ∷ items) q (suc k) x off at = is_no_item items q k x (or_parts (pointwise nat_eq q y.path) _ off).1 at
 
 pub record Standing (items : List Item) (q : List ℕ) : Type 0 where
   pub place : ℕ

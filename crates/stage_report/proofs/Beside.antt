@@ -2,7 +2,7 @@
 use Rattle.std.proofs.Common.{◌≡◌, Bool, true, false, ◌&&◌, ◌||◌, List, [], ◌∷◌, refl, ap, ◌∙◌, sym, ℕ}
 use Rattle.std.specs.Prelude.{nat_lt, not}
 use Rattle.std.specs.List.{AllByRecursion, list_any, count_by}
-use Rattle.std.proofs.lemmas.Bool.{false≢true}
+use Rattle.std.proofs.lemmas.Bool.{false≢true, or_parts}
 use Rattle.std.proofs.lemmas.List.Elements.{All-from_recursion, recursion_from_All}
 use Rattle.flat_list.specs.declared.entries.Entry.{Entry}
 use Rattle.tree_walk.specs.Roots.{is_in, is_in_some}
@@ -12,15 +12,11 @@ use Rattle.stage_report.specs.Private.{IsBeside}
 
 -- ---- what is not misplaced
 
-neither : (a b : Bool) → (a || b) ≡ false → (a ≡ false) × (b ≡ false)
-neither true b h = absurd (false≢true (sym h))
-neither false b h = (refl, h)
-
 no_clash : (path : List ℕ) (done : List Entry) → list_any (clashes path) done ≡ false → AllByRecursion (λ e. is_in e.path path ≡ false) done
 no_clash path [] h = tt
 no_clash path (e ∷ done) h =
-    let parts = neither (clashes path e) (list_any (clashes path) done) h in
-    ((neither (is_in e.path path) (is_in path e.path && not (is_open e)) parts.0).0, no_clash path done parts.1)
+    let parts = or_parts (clashes path e) (list_any (clashes path) done) h in
+    ((or_parts (is_in e.path path) (is_in path e.path && not (is_open e)) parts.0).0, no_clash path done parts.1)
 
 -- ---- what is placed
 
@@ -35,7 +31,7 @@ placed_beside done left h =
     (λ e out. in_none e.path left out) done
     (swapped (λ p (e : Entry). is_in e.path p ≡ false) left done
     (weaker (λ p. is_misplaced done left p ≡ false) (λ p. AllByRecursion (λ e. is_in e.path p ≡ false) done)
-    (λ p m. no_clash p done (neither (list_any (clashes p) done) (nat_lt 1 (count_by (is_in p) left)) m).0)
+    (λ p m. no_clash p done (or_parts (list_any (clashes p) done) (nat_lt 1 (count_by (is_in p) left)) m).0)
     left (placed done left h))))
   where
     in_none : (x : List ℕ) (ps : List (List ℕ)) → AllByRecursion (λ p. is_in x p ≡ false) ps → is_in_some ps x ≡ false

@@ -1,9 +1,9 @@
 -- The path of a node: its parent, its base and its length.
-use Rattle.std.proofs.Common.{◌≡◌, ◌≢◌, ℕ, ◌+◌, ◌-◌, ◌*◌, ◌/◌, ◌%◌, ◌<◌, ◌≤◌, ◌^◌, ◌⊎◌, inl, inr, zero, suc, Bool, true, false, not, cond, ◌||◌, List, [], ◌∷◌}
+use Rattle.std.proofs.Common.{◌≡◌, ◌≢◌, ℕ, ◌+◌, ◌-◌, ◌*◌, ◌/◌, ◌<◌, ◌≤◌, ◌^◌, ◌⊎◌, inl, inr, zero, suc, Bool, true, false, not, cond, ◌||◌, List, [], ◌∷◌}
 use Rattle.std.proofs.Common.{◌++◌, length, take, drop, get_or, refl, ap, ◌∙◌, sym, subst, arith, length-append, append_assoc}
 use Rattle.std.specs.Prelude.{◌==◌}
 use Rattle.std.specs.List.{list_any, before_last, after_last, suffix_len}
-use Rattle.std.proofs.lemmas.Bool.{false≢true}
+use Rattle.std.proofs.lemmas.Bool.{false≢true, or_parts}
 use Rattle.std.proofs.lemmas.Bool.Decides.{nat_tests}
 use Rattle.std.proofs.lemmas.Fmt.{decimal_digit}
 use Rattle.std.proofs.lemmas.List.{take_at, drop_at, get_or-append_right}
@@ -34,22 +34,6 @@ next_place k = omega arith
 
 pub place_over-suc : (k : ℕ) → place_over (suc k) ≡ path_of (k / 8)
 place_over-suc k = ap place (sym (next_place k))
-
--- eight nodes in a row have one place
-pub same_place : (k : ℕ) → k % 8 ≢ 1 → place_over (k - 1) ≡ place_over k
-same_place k h = ap place (omega arith)
-
-new_row : (k : ℕ) → k % 8 ≡ 1 → suc (k / 8) ≡ (k + 7) / 8
-new_row k h = omega arith
-
-pub new_place : (k : ℕ) → k % 8 ≡ 1 → path_of (k / 8) ≡ place_over k
-new_place k h = ap place (new_row k h)
-
-up_row : (k : ℕ) → k ≢ 0 → suc ((k - 1) / 8) ≡ (k + 7) / 8
-up_row k h = omega arith
-
-pub up_place : (k : ℕ) → k ≢ 0 → path_of ((k - 1) / 8) ≡ place_over k
-up_place k h = ap place (up_row k h)
 
 -- the path of a node is that of its place and its name
 pub path_joined : (k : ℕ) → path_of k ≡ joined (place_over k) (name_of k)
@@ -119,14 +103,10 @@ cut p base (inr l) = record {
   over = not_none p l;
 }
 
-neither : (a b : Bool) → (a || b) ≡ false → (a ≡ false) × (b ≡ false)
-neither true b e = absurd (false≢true (sym e))
-neither false b e = (refl, e)
-
 all_bare : (y : List ℕ) (k : ℕ) → list_any is_slash y ≡ false → k < length y → not (is_slash (get_or y k 0)) ≡ true
 all_bare [] k e l = absurd (omega arith)
 all_bare (b ∷ y) k e l =
-    let n = neither (is_slash b) (list_any is_slash y) e in
+    let n = or_parts (is_slash b) (list_any is_slash y) e in
     elim k as (λ k. k < length (b ∷ y) → not (is_slash (get_or (b ∷ y) k 0)) ≡ true) [
       | zero ↦ λ l. ap not n.0
       | suc j ↦ λ l. all_bare y j n.1 (omega arith)

@@ -20,6 +20,10 @@ place (suc k) = path_of k
 abbrev pub place_over : ℕ → List ℕ
 place_over k = place ((k + 7) / 8)
 
+-- files in memory of which no call is planned to fail
+abbrev pub memory_of : Files → Memory
+memory_of files = record { files = files; planned = []; count = 0; area = all_but [] }
+
 -- files in memory in which the first k of n nodes are put
 abbrev pub made : ℕ → ℕ → Memory
-made n k = record { files = first_files n k; planned = []; count = 0; area = all_but [] }
+made n k = memory_of (first_files n k)

@@ -1,10 +1,9 @@
 //! The made-up tree, node after node.
 ghost use Rattle.std.specs.Prelude.{◌≡◌, ◌+◌, ◌-◌, ◌*◌, ◌<◌, ◌≤◌, [], ◌∷◌, None, OnOk, IfOk, replicate};
 ghost use Rattle.std.specs.String.{string_bytes};
-ghost use Rattle.outside.specs.Writes.{all_but};
 ghost use Rattle.files_mem.specs.Memory.{put_refusal, with_node};
 ghost use Rattle.test_tree.specs.Nodes.{name_of, path_of, node_of, test_files};
-ghost use Rattle.test_tree.specs.Made.{made, place_over};
+ghost use Rattle.test_tree.specs.Made.{memory_of, made, place_over};
 
 use files_mem::{MemGround, PutError};
 use path_text::{JoinError, OutOfMemory, Path};
@@ -13,7 +12,7 @@ use std::alloc::{AllocError, Global};
 /// Files in memory with so many nodes.
 pub fn made(alloc: Global, nodes: u64) -> Result<MemGround, OutOfMemory>
     requires { (1 ≤ nodes) × (nodes ≤ 1000000) }
-    ensures { IfOk result (λ files. files ≡ record { files = test_files nodes; planned = []; count = 0; area = all_but [] }) }
+    ensures { IfOk result (λ files. files ≡ memory_of (test_files nodes)) }
 {
     let mut files = MemGround::empty(alloc)?;
     let mut place = root(alloc)?;

@@ -3,7 +3,7 @@ use Rattle.std.proofs.Common.{◌≡◌, ℕ, Bool, true, false, ◌||◌, List,
 use Rattle.std.proofs.Common.{get_or, None, refl, ap, ◌∙◌, sym, subst, cond, arith}
 use Rattle.std.specs.List.{All, list_any}
 use Rattle.std.specs.Cmp.Lexicographic.{bytes_decides}
-use Rattle.std.proofs.lemmas.Bool.{false≢true}
+use Rattle.std.proofs.lemmas.Bool.{false≢true, or_parts}
 use Rattle.std.proofs.lemmas.Bool.Decides.{nat_tests}
 use Rattle.std.proofs.lemmas.List.{get_or-map, length-map}
 use Rattle.std.proofs.lemmas.List.Elements.{All-map}
@@ -37,13 +37,9 @@ root_meets root dest r h =
 
 -- ---- pairs that are due
 
-neither : (a b : Bool) → (a || b) ≡ false → (a ≡ false) × (b ≡ false)
-neither true b e = absurd (false≢true (sym e))
-neither false b e = (refl, e)
-
 -- no source overlaps a target
 across : (xs ys : List (List ℕ)) → overlap (xs ++ ys) ≡ false → list_any (λ x. list_any (meets x) ys) xs ≡ false
-across xs ys e = (neither _ _ (neither _ _ (sym (overlap_append xs ys) ∙ e)).1).0
+across xs ys e = (or_parts _ _ (or_parts _ _ (sym (overlap_append xs ys) ∙ e)).1).0
 
 root_off : (dest : List ℕ) (sources : List (List ℕ)) → refusal dest ≡ None → overlap (sources ++ map (target_in true dest) sources) ≡ false →
     All (λ source. is_root source ≡ false) sources

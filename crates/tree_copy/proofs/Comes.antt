@@ -1,7 +1,7 @@
 -- The fate that each entry comes to by that of its item.
 use Rattle.std.proofs.Common.{◌≡◌, ◌≢◌, inl, inr, ℕ, zero, suc, ◌<◌, ◌≤◌, Bool, true, false, not, cond, ◌||◌, ◌&&◌, List, [], ◌∷◌, map, length}
 use Rattle.std.proofs.Common.{Option, Some, None, refl, ap, ◌∙◌, sym, arith, nat_eq, nat_lt, slice_get}
-use Rattle.std.proofs.lemmas.Bool.{false≢true}
+use Rattle.std.proofs.lemmas.Bool.{false≢true, or_parts}
 use Rattle.std.proofs.lemmas.Bool.Decides.{nat_tests}
 use Rattle.std.proofs.lemmas.List.Elements.{All-from_recursion}
 use Rattle.std.specs.List.{All, AllByRecursion, filter, list_any, zip}
@@ -17,7 +17,7 @@ use Rattle.level_work.specs.declared.items.Order.TheVariants as order
 use Rattle.tree_copy.specs.declared.pairs.Pair.{Pair}
 use Rattle.tree_copy.specs.Copying.{IsEarly, early, is_done, is_tried, parent_failed, target_of}
 use Rattle.tree_copy.specs.PrivateSettling.{any_odd, fates_of, has_room, is_copied_kind, is_odd, item_of, settled, settled_by}
-use Rattle.tree_copy.proofs.Ends.{neither, or_left, or_right, same_some}
+use Rattle.tree_copy.proofs.Ends.{or_left, or_right, same_some}
 use Rattle.tree_copy.proofs.Fits.{no_room_of, other_path, room_of}
 
 -- the items by marks that say which entries have one
@@ -135,7 +135,7 @@ fails_by pairs q s [] (e ∷ es) outs m l odd h = absurd m
 fails_by pairs q s (b ∷ marks) [] outs m l odd h = absurd m
 fails_by pairs q s (true ∷ marks) (e ∷ es) [] m l odd h = absurd (omega (arith, l))
 fails_by pairs q s (true ∷ marks) (e ∷ es) (g ∷ outs) m l odd h =
-    let o = neither (is_odd e g) (any_odd marks es outs) odd in
+    let o = or_parts (is_odd e g) (any_odd marks es outs) odd in
     by o.0 (λ h. fails_by pairs q s marks es outs m.1 (omega (arith, l)) o.1 h) (pointwise nat_eq (target_of pairs e.path) q && not (is_done (settled e g)))
     refl h
   where

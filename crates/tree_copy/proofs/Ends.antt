@@ -1,7 +1,7 @@
 -- Where pairs send paths: no two paths go to one target, and a target is under another one only where its path is under the other's.
 use Rattle.std.proofs.Common.{◌≡◌, ◌⊎◌, inl, inr, ⊎_elim, ℕ, zero, suc, ◌<◌, ◌≤◌, Bool, true, false, ◌||◌, List, [], ◌∷◌, ◌++◌, map, length, drop}
 use Rattle.std.proofs.Common.{Some, None, refl, ap, ◌∙◌, sym, subst, arith, nat_eq, cond, slice_get, append_assoc, length-append}
-use Rattle.std.proofs.lemmas.Bool.{false≢true}
+use Rattle.std.proofs.lemmas.Bool.{false≢true, or_parts}
 use Rattle.std.proofs.lemmas.Bool.Decides.{nat_tests}
 use Rattle.std.proofs.lemmas.List.{append_cancel_left}
 use Rattle.std.proofs.lemmas.List.Folds.{list_any-append}
@@ -37,10 +37,6 @@ or_left false b e = absurd (false≢true e)
 pub or_right : (a b : Bool) → b ≡ true → (a || b) ≡ true
 or_right true b e = refl
 or_right false b e = e
-
-pub neither : (a b : Bool) → (a || b) ≡ false → (a ≡ false) × (b ≡ false)
-neither true b e = absurd (false≢true (sym e))
-neither false b e = (refl, e)
 
 pub both_off : (a b : Bool) → a ≡ false → b ≡ false → (a || b) ≡ false
 both_off true b e f = absurd (false≢true (sym e))
@@ -97,16 +93,16 @@ one_over a b t v w h g =
 -- sources, and targets, stand apart
 
 any_out : (p : List ℕ → Bool) (xs ys : List (List ℕ)) (t : List ℕ) → list_any p (xs ++ t ∷ ys) ≡ false → (p t ≡ false) × (list_any p (xs ++ ys) ≡ false)
-any_out p [] ys t h = neither (p t) (list_any p ys) h
+any_out p [] ys t h = or_parts (p t) (list_any p ys) h
 any_out p (x ∷ xs) ys t h =
-    let n = neither (p x) (list_any p (xs ++ t ∷ ys)) h in
+    let n = or_parts (p x) (list_any p (xs ++ t ∷ ys)) h in
     let r = any_out p xs ys t n.1 in
     (r.0, both_off (p x) (list_any p (xs ++ ys)) n.0 r.1)
 
 take_out : (xs ys : List (List ℕ)) (t : List ℕ) → overlap (xs ++ t ∷ ys) ≡ false → (list_any (meets t) (xs ++ ys) ≡ false) × (overlap (xs ++ ys) ≡ false)
-take_out [] ys t h = neither (list_any (meets t) ys) (overlap ys) h
+take_out [] ys t h = or_parts (list_any (meets t) ys) (overlap ys) h
 take_out (x ∷ xs) ys t h =
-    let n = neither (list_any (meets x) (xs ++ t ∷ ys)) (overlap (xs ++ t ∷ ys)) h in
+    let n = or_parts (list_any (meets x) (xs ++ t ∷ ys)) (overlap (xs ++ t ∷ ys)) h in
     let o = any_out (meets x) xs ys t n.0 in
     let r = take_out xs ys t n.1 in (
       both_off (meets t x) (list_any (meets t) (xs ++ ys)) (turned_or (is_within x t) (is_within t x) o.0) r.0,
@@ -125,13 +121,13 @@ first_apart : (pair : Pair) (pairs : List Pair) → overlap (ends_of (pair ∷ p
 first_apart pair pairs h =
     let s = map (λ (p : Pair). p.source) pairs in
     let t = map (λ (p : Pair). p.target) pairs in
-    let n = neither (list_any (meets pair.source) (s ++ pair.target ∷ t)) (overlap (s ++ pair.target ∷ t)) h in
+    let n = or_parts (list_any (meets pair.source) (s ++ pair.target ∷ t)) (overlap (s ++ pair.target ∷ t)) h in
     let o = any_out (meets pair.source) s t pair.target n.0 in
     let r = take_out s t pair.target n.1 in
     record {
       own = o.0;
-      sources = (neither (list_any (meets pair.source) s) (list_any (meets pair.source) t) (sym (list_any-append (meets pair.source) s t) ∙ o.1)).0;
-      targets = (neither (list_any (meets pair.target) s) (list_any (meets pair.target) t) (sym (list_any-append (meets pair.target) s t) ∙ r.0)).1;
+      sources = (or_parts (list_any (meets pair.source) s) (list_any (meets pair.source) t) (sym (list_any-append (meets pair.source) s t) ∙ o.1)).0;
+      targets = (or_parts (list_any (meets pair.target) s) (list_any (meets pair.target) t) (sym (list_any-append (meets pair.target) s t) ∙ r.0)).1;
       rest = r.1;
     }
 

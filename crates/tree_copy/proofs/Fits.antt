@@ -1,7 +1,7 @@
 -- The items of a copy are fit for work from the top down.
 use Rattle.std.proofs.Common.{◌≡◌, inl, inr, ℕ, zero, suc, ◌<◌, ◌≤◌, Bool, true, false, cond, ◌||◌, List, [], ◌∷◌, map, length, Option, Some, None}
 use Rattle.std.proofs.Common.{IfSome, refl, ap, ◌∙◌, sym, subst, arith, nat_eq, is_some, slice_get}
-use Rattle.std.proofs.lemmas.Bool.{false≢true}
+use Rattle.std.proofs.lemmas.Bool.{false≢true, or_parts}
 use Rattle.std.proofs.lemmas.Bool.Decides.{nat_tests}
 use Rattle.std.specs.Prelude.{nat_le}
 use Rattle.std.specs.FinMap.{get, insert, get-insert}
@@ -31,7 +31,7 @@ use Rattle.tree_copy.specs.declared.pairs.Pair.{Pair}
 use Rattle.tree_copy.specs.Copying.{CanCopy, FitsTree, is_target, target_of, treated}
 use Rattle.tree_copy.specs.PrivateDeeds.{CopyKind, CopyOne, CopyTold, MakeDir}
 use Rattle.tree_copy.specs.PrivateSettling.{IsPair, has_room, item_of, items_of, placed_of}
-use Rattle.tree_copy.proofs.Ends.{Fine, Goes, all_at, both_off, goes, neither, no_root, one_path, same_some, under_kept, under_longer}
+use Rattle.tree_copy.proofs.Ends.{Fine, Goes, all_at, both_off, goes, no_root, one_path, same_some, under_kept, under_longer}
 
 -- what is known of the entries and of the pairs
 pub record Known (list : List Entry) (pairs : List Pair) : Type 0 where
@@ -164,7 +164,7 @@ pub no_item : (pairs : List Pair) (es : List Entry) (q : List ℕ) → list_any 
     is_item (map (item_of pairs) (filter (has_room pairs) es)) q ≡ false
 no_item pairs [] q h = refl
 no_item pairs (e ∷ es) q h =
-    let n = neither (pointwise nat_eq q (target_of pairs e.path)) (list_any (pointwise nat_eq q) (map (λ (e : Entry). target_of pairs e.path) es)) h in
+    let n = or_parts (pointwise nat_eq q (target_of pairs e.path)) (list_any (pointwise nat_eq q) (map (λ (e : Entry). target_of pairs e.path) es)) h in
     elim (has_room pairs e) as (λ b. is_item (map (item_of pairs) (cond b (e ∷ filter (has_room pairs) es) (filter (has_room pairs) es))) q ≡ false) [
       | true ↦ both_off (pointwise nat_eq q (target_of pairs e.path)) (is_item (map (item_of pairs) (filter (has_room pairs) es)) q) n.0
           (no_item pairs es q n.1)

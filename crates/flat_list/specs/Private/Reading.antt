@@ -1,9 +1,13 @@
 -- How the text of a line of a list file is read, word by word. That this undoes the writing of `Spelling`, and reads no other text, is proved.
-use Rattle.std.specs.Prelude.{◌≡◌, ◌≢◌, ◌<◌, length, slice_index, ℕ, ◌^◌, Bool, ◌&&◌, ◌==◌, nat_lt, List, [], ◌∷◌, ◌++◌, if◌then◌else◌, Option, Some}
+use Rattle.std.specs.Prelude.{◌≡◌, ◌≢◌, ◌+◌, ◌<◌, ◌≤◌, ◌⊎◌, take, drop, nat_le, not, length, slice_index, ℕ, ◌^◌, Bool, true, ◌&&◌, ◌==◌, nat_lt, List, [], ◌∷◌, ◌++◌, if◌then◌else◌, Option, Some}
 use Rattle.std.specs.Prelude.{◌-◌, slice_get, None, is_none, Result, Ok, Err, codes}
 use Rattle.std.specs.Str.{IsUtf8, is_utf8, bytes_eq}
-use Rattle.std.specs.Str.Parse.{digits_value}
+use Rattle.std.specs.Str.Parse.{AllDigits, digits_value}
+use Rattle.std.specs.List.{list_all}
+use Rattle.std.specs.Ordering.{is_lt}
 use Rattle.std.specs.Fmt.{decimal}
+use Rattle.path_text.specs.Path.{refusal}
+use Rattle.path_text.specs.Order.{path_cmp}
 use Rattle.path_text.specs.Escape.{reading}
 use Rattle.path_text.specs.declared.errors.EscapeError.{EscapeError}
 use Rattle.outside.specs.declared.trees.Kind.{Kind}
@@ -13,6 +17,7 @@ use Rattle.flat_list.specs.declared.entries.Entry.{Entry}
 use Rattle.flat_list.specs.declared.entries.Mark.{Mark}
 use Rattle.flat_list.specs.declared.entries.Mark.TheVariants as mark
 use Rattle.flat_list.specs.declared.reading.Told.{Told}
+use Rattle.flat_list.specs.declared.reading.Digits.{Digits}
 use Rattle.flat_list.specs.Entries.{is_sized, shape_by}
 use Rattle.flat_list.specs.Spelling.{Follows}
 
@@ -103,6 +108,60 @@ entry_at text = do
   told ← told_at text
   path ← path_from told.1
   Some (record { path = path; stat = told.0.stat; mark = told.0.mark; unnamed = told.0.unnamed; far = told.0.far })
+
+-- a path, if it comes behind another
+abbrev pub if_behind : List ℕ → List ℕ → Option (List ℕ)
+if_behind before path = if is_lt (path_cmp before path) then Some path else None
+
+-- the path that a word tells, if it comes behind another
+unfoldable pub path_behind : List ℕ → List ℕ → Option (List ℕ)
+path_behind before word = path_from word >>= if_behind before
+
+abbrev pub path_after : Option Entry → List ℕ → Option (List ℕ)
+path_after None word = path_from word
+path_after (Some before) word = path_behind before.path word
+
+-- the entry that a text tells, if its path comes behind that of another, where there is one
+unfoldable pub entry_behind : Option Entry → List ℕ → Option Entry
+entry_behind before text = do
+  told ← told_at text
+  path ← path_after before told.1
+  Some (record { path = path; stat = told.0.stat; mark = told.0.mark; unnamed = told.0.unnamed; far = told.0.far })
+
+-- a byte that is printable ASCII and stands for itself
+abbrev pub is_plain : ℕ → Bool
+is_plain b = nat_le 32 b && (nat_lt b 127 && not (b == 92))
+
+-- a path begins with some names, one at least
+pub record IsFront (path names : List ℕ) : Type 0 where
+  pub some : 1 < length names
+  pub same : take (length names) path ≡ names
+  pub ends : (length path ≡ length names) ⊎ (slice_index path (length names) ≡ 47)
+
+-- a name that is neither empty nor `.` nor `..`, as its length or its first byte tells
+abbrev pub IsPlainName : List ℕ → Type 0
+IsPlainName name = (2 < length name) ⊎ ((0 < length name) × (slice_index name 0 ≢ 46))
+
+-- a word is a path itself, and has all in front of a place from the path before it
+pub record IsNear (before word : List ℕ) (at : ℕ) : Type 0 where
+  pub inside : at ≤ length before
+  pub within : at ≤ length word
+  pub shared : take at before ≡ take at word
+  pub path : refusal word ≡ None
+  pub plain : list_all is_plain word ≡ true
+
+-- the number that the first word of a text writes, which has so many digits
+pub record IsNumberWord (text : List ℕ) (digits : Digits) : Type 0 where
+  pub short : digits.len < length text
+  pub number : word_at number_of text ≡ Some (digits.value, drop (digits.len + 1) text)
+  pub time : word_at time_from text ≡ Some (Some digits.value, drop (digits.len + 1) text)
+
+-- the first bytes of a text are digits, nineteen at most, and write a number
+pub record AreDigits (text : List ℕ) (digits : Digits) : Type 0 where
+  pub few : digits.len ≤ 19
+  pub within : digits.len ≤ length text
+  pub each : AllDigits 10 (take digits.len text)
+  pub value : digits.value ≡ digits_value 10 (take digits.len text)
 
 -- the count of an end line
 unfoldable pub end_at : List ℕ → Option ℕ

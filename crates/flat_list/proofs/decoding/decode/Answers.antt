@@ -70,7 +70,7 @@ loop-text-preserved c =
     record {
       stands = goes_on c.reading_undoes_writing.ensures reads c.add_entry.new.list (c.in_ok-added.ensures.yes so);
       few = omega (arith, c.len-in-Some-cut_line.ensures);
-      last = c.in_ok-added.ensures.last;
+      last = c.in_ok-added.ensures.last so;
     }
 
 pub returns-clause-refused : goal.returns-clause-refused

@@ -1,12 +1,11 @@
-use Rattle.std.proofs.Common.{◌≡◌, [], ◌∙◌, sym, ap, arith}
-use Rattle.outside.specs.Writes.{all_but}
-use Rattle.test_tree.specs.Made.{first_files, made}
+use Rattle.std.proofs.Common.{◌≡◌, ◌∙◌, sym, ap, arith}
+use Rattle.test_tree.specs.Made.{memory_of, first_files, made}
 use Rattle.test_tree.proofs.Filled.{first_none, first_all}
 use Rattle.test_tree.proofs.making.made.Goals as goal
 
 pub loop-k-init : goal.loop-k-init
 loop-k-init c = (
-  c.in_ok-files.ensures ∙ ap (λ files. record { files = files; planned = []; count = 0; area = all_but [] }) (sym (first_none c.args.nodes)),
+  c.in_ok-files.ensures ∙ ap memory_of (sym (first_none c.args.nodes)),
   c.in_ok-place.ensures,
 )
 
@@ -14,4 +13,4 @@ pub returns : goal.returns
 returns c =
     let end : c.loop-k.k ≡ c.args.nodes = omega arith in
     c.loop-k.invariant.0
-    ∙ ap (λ files. record { files = files; planned = []; count = 0; area = all_but [] }) (ap (first_files c.args.nodes) end ∙ first_all c.args.nodes)
+    ∙ ap memory_of (ap (first_files c.args.nodes) end ∙ first_all c.args.nodes)

@@ -1,8 +1,8 @@
-use Rattle.std.proofs.Common.{◌≡◌, [], ◌∙◌, ap, sym, subst, arith}
+use Rattle.std.proofs.Common.{◌≡◌, ◌∙◌, ap, sym, subst, arith}
 use Rattle.std.specs.Prelude.{OnOk}
-use Rattle.outside.specs.Writes.{all_but}
 use Rattle.files_mem.specs.Memory.{with_node}
 use Rattle.test_tree.specs.Nodes.{node_of}
+use Rattle.test_tree.specs.Made.{memory_of}
 use Rattle.test_tree.proofs.Filled.{next_free, grown}
 use Rattle.test_tree.proofs.making.put_next.Goals as goal
 
@@ -13,5 +13,5 @@ pub returns : goal.returns
 returns c =
     subst (λ m. OnOk c.put.result (c.put.new.files ≡ m))
     ((λ i. with_node (c.requires.made i) (c.in_ok-path.ensures i) (node_of c.args.nodes c.args.k))
-    ∙ ap (λ files. record { files = files; planned = []; count = 0; area = all_but [] }) (sym (grown c.args.nodes c.args.k (omega arith))))
+    ∙ ap memory_of (sym (grown c.args.nodes c.args.k (omega arith))))
     c.put.ensures

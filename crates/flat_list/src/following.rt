@@ -1,0 +1,134 @@
+//! The path that a line of a list file tells, read behind the path of the line before it.
+//!
+//! In a list a path has mostly the names of the one before it, all but the last. Where that is so, and the text is printable
+//! ASCII in which each byte stands for itself, only that last name is looked at, and the path before is rewritten. Our own.
+ghost use Rattle.std.specs.Prelude.{◌≡◌, ◌<◌, ◌≤◌, ◌&&◌, not, ◌==◌, nat_le, nat_lt, length, take, drop, slice_index, true, IfOk, IfSome, Some, None, is_none};
+ghost use Rattle.std.specs.List.{list_all};
+ghost use Rattle.std.specs.Str.{IsUtf8};
+ghost use Rattle.path_text.specs.Escape.{reading};
+ghost use Rattle.flat_list.specs.Private.Reading.{ok_of, path_from, path_behind, is_plain, IsFront, IsNear, IsPlainName};
+
+use memchr::memrchr;
+use path_text::{
+    EscapeError, MAX_PATH, OutOfMemory, Path, common_len, compare, reading_undoes_writing, unescape,
+};
+use std::alloc::Global;
+
+/// The path that a word tells, if there is one and it comes behind another, whose memory it takes.
+#[tactic(auto, unfolding(crate::specs::Private::Reading::path_behind))]
+pub(crate) fn path_behind(
+    alloc: Global,
+    before: Path,
+    word: &[u8],
+) -> Result<Option<Path>, OutOfMemory>
+    ensures read { IfOk result (λ found. found ≡ path_behind before word.now) }
+    ensures utf8 { IfOk result (λ found. IfSome found (λ path. IsUtf8 path)) }
+{
+    if let Some(at) = last_name(&before, word) {
+        return moved(before, word, at);
+    }
+    let Some(path) = path_from(alloc, word)? else {
+        return Ok(None);
+    };
+    if !before.cmp(&path).is_lt() {
+        return Ok(None);
+    }
+    Ok(Some(path))
+}
+
+// The path that a word tells of which all before a place stands in the path before it, if it comes behind that one.
+fn moved(before: Path, word: &[u8], at: usize) -> Result<Option<Path>, OutOfMemory>
+    requires { IsNear before word.now at }
+    ensures read { IfOk result (λ found. found ≡ path_behind before word.now) }
+    ensures utf8 { IfOk result (λ found. IfSome found (λ path. IsUtf8 path)) }
+{
+    // That each byte stands for itself rests on this law.
+    reading_undoes_writing();
+    if !compare(&before.text().as_bytes()[at..], &word[at..]).is_lt() {
+        return Ok(None);
+    }
+    let mut path = before;
+    path.rewrite(at, &word[at..])?;
+    Ok(Some(path))
+}
+
+// Where the last name of a word begins, with the slash before it, where all before it stands in the path before, and each byte
+// is printable ASCII and stands for itself.
+fn last_name(before: &Path, word: &[u8]) -> Option<usize>
+    ensures { IfSome result (IsNear before.now word.now) }
+{
+    let at = memrchr(b'/', word)?;
+    if word.len() > MAX_PATH || !are_plain(word) || !is_plain_name(&word[at + 1..]) {
+        return None;
+    }
+    let text = before.text();
+    if !is_front(text.as_bytes(), &word[..at]) {
+        return None;
+    }
+    Some(at)
+}
+
+// Whether each byte is printable ASCII and no backslash. Each is looked at, whatever the others are, so that a processor may
+// look at many at once.
+fn are_plain(word: &[u8]) -> bool
+    ensures { result ≡ list_all is_plain word.now }
+{
+    let mut plain = true;
+    for b in word {
+        plain &= is_plain(*b);
+    }
+    plain
+}
+
+fn is_plain(b: u8) -> bool
+    ensures { result ≡ is_plain b }
+{
+    b' ' <= b && b < 0x7F && b != b'\\'
+}
+
+// Whether a name is told to be neither `.` nor `..` by its length or its first byte.
+fn is_plain_name(name: &[u8]) -> bool
+    ensures { result ≡ true → IsPlainName name.now }
+{
+    name.len() > 2 || (name.len() > 0 && name[0] != b'.')
+}
+
+// Whether a path begins with some of another's names, which are one at least.
+#[tactic(auto, using(crate::proofs::Near::front))]
+fn is_front(path: &[u8], names: &[u8]) -> bool
+    ensures { result ≡ true → IsFront path.now names.now }
+{
+    let len = names.len();
+    if len <= 1 || common_len(names, path) != len {
+        return false;
+    }
+    path.len() == len || path[len] == b'/'
+}
+
+/// The path that a word tells, if there is one.
+#[tactic(auto, using(crate::proofs::Numbers::path_texts))]
+pub(crate) fn path_from(alloc: Global, word: &[u8]) -> Result<Option<Path>, OutOfMemory>
+    ensures read { IfOk result (λ path. path ≡ path_from word.now) }
+    ensures utf8 { IfOk result (λ path. IfSome path (λ p. IsUtf8 p)) }
+{
+    match str::from_utf8(word) {
+        Ok(text) => path_of(alloc, text),
+        Err(_) => Ok(None),
+    }
+}
+
+fn path_of(alloc: Global, text: &str) -> Result<Option<Path>, OutOfMemory>
+    ensures read { IfOk result (λ path. path ≡ ok_of (reading text.now)) }
+    ensures utf8 { IfOk result (λ path. IfSome path (λ p. IsUtf8 p)) }
+{
+    match unescape(alloc, text) {
+        Ok(path) => {
+            // That a path is UTF-8 is told by its text alone.
+            let _text = path.text();
+            Ok(Some(path))
+        }
+        Err(EscapeError::OutOfMemory) => Err(OutOfMemory),
+        Err(EscapeError::BadEscape(_)) => Ok(None),
+        Err(EscapeError::Path(_)) => Ok(None),
+    }
+}
