@@ -55,6 +55,14 @@ module _ {A : Type 0} where
       subst (λ xs. IsPermutation (held ++ xs) (held' ++ w')) (sym last)
       (subst (λ xs. IsPermutation (held ++ (front ++ e ∷ [])) (held' ++ xs)) (sym left) (passes held held' front e put_one))
 
+  -- the last entry that is left goes behind the others
+  pub last_behind : (all left before list list' : List A) (e : A) → IsPermutation all (left ++ list) → left ≡ before ++ e ∷ [] → list' ≡ list ++ e ∷ [] →
+      IsPermutation all (before ++ list')
+  last_behind all left before list list' e moved last put_one =
+      let split : left ++ list ≡ before ++ (e ∷ [] ++ list) = ap (λ xs. xs ++ list) last ∙ append_assoc before (e ∷ []) list in
+      let swap = IsPermutation-append_right before _ _ (IsPermutation-append_comm (e ∷ []) list) in
+      subst (λ xs. IsPermutation all (before ++ xs)) (sym put_one) (IsPermutation-trans _ _ _ (subst (IsPermutation all) split moved) swap)
+
   -- the last of some lists goes behind others
   pub taken : (runs runs' : List (List A)) (run all : List A) → runs ≡ runs' ++ run ∷ [] → IsPermutation (flat runs ++ all) (flat runs' ++ (all ++ run))
   taken runs runs' run all is =

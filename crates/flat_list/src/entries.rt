@@ -2,7 +2,8 @@
 ghost use Rattle.std.specs.Prelude.{◌≡◌, IfOk, OnOk, OnErr};
 
 use outside::{Kind, Stat};
-use path_text::{OutOfMemory, Path};
+use path_text::{OutOfMemory, Path, compare};
+use std::cmp::Ordering;
 
 /// How the files answered of a path.
 #[derive(Clone, Copy, Debug, Drop, PartialEq, Eq)]
@@ -58,6 +59,13 @@ pub(crate) fn write_over(slot: &mut Entry, entry: &Entry) -> Result<(), OutOfMem
     slot.unnamed = entry.unnamed;
     slot.far = entry.far;
     Ok(())
+}
+
+// Compares two paths that share so many bytes, or more, as far as both go: what stands behind decides. Speed alone rests on
+// the answer.
+pub(crate) fn compare_behind(a: &Path, b: &Path, shared: usize) -> Ordering {
+    let (a, b) = (a.text().as_bytes(), b.text().as_bytes());
+    compare(&a[shared.min(a.len())..], &b[shared.min(b.len())..])
 }
 
 // Whether a directory stands there, as far as was told.

@@ -2,7 +2,7 @@
 //!
 //! In a list a path has mostly the names of the one before it, all but the last. Where that is so, and the text is printable
 //! ASCII in which each byte stands for itself, only that last name is looked at, and the path before is rewritten. Our own.
-ghost use Rattle.std.specs.Prelude.{◌≡◌, ◌<◌, ◌≤◌, ◌&&◌, not, ◌==◌, nat_le, nat_lt, length, take, drop, slice_index, true, IfOk, IfSome, Some, None, is_none};
+ghost use Rattle.std.specs.Prelude.{◌≡◌, true, IfOk, IfSome};
 ghost use Rattle.std.specs.List.{list_all};
 ghost use Rattle.std.specs.Str.{IsUtf8};
 ghost use Rattle.path_text.specs.Escape.{reading};

@@ -113,6 +113,19 @@ impl FlatList {
         Ok(list)
     }
 
+    // Copies of the entries, packed from the last one to the first.
+    pub(crate) fn packed_back(alloc: Global, entries: &[Entry]) -> Result<FlatList, OutOfMemory>
+        ensures { IfOk result (λ list. IsPermutation entries.now list) }
+    {
+        let mut list = FlatList::with_room(alloc, entries.len())?;
+        let mut left = entries;
+        while let Some((last, before)) = left.split_last() {
+            list.add(last)?;
+            left = before;
+        }
+        Ok(list)
+    }
+
     // Copies of the entries.
     fn copies(&self) -> Result<Vec<Entry>, OutOfMemory>
         ensures { IfOk result (λ entries. entries.items ≡ self.now) }

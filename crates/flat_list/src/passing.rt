@@ -5,7 +5,7 @@ ghost use Rattle.flat_list.specs.Private.Kept.{is_path, IsBefore, RisesAt};
 
 use crate::entries::{Entry, Mark};
 use crate::heads::{Head, Leads};
-use path_text::{OutOfMemory, Path, compare};
+use path_text::{OutOfMemory, Path, common_len, compare};
 use std::alloc::Global;
 use std::marker::Model;
 
@@ -72,10 +72,12 @@ impl<'a> Reader<'a> {
     {
         let head = self.heads.head();
         let end = self.at + head.rest as usize;
-        rewrite(&mut self.entry, head, &self.rests[self.at..end])?;
+        let rest = &self.rests[self.at..end];
+        let shared = shared_by(&self.entry.path, head, rest);
+        rewrite(&mut self.entry, head, rest)?;
         self.heads.pass();
         self.at = end;
-        self.shared = head.shared as usize;
+        self.shared = shared;
         Ok(())
     }
 
@@ -95,8 +97,7 @@ impl<'a> Reader<'a> {
         compare(&self.rests[self.at..end], &last[head.shared as usize..]).is_lt()
     }
 
-    /// How many bytes the path passed last shares with the one before, as far as is kept: none at the front of a page. Speed
-    /// alone rests on the answer.
+    /// How many bytes the path passed last shares with the one passed before it. Speed alone rests on the answer.
     pub fn shared(&self) -> usize {
         self.shared
     }
@@ -114,6 +115,14 @@ impl<'a> Reader<'a> {
     {
         self.entry
     }
+}
+
+// How many bytes the path of a head and a rest shares with the last one: that is kept, but at the front of a page.
+fn shared_by(last: &Path, head: Head, rest: &[u8]) -> usize {
+    if head.shared > 0 {
+        return head.shared as usize;
+    }
+    common_len(last.text().as_bytes(), rest)
 }
 
 // An entry becomes the next one. A refusal leaves it.

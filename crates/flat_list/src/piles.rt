@@ -2,7 +2,7 @@
 ghost use Rattle.std.specs.Prelude.{◌≡◌, ◌-◌, ◌++◌, ◌∷◌, [], length, take, OnOk, OnErr, IfSome, IfNone, IfOk};
 ghost use Rattle.std.specs.List.Sorted.{IsPermutation};
 
-use crate::entries::{Entry, copy_of, write_over};
+use crate::entries::{Entry, compare_behind, copy_of, write_over};
 use path_text::OutOfMemory;
 use std::alloc::{AllocError, Global};
 use std::marker::Model;
@@ -82,16 +82,13 @@ impl Pile {
         self.len = 0;
     }
 
-    /// Puts the entries in path order: where each comes before the one before it, as `falls` says, by turning them around.
-    pub fn put_in_order(&mut self, falls: bool) -> Result<(), AllocError>
+    /// Puts the entries in path order, where their paths share so many bytes, or more.
+    pub fn sort(&mut self, shared: usize) -> Result<(), AllocError>
         ensures { IsPermutation self.old self.new }
     {
         self.slots.truncate(self.len);
-        if falls {
-            self.slots.reverse();
-            return Ok(());
-        }
-        self.slots.sort_by(|a, b| a.path.cmp(&b.path))?;
+        self.slots
+            .sort_by(|a, b| compare_behind(&a.path, &b.path, shared))?;
         Ok(())
     }
 

@@ -4,13 +4,14 @@
 //! order. Where a directory waits until what is below it was passed, the entries come in falling path order. So a piece of
 //! them that is turned around is in path order, and comes before the piece that was made before it. What a rank was given on
 //! the way begins anew in its log: a piece of many entries ends there, and one of few goes on, and is sorted. A log is read an
-//! entry at a time, and its entries wait in slots that are used again.
+//! entry at a time, and its entries wait in slots that are used again. What a path shares with the one before it in the log is
+//! told by the log, so that only what stands behind it is compared.
 ghost use Rattle.std.specs.Prelude.{◌≡◌, ◌+◌, ◌<◌, ◌≤◌, ◌++◌, ◌∷◌, [], true, length, OnOk, IfOk};
 ghost use Rattle.std.specs.List.{flat_map};
 ghost use Rattle.std.specs.List.Sorted.{IsPermutation};
 ghost use Rattle.flat_list.specs.Private.Cut.{all_of, held_by};
 
-use crate::entries::{Entry, is_dir};
+use crate::entries::{Entry, compare_behind, is_dir};
 use crate::lists::FlatList;
 use crate::piles::Pile;
 use path_text::OutOfMemory;
@@ -72,6 +73,8 @@ struct Pieces {
     piece: Pile,
     // Whether each entry of the piece comes before the one that was put before it.
     falls: bool,
+    // So many bytes all paths of the piece share, or more.
+    shared: usize,
     // So many entries make the next run.
     room: usize,
     // So many make a run where the log begins anew.
@@ -86,6 +89,7 @@ impl Pieces {
             runs: Vec::new(alloc),
             piece: Pile::make(alloc),
             falls: true,
+            shared: usize::MAX,
             room: PIECE,
             many: SHORT,
         }
@@ -100,29 +104,43 @@ impl Pieces {
         self.many = SHORT.max(len / PARTS);
     }
 
-    // An entry goes into the piece, or begins the next one.
-    fn put(&mut self, entry: &Entry) -> Result<(), OutOfMemory>
+    // An entry goes into the piece, or begins the next one. Its path shares so many bytes with the one put last, or more, as far
+    // as both go.
+    fn put(&mut self, entry: &Entry, shared: usize) -> Result<(), OutOfMemory>
         ensures { OnOk result (IsPermutation (held_by self.old ++ entry.now ∷ []) (held_by self.new)) }
     {
-        self.end_long(entry)?;
+        self.end_long(entry, shared)?;
+        self.share(entry, shared);
         self.piece.put(entry)?;
         self.end_full()?;
         Ok(())
     }
 
     // Whether an entry comes before the last one of the piece.
-    fn comes_first(&self, entry: &Entry) -> bool {
+    fn comes_first(&self, entry: &Entry, shared: usize) -> bool {
         match self.piece.last() {
-            Some(last) => entry.path.cmp(&last.path).is_lt(),
+            Some(last) => compare_behind(&entry.path, &last.path, shared).is_lt(),
             None => true,
         }
     }
 
+    // Counts what all paths of the piece share, where an entry is put behind the last one.
+    fn share(&mut self, entry: &Entry, shared: usize)
+        ensures { held_by self.new ≡ held_by self.old }
+    {
+        let shared = if self.piece.len() == 0 {
+            usize::MAX
+        } else {
+            shared
+        };
+        self.shared = self.shared.min(shared).min(entry.path.text().len());
+    }
+
     // Where the log begins anew with an entry, a piece of many entries becomes a run, and one of few falls no more.
-    fn end_long(&mut self, entry: &Entry) -> Result<(), OutOfMemory>
+    fn end_long(&mut self, entry: &Entry, shared: usize) -> Result<(), OutOfMemory>
         ensures { OnOk result (IsPermutation (held_by self.old) (held_by self.new)) }
     {
-        if self.comes_first(entry) {
+        if self.comes_first(entry, shared) {
             return Ok(());
         }
         if self.piece.len() < self.many {
@@ -152,14 +170,26 @@ impl Pieces {
         if self.piece.len() == 0 {
             return Ok(());
         }
-        self.piece.put_in_order(self.falls)?;
-        let alloc = *self.runs.allocator();
-        self.runs
-            .push(FlatList::packed_from(alloc, self.piece.entries())?)?;
+        let run = self.run()?;
+        self.runs.push(run)?;
         self.piece.clear();
         self.falls = true;
+        self.shared = usize::MAX;
         self.room = PIECE;
         Ok(())
+    }
+
+    // The entries of the piece in path order, packed: where they fall from the last one on, and else sorted.
+    fn run(&mut self) -> Result<FlatList, OutOfMemory>
+        ensures run { IfOk result (IsPermutation self.old.piece) }
+        ensures runs { self.new.runs ≡ self.old.runs }
+    {
+        let alloc = *self.runs.allocator();
+        if self.falls {
+            return FlatList::packed_back(alloc, self.piece.entries());
+        }
+        self.piece.sort(self.shared)?;
+        FlatList::packed_from(alloc, self.piece.entries())
     }
 }
 
@@ -168,6 +198,8 @@ impl Pieces {
 struct Cut {
     pieces: Pieces,
     waiting: Pile,
+    // So many bytes all paths share that were read since one went into the piece, and that one, or more, as far as it goes.
+    shared: usize,
 }
 
 impl Cut {
@@ -177,6 +209,7 @@ impl Cut {
         Cut {
             pieces: Pieces::make(alloc),
             waiting: Pile::make(alloc),
+            shared: 0,
         }
     }
 
@@ -187,7 +220,7 @@ impl Cut {
         self.pieces.begin(log.len());
         let mut cursor = log.cursor()?;
         while cursor.advance()? {
-            self.put(cursor.entry())?;
+            self.put(cursor.entry(), cursor.shared())?;
         }
         self.end()?;
         Ok(())
@@ -199,35 +232,43 @@ impl Cut {
     {
         self.pieces.begin(log.len());
         for entry in log {
-            self.put(entry)?;
+            self.put(entry, 0)?;
         }
         self.end()?;
         Ok(())
     }
 
-    // The next entry of a log. Directories that it is not below wait no more.
-    fn put(&mut self, entry: &Entry) -> Result<(), OutOfMemory>
+    // The next entry of a log, whose path shares so many bytes with the one before; 0 where that is not known. Directories that
+    // it is not below wait no more.
+    fn put(&mut self, entry: &Entry, shared: usize) -> Result<(), OutOfMemory>
         ensures { OnOk result (IsPermutation (all_of self.old ++ entry.now ∷ []) (all_of self.new)) }
     {
-        while self.leaves(entry) {
+        while self.leaves(entry, shared) {
             self.pass_last()?;
         }
+        self.shared = self.shared.min(shared);
         if is_dir(entry) {
             self.waiting.put(entry)?;
             return Ok(());
         }
-        self.pieces.put(entry)?;
+        self.pieces.put(entry, self.shared)?;
+        self.shared = usize::MAX;
         Ok(())
     }
 
-    // Whether a directory waits that the entry is not below.
-    fn leaves(&self, entry: &Entry) -> bool
+    // Whether a directory waits that the entry is not below. The one that waits last is the path before in the log, or over it:
+    // so the entry is below it where its path shares all of it with that one, and a slash follows.
+    fn leaves(&self, entry: &Entry, shared: usize) -> bool
         ensures { result ≡ true → 0 < length self.now.waiting }
     {
-        match self.waiting.last() {
-            Some(last) => !entry.path.is_under(&last.path),
-            None => false,
+        let Some(last) = self.waiting.last() else {
+            return false;
+        };
+        let len = last.path.text().len();
+        if shared == 0 || len == 1 {
+            return !entry.path.is_under(&last.path);
         }
+        shared < len || entry.path.text().as_bytes().get(len) != Some(&b'/')
     }
 
     // The directory that waits last goes into the piece.
@@ -239,8 +280,9 @@ impl Cut {
         let Some(last) = self.waiting.last() else {
             return Ok(());
         };
-        self.pieces.put(last)?;
+        self.pieces.put(last, self.shared)?;
         self.waiting.drop_last();
+        self.shared = usize::MAX;
         Ok(())
     }
 

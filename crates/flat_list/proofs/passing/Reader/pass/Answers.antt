@@ -4,8 +4,8 @@ use Rattle.flat_list.specs.declared.entries.Entry.{Entry}
 use Rattle.flat_list.proofs.Passed.{step, made_path, made_next, made_here, at_pair}
 use Rattle.flat_list.proofs.passing.Reader.pass.Goals as goal
 
-pub slice_bounds-rewrite-end : goal.slice_bounds-rewrite-end
-slice_bounds-rewrite-end c = omega (arith, (step c.head-head.result c.self.invariant c.head-head.ensures.next).room)
+pub slice_bounds-rest-end : goal.slice_bounds-rest-end
+slice_bounds-rest-end c = omega (arith, (step c.head-head.result c.self.invariant c.head-head.ensures.next).room)
 
 pub rewrite-requires : goal.rewrite-requires
 rewrite-requires c = made_path c.head-head.result _ (omega arith) c.self.invariant c.head-head.ensures.next

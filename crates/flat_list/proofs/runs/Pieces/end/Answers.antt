@@ -1,12 +1,10 @@
-use Rattle.std.proofs.Common.{◌≡◌, ◌∙◌, sym, subst}
-use Rattle.std.specs.List.Sorted.{IsPermutation}
+use Rattle.std.proofs.Common.{◌≡◌, ◌++◌, ◌∷◌, [], ◌∙◌, ap}
 use Rattle.flat_list.proofs.Cuts.{closed}
 use Rattle.flat_list.proofs.runs.Pieces.end.Goals as goal
 
 pub returns-clause-moved : goal.returns-clause-moved
 returns-clause-moved c =
-    let piece = c.args.self.now.piece in
-    let run = c.in_ok-packed_from.field-0 in
-    let packed : run ≡ c.put_in_order.new.self = c.in_ok-packed_from.ensures ∙ c.entries.ensures in
-    let moved = subst (IsPermutation piece) (sym packed) c.put_in_order.ensures in
-    closed c.args.self.now.runs.items c.push.new.self.items piece run c.clear.new.self c.in_ok-push.ensures.items moved c.clear.ensures
+    let run = c.in_ok-run.run' in
+    let runs = c.args.self.now.runs.items in
+    let more : c.push.new.self.items ≡ runs ++ run ∷ [] = c.in_ok-push.ensures.items ∙ ap (λ held. held.items ++ run ∷ []) c.run.ensures.runs in
+    closed runs c.push.new.self.items c.args.self.now.piece run c.clear.new.self more c.in_ok-run.ensures.run c.clear.ensures
