@@ -1,11 +1,16 @@
 -- The steps of writing a list file.
-use Rattle.std.proofs.Common.{◌≡◌, ℕ, ◌+◌, ◌<◌, ◌≤◌, ◌^◌, List, [], ◌∷◌, ◌++◌, length, take, ap, sym, ◌∙◌, subst, append_assoc, append-nil}
+use Rattle.std.proofs.Common.{◌≡◌, ℕ, ◌+◌, ◌<◌, ◌≤◌, ◌^◌, List, [], ◌∷◌, ◌++◌, length, take, ap, sym, ◌∙◌, subst, append_assoc, append-nil, arith}
+use Rattle.std.specs.Prelude.{codes}
+use Rattle.std.specs.Fmt.{decimal}
 use Rattle.std.specs.List.{AllByRecursion, flat_map}
+use Rattle.std.proofs.lemmas.Fmt.{decimal_digit}
 use Rattle.std.specs.List.Sorted.{IsStrictlySortedBy}
 use Rattle.std.proofs.lemmas.List.{take_all, map-append}
 use Rattle.path_text.specs.Order.{path_cmp}
 use Rattle.flat_list.specs.declared.entries.Entry.{Entry}
-use Rattle.flat_list.specs.Spelling.{text_of, line, header_text, end_text, entry_lines, IsEntry, paths, Spells}
+use Rattle.flat_list.specs.declared.entries.Mark.{Mark}
+use Rattle.flat_list.specs.declared.entries.Mark.TheVariants as marks
+use Rattle.flat_list.specs.Spelling.{mark_word, text_of, line, header_text, end_text, entry_lines, IsEntry, paths, Spells}
 use Rattle.flat_list.proofs.Ascending.{all_more}
 use Rattle.flat_list.proofs.Dealt.{Turn, taken}
 use Rattle.flat_list.proofs.Files.{flat_end}
@@ -52,9 +57,18 @@ spells {before} {bytes} {es} {i} w le few end ascend =
 
 -- the words of an entry, one after the other
 pub words_joined : (a b c d e f g old : List ℕ) →
-    (((((old ++ (a ++ 32 ∷ (b ++ 32 ∷ (c ++ 32 ∷ [])))) ++ (d ++ 32 ∷ [])) ++ (e ++ 32 ∷ [])) ++ (f ++ 32 ∷ [])) ++ g) ++ 10 ∷ [] ≡
+    (((old ++ (a ++ 32 ∷ (b ++ 32 ∷ (c ++ 32 ∷ [])))) ++ (d ++ 32 ∷ (e ++ 32 ∷ (f ++ 32 ∷ [])))) ++ g) ++ 10 ∷ [] ≡
     old ++ line (a ++ 32 ∷ (b ++ 32 ∷ (c ++ 32 ∷ (d ++ 32 ∷ (e ++ 32 ∷ (f ++ 32 ∷ g))))))
 words_joined a b c d e f g old = simp append_assoc
+
+-- the notes of an entry of which there is nothing to note
+pub nothing_noted : (mark : Mark) (unnamed far : ℕ) → mark ≡ marks.Fine → unnamed ≡ 0 → far ≡ 0 →
+    codes "ok 0 0 " ≡ mark_word mark ++ 32 ∷ (decimal unnamed ++ 32 ∷ (decimal far ++ 32 ∷ []))
+nothing_noted mark unnamed far fine none near =
+    sym (ap (λ m. mark_word m ++ 32 ∷ (decimal unnamed ++ 32 ∷ (decimal far ++ 32 ∷ []))) fine
+    ∙ ap (λ n. codes "ok" ++ 32 ∷ (decimal n ++ 32 ∷ (decimal far ++ 32 ∷ []))) none
+    ∙ ap (λ n. codes "ok" ++ 32 ∷ (decimal 0 ++ 32 ∷ (decimal n ++ 32 ∷ []))) near
+    ∙ ap (λ z. codes "ok" ++ 32 ∷ (z ++ 32 ∷ (z ++ 32 ∷ []))) (decimal_digit 0 (omega arith)))
 
 -- the words of a stat
 pub told_joined : (a b c old : List ℕ) → ((old ++ (a ++ 32 ∷ [])) ++ (b ++ 32 ∷ [])) ++ (c ++ 32 ∷ []) ≡ old ++ (a ++ 32 ∷ (b ++ 32 ∷ (c ++ 32 ∷ [])))

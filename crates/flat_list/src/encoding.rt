@@ -54,9 +54,7 @@ fn put_entry(text: &mut Vec<u8>, entry: &Entry) -> Result<(), OutOfMemory>
     ensures entry { OnOk result (IsEntry entry.now) }
 {
     put_stat(text, entry.stat)?;
-    put_word(text, mark_word(entry.mark))?;
-    put_number(text, entry.unnamed)?;
-    put_number(text, entry.far)?;
+    put_notes(text, entry.mark, entry.unnamed, entry.far)?;
     put_escaped(text, &entry.path)?;
     text.push(b'\n')?;
     // That a path is UTF-8 is told by its text alone.
@@ -90,6 +88,21 @@ fn put_words(
     put_word(text, kind)?;
     put_number(text, size)?;
     put_time(text, mtime)
+}
+
+// The words of a mark and of two numbers, each with a space behind it. Mostly there is nothing to note.
+fn put_notes(text: &mut Vec<u8>, mark: Mark, unnamed: u64, far: u64) -> Result<(), OutOfMemory>
+    ensures text { OnOk result (text.new.items ≡ text.old.items ++ (mark_word mark ++ 32 ∷ (decimal unnamed ++ 32 ∷ (decimal far ++ 32 ∷ [])))) }
+    ensures unnamed { OnOk result (unnamed < 2 ^ 64) }
+    ensures far { OnOk result (far < 2 ^ 64) }
+{
+    if mark == Mark::Fine && unnamed == 0 && far == 0 {
+        text.extend_from_slice(b"ok 0 0 ")?;
+        return Ok(());
+    }
+    put_word(text, mark_word(mark))?;
+    put_number(text, unnamed)?;
+    put_number(text, far)
 }
 
 fn put_time(text: &mut Vec<u8>, mtime: Option<u64>) -> Result<(), OutOfMemory>

@@ -1,4 +1,4 @@
-use Rattle.std.proofs.Common.{rules, ◌∙◌, ap, List, ℕ, [], ◌∷◌, ◌++◌}
+use Rattle.std.proofs.Common.{rules, ◌∙◌, ap, [], ◌∷◌, ◌++◌}
 use Rattle.std.specs.Fmt.{decimal}
 use Rattle.path_text.specs.Escape.{escape}
 use Rattle.flat_list.specs.Entries.{size_by}
@@ -10,12 +10,10 @@ use Rattle.flat_list.proofs.encoding.put_entry.Goals as goal
 pub returns-clause-text : goal.returns-clause-text
 returns-clause-text c =
     let e = c.args.entry.now in
-    let word = λ (w t : List ℕ). t ++ (w ++ 32 ∷ []) in
+    let notes = mark_word e.mark ++ 32 ∷ (decimal e.unnamed ++ 32 ∷ (decimal e.far ++ 32 ∷ [])) in
     c.in_ok-push.ensures.items ∙ ap (λ t. t ++ 10 ∷ [])
     (c.in_ok-put_escaped.ensures.ok ∙ ap (λ t. t ++ escape e.path)
-    (c.in_ok-put_number-2.ensures.text ∙ ap (word (decimal e.far))
-    (c.in_ok-put_number.ensures.text ∙ ap (word (decimal e.unnamed))
-    (c.in_ok-put_word.ensures ∙ ap (λ w. word w c.put_stat.new.text.items) c.mark_word.ensures ∙ ap (word (mark_word e.mark)) c.in_ok-put_stat.ensures.text))))
+    (c.in_ok-put_notes.ensures.text ∙ ap (λ t. t ++ notes) c.in_ok-put_stat.ensures.text))
     ∙ words_joined (kind_word (kind_by e.stat)) (decimal (size_by e.stat)) (time_word (time_of e.stat)) (mark_word e.mark) (decimal e.unnamed)
     (decimal e.far) (escape e.path) c.args.text.now.items
 
@@ -27,7 +25,7 @@ returns-clause-entry c =
       shape = c.requires;
       size = c.in_ok-put_stat.ensures.size;
       time = c.in_ok-put_stat.ensures.time;
-      unnamed = search rules;
-      far = search rules;
+      unnamed = c.in_ok-put_notes.ensures.unnamed;
+      far = c.in_ok-put_notes.ensures.far;
     } in
     made
