@@ -65,7 +65,8 @@ pub(crate) fn write_over(slot: &mut Entry, entry: &Entry) -> Result<(), OutOfMem
 // the answer.
 pub(crate) fn compare_behind(a: &Path, b: &Path, shared: usize) -> Ordering {
     let (a, b) = (a.text().as_bytes(), b.text().as_bytes());
-    compare(&a[shared.min(a.len())..], &b[shared.min(b.len())..])
+    let at = shared.min(a.len()).min(b.len());
+    compare(&a[at..], &b[at..])
 }
 
 // Whether a directory stands there, as far as was told.

@@ -12,6 +12,9 @@ use path_text::{OutOfMemory, Path};
 // What a line has beside its path, with up to 12 digits.
 const LINE_LEN: usize = 16;
 
+// More than a summary has, which comes behind the lines.
+const SUMMARY_LEN: usize = 256;
+
 /// Adds a line for each entry that has a stat. Memory is taken once, unless bytes of a path have to be escaped or a size has
 /// more than 12 digits.
 pub(crate) fn add_list(draft: &mut Draft, list: &FlatList) -> Result<(), OutOfMemory>
@@ -26,10 +29,11 @@ pub(crate) fn add_list(draft: &mut Draft, list: &FlatList) -> Result<(), OutOfMe
     Ok(())
 }
 
-// So many bytes the lines have where each entry has a stat and no byte of a path is escaped.
+// So many bytes the lines and a summary have at most where each entry has a stat and no byte of a path is escaped.
 fn expected_len(list: &FlatList) -> usize {
     let paths = usize::try_from(list.path_bytes()).unwrap_or(usize::MAX);
-    paths.saturating_add(list.len().saturating_mul(LINE_LEN))
+    let lines = paths.saturating_add(list.len().saturating_mul(LINE_LEN));
+    lines.saturating_add(SUMMARY_LEN)
 }
 
 fn add_entry(draft: &mut Draft, entry: &Entry) -> Result<(), OutOfMemory>
