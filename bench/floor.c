@@ -5,11 +5,13 @@
  *        floor compare [-n] TREE COPY
  *        floor copy [-n] TREE TARGET
  *        floor remove TREE
+ *        floor order PATHS
  *
  * A walk asks one statx an entry and, for a directory, open, getdents64 and close. A comparison walks both trees, which are to be
  * equal, and asks for each file that is not empty, on each side, statx, open, pread and close. A copy makes each directory, and asks
  * for each file statx, open, preads and close, and open, pwrites and close. A removal walks, and removes from the last path to the
- * first. With -n there is no statx before a file is opened. It prints how many entries there are.
+ * first. With -n there is no statx before a file is opened. The last one asks what a walk asks, in the order in which the paths stand in
+ * a file, one a line: `mfu dwalk --trace` tells in which order ranks handled them. It prints how many entries there are.
  */
 #define _GNU_SOURCE
 #include <dirent.h>
@@ -140,12 +142,30 @@ static void remove_all(const struct list *list) {
     }
 }
 
+static size_t in_order(const char *name) {
+    FILE *file = fopen(name, "r");
+    if (!file) exit(2);
+    char path[8192];
+    size_t count = 0;
+    for (struct statx told; fgets(path, sizeof path, file); count++) {
+        path[strcspn(path, "\n")] = 0;
+        look(path, &told);
+        if (!S_ISDIR(told.stx_mode)) continue;
+        char **paths = NULL;
+        for (size_t left = children(path, &paths); left > 0; left--) free(paths[left - 1]);
+        free(paths);
+    }
+    fclose(file);
+    return count;
+}
+
 int main(int count, char **words) {
     struct list here = {0}, there = {0};
     int at = 2;
     if (count > 2 && !strcmp(words[2], "-n")) looks = 0, at = 3;
+    if (count == 3 && !strcmp(words[1], "order")) return printf("%zu\n", in_order(words[2])), 0;
     int paired = count > 1 && (!strcmp(words[1], "compare") || !strcmp(words[1], "copy"));
-    if (count != at + 1 + paired) return fputs("usage: floor walk|compare|copy|remove [-n] TREE [OTHER]\n", stderr), 2;
+    if (count != at + 1 + paired) return fputs("usage: floor walk|compare|copy|remove [-n] TREE [OTHER], or floor order PATHS\n", stderr), 2;
     walk(&here, words[at]);
     if (!strcmp(words[1], "compare")) {
         walk(&there, words[at + 1]);
