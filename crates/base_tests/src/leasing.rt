@@ -1,5 +1,5 @@
 //! Files in memory of which parts are lent, as the tests lend them, write them and take them back.
-ghost use Rattle.std.specs.Prelude.{◌≡◌, ◌<◌, ℕ, List, Option, Some, true, length, IsTrue, IfSome, slice_get};
+ghost use Rattle.std.specs.Prelude.{◌≡◌, ◌<◌, [], ℕ, List, Option, Some, true, length, IsTrue, IfSome, slice_get};
 ghost use Rattle.std.specs.FinMap as map;
 ghost use Rattle.std.specs.List.{list_any, list_all, remove};
 ghost use Rattle.std.specs.Option.{option_map};
@@ -65,14 +65,14 @@ pub struct Lender {
 }
 
 impl Model for Lender {
-    ghost use Rattle.std.specs.Prelude.{◌≡◌, ⊤};
+    ghost use Rattle.std.specs.Prelude.{◌≡◌, ⊤, []};
     ghost use Rattle.outside.specs.Writes.{all_but};
 
     ghost Value = { ⊤ };
 
     ghost view = { λ _. tt };
 
-    ghost invariant = { λ lender. lender.files.area ≡ all_but lender.out.items };
+    ghost invariant = { λ lender. lender.files.area ≡ all_but lender.out.items [] };
 }
 
 impl Lender {
@@ -159,18 +159,12 @@ fn tops_of(rt: &(impl Abort + AllocGlobal), paths: &[Path]) -> Tops
     lent.lend(rt.alloc(), paths).expect(rt, "room")
 }
 
-fn is_within(path: &Path, top: &Path) -> bool
-    ensures { result ≡ is_within path.now top.now }
-{
-    path == top || path.is_under(top)
-}
-
 // Whether the path is neither a top, nor under one, nor over one.
 fn is_apart(path: &Path, tops: &[Path]) -> bool
     ensures { result ≡ is_apart path.now tops.now }
 {
     tops.iter()
-        .all(|top| !(is_within(path, top) || is_within(top, path)))
+        .all(|top| !(path.is_within(top) || top.is_within(path)))
 }
 
 // Whether the path is neither one of these tops, nor under one, nor over one.
@@ -182,7 +176,7 @@ fn is_apart_from_all(path: &Path, out: &[Tops]) -> bool
 
 // Whether a ground may be written at the path while parts with these tops are out.
 fn is_open(out: &[Tops], path: &Path) -> bool
-    ensures { result ≡ is_open (all_but out.now) path.now }
+    ensures { result ≡ is_open (all_but out.now []) path.now }
 {
     is_apart_from_all(path, out) && !is_root(path)
 }
@@ -191,7 +185,7 @@ fn is_open(out: &[Tops], path: &Path) -> bool
 fn is_within_any(path: &Path, tops: &[Path]) -> bool
     ensures { result ≡ list_any (is_within path.now) tops.now }
 {
-    tops.iter().any(|top| is_within(path, top))
+    tops.iter().any(|top| path.is_within(top))
 }
 
 // Whether a part with these tops may be written at the path.
@@ -203,7 +197,7 @@ fn is_inside(tops: &[Path], path: &Path) -> bool
 
 // Whether each of the paths is open while parts with these tops are out.
 fn are_open(out: &[Tops], paths: &[Path]) -> bool
-    ensures { IsTrue result → (i : ℕ) (x : List ℕ) → slice_get paths.now i ≡ Some x → IsTrue (is_open (all_but out.now) x) }
+    ensures { IsTrue result → (i : ℕ) (x : List ℕ) → slice_get paths.now i ≡ Some x → IsTrue (is_open (all_but out.now []) x) }
 {
     for path in paths {
         if !is_open(out, path) {

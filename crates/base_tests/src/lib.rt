@@ -1,4 +1,4 @@
-//! Tests of the public calls of the crates at the bottom: paths, files, the files of checkpoints, queues, looks and made-up trees.
+//! Tests of the public calls of the crates at the bottom: paths, files, the files of checkpoints, looks and made-up trees.
 //!
 //! They stand here, and not in the crates, so that each of those is proved once: what they call is proved, and they are proved over
 //! its contracts. `shared` has what the tests share, `whole` the files that they write,
@@ -21,8 +21,6 @@ mod of_outside;
 mod of_path_looks;
 #[cfg(test)]
 mod of_path_text;
-#[cfg(test)]
-mod of_rank_queue;
 #[cfg(test)]
 mod of_test_tree;
 #[cfg(test)]

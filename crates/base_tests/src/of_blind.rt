@@ -3,7 +3,7 @@ use crate::of_files_mem::tree_t;
 use crate::shared::{parsed, same, so};
 use crate::whole::{holds, listed, lists, told};
 use files_mem::{Blind, Call};
-use outside::{Failed, Ground, Kind, ListError, ReadError, SaveError, Stat, Tree};
+use outside::{Failed, Kind, ListError, ReadError, SaveError, Stat, Tree, Wide};
 
 const HELLO: Stat = Stat {
     kind: Kind::File,
@@ -89,10 +89,11 @@ fn every_call_is_passed_on(rt: HostRuntime) {
     same(&rt, &files.faults(), &4);
 }
 
-fn may_move<G: Ground + Send>()
+fn may_move<G: Wide + Send>()
 where
     G::Reader: Send,
     G::Part: Send,
+    G::Span: Send,
 {}
 
 #[test]

@@ -1,4 +1,4 @@
-//! The files of a checkpoint, written, read and damaged.
+//! The files of a checkpoint, written and read. What is told of damaged ones are rows of `worked_rows`.
 use crate::shared::{all_parsed, filled, parsed, same, so};
 use crate::whole::{Whole, holds};
 use circle_lists::ListsError;
@@ -11,7 +11,7 @@ use std::process::Abort;
 fn with_folder(rt: &(impl Abort + AllocGlobal)) -> Whole<MemGround> {
     let mut files = Whole::empty(rt);
     files
-        .put(Kind::Dir, &parsed(rt, "/c"), 0, "")
+        .put(rt.alloc(), Kind::Dir, &parsed(rt, "/c"), 0, "")
         .expect(rt, "a folder");
     files
 }
@@ -47,21 +47,6 @@ fn reason(rt: &(impl Abort + AllocGlobal), error: &ListsError) -> String {
         ListsError::NoPlace(path) => format!(in rt.alloc(); "no place {}", path.text()),
     };
     told.expect(rt, "room")
-}
-
-// What reading tells where the folder holds these files.
-fn told_of(rt: &(impl Abort + AllocGlobal), first: &str, second: Option<&str>) -> String {
-    let mut files = with_folder(rt);
-    files
-        .put(Kind::File, &parsed(rt, "/c/circle0.txt"), 0, first)
-        .expect(rt, "a file");
-    if let Some(second) = second {
-        files
-            .put(Kind::File, &parsed(rt, "/c/circle1.txt"), 0, second)
-            .expect(rt, "a file");
-    }
-    let answer = files.read_lists(rt.alloc(), &parsed(rt, "/c"));
-    outcome(rt, answer)
 }
 
 #[test]
@@ -116,47 +101,6 @@ fn what_is_written_is_read(rt: HostRuntime) {
     );
     let answer = files.read_lists(rt.alloc(), &dir);
     same(&rt, &outcome(&rt, answer).as_str(), &"/t/b /t/a\\b ;;");
-}
-
-#[test]
-fn each_damage_is_told_at_its_line(rt: HostRuntime) {
-    for (text, want) in [
-        ("circle 1 0 1\n/a\n/b\nend 2\n", "/a /b ;"),
-        ("circle 1 0 1\n/a\\x5Cb\nend 1\n", "/a\\b ;"),
-        ("", "damaged /c/circle0.txt 1"),
-        ("circle 1 0 1", "damaged /c/circle0.txt 1"),
-        ("circle 1 1 2\nend 0\n", "damaged /c/circle0.txt 1"),
-        ("circle 1 0 0\nend 0\n", "damaged /c/circle0.txt 1"),
-        ("circle 1 0 65\nend 0\n", "damaged /c/circle0.txt 1"),
-        ("circle 1 0 01\nend 0\n", "damaged /c/circle0.txt 1"),
-        ("circle 2 0 1\nend 0\n", "damaged /c/circle0.txt 1"),
-        ("circle 1 0 1\n", "damaged /c/circle0.txt 2"),
-        ("circle 1 0 1\n/\\x61\nend 1\n", "damaged /c/circle0.txt 2"),
-        ("circle 1 0 1\na\nend 1\n", "damaged /c/circle0.txt 2"),
-        ("circle 1 0 1\n/a\n", "damaged /c/circle0.txt 3"),
-        ("circle 1 0 1\n/a\nend 2\n", "damaged /c/circle0.txt 3"),
-        ("circle 1 0 1\n/a\nend 1", "damaged /c/circle0.txt 3"),
-        ("circle 1 0 1\nend 0\nx\n", "damaged /c/circle0.txt 3"),
-        ("circle 1 0 2\nend 0\n", "no file /c/circle1.txt"),
-    ] {
-        same(&rt, &told_of(&rt, text, None).as_str(), &want);
-    }
-}
-
-#[test]
-fn each_file_names_its_rank_and_the_same_ranks(rt: HostRuntime) {
-    for (second, want) in [
-        ("circle 1 1 2\n/b\nend 1\n", "/a ;/b ;"),
-        ("circle 1 0 2\n/b\nend 1\n", "damaged /c/circle1.txt 1"),
-        ("circle 1 1 3\n/b\nend 1\n", "damaged /c/circle1.txt 1"),
-        ("circle 1 1 2\n/b\nend 1\n\n", "damaged /c/circle1.txt 4"),
-    ] {
-        let told = told_of(&rt, "circle 1 0 2\n/a\nend 1\n", Some(second));
-        same(&rt, &told.as_str(), &want);
-    }
-    // More files are not looked at.
-    let told = told_of(&rt, "circle 1 0 1\n/a\nend 1\n", Some("x"));
-    same(&rt, &told.as_str(), &"/a ;");
 }
 
 // Why these lists are not written into the folder, if they are not.
@@ -224,7 +168,9 @@ fn a_folder_whose_path_is_too_long_is_told(rt: HostRuntime) {
     for (len, ranks, fits) in [(4083, 10, true), (4083, 11, false), (4084, 1, false)] {
         let mut files = with_folder(&rt);
         let dir = long_path(&rt, len);
-        files.put(Kind::Dir, &dir, 0, "").expect(&rt, "a folder");
+        files
+            .put(rt.alloc(), Kind::Dir, &dir, 0, "")
+            .expect(&rt, "a folder");
         let told = refusal(&rt, &mut files, &dir, ranks);
         same(&rt, &told.is_empty(), &fits);
         so(

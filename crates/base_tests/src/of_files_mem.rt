@@ -1,9 +1,10 @@
 //! Trees that are put, read, written and planned to fail.
 use crate::shared::{filled, parsed, same, so};
-use crate::whole::{Whole, holds, listed, lists, told};
+use crate::whole::{Whole, holds, linked, listed, lists, told};
 use files_mem::{Call, MemGround, PutError};
 use outside::{
-    Failed, Ground, Kind, ListError, LoadError, SaveError, Stat, Tree, WriteError, load,
+    Failed, Ground, Kind, LinkError, LinkText, ListError, LoadError, SaveError, Stat, Tree, Wide,
+    WriteError, load,
 };
 use std::process::Abort;
 
@@ -20,7 +21,7 @@ pub fn tree_t(rt: &(impl Abort + AllocGlobal)) -> Whole<MemGround> {
         (Kind::File, "/t/b-x", "x"),
     ] {
         files
-            .put(kind, &parsed(rt, at), 0, bytes)
+            .put(rt.alloc(), kind, &parsed(rt, at), 0, bytes)
             .expect(rt, "a free place");
     }
     files
@@ -39,7 +40,8 @@ fn planned(rt: &(impl Abort + AllocGlobal), calls: &[(Call, &str)]) -> Whole<Mem
 fn tells_what_was_put(rt: HostRuntime) {
     let mut files = tree_t(&rt);
     for (kind, at) in [(Kind::Link, "/l"), (Kind::Other, "/o")] {
-        same(&rt, &files.put(kind, &parsed(&rt, at), 0, ""), &Ok(()));
+        let put = files.put(rt.alloc(), kind, &parsed(&rt, at), 0, "t");
+        same(&rt, &put, &Ok(()));
     }
     let mut reader = files.reader(&rt);
     for (at, kind, size, mtime) in [
@@ -61,7 +63,7 @@ fn tells_what_was_put(rt: HostRuntime) {
 #[test]
 fn lists_the_children_alone(rt: HostRuntime) {
     let mut files = tree_t(&rt);
-    let put = files.put(Kind::Dir, &parsed(&rt, "/w"), 3, "");
+    let put = files.put(rt.alloc(), Kind::Dir, &parsed(&rt, "/w"), 3, "");
     same(&rt, &put, &Ok(()));
     let mut reader = files.reader(&rt);
     for (at, names, far) in [
@@ -85,7 +87,7 @@ fn puts_each_node_once_and_in_a_directory(rt: HostRuntime) {
         (Kind::Link, "/t", PutError::Exists),
         (Kind::Other, "/t/b/c", PutError::Exists),
     ] {
-        let put = files.put(kind, &parsed(&rt, at), 0, "");
+        let put = files.put(rt.alloc(), kind, &parsed(&rt, at), 0, "t");
         same(&rt, &put, &Err(refused));
     }
 }
@@ -121,7 +123,7 @@ fn a_reader_keeps_what_it_was_made_of(rt: HostRuntime) {
     let mut files = tree_t(&rt);
     let mut before = files.reader(&rt);
     let dir = parsed(&rt, "/t/d");
-    same(&rt, &files.put(Kind::Dir, &dir, 0, ""), &Ok(()));
+    same(&rt, &files.put(rt.alloc(), Kind::Dir, &dir, 0, ""), &Ok(()));
     files.plan(Call::Stat, &dir).expect(&rt, "room");
     let mut after = files.reader(&rt);
     same(&rt, &told(&rt, &mut before, "/t/d"), &Ok(None));
@@ -131,7 +133,7 @@ fn a_reader_keeps_what_it_was_made_of(rt: HostRuntime) {
 #[test]
 fn writes_are_refused_by_what_is_there(rt: HostRuntime) {
     let mut files = tree_t(&rt);
-    let put = files.put(Kind::Dir, &parsed(&rt, "/w"), 1, "");
+    let put = files.put(rt.alloc(), Kind::Dir, &parsed(&rt, "/w"), 1, "");
     same(&rt, &put, &Ok(()));
     for (call, at, refused) in [
         (Call::MakeDir, "/t", WriteError::Exists),
@@ -230,9 +232,51 @@ fn a_fault_within_a_load_is_told(rt: HostRuntime) {
     }
 }
 
-fn may_move<G: Ground + Send>()
+// Makes a link, and reads it.
+fn link<G: Ground>(rt: &(impl Abort + AllocGlobal), files: &mut Whole<G>) {
+    let text = LinkText::parse(rt.alloc(), "a b").expect(rt, "a link's text");
+    for (at, want) in [
+        ("/t/l", Ok(())),
+        ("/t/l", Err(WriteError::Exists)),
+        ("/t/a/l", Err(WriteError::NoParent)),
+    ] {
+        let made = files.make_link(rt.alloc(), &parsed(rt, at), &text);
+        same(rt, &made, &want);
+    }
+    let mut reader = files.reader(rt);
+    for (at, want) in [
+        ("/t/l", None),
+        ("/t/a", Some(LinkError::NotLink)),
+        ("/none", Some(LinkError::NotLink)),
+    ] {
+        same(rt, &linked(rt, &mut reader, at).err(), &want);
+    }
+    let read = linked(rt, &mut reader, "/t/l").expect(rt, "a link");
+    same(rt, &read.text(), &"a b");
+}
+
+#[test]
+fn links_are_made_and_read(rt: HostRuntime) {
+    link(&rt, &mut tree_t(&rt));
+    link(&rt, &mut tree_t(&rt).blind());
+}
+
+#[test]
+fn a_fault_of_a_link_is_counted_where_it_is_planned(rt: HostRuntime) {
+    let mut files = planned(&rt, &[(Call::MakeLink, "/t/l"), (Call::ReadLink, "/t/a")]);
+    let text = LinkText::parse(rt.alloc(), "a").expect(&rt, "a link's text");
+    let made = files.make_link(rt.alloc(), &parsed(&rt, "/t/l"), &text);
+    same(&rt, &made, &Err(WriteError::Failed));
+    let mut reader = files.reader(&rt);
+    let failed = linked(&rt, &mut reader, "/t/a").err();
+    same(&rt, &failed, &Some(LinkError::Failed));
+    same(&rt, &(files.faults(), reader.faults()), &(1, 1));
+}
+
+fn may_move<G: Wide + Send>()
 where
     G::Reader: Send,
+    G::Span: Send,
 {}
 
 #[test]

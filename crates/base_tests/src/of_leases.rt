@@ -111,7 +111,7 @@ fn tree(rt: &(impl Abort + AllocGlobal)) -> Whole<MemGround> {
         (Kind::File, "/u/v", "uv"),
         (Kind::File, "/w", "w"),
     ] {
-        let put = files.put(kind, &parsed(rt, at), 0, bytes);
+        let put = files.put(rt.alloc(), kind, &parsed(rt, at), 0, bytes);
         same(rt, &put, &Ok(()));
     }
     for at in ["/t/a/no", "/t/made/no"] {

@@ -1,8 +1,8 @@
 //! A sink in memory, a sink that takes little at a time, a listing, and a reader that gives little at a time.
 use crate::shared::{parsed, same, same_number};
 use outside::{
-    Failed, Kind, ListError, Listing, LoadError, MemSink, ReadError, Sink, Stat, Tree, load,
-    put_all,
+    Failed, Kind, LinkError, LinkText, LinkTextError, ListError, Listing, LoadError, MemSink,
+    ReadError, Sink, Stat, Tree, load, put_all,
 };
 use path_text::Path;
 use std::alloc::Global;
@@ -154,6 +154,10 @@ impl Tree for Drip {
         into[..n].copy_from_slice(&rest[..n]);
         Ok(n)
     }
+
+    fn read_link(&mut self, _alloc: Global, _path: &Path) -> Result<LinkText, LinkError> {
+        Err(LinkError::NotLink)
+    }
 }
 
 // What is loaded of a file that is told to be so long, and how many faults there were.
@@ -198,5 +202,49 @@ fn a_file_that_changes_is_not_loaded_past_a_fault(rt: HostRuntime) {
     ] {
         let (loaded, faults) = loaded(&rt, 5, fails_at, gone_at);
         same(&rt, &(loaded.err(), faults), &(Some(want), count));
+    }
+}
+
+// A text of so many bytes.
+fn long(rt: &(impl Abort + AllocGlobal), len: usize) -> String {
+    let mut text = String::new(rt.alloc());
+    for _ in 0..len {
+        text.push('x').expect(rt, "room");
+    }
+    text
+}
+
+#[test]
+fn the_text_of_a_link_is_copied_written_and_read(rt: HostRuntime) {
+    for (text, written) in [("a b", "a b"), ("a\nb", "a\\x0Ab")] {
+        let link = LinkText::parse(rt.alloc(), text).expect(&rt, "a link's text");
+        let copy = link.copy().expect(&rt, "room");
+        same(&rt, &(copy.text(), copy == link), &(text, true));
+        let told = link.escape(rt.alloc()).expect(&rt, "room");
+        same(&rt, &told.as_slice(), &written.as_bytes());
+        let read = LinkText::unescape(rt.alloc(), written).expect(&rt, "a link's text");
+        same(&rt, &read.text(), &text);
+    }
+}
+
+#[test]
+fn texts_that_are_none_of_a_link_are_refused(rt: HostRuntime) {
+    for (len, refused) in [
+        (0, Some(LinkTextError::Empty)),
+        (4095, None),
+        (4096, Some(LinkTextError::TooLong)),
+    ] {
+        let told = LinkText::parse(rt.alloc(), long(&rt, len).as_str());
+        same(&rt, &told.err(), &refused);
+    }
+    let told = LinkText::parse(rt.alloc(), "a\0");
+    same(&rt, &told.err(), &Some(LinkTextError::Nul));
+    for (written, refused) in [
+        ("\\x41", LinkTextError::BadEscape(0)),
+        ("", LinkTextError::Empty),
+        ("a\\x00", LinkTextError::Nul),
+    ] {
+        let told = LinkText::unescape(rt.alloc(), written);
+        same(&rt, &told.err(), &Some(refused));
     }
 }

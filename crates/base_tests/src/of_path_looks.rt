@@ -4,7 +4,8 @@ ghost use Rattle.std.specs.Prelude.{◌≡◌, []};
 use crate::shared::{all_parsed, parsed, same, so};
 use files_mem::{Call, MemGround};
 use outside::{
-    Failed, Ground, Kind, Lent, ListError, Listing, Plot, ReadError, Stat, Tops, Tree, WriteError,
+    Failed, Ground, Kind, Lent, LinkError, LinkText, ListError, Listing, Plot, ReadError, Stat,
+    Tops, Tree, WriteError,
 };
 use path_looks::{Seen, look_at_each, looks_without_faults_are_told};
 use path_text::{OutOfMemory, Path};
@@ -16,7 +17,8 @@ fn tree_t(rt: &(impl Abort + AllocGlobal)) -> MemGround {
     let mut files = MemGround::empty(rt.alloc()).expect(rt, "room");
     let top = files.put_dir(&parsed(rt, "/t"), 0, None);
     let a = files.put_file(&parsed(rt, "/t/a"), b"hello", Some(86400));
-    let b = files.put_link(&parsed(rt, "/t/b"), Some(0));
+    let text = LinkText::parse(rt.alloc(), "a").expect(rt, "a link's text");
+    let b = files.put_link(&parsed(rt, "/t/b"), &text, Some(0));
     let b_x = files.put_file(&parsed(rt, "/t/b-x"), b"", Some(u64::MAX));
     for put in [top, a, b, b_x] {
         same(rt, &put, &Ok(()));
@@ -127,6 +129,15 @@ impl Plot for Quiet {
         Err(WriteError::OutOfMemory)
     }
 
+    fn make_link(
+        &mut self,
+        _alloc: Global,
+        _path: &Path,
+        _text: &LinkText,
+    ) -> Result<(), WriteError> {
+        Err(WriteError::OutOfMemory)
+    }
+
     fn write_at(
         &mut self,
         _alloc: Global,
@@ -173,17 +184,21 @@ impl Tree for Restless {
     fn read(&mut self, _path: &Path, _at: u64, _into: &mut [u8]) -> Result<usize, ReadError> {
         Err(ReadError::NotFile)
     }
+
+    fn read_link(&mut self, _alloc: Global, _path: &Path) -> Result<LinkText, LinkError> {
+        Err(LinkError::NotLink)
+    }
 }
 
 impl Plot for Restless {
-    ghost use Rattle.std.specs.Prelude.{None};
+    ghost use Rattle.std.specs.Prelude.{None, []};
     ghost use Rattle.outside.specs.Writes.{all_but};
 
     ghost tree = { λ _. None };
 
     ghost count = { λ _. 0 };
 
-    ghost area = { λ files. all_but files.lent };
+    ghost area = { λ files. all_but files.lent [] };
 
     fn faults(&self) -> u64 {
         0
@@ -194,6 +209,15 @@ impl Plot for Restless {
     }
 
     fn make_file(&mut self, _alloc: Global, _path: &Path) -> Result<(), WriteError> {
+        Err(WriteError::OutOfMemory)
+    }
+
+    fn make_link(
+        &mut self,
+        _alloc: Global,
+        _path: &Path,
+        _text: &LinkText,
+    ) -> Result<(), WriteError> {
         Err(WriteError::OutOfMemory)
     }
 

@@ -1,14 +1,14 @@
 //! Files of which no part is lent, as the tests write and read them.
-ghost use Rattle.std.specs.Prelude.{◌≡◌, []};
+ghost use Rattle.std.specs.Prelude.{◌≡◌};
 ghost use Rattle.outside.specs.Tree.{is_root};
-ghost use Rattle.outside.specs.Writes.{all_but};
+ghost use Rattle.outside.specs.Writes.{nothing_lent};
 
 use crate::shared::parsed;
 use circle_lists::{ListsError, read_lists, write_lists};
 use files_mem::{Blind, Call, MemGround, MemReader, PutError};
 use outside::{
-    Failed, Ground, Kind, ListError, Listing, LoadError, Plot, SaveError, Stat, Tree, WriteError,
-    load, save,
+    Failed, Ground, Kind, LinkError, LinkText, ListError, Listing, LoadError, Plot, SaveError,
+    Stat, Tree, WriteError, load, save,
 };
 use path_text::{OutOfMemory, Path};
 use std::alloc::Global;
@@ -25,14 +25,14 @@ pub struct Whole<G: Plot> {
 }
 
 impl<G: Plot> Model for Whole<G> {
-    ghost use Rattle.std.specs.Prelude.{◌≡◌, [], ⊤};
-    ghost use Rattle.outside.specs.Writes.{all_but};
+    ghost use Rattle.std.specs.Prelude.{◌≡◌, ⊤};
+    ghost use Rattle.outside.specs.Writes.{nothing_lent};
 
     ghost Value = { ⊤ };
 
     ghost view = { λ _. tt };
 
-    ghost invariant = { λ whole. G.area whole.files ≡ all_but [] };
+    ghost invariant = { λ whole. G.area whole.files ≡ nothing_lent };
 }
 
 impl Whole<MemGround> {
@@ -42,13 +42,23 @@ impl Whole<MemGround> {
         Whole { files }
     }
 
-    /// Puts a node that was changed a day after 1970 began: a directory with so many children whose path is too long, or a file
-    /// with these bytes.
-    pub fn put(&mut self, kind: Kind, path: &Path, far: u64, bytes: &str) -> Result<(), PutError> {
+    /// Puts a node that was changed a day after 1970 began: a directory with so many children whose path is too long, a file
+    /// with these bytes, or a link with this text. A text that is none of a link is refused as want of memory.
+    pub fn put(
+        &mut self,
+        alloc: Global,
+        kind: Kind,
+        path: &Path,
+        far: u64,
+        text: &str,
+    ) -> Result<(), PutError> {
         match kind {
             Kind::Dir => self.files.put_dir(path, far, TIME),
-            Kind::File => self.files.put_file(path, bytes.as_bytes(), TIME),
-            Kind::Link => self.files.put_link(path, TIME),
+            Kind::File => self.files.put_file(path, text.as_bytes(), TIME),
+            Kind::Link => match LinkText::parse(alloc, text) {
+                Ok(text) => self.files.put_link(path, &text, TIME),
+                Err(_) => Err(PutError::OutOfMemory),
+            },
             Kind::Other => self.files.put_other(path, TIME),
         }
     }
@@ -62,14 +72,14 @@ impl Whole<MemGround> {
 impl Whole<MemGround> {
     /// These files, which may be written at each path but `/`.
     pub fn of(files: MemGround) -> Whole<MemGround>
-        requires { files.area ≡ all_but [] }
+        requires { files.area ≡ nothing_lent }
     {
         Whole { files }
     }
 
     /// The files inside.
     pub fn into_files(self) -> MemGround
-        ensures { result.area ≡ all_but [] }
+        ensures { result.area ≡ nothing_lent }
     {
         self.files
     }
@@ -124,6 +134,19 @@ impl<G: Ground> Whole<G> {
         }
     }
 
+    /// Makes a link. `/` is refused as `Failed`.
+    pub fn make_link(
+        &mut self,
+        alloc: Global,
+        path: &Path,
+        text: &LinkText,
+    ) -> Result<(), WriteError> {
+        if is_root(path) {
+            return Err(WriteError::Failed);
+        }
+        self.files.make_link(alloc, path, text)
+    }
+
     /// Saves a whole file.
     pub fn save(&mut self, alloc: Global, path: &Path, bytes: &[u8]) -> Result<(), SaveError> {
         save(alloc, &mut self.files, path, bytes)
@@ -172,6 +195,15 @@ impl<G: Ground> Whole<G> {
     pub fn faults(&self) -> u64 {
         self.files.faults()
     }
+}
+
+/// The text of the link that is told.
+pub fn linked<R: Tree>(
+    rt: &(impl Abort + AllocGlobal),
+    reader: &mut R,
+    text: &str,
+) -> Result<LinkText, LinkError> {
+    reader.read_link(rt.alloc(), &parsed(rt, text))
 }
 
 /// Whether it is `/`.

@@ -4,11 +4,10 @@ use Rattle.std.proofs.Common.{length-append, Option}
 use Rattle.std.specs.List.{flat_map}
 use Rattle.std.proofs.lemmas.List.{length-map}
 use Rattle.path_text.specs.Escape.{escape, ReadingUndoesWriting}
-use Rattle.flat_list.specs.Spelling.{line, lines_of, end_text}
-use Rattle.flat_list.proofs.Ascending.{all_more}
-use Rattle.flat_list.proofs.Files.{line_same, joined_lines}
-use Rattle.flat_list.proofs.WholeLines as whole
-use Rattle.flat_list.proofs.WholeLines.{Form, cons_parts}
+use Rattle.whole_lines.specs.Lines.{line, lines_of, end_text}
+use Rattle.whole_lines.proofs.Lines.{all_more, line_same, joined_lines}
+use Rattle.whole_lines.proofs.WholeLines as whole
+use Rattle.whole_lines.proofs.WholeLines.{Form, cons_parts}
 use Rattle.circle_lists.specs.Spelling.{IsRank, head_text, IsWritable, IsList, path_lines, lines_for, Spells, Agrees, Begins, IsDamaged}
 use Rattle.circle_lists.proofs.Paths.{same_path, end_apart}
 

@@ -6,22 +6,17 @@ use Rattle.std.specs.Fmt.{decimal}
 use Rattle.std.specs.Str.{IsUtf8}
 use Rattle.std.proofs.lemmas.List.{map-append, nil_from_length}
 use Rattle.path_text.specs.Escape.{escape, ReadingUndoesWriting}
-use Rattle.flat_list.specs.Spelling.{line, lines_of, end_text}
-use Rattle.flat_list.specs.Private.Reading.{cut, path_from}
-use Rattle.flat_list.proofs.Words.{cut_takes, placed_some, placed_none}
-use Rattle.flat_list.proofs.Numbers.{text_path, no_path}
-use Rattle.flat_list.proofs.Files.{line_same, line_first, free_uncut, torn, no_lines}
-use Rattle.flat_list.proofs.WholeLines.{cons_parts}
+use Rattle.whole_lines.specs.Lines.{line, lines_of, end_text}
+use Rattle.whole_lines.specs.Words.{cut, path_from}
+use Rattle.whole_lines.proofs.Words.{cut_takes}
+use Rattle.whole_lines.proofs.Lines.{line_same, line_first, free_uncut, torn, no_lines}
+use Rattle.whole_lines.proofs.WholeLines.{cons_parts}
 use Rattle.circle_lists.specs.declared.decoding.Refused.{Refused}
 use Rattle.circle_lists.specs.declared.decoding.Refused.TheVariants as refused
 use Rattle.circle_lists.specs.Spelling.{IsRank, head_text, path_lines, Spells, Agrees, Begins, IsDamaged}
 use Rattle.circle_lists.specs.Private.{most_ranks, IsHead, HeadsNone, IsCause, Ends, EndsBadly}
-use Rattle.circle_lists.proofs.Paths.{path_takes, path_again}
+use Rattle.whole_lines.proofs.Paths.{path_takes, path_again}
 use Rattle.circle_lists.proofs.Damage.{no_list, list_more, Reader, Stands, spelled, damaged_here, damaged_after}
-
-pub ruleset places = (placed_some, placed_none)
-
-pub ruleset path_texts = (text_path, no_path)
 
 -- ---- the head
 
@@ -114,7 +109,7 @@ bad_text : {r : Reader} {ranks : ℕ} {ps : List (List ℕ)} {rest text behind :
     path_from text ≡ None → text ≢ end_text (length ps) → IsDamaged r.bytes r.rank r.known (length ps + 2)
 bad_text {r} {ranks} {ps} {rest} {text} {behind} undoes reads none no_end =
     damaged_here undoes r ranks ps (lines_of rest) reads.stands (record {
-      item = λ p more is follows one. clash p (sym none ∙ ap path_from (text_is rest text behind (escape p) reads.first one) ∙ path_again undoes p is);
+      item = λ p more is follows one. clash p (sym none ∙ ap path_from (text_is rest text behind (escape p) reads.first one) ∙ path_again undoes p is.valid is.utf8);
       end = λ one. no_end (text_is rest text behind (end_text (length ps)) reads.first one);
     })
   where

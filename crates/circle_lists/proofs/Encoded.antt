@@ -4,9 +4,8 @@ use Rattle.std.specs.List.{AllByRecursion, flat_map}
 use Rattle.std.proofs.lemmas.List.{take_all, map-append}
 use Rattle.std.proofs.Math.Seq.{take-suc}
 use Rattle.path_text.specs.Escape.{escape}
-use Rattle.flat_list.specs.Spelling.{line, end_text}
-use Rattle.flat_list.proofs.Ascending.{all_more}
-use Rattle.flat_list.proofs.Files.{flat_end}
+use Rattle.whole_lines.specs.Lines.{line, end_text}
+use Rattle.whole_lines.proofs.Lines.{all_more, flat_end}
 use Rattle.circle_lists.specs.Spelling.{IsRank, head_text, IsWritable, path_lines, Spells}
 
 -- the words of a head, one after the other

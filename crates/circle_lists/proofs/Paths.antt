@@ -1,57 +1,24 @@
 -- The line of a path: it has no line feed, tells the path, and is no end line. And the head's.
-use Rattle.std.proofs.Common.{◌≡◌, ℕ, ◌<◌, ◌^◌, Bool, true, false, cond, ltb, length, List, [], ◌∷◌, ◌++◌, get_or, Option, Some, None, Result}
-use Rattle.std.proofs.Common.{Ok, Err, refl, ap, sym, ◌∙◌, arith}
+use Rattle.std.proofs.Common.{◌≡◌, ℕ, ◌<◌, ◌^◌, List, [], ◌∷◌, ◌++◌, get_or, Option, Some, None}
+use Rattle.std.proofs.Common.{Ok, refl, ap, sym, ◌∙◌, arith}
 use Rattle.std.specs.Prelude.{codes}
-use Rattle.std.specs.Str.{is_utf8}
 use Rattle.std.specs.Fmt.{decimal}
 use Rattle.std.proofs.lemmas.List.{append_cancel_left}
 use Rattle.std.proofs.lemmas.Fmt.{decimal_injective}
 use Rattle.path_text.specs.Path.{refusal}
-use Rattle.path_text.specs.Escape.{escape, reading, good_len, unescaped, path_of, ReadingUndoesWriting}
-use Rattle.path_text.specs.declared.errors.PathError.{PathError}
-use Rattle.path_text.specs.declared.errors.EscapeError.TheVariants.{BadEscape}
+use Rattle.path_text.specs.Escape.{escape, reading, ReadingUndoesWriting}
 use Rattle.path_text.proofs.Joined.{first_slash}
-use Rattle.flat_list.specs.Spelling.{end_text}
-use Rattle.flat_list.specs.Private.Reading.{cut, path_from, ok_of}
-use Rattle.flat_list.proofs.Words.{IsFree, cut_again}
-use Rattle.flat_list.proofs.Lines.{decimal_free}
-use Rattle.flat_list.proofs.Escapes.{utf8_escape, free-append, escape_free}
-use Rattle.flat_list.proofs.Numbers.{text_path}
+use Rattle.whole_lines.specs.Lines.{end_text}
+use Rattle.whole_lines.specs.Words.{cut}
+use Rattle.whole_lines.proofs.Words.{IsFree, cut_again}
+use Rattle.whole_lines.proofs.Numbers.{decimal_free}
+use Rattle.whole_lines.proofs.Escapes.{free-append, escape_free}
 use Rattle.circle_lists.specs.Spelling.{IsRank, head_text, IsWritable}
 
 -- ---- paths
 
 pub path_free : (path : List ℕ) → IsFree 10 (escape path)
 path_free path = escape_free path
-
-path_of_reading : (word path : List ℕ) → ok_of (reading word) ≡ Some path → reading word ≡ Ok path
-path_of_reading word path e = by_result (reading word) refl e
-  where
-    by_result : (r : Result (List ℕ) _) → reading word ≡ r → ok_of r ≡ Some path → reading word ≡ Ok path
-    by_result (Ok p) is e = let same : p ≡ path = cc in is ∙ ap Ok same
-    by_result (Err f) is e = absurd cc
-
-is_path : (word path : List ℕ) → reading word ≡ Ok path → refusal path ≡ None
-is_path word path e = by_len (ltb (good_len word) (length word)) e
-  where
-    by_refusal : (o : Option PathError) → refusal (unescaped word) ≡ o → path_of o (unescaped word) ≡ Ok path → refusal path ≡ None
-    by_refusal None is e = let same : unescaped word ≡ path = cc in ap refusal (sym same) ∙ is
-    by_refusal (Some f) is e = absurd cc
-
-    by_len : (t : Bool) → cond t (Err (BadEscape (good_len word))) (path_of (refusal (unescaped word)) (unescaped word)) ≡ Ok path → refusal path ≡ None
-    by_len true e = absurd cc
-    by_len false e = by_refusal (refusal (unescaped word)) refl e
-
-pub path_takes : ReadingUndoesWriting → (word path : List ℕ) → path_from word ≡ Some path → (word ≡ escape path) × (refusal path ≡ None)
-unfolding path_from
-path_takes undoes word path e = by_test (is_utf8 word) e
-  where
-    by_test : (t : Bool) → cond t (ok_of (reading word)) None ≡ Some path → (word ≡ escape path) × (refusal path ≡ None)
-    by_test true e = let read = path_of_reading word path e in (undoes.one_spelling word path read, is_path word path read)
-    by_test false e = absurd cc
-
-pub path_again : ReadingUndoesWriting → (path : List ℕ) → IsWritable path → path_from (escape path) ≡ Some path
-path_again undoes path is = text_path (escape path) (utf8_escape path is.utf8) ∙ ap ok_of (undoes.back path is.valid)
 
 pub same_path : ReadingUndoesWriting → (p q : List ℕ) → IsWritable p → IsWritable q → escape p ≡ escape q → p ≡ q
 same_path undoes p q is one e =

@@ -6,11 +6,11 @@ use Rattle.std.proofs.lemmas.Bool.{cases_lt}
 use Rattle.std.proofs.lemmas.List.{append_cancel_left, ext_get_or}
 use Rattle.path_text.specs.Escape.{escape, ReadingUndoesWriting}
 use Rattle.outside.specs.Tree.{Files}
-use Rattle.flat_list.specs.Spelling.{line, lines_of, end_text}
-use Rattle.flat_list.proofs.Lines.{end_free}
-use Rattle.flat_list.proofs.Files.{line_first, line_same, flat_end, no_lines}
-use Rattle.flat_list.proofs.WholeLines as whole
-use Rattle.flat_list.proofs.WholeLines.{cons_parts}
+use Rattle.whole_lines.specs.Lines.{line, lines_of, end_text}
+use Rattle.whole_lines.proofs.Ends.{end_free}
+use Rattle.whole_lines.proofs.Lines.{line_first, line_same, flat_end, no_lines}
+use Rattle.whole_lines.proofs.WholeLines as whole
+use Rattle.whole_lines.proofs.WholeLines.{cons_parts}
 use Rattle.circle_lists.specs.Spelling.{head_text, IsWritable, path_lines, lines_for, Spells, Begins, IsDamaged, SpellsOne, DamagedOnce}
 use Rattle.circle_lists.specs.Checkpoint.{HoldsList, ReadsBack}
 use Rattle.circle_lists.proofs.Paths.{path_free, head_free, same_head}

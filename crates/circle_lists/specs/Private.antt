@@ -1,6 +1,6 @@
 -- What the crate's private functions answer: only their clauses cite it, and no public one rests on it.
 use Rattle.std.specs.Prelude.{◌≡◌, ◌≢◌, ◌⊎◌, ℕ, ◌+◌, ◌<◌, List, length, Option, Some, None}
-use Rattle.flat_list.specs.Spelling.{end_text}
+use Rattle.whole_lines.specs.Lines.{end_text}
 use Rattle.circle_lists.specs.declared.decoding.Refused.{Refused}
 use Rattle.circle_lists.specs.declared.decoding.Refused.TheVariants as refused
 use Rattle.circle_lists.specs.Spelling.{IsRank, head_text, Agrees, IsDamaged}

@@ -6,7 +6,7 @@ use Rattle.std.specs.Fmt.{decimal}
 use Rattle.std.specs.Str.{IsUtf8}
 use Rattle.path_text.specs.Path.{refusal}
 use Rattle.path_text.specs.Escape.{escape}
-use Rattle.flat_list.specs.Spelling.{line, lines_of, end_text}
+use Rattle.whole_lines.specs.Lines.{line, lines_of, end_text}
 
 -- a rank among so many, which are 64 at most
 pub record IsRank (rank ranks : ℕ) : Type 0 where

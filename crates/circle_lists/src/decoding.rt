@@ -1,17 +1,14 @@
 //! The file of one rank, read. A line is compared with what would be written there, so no number is read.
 ghost use Rattle.std.specs.Prelude.{◌≡◌, ◌≢◌, ◌+◌, ◌<◌, ◌≤◌, ◌^◌, ◌==◌, ℕ, List, length, true, false, Some, None, IfOk, IfErr, IfSome, IfNone, take, drop};
-ghost use Rattle.std.specs.List.{position};
-ghost use Rattle.std.specs.Option.{option_map};
-ghost use Rattle.std.specs.Str.{IsUtf8};
-ghost use Rattle.path_text.specs.Escape.{reading};
-ghost use Rattle.flat_list.specs.Spelling.{line, end_text};
-ghost use Rattle.flat_list.specs.Private.Reading.{cut, ok_of, path_from};
+ghost use Rattle.whole_lines.specs.Lines.{line, end_text};
+ghost use Rattle.whole_lines.specs.Words.{cut, ok_of, path_from};
 ghost use Rattle.circle_lists.specs.Spelling.{IsRank, head_text, Spells, Agrees, IsDamaged};
 ghost use Rattle.circle_lists.specs.Private.{most_ranks, IsHead, HeadsNone, IsCause, Ends, EndsBadly};
 
 use crate::encoding::{put_end, put_head};
-use path_text::{EscapeError, OutOfMemory, Path, reading_undoes_writing, unescape};
+use path_text::{OutOfMemory, Path, reading_undoes_writing};
 use std::alloc::{AllocFailed, Global};
+use whole_lines::{cut_line, path_from};
 
 /// The most ranks that a checkpoint may have.
 const MAX_RANKS: u64 = 64;
@@ -73,7 +70,7 @@ pub(crate) fn decode(
     };
     let mut paths = Vec::new(alloc);
     let mut rest = rest;
-    while let Some((text, behind)) = cut(rest, b'\n') {
+    while let Some((text, behind)) = cut_line(rest) {
         let Some(path) = path_from(alloc, text)? else {
             return ended(alloc, RankList { ranks, paths }, text, behind);
         };
@@ -94,7 +91,7 @@ fn behind_head(
     ensures head { IfOk result (λ found. IfSome found (λ f. (text : List ℕ) × IsHead text rank known f.0 × (cut 10 bytes.now ≡ Some (text, f.1.now)))) }
     ensures none { IfOk result (λ found. IfNone found (IsDamaged bytes.now rank known 1)) }
 {
-    let Some((text, rest)) = cut(bytes, b'\n') else {
+    let Some((text, rest)) = cut_line(bytes) else {
         return Ok(None);
     };
     match ranks_in(alloc, text, rank, known)? {
@@ -167,53 +164,4 @@ fn ended(alloc: Global, told: RankList, text: &[u8], behind: &[u8]) -> Result<Ra
         return Err(Refused::Damaged(count as u64 + 3));
     }
     Ok(told)
-}
-
-// What stands before the first place of a byte, and what stands behind it.
-fn cut(text: &[u8], at: u8) -> Option<(&[u8], &[u8])>
-    ensures { option_map (λ parts. (parts.0.now, parts.1.now)) result ≡ cut at text.now }
-{
-    let place = place_of(text, at)?;
-    Some((&text[..place], &text[place + 1..]))
-}
-
-#[tactic(auto, using(crate::proofs::Decoded::places))]
-fn place_of(text: &[u8], at: u8) -> Option<usize>
-    ensures found { IfSome result (λ k. (k < length text.now) × (cut at text.now ≡ Some (take k text.now, drop (k + 1) text.now))) }
-    ensures none { IfNone result (cut at text.now ≡ None) }
-{
-    position_of(text, at)
-}
-
-fn position_of(text: &[u8], at: u8) -> Option<usize>
-    ensures { result ≡ position (λ b. b == at) text.now }
-{
-    text.iter().position(|b| *b == at)
-}
-
-#[tactic(auto, using(crate::proofs::Decoded::path_texts))]
-fn path_from(alloc: Global, word: &[u8]) -> Result<Option<Path>, OutOfMemory>
-    ensures read { IfOk result (λ path. path ≡ path_from word.now) }
-    ensures utf8 { IfOk result (λ path. IfSome path (λ p. IsUtf8 p)) }
-{
-    match str::from_utf8(word) {
-        Ok(text) => path_of(alloc, text),
-        Err(_) => Ok(None),
-    }
-}
-
-fn path_of(alloc: Global, text: &str) -> Result<Option<Path>, OutOfMemory>
-    ensures read { IfOk result (λ path. path ≡ ok_of (reading text.now)) }
-    ensures utf8 { IfOk result (λ path. IfSome path (λ p. IsUtf8 p)) }
-{
-    match unescape(alloc, text) {
-        Ok(path) => {
-            // That a path is UTF-8 is told by its text alone.
-            let _text = path.text();
-            Ok(Some(path))
-        }
-        Err(EscapeError::OutOfMemory) => Err(OutOfMemory),
-        Err(EscapeError::BadEscape(_)) => Ok(None),
-        Err(EscapeError::Path(_)) => Ok(None),
-    }
 }

@@ -2,7 +2,7 @@
 ghost use Rattle.std.specs.Prelude.{◌≡◌, ◌<◌, ◌++◌, ◌∷◌, [], ◌^◌, IfOk, OnOk};
 ghost use Rattle.std.specs.Fmt.{decimal};
 ghost use Rattle.path_text.specs.Escape.{escape};
-ghost use Rattle.flat_list.specs.Spelling.{line, end_text};
+ghost use Rattle.whole_lines.specs.Lines.{line, end_text};
 ghost use Rattle.circle_lists.specs.Spelling.{IsRank, head_text, IsWritable, Spells};
 
 use itoa::Buffer;

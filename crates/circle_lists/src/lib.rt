@@ -25,8 +25,8 @@
 //! it was refused.
 //!
 //! Definitions stand in `specs/`: `Spelling` (the file of a rank, and damaged texts) and `Checkpoint` (the files of a folder, and
-//! why they are not written or read); `Private` has what only private clauses cite. The argument on whole lines is that of
-//! `flat_list`, `proofs/WholeLines`.
+//! why they are not written or read); `Private` has what only private clauses cite. The words of lines and the argument on whole
+//! lines are those of `whole_lines`.
 #![tactic(auto)]
 
 mod decoding;

@@ -1,7 +1,7 @@
 //! The lists of a checkpoint, written.
 ghost use Rattle.std.specs.Prelude.{◌≡◌, ◌<◌, ◌≤◌, ℕ, [], map, length, OnOk, IfErr, IfSome, is_some};
 ghost use Rattle.outside.specs.Count.{RoseBy};
-ghost use Rattle.outside.specs.Writes.{all_but, SameBut};
+ghost use Rattle.outside.specs.Writes.{nothing_lent, SameBut};
 ghost use Rattle.circle_lists.specs.Spelling.{IsRank};
 ghost use Rattle.circle_lists.specs.Checkpoint.{file_path, HoldsList, HoldLists, SameButFiles, HasPlace, StopsWritingAt, StopsWriting};
 
@@ -22,13 +22,13 @@ pub fn write_lists<G: Ground>(
 ) -> Result<(), ListsError>
     requires some { 1 ≤ length left.now }
     requires few { length left.now ≤ 64 }
-    requires lent { G.area ground.old ≡ all_but [] }
+    requires lent { G.area ground.old ≡ nothing_lent }
     ensures written { OnOk result (IfSome (G.tree ground.new) (HoldLists dir.now (map (λ list. list.items) left.now))) }
     ensures places { OnOk result ((rank : ℕ) → rank < length left.now → HasPlace dir.now (G.tree ground.old) rank) }
     ensures stopped { IfErr result (StopsWriting dir.now (length left.now) (G.tree ground.old) (G.count ground.old) (G.count ground.new)) }
     ensures rest { IfSome (G.tree ground.old) (λ files. IfSome (G.tree ground.new) (SameButFiles dir.now (length left.now) files)) }
     ensures tells { is_some (G.tree ground.new) ≡ is_some (G.tree ground.old) }
-    ensures lent { G.area ground.new ≡ all_but [] }
+    ensures lent { G.area ground.new ≡ nothing_lent }
     ensures count { RoseBy 0 (G.count ground.old) (G.count ground.new) }
 {
     let _ = dir.text(); // tells that it is a path
@@ -56,13 +56,13 @@ fn write_list<G: Ground>(
     list: &[Path],
 ) -> Result<(), ListsError>
     requires rank { IsRank rank ranks }
-    requires lent { G.area ground.old ≡ all_but [] }
+    requires lent { G.area ground.old ≡ nothing_lent }
     ensures written { OnOk result (IfSome (G.tree ground.new) (HoldsList dir.now rank ranks list.now)) }
     ensures place { OnOk result (HasPlace dir.now (G.tree ground.old) rank) }
     ensures stopped { IfErr result (StopsWritingAt dir.now rank (G.tree ground.old) (G.count ground.old) (G.count ground.new)) }
     ensures rest { IfSome (G.tree ground.old) (λ files. IfSome (G.tree ground.new) (SameBut (file_path dir.now rank) files)) }
     ensures tells { is_some (G.tree ground.new) ≡ is_some (G.tree ground.old) }
-    ensures lent { G.area ground.new ≡ all_but [] }
+    ensures lent { G.area ground.new ≡ nothing_lent }
     ensures count { RoseBy 0 (G.count ground.old) (G.count ground.new) }
 {
     let Some(path) = file_in(alloc, dir, rank)? else {

@@ -5,7 +5,7 @@ use Rattle.std.specs.Prelude.{Result, Err}
 use Rattle.std.specs.FinMap.{get}
 use Rattle.path_text.specs.Path.{parent_of}
 use Rattle.outside.specs.Tree.{Files, Node, is_file, is_dir}
-use Rattle.outside.specs.Writes.{all_but, under, is_top, make_refusal, write_refusal, Answers, may_change}
+use Rattle.outside.specs.Writes.{Cut, all_but, under, is_top, make_refusal, write_refusal, Answers, may_change}
 use Rattle.outside.specs.declared.plots.WriteError.{WriteError}
 use Rattle.outside.specs.declared.plots.WriteError.TheVariants as e
 use Rattle.files_mem.specs.declared.plans.Call.{Call}
@@ -110,13 +110,13 @@ pub made_free : (path : List ℕ) (tops : List (List ℕ)) (before : Memory)
 made_free path tops before h area = ap (λ a. make_refusal a before.files path) area
     ∙ none_like (is_some (get before.files path)) (is_top (under tops) path || is_dir (get before.files (parent_of path))) h
 
-pub ground_refused : (call : Call) (path : List ℕ) (out : List (List (List ℕ))) (after : Files) (before new : Memory) (r : PutError)
-    → (put_refusal before.files path ≡ Some r) ⊎ (r ≡ put.OutOfMemory) → before.area ≡ all_but out →
+pub ground_refused : (call : Call) (path : List ℕ) (lent : List (List (List ℕ))) (cut : List Cut) (after : Files) (before new : Memory) (r : PutError)
+    → (put_refusal before.files path ≡ Some r) ⊎ (r ≡ put.OutOfMemory) → before.area ≡ all_but lent cut →
     is_planned call path before.planned ≡ false → new ≡ before
     → Acts call path (make_refusal before.area before.files path) after before (Err (write_error r)) new
-ground_refused call path out after before new r (inl h) area planned same =
+ground_refused call path lent cut after before new r (inl h) area planned same =
     let l = like (is_some (get before.files path)) (is_dir (get before.files (parent_of path))) r h in
     acts_refused call path (make_refusal before.area before.files path) after before new (write_error r) l.1 planned
     (ap (λ a. make_refusal a before.files path) area ∙ l.0) same
-ground_refused call path out after before new r (inr h) area planned same =
+ground_refused call path lent cut after before new r (inr h) area planned same =
     subst (λ x. Acts call path (make_refusal before.area before.files path) after before (Err (write_error x)) new) (sym h) (planned, same)

@@ -13,7 +13,7 @@ use Rattle.path_text.proofs.Preorder.{before_all, front-joined}
 use Rattle.path_text.specs.Path.{is_slash, refusal, joined}
 use Rattle.outside.specs.Tree.{is_one_name, name_below}
 use Rattle.outside.proofs.Children.{name_below-front, name_below-off, child_is, one_name_parts}
-use Rattle.outside.proofs.Names.{not_long}
+use Rattle.path_text.proofs.Parts.{short}
 use Rattle.files_mem.proofs.Nul.{is_nul, no_nul}
 
 pub joined_front : (p m : List ℕ) → joined p m ≡ front p ++ m
@@ -123,7 +123,7 @@ pub none_long : (p x : List ℕ) → 4095 < length (front p ++ 1 ∷ []) → ref
 none_long p x l v =
     elim (name_below p x) as (λ o. name_below p x ≡ o → o ≡ None) [
       | None ↦ λ e. refl
-      | Some m ↦ λ e. let c = child_is p x m e in let o = one_name_parts m c.1 in absurd (too_long (front p) m x l c.0 o.0 (not_long x v))
+      | Some m ↦ λ e. let c = child_is p x m e in let o = one_name_parts m c.1 in absurd (too_long (front p) m x l c.0 o.0 (short x v))
     ] refl
   where
     too_long : (f m x : List ℕ) → 4095 < length (f ++ 1 ∷ []) → x ≡ f ++ m → 0 < length m → length x ≤ 4095 → ⊥

@@ -10,6 +10,8 @@ use Rattle.path_text.specs.Order.{path_cmp, is_within}
 use Rattle.path_text.specs.Total.{path_cmp_total, path_cmp_same}
 use Rattle.outside.specs.Tree.{Files, Node}
 use Rattle.outside.specs.Lease.{in_tops, leased, kept, Joins, same_tops, without_tops}
+use Rattle.outside.specs.Writes.{Cut}
+use Rattle.outside.specs.Spans.{without_cut}
 use Rattle.outside.specs.Laid.{laid, get_laid}
 use Rattle.files_mem.specs.PrivateHeld.{copied, Back, Lending, laid_all}
 
@@ -182,12 +184,31 @@ one_less tops (one ∷ out) e =
       | false ↦ λ h. let r = one_less tops out h in omega (arith, r)
     ] e
 
-pub given_back : (bs new : List Back) (b : Back) (base : Files) (out lent : List (List (List ℕ))) (now : Lending) → new ≡ bs ++ b ∷ []
-    → ◌≡◌ {A = Lending} (record { files = laid_all bs base; out = out }) now → lent ≡ without_tops b.tops out →
-    ◌≡◌ {A = Lending} (record { files = laid_all new base; out = lent }) (record { files = laid b.tops b.files now.files; out = without_tops b.tops now.out })
-given_back bs new b base out lent now e v l = λ i. record {
-  files = (ap (λ x. laid_all x base) e ∙ laid_more bs b base ∙ ap (λ h. laid b.tops b.files h.files) v) i;
-  out = (l ∙ ap (λ h. without_tops b.tops h.out) v) i;
+-- a part waits, and is told as back
+
+laid_back : (bs new : List Back) (b : Back) (base : Files) (files : Files) → new ≡ bs ++ b ∷ [] → laid_all bs base ≡ files
+    → laid_all new base ≡ laid b.tops b.files files
+laid_back bs new b base files e v = ap (λ x. laid_all x base) e ∙ laid_more bs b base ∙ ap (laid b.tops b.files) v
+
+pub given_back : (bs new : List Back) (b : Back) (base : Files) (out lent : List (List (List ℕ))) (cut : List Cut) (now : Lending)
+    → new ≡ bs ++ b ∷ [] → ◌≡◌ {A = Lending} (record { files = laid_all bs base; out = out; cut = cut }) now → lent ≡ without_tops b.tops out →
+    ◌≡◌ {A = Lending} (record { files = laid_all new base; out = lent; cut = cut })
+    (record now { files = laid b.tops b.files now.files; out = without_tops b.tops now.out })
+given_back bs new b base out lent cut now e v l = λ i. record {
+  files = laid_back bs new b base now.files e (ap (λ (h : Lending). h.files) v) i;
+  out = (l ∙ ap (λ (h : Lending). without_tops b.tops h.out) v) i;
+  cut = ap (λ (h : Lending). h.cut) v i;
+}
+
+-- the same of a file in spans
+pub file_back : (bs new : List Back) (b : Back) (base : Files) (out : List (List (List ℕ))) (cut less : List Cut) (path : List ℕ) (now : Lending)
+    → new ≡ bs ++ b ∷ [] → ◌≡◌ {A = Lending} (record { files = laid_all bs base; out = out; cut = cut }) now → less ≡ without_cut path cut →
+    ◌≡◌ {A = Lending} (record { files = laid_all new base; out = out; cut = less })
+    (record now { files = laid b.tops b.files now.files; cut = without_cut path now.cut })
+file_back bs new b base out cut less path now e v l = λ i. record {
+  files = laid_back bs new b base now.files e (ap (λ (h : Lending). h.files) v) i;
+  out = ap (λ (h : Lending). h.out) v i;
+  cut = (l ∙ ap (λ (h : Lending). without_cut path h.cut) v) i;
 }
 
 -- what came back first is laid, and is no longer waiting

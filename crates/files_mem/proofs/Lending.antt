@@ -1,6 +1,6 @@
 -- What is out can come back, whatever a ground does meanwhile.
-use Rattle.std.proofs.Common.{◌≡◌, ℕ, zero, suc, Bool, true, false, cond, not, ◌||◌, List, [], ◌∷◌, ◌++◌}
-use Rattle.std.proofs.Common.{Some, None, refl, ap, ◌∙◌, sym, subst, nat_eq, slice_get}
+use Rattle.std.proofs.Common.{◌≡◌, ℕ, zero, suc, Bool, true, false, cond, not, ◌&&◌, ◌||◌, List, [], ◌∷◌, ◌++◌}
+use Rattle.std.proofs.Common.{Some, None, is_some, refl, ap, ◌∙◌, sym, subst, map, nat_eq, slice_get, append_assoc}
 use Rattle.std.proofs.lemmas.Bool.{false≢true}
 use Rattle.std.specs.Prelude.{IsTrue, Result, Ok, Err, OnOk, OnErr}
 use Rattle.std.specs.List.{list_any, list_all, AllByRecursion}
@@ -9,12 +9,15 @@ use Rattle.std.specs.Ordering.{eq_by_cmp}
 use Rattle.std.specs.Cmp.Lexicographic.{pointwise, bytes_decides}
 use Rattle.path_text.specs.Order.{path_cmp, is_within}
 use Rattle.path_text.specs.Path.{refusal, parent_of}
-use Rattle.outside.specs.Tree.{Files, Node, is_dir, is_root}
-use Rattle.outside.specs.Writes.{all_but, is_open, is_apart, written, write_refusal, remove_file_refusal, remove_dir_refusal}
+use Rattle.outside.specs.Tree.{Files, Node, IsTree, is_dir, is_root}
+use Rattle.outside.specs.Writes.{Area, Cut, all_but, all_out, is_open, is_apart, written, write_refusal, remove_file_refusal, remove_dir_refusal}
 use Rattle.outside.specs.Lease.{in_tops, leased, kept, HaveParents, CanLease, same_tops, without_tops}
 use Rattle.outside.specs.Parts.{AreTops, IsPart}
+use Rattle.outside.specs.Spans.{cuts_at, without_cut}
 use Rattle.outside.specs.Laid.{laid, get_laid}
-use Rattle.outside.proofs.Leased.{parent_under, within_up, not_in_up, over_top, a_top}
+use Rattle.outside.proofs.Leased.{not_in_up, over_top, a_top}
+use Rattle.path_text.proofs.Parents.{parent_under}
+use Rattle.path_text.proofs.Within.{within_up}
 use Rattle.outside.proofs.PartTrees.{leases_keep_trees}
 use Rattle.files_mem.specs.PrivateHeld.{Lending, IsLent, IsClear, AreClear, Lends, IsGround}
 use Rattle.files_mem.specs.Memory.{put_refusal_at}
@@ -68,15 +71,16 @@ lends_apart old new p (tops ∷ out) a k l =
       | false ↦ λ _. refl
     ] refl
 
-in_area_of : (out : List (List (List ℕ))) (p : List ℕ) → IsTrue (is_open (all_but out) p) → list_all (is_apart p) out ≡ true
-in_area_of out p o = (both_parts (list_all (is_apart p) out) (not (is_root p)) o).0
+in_area_of : (lent : List (List (List ℕ))) (cut : List Cut) (p : List ℕ) → IsTrue (is_open (all_but lent cut) p)
+    → list_all (is_apart p) (all_out lent cut) ≡ true
+in_area_of lent cut p o = (both_parts (list_all (is_apart p) (all_out lent cut)) (not (is_root p)) o).0
 
 pub put_ground : {B : Type 0} (r : Result (Unit {0}) B) (old new : Lending) (p : List ℕ) (n : Node) → IsGround old
     → put_refusal_at false old.files p ≡ None → refusal p ≡ None →
     OnOk r (new ≡ record old { files = insert old.files p n }) → OnErr r (new ≡ old) → IsGround new
 put_ground (Ok x) old new p n g free fine done same = subst IsGround (sym done) (record {
   tree = put_tree {B = ⊥} (Ok x) old.files (insert old.files p n) p n g.tree free fine refl tt;
-  lends = lends_dirs old.files (insert old.files p n) old.out
+  lends = lends_dirs old.files (insert old.files p n) (all_out old.out old.cut)
       (λ x. keeps_dir old.files p x n (ap is_dir (refused_not (get old.files p) (is_dir (get old.files (parent_of p))) free).0)) g.lends;
 })
 put_ground (Err x) old new p n g free fine done same = subst IsGround (sym same) g
@@ -86,34 +90,34 @@ pub write_ground : {B : Type 0} (r : Result (Unit {0}) B) (old new : Lending) (p
     OnOk r (new ≡ record old { files = written old.files p at bytes }) → OnErr r (new ≡ old) → IsGround new
 write_ground (Ok x) old new p at bytes g free done same = subst IsGround (sym done) (record {
   tree = write_tree {B = ⊥} (Ok x) old.files (written old.files p at bytes) p at bytes g.tree (can_write (get old.files p) free) refl tt;
-  lends = lends_dirs old.files (written old.files p at bytes) old.out
+  lends = lends_dirs old.files (written old.files p at bytes) (all_out old.out old.cut)
       (λ x. keeps_dir old.files p x _ (file_there (get old.files p) (can_write (get old.files p) free)).1) g.lends;
 })
 write_ground (Err x) old new p at bytes g free done same = subst IsGround (sym same) g
 
 pub remove_file_ground : {B : Type 0} (r : Result (Unit {0}) B) (old new : Lending) (p : List ℕ) → IsGround old
-    → IsTrue (is_open (all_but old.out) p) → OnOk r (remove_file_refusal (get old.files p) ≡ None) →
+    → IsTrue (is_open (all_but old.out old.cut) p) → OnOk r (remove_file_refusal (get old.files p) ≡ None) →
     OnOk r (new ≡ record old { files = remove old.files p }) → OnErr r (new ≡ old) → IsGround new
 remove_file_ground (Ok x) old new p g o free done same = subst IsGround (sym done) (record {
-  tree = take_file {B = ⊥} (Ok x) old.files (remove old.files p) p g.tree (not_root (all_but old.out) p o) free refl tt;
-  lends = lends_apart old.files (remove old.files p) p old.out (in_area_of old.out p o) (off_here old.files p) g.lends;
+  tree = take_file {B = ⊥} (Ok x) old.files (remove old.files p) p g.tree (not_root (all_but old.out old.cut) p o) free refl tt;
+  lends = lends_apart old.files (remove old.files p) p (all_out old.out old.cut) (in_area_of old.out old.cut p o) (off_here old.files p) g.lends;
 })
 remove_file_ground (Err x) old new p g o free done same = subst IsGround (sym same) g
 
 pub remove_dir_ground : {B : Type 0} (r : Result (Unit {0}) B) (old new : Lending) (p : List ℕ) → IsGround old
-    → IsTrue (is_open (all_but old.out) p) → OnOk r (remove_dir_refusal old.files p ≡ None) →
+    → IsTrue (is_open (all_but old.out old.cut) p) → OnOk r (remove_dir_refusal old.files p ≡ None) →
     OnOk r (new ≡ record old { files = remove old.files p }) → OnErr r (new ≡ old) → IsGround new
 remove_dir_ground (Ok x) old new p g o free done same = subst IsGround (sym done) (record {
-  tree = take_dir {B = ⊥} (Ok x) old.files (remove old.files p) p g.tree (not_root (all_but old.out) p o) free refl tt;
-  lends = lends_apart old.files (remove old.files p) p old.out (in_area_of old.out p o) (off_here old.files p) g.lends;
+  tree = take_dir {B = ⊥} (Ok x) old.files (remove old.files p) p g.tree (not_root (all_but old.out old.cut) p o) free refl tt;
+  lends = lends_apart old.files (remove old.files p) p (all_out old.out old.cut) (in_area_of old.out old.cut p o) (off_here old.files p) g.lends;
 })
 remove_dir_ground (Err x) old new p g o free done same = subst IsGround (sym same) g
 
 -- a lease
 
-pub are_tops : (out : List (List (List ℕ))) (tops : List (List ℕ)) → CanLease (all_but out) tops
-    → ((i : ℕ) (x : List ℕ) → slice_get tops i ≡ Some x → refusal x ≡ None) → AreTops tops
-are_tops out tops can valid = record { valid = valid; no_root = λ i x at. not_root (all_but out) x (can.are_open i x at); one_level = can.one_level }
+pub are_tops : (area : Area) (tops : List (List ℕ)) → CanLease area tops → ((i : ℕ) (x : List ℕ) → slice_get tops i ≡ Some x → refusal x ≡ None)
+    → AreTops tops
+are_tops area tops can valid = record { valid = valid; no_root = λ i x at. not_root area x (can.are_open i x at); one_level = can.one_level }
 
 all_more : (P : List (List ℕ) → Type 0) (xs : List (List (List ℕ))) (x : List (List ℕ)) → AllByRecursion P xs → P x → AllByRecursion P (xs ++ x ∷ [])
 all_more P [] x a p = (p, tt)
@@ -156,16 +160,31 @@ lends_lease files tops (one ∷ out) t dirs apart l = (
       | false ↦ λ _. refl
     ] refl
 
-pub lease_ground : (old : Lending) (tops : List (List ℕ)) → IsGround old → CanLease (all_but old.out) tops → HaveParents tops old.files
+-- what is kept once the tops are lent is a tree, all that is out can come back to it, and what is lent is a part
+pub record Leased (h : Lending) (tops : List (List ℕ)) : Type 0 where
+  pub tree : IsTree (kept tops h.files)
+  pub lends : Lends (kept tops h.files) (all_out h.out h.cut ++ tops ∷ [])
+  pub part : IsPart tops (leased tops h.files)
+
+pub lease_all : (h : Lending) (tops : List (List ℕ)) → IsGround h → CanLease (all_but h.out h.cut) tops → HaveParents tops h.files
+    → ((i : ℕ) (x : List ℕ) → slice_get tops i ≡ Some x → refusal x ≡ None) → Leased h tops
+lease_all h tops g can dirs valid =
+    let t = are_tops (all_but h.out h.cut) tops can valid in record {
+      tree = leases_keep_trees.rest tops h.files t g.tree;
+      lends = lends_lease h.files tops (all_out h.out h.cut) t dirs (λ i x at. in_area_of h.out h.cut x (can.are_open i x at)) g.lends;
+      part = leases_keep_trees.part tops h.files t g.tree;
+    }
+
+pub lease_ground : (old : Lending) (tops : List (List ℕ)) → IsGround old → CanLease (all_but old.out old.cut) tops → HaveParents tops old.files
     → ((i : ℕ) (x : List ℕ) → slice_get tops i ≡ Some x → refusal x ≡ None) →
-    IsGround (record { files = kept tops old.files; out = old.out ++ tops ∷ [] }) × IsPart tops (leased tops old.files)
+    IsGround (record old { files = kept tops old.files; out = old.out ++ tops ∷ [] }) × IsPart tops (leased tops old.files)
 lease_ground old tops g can dirs valid =
-    let t = are_tops old.out tops can valid in (
+    let all = lease_all old tops g can dirs valid in (
       record {
-        tree = leases_keep_trees.rest tops old.files t g.tree;
-        lends = lends_lease old.files tops old.out t dirs (λ i x at. in_area_of old.out x (can.are_open i x at)) g.lends;
+        tree = all.tree;
+        lends = subst (Lends (kept tops old.files)) (append_assoc (map (λ (c : Cut). c.path ∷ []) old.cut) old.out (tops ∷ [])) all.lends;
       },
-      leases_keep_trees.part tops old.files t g.tree,
+      all.part,
     )
 
 -- a part comes back
@@ -222,6 +241,35 @@ lends_without files tops (one ∷ out) l = elim (same_tops one tops) as (λ b. L
   | false ↦ (l.0, (all_without (AreClear one) tops out l.1.0, lends_without files tops out l.1.1))
 ]
 
+-- the same of tops that stand behind others
+
+is_behind : (tops : List (List ℕ)) (front out : List (List (List ℕ))) → list_any (λ one. same_tops one tops) out ≡ true
+    → list_any (λ one. same_tops one tops) (front ++ out) ≡ true
+is_behind tops [] out e = e
+is_behind tops (one ∷ front) out e = ap (λ b. same_tops one tops || b) (is_behind tops front out e) ∙ or_true (same_tops one tops)
+  where
+    or_true : (b : Bool) → (b || true) ≡ true
+    or_true true = refl
+    or_true false = refl
+
+all_behind : (P : List (List ℕ) → Type 0) (tops : List (List ℕ)) (front out : List (List (List ℕ))) → AllByRecursion P (front ++ out)
+    → AllByRecursion P (front ++ without_tops tops out)
+all_behind P tops [] out a = all_without P tops out a
+all_behind P tops (one ∷ front) out a = (a.0, all_behind P tops front out a.1)
+
+clear_behind : (files : Files) (tops : List (List ℕ)) (front out : List (List (List ℕ))) → Lends files (front ++ out)
+    → list_any (λ one. same_tops one tops) out ≡ true → AllByRecursion (IsClear tops) (front ++ without_tops tops out)
+clear_behind files tops [] out l e = others_clear files tops out l e
+clear_behind files tops (one ∷ front) out l e = (
+  (among (AreClear one) tops (front ++ out) l.1.0 (is_behind tops front out e)).1,
+  clear_behind files tops front out l.1.1 e,
+)
+
+lends_behind : (files : Files) (tops : List (List ℕ)) (front out : List (List (List ℕ))) → Lends files (front ++ out)
+    → Lends files (front ++ without_tops tops out)
+lends_behind files tops [] out l = lends_without files tops out l
+lends_behind files tops (one ∷ front) out l = (l.0, (all_behind (AreClear one) tops front out l.1.0, lends_behind files tops front out l.1.1))
+
 lends_joined : (tops : List (List ℕ)) (rest after : Files) (out : List (List (List ℕ)))
     → ((q : List ℕ) → in_tops tops q ≡ false → get after q ≡ get rest q) → AllByRecursion (IsClear tops) out → Lends rest out
     → Lends after out
@@ -231,13 +279,98 @@ lends_joined tops rest after (one ∷ out) h c l = (
   (l.1.0, lends_joined tops rest after out h c.1 l.1.1),
 )
 
+-- the tree once a part is back, to which all that is still out can come back
+record IsBack (tops : List (List ℕ)) (own rest : Files) (out : List (List (List ℕ))) : Type 0 where
+  pub tree : IsTree (laid tops own rest)
+  pub lends : Lends (laid tops own rest) out
+
+is_back : (tops : List (List ℕ)) (own rest : Files) (out : List (List (List ℕ))) → IsTree rest → IsLent rest tops → IsPart tops own
+    → AllByRecursion (IsClear tops) out → Lends rest out → IsBack tops own rest out
+is_back tops own rest out tree mine part clear lends = record {
+  tree = leases_keep_trees.back tops own rest (laid tops own rest) mine.are part tree mine.parents (get_laid tops own rest);
+  lends = lends_joined tops rest (laid tops own rest) out
+      (λ q off. get_laid tops own rest q ∙ ap (λ b. cond b (get own q) (get rest q)) off) clear lends;
+}
+
 pub back_ground : (old : Lending) (tops : List (List ℕ)) (own : Files) → IsGround old → IsPart tops own
     → list_any (λ one. same_tops one tops) old.out ≡ true
-    → IsGround (record { files = laid tops own old.files; out = without_tops tops old.out })
+    → IsGround (record old { files = laid tops own old.files; out = without_tops tops old.out })
 back_ground old tops own g part out =
-    let mine = its_tops old.files tops old.out g.lends out in record {
-      tree = leases_keep_trees.back tops own old.files (laid tops own old.files) mine.are part g.tree mine.parents (get_laid tops own old.files);
-      lends = lends_joined tops old.files (laid tops own old.files) (without_tops tops old.out)
-          (λ q off. get_laid tops own old.files q ∙ ap (λ b. cond b (get own q) (get old.files q)) off)
-          (others_clear old.files tops old.out g.lends out) (lends_without old.files tops old.out g.lends);
-    }
+    let front = map (λ (c : Cut). c.path ∷ []) old.cut in
+    let back = is_back tops own old.files (front ++ without_tops tops old.out) g.tree
+    (its_tops old.files tops (front ++ old.out) g.lends (is_behind tops front old.out out)) part
+    (clear_behind old.files tops front old.out g.lends out)
+    (lends_behind old.files tops front old.out g.lends) in
+    record { tree = back.tree; lends = back.lends }
+
+-- a file in spans, which stands before the parts
+
+all_parts : (P : List (List ℕ) → Type 0) (xs ys : List (List (List ℕ))) (x : List (List ℕ)) → AllByRecursion P ((xs ++ ys) ++ x ∷ [])
+    → AllByRecursion P ((xs ++ x ∷ []) ++ ys)
+all_parts P [] ys x a = first ys a
+  where
+    first : (ys : List (List (List ℕ))) → AllByRecursion P (ys ++ x ∷ []) → AllByRecursion P (x ∷ ys)
+    first [] a = a
+    first (y ∷ ys) a = let rest = first ys a.1 in (rest.0, (a.0, rest.1))
+all_parts P (y ∷ xs) ys x a = (a.0, all_parts P xs ys x a.1)
+
+lends_first : (files : Files) (x : List (List ℕ)) (out : List (List (List ℕ))) → Lends files (out ++ x ∷ []) → Lends files (x ∷ out)
+lends_first files x [] l = l
+lends_first files x (y ∷ out) l =
+    let rest = lends_first files x out l.1.1 in
+    let clear = all_parts (AreClear y) [] out x l.1.0 in
+    (rest.0, (((clear.0.1, clear.0.0), rest.1.0), (l.0, (clear.1, rest.1.1))))
+
+lends_moved : (files : Files) (xs ys : List (List (List ℕ))) (x : List (List ℕ)) → Lends files ((xs ++ ys) ++ x ∷ [])
+    → Lends files ((xs ++ x ∷ []) ++ ys)
+lends_moved files [] ys x l = lends_first files x ys l
+lends_moved files (y ∷ xs) ys x l = (l.0, (all_parts (AreClear y) xs ys x l.1.0, lends_moved files xs ys x l.1.1))
+
+cut_more : (cut : List Cut) (c : Cut) → map (λ (d : Cut). d.path ∷ []) (cut ++ c ∷ []) ≡ map (λ (d : Cut). d.path ∷ []) cut ++ (c.path ∷ []) ∷ []
+cut_more [] c = refl
+cut_more (d ∷ cut) c = ap (λ r. (d.path ∷ []) ∷ r) (cut_more cut c)
+
+-- what a ground is once the file is out in spans
+pub cut_ground : (h : Lending) (c : Cut) → Leased h (c.path ∷ []) → IsGround (record h { files = kept (c.path ∷ []) h.files; cut = h.cut ++ c ∷ [] })
+cut_ground h c all = record {
+  tree = all.tree;
+  lends = subst (λ front. Lends (kept (c.path ∷ []) h.files) (front ++ h.out)) (sym (cut_more h.cut c))
+      (lends_moved (kept (c.path ∷ []) h.files) (map (λ (d : Cut). d.path ∷ []) h.cut) h.out (c.path ∷ []) all.lends);
+}
+
+and_true : (b : Bool) → (b && true) ≡ b
+and_true true = refl
+and_true false = refl
+
+cut_less : (p : List ℕ) (cut : List Cut) (out : List (List (List ℕ))) → is_some (cuts_at p cut) ≡ true
+    → without_tops (p ∷ []) (all_out out cut) ≡ all_out out (without_cut p cut)
+cut_less p [] out e = absurd (false≢true e)
+cut_less p (c ∷ cut) out e =
+    ap (λ b. cond b (all_out out cut) ((c.path ∷ []) ∷ without_tops (p ∷ []) (all_out out cut))) (and_true (pointwise nat_eq c.path p))
+    ∙ elim (pointwise nat_eq c.path p) as
+    (λ b. is_some (cond b (Some c.cuts) (cuts_at p cut)) ≡ true
+    → cond b (all_out out cut) ((c.path ∷ []) ∷ without_tops (p ∷ []) (all_out out cut)) ≡ all_out out (cond b cut (c ∷ without_cut p cut))) [
+      | true ↦ λ _. refl
+      | false ↦ λ e. ap (λ r. (c.path ∷ []) ∷ r) (cut_less p cut out e)
+    ] e
+
+cut_there : (p : List ℕ) (cut : List Cut) (out : List (List (List ℕ))) → is_some (cuts_at p cut) ≡ true
+    → list_any (λ one. same_tops one (p ∷ [])) (all_out out cut) ≡ true
+cut_there p [] out e = absurd (false≢true e)
+cut_there p (c ∷ cut) out e =
+    ap (λ b. b || list_any (λ one. same_tops one (p ∷ [])) (all_out out cut)) (and_true (pointwise nat_eq c.path p))
+    ∙ elim (pointwise nat_eq c.path p) as
+    (λ b. is_some (cond b (Some c.cuts) (cuts_at p cut)) ≡ true → (b || list_any (λ one. same_tops one (p ∷ [])) (all_out out cut)) ≡ true) [
+      | true ↦ λ _. refl
+      | false ↦ λ e. cut_there p cut out e
+    ] e
+
+-- and once it is back
+pub whole_ground : (old : Lending) (p : List ℕ) (own : Files) → IsGround old → IsPart (p ∷ []) own → is_some (cuts_at p old.cut) ≡ true
+    → IsGround (record old { files = laid (p ∷ []) own old.files; cut = without_cut p old.cut })
+whole_ground old p own g part there =
+    let all = all_out old.out old.cut in
+    let out = cut_there p old.cut old.out there in
+    let back = is_back (p ∷ []) own old.files (without_tops (p ∷ []) all) g.tree (its_tops old.files (p ∷ []) all g.lends out) part
+    (others_clear old.files (p ∷ []) all g.lends out) (lends_without old.files (p ∷ []) all g.lends) in
+    record { tree = back.tree; lends = subst (Lends (laid (p ∷ []) own old.files)) (cut_less p old.cut old.out there) back.lends }

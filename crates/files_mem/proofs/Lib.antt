@@ -11,3 +11,6 @@ pub mod Laying
 pub mod Lending
 pub mod Parted
 pub mod Acting
+mod Spanning
+mod Cuts
+mod CutOut

@@ -2,7 +2,7 @@ use Rattle.std.proofs.Common.{◌≡◌, ℕ, true, false, List, ◌++◌, lengt
 use Rattle.std.specs.List.{starts_with}
 use Rattle.std.specs.Option.{MatchOption}
 use Rattle.std.specs.Str.Pattern.{FindsTextPrefix, StripsPrefix}
-use Rattle.outside.proofs.Children.{goes_on}
+use Rattle.path_text.proofs.Preordered.{begins}
 use denote.Ref.{Bor}
 
 pub strip_off : (front text : List ℕ) (r : Option (Bor (List ℕ)))
@@ -10,7 +10,7 @@ pub strip_off : (front text : List ℕ) (r : Option (Bor (List ℕ)))
     → IfNone r (starts_with eqb text front ≡ false)
 strip_off front text None h =
     elim (starts_with eqb text front) as (λ b. starts_with eqb text front ≡ b → b ≡ false) [
-      | true ↦ λ e. absurd (h (drop (length front) text) (goes_on front text e))
+      | true ↦ λ e. absurd (h (drop (length front) text) (begins text front e))
       | false ↦ λ e. refl
     ] refl
 strip_off front text (Some x) h = tt

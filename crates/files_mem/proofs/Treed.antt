@@ -135,7 +135,7 @@ file_there (Some n) e = (refl, by_body n.body e)
     by_body : (b : Body) → is_file_body b ≡ true → is_dir_body b ≡ false
     by_body (dir far) e = absurd (false≢true e)
     by_body (file bytes) e = refl
-    by_body link e = refl
+    by_body (link text) e = refl
     by_body other e = refl
 
 -- after bytes were written to a file, or were not

@@ -2,4 +2,5 @@ pub mod Stored
 pub mod Planned
 pub mod Memory
 pub mod PrivateHeld
+pub mod Spanned
 pub mod Blinded

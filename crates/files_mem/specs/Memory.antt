@@ -67,7 +67,7 @@ write_error put.OutOfMemory = write.OutOfMemory
 abbrev pub body_far : Body → Option ℕ
 body_far (dir far) = Some far
 body_far (file bytes) = None
-body_far link = None
+body_far (link text) = None
 body_far other = None
 
 abbrev pub dir_far : Option Node → Option ℕ

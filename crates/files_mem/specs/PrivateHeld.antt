@@ -4,7 +4,8 @@ use Rattle.std.specs.List.{AllByRecursion}
 use Rattle.std.specs.Coded.{Coded, code_by, coded×, coded_list, coded_ℕ}
 use Rattle.path_text.specs.Path.{parent_of}
 use Rattle.outside.specs.Tree.{Files, Node, IsTree}
-use Rattle.outside.specs.Codes.{files_code}
+use Rattle.outside.specs.Codes.{files_code, cut_code}
+use Rattle.outside.specs.Writes.{Cut, all_out}
 use Rattle.outside.specs.Lease.{in_tops, HaveParents}
 use Rattle.outside.specs.Parts.{AreTops}
 use Rattle.outside.specs.Laid.{laid}
@@ -27,14 +28,16 @@ abbrev pub laid_all : List Back → Files → Files
 laid_all [] files = files
 laid_all (b ∷ bs) files = laid_all bs (laid b.tops b.files files)
 
--- files of which parts are out: the tops of each
+-- files of which parts are out, the tops of each, and files in spans
 pub record Lending : Type 0 where
   pub files : Files
   pub out : List (List (List ℕ))
+  pub cut : List Cut
 
 abbrev pub lending_code : Coded Lending
-lending_code = code_by (Files × List (List (List ℕ))) (coded× files_code (coded_list (coded_list (coded_list coded_ℕ))))
-    (λ h. (h.files, h.out)) (λ p. record { files = p.0; out = p.1 }) (λ _. refl)
+lending_code =
+    code_by (Files × (List (List (List ℕ)) × List Cut)) (coded× files_code (coded× (coded_list (coded_list (coded_list coded_ℕ))) (coded_list cut_code)))
+    (λ h. (h.files, (h.out, h.cut))) (λ p. record { files = p.0; out = p.1.0; cut = p.1.1 }) (λ _. refl)
 
 -- each top stands in a directory that the ground has
 pub record IsLent (files : Files) (tops : List (List ℕ)) : Type 0 where
@@ -48,7 +51,7 @@ IsClear tops others = (i : ℕ) (x : List ℕ) → slice_get others i ≡ Some x
 abbrev pub AreClear : List (List ℕ) → List (List ℕ) → Type 0
 AreClear one two = IsClear one two × IsClear two one
 
--- all parts that are out can come back, in any order
+-- all that is out can come back, in any order
 abbrev pub Lends : Files → List (List (List ℕ)) → Type 0
 Lends files [] = Unit {0}
 Lends files (tops ∷ out) = IsLent files tops × (AllByRecursion (AreClear tops) out × Lends files out)
@@ -56,4 +59,4 @@ Lends files (tops ∷ out) = IsLent files tops × (AllByRecursion (AreClear tops
 -- the files are a tree, and what is out can come back
 pub record IsGround (h : Lending) : Type 0 where
   pub tree : IsTree h.files
-  pub lends : Lends h.files h.out
+  pub lends : Lends h.files (all_out h.out h.cut)

@@ -12,7 +12,7 @@ use Rattle.files_mem.specs.declared.nodes.Body.TheVariants as b
 abbrev pub body_of : kept.Body → Body
 body_of (b.Dir far) = dir far
 body_of (b.File bytes) = file bytes.items
-body_of b.Link = link
+body_of (b.Link text) = link text
 body_of b.Other = other
 
 abbrev pub node_of : stored.Node → Node

@@ -1,16 +1,22 @@
 //! Files in memory that tell no tree.
-ghost use Rattle.std.specs.Prelude.{◌≡◌, ℕ, Option, Some, true, IsTrue, IfOk, IsErrOf};
+ghost use Rattle.std.specs.Prelude.{◌≡◌, ◌≤◌, ℕ, Option, Some, None, true, All, IsTrue, IfOk, IsErrOf, OnOk, OnErr, map as list_map};
+ghost use Rattle.std.specs.List.{sum_by};
 ghost use Rattle.std.specs.Option.{option_map};
 ghost use Rattle.std.specs.FinMap as map;
 ghost use Rattle.path_text.specs.Path.{parent_of};
 ghost use Rattle.outside.specs.Lease.{HaveParents};
+ghost use Rattle.outside.specs.Count.{RoseBy, capped};
+ghost use Rattle.outside.specs.Spans.{are_cuts, pieces, cuts_in, zeros_of, area_cut, area_whole, IsEmptyFile};
 ghost use Rattle.outside.specs.Tree.{Node, is_dir, stat_of};
+ghost use Rattle.outside.specs.Writes.{is_open};
+ghost use Rattle.files_mem.specs.Spanned.{piece_of, held_by};
 
 use crate::blind_parts::{BlindPart, counted, has_place};
 use crate::blind_readers::BlindReader;
 use crate::grounds::MemGround;
+use crate::spans::{MemSpan, faults_of};
 use crate::tricks::Tricks;
-use outside::{Ground, Kind, Plot, Stat, Tree, WriteError};
+use outside::{Ground, Kind, LinkText, Plot, SpanError, Stat, Tree, Wide, WriteError};
 use path_text::{OutOfMemory, Path};
 use std::alloc::Global;
 use std::marker::Model;
@@ -79,6 +85,15 @@ fn is_dir(told: Option<Stat>) -> bool
     }
 }
 
+fn is_empty_file(told: Option<Stat>) -> bool
+    ensures { (node : Option Node) → told ≡ option_map stat_of node → IsTrue result → IsEmptyFile node }
+{
+    match told {
+        Some(stat) => stat.kind == Kind::File && stat.size == 0,
+        None => false,
+    }
+}
+
 // Whether a directory stands over the path.
 fn has_parent(ground: &mut MemGround, alloc: Global, path: &Path) -> Result<bool, OutOfMemory>
     ensures told { IfOk result (λ has. IsTrue has → is_dir (map.get ground.old.files (parent_of path.now)) ≡ true) }
@@ -123,6 +138,11 @@ impl Plot for Blind {
 
     fn make_file(&mut self, alloc: Global, path: &Path) -> Result<(), WriteError> {
         let told = self.ground.make_file(alloc, path);
+        counted(&mut self.count, told)
+    }
+
+    fn make_link(&mut self, alloc: Global, path: &Path, text: &LinkText) -> Result<(), WriteError> {
+        let told = self.ground.make_link(alloc, path, text);
         counted(&mut self.count, told)
     }
 
@@ -181,5 +201,50 @@ impl Ground for Blind {
     fn give_back(&mut self, part: BlindPart) {
         self.count = self.count.saturating_add(part.faults());
         self.ground.give_back(part.into_part());
+    }
+}
+
+impl Wide for Blind {
+    type Span = MemSpan;
+
+    /// The spans tell no bytes. Where no empty file is at the path, that is a fault: the ground inside lends no other.
+    fn lease_spans(
+        &mut self,
+        alloc: Global,
+        path: &Path,
+        cuts: &[u64],
+    ) -> Result<Vec<MemSpan>, SpanError>
+        requires open { IsTrue (is_open self.old.area path.now) }
+        requires cuts { IsTrue (are_cuts cuts.now) }
+        ensures pieces { IfOk result (λ spans. list_map piece_of spans.items ≡ pieces path.now cuts.now) }
+        ensures holds { IfOk result (λ spans. list_map held_by spans.items ≡ list_map (zeros_of None) (pieces path.now cuts.now)) }
+        ensures zero { IfOk result (λ spans. All (λ span. span.count ≡ 0) spans.items) }
+        ensures area { OnOk result (self.new.area ≡ area_cut path.now cuts.now self.old.area) }
+        ensures refused { OnErr result (self.new.area ≡ self.old.area) }
+        ensures count { RoseBy 0 self.old.count self.new.count }
+        ensures cause { IsErrOf result SpanError.Failed → RoseBy 1 self.old.count self.new.count }
+    {
+        if !is_empty_file(self.ground.look(alloc, path)?) {
+            self.count = self.count.saturating_add(1);
+            return Err(SpanError::Failed);
+        }
+        match self.ground.cut(alloc, path, cuts, false) {
+            Ok(spans) => Ok(spans),
+            Err(SpanError::Failed) => {
+                self.count = self.count.saturating_add(1);
+                Err(SpanError::Failed)
+            }
+            Err(SpanError::OutOfMemory) => Err(SpanError::OutOfMemory),
+        }
+    }
+
+    fn give_back_spans(&mut self, path: &Path, spans: Vec<MemSpan>)
+        requires { option_map (pieces path.now) (cuts_in path.now self.old.area) ≡ Some (list_map piece_of spans.items) }
+        ensures area { self.new.area ≡ area_whole path.now self.old.area }
+        ensures count { self.new.count ≡ capped self.old.count (sum_by (λ span. span.count) spans.items) }
+        ensures rises { self.old.count ≤ self.new.count }
+    {
+        self.count = self.count.saturating_add(faults_of(&spans));
+        self.ground.rejoin(path, spans);
     }
 }

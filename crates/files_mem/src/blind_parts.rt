@@ -6,7 +6,7 @@ ghost use Rattle.outside.specs.Tree.{Node, stat_of};
 ghost use Rattle.outside.specs.Writes.{HasPlace};
 
 use crate::parts::MemPart;
-use outside::{Kind, Plot, Stat, WriteError};
+use outside::{Kind, LinkText, Plot, Stat, WriteError};
 use path_text::Path;
 use std::alloc::Global;
 use std::marker::Model;
@@ -86,6 +86,11 @@ impl Plot for BlindPart {
 
     fn make_file(&mut self, alloc: Global, path: &Path) -> Result<(), WriteError> {
         let told = self.part.make_file(alloc, path);
+        counted(&mut self.count, told)
+    }
+
+    fn make_link(&mut self, alloc: Global, path: &Path, text: &LinkText) -> Result<(), WriteError> {
+        let told = self.part.make_link(alloc, path, text);
         counted(&mut self.count, told)
     }
 

@@ -3,7 +3,7 @@ ghost use Rattle.std.specs.Prelude.{◌≡◌};
 
 use crate::readers::MemReader;
 use crate::tricks::Tricks;
-use outside::{Failed, Kind, ListError, Listing, ReadError, Stat, Tree};
+use outside::{Failed, Kind, LinkError, LinkText, ListError, Listing, ReadError, Stat, Tree};
 use path_text::Path;
 use std::alloc::Global;
 use std::marker::Model;
@@ -99,6 +99,17 @@ impl Tree for BlindReader {
                 Err(ReadError::Failed)
             }
             told => told,
+        }
+    }
+
+    fn read_link(&mut self, alloc: Global, path: &Path) -> Result<LinkText, LinkError> {
+        match self.reader.read_link(alloc, path) {
+            Ok(text) => Ok(text),
+            Err(LinkError::Failed) => {
+                self.count = self.count.saturating_add(1);
+                Err(LinkError::Failed)
+            }
+            Err(e) => Err(e),
         }
     }
 }

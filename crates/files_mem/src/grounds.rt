@@ -1,13 +1,17 @@
 //! Files in memory.
-ghost use Rattle.std.specs.Prelude.{◌≡◌, ◌⊎◌, ◌≤◌, ◌++◌, ◌∷◌, [], Some, None, true, length, IsTrue, OnOk, OnErr, IfOk, IfErr, IsErrOf};
+ghost use Rattle.std.specs.Prelude.{◌≡◌, ◌⊎◌, ◌≤◌, ◌++◌, ◌∷◌, [], Some, None, true, false, length, is_some, IsTrue, OnOk, OnErr, IfOk, IfErr, IsErrOf};
 ghost use Rattle.std.specs.Arc.{arc_value};
 ghost use Rattle.std.specs.FinMap as map;
+ghost use Rattle.std.specs.Prelude.{map as list_map, All};
+ghost use Rattle.std.specs.List.{sum_by};
+ghost use Rattle.outside.specs.Spans.{are_cuts, pieces, cuts_in, zeros_of, joined_bytes, area_cut, area_whole, IsEmptyFile, IsRejoined};
+ghost use Rattle.files_mem.specs.Spanned.{piece_of, held_by, blank, bytes_of_all};
 ghost use Rattle.std.specs.Option.{option_map};
 ghost use Rattle.outside.specs.Count.{RoseBy, capped};
 ghost use Rattle.outside.specs.Tree.{IsTree, dir, file, link, other, is_file, content, stat_of};
 ghost use Rattle.outside.specs.Lease.{CanLease, HaveParents, Joins, leased, kept, area_without, area_with, is_out, tops_of};
 ghost use Rattle.outside.specs.Laid.{laid};
-ghost use Rattle.outside.specs.Writes.{all_but, under, is_open, make_refusal, write_refusal, remove_file_refusal, remove_dir_refusal, empty_dir, new_file, written, HasPlace, Answers, may_make, may_change, may_empty};
+ghost use Rattle.outside.specs.Writes.{nothing_lent, under, is_open, make_refusal, write_refusal, remove_file_refusal, remove_dir_refusal, empty_dir, new_file, new_link, written, HasPlace, Answers, may_make, may_change, may_empty};
 ghost use Rattle.files_mem.specs.Stored.{node_of};
 ghost use Rattle.files_mem.specs.Planned.{is_planned};
 ghost use Rattle.files_mem.specs.Memory.{Memory, put_refusal, empty_files, with_node, with_planned, answered, Acts};
@@ -18,8 +22,9 @@ use crate::nodes::{Body, Node};
 use crate::parts::MemPart;
 use crate::plans::{Call, Plan};
 use crate::readers::MemReader;
+use crate::spans::{MemSpan, faults_of, room_for, spans_of};
 use crate::stores::Store;
-use outside::{Ground, Plot, Stat, Tree, WriteError};
+use outside::{Ground, LinkText, Plot, SpanError, Stat, Tree, Wide, WriteError};
 use path_text::{OutOfMemory, Path, PathError};
 use std::alloc::{AllocError, AllocFailed, Global};
 use std::marker::Model;
@@ -44,7 +49,7 @@ impl Model for MemGround {
 
     ghost coded = { memory_code };
 
-    ghost view = { λ g. record { files = g.held.files; planned = arc_value g.plan; count = g.count; area = all_but g.held.out } };
+    ghost view = { λ g. record { files = g.held.files; planned = arc_value g.plan; count = g.count; area = all_but g.held.out g.held.cut } };
 
     ghost invariant = { λ g. IsGround g.held };
 }
@@ -52,7 +57,7 @@ impl Model for MemGround {
 impl MemGround {
     /// Nothing but `/`, a directory without a time.
     pub fn empty(alloc: Global) -> Result<MemGround, OutOfMemory>
-        ensures { IfOk result (λ made. made ≡ record { files = empty_files; planned = []; count = 0; area = all_but [] }) }
+        ensures { IfOk result (λ made. made ≡ record { files = empty_files; planned = []; count = 0; area = nothing_lent }) }
     {
         let Ok(root) = Path::parse(alloc, "/") else {
             return Err(OutOfMemory);
@@ -93,14 +98,19 @@ impl MemGround {
         self.put(path, Node { body, mtime })
     }
 
-    /// Puts a symbolic link.
-    pub fn put_link(&mut self, path: &Path, mtime: Option<u64>) -> Result<(), PutError>
-        ensures put { OnOk result (self.new ≡ with_node self.old path.now (record { body = link; mtime = mtime })) }
+    /// Puts a symbolic link with this text.
+    pub fn put_link(
+        &mut self,
+        path: &Path,
+        text: &LinkText,
+        mtime: Option<u64>,
+    ) -> Result<(), PutError>
+        ensures put { OnOk result (self.new ≡ with_node self.old path.now (record { body = link text.now; mtime = mtime })) }
         ensures free { OnOk result (put_refusal self.old.files path.now ≡ None) }
         ensures refused { IfErr result (λ e. (put_refusal self.old.files path.now ≡ Some e) ⊎ (e ≡ PutError.OutOfMemory)) }
         ensures same { OnErr result (self.new ≡ self.old) }
     {
-        let body = Body::Link;
+        let body = Body::Link(text.copy()?);
         self.put(path, Node { body, mtime })
     }
 
@@ -149,6 +159,47 @@ impl MemGround {
             self.count = self.count.saturating_add(1);
         }
         planned
+    }
+
+    // Lends a file in spans, which tell their bytes or not.
+    pub(crate) fn cut(
+        &mut self,
+        alloc: Global,
+        path: &Path,
+        cuts: &[u64],
+        tells: bool,
+    ) -> Result<Vec<MemSpan>, SpanError>
+        requires open { IsTrue (is_open self.old.area path.now) }
+        requires empty { IsEmptyFile (map.get self.old.files path.now) }
+        requires cuts { IsTrue (are_cuts cuts.now) }
+        ensures spans { IfOk result (λ spans. spans.items ≡ list_map (blank tells (is_planned Call.Write path.now self.old.planned)) (pieces path.now cuts.now)) }
+        ensures rest { OnOk result (self.new ≡ record self.old { files = kept (path.now ∷ []) self.old.files; area = area_cut path.now cuts.now self.old.area }) }
+        ensures failed { IsErrOf result SpanError.Failed → (is_planned Call.Spans path.now self.old.planned ≡ true) × (self.new ≡ answered true self.old) }
+        ensures memory { IsErrOf result SpanError.OutOfMemory → (is_planned Call.Spans path.now self.old.planned ≡ false) × (self.new ≡ self.old) }
+        ensures unplanned { OnOk result (is_planned Call.Spans path.now self.old.planned ≡ false) }
+        ensures cause { IsErrOf result SpanError.Failed → RoseBy 1 self.old.count self.new.count }
+    {
+        if self.fails(Call::Spans, path) {
+            return Err(SpanError::Failed);
+        }
+        let fails = self.plan.has(Call::Write, path);
+        let spans = spans_of(alloc, path, cuts, tells, fails)?;
+        let room = room_for(alloc, &spans)?;
+        self.held.cut_out(alloc, path, cuts, room)?;
+        Ok(spans)
+    }
+
+    // Takes the spans of a file back, whether they tell their bytes or not.
+    pub(crate) fn rejoin(&mut self, path: &Path, spans: Vec<MemSpan>)
+        requires { option_map (pieces path.now) (cuts_in path.now self.old.area) ≡ Some (list_map piece_of spans.items) }
+        ensures tree { IsRejoined path.now (bytes_of_all spans.items) self.old.files self.new.files }
+        ensures area { self.new.area ≡ area_whole path.now self.old.area }
+        ensures planned { self.new.planned ≡ self.old.planned }
+        ensures count { self.new.count ≡ capped self.old.count (sum_by (λ span. span.count) spans.items) }
+        ensures rises { self.old.count ≤ self.new.count }
+    {
+        self.count = self.count.saturating_add(faults_of(&spans));
+        self.held.rejoin(path, spans);
     }
 
     // Puts a node where none is, in a directory.
@@ -238,6 +289,26 @@ impl Plot for MemGround {
         self.make(Call::MakeFile, path, Node { body, mtime: None })
     }
 
+    /// Makes a link with this text, without a time. It fails exactly where that is planned, before any other refusal, and changes nothing then.
+    fn make_link(&mut self, alloc: Global, path: &Path, text: &LinkText) -> Result<(), WriteError>
+        requires { IsTrue (is_open self.old.area path.now) }
+        ensures acts { Acts Call.MakeLink path.now (make_refusal self.old.area self.old.files path.now) (map.insert self.old.files path.now (new_link text.now)) self.old result self.new }
+        ensures told { Answers path.now (make_refusal self.old.area self.old.files path.now) self.old.files (map.insert self.old.files path.now (new_link text.now)) result (Some self.new.files) }
+        ensures named { IfErr result (λ e. IsTrue (may_make e)) }
+        ensures count { RoseBy 0 self.old.count self.new.count }
+        ensures cause { IsErrOf result WriteError.Failed → RoseBy 1 self.old.count self.new.count }
+    {
+        let Ok(text) = text.copy() else {
+            // a planned fault comes before want of memory
+            if self.fails(Call::MakeLink, path) {
+                return Err(WriteError::Failed);
+            }
+            return Err(WriteError::OutOfMemory);
+        };
+        let body = Body::Link(text);
+        self.make(Call::MakeLink, path, Node { body, mtime: None })
+    }
+
     /// Writes bytes over those of a file from a place on, and past its end. It fails exactly where that is planned, before any other refusal, and changes nothing then.
     fn write_at(
         &mut self,
@@ -312,7 +383,7 @@ impl Ground for MemGround {
     /// out the reader tells nothing.
     fn reader(&mut self, alloc: Global) -> Result<MemReader, OutOfMemory>
         ensures valid { IsTree self.old.files }
-        ensures made { IfOk result (λ reader. reader ≡ record self.old { count = 0; area = all_but [] }) }
+        ensures made { IfOk result (λ reader. reader ≡ record self.old { count = 0; area = nothing_lent }) }
         ensures same { self.new ≡ self.old }
     {
         let store = self.held.store(alloc)?;
@@ -351,5 +422,46 @@ impl Ground for MemGround {
         self.count = self.count.saturating_add(part.faults());
         let (store, tops) = part.into_parts();
         self.held.give_back(store, tops);
+    }
+}
+
+impl Wide for MemGround {
+    type Span = MemSpan;
+
+    /// It fails exactly where that is planned, before it looks for memory, and changes nothing then. It takes the memory of the spans,
+    /// and that of the whole file for when they come back.
+    fn lease_spans(
+        &mut self,
+        alloc: Global,
+        path: &Path,
+        cuts: &[u64],
+    ) -> Result<Vec<MemSpan>, SpanError>
+        requires open { IsTrue (is_open self.old.area path.now) }
+        requires empty { IsEmptyFile (map.get self.old.files path.now) }
+        requires cuts { IsTrue (are_cuts cuts.now) }
+        ensures spans { IfOk result (λ spans. spans.items ≡ list_map (blank true (is_planned Call.Write path.now self.old.planned)) (pieces path.now cuts.now)) }
+        ensures pieces { IfOk result (λ spans. list_map piece_of spans.items ≡ pieces path.now cuts.now) }
+        ensures holds { IfOk result (λ spans. list_map held_by spans.items ≡ list_map (zeros_of (Some self.old.files)) (pieces path.now cuts.now)) }
+        ensures zero { IfOk result (λ spans. All (λ span. span.count ≡ 0) spans.items) }
+        ensures rest { OnOk result (self.new ≡ record self.old { files = kept (path.now ∷ []) self.old.files; area = area_cut path.now cuts.now self.old.area }) }
+        ensures failed { IsErrOf result SpanError.Failed → (is_planned Call.Spans path.now self.old.planned ≡ true) × (self.new ≡ answered true self.old) }
+        ensures memory { IsErrOf result SpanError.OutOfMemory → (is_planned Call.Spans path.now self.old.planned ≡ false) × (self.new ≡ self.old) }
+        ensures unplanned { OnOk result (is_planned Call.Spans path.now self.old.planned ≡ false) }
+        ensures cause { IsErrOf result SpanError.Failed → RoseBy 1 self.old.count self.new.count }
+    {
+        self.cut(alloc, path, cuts, true)
+    }
+
+    /// The file waits in its place, as a part that came back does.
+    fn give_back_spans(&mut self, path: &Path, spans: Vec<MemSpan>)
+        requires pieces { option_map (pieces path.now) (cuts_in path.now self.old.area) ≡ Some (list_map piece_of spans.items) }
+        requires tells { All (λ span. is_some (held_by span) ≡ true) spans.items }
+        ensures tree { IsRejoined path.now (joined_bytes (list_map held_by spans.items)) self.old.files self.new.files }
+        ensures area { self.new.area ≡ area_whole path.now self.old.area }
+        ensures planned { self.new.planned ≡ self.old.planned }
+        ensures count { self.new.count ≡ capped self.old.count (sum_by (λ span. span.count) spans.items) }
+        ensures rises { self.old.count ≤ self.new.count }
+    {
+        self.rejoin(path, spans);
     }
 }

@@ -1,9 +1,12 @@
 //! What a ground keeps while parts of it are out.
-ghost use Rattle.std.specs.Prelude.{◌≡◌, ◌<◌, ◌≤◌, ◌+◌, ◌++◌, ◌∷◌, [], ℕ, List, Some, None, true, false, length, OnOk, OnErr, IfOk, slice_get, IsTrue};
+ghost use Rattle.std.specs.Prelude.{◌≡◌, ◌<◌, ◌≤◌, ◌+◌, ◌++◌, ◌∷◌, [], ℕ, List, Some, None, true, false, length, map as list_map, OnOk, OnErr, IfOk, slice_get, IsTrue};
 ghost use Rattle.std.specs.Vec.{vec_len, vec_capacity};
 ghost use Rattle.std.specs.Arc.{arc_value};
 ghost use Rattle.std.specs.List.{list_any};
 ghost use Rattle.std.specs.FinMap as map;
+ghost use Rattle.std.specs.Option.{option_map};
+ghost use Rattle.outside.specs.Parts.{IsPart};
+ghost use Rattle.outside.specs.Spans.{pieces, cuts_at, without_cut, IsRejoined};
 ghost use Rattle.outside.specs.Tree.{is_file, content};
 ghost use Rattle.outside.specs.Writes.{write_refusal, remove_file_refusal, remove_dir_refusal, written};
 ghost use Rattle.outside.specs.Lease.{leased, kept, without_tops, same_tops};
@@ -11,11 +14,14 @@ ghost use Rattle.outside.specs.Laid.{laid};
 ghost use Rattle.path_text.specs.Path.{refusal};
 ghost use Rattle.files_mem.specs.Stored.{node_of};
 ghost use Rattle.files_mem.specs.Memory.{put_refusal_at};
-ghost use Rattle.files_mem.specs.PrivateHeld.{laid_all};
+ghost use Rattle.files_mem.specs.PrivateHeld.{laid_all, IsGround};
+ghost use Rattle.files_mem.specs.Spanned.{piece_of, bytes_of_all, whole_size};
 
+use crate::cuttings::Cuttings;
 use crate::errors::PutError;
 use crate::nodes::Node;
-use crate::stores::Store;
+use crate::spans::MemSpan;
+use crate::stores::{Store, divide};
 use outside::{Lent, Tops, WriteError};
 use path_text::{OutOfMemory, Path};
 use std::alloc::{AllocError, Global};
@@ -39,12 +45,13 @@ impl Model for Returned {
     ghost view = { λ r. record { tops = r.tops; files = r.store } };
 }
 
-/// The nodes that a ground keeps, and the tops of the parts that are out. A part that comes back waits in a place that was
-/// made when it was lent, so that it takes no memory, and is joined by the next call that may find none.
+/// The nodes that a ground keeps, the tops of the parts that are out, and the files that are out in spans. What comes back waits
+/// in a place that was made when it was lent, so that it takes no memory, and is joined by the next call that may find none.
 #[derive(Drop)]
 pub struct Held {
     store: Arc<Store>,
     lent: Lent,
+    cut: Cuttings,
     back: Vec<Returned>,
 }
 
@@ -58,19 +65,20 @@ impl Model for Held {
 
     ghost coded = { lending_code };
 
-    ghost view = { λ h. record { files = laid_all h.back.items (arc_value h.store); out = h.lent } };
+    ghost view = { λ h. record { files = laid_all h.back.items (arc_value h.store); out = h.lent; cut = h.cut } };
 
-    ghost invariant = { λ h. length h.lent + vec_len h.back ≤ vec_capacity h.back };
+    ghost invariant = { λ h. length h.lent + length h.cut + vec_len h.back ≤ vec_capacity h.back };
 }
 
 impl Held {
-    /// These nodes, and no part is out.
+    /// These nodes, of which nothing is out.
     pub fn make(alloc: Global, store: Store) -> Result<Held, AllocError>
-        ensures { IfOk result (λ made. made ≡ record { files = store; out = [] }) }
+        ensures { IfOk result (λ made. made ≡ record { files = store; out = []; cut = [] }) }
     {
         Ok(Held {
             store: Arc::new(alloc, store)?,
             lent: Lent::make(alloc),
+            cut: Cuttings::make(alloc),
             back: Vec::new(alloc),
         })
     }
@@ -179,20 +187,55 @@ impl Held {
         ensures part { IfOk result (λ part. part.0 ≡ leased tops.now self.old.files) }
         ensures tops { IfOk result (λ part. part.1 ≡ tops.now) }
         ensures valid { OnOk result ((i : ℕ) (x : List ℕ) → slice_get tops.now i ≡ Some x → refusal x ≡ None) }
-        ensures rest { OnOk result (self.new ≡ record { files = kept tops.now self.old.files; out = self.old.out ++ tops.now ∷ [] }) }
+        ensures rest { OnOk result (self.new ≡ record self.old { files = kept tops.now self.old.files; out = self.old.out ++ tops.now ∷ [] }) }
         ensures same { OnErr result (self.new ≡ self.old) }
     {
         settle(alloc, &mut self.store, &mut self.back)?;
-        self.back.reserve(self.lent.len() + 1)?;
+        self.back.reserve(self.lent.len() + self.cut.len() + 1)?;
         divide(alloc, &mut self.store, &mut self.lent, tops)
     }
 
     /// Takes a part back, without memory.
     pub fn give_back(&mut self, store: Store, tops: Tops)
         requires { IsTrue (list_any (λ one. same_tops one tops) self.old.out) }
-        ensures { self.new ≡ record { files = laid tops store self.old.files; out = without_tops tops self.old.out } }
+        ensures { self.new ≡ record self.old { files = laid tops store self.old.files; out = without_tops tops self.old.out } }
     {
         self.lent.end(&tops);
+        put_back(&mut self.back, Returned { tops, store });
+    }
+
+    /// Takes an empty file away, for spans that have room here, and makes a place for what comes back.
+    pub fn cut_out(
+        &mut self,
+        alloc: Global,
+        path: &Path,
+        cuts: &[u64],
+        room: Vec<u8>,
+    ) -> Result<(), OutOfMemory>
+        requires part { IsPart (path.now ∷ []) (leased (path.now ∷ []) self.old.files) }
+        requires file { is_file (map.get (leased (path.now ∷ []) self.old.files) path.now) ≡ true }
+        requires none { content (map.get (leased (path.now ∷ []) self.old.files) path.now) ≡ [] }
+        requires empty { room.items ≡ [] }
+        requires room { whole_size path.now cuts.now ≤ vec_capacity room }
+        ensures ok { OnOk result (self.new ≡ record self.old { files = kept (path.now ∷ []) self.old.files; cut = self.old.cut ++ record { path = path.now; cuts = cuts.now } ∷ [] }) }
+        ensures err { OnErr result (self.new ≡ self.old) }
+    {
+        settle(alloc, &mut self.store, &mut self.back)?;
+        self.back.reserve(self.lent.len() + self.cut.len() + 1)?;
+        self.cut.lend(alloc, &mut self.store, path, cuts, room)
+    }
+
+    /// Takes a file back with the bytes of its spans, without memory.
+    pub fn rejoin(&mut self, path: &Path, spans: Vec<MemSpan>)
+        requires pieces { option_map (pieces path.now) (cuts_at path.now self.old.cut) ≡ Some (list_map piece_of spans.items) }
+        requires ground { IsGround self.old }
+        ensures tree { IsRejoined path.now (bytes_of_all spans.items) self.old.files self.new.files }
+        ensures out { self.new.out ≡ self.old.out }
+        ensures cut { self.new.cut ≡ without_cut path.now self.old.cut }
+        ensures ground { IsGround self.new }
+    {
+        let cutting = self.cut.take(path);
+        let (store, tops) = cutting.join(spans);
         put_back(&mut self.back, Returned { tops, store });
     }
 }
@@ -222,24 +265,6 @@ fn lay_in(alloc: Global, store: &mut Arc<Store>, part: &Returned) -> Result<(), 
     ensures err { OnErr result (laid part.now.tops part.now.files (arc_value store.new) ≡ laid part.now.tops part.now.files (arc_value store.old)) }
 {
     Arc::make_mut(store)?.lay(alloc, part.tops.paths(), &part.store)
-}
-
-// Divides the nodes, or a copy of them where readers hold those that are there.
-fn divide(
-    alloc: Global,
-    store: &mut Arc<Store>,
-    lent: &mut Lent,
-    tops: &[Path],
-) -> Result<(Store, Tops), OutOfMemory>
-    ensures part { IfOk result (λ part. part.0 ≡ leased tops.now (arc_value store.old)) }
-    ensures tops { IfOk result (λ part. part.1 ≡ tops.now) }
-    ensures valid { OnOk result ((i : ℕ) (x : List ℕ) → slice_get tops.now i ≡ Some x → refusal x ≡ None) }
-    ensures rest { OnOk result (arc_value store.new ≡ kept tops.now (arc_value store.old)) }
-    ensures lent { OnOk result (lent.new ≡ lent.old ++ tops.now ∷ []) }
-    ensures same { OnErr result (arc_value store.new ≡ arc_value store.old) }
-    ensures none { OnErr result (lent.new ≡ lent.old) }
-{
-    Arc::make_mut(store)?.divide(alloc, lent, tops)
 }
 
 // Puts a part into a place that was made for it, without memory.

@@ -32,15 +32,23 @@
 //! that it writes and not those of the file, unless a reader is out. A part takes its nodes out of the ground, so a lease costs
 //! what it lends and not all, unless a reader is out; the bytes of files are copied with their nodes. A part that comes back
 //! waits in a place that its lease made, without memory, and the next call that may find none joins it; what is told never
-//! waits. Proved too: a part's nodes are those at and under its tops, and with any parts out, in any order of coming back, the
-//! ground stays a tree. Definitions stand in `specs/`: `Memory`, `Planned` (what is planned to fail) and `Stored` (the tree
-//! that a map in memory is); `PrivateHeld` (what a ground keeps while parts are out) is for private clauses.
+//! waits. Proved too: a part's nodes are those at and under its tops, and with any parts and files out, in any order of coming
+//! back, the ground stays a tree.
+//!
+//! One file can be lent in spans ([`outside::Wide`]). Each [`MemSpan`] has bytes of its own, and the ground keeps the empty file
+//! with room for all of them, so neither a write nor the return takes memory. A planned [`Call::Write`] of the file fails each
+//! write of its spans, and a planned [`Call::Spans`] the lease. The spans of a [`Blind`] tell no bytes.
+//!
+//! Definitions stand in `specs/`: `Memory`, `Planned` (what is planned to fail), `Stored` (the tree that a map in memory is),
+//! `Spanned` (spans) and `Blinded` (files that tell no tree); `PrivateHeld` (what a ground keeps while parts are out) is for
+//! private clauses.
 #![tactic(auto)]
 
 mod blind;
 mod blind_parts;
 mod blind_readers;
 mod child_names;
+mod cuttings;
 mod errors;
 mod grounds;
 mod held;
@@ -49,6 +57,7 @@ mod nodes;
 mod parts;
 mod plans;
 mod readers;
+mod spans;
 mod stores;
 mod tricks;
 
@@ -60,3 +69,4 @@ pub use grounds::MemGround;
 pub use parts::MemPart;
 pub use plans::Call;
 pub use readers::MemReader;
+pub use spans::MemSpan;

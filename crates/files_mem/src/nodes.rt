@@ -4,7 +4,7 @@ ghost use Rattle.outside.specs.Tree.{stat_of, is_dir_body, is_file_body, bytes_o
 ghost use Rattle.outside.specs.Writes.{spliced};
 ghost use Rattle.files_mem.specs.Stored.{body_of, node_of};
 
-use outside::{Kind, Stat};
+use outside::{Kind, LinkText, Stat};
 use std::alloc::AllocError;
 
 /// What a node is, with what it holds.
@@ -14,8 +14,8 @@ pub enum Body {
     Dir(u64),
     /// A file, with its bytes.
     File(Vec<u8>),
-    /// A symbolic link.
-    Link,
+    /// A symbolic link, with its text.
+    Link(LinkText),
     /// Anything else.
     Other,
 }
@@ -35,7 +35,7 @@ impl Node {
         let (kind, size) = match &self.body {
             Body::Dir(_) => (Kind::Dir, 0),
             Body::File(bytes) => (Kind::File, bytes.len() as u64),
-            Body::Link => (Kind::Link, 0),
+            Body::Link(_) => (Kind::Link, 0),
             Body::Other => (Kind::Other, 0),
         };
         Stat {
@@ -78,6 +78,15 @@ impl Node {
     }
 }
 
+impl Node {
+    /// Makes it a file with these bytes.
+    pub fn set_bytes(&mut self, bytes: Vec<u8>)
+        ensures { node_of self.new ≡ record { body = file bytes.items; mtime = self.old.mtime } }
+    {
+        self.body = Body::File(bytes);
+    }
+}
+
 // Puts bytes over others from a place on, and past their end.
 fn splice(old: &mut Vec<u8>, at: usize, bytes: &[u8]) -> Result<(), AllocError>
     requires { at ≤ length old.old.items }
@@ -100,7 +109,7 @@ impl Clone for Body {
         Ok(match self {
             Body::Dir(far) => Body::Dir(*far),
             Body::File(bytes) => Body::File(bytes.clone()?),
-            Body::Link => Body::Link,
+            Body::Link(text) => Body::Link(text.clone()?),
             Body::Other => Body::Other,
         })
     }

@@ -6,7 +6,7 @@ ghost use Rattle.std.specs.Option.{option_map};
 ghost use Rattle.outside.specs.Count.{RoseBy, capped};
 ghost use Rattle.outside.specs.Parts.{IsPart};
 ghost use Rattle.outside.specs.Tree.{stat_of};
-ghost use Rattle.outside.specs.Writes.{under, is_open, is_top, make_refusal, write_refusal, remove_file_refusal, remove_dir_refusal, empty_dir, new_file, written, HasPlace, Answers, may_make, may_change, may_empty};
+ghost use Rattle.outside.specs.Writes.{under, is_open, is_top, make_refusal, write_refusal, remove_file_refusal, remove_dir_refusal, empty_dir, new_file, new_link, written, HasPlace, Answers, may_make, may_change, may_empty};
 ghost use Rattle.files_mem.specs.Stored.{node_of};
 ghost use Rattle.files_mem.specs.Planned.{is_planned};
 ghost use Rattle.files_mem.specs.Memory.{answered, Acts};
@@ -14,7 +14,7 @@ ghost use Rattle.files_mem.specs.Memory.{answered, Acts};
 use crate::nodes::{Body, Node};
 use crate::plans::{Call, Plan};
 use crate::stores::Store;
-use outside::{Plot, Stat, Tops, WriteError};
+use outside::{LinkText, Plot, Stat, Tops, WriteError};
 use path_text::Path;
 use std::alloc::Global;
 use std::marker::Model;
@@ -158,6 +158,26 @@ impl Plot for MemPart {
     {
         let body = Body::File(Vec::new(alloc));
         self.make_node(alloc, Call::MakeFile, path, Node { body, mtime: None })
+    }
+
+    /// Makes a link with this text, without a time. It fails exactly where that is planned, before any other refusal, and changes nothing then.
+    fn make_link(&mut self, alloc: Global, path: &Path, text: &LinkText) -> Result<(), WriteError>
+        requires { IsTrue (is_open self.old.area path.now) }
+        ensures acts { Acts Call.MakeLink path.now (make_refusal self.old.area self.old.files path.now) (map.insert self.old.files path.now (new_link text.now)) self.old result self.new }
+        ensures told { Answers path.now (make_refusal self.old.area self.old.files path.now) self.old.files (map.insert self.old.files path.now (new_link text.now)) result (Some self.new.files) }
+        ensures named { IfErr result (λ e. IsTrue (may_make e)) }
+        ensures count { RoseBy 0 self.old.count self.new.count }
+        ensures cause { IsErrOf result WriteError.Failed → RoseBy 1 self.old.count self.new.count }
+    {
+        let Ok(text) = text.copy() else {
+            // a planned fault comes before want of memory
+            if self.fails(Call::MakeLink, path) {
+                return Err(WriteError::Failed);
+            }
+            return Err(WriteError::OutOfMemory);
+        };
+        let body = Body::Link(text);
+        self.make_node(alloc, Call::MakeLink, path, Node { body, mtime: None })
     }
 
     /// Writes bytes over those of a file from a place on, and past its end. It fails exactly where that is planned, before any other refusal, and changes nothing then.

@@ -29,6 +29,12 @@ pub enum Call {
     RemoveFile,
     /// `remove_dir` answers `Failed`.
     RemoveDir,
+    /// `read_link` answers `Failed`.
+    ReadLink,
+    /// `make_link` answers `Failed`.
+    MakeLink,
+    /// `lease_spans` answers `Failed`.
+    Spans,
 }
 
 /// The calls that are to fail, each with its path.

@@ -1,17 +1,17 @@
 //! A reader of files in memory.
-ghost use Rattle.std.specs.Prelude.{[], ◌≡◌, ◌≢◌, ◌≤◌, ◌↔◌, length, ℕ, Some, true, false, if◌then◌else◌, IsTrue, OnOk, OnErr, IfOk, IfSome, IsErr, IsErrOf};
+ghost use Rattle.std.specs.Prelude.{◌≡◌, ◌≢◌, ◌≤◌, ◌↔◌, length, ℕ, Some, None, true, false, if◌then◌else◌, IsTrue, OnOk, OnErr, IfOk, IfSome, IsErr, IsErrOf};
 ghost use Rattle.std.specs.Option.{option_map};
 ghost use Rattle.std.specs.Arc.{arc_value};
 ghost use Rattle.std.specs.FinMap as map;
-ghost use Rattle.outside.specs.Writes.{all_but};
+ghost use Rattle.outside.specs.Writes.{nothing_lent};
 ghost use Rattle.outside.specs.Count.{RoseBy, capped};
-ghost use Rattle.outside.specs.Tree.{Files, Lists, AreNames, IsTree, Reads, is_dir, is_file, stat_of};
+ghost use Rattle.outside.specs.Tree.{Files, Lists, AreNames, IsTree, Reads, is_dir, is_file, link_at, stat_of};
 ghost use Rattle.files_mem.specs.Planned.{is_planned};
 ghost use Rattle.files_mem.specs.Memory.{Memory, FillsFrom, answered};
 
 use crate::plans::{Call, Plan};
 use crate::stores::Store;
-use outside::{Failed, Kind, ListError, Listing, ReadError, Stat, Tree};
+use outside::{Failed, Kind, LinkError, LinkText, ListError, Listing, ReadError, Stat, Tree};
 use path_text::{OutOfMemory, Path};
 use std::alloc::Global;
 use std::marker::Model;
@@ -26,8 +26,7 @@ pub struct MemReader {
 }
 
 impl Model for MemReader {
-    ghost use Rattle.std.specs.Prelude.{[]};
-    ghost use Rattle.outside.specs.Writes.{all_but};
+    ghost use Rattle.outside.specs.Writes.{nothing_lent};
     ghost use Rattle.std.specs.Arc.{arc_value};
     ghost use Rattle.outside.specs.Tree.{IsTree};
     ghost use Rattle.files_mem.specs.Memory.{Memory, memory_code};
@@ -36,7 +35,7 @@ impl Model for MemReader {
 
     ghost coded = { memory_code };
 
-    ghost view = { λ r. record { files = arc_value r.store; planned = arc_value r.plan; count = r.count; area = all_but [] } };
+    ghost view = { λ r. record { files = arc_value r.store; planned = arc_value r.plan; count = r.count; area = nothing_lent } };
 
     ghost invariant = { λ r. IsTree (arc_value r.store) };
 }
@@ -45,7 +44,7 @@ impl MemReader {
     /// A reader that has not failed yet.
     pub(crate) fn make(store: Arc<Store>, plan: Arc<Plan>) -> MemReader
         requires { IsTree (arc_value store) }
-        ensures { result ≡ record { files = arc_value store; planned = arc_value plan; count = 0; area = all_but [] } }
+        ensures { result ≡ record { files = arc_value store; planned = arc_value plan; count = 0; area = nothing_lent } }
     {
         MemReader {
             store,
@@ -145,6 +144,29 @@ impl Tree for MemReader {
         match self.store.read(path, at, into) {
             None => Err(ReadError::NotFile),
             Some(n) => Ok(n),
+        }
+    }
+
+    /// The text of the link at the path. It fails exactly where that is planned, before any other refusal.
+    fn read_link(&mut self, alloc: Global, path: &Path) -> Result<LinkText, LinkError>
+        ensures valid { IsTree self.old.files }
+        ensures planned { IsErrOf result LinkError.Failed ↔ IsTrue (is_planned Call.ReadLink path.now self.old.planned) }
+        ensures not_link { IsErrOf result LinkError.NotLink ↔ ((is_planned Call.ReadLink path.now self.old.planned ≡ false) × (link_at (map.get self.old.files path.now) ≡ None)) }
+        ensures told { IfOk result (λ text. link_at (map.get self.old.files path.now) ≡ Some text) }
+        ensures counted { self.new ≡ answered (is_planned Call.ReadLink path.now self.old.planned) self.old }
+        ensures cause { IsErrOf result LinkError.Failed → RoseBy 1 self.old.count self.new.count }
+        ensures count { RoseBy 0 self.old.count self.new.count }
+    {
+        let _ = &self.store; // tells that it is a tree
+        if self.fails(Call::ReadLink, path) {
+            return Err(LinkError::Failed);
+        }
+        let Some(text) = self.store.link(path) else {
+            return Err(LinkError::NotLink);
+        };
+        match text.copy() {
+            Ok(text) => Ok(text),
+            Err(_) => Err(LinkError::OutOfMemory),
         }
     }
 }

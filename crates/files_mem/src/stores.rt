@@ -2,9 +2,10 @@
 ghost use Rattle.std.specs.Prelude.{◌≡◌, ◌≤◌, ◌-◌, ◌++◌, ◌∷◌, [], ◌||◌, ℕ, List, Some, None, slice_get, true, false, if◌then◌else◌, is_some, nat_eq, length, take, drop, min, OnOk, OnErr, IfOk, IfSome, IfNone};
 ghost use Rattle.std.specs.Option.{option_copied, option_map};
 ghost use Rattle.std.specs.Cmp.Lexicographic.{pointwise};
+ghost use Rattle.std.specs.Arc.{arc_value};
 ghost use Rattle.std.specs.FinMap as map;
-ghost use Rattle.outside.specs.Tree.{names_in, is_dir, is_file, content, stat_of};
-ghost use Rattle.outside.specs.Writes.{write_refusal, remove_file_refusal, remove_dir_refusal, written};
+ghost use Rattle.outside.specs.Tree.{names_in, is_dir, is_file, link_at, content, stat_of, file};
+ghost use Rattle.outside.specs.Writes.{write_refusal, remove_file_refusal, remove_dir_refusal, written, time_of};
 ghost use Rattle.outside.specs.Laid.{laid};
 ghost use Rattle.outside.specs.Lease.{in_tops, leased, kept};
 ghost use Rattle.path_text.specs.Order.{is_within};
@@ -16,11 +17,12 @@ ghost use Rattle.files_mem.specs.PrivateHeld.{copied};
 use crate::child_names;
 use crate::errors::PutError;
 use crate::nodes::{Body, Node};
-use outside::{Lent, Listing, Stat, Tops, WriteError};
+use outside::{Lent, LinkText, Listing, Stat, Tops, WriteError};
 use path_text::{OutOfMemory, Path, PathError};
 use std::alloc::{AllocError, AllocFailed, Global};
 use std::collections::BTreeMap;
 use std::marker::Model;
+use std::sync::Arc;
 
 /// Nodes by their paths, in path order.
 #[derive(Drop)]
@@ -214,6 +216,19 @@ impl Store {
         }
     }
 
+    /// The text of the link at the path; `None` of all else.
+    pub fn link(&self, path: &Path) -> Option<&LinkText>
+        ensures { option_copied result ≡ link_at (map.get self.now path.now) }
+    {
+        match self.node_at(path) {
+            None => None,
+            Some(node) => match &node.body {
+                Body::Link(text) => Some(text),
+                _ => None,
+            },
+        }
+    }
+
     /// Writes bytes over those of the file at the path from a place on, and past its end. A refusal changes nothing.
     pub fn write(&mut self, path: &Path, at: usize, bytes: &[u8]) -> Result<(), AllocError>
         requires file { is_file (map.get self.old path.now) ≡ true }
@@ -225,6 +240,17 @@ impl Store {
             return Ok(());
         };
         node.write(at, bytes)
+    }
+
+    /// Gives the file at the path other bytes. It takes no memory.
+    pub fn set_bytes(&mut self, path: &Path, bytes: Vec<u8>)
+        requires { is_file (map.get self.old path.now) ≡ true }
+        ensures { self.new ≡ map.insert self.old path.now (record { body = file bytes.items; mtime = time_of (map.get self.old path.now) }) }
+    {
+        let Some(node) = self.map.get_mut(path) else {
+            return;
+        };
+        node.set_bytes(bytes);
     }
 
     /// Removes what is at the path.
@@ -303,7 +329,7 @@ impl Store {
         let _ = top.text(); // tells that it is a path
         let mut entries = child_names::from(&self.map, top);
         while let Some((key, node)) = entries.next() {
-            if !is_within(key, top) {
+            if !key.is_within(top) {
                 return Ok(());
             }
             into.put(key.copy()?, node.clone()?)?;
@@ -317,6 +343,24 @@ impl Store {
     {
         child_names::list(&self.map, alloc, path)
     }
+}
+
+/// Divides the nodes, or a copy of them where readers hold those that are there.
+pub fn divide(
+    alloc: Global,
+    store: &mut Arc<Store>,
+    lent: &mut Lent,
+    tops: &[Path],
+) -> Result<(Store, Tops), OutOfMemory>
+    ensures part { IfOk result (λ part. part.0 ≡ leased tops.now (arc_value store.old)) }
+    ensures tops { IfOk result (λ part. part.1 ≡ tops.now) }
+    ensures valid { OnOk result ((i : ℕ) (x : List ℕ) → slice_get tops.now i ≡ Some x → refusal x ≡ None) }
+    ensures rest { OnOk result (arc_value store.new ≡ kept tops.now (arc_value store.old)) }
+    ensures lent { OnOk result (lent.new ≡ lent.old ++ tops.now ∷ []) }
+    ensures same { OnErr result (arc_value store.new ≡ arc_value store.old) }
+    ensures none { OnErr result (lent.new ≡ lent.old) }
+{
+    Arc::make_mut(store)?.divide(alloc, lent, tops)
 }
 
 // The text of the path over this one.
@@ -343,11 +387,4 @@ fn fill(bytes: &[u8], at: u64, into: &mut [u8]) -> usize
     let n = rest.len().min(into.len());
     into[..n].copy_from_slice(&rest[..n]);
     n
-}
-
-// Whether the path is the top, or under it.
-fn is_within(path: &Path, top: &Path) -> bool
-    ensures { result ≡ is_within path.now top.now }
-{
-    path == top || path.is_under(top)
 }

@@ -13,16 +13,16 @@ use Rattle.std.proofs.lemmas.List.Sums.{sum_by-append, sum_by-take-le}
 use Rattle.std.proofs.lemmas.Option.{slice_get-map, get_or_from_slice_get}
 use Rattle.std.proofs.Math.Seq.{take-append-add}
 use Rattle.flat_list.specs.declared.entries.Entry.{Entry}
-use Rattle.flat_list.specs.declared.heads.Head.{Head}
+use Rattle.flat_list.specs.Pack.{Head}
 use Rattle.flat_list.specs.declared.slims.Slim.{Slim}
 use Rattle.flat_list.specs.declared.slims.Odd.{Odd}
 use Rattle.flat_list.specs.Pack.{head_by, heads_from, rests_from, last_path, unpacked}
 use Rattle.flat_list.specs.Private.Kept.{IsKept, AreStarts, is_path}
-use Rattle.flat_list.specs.Private.Slim.{slim_by, odds_by, odd_count, heads_of, IsSlim}
+use Rattle.flat_list.specs.Private.Slim.{slim_by, odds_by, odd_count, text_by, text_len, is_text, heads_of, IsSlim}
 use Rattle.flat_list.proofs.Inverse.{slice_left, kept_many, all_rests, inverse}
 use Rattle.flat_list.proofs.Passed.{any_front, any_rests}
 use Rattle.flat_list.proofs.Paged.{rests_split, rests_shift, heads_shift}
-use Rattle.flat_list.proofs.Slimmed.{odds_many, heads_back}
+use Rattle.flat_list.proofs.Slimmed.{odds_many, texts_many, heads_back}
 
 slice_right : {X : Type 0} (xs ys : List X) (k : ℕ) → slice_get (xs ++ ys) (length xs + k) ≡ slice_get ys k
 slice_right [] ys k = let at : 0 + k ≡ k = omega arith in ap (slice_get ys) at
@@ -74,28 +74,55 @@ starts_small f gs more base b lt =
     omega (arith, lt, here, sum_by-take-le f gs (256 * k)))
 
 -- heads
-pub all_odds : {ss : List Slim} {os : List Odd} {starts : List ℕ} {hs : List Head} → IsSlim ss os starts hs → length os ≡ sum_by odd_count hs
+pub all_odds : {ss : List Slim} {os : List Odd} {starts ts begins : List ℕ} {hs : List Head} → IsSlim ss os starts ts begins hs →
+    length os ≡ sum_by odd_count hs
 all_odds {hs = hs} k = sym (ap length k.odds) ∙ odds_many hs
 
-pub slims_both : {ss ss' : List Slim} {os os' : List Odd} {starts starts' : List ℕ} {hs gs : List Head} (base : ℕ)
-    → IsSlim ss os starts hs → IsSlim ss' os' starts' gs → base ≡ length os → length hs % 256 ≡ 0 →
-    IsSlim (ss ++ ss') (os ++ os') (starts ++ map (λ s. base + s) starts') (hs ++ gs)
-slims_both {ss} {ss'} {os} {os'} {starts} {starts'} {hs} {gs} base k m is front = record {
+pub all_texts : {ss : List Slim} {os : List Odd} {starts ts begins : List ℕ} {hs : List Head} → IsSlim ss os starts ts begins hs →
+    length ts ≡ sum_by text_len hs
+all_texts {hs = hs} k = sym (ap length k.texts) ∙ texts_many hs
+
+-- what is kept of two lists of heads
+pub record Both (ss ss' ss'' : List Slim) (os os' os'' : List Odd) (starts starts' starts'' ts ts' ts'' begins begins' begins'' : List ℕ) (base from : ℕ) : Type 0 where
+  pub slims : ss'' ≡ ss ++ ss'
+  pub odds : os'' ≡ os ++ os'
+  pub odds_begin : starts'' ≡ starts ++ map (λ s. base + s) starts'
+  pub texts : ts'' ≡ ts ++ ts'
+  pub texts_begin : begins'' ≡ begins ++ map (λ s. from + s) begins'
+  pub odds_base : base ≡ length os
+  pub texts_base : from ≡ length ts
+
+slims_both : {ss ss' : List Slim} {os os' : List Odd} {starts starts' ts ts' begins begins' : List ℕ} {hs gs : List Head} (base from : ℕ)
+    → IsSlim ss os starts ts begins hs → IsSlim ss' os' starts' ts' begins' gs → base ≡ length os → from ≡ length ts → length hs % 256 ≡ 0 →
+    IsSlim (ss ++ ss') (os ++ os') (starts ++ map (λ s. base + s) starts') (ts ++ ts') (begins ++ map (λ s. from + s) begins') (hs ++ gs)
+slims_both {ss} {ss'} {os} {os'} {starts} {starts'} {ts} {ts'} {begins} {begins'} {hs} {gs} base from k m is at front = record {
   slims = map-append slim_by hs gs ∙ ap₂ ◌++◌ k.slims m.slims;
   odds = flat_map-append odds_by hs gs ∙ ap₂ ◌++◌ k.odds m.odds;
-  begins = starts_both odd_count hs gs starts starts' base k.begins m.begins (is ∙ all_odds k) front;
+  odds_begin = starts_both odd_count hs gs starts starts' base k.odds_begin m.odds_begin (is ∙ all_odds k) front;
+  texts = flat_map-append text_by hs gs ∙ ap₂ ◌++◌ k.texts m.texts;
+  texts_begin = starts_both text_len hs gs begins begins' from k.texts_begin m.texts_begin (at ∙ all_texts k) front;
+  valid = list_all-append (λ (h : Head). is_text h.target) hs gs ∙ ap₂ ◌&&◌ k.valid m.valid;
 }
 
-pub heads_both : {ss ss' : List Slim} {os os' : List Odd} {starts starts' : List ℕ} {hs gs : List Head}
-    → IsSlim ss os starts hs → IsSlim ss' os' starts' gs → heads_of (ss ++ ss') (os ++ os') ≡ hs ++ gs
-heads_both {ss} {ss'} {os} {os'} {starts} {starts'} {hs} {gs} k m =
-    ap₂ heads_of (sym (map-append slim_by hs gs ∙ ap₂ ◌++◌ k.slims m.slims)) (sym (flat_map-append odds_by hs gs ∙ ap₂ ◌++◌ k.odds m.odds))
-    ∙ heads_back (hs ++ gs)
+heads_same : {ss ss' : List Slim} {os os' : List Odd} {starts starts' ts ts' begins begins' : List ℕ} {hs gs : List Head} →
+    IsSlim ss os starts ts begins hs → IsSlim ss' os' starts' ts' begins' gs → heads_of (ss ++ ss') (os ++ os') (ts ++ ts') ≡ hs ++ gs
+heads_same {ss} {ss'} {os} {os'} {starts} {starts'} {ts} {ts'} {begins} {begins'} {hs} {gs} k m =
+    (λ i. heads_of (sym (map-append slim_by hs gs ∙ ap₂ ◌++◌ k.slims m.slims) i) (sym (flat_map-append odds_by hs gs ∙ ap₂ ◌++◌ k.odds m.odds) i)
+    (sym (flat_map-append text_by hs gs ∙ ap₂ ◌++◌ k.texts m.texts) i))
+    ∙ heads_back (hs ++ gs) (list_all-append (λ (h : Head). is_text h.target) hs gs ∙ ap₂ ◌&&◌ k.valid m.valid)
 
-pub slims_put : {ss ss' ss'' : List Slim} {os os' os'' : List Odd} {starts starts' starts'' : List ℕ} (base : ℕ)
-    → IsSlim ss os starts (heads_of ss os) → IsSlim ss' os' starts' (heads_of ss' os') → base ≡ length os → length (heads_of ss os) % 256 ≡ 0
-    → ss'' ≡ ss ++ ss' → os'' ≡ os ++ os' → starts'' ≡ starts ++ map (λ s. base + s) starts' → IsSlim ss'' os'' starts'' (heads_of ss'' os'')
-slims_put base k m is front a b c = rw a (rw b (rw c (rw (heads_both k m) (slims_both base k m is front))))
+pub heads_both : {ss ss' ss'' : List Slim} {os os' os'' : List Odd} {starts starts' starts'' ts ts' ts'' begins begins' begins'' : List ℕ} {base from : ℕ}
+    → IsSlim ss os starts ts begins (heads_of ss os ts) → IsSlim ss' os' starts' ts' begins' (heads_of ss' os' ts')
+    → Both ss ss' ss'' os os' os'' starts starts' starts'' ts ts' ts'' begins begins' begins'' base from
+    → heads_of ss'' os'' ts'' ≡ heads_of ss os ts ++ heads_of ss' os' ts'
+heads_both k m b = (λ i. heads_of (b.slims i) (b.odds i) (b.texts i)) ∙ heads_same k m
+
+pub slims_put : {ss ss' ss'' : List Slim} {os os' os'' : List Odd} {starts starts' starts'' ts ts' ts'' begins begins' begins'' : List ℕ} {base from : ℕ}
+    → IsSlim ss os starts ts begins (heads_of ss os ts) → IsSlim ss' os' starts' ts' begins' (heads_of ss' os' ts')
+    → Both ss ss' ss'' os os' os'' starts starts' starts'' ts ts' ts'' begins begins' begins'' base from → length (heads_of ss os ts) % 256 ≡ 0
+    → IsSlim ss'' os'' starts'' ts'' begins'' (heads_of ss'' os'' ts'')
+slims_put {base = base} {from = from} k m b front =
+    rw b.slims (rw b.odds (rw b.odds_begin (rw b.texts (rw b.texts_begin (rw (heads_same k m) (slims_both base from k m b.odds_base b.texts_base front))))))
 
 -- entries
 heads_split : (place : ℕ) (before : List ℕ) (xs ys : List Entry)

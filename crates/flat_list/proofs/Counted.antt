@@ -7,7 +7,7 @@ use Rattle.std.proofs.lemmas.List.Sums.{sum_by-append}
 use Rattle.std.proofs.lemmas.Option.{get_or_from_slice_get, slice_get_within}
 use Rattle.outside.specs.declared.trees.Kind.TheVariants as kind
 use Rattle.flat_list.specs.declared.entries.Entry.{Entry}
-use Rattle.flat_list.specs.declared.heads.Head.{Head}
+use Rattle.flat_list.specs.Pack.{Head}
 use Rattle.flat_list.specs.declared.summaries.Summary.{Summary}
 use Rattle.flat_list.specs.Entries.{is_of, bytes_by, mark_notes, note_count, summary_of}
 use Rattle.flat_list.specs.Pack.{entry_by, path_by, path_len, unpacked}

@@ -1,58 +1,71 @@
 -- The steps of writing a list file.
-use Rattle.std.proofs.Common.{◌≡◌, ℕ, ◌+◌, ◌<◌, ◌≤◌, ◌^◌, List, [], ◌∷◌, ◌++◌, length, take, ap, sym, ◌∙◌, subst, append_assoc, append-nil, arith}
-use Rattle.std.specs.Prelude.{codes}
+use Rattle.std.proofs.Common.{◌≡◌, ℕ, ◌+◌, ◌<◌, ◌≤◌, ◌^◌, List, [], ◌∷◌, ◌++◌, length, take, ap, sym, ◌∙◌, subst, refl, append_assoc, append-nil, arith}
+use Rattle.std.specs.Prelude.{codes, Bool, true, false, ◌&&◌, ◌||◌, is_none}
 use Rattle.std.specs.Fmt.{decimal}
 use Rattle.std.specs.List.{AllByRecursion, flat_map}
 use Rattle.std.proofs.lemmas.Fmt.{decimal_digit}
 use Rattle.std.specs.List.Sorted.{IsStrictlySortedBy}
-use Rattle.std.proofs.lemmas.List.{take_all, map-append}
+use Rattle.std.proofs.lemmas.List.{take_all}
+use Rattle.std.proofs.lemmas.Grind.{flat_map-append}
 use Rattle.path_text.specs.Order.{path_cmp}
 use Rattle.flat_list.specs.declared.entries.Entry.{Entry}
 use Rattle.flat_list.specs.declared.entries.Mark.{Mark}
 use Rattle.flat_list.specs.declared.entries.Mark.TheVariants as marks
-use Rattle.flat_list.specs.Spelling.{mark_word, text_of, line, header_text, end_text, entry_lines, IsEntry, paths, Spells}
-use Rattle.flat_list.proofs.Ascending.{all_more}
+use Rattle.flat_list.specs.Spelling.{mark_word, header_text, lines_by, entry_lines, IsEntry, IsKnown, paths, SpellsAs}
+use Rattle.whole_lines.specs.Lines.{line, end_text}
+use Rattle.flat_list.specs.declared.versions.Version.TheVariants.{Two}
+use Rattle.flat_list.proofs.Damage.{lines_more}
+use Rattle.whole_lines.proofs.Lines.{all_more, flat_end}
 use Rattle.flat_list.proofs.Dealt.{Turn, taken}
-use Rattle.flat_list.proofs.Files.{flat_end}
 
 -- what is written of so many entries: the header and their lines
 pub record Written (text : List ℕ) (es : List Entry) (i : ℕ) : Type 0 where
-  pub lines : text ≡ line header_text ++ flat_map (λ l. l) (entry_lines (take i es))
+  pub lines : text ≡ line (header_text Two) ++ flat_map (λ l. l) (entry_lines (take i es))
   pub each : AllByRecursion IsEntry (take i es)
 
-pub header_written : {text : List ℕ} {es : List Entry} → text ≡ line header_text → Written text es 0
-header_written {text} {es} is = record { lines = is ∙ sym (append-nil (line header_text)); each = tt }
+pub header_written : {text : List ℕ} {es : List Entry} → text ≡ line (header_text Two) → Written text es 0
+header_written {text} {es} is = record { lines = is ∙ sym (append-nil (line (header_text Two))); each = tt }
 
 -- the lines of one entry more
-lines_more : (es : List Entry) (e : Entry) →
-    flat_map (λ l. l) (entry_lines (es ++ e ∷ [])) ≡ flat_map (λ l. l) (entry_lines es) ++ line (text_of e)
-lines_more es e = ap (flat_map (λ l. l)) (map-append (λ e. line (text_of e)) es (e ∷ [])) ∙ flat_end (entry_lines es) (line (text_of e))
+text_more : (es : List Entry) (e : Entry) →
+    flat_map (λ l. l) (entry_lines (es ++ e ∷ [])) ≡ flat_map (λ l. l) (entry_lines es) ++ flat_map (λ l. l) (lines_by e)
+text_more es e = ap (flat_map (λ l. l)) (lines_more es e) ∙ flat_map-append (λ l. l) (entry_lines es) (lines_by e)
 
 pub one_written : {before after : List ℕ} {es : List Entry} {i : ℕ} {e : Entry} → Turn es i e → Written before es i →
-    after ≡ before ++ line (text_of e) → IsEntry e → Written after es (i + 1)
+    after ≡ before ++ flat_map (λ l. l) (lines_by e) → IsEntry e → Written after es (i + 1)
 one_written {before} {after} {es} {i} {e} t w one is =
     let more = taken es i e t in
-    let joined = λ (l : List Entry). line header_text ++ flat_map (λ l. l) (entry_lines l) in
+    let joined = λ (l : List Entry). line (header_text Two) ++ flat_map (λ l. l) (entry_lines l) in
     record {
       lines = one
-          ∙ ap (λ b. b ++ line (text_of e)) w.lines
-          ∙ append_assoc (line header_text) (flat_map (λ l. l) (entry_lines (take i es))) (line (text_of e))
-          ∙ ap (λ t. line header_text ++ t) (sym (lines_more (take i es) e))
+          ∙ ap (λ b. b ++ flat_map (λ l. l) (lines_by e)) w.lines
+          ∙ append_assoc (line (header_text Two)) (flat_map (λ l. l) (entry_lines (take i es))) (flat_map (λ l. l) (lines_by e))
+          ∙ ap (λ t. line (header_text Two) ++ t) (sym (text_more (take i es) e))
           ∙ ap joined (sym more);
       each = subst (AllByRecursion IsEntry) (sym more) (all_more IsEntry (take i es) e w.each is);
     }
 
+-- version 2 tells every entry
+or_true : (b : Bool) → (b || true) ≡ true
+or_true true = refl
+or_true false = refl
+
+all_known : (es : List Entry) → AllByRecursion (IsKnown Two) es
+all_known [] = tt
+all_known (e ∷ es) = (ap (λ b. b && true) (or_true (is_none e.target)), all_known es)
+
 -- the whole text
 pub spells : {before bytes : List ℕ} {es : List Entry} {i : ℕ} → Written before es i → length es ≤ i → length es < 2 ^ 64 →
-    bytes ≡ before ++ line (end_text (length es)) → IsStrictlySortedBy path_cmp (paths es) → Spells bytes es
+    bytes ≡ before ++ line (end_text (length es)) → IsStrictlySortedBy path_cmp (paths es) → SpellsAs Two bytes es
 spells {before} {bytes} {es} {i} w le few end ascend =
     let all : take i es ≡ es = take_all i es le in
     record {
       list = record { count = few; each = subst (AllByRecursion IsEntry) all w.each; ascend = ascend };
+      known = all_known es;
       text = end
-          ∙ ap (λ b. b ++ line (end_text (length es))) (w.lines ∙ ap (λ l. line header_text ++ flat_map (λ l. l) (entry_lines l)) all)
-          ∙ append_assoc (line header_text) (flat_map (λ l. l) (entry_lines es)) (line (end_text (length es)))
-          ∙ ap (λ t. line header_text ++ t) (sym (flat_end (entry_lines es) (line (end_text (length es)))));
+          ∙ ap (λ b. b ++ line (end_text (length es))) (w.lines ∙ ap (λ l. line (header_text Two) ++ flat_map (λ l. l) (entry_lines l)) all)
+          ∙ append_assoc (line (header_text Two)) (flat_map (λ l. l) (entry_lines es)) (line (end_text (length es)))
+          ∙ ap (λ t. line (header_text Two) ++ t) (sym (flat_end (entry_lines es) (line (end_text (length es)))));
     }
 
 -- the words of an entry, one after the other

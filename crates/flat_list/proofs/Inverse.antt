@@ -10,7 +10,7 @@ use Rattle.std.proofs.lemmas.List.Sums.{common_prefix_len-le, common_prefix_len-
 use Rattle.std.proofs.lemmas.Bool.Decides.{nat_tests}
 use Rattle.path_text.specs.Path.{refusal}
 use Rattle.flat_list.specs.declared.entries.Entry.{Entry}
-use Rattle.flat_list.specs.declared.heads.Head.{Head}
+use Rattle.flat_list.specs.Pack.{Head}
 use Rattle.flat_list.specs.Pack.{head_from, shared_by, rest_by, head_by, heads_from, rests_from, entry_by, unpacked, last_path, starts_by, path_len}
 use Rattle.flat_list.specs.Private.Kept.{IsKept, AreStarts, is_path, rest_sum}
 use Rattle.std.specs.Prelude.{Some, None, slice_get, OnOk, OnErr, ◌*◌, ◌<◌}
@@ -66,10 +66,6 @@ shared_short place before path =
       | true ↦ omega arith
       | false ↦ (common_prefix_len-le nat_eq before path).1
     ]
-
-pub short : (p : List ℕ) → refusal p ≡ None → length p ≤ 4095
-short [] h = omega arith
-short (b ∷ bytes) h = grind (arith, nat_tests)
 
 -- one place further, and the place that ends it
 pub prefix_yes : (a b : List ℕ) (i : ℕ) → i < length a → i < length b → get_or a i 0 ≡ get_or b i 0

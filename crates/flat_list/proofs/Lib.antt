@@ -1,12 +1,10 @@
 pub mod Dealt
 pub mod Ordered
-pub mod Words
-pub mod Numbers
-pub mod Digits
+pub mod Times
+pub mod Targets
 pub mod Near
-pub mod Escapes
+pub mod Pieces
 pub mod Lines
-pub mod WholeLines
 pub mod Files
 pub mod Ascending
 pub mod Damage

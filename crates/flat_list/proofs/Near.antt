@@ -16,10 +16,11 @@ use Rattle.memchr.specs.Find.{IsLastByte, is_byte}
 use Rattle.path_text.specs.Path.{is_slash, name_fault, refusal, first_fault, joined}
 use Rattle.path_text.specs.Order.{path_cmp}
 use Rattle.path_text.specs.Escape.{ReadingUndoesWriting, escape, is_escaped, hex_digit, reading}
-use Rattle.path_text.proofs.Joined.{refusal_joined, split_name}
+use Rattle.path_text.proofs.Joined.{one_name, refusal_joined, split_name}
 use Rattle.path_text.proofs.Parts.{before_made}
 use Rattle.path_text.proofs.Words.{behind, rest_of}
-use Rattle.flat_list.specs.Private.Reading.{is_plain, IsFront, IsPlainName, IsNear, path_from, path_behind, if_behind, ok_of, ◌>>=◌}
+use Rattle.flat_list.specs.Private.Reading.{is_plain, IsFront, IsPlainName, IsNear, path_behind, if_behind}
+use Rattle.whole_lines.specs.Words.{path_from, ok_of, ◌>>=◌}
 use Rattle.flat_list.proofs.Inverse.{prefix_same}
 
 -- ---- bytes that stand for themselves
@@ -161,9 +162,6 @@ some_name name (inr h) = let some = h.0 in grind (arith, nat_tests, some)
 
 plain_name : (name : List ℕ) → IsPlainName name → list_all is_plain name ≡ true → name_fault name ≡ None
 plain_name name is plain = rw (some_name name is, not_dots name is, no_nul name plain) refl
-
-one_name : (name : List ℕ) → name_fault name ≡ None → first_fault (name ∷ []) ≡ None
-one_name name e = rw e
 
 -- ---- all of it
 

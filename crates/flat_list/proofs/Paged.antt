@@ -10,7 +10,7 @@ use Rattle.std.proofs.lemmas.Option.{slice_get_past, unwrap_or-slice_get, get_or
 use Rattle.std.specs.Option.{unwrap_or}
 use Rattle.std.proofs.Math.Seq.{take-append_seam, drop-append_seam}
 use Rattle.flat_list.specs.declared.entries.Entry.{Entry}
-use Rattle.flat_list.specs.declared.heads.Head.{Head}
+use Rattle.flat_list.specs.Pack.{Head}
 use Rattle.flat_list.specs.Pack.{rest_by, head_by, head_from, heads_from, rests_from, last_path, page_of, unpacked}
 use Rattle.flat_list.specs.Private.Kept.{IsKept, IsBefore, AreStarts, rest_sum}
 use Rattle.flat_list.proofs.Inverse.{kept_many, rests_many, all_rests}

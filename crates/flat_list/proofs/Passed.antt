@@ -1,6 +1,6 @@
 -- A cursor passes an entry.
 use Rattle.std.proofs.Common.{◌≡◌, ℕ, ◌+◌, ◌-◌, ◌<◌, ◌≤◌, true, false, List, [], ◌∷◌, ◌++◌, length, take, drop, get_or, refl, subst, ap, ap₂, sym, ◌∙◌, arith}
-use Rattle.std.specs.Prelude.{Some, None, slice_get, ◌&&◌, is_none}
+use Rattle.std.specs.Prelude.{Option, Some, None, slice_get, ◌&&◌, is_none}
 use Rattle.std.specs.Str.{is_utf8}
 use Rattle.std.specs.List.{list_all}
 use Rattle.std.specs.Ordering.{is_lt}
@@ -12,7 +12,9 @@ use Rattle.path_text.specs.Path.{refusal}
 use Rattle.path_text.specs.Order.{path_cmp}
 use Rattle.path_text.proofs.Words.{behind, rest_of}
 use Rattle.flat_list.specs.declared.entries.Entry.{Entry}
-use Rattle.flat_list.specs.declared.heads.Head.{Head}
+use Rattle.flat_list.specs.Pack.{Head}
+use Rattle.flat_list.specs.declared.heads.Head as told
+use Rattle.flat_list.specs.Private.Slim.{with_text}
 use Rattle.flat_list.specs.Pack.{rest_by, head_by, heads_from, rests_from, path_by, entry_by, unpacked}
 use Rattle.flat_list.specs.Private.Kept.{IsKept, IsAt, IsBefore, RisesAt, is_path}
 use Rattle.flat_list.proofs.Inverse.{path_back, kept_many, shared_front}
@@ -147,6 +149,10 @@ pub made_next : {hs : List Head} {bytes : List ℕ} {passed at : ℕ} {held : Li
 made_next {hs} {bytes} {passed} {at} {held} {entries} h n e is k sg made =
     subst (λ (p : List ℕ). IsAt hs bytes (passed + 1) (at + h.rest) p entries)
     (ap (λ (n : ℕ). take h.shared held ++ take n (drop at bytes)) (sym is) ∙ ap (λ (e : Entry). e.path) (sym made)) (step h k sg).next
+
+-- an entry made by a head and its target
+pub targeted : (h : told.Head) {t u : Option (List ℕ)} {p : List ℕ} {e : Entry} → t ≡ u → e ≡ entry_by (with_text h t) p → e ≡ entry_by (with_text h u) p
+targeted h {t} {u} {p} {e} same made = made ∙ ap (λ (t : Option (List ℕ)). entry_by (with_text h t) p) same
 
 pub made_here : {hs : List Head} {bytes : List ℕ} {passed at : ℕ} {held : List ℕ} {entries : List Entry} (h : Head) (n : ℕ) (e : Entry) → n ≡ h.rest →
     IsAt hs bytes passed at held entries → slice_get hs passed ≡ Some h → e ≡ entry_by h (take h.shared held ++ take n (drop at bytes)) →

@@ -13,7 +13,7 @@ use Rattle.std.proofs.Math.Seq.{drop-append_seam, take-append_seam}
 use Rattle.std.proofs.lemmas.Bool.Decides.{nat_tests}
 use Rattle.flat_list.specs.declared.entries.Entry.{Entry}
 use Rattle.flat_list.specs.declared.entries.Mark.TheVariants.{Fine}
-use Rattle.flat_list.specs.declared.heads.Head.{Head}
+use Rattle.flat_list.specs.Pack.{Head}
 use Rattle.flat_list.specs.Pack.{shared_by, rest_by, head_by, heads_from, rests_from, last_path, same_after}
 use Rattle.flat_list.specs.Orders.{place_of}
 use Rattle.flat_list.specs.Private.Kept.{IsSeek, IsKept}
@@ -130,7 +130,7 @@ no_place entries p e =
     ap (λ (n : ℕ). cond (nat_lt n (length entries)) (Some n) None) e ∙ ap (λ (t : Bool). cond t (Some (length entries)) None) no
 
 blank : Entry
-blank = record { path = []; stat = None; mark = Fine; unnamed = 0; far = 0 }
+blank = record { path = []; stat = None; mark = Fine; unnamed = 0; far = 0; target = None }
 
 abbrev is_wanted : List ℕ → Entry → Bool
 is_wanted wanted e = pointwise nat_eq e.path wanted

@@ -29,17 +29,28 @@ size_by (Some stat) = stat.size
 abbrev pub is_sized : Option Stat → Bool
 is_sized stat = is_of kind.File stat || size_by stat == 0
 
--- the shape of an entry, by its mark: where the stat failed or nothing was there it has none; a directory whose names failed or that
--- changed tells no number; and only a directory tells one
+-- the shape of an entry, by its mark: where the stat failed or nothing was there it has none; a directory whose names failed, and
+-- a directory or a link that changed, tells no number; and only a directory tells one
 abbrev pub shape_by : Mark → Option Stat → Bool → Bool
 shape_by mark.StatFailed stat none = is_none stat && none
 shape_by mark.Gone stat none = is_none stat && none
 shape_by mark.ListFailed stat none = is_of kind.Dir stat && none
-shape_by mark.Changed stat none = is_of kind.Dir stat && none
+shape_by mark.Changed stat none = (is_of kind.Dir stat || is_of kind.Link stat) && none
 shape_by mark.Fine stat none = is_some stat && (is_of kind.Dir stat || none)
 
+-- a target may be told: of a link whose answers were as they are
+abbrev pub is_fine : Mark → Bool
+is_fine mark.Fine = true
+is_fine mark.StatFailed = false
+is_fine mark.ListFailed = false
+is_fine mark.Gone = false
+is_fine mark.Changed = false
+
+abbrev pub has_target : Mark → Option Stat → Bool
+has_target m stat = is_of kind.Link stat && is_fine m
+
 abbrev pub is_shaped : Entry → Bool
-is_shaped e = is_sized e.stat && shape_by e.mark e.stat (e.unnamed == 0 && e.far == 0)
+is_shaped e = (is_none e.target || has_target e.mark e.stat) && (is_sized e.stat && shape_by e.mark e.stat (e.unnamed == 0 && e.far == 0))
 
 -- how many notes an entry has: one for a mark that is not fine, one for unnamed names, one for children whose path is too long
 abbrev pub mark_notes : Mark → ℕ

@@ -1,9 +1,20 @@
 -- Entries packed: each path as the number of bytes that it shares with the one before, and its rest. This is the incremental encoding of
 -- sorted lists (front coding), as in the databases that updatedb makes for locate. Pages, at whose front a path stands whole, are our own.
-use Rattle.std.specs.Prelude.{ℕ, ◌+◌, ◌*◌, ◌%◌, List, [], ◌∷◌, ◌++◌, length, take, drop, if◌then◌else◌, ◌==◌, nat_eq, nat_lt}
+use Rattle.std.specs.Prelude.{ℕ, ◌+◌, ◌*◌, ◌%◌, List, [], ◌∷◌, ◌++◌, length, take, drop, if◌then◌else◌, ◌==◌, nat_eq, nat_lt, Option}
 use Rattle.std.specs.List.{common_prefix_len}
 use Rattle.flat_list.specs.declared.entries.Entry.{Entry}
-use Rattle.flat_list.specs.declared.heads.Head.{Head}
+use Rattle.flat_list.specs.declared.entries.Mark.{Mark}
+use Rattle.outside.specs.declared.trees.Stat.{Stat}
+
+-- what is kept of an entry beside the bytes of its path
+pub record Head : Type 0 where
+  pub stat : Option Stat
+  pub unnamed : ℕ
+  pub far : ℕ
+  pub shared : ℕ
+  pub rest : ℕ
+  pub mark : Mark
+  pub target : Option (List ℕ)
 
 -- how many bytes a path shares with the one before: at the front of a page none
 abbrev pub shared_by : ℕ → List ℕ → List ℕ → ℕ
@@ -20,6 +31,7 @@ head_from e shared = record {
   shared = shared;
   rest = length (drop shared e.path);
   mark = e.mark;
+  target = e.target;
 }
 
 abbrev pub head_by : ℕ → List ℕ → Entry → Head
@@ -47,7 +59,7 @@ abbrev pub path_by : List ℕ → Head → List ℕ → List ℕ
 path_by before h bytes = take h.shared before ++ take h.rest bytes
 
 abbrev pub entry_by : Head → List ℕ → Entry
-entry_by h path = record { path = path; stat = h.stat; mark = h.mark; unnamed = h.unnamed; far = h.far }
+entry_by h path = record { path = path; stat = h.stat; mark = h.mark; unnamed = h.unnamed; far = h.far; target = h.target }
 
 -- how many bytes the path of a head has
 abbrev pub path_len : Head → ℕ

@@ -1,17 +1,21 @@
 //! A list file written.
 ghost use Rattle.std.specs.Prelude.{◌≡◌, ◌+◌, ◌<◌, ◌++◌, ◌∷◌, [], true, map, All, IfOk, OnOk, IfSome, Some, ◌^◌};
+ghost use Rattle.std.specs.List.{flat_map};
 ghost use Rattle.std.specs.List.Sorted.{IsStrictlySortedBy};
 ghost use Rattle.std.specs.Fmt.{decimal};
 ghost use Rattle.path_text.specs.Order.{path_cmp};
 ghost use Rattle.flat_list.specs.Entries.{is_shaped, size_by};
 ghost use Rattle.flat_list.specs.Orders.{time_of};
-ghost use Rattle.flat_list.specs.Spelling.{kind_by, kind_word, time_word, mark_word, text_of, line, header_text, end_text, IsEntry, paths, Spells};
+ghost use Rattle.flat_list.specs.Private.Reading.{IsWritten};
+ghost use Rattle.flat_list.specs.Spelling.{kind_by, kind_word, time_word, mark_word, text_of, lines_by, target_lines, target_text, header_text, IsEntry, IsTarget, paths, SpellsAs};
+ghost use Rattle.whole_lines.specs.Lines.{line, end_text};
 
 use crate::entries::{Entry, Mark};
 use crate::lists::FlatList;
+use crate::versions::Version;
 use itoa::Buffer;
-use outside::{Kind, Stat};
-use path_text::{OutOfMemory, put_escaped};
+use outside::{Kind, LinkText, Stat};
+use path_text::{OutOfMemory, put_escaped, put_escaped_bytes};
 
 // What a line has beside its path, where it tells a size of six digits and a time, and no number of names.
 const LINE_LEN: usize = 28;
@@ -20,10 +24,10 @@ const LINE_LEN: usize = 28;
 pub(crate) fn encode(list: &FlatList) -> Result<Vec<u8>, OutOfMemory>
     requires ascend { IsStrictlySortedBy path_cmp (paths list.now) }
     requires shaped { All (λ e. is_shaped e ≡ true) list.now }
-    ensures { IfOk result (λ bytes. Spells bytes.items list.now) }
+    ensures { IfOk result (λ bytes. SpellsAs Version.Two bytes.items list.now) }
 {
     let mut text = Vec::with_capacity(list.alloc(), expected_len(list))?;
-    text.extend_from_slice(b"mfu list 1\n")?;
+    text.extend_from_slice(b"mfu list 2\n")?;
     let mut cursor = list.cursor()?;
     while cursor.advance()? {
         put_entry(&mut text, cursor.entry())?;
@@ -50,8 +54,17 @@ fn put_end(text: &mut Vec<u8>, count: usize) -> Result<(), OutOfMemory>
 
 fn put_entry(text: &mut Vec<u8>, entry: &Entry) -> Result<(), OutOfMemory>
     requires { is_shaped entry.now ≡ true }
-    ensures text { OnOk result (text.new.items ≡ text.old.items ++ line (text_of entry.now)) }
+    ensures text { OnOk result (text.new.items ≡ text.old.items ++ flat_map (λ l. l) (lines_by entry.now)) }
     ensures entry { OnOk result (IsEntry entry.now) }
+{
+    put_line(text, entry)?;
+    put_target(text, &entry.target)
+}
+
+// The line of an entry alone.
+fn put_line(text: &mut Vec<u8>, entry: &Entry) -> Result<(), OutOfMemory>
+    ensures text { OnOk result (text.new.items ≡ text.old.items ++ line (text_of entry.now)) }
+    ensures told { OnOk result (IsWritten entry.now) }
 {
     put_stat(text, entry.stat)?;
     put_notes(text, entry.mark, entry.unnamed, entry.far)?;
@@ -59,6 +72,27 @@ fn put_entry(text: &mut Vec<u8>, entry: &Entry) -> Result<(), OutOfMemory>
     text.push(b'\n')?;
     // That a path is UTF-8 is told by its text alone.
     let _text = entry.path.text();
+    Ok(())
+}
+
+// The line of a target, where there is one.
+fn put_target(text: &mut Vec<u8>, target: &Option<LinkText>) -> Result<(), OutOfMemory>
+    ensures text { OnOk result (text.new.items ≡ text.old.items ++ flat_map (λ l. l) (target_lines target.now)) }
+    ensures target { OnOk result (IfSome target.now IsTarget) }
+{
+    match target {
+        None => Ok(()),
+        Some(target) => put_target_line(text, target),
+    }
+}
+
+fn put_target_line(text: &mut Vec<u8>, target: &LinkText) -> Result<(), OutOfMemory>
+    ensures text { OnOk result (text.new.items ≡ text.old.items ++ line (target_text target.now)) }
+    ensures target { OnOk result (IsTarget target.now) }
+{
+    text.extend_from_slice(b"> ")?;
+    put_escaped_bytes(text, target.text().as_bytes())?;
+    text.push(b'\n')?;
     Ok(())
 }
 

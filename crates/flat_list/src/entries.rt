@@ -1,7 +1,7 @@
 //! What a walk tells of a path.
 ghost use Rattle.std.specs.Prelude.{◌≡◌, IfOk, OnOk, OnErr};
 
-use outside::{Kind, Stat};
+use outside::{Kind, LinkText, Stat};
 use path_text::{OutOfMemory, Path, compare};
 use std::cmp::Ordering;
 
@@ -10,13 +10,13 @@ use std::cmp::Ordering;
 pub enum Mark {
     /// As they are.
     Fine,
-    /// Its stat failed.
+    /// Its stat failed, or the reading of a link's text.
     StatFailed,
     /// It is a directory, and its names failed.
     ListFailed,
     /// Nothing is there.
     Gone,
-    /// It was told to be a directory, and then to be none.
+    /// It was told to be a directory or a link, and then not to be.
     Changed,
 }
 
@@ -33,19 +33,34 @@ pub struct Entry {
     pub unnamed: u64,
     /// How many of its children have a path that would be too long.
     pub far: u64,
+    /// Where a link leads, where its text was told. An entry read from a list file of version 1 has none.
+    pub target: Option<LinkText>,
 }
 
-// The same entry again.
-pub(crate) fn copy_of(entry: &Entry) -> Result<Entry, OutOfMemory>
-    ensures { IfOk result (λ copy. copy ≡ entry.now) }
+impl Entry {
+    /// The same entry again.
+    pub fn copy(&self) -> Result<Entry, OutOfMemory>
+        ensures { IfOk result (λ copy. copy ≡ self.now) }
+    {
+        Ok(Entry {
+            path: self.path.copy()?,
+            stat: self.stat,
+            mark: self.mark,
+            unnamed: self.unnamed,
+            far: self.far,
+            target: copy_target(&self.target)?,
+        })
+    }
+}
+
+// The same target again.
+fn copy_target(target: &Option<LinkText>) -> Result<Option<LinkText>, OutOfMemory>
+    ensures { IfOk result (λ copy. copy ≡ target.now) }
 {
-    Ok(Entry {
-        path: entry.path.copy()?,
-        stat: entry.stat,
-        mark: entry.mark,
-        unnamed: entry.unnamed,
-        far: entry.far,
-    })
+    match target {
+        None => Ok(None),
+        Some(text) => Ok(Some(text.copy()?)),
+    }
 }
 
 // An entry becomes another, in its own memory where that is enough. A refusal leaves it.
@@ -53,11 +68,13 @@ pub(crate) fn write_over(slot: &mut Entry, entry: &Entry) -> Result<(), OutOfMem
     ensures ok { OnOk result (slot.new ≡ entry.now) }
     ensures err { OnErr result (slot.new ≡ slot.old) }
 {
+    let target = copy_target(&entry.target)?;
     slot.path.rewrite(0, entry.path.text().as_bytes())?;
     slot.stat = entry.stat;
     slot.mark = entry.mark;
     slot.unnamed = entry.unnamed;
     slot.far = entry.far;
+    slot.target = target;
     Ok(())
 }
 

@@ -5,14 +5,12 @@
 ghost use Rattle.std.specs.Prelude.{◌≡◌, true, IfOk, IfSome};
 ghost use Rattle.std.specs.List.{list_all};
 ghost use Rattle.std.specs.Str.{IsUtf8};
-ghost use Rattle.path_text.specs.Escape.{reading};
-ghost use Rattle.flat_list.specs.Private.Reading.{ok_of, path_from, path_behind, is_plain, IsFront, IsNear, IsPlainName};
+ghost use Rattle.flat_list.specs.Private.Reading.{path_behind, is_plain, IsFront, IsNear, IsPlainName};
 
 use memchr::memrchr;
-use path_text::{
-    EscapeError, MAX_PATH, OutOfMemory, Path, common_len, compare, reading_undoes_writing, unescape,
-};
+use path_text::{MAX_PATH, OutOfMemory, Path, common_len, compare, reading_undoes_writing};
 use std::alloc::Global;
+use whole_lines::path_from;
 
 /// The path that a word tells, if there is one and it comes behind another, whose memory it takes.
 #[tactic(auto, unfolding(crate::specs::Private::Reading::path_behind))]
@@ -103,32 +101,4 @@ fn is_front(path: &[u8], names: &[u8]) -> bool
         return false;
     }
     path.len() == len || path[len] == b'/'
-}
-
-/// The path that a word tells, if there is one.
-#[tactic(auto, using(crate::proofs::Numbers::path_texts))]
-pub(crate) fn path_from(alloc: Global, word: &[u8]) -> Result<Option<Path>, OutOfMemory>
-    ensures read { IfOk result (λ path. path ≡ path_from word.now) }
-    ensures utf8 { IfOk result (λ path. IfSome path (λ p. IsUtf8 p)) }
-{
-    match str::from_utf8(word) {
-        Ok(text) => path_of(alloc, text),
-        Err(_) => Ok(None),
-    }
-}
-
-fn path_of(alloc: Global, text: &str) -> Result<Option<Path>, OutOfMemory>
-    ensures read { IfOk result (λ path. path ≡ ok_of (reading text.now)) }
-    ensures utf8 { IfOk result (λ path. IfSome path (λ p. IsUtf8 p)) }
-{
-    match unescape(alloc, text) {
-        Ok(path) => {
-            // That a path is UTF-8 is told by its text alone.
-            let _text = path.text();
-            Ok(Some(path))
-        }
-        Err(EscapeError::OutOfMemory) => Err(OutOfMemory),
-        Err(EscapeError::BadEscape(_)) => Ok(None),
-        Err(EscapeError::Path(_)) => Ok(None),
-    }
 }

@@ -1,16 +1,20 @@
 //! What a list keeps of its entries beside the bytes of their paths.
-ghost use Rattle.std.specs.Prelude.{◌≡◌, ◌+◌, ◌*◌, ◌%◌, ◌^◌, ◌<◌, ◌≤◌, ◌++◌, ◌∷◌, [], true, false, Some, length, slice_get, if◌then◌else◌, OnOk, OnErr, IfOk};
+ghost use Rattle.std.specs.Prelude.{◌≡◌, ◌+◌, ◌*◌, ◌%◌, ◌^◌, ◌<◌, ◌≤◌, ◌++◌, ◌∷◌, [], true, false, Some, None, length, drop, slice_get, if◌then◌else◌, OnOk, OnErr, IfOk, IfSome};
+ghost use Rattle.std.specs.Option.{option_map};
+ghost use Rattle.outside.specs.Links.{link_refusal};
+ghost use Rattle.flat_list.specs.Private.Slim.{with_text, target_by, target_bytes, is_text};
 
 use crate::appending::{extend_reserved, put_shifted};
 use crate::entries::Mark;
+use crate::packing::put_start;
 use crate::slims::{Odd, Slim, odd_at, put_slim};
-use outside::Stat;
+use outside::{LinkText, Stat};
 use path_text::OutOfMemory;
 use std::alloc::Global;
 use std::marker::Model;
 
-/// What is kept of an entry beside the bytes of its path: how many of these it shares with the path before, and how many are
-/// its own.
+/// What is kept of an entry beside the bytes of its path and of its target: how many of the path it shares with the path
+/// before, and how many are its own.
 #[derive(Clone, Copy, Debug, Drop)]
 pub(crate) struct Head {
     pub stat: Option<Stat>,
@@ -21,25 +25,29 @@ pub(crate) struct Head {
     pub mark: Mark,
 }
 
-/// Heads, each in 24 bytes, seen as their list.
+/// Heads, each in 24 bytes, with their targets, seen as their list.
 #[derive(Debug, Drop)]
 pub(crate) struct Heads {
     slims: Vec<Slim>,
     odds: Vec<Odd>,
     // Where the odd ones of each page begin.
     starts: Vec<usize>,
+    // The targets, joined.
+    texts: Vec<u8>,
+    // Where those of each page begin.
+    text_starts: Vec<usize>,
 }
 
 impl Model for Heads {
     ghost use Rattle.std.specs.Prelude.{List};
-    ghost use Rattle.flat_list.specs.declared.heads.Head.{Head};
+    ghost use Rattle.flat_list.specs.Pack.{Head};
     ghost use Rattle.flat_list.specs.Private.Slim.{heads_of, IsSlim};
 
     ghost Value = { List Head };
 
-    ghost view = { λ h. heads_of h.slims.items h.odds.items };
+    ghost view = { λ h. heads_of h.slims.items h.odds.items h.texts.items };
 
-    ghost invariant = { λ h. IsSlim h.slims.items h.odds.items h.starts.items (heads_of h.slims.items h.odds.items) };
+    ghost invariant = { λ h. IsSlim h.slims.items h.odds.items h.starts.items h.texts.items h.text_starts.items (heads_of h.slims.items h.odds.items h.texts.items) };
 }
 
 impl Heads {
@@ -51,6 +59,8 @@ impl Heads {
             slims: Vec::new(alloc),
             odds: Vec::new(alloc),
             starts: Vec::new(alloc),
+            texts: Vec::new(alloc),
+            text_starts: Vec::new(alloc),
         }
     }
 
@@ -62,6 +72,8 @@ impl Heads {
             slims: Vec::with_capacity(alloc, count)?,
             odds: Vec::new(alloc),
             starts: Vec::new(alloc),
+            texts: Vec::new(alloc),
+            text_starts: Vec::new(alloc),
         })
     }
 
@@ -71,12 +83,26 @@ impl Heads {
         self.slims.len()
     }
 
-    // Adds a head behind the others. A refusal leaves them.
-    pub fn push(&mut self, head: Head) -> Result<(), OutOfMemory>
-        ensures ok { OnOk result (self.new ≡ self.old ++ head ∷ []) }
+    // Adds a head with a target behind the others. A refusal leaves them.
+    pub fn push(&mut self, head: Head, target: &Option<LinkText>) -> Result<(), OutOfMemory>
+        ensures ok { OnOk result (self.new ≡ self.old ++ with_text head target.now ∷ []) }
         ensures err { OnErr result (self.new ≡ self.old) }
     {
-        put_slim(&mut self.slims, &mut self.odds, &mut self.starts, head)
+        let place = self.slims.len();
+        let at = self.texts.len();
+        let text = bytes_of(target);
+        self.texts.reserve(text.len())?;
+        self.text_starts.reserve(1)?;
+        put_slim(
+            &mut self.slims,
+            &mut self.odds,
+            &mut self.starts,
+            head,
+            target,
+        )?;
+        put_start(&mut self.text_starts, place, at);
+        extend_reserved(&mut self.texts, text);
+        Ok(())
     }
 
     // Puts the heads of others behind these, which end where a page begins. A refusal leaves them.
@@ -86,12 +112,17 @@ impl Heads {
         ensures err { OnErr result (self.new ≡ self.old) }
     {
         let base = self.odds.len();
+        let text_base = self.texts.len();
         self.slims.reserve(other.slims.len())?;
         self.odds.reserve(other.odds.len())?;
         self.starts.reserve(other.starts.len())?;
+        self.texts.reserve(other.texts.len())?;
+        self.text_starts.reserve(other.text_starts.len())?;
         extend_reserved(&mut self.slims, &other.slims);
         extend_reserved(&mut self.odds, &other.odds);
         put_shifted(&mut self.starts, base, &other.starts);
+        extend_reserved(&mut self.texts, &other.texts);
+        put_shifted(&mut self.text_starts, text_base, &other.text_starts);
         Ok(())
     }
 
@@ -102,8 +133,10 @@ impl Heads {
         Leads {
             slims: self.slims.as_slice(),
             odds: self.odds.as_slice(),
+            texts: self.texts.as_slice(),
             passed: 0,
             gone: 0,
+            at: 0,
         }
     }
 
@@ -115,8 +148,10 @@ impl Heads {
         Leads {
             slims: self.slims.as_slice(),
             odds: self.odds.as_slice(),
+            texts: self.texts.as_slice(),
             passed: 256 * page,
             gone: self.starts[page],
+            at: self.text_starts[page],
         }
     }
 }
@@ -126,21 +161,24 @@ impl Heads {
 pub(crate) struct Leads<'a> {
     slims: &'a [Slim],
     odds: &'a [Odd],
+    texts: &'a [u8],
     passed: usize,
     // How many odd ones were passed.
     gone: usize,
+    // And how many bytes of targets.
+    at: usize,
 }
 
 impl<'a> Model for Leads<'a> {
     ghost use Rattle.std.specs.Prelude.{List, ℕ};
-    ghost use Rattle.flat_list.specs.declared.heads.Head.{Head};
+    ghost use Rattle.flat_list.specs.Pack.{Head};
     ghost use Rattle.flat_list.specs.Private.Slim.{heads_of, IsLead};
 
     ghost Value = { List Head × ℕ };
 
-    ghost view = { λ l. (heads_of l.slims.now l.odds.now, l.passed) };
+    ghost view = { λ l. (heads_of l.slims.now l.odds.now l.texts.now, l.passed) };
 
-    ghost invariant = { λ l. IsLead l.slims.now l.odds.now l.passed l.gone (heads_of l.slims.now l.odds.now) };
+    ghost invariant = { λ l. IsLead l.slims.now l.odds.now l.texts.now l.passed l.gone l.at (heads_of l.slims.now l.odds.now l.texts.now) };
 }
 
 impl<'a> Leads<'a> {
@@ -152,14 +190,16 @@ impl<'a> Leads<'a> {
         self.passed >= self.slims.len()
     }
 
-    // The next head. Heads fit into memory, so there are not many.
-    pub fn head(&self) -> Head
+    // The next head and its target. Heads fit into memory, so there are not many.
+    pub fn next(&self) -> (Head, Option<&'a str>)
         requires { self.now.1 < length self.now.0 }
-        ensures next { slice_get self.now.0 self.now.1 ≡ Some result }
+        ensures next { slice_get self.now.0 self.now.1 ≡ Some (with_text result.0 (option_map (λ t. t.now) result.1)) }
+        ensures valid { IfSome result.1 (λ t. link_refusal t.now ≡ None) }
         ensures few { self.now.1 < 2 ^ 60 }
     {
         let slim = self.slims[self.passed];
-        slim.told(odd_at(self.odds, self.gone, slim.odd))
+        let odd = odd_at(self.odds, self.gone, slim.odd);
+        (slim.told(odd), text_at(self.texts, self.at, odd.target))
     }
 
     // Passes the next head.
@@ -168,8 +208,34 @@ impl<'a> Leads<'a> {
         ensures { self.new ≡ (self.old.0, self.old.1 + 1) }
     {
         let slim = self.slims[self.passed];
+        let odd = odd_at(self.odds, self.gone, slim.odd);
         self.gone = gone_after(self.gone, slim.odd);
+        self.at += odd.target as usize;
         self.passed += 1;
+    }
+}
+
+// The target of so many bytes that stand at a place; `None` where they are none.
+fn text_at(texts: &[u8], at: usize, len: u16) -> Option<&str>
+    requires room { at + len ≤ length texts.now }
+    requires valid { is_text (target_by len (drop at texts.now)) ≡ true }
+    ensures text { option_map (λ t. t.now) result ≡ target_by len (drop at texts.now) }
+    ensures valid { IfSome result (λ t. link_refusal t.now ≡ None) }
+{
+    if len == 0 {
+        return None;
+    }
+    let end = at + len as usize;
+    Some(unsafe { str::from_utf8_unchecked(&texts[at..end]) })
+}
+
+// The bytes of a target; none where there is none.
+fn bytes_of(target: &Option<LinkText>) -> &[u8]
+    ensures { result.now ≡ target_bytes target.now }
+{
+    match target {
+        None => &[],
+        Some(target) => target.text().as_bytes(),
     }
 }
 

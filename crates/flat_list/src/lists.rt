@@ -7,7 +7,7 @@ ghost use Rattle.std.specs.List.Sorted.{IsPermutation, IsSorted, IsSortedByKey, 
 ghost use Rattle.path_text.specs.Order.{path_cmp};
 ghost use Rattle.flat_list.specs.Entries.{is_shaped, summary_of};
 ghost use Rattle.flat_list.specs.Pack.{page_of};
-ghost use Rattle.flat_list.specs.Spelling.{paths, Spells, max_entries, IsCause};
+ghost use Rattle.flat_list.specs.Spelling.{paths, Spells, SpellsAs, max_entries, IsCause};
 ghost use Rattle.flat_list.specs.Orders.{place_of, sort_order, level_count, places_at, dealt};
 
 use crate::appending::{extend_reserved, put_shifted};
@@ -15,7 +15,7 @@ use crate::cursors::Cursor;
 use crate::dealing::{levels_of, pieces_of};
 use crate::decoding::decode;
 use crate::encoding::encode;
-use crate::entries::{Entry, copy_of};
+use crate::entries::Entry;
 use crate::errors::CacheError;
 use crate::halving::runs_by;
 use crate::heads::Heads;
@@ -27,6 +27,7 @@ use crate::runs::run_each;
 use crate::seeking::place_in;
 use crate::sources::Source;
 use crate::summaries::{Summary, path_bytes, summary_of};
+use crate::versions::Version;
 use path_text::{OutOfMemory, Path, compare};
 use std::alloc::Global;
 use std::marker::Model;
@@ -133,7 +134,7 @@ impl FlatList {
         let mut entries = Vec::with_capacity(self.alloc(), self.len())?;
         let mut cursor = self.cursor()?;
         while cursor.advance()? {
-            entries.push(copy_of(cursor.entry())?)?;
+            entries.push(cursor.entry().copy()?)?;
         }
         Ok(entries)
     }
@@ -170,6 +171,7 @@ impl FlatList {
             &mut self.rests,
             &mut self.last,
             head,
+            &entry.target,
             path.as_bytes(),
         )
     }
@@ -211,7 +213,8 @@ impl FlatList {
         if heads.is_over() {
             return true;
         }
-        match other.rests.get(..heads.head().rest as usize) {
+        let (head, _text) = heads.next();
+        match other.rests.get(..head.rest as usize) {
             Some(first) => compare(&self.last, first).is_lt(),
             None => false,
         }
@@ -386,17 +389,18 @@ impl FlatList {
         pieces_of(self, n)
     }
 
-    /// The list file, version 1: the line `mfu list 1`; a line for each entry, `KIND SIZE MTIME MARK UNNAMED FAR PATH`, the path
-    /// as [`escape`](path_text::escape) writes it; and the line `end COUNT`. It takes time in proportion to its text.
+    /// The list file, version 2: the line `mfu list 2`; a line for each entry, `KIND SIZE MTIME MARK UNNAMED FAR PATH`, the path
+    /// as [`escape`](path_text::escape) writes it, and behind it, where it has a target, the line `> TARGET`, written so too; and
+    /// the line `end COUNT`. It takes time in proportion to its text.
     pub fn encode(&self) -> Result<Vec<u8>, OutOfMemory>
         requires ascend { IsStrictlySortedBy path_cmp (paths self.now) }
         requires shaped { All (λ e. is_shaped e ≡ true) self.now }
-        ensures { IfOk result (λ bytes. Spells bytes.items self.now) }
+        ensures { IfOk result (λ bytes. SpellsAs Version.Two bytes.items self.now) }
     {
         encode(self)
     }
 
-    /// The list that a list file tells, or why the bytes are none. It takes time in proportion to them.
+    /// The list that a list file of either version tells, or why the bytes are none. It takes time in proportion to them.
     pub fn decode(alloc: Global, bytes: &[u8]) -> Result<FlatList, CacheError>
         ensures ok { IfOk result (λ list. Spells bytes.now list) }
         ensures few { IfOk result (λ list. length list ≤ max_entries) }

@@ -3,10 +3,12 @@ ghost use Rattle.std.specs.Prelude.{◌≡◌, ◌+◌, ◌*◌, ◌%◌, ◌<�
 ghost use Rattle.std.specs.Vec.{vec_len, vec_capacity};
 ghost use Rattle.path_text.specs.Path.{refusal};
 ghost use Rattle.flat_list.specs.Pack.{shared_by, head_from, starts_by};
+ghost use Rattle.flat_list.specs.Private.Slim.{with_text};
 
 use crate::appending::extend_reserved;
 use crate::entries::Entry;
 use crate::heads::{Head, Heads};
+use outside::LinkText;
 use path_text::{OutOfMemory, common_len};
 
 /// How many bytes a path shares with the one before.
@@ -22,12 +24,12 @@ pub(crate) fn shared_of(place: usize, last: &[u8], path: &[u8]) -> usize
 }
 
 /// What is kept of an entry beside the bytes of its path.
-#[tactic(auto, using(crate::proofs::Inverse::short))]
+#[tactic(auto, using(path_text::proofs::Parts::short))]
 pub(crate) fn head_of(entry: &Entry, path: &str, shared: usize) -> Head
     requires path { path.now ≡ entry.now.path }
     requires valid { refusal path.now ≡ None }
     requires short { shared ≤ length path.now }
-    ensures { result ≡ head_from entry.now shared }
+    ensures { with_text result entry.now.target ≡ head_from entry.now shared }
 {
     Head {
         stat: entry.stat,
@@ -39,18 +41,19 @@ pub(crate) fn head_of(entry: &Entry, path: &str, shared: usize) -> Head
     }
 }
 
-/// Puts a head and what its path does not share behind the others. A refusal leaves all.
+/// Puts a head, a target and what its path does not share behind the others. A refusal leaves all.
 pub(crate) fn put(
     heads: &mut Heads,
     starts: &mut Vec<usize>,
     rests: &mut Vec<u8>,
     last: &mut Vec<u8>,
     head: Head,
+    target: &Option<LinkText>,
     path: &[u8],
 ) -> Result<(), OutOfMemory>
     requires short { head.shared ≤ length path.now }
     requires same { take head.shared last.old.items ≡ take head.shared path.now }
-    ensures heads { OnOk result (heads.new ≡ heads.old ++ head ∷ []) }
+    ensures heads { OnOk result (heads.new ≡ heads.old ++ with_text head target.now ∷ []) }
     ensures starts { OnOk result (starts.new.items ≡ starts_by (length heads.old) (length rests.old.items) starts.old.items) }
     ensures rests { OnOk result (rests.new.items ≡ rests.old.items ++ drop head.shared path.now) }
     ensures last { OnOk result (last.new.items ≡ path.now) }
@@ -66,7 +69,7 @@ pub(crate) fn put(
     starts.reserve(1)?;
     rests.reserve(rest.len())?;
     last.reserve(rest.len())?;
-    heads.push(head)?;
+    heads.push(head, target)?;
     put_start(starts, place, at);
     extend_reserved(rests, rest);
     cut_back(last, shared, rest);

@@ -1,10 +1,14 @@
 //! The entries of a list made again, one by one.
-ghost use Rattle.std.specs.Prelude.{◌≡◌, ◌+◌, ◌-◌, ◌*◌, ◌<◌, ◌≤◌, ◌++◌, [], true, false, Some, length, take, slice_get, OnOk, OnErr, IfOk};
+ghost use Rattle.std.specs.Prelude.{◌≡◌, ◌+◌, ◌-◌, ◌*◌, ◌<◌, ◌≤◌, ◌++◌, [], true, false, Some, None, length, take, slice_get, OnOk, OnErr, IfOk, IfSome};
+ghost use Rattle.std.specs.Option.{option_map};
+ghost use Rattle.outside.specs.Links.{link_refusal};
+ghost use Rattle.flat_list.specs.Private.Slim.{with_text};
 ghost use Rattle.flat_list.specs.Pack.{entry_by, unpacked};
 ghost use Rattle.flat_list.specs.Private.Kept.{is_path, IsBefore, RisesAt};
 
 use crate::entries::{Entry, Mark};
 use crate::heads::{Head, Leads};
+use outside::LinkText;
 use path_text::{OutOfMemory, Path, common_len, compare};
 use std::alloc::Global;
 use std::marker::Model;
@@ -17,6 +21,7 @@ pub(crate) struct Reader<'a> {
     at: usize,
     entry: Entry,
     shared: usize,
+    alloc: Global,
 }
 
 impl<'a> Model for Reader<'a> {
@@ -51,6 +56,7 @@ impl<'a> Reader<'a> {
             at,
             entry,
             shared: 0,
+            alloc,
         })
     }
 
@@ -70,11 +76,12 @@ impl<'a> Reader<'a> {
         ensures entry { OnOk result (slice_get self.old.0 self.old.1 ≡ Some self.new.2) }
         ensures err { OnErr result (self.new ≡ self.old) }
     {
-        let head = self.heads.head();
+        let (head, text) = self.heads.next();
         let end = self.at + head.rest as usize;
         let rest = &self.rests[self.at..end];
         let shared = shared_by(&self.entry.path, head, rest);
-        rewrite(&mut self.entry, head, rest)?;
+        let target = target_of(self.alloc, text)?;
+        rewrite(&mut self.entry, head, target, rest)?;
         self.heads.pass();
         self.at = end;
         self.shared = shared;
@@ -91,7 +98,7 @@ impl<'a> Reader<'a> {
         if self.heads.is_over() {
             return false;
         }
-        let head = self.heads.head();
+        let (head, _text) = self.heads.next();
         let end = self.at + head.rest as usize;
         let last = self.entry.path.text().as_bytes();
         compare(&self.rests[self.at..end], &last[head.shared as usize..]).is_lt()
@@ -127,9 +134,14 @@ fn shared_by(last: &Path, head: Head, rest: &[u8]) -> usize {
 
 // An entry becomes the next one. A refusal leaves it.
 #[tactic(auto, using(crate::proofs::Passed::refusal_of, crate::proofs::Passed::utf8_of))]
-fn rewrite(entry: &mut Entry, head: Head, rest: &[u8]) -> Result<(), OutOfMemory>
+fn rewrite(
+    entry: &mut Entry,
+    head: Head,
+    target: Option<LinkText>,
+    rest: &[u8],
+) -> Result<(), OutOfMemory>
     requires { is_path (take head.shared entry.old.path ++ rest.now) ≡ true }
-    ensures ok { OnOk result (entry.new ≡ entry_by head (take head.shared entry.old.path ++ rest.now)) }
+    ensures ok { OnOk result (entry.new ≡ entry_by (with_text head target) (take head.shared entry.old.path ++ rest.now)) }
     ensures err { OnErr result (entry.new ≡ entry.old) }
 {
     entry.path.rewrite(head.shared as usize, rest)?;
@@ -137,7 +149,19 @@ fn rewrite(entry: &mut Entry, head: Head, rest: &[u8]) -> Result<(), OutOfMemory
     entry.mark = head.mark;
     entry.unnamed = head.unnamed;
     entry.far = head.far;
+    entry.target = target;
     Ok(())
+}
+
+// The target that a text is, which is known to be one.
+fn target_of(alloc: Global, text: Option<&str>) -> Result<Option<LinkText>, OutOfMemory>
+    requires { IfSome text (λ t. link_refusal t.now ≡ None) }
+    ensures { IfOk result (λ target. target ≡ option_map (λ t. t.now) text.entry) }
+{
+    match text {
+        None => Ok(None),
+        Some(text) => Ok(Some(LinkText::of_text(alloc, text)?)),
+    }
 }
 
 // Before the first entry a reader holds the entry of `/`, of which nothing is told.
@@ -151,5 +175,6 @@ fn blank(alloc: Global) -> Result<Entry, OutOfMemory> {
         mark: Mark::Fine,
         unnamed: 0,
         far: 0,
+        target: None,
     })
 }

@@ -2,7 +2,7 @@
 ghost use Rattle.std.specs.Prelude.{◌≡◌, ◌-◌, ◌++◌, ◌∷◌, [], length, take, OnOk, OnErr, IfSome, IfNone, IfOk};
 ghost use Rattle.std.specs.List.Sorted.{IsPermutation};
 
-use crate::entries::{Entry, compare_behind, copy_of, write_over};
+use crate::entries::{Entry, compare_behind, write_over};
 use path_text::OutOfMemory;
 use std::alloc::{AllocError, Global};
 use std::marker::Model;
@@ -62,7 +62,7 @@ impl Pile {
         if self.len < self.slots.len() {
             write_over(&mut self.slots[self.len], entry)?;
         } else {
-            self.slots.push(copy_of(entry)?)?;
+            self.slots.push(entry.copy()?)?;
         }
         self.len += 1;
         Ok(())

@@ -1,20 +1,21 @@
 //! The text of a line of a list file, read word by word.
-ghost use Rattle.std.specs.Prelude.{◌≡◌, ◌+◌, ◌<◌, ◌≤◌, take, drop, IfOk, IfSome, IfNone, Some, None, true, false, length, ◌==◌};
-ghost use Rattle.std.specs.List.{position};
+ghost use Rattle.std.specs.Prelude.{◌≡◌, IfOk, IfSome, Some};
 ghost use Rattle.std.specs.Option.{option_map};
 ghost use Rattle.std.specs.Str.{IsUtf8};
+ghost use Rattle.outside.specs.Links.{link_reading};
 ghost use Rattle.flat_list.specs.Entries.{is_sized, is_kind, is_of, shape_by};
-ghost use Rattle.flat_list.specs.Private.Reading.{cut, number_of, LeadsNumber, time_from, kind_from, mark_from, word_at, IsNumberWord, AreDigits, stat_from, is_told, told_at};
-ghost use Rattle.flat_list.specs.Private.Reading.{entry_behind, end_at};
+ghost use Rattle.flat_list.specs.Spelling.{is_marked, is_old};
+ghost use Rattle.whole_lines.specs.Words.{word_at};
+ghost use Rattle.flat_list.specs.Private.Reading.{time_from, kind_from, mark_from, stat_from, is_told, told_at, entry_behind};
+ghost use Rattle.flat_list.specs.Private.Reading.{takes_target, target_behind, target_line, target_at, target_from, link_ok};
 
 use crate::entries::{Entry, Mark};
-use crate::following::{path_behind, path_from};
-use memchr::memchr;
-use outside::{Kind, Stat};
+use crate::following::path_behind;
+use crate::versions::Version;
+use outside::{Kind, LinkText, LinkTextError, Stat};
 use path_text::OutOfMemory;
 use std::alloc::Global;
-
-const MAX_DIGITS: usize = 19;
+use whole_lines::{cut, cut_line, leading_number, number_at, number_of, path_from};
 
 /// What a line tells beside the path.
 #[derive(Clone, Copy, Drop)]
@@ -23,82 +24,6 @@ pub(crate) struct Told {
     mark: Mark,
     unnamed: u64,
     far: u64,
-}
-
-/// What stands before the first place of a byte, and what stands behind it.
-pub(crate) fn cut(text: &[u8], at: u8) -> Option<(&[u8], &[u8])>
-    ensures { option_map (λ parts. (parts.0.now, parts.1.now)) result ≡ cut at text.now }
-{
-    let place = place_of(text, at)?;
-    Some((&text[..place], &text[place + 1..]))
-}
-
-/// The first line of a text without its end, and what stands behind it. Lines are long, so the end is sought many bytes at a time.
-pub(crate) fn cut_line(text: &[u8]) -> Option<(&[u8], &[u8])>
-    ensures { option_map (λ parts. (parts.0.now, parts.1.now)) result ≡ cut 10 text.now }
-{
-    let end = line_end(text)?;
-    Some((&text[..end], &text[end + 1..]))
-}
-
-#[tactic(auto, using(crate::proofs::Words::firsts))]
-fn line_end(text: &[u8]) -> Option<usize>
-    ensures found { IfSome result (λ k. (k < length text.now) × (cut 10 text.now ≡ Some (take k text.now, drop (k + 1) text.now))) }
-    ensures none { IfNone result (cut 10 text.now ≡ None) }
-{
-    memchr(b'\n', text)
-}
-
-#[tactic(auto, using(crate::proofs::Words::places))]
-fn place_of(text: &[u8], at: u8) -> Option<usize>
-    ensures found { IfSome result (λ k. (k < length text.now) × (cut at text.now ≡ Some (take k text.now, drop (k + 1) text.now))) }
-    ensures none { IfNone result (cut at text.now ≡ None) }
-{
-    position_of(text, at)
-}
-
-fn position_of(text: &[u8], at: u8) -> Option<usize>
-    ensures { result ≡ position (λ b. b == at) text.now }
-{
-    text.iter().position(|b| *b == at)
-}
-
-// A number of 64 bits in decimal, without leading zeros.
-#[tactic(auto, using(crate::proofs::Numbers::no_text))]
-fn number_of(word: &[u8]) -> Option<u64>
-    ensures { result ≡ number_of word.now }
-{
-    if !leads_number(word) {
-        return None;
-    }
-    match str::from_utf8(word) {
-        Ok(text) => parsed(text),
-        Err(_) => None,
-    }
-}
-
-#[tactic(auto, using(crate::proofs::Numbers::no_lead))]
-fn leads_number(word: &[u8]) -> bool
-    ensures yes { result ≡ true → LeadsNumber word.now }
-    ensures no { result ≡ false → number_of word.now ≡ None }
-{
-    if word.is_empty() {
-        return false;
-    }
-    if word[0] == b'+' {
-        return false;
-    }
-    if word[0] == b'0' {
-        return word.len() == 1;
-    }
-    true
-}
-
-fn parsed(text: &str) -> Option<u64>
-    requires { LeadsNumber text.now }
-    ensures { result ≡ number_of text.now }
-{
-    text.parse::<u64>().ok()
 }
 
 #[tactic(auto, unfolding(crate::specs::Private::Reading::time_from))]
@@ -149,65 +74,18 @@ fn mark_from(word: &[u8]) -> Option<Mark>
     }
 }
 
-// Digits at the front of a text: how many they are, and the number that they write.
-#[derive(Clone, Copy, Drop)]
-pub(crate) struct Digits {
-    value: u64,
-    len: usize,
-}
-
-// The number of at most 19 digits that a space ends; `None` where the first word is none, or is longer.
-#[tactic(auto, using(crate::proofs::Digits::ended))]
-fn digits_word(text: &[u8]) -> Option<Digits>
-    ensures { IfSome result (IsNumberWord text.now) }
-{
-    let digits = digits_of(text);
-    if digits.len == 0 || digits.len >= text.len() || text[digits.len] != b' ' {
-        return None;
-    }
-    if text[0] == b'0' && digits.len > 1 {
-        return None;
-    }
-    Some(digits)
-}
-
-// The first digits, of which 19 are the most that always have 64 bits.
-fn digits_of(text: &[u8]) -> Digits
-    ensures { AreDigits text.now result }
-{
-    let mut value = 0u64;
-    let mut len = 0;
-    while len < MAX_DIGITS && len < text.len() && text[len].is_ascii_digit() {
-        value = value * 10 + (text[len] - b'0') as u64;
-        len += 1;
-    }
-    Digits { value, len }
-}
-
-// The number before a space, and what is behind it.
-#[tactic(auto, unfolding(crate::specs::Private::Reading::word_at))]
-fn number_at(text: &[u8]) -> Option<(u64, &[u8])>
-    ensures { option_map (λ found. (found.0, found.1.now)) result ≡ word_at number_of text.now }
-{
-    if let Some(digits) = digits_word(text) {
-        return Some((digits.value, &text[digits.len + 1..]));
-    }
-    let (word, rest) = cut(text, b' ')?;
-    Some((number_of(word)?, rest))
-}
-
-#[tactic(auto, unfolding(crate::specs::Private::Reading::word_at))]
+#[tactic(auto, unfolding(whole_lines::specs::Words::word_at))]
 fn time_at(text: &[u8]) -> Option<(Option<u64>, &[u8])>
     ensures { option_map (λ found. (found.0, found.1.now)) result ≡ word_at time_from text.now }
 {
-    if let Some(digits) = digits_word(text) {
-        return Some((Some(digits.value), &text[digits.len + 1..]));
+    if let Some((seconds, rest)) = leading_number(text) {
+        return Some((Some(seconds), rest));
     }
     let (word, rest) = cut(text, b' ')?;
     Some((time_from(word)?, rest))
 }
 
-#[tactic(auto, unfolding(crate::specs::Private::Reading::word_at))]
+#[tactic(auto, unfolding(whole_lines::specs::Words::word_at))]
 fn kind_at(text: &[u8]) -> Option<(Option<Kind>, &[u8])>
     ensures { option_map (λ found. (found.0, found.1.now)) result ≡ word_at kind_from text.now }
 {
@@ -215,7 +93,7 @@ fn kind_at(text: &[u8]) -> Option<(Option<Kind>, &[u8])>
     Some((kind_from(word)?, rest))
 }
 
-#[tactic(auto, unfolding(crate::specs::Private::Reading::word_at))]
+#[tactic(auto, unfolding(whole_lines::specs::Words::word_at))]
 fn mark_at(text: &[u8]) -> Option<(Mark, &[u8])>
     ensures { option_map (λ found. (found.0, found.1.now)) result ≡ word_at mark_from text.now }
 {
@@ -235,12 +113,32 @@ fn stat_from(kind: Option<Kind>, size: u64, mtime: Option<u64>) -> Option<Option
 }
 
 impl Told {
-    // Whether its parts fit one another.
-    fn is_told(&self) -> bool
-        ensures { result ≡ is_told self.now }
+    // Whether its parts fit one another, in a list file of this version.
+    fn is_told(&self, version: Version) -> bool
+        ensures { result ≡ is_told version self.now }
     {
         let none = self.unnamed == 0 && self.far == 0;
-        is_sized(self.stat) && has_shape(self.mark, self.stat, none)
+        let marked = is_marked(version, self.mark, self.stat);
+        marked && is_sized(self.stat) && has_shape(self.mark, self.stat, none)
+    }
+}
+
+// Whether a list file of this version can tell such a mark.
+fn is_marked(version: Version, mark: Mark, stat: Option<Stat>) -> bool
+    ensures { result ≡ is_marked version mark stat }
+{
+    match version {
+        Version::Two => true,
+        Version::One => is_old(mark, stat),
+    }
+}
+
+fn is_old(mark: Mark, stat: Option<Stat>) -> bool
+    ensures { result ≡ is_old mark stat }
+{
+    match mark {
+        Mark::Changed => is_dir(stat),
+        _ => true,
     }
 }
 
@@ -268,20 +166,30 @@ fn is_dir(stat: Option<Stat>) -> bool
     }
 }
 
+fn is_link(stat: Option<Stat>) -> bool
+    ensures { result ≡ is_of Kind.Link stat }
+{
+    match stat {
+        None => false,
+        Some(stat) => is_kind(Kind::Link, stat.kind),
+    }
+}
+
 fn has_shape(mark: Mark, stat: Option<Stat>, none: bool) -> bool
     ensures { result ≡ shape_by mark stat none }
 {
     match mark {
         Mark::StatFailed | Mark::Gone => stat.is_none() && none,
-        Mark::ListFailed | Mark::Changed => is_dir(stat) && none,
+        Mark::ListFailed => is_dir(stat) && none,
+        Mark::Changed => (is_dir(stat) || is_link(stat)) && none,
         Mark::Fine => stat.is_some() && (is_dir(stat) || none),
     }
 }
 
 // All that a line tells beside the path, and the word of the path.
 #[tactic(auto, unfolding(crate::specs::Private::Reading::told_at))]
-fn told_at(text: &[u8]) -> Option<(Told, &[u8])>
-    ensures { option_map (λ found. (found.0, found.1.now)) result ≡ told_at text.now }
+fn told_at(version: Version, text: &[u8]) -> Option<(Told, &[u8])>
+    ensures { option_map (λ found. (found.0, found.1.now)) result ≡ told_at version text.now }
 {
     let (kind, rest) = kind_at(text)?;
     let (size, rest) = number_at(rest)?;
@@ -296,7 +204,7 @@ fn told_at(text: &[u8]) -> Option<(Told, &[u8])>
         unnamed,
         far,
     };
-    if !told.is_told() {
+    if !told.is_told(version) {
         return None;
     }
     Some((told, rest))
@@ -306,13 +214,14 @@ fn told_at(text: &[u8]) -> Option<(Told, &[u8])>
 #[tactic(auto, unfolding(crate::specs::Private::Reading::entry_behind))]
 pub(crate) fn entry_behind(
     alloc: Global,
+    version: Version,
     before: Option<Entry>,
     text: &[u8],
 ) -> Result<Option<Entry>, OutOfMemory>
-    ensures read { IfOk result (λ found. found ≡ entry_behind before text.now) }
+    ensures read { IfOk result (λ found. found ≡ entry_behind version before text.now) }
     ensures utf8 { IfOk result (λ found. IfSome found (λ entry. IsUtf8 entry.path)) }
 {
-    let Some((told, word)) = told_at(text) else {
+    let Some((told, word)) = told_at(version, text) else {
         return Ok(None);
     };
     let path = match before {
@@ -328,17 +237,86 @@ pub(crate) fn entry_behind(
         mark: told.mark,
         unnamed: told.unnamed,
         far: told.far,
+        target: None,
     }))
 }
 
-/// The count that an end line tells, if this is its text.
-#[tactic(auto, unfolding(crate::specs::Private::Reading::end_at))]
-pub(crate) fn end_at(text: &[u8]) -> Option<u64>
-    ensures { result ≡ end_at text.now }
+/// The target that the first line of a text tells, and what is behind that line, where a target may come behind the entry.
+pub(crate) fn target_behind<'a>(
+    alloc: Global,
+    version: Version,
+    entry: &Entry,
+    rest: &'a [u8],
+) -> Result<Option<(LinkText, &'a [u8])>, OutOfMemory>
+    ensures read { IfOk result (λ found. option_map (λ f. (f.0, f.1.now)) found ≡ target_behind version entry.now rest.now) }
+    ensures utf8 { IfOk result (λ found. IfSome found (λ f. IsUtf8 f.0)) }
 {
-    let (word, count) = cut(text, b' ')?;
-    if word != b"end".as_slice() {
-        return None;
+    if !takes_target(version, entry) {
+        return Ok(None);
     }
-    number_of(count)
+    target_line(alloc, rest)
+}
+
+fn takes_target(version: Version, entry: &Entry) -> bool
+    ensures { result ≡ takes_target version entry.now }
+{
+    version == Version::Two && is_link(entry.stat) && entry.mark == Mark::Fine
+}
+
+#[tactic(auto, unfolding(crate::specs::Private::Reading::target_line))]
+fn target_line<'a>(
+    alloc: Global,
+    rest: &'a [u8],
+) -> Result<Option<(LinkText, &'a [u8])>, OutOfMemory>
+    ensures read { IfOk result (λ found. option_map (λ f. (f.0, f.1.now)) found ≡ target_line rest.now) }
+    ensures utf8 { IfOk result (λ found. IfSome found (λ f. IsUtf8 f.0)) }
+{
+    let Some((text, behind)) = cut_line(rest) else {
+        return Ok(None);
+    };
+    match target_at(alloc, text)? {
+        None => Ok(None),
+        Some(target) => Ok(Some((target, behind))),
+    }
+}
+
+// The target that a line's text tells.
+#[tactic(auto, unfolding(crate::specs::Private::Reading::target_at))]
+fn target_at(alloc: Global, text: &[u8]) -> Result<Option<LinkText>, OutOfMemory>
+    ensures read { IfOk result (λ target. target ≡ target_at text.now) }
+    ensures utf8 { IfOk result (λ target. IfSome target (λ t. IsUtf8 t)) }
+{
+    if !text.starts_with(b"> ".as_slice()) {
+        return Ok(None);
+    }
+    target_from(alloc, &text[2..])
+}
+
+#[tactic(auto, using(crate::proofs::Targets::target_texts))]
+fn target_from(alloc: Global, word: &[u8]) -> Result<Option<LinkText>, OutOfMemory>
+    ensures read { IfOk result (λ target. target ≡ target_from word.now) }
+    ensures utf8 { IfOk result (λ target. IfSome target (λ t. IsUtf8 t)) }
+{
+    match str::from_utf8(word) {
+        Ok(text) => target_of(alloc, text),
+        Err(_) => Ok(None),
+    }
+}
+
+fn target_of(alloc: Global, text: &str) -> Result<Option<LinkText>, OutOfMemory>
+    ensures read { IfOk result (λ target. target ≡ link_ok (link_reading text.now)) }
+    ensures utf8 { IfOk result (λ target. IfSome target (λ t. IsUtf8 t)) }
+{
+    match LinkText::unescape(alloc, text) {
+        Ok(target) => {
+            // That a target is UTF-8 is told by its text alone.
+            let _text = target.text();
+            Ok(Some(target))
+        }
+        Err(LinkTextError::OutOfMemory) => Err(OutOfMemory),
+        Err(LinkTextError::Empty) => Ok(None),
+        Err(LinkTextError::TooLong) => Ok(None),
+        Err(LinkTextError::Nul) => Ok(None),
+        Err(LinkTextError::BadEscape(_)) => Ok(None),
+    }
 }

@@ -17,7 +17,7 @@ pub(crate) fn place_in(heads: &Heads, rests: &[u8], wanted: &[u8]) -> Option<usi
     let mut same = 0usize;
     let mut at = 0usize;
     for k in 0..heads.len() {
-        let head = leads.head();
+        let (head, _text) = leads.next();
         let end = at + head.rest as usize;
         same = same_after(same, head.shared as usize, &rests[at..end], wanted);
         if is_whole(same, wanted.len(), head) {

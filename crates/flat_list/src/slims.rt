@@ -1,14 +1,14 @@
 //! A head in 24 bytes.
-ghost use Rattle.std.specs.Prelude.{◌≡◌, ◌+◌, ◌*◌, ◌<◌, ◌≤◌, ◌++◌, ◌∷◌, [], length, drop, OnOk, OnErr, is_some, Some, None, if◌then◌else◌};
+ghost use Rattle.std.specs.Prelude.{◌≡◌, ◌==◌, ◌+◌, ◌*◌, ◌<◌, ◌≤◌, ◌++◌, ◌∷◌, [], ℕ, List, Option, true, length, drop, OnOk, OnErr, is_some, is_none, Some, None, if◌then◌else◌};
 ghost use Rattle.std.specs.Vec.{vec_len, vec_capacity};
 ghost use Rattle.flat_list.specs.Entries.{size_by};
 ghost use Rattle.flat_list.specs.Pack.{starts_by};
-ghost use Rattle.flat_list.specs.Private.Slim.{shown_by, kind_shown, time_or, seconds_or, is_timed, is_odd, slim_by, odds_by, stat_shown, told, first_odd};
+ghost use Rattle.flat_list.specs.Private.Slim.{shown_by, kind_shown, time_or, seconds_or, is_timed, is_odd, slim_by, odds_by, target_bytes, is_text, with_text, stat_shown, told, first_odd};
 
 use crate::entries::Mark;
 use crate::heads::Head;
 use crate::packing::put_start;
-use outside::{Kind, Stat};
+use outside::{Kind, LinkText, Stat};
 use path_text::OutOfMemory;
 
 /// The kind of what stands at a path, where it was told.
@@ -34,11 +34,13 @@ pub(crate) struct Slim {
     pub odd: bool,
 }
 
-/// What is kept of the heads of which one of the two is not 0.
+/// What is kept of the heads that have a target, or of which one of the two numbers is not 0.
 #[derive(Clone, Copy, Debug, Drop)]
 pub(crate) struct Odd {
     pub unnamed: u64,
     pub far: u64,
+    /// How many bytes the target has, and 0 where there is none.
+    pub target: u16,
 }
 
 impl Slim {
@@ -77,44 +79,61 @@ fn stat_shown(shown: Shown, size: u64, mtime: Option<u64>) -> Option<Stat>
     Some(Stat { kind, size, mtime })
 }
 
-/// Puts what is kept of a head behind the others. A refusal leaves all.
+/// Puts what is kept of a head and a target behind the others. A refusal leaves all.
 pub(crate) fn put_slim(
     slims: &mut Vec<Slim>,
     odds: &mut Vec<Odd>,
     starts: &mut Vec<usize>,
     head: Head,
+    target: &Option<LinkText>,
 ) -> Result<(), OutOfMemory>
-    ensures slims { OnOk result (slims.new.items ≡ slims.old.items ++ slim_by head ∷ []) }
-    ensures odds { OnOk result (odds.new.items ≡ odds.old.items ++ odds_by head) }
+    ensures slims { OnOk result (slims.new.items ≡ slims.old.items ++ slim_by (with_text head target.now) ∷ []) }
+    ensures odds { OnOk result (odds.new.items ≡ odds.old.items ++ odds_by (with_text head target.now)) }
     ensures starts { OnOk result (starts.new.items ≡ starts_by (length slims.old.items) (length odds.old.items) starts.old.items) }
     ensures no_slim { OnErr result (slims.new.items ≡ slims.old.items) }
     ensures no_odd { OnErr result (odds.new.items ≡ odds.old.items) }
     ensures no_start { OnErr result (starts.new.items ≡ starts.old.items) }
+    ensures valid { is_text target.now ≡ true }
 {
     let place = slims.len();
     let at = odds.len();
+    let len = text_len(target);
     starts.reserve(1)?;
     odds.reserve(1)?;
-    slims.push(slim_of(head))?;
+    slims.push(slim_of(head, len))?;
     put_start(starts, place, at);
-    put_odd(odds, head);
+    put_odd(odds, head, len);
     Ok(())
 }
 
-fn put_odd(odds: &mut Vec<Odd>, head: Head)
-    requires { vec_len odds.old + 1 ≤ vec_capacity odds.old }
-    ensures { odds.new.items ≡ odds.old.items ++ odds_by head }
+// How many bytes a target has, and 0 where there is none.
+#[tactic(auto, using(crate::proofs::Slimmed::text_short))]
+fn text_len(target: &Option<LinkText>) -> u16
+    ensures len { result ≡ length (target_bytes target.now) }
+    ensures some { (result == 0) ≡ is_none target.now }
+    ensures valid { is_text target.now ≡ true }
 {
-    if is_odd(head) {
+    match target {
+        None => 0,
+        Some(target) => target.text().len() as u16,
+    }
+}
+
+fn put_odd(odds: &mut Vec<Odd>, head: Head, len: u16)
+    requires { vec_len odds.old + 1 ≤ vec_capacity odds.old }
+    ensures { (target : Option (List ℕ)) → len ≡ length (target_bytes target) → (len == 0) ≡ is_none target → odds.new.items ≡ odds.old.items ++ odds_by (with_text head target) }
+{
+    if is_odd(head, len) {
         odds.push_reserved(Odd {
             unnamed: head.unnamed,
             far: head.far,
+            target: len,
         });
     }
 }
 
-fn slim_of(head: Head) -> Slim
-    ensures { result ≡ slim_by head }
+fn slim_of(head: Head, len: u16) -> Slim
+    ensures { (target : Option (List ℕ)) → (len == 0) ≡ is_none target → result ≡ slim_by (with_text head target) }
 {
     Slim {
         size: size_of(head.stat),
@@ -124,14 +143,15 @@ fn slim_of(head: Head) -> Slim
         shown: shown_by(head.stat),
         timed: is_timed(head.stat),
         mark: head.mark,
-        odd: is_odd(head),
+        odd: is_odd(head, len),
     }
 }
 
-fn is_odd(head: Head) -> bool
-    ensures { result ≡ is_odd head }
+#[tactic(auto, using(crate::proofs::Slimmed::odd_is))]
+fn is_odd(head: Head, len: u16) -> bool
+    ensures { (target : Option (List ℕ)) → (len == 0) ≡ is_none target → result ≡ is_odd (with_text head target) }
 {
-    !(head.unnamed == 0 && head.far == 0)
+    len > 0 || !(head.unnamed == 0 && head.far == 0)
 }
 
 fn size_of(stat: Option<Stat>) -> u64
@@ -195,7 +215,11 @@ pub(crate) fn odd_at(odds: &[Odd], gone: usize, wanted: bool) -> Odd
     ensures { result ≡ first_odd wanted (drop gone odds.now) }
 {
     if !wanted || gone >= odds.len() {
-        return Odd { unnamed: 0, far: 0 };
+        return Odd {
+            unnamed: 0,
+            far: 0,
+            target: 0,
+        };
     }
     odds[gone]
 }

@@ -45,7 +45,8 @@ pub(crate) fn summary_of(heads: Leads<'_>, count: usize) -> Summary
         failed: 0,
     };
     for _ in 0..count {
-        sum.count(leads.head());
+        let (head, _text) = leads.next();
+        sum.count(head);
         leads.pass();
     }
     sum
@@ -118,7 +119,7 @@ pub(crate) fn path_bytes(heads: Leads<'_>, count: usize) -> u128
     let mut leads = heads;
     let mut bytes = 0u128;
     for _ in 0..count {
-        let head = leads.head();
+        let (head, _text) = leads.next();
         bytes += u128::from(head.shared) + u128::from(head.rest);
         leads.pass();
     }

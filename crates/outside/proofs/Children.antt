@@ -1,24 +1,19 @@
 -- The name of a child, from the path of the child.
-use Rattle.std.proofs.Common.{◌≡◌, ℕ, ◌<◌, Bool, true, false, ◌&&◌, List, ◌++◌, length, drop, take, refl, ap, ◌∙◌, sym, subst, arith, cond, eqb, Some, None}
+use Rattle.std.proofs.Common.{◌≡◌, ℕ, ◌<◌, Bool, true, false, ◌&&◌, List, ◌++◌, length, drop, refl, ap, ◌∙◌, sym, subst, arith, cond, eqb, Some, None}
 use Rattle.std.specs.List.{list_any, starts_with}
-use Rattle.std.specs.Cmp.Lexicographic.{bytes_decides}
 use Rattle.std.proofs.lemmas.Bool.Decides.{nat_tests}
-use Rattle.std.proofs.lemmas.List.{take_at, take-append-drop, drop_at}
 use Rattle.path_text.specs.Order.{front}
 use Rattle.path_text.specs.Path.{is_slash}
+use Rattle.path_text.proofs.Parts.{begins}
+use Rattle.path_text.proofs.Preordered as after
 use Rattle.outside.specs.Tree.{is_one_name, name_below}
-
-begins : (f text rest : List ℕ) → text ≡ f ++ rest → starts_with eqb text f ≡ true
-begins f text rest e = (bytes_decides f (take (length f) text)).1 (sym (ap (take (length f)) e ∙ take_at f rest (length f) refl))
-
-pub goes_on : (f text : List ℕ) → starts_with eqb text f ≡ true → text ≡ f ++ drop (length f) text
-goes_on f text e = sym (take-append-drop (length f) text) ∙ ap (λ g. g ++ drop (length f) text) (sym ((bytes_decides f (take (length f) text)).0 e))
 
 -- of a text that begins as the children do
 pub name_below-front : (p x rest : List ℕ) → x ≡ front p ++ rest → name_below p x ≡ cond (is_one_name rest) (Some rest) None
 name_below-front p x rest e =
-    ap (λ b. cond (b && is_one_name (drop (length (front p)) x)) (Some (drop (length (front p)) x)) None) (begins (front p) x rest e)
-    ∙ ap (λ r. cond (is_one_name r) (Some r) None) (ap (drop (length (front p))) e ∙ drop_at (front p) rest (length (front p)) refl)
+    let b = begins x (front p) rest e in
+    ap (λ t. cond (t && is_one_name (drop (length (front p)) x)) (Some (drop (length (front p)) x)) None) b.1
+    ∙ ap (λ r. cond (is_one_name r) (Some r) None) (sym b.0)
 
 -- of one that does not
 pub name_below-off : (p x : List ℕ) → starts_with eqb x (front p) ≡ false → name_below p x ≡ None
@@ -33,7 +28,7 @@ some_of false c n m e = cc
 pub child_is : (p x m : List ℕ) → name_below p x ≡ Some m → (x ≡ front p ++ m) × (is_one_name m ≡ true)
 child_is p x m e =
     let s = some_of (starts_with eqb x (front p)) (is_one_name (drop (length (front p)) x)) (drop (length (front p)) x) m e in
-    (goes_on (front p) x s.0 ∙ ap (λ r. front p ++ r) s.1.1, subst (λ r. is_one_name r ≡ true) s.1.1 s.1.0)
+    (after.begins x (front p) s.0 ∙ ap (λ r. front p ++ r) s.1.1, subst (λ r. is_one_name r ≡ true) s.1.1 s.1.0)
 
 pub one_name_parts : (m : List ℕ) → is_one_name m ≡ true → (0 < length m) × (list_any is_slash m ≡ false)
 one_name_parts m e = (grind (arith, nat_tests), grind (arith, nat_tests))

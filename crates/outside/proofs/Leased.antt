@@ -1,81 +1,26 @@
 -- Leases keep trees.
-use Rattle.std.proofs.Common.{◌≡◌, ◌⊎◌, inl, inr, ℕ, suc, ◌<◌, Bool, true, false, cond, not, ◌||◌, ◌&&◌, List, [], ◌∷◌, ◌++◌}
-use Rattle.std.proofs.Common.{length, drop, take, Option, Some, None, refl, ap, ◌∙◌, sym, subst, arith, nat_eq, nat_lt, is_some, is_none}
-use Rattle.std.proofs.Common.{slice_get, append_assoc, length-append}
-use Rattle.std.specs.Prelude.{IsTrue, ◌==◌}
+use Rattle.std.proofs.Common.{◌≡◌, ◌⊎◌, inl, inr, ℕ, suc, ◌<◌, Bool, true, false, cond, not, ◌||◌, ◌&&◌, List, [], ◌∷◌}
+use Rattle.std.proofs.Common.{Option, Some, None, refl, ap, ◌∙◌, sym, arith, nat_eq, is_some, is_none}
+use Rattle.std.proofs.Common.{slice_get}
+use Rattle.std.specs.Prelude.{IsTrue}
 use Rattle.std.proofs.lemmas.Bool.{false≢true}
-use Rattle.std.proofs.lemmas.Bool.Decides.{nat_tests}
-use Rattle.std.proofs.lemmas.List.{take_at}
-use Rattle.std.specs.List.{starts_with}
 use Rattle.std.specs.FinMap.{get, get-retain_keys}
 use Rattle.std.specs.Cmp.Lexicographic.{pointwise, bytes_decides}
-use Rattle.path_text.specs.Order.{is_within, is_under, front}
+use Rattle.path_text.specs.Order.{is_within, is_under}
 use Rattle.path_text.specs.Path.{refusal, parent_of, level_of}
 use Rattle.path_text.specs.Total.{path_cmp_same}
 use Rattle.path_text.specs.declared.errors.PathError.{PathError}
 use Rattle.outside.specs.Tree.{Files, Node, IsTree, is_placed, is_dir, is_root}
-use Rattle.outside.proofs.Children.{goes_on}
-use Rattle.outside.proofs.Parents.{child_of_parent}
 use Rattle.outside.specs.Lease.{in_tops, leased, kept, Joins, HaveParents}
 use Rattle.outside.specs.Parts.{IsPart, AreTops}
 use Rattle.outside.specs.Writes.{under as under_tops, is_top}
-use Rattle.outside.proofs.Depth.{as_deep, name_is_under, parent_above}
-
-parts : (a b : Bool) → (a && b) ≡ true → (a ≡ true) × (b ≡ true)
-parts true b e = (refl, e)
-parts false b e = absurd (false≢true e)
+use Rattle.path_text.proofs.Levels.{as_deep, parent_above}
+use Rattle.path_text.proofs.Parents.{parent_under}
+use Rattle.path_text.proofs.Within.{some_bytes, within_up}
 
 or_true : (b : Bool) → (b || true) ≡ true
 or_true true = refl
 or_true false = refl
-
-starts_of : (q f r : List ℕ) → q ≡ f ++ r → starts_with nat_eq q f ≡ true
-starts_of q f r e = (bytes_decides f (take (length f) q)).1 (sym (ap (take (length f)) e ∙ take_at f r (length f) refl))
-
-true_lt : (a b : ℕ) → a < b → nat_lt a b ≡ true
-true_lt a b e = grind (arith, nat_tests)
-
--- a text that goes on behind the front of a path is under it
-pub begins : (q p r : List ℕ) → q ≡ front p ++ r → 0 < length r → is_under q p ≡ true
-begins q p r e l = ap (λ b. b && nat_lt (length (front p)) (length q)) (starts_of q (front p) r e)
-    ∙ true_lt (length (front p)) (length q) (omega (arith, l, ap length e, length-append (front p) r))
-
-pub record Under (q p : List ℕ) : Type 0 where
-  pub rest : List ℕ
-  pub whole : q ≡ front p ++ rest
-  pub some : 0 < length rest
-
-is_longer : (m n : ℕ) → nat_lt m n ≡ true → m < n
-is_longer m n e = grind (arith, nat_tests)
-
-pub under : (q p : List ℕ) → is_under q p ≡ true → Under q p
-under q p u =
-    let s = parts (starts_with nat_eq q (front p)) _ u in
-    let whole : q ≡ front p ++ drop (length (front p)) q = goes_on (front p) q s.0 in
-    record {
-      rest = drop (length (front p)) q;
-      whole = whole;
-      some = omega (arith, is_longer _ _ s.1, ap length whole, length-append (front p) (drop (length (front p)) q));
-    }
-
--- what is under a path that is under another
-under_under : (q p t : List ℕ) → is_under q p ≡ true → is_under p t ≡ true → is_under q t ≡ true
-under_under q p t a b = by (under q p a) (under p t b)
-  where
-    by : Under q p → Under p t → is_under q t ≡ true
-    by u v = elim (length p == 1) as (λ c. q ≡ cond c p (p ++ 47 ∷ []) ++ u.rest → is_under q t ≡ true) [
-      | true ↦ λ e. begins q t (v.rest ++ u.rest) (e ∙ ap (λ x. x ++ u.rest) v.whole ∙ append_assoc (front t) v.rest u.rest)
-          (omega (arith, u.some, length-append v.rest u.rest))
-      | false ↦ λ e. begins q t (v.rest ++ (47 ∷ u.rest))
-          (e ∙ append_assoc p (47 ∷ []) u.rest ∙ ap (λ x. x ++ (47 ∷ u.rest)) v.whole ∙ append_assoc (front t) v.rest (47 ∷ u.rest))
-          (omega (arith, length-append v.rest (47 ∷ u.rest)))
-    ] u.whole
-
-pub within_up : (q p t : List ℕ) → is_under q p ≡ true → is_within p t ≡ true → is_within q t ≡ true
-within_up q p t a b = elim (pointwise nat_eq p t) as (λ c. pointwise nat_eq p t ≡ c → (c || is_under p t) ≡ true → is_within q t ≡ true) [
-  | true ↦ λ is _. ap (λ c. pointwise nat_eq q t || c) (subst (λ x. is_under q x ≡ true) ((bytes_decides p t).0 is) a) ∙ or_true (pointwise nat_eq q t)
-  | false ↦ λ _ u. ap (λ c. pointwise nat_eq q t || c) (under_under q p t a u) ∙ or_true (pointwise nat_eq q t)
-] refl b
 
 or_cases : (a b : Bool) → (a || b) ≡ true → (a ≡ true) ⊎ (b ≡ true)
 or_cases true b e = inl refl
@@ -96,9 +41,6 @@ not_in_up tops q p u off = elim (in_tops tops p) as (λ b. in_tops tops p ≡ b 
   | false ↦ λ _. refl
 ] refl
 
-pub parent_under : (q : List ℕ) → refusal q ≡ None → is_root q ≡ false → is_under q (parent_of q) ≡ true
-parent_under q fine off = name_is_under (parent_of q) q (child_of_parent q fine off)
-
 pub get_part : (tops : List (List ℕ)) (files : Files) (q : List ℕ) → get (leased tops files) q ≡ cond (in_tops tops q) (get files q) None
 get_part tops files q = get-retain_keys files (in_tops tops) q (λ x e. ap (in_tops tops) (sym (path_cmp_same q x e)))
 
@@ -117,10 +59,6 @@ a_top (t ∷ tops) q e = elim (is_within q t) as (λ b. is_within q t ≡ b → 
   | true ↦ λ is e. record { place = 0; top = t; at = refl; on = is }
   | false ↦ λ _ e. let s = a_top tops q e in record { place = suc s.place; top = s.top; at = s.at; on = s.on }
 ] refl e
-
-not_empty : (p : List ℕ) → refusal p ≡ None → 0 < length p
-not_empty [] e = cc
-not_empty (b ∷ p) e = omega arith
 
 above_root : (p : List ℕ) → refusal p ≡ None → is_root p ≡ false → 0 < level_of p
 above_root p fine off = let a = parent_above p fine off in omega (arith, a)
@@ -181,7 +119,7 @@ root_off tops q t r = elim (in_tops tops q) as (λ b. in_tops tops q ≡ b → b
     never : Standing tops q → ⊥
     never s = omega (
       arith,
-      as_deep q s.top (not_empty s.top (t.valid s.place s.top s.at)) s.on,
+      as_deep q s.top (some_bytes s.top (t.valid s.place s.top s.at)) s.on,
       ap level_of q_is,
       above_root s.top (t.valid s.place s.top s.at) (t.no_root s.place s.top s.at),
     )
@@ -229,7 +167,7 @@ dir_is_there (Some n) e = refl
 pub over_top : (tops : List (List ℕ)) → AreTops tops → (q : List ℕ) (i : ℕ) → slice_get tops i ≡ Some q → in_tops tops (parent_of q) ≡ false
 over_top tops t q i at = elim (in_tops tops (parent_of q)) as (λ b. in_tops tops (parent_of q) ≡ b → b ≡ false) [
   | true ↦ λ on. absurd (let s = a_top tops (parent_of q) on in
-      let a = as_deep (parent_of q) s.top (not_empty s.top (t.valid s.place s.top s.at)) s.on in
+      let a = as_deep (parent_of q) s.top (some_bytes s.top (t.valid s.place s.top s.at)) s.on in
       let b = parent_above q (t.valid i q at) (t.no_root i q at) in
       omega (arith, a, b, t.one_level i s.place q s.top at s.at))
   | false ↦ λ _. refl

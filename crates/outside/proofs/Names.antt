@@ -1,10 +1,10 @@
 -- The names of the children of a directory are names, and ascend in byte order.
-use Rattle.std.proofs.Common.{◌≡◌, ℕ, ◌<◌, ◌≤◌, Bool, true, false, not, cond, ◌&&◌, ◌||◌, List, [], ◌∷◌, ◌++◌, map, length, Option, Some, None, refl}
-use Rattle.std.proofs.Common.{ap, ◌∙◌, sym, subst, arith, length-append, append_assoc}
+use Rattle.std.proofs.Common.{◌≡◌, ℕ, ◌≤◌, Bool, true, false, cond, ◌&&◌, ◌||◌, List, [], ◌∷◌, ◌++◌, map, length, Option, Some, None, refl}
+use Rattle.std.proofs.Common.{ap, ◌∙◌, sym, subst, arith}
 use Rattle.std.proofs.lemmas.Bool.{false≢true}
 use Rattle.std.specs.Prelude.{IsTrue, T}
 use Rattle.std.specs.Option.{is_none, is_some}
-use Rattle.std.specs.List.{slice_split, onto_first, list_any, AllByRecursion, filter_map, cons_option, Contains}
+use Rattle.std.specs.List.{list_any, AllByRecursion, filter_map, cons_option, Contains}
 use Rattle.std.specs.List.Sorted.{IsStrictlySortedBy}
 use Rattle.std.specs.Ordering.{nat_cmp, ordering_then, is_lt}
 use Rattle.std.specs.Cmp.{eq_by_cmp_equiv, first_so}
@@ -13,15 +13,17 @@ use Rattle.std.specs.declared.cmp.Ordering.{Ordering}
 use Rattle.std.specs.declared.cmp.Ordering.TheVariants.{Less, Equal, Greater}
 use Rattle.std.specs.FinMap.{get, keys, entries, entries_sorted, contains_key-keys, is_sorted}
 use Rattle.std.specs.FinMap.Entries.{below_all}
-use Rattle.std.proofs.lemmas.List.Splits.{length-slice_split}
 use Rattle.std.proofs.lemmas.List.Elements.{All-from_recursion, recursion_from_All, All-contains_itself}
 use Rattle.std.proofs.lemmas.Map.Views.{list_any-from_Contains}
 use Rattle.std.proofs.lemmas.Bool.Decides.{nat_tests}
 use Rattle.path_text.specs.declared.errors.PathError.{PathError}
 use Rattle.path_text.specs.Order.{path_cmp, byte_rank, front}
 use Rattle.path_text.specs.Total.{path_cmp_total}
+use Rattle.path_text.proofs.Parents.{name_behind}
+use Rattle.path_text.proofs.Parts.{short}
 use Rattle.path_text.proofs.Preorder.{front-joined}
-use Rattle.path_text.specs.Path.{is_slash, name_fault, first_fault, refusal, is_name, joined, parent_of}
+use Rattle.path_text.proofs.Words.{behind}
+use Rattle.path_text.specs.Path.{is_slash, refusal, is_name, joined, parent_of}
 use Rattle.outside.specs.Tree.{Files, Node, IsTree, is_dir, is_root, name_below, AreNames, ChildrenAreNames}
 use Rattle.outside.proofs.Children.{child_is, one_name_parts}
 
@@ -84,62 +86,6 @@ sorted_ascend (e ∷ es) h = let b = both_so (below_all path_cmp e.0 es) (is_sor
 pub keys_ascend : (files : Files) → IsStrictlySortedBy path_cmp (keys files)
 keys_ascend files = sorted_ascend (entries files) (entries_sorted files)
 
--- a name behind a front is one, where all of it is a path
-
-some_part : (xs : List ℕ) → 0 < length (slice_split is_slash xs)
-some_part xs = omega (arith, length-slice_split is_slash xs)
-
-onto_append : (x : ℕ) (ps qs : List (List ℕ)) → 0 < length ps → onto_first x (ps ++ qs) ≡ onto_first x ps ++ qs
-onto_append x [] qs h = absurd (omega arith)
-onto_append x (p ∷ ps) qs h = refl
-
-pub split_more : (xs ys : List ℕ) → slice_split is_slash (xs ++ 47 ∷ ys) ≡ slice_split is_slash xs ++ slice_split is_slash ys
-split_more [] ys = refl
-split_more (x ∷ xs) ys =
-    let rest = split_more xs ys in
-    elim (is_slash x) as (λ b. cond b ([] ∷ slice_split is_slash (xs ++ 47 ∷ ys)) (onto_first x (slice_split is_slash (xs ++ 47 ∷ ys)))
-    ≡ cond b ([] ∷ slice_split is_slash xs) (onto_first x (slice_split is_slash xs)) ++ slice_split is_slash ys) [
-      | true ↦ ap (λ r. [] ∷ r) rest
-      | false ↦ ap (onto_first x) rest ∙ onto_append x _ _ (some_part xs)
-    ]
-
-pub split_name : (n : List ℕ) → list_any is_slash n ≡ false → slice_split is_slash n ≡ n ∷ []
-split_name [] h = refl
-split_name (x ∷ n) h =
-    elim (is_slash x) as (λ b. (b || list_any is_slash n) ≡ false
-    → cond b ([] ∷ slice_split is_slash n) (onto_first x (slice_split is_slash n)) ≡ (x ∷ n) ∷ []) [
-      | true ↦ λ e. cc
-      | false ↦ λ e. ap (onto_first x) (split_name n e)
-    ] h
-
-pub last_fine : (parts : List (List ℕ)) (m : List ℕ) → first_fault (parts ++ m ∷ []) ≡ None → name_fault m ≡ None
-last_fine [] m h = elim (name_fault m) as (λ f. cond (is_none f) None f ≡ None → f ≡ None) [ None ↦ λ e. refl | Some x ↦ λ e. e ] h
-last_fine (p ∷ parts) m h =
-    last_fine parts m (elim (name_fault p) as
-    (λ f. cond (is_none f) (first_fault (parts ++ m ∷ [])) f ≡ None → first_fault (parts ++ m ∷ []) ≡ None) [
-      | None ↦ λ e. e
-      | Some x ↦ λ e. cc
-    ] h)
-
-pub after_slash : (b : ℕ) (bytes : List ℕ) → refusal (b ∷ bytes) ≡ None → 0 < length bytes → first_fault (slice_split is_slash bytes) ≡ None
-after_slash b bytes h l = grind (arith, nat_tests)
-
-name_fine : (p m : List ℕ) → refusal (front p ++ m) ≡ None → 0 < length m → list_any is_slash m ≡ false → name_fault m ≡ None
-name_fine [] m h l s = last_fine [] m (ap first_fault (sym (split_name m s)) ∙ after_slash 47 m h l)
-name_fine (a ∷ []) m h l s = last_fine [] m (ap first_fault (sym (split_name m s)) ∙ after_slash a m h l)
-name_fine (a ∷ b ∷ p) m h l s =
-    let whole : front (a ∷ b ∷ p) ++ m ≡ a ∷ ((b ∷ p) ++ 47 ∷ m) = grind (arith, nat_tests, append_assoc {A = ℕ}) in
-    last_fine (slice_split is_slash (b ∷ p)) m
-    (ap (λ r. first_fault (slice_split is_slash (b ∷ p) ++ r)) (sym (split_name m s)) ∙ ap first_fault (sym (split_more (b ∷ p) m))
-    ∙ after_slash a ((b ∷ p) ++ 47 ∷ m) (ap refusal (sym whole) ∙ h) (omega (arith, length-append {A = ℕ})))
-
-name_by_parts : (m : List ℕ) → list_any is_slash m ≡ false → name_fault m ≡ None → is_name m ≡ true
-name_by_parts m s f = ap (λ b. not b && is_none (name_fault m)) s ∙ ap is_none f
-
-pub not_long : (x : List ℕ) → refusal x ≡ None → length x ≤ 4095
-not_long [] h = omega arith
-not_long (b ∷ bytes) h = grind (arith, nat_tests)
-
 -- the names of the children among some paths
 abbrev pub names_among : List ℕ → List (List ℕ) → List (List ℕ)
 names_among p qs = filter_map (name_below p) qs
@@ -155,21 +101,14 @@ fine_names p (q ∷ qs) v =
       | Some m ↦ λ is.
           let c = child_is p q m is in let o = one_name_parts m c.1 in (
             (
-              name_by_parts m o.1 (name_fine p m (ap refusal (sym c.0) ∙ v.0) o.0 o.1),
-              subst (λ x. length x ≤ 4095) (c.0 ∙ front-joined p m) (not_long q v.0),
+              name_behind p m (ap refusal (sym c.0) ∙ v.0) o.0 o.1,
+              subst (λ x. length x ≤ 4095) (c.0 ∙ front-joined p m) (short q v.0),
             ),
             fine_names p qs v.1,
           )
     ] refl
 
 -- behind the same front path order is the order of the names
-
-self_equal : (a : ℕ) (rest : Ordering) → ordering_then (nat_cmp (byte_rank a) (byte_rank a)) rest ≡ rest
-self_equal a rest = grind (arith, nat_tests)
-
-behind : (f m n : List ℕ) → path_cmp (f ++ m) (f ++ n) ≡ path_cmp m n
-behind [] m n = refl
-behind (a ∷ f) m n = self_equal a (path_cmp (f ++ m) (f ++ n)) ∙ behind f m n
 
 neither : (a b : Bool) → (a || b) ≡ false → (a ≡ false) × (b ≡ false)
 neither true b e = absurd (false≢true (sym e))

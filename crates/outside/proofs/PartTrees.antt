@@ -12,8 +12,9 @@ use Rattle.outside.specs.Tree.{Files, Node, IsTree, is_dir, is_root}
 use Rattle.outside.specs.Lease.{in_tops, leased}
 use Rattle.outside.specs.Parts.{IsPart, AreTops, LeasesKeepTrees}
 use Rattle.outside.specs.Writes.{under, is_top}
-use Rattle.outside.proofs.Leased.{at_tree, a_top, Standing, get_part, root_off, dir_is_there, rest_is_tree, back_is_tree}
-use Rattle.outside.proofs.Over.{parent_within, valid_there}
+use Rattle.outside.proofs.Leased.{at_tree, a_top, Standing, get_part, root_off, rest_is_tree, back_is_tree}
+use Rattle.outside.proofs.Over.{valid_there}
+use Rattle.path_text.proofs.Carried.{parent_moves_too}
 
 some_of : (b : Bool) (o : Option Node) → is_some (cond b o None) ≡ true → (b ≡ true) × (is_some o ≡ true)
 some_of true o e = (refl, e)
@@ -59,8 +60,7 @@ part_of tops files ok tree = record {
               let p = at_tree files tree q in
               let r = off q on in
               let dir = p.in_dir r some in
-              let within = parent_within q s.top (p.fine r some) r
-              (valid_there files tree (parent_of q) (dir_is_there (get files (parent_of q)) dir)) (ok.valid s.place s.top s.at) u in
+              let within = parent_moves_too.within q s.top (p.fine r some) (ok.valid s.place s.top s.at) u in
               ap (λ b. is_top (under tops) q || b)
               (ap is_dir (get_part tops files (parent_of q)
               ∙ ap (λ b. cond b (get files (parent_of q)) None) (in_by tops s.place s.top (parent_of q) s.at within)) ∙ dir)

@@ -13,8 +13,9 @@ use Rattle.std.specs.Cmp.Lexicographic.{pointwise, bytes_decides}
 use Rattle.std.specs.FinMap.{get, insert, remove, get-insert, get-remove, same_map}
 use Rattle.path_text.specs.Order.{path_cmp}
 use Rattle.path_text.specs.Path.{parent_of, refusal}
+use Rattle.path_text.proofs.Within.{not_root, root_is}
 use Rattle.path_text.specs.Total.{path_cmp_total, path_cmp_ties, path_cmp_same}
-use Rattle.outside.specs.Tree.{Files, Node, file, is_file, is_root, content}
+use Rattle.outside.specs.Tree.{Files, Node, file, is_file, content}
 use Rattle.outside.specs.Writes.{SameBut, Answers, written, new_file, spliced, time_of}
 use Rattle.outside.specs.Whole.{Holds, IsOld, Saves, can_put, can_save, save_error}
 use Rattle.outside.specs.declared.plots.WriteError.{WriteError}
@@ -171,21 +172,11 @@ no_parent l o p e n = grind (arith, nat_tests)
 pub has_parent : (l : ℕ) (o : Option (List ℕ)) (p x : List ℕ) → o ≡ cond (l == 1) None (Some p) → o ≡ Some x → (l ≢ 1) × (x ≡ p)
 has_parent l o p x e s = (grind (arith, nat_tests), grind (arith, nat_tests))
 
-pub root_short : (p : List ℕ) → refusal p ≡ None → length p ≡ 1 → is_root p ≡ true
-root_short [] v l = absurd (omega arith)
-root_short (b ∷ []) v l = grind (arith, nat_tests)
-root_short (b ∷ c ∷ p) v l = absurd (omega arith)
-
-pub root_long : (p : List ℕ) → length p ≢ 1 → is_root p ≡ false
-root_long [] l = refl
-root_long (b ∷ []) l = absurd (l refl)
-root_long (b ∷ c ∷ p) l = grind (arith, nat_tests)
-
 pub can_long : (was : Option Files) (p over : List ℕ) (old : Bool) → length p ≢ 1 → over ≡ parent_of p
     → IfSome was (λ files. (can_put files p over ≡ true) × (is_file (get files p) ≡ old)) → IfSome was (λ files. can_save files p ≡ true)
 can_long None p over old l e h = tt
-can_long (Some files) p over old l e h = ap (λ r. not r && can_put files p (parent_of p)) (root_long p l) ∙ ap (can_put files p) (sym e) ∙ h.0
+can_long (Some files) p over old l e h = ap (λ r. not r && can_put files p (parent_of p)) (not_root p l) ∙ ap (can_put files p) (sym e) ∙ h.0
 
 pub never_root : (was : Option Files) (p bytes : List ℕ) → refusal p ≡ None → length p ≡ 1 → IfSome was (λ files. Saves p bytes files (Err e.NoPlace) was)
 never_root None p bytes v l = tt
-never_root (Some files) p bytes v l = (ap (λ r. not r && can_put files p (parent_of p)) (root_short p v l), refl)
+never_root (Some files) p bytes v l = (ap (λ r. not r && can_put files p (parent_of p)) ((bytes_decides p (47 ∷ [])).1 (root_is p v l)), refl)

@@ -5,6 +5,7 @@ use Rattle.outside.specs.declared.failures.Failed.{Failed}
 use Rattle.outside.specs.declared.trees.Stat.{Stat}
 use Rattle.outside.specs.declared.trees.ListError.{ListError}
 use Rattle.outside.specs.declared.trees.ReadError.{ReadError}
+use Rattle.outside.specs.declared.trees.LinkError.{LinkError}
 use Rattle.outside.specs.declared.plots.WriteError.{WriteError}
 
 -- a call of a reader at a path, with its answer: a read names its place too
@@ -12,11 +13,13 @@ pub data Asked : Type 0 where
   stat : List ℕ → Result (Option Stat) Failed → Asked
   list : List ℕ → Result (List (List ℕ) × ℕ × ℕ) ListError → Asked
   read : List ℕ → ℕ → Result ℕ ReadError → Asked
+  read_link : List ℕ → Result (List ℕ) LinkError → Asked
 
--- a call that writes: bytes at a place, where it writes bytes
+-- a call that writes: with its text, where it makes a link, and with bytes at a place, where it writes bytes
 pub data Write : Type 0 where
   make_dir : Write
   make_file : Write
+  make_link : List ℕ → Write
   write_at : ℕ → List ℕ → Write
   remove_file : Write
   remove_dir : Write

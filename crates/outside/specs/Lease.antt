@@ -35,7 +35,7 @@ HaveParents tops files = (i : ℕ) (x : List ℕ) → slice_get tops i ≡ Some 
 
 -- the area of a ground once the tops are leased, behind those that are out
 abbrev pub area_without : List (List ℕ) → Area → Area
-area_without tops (all_but out) = all_but (out ++ tops ∷ [])
+area_without tops (all_but lent cut) = all_but (lent ++ tops ∷ []) cut
 area_without tops (under own) = under own
 
 abbrev pub same_tops : List (List ℕ) → List (List ℕ) → Bool
@@ -48,15 +48,15 @@ without_tops tops (one ∷ out) = if same_tops one tops then out else one ∷ wi
 
 -- the area of a ground once a part is back
 abbrev pub area_with : List (List ℕ) → Area → Area
-area_with tops (all_but out) = all_but (without_tops tops out)
+area_with tops (all_but lent cut) = all_but (without_tops tops lent) cut
 area_with tops (under own) = under own
 
 abbrev pub tops_of : Area → List (List ℕ)
-tops_of (all_but out) = []
+tops_of (all_but lent cut) = []
 tops_of (under tops) = tops
 
 -- a part with this area is out of a ground with that one
 abbrev pub is_out : Area → Area → Bool
-is_out (under tops) (all_but out) = list_any (λ one. same_tops one tops) out
+is_out (under tops) (all_but lent cut) = list_any (λ one. same_tops one tops) lent
 is_out (under tops) (under own) = false
-is_out (all_but others) area = false
+is_out (all_but lent cut) area = false

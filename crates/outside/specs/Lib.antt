@@ -2,6 +2,7 @@ pub mod Tree
 pub mod Codes
 pub mod Count
 pub mod Sinks
+pub mod Links
 pub mod Asked
 pub mod Answered
 pub mod Writes
@@ -10,3 +11,4 @@ pub mod Lease
 pub mod Parts
 pub mod Laid
 pub mod Listed
+pub mod Spans

@@ -16,7 +16,7 @@ pub record IsPart (tops : List (List ℕ)) (files : Files) : Type 0 where
 
 -- a tree of its shape: of a ground a whole one, of a part a part
 abbrev pub IsTreeIn : Area → Files → Type 0
-IsTreeIn (all_but out) files = IsTree files
+IsTreeIn (all_but lent cut) files = IsTree files
 IsTreeIn (under tops) files = IsPart tops files
 
 -- tops as a lease takes them: paths of one level, none of them `/`

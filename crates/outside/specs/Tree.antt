@@ -14,11 +14,12 @@ use Rattle.outside.specs.declared.trees.Kind.{Kind}
 use Rattle.outside.specs.declared.trees.Kind.TheVariants as kind
 use Rattle.outside.specs.declared.trees.Stat.{Stat}
 
--- what stands at a path: a directory with the number of children whose path is too long, a file with its bytes, a link or another
+-- what stands at a path: a directory with the number of children whose path is too long, a file with its bytes, a link with its
+-- text, or another
 pub data Body : Type 0 where
   dir : ℕ → Body
   file : List ℕ → Body
-  link : Body
+  link : List ℕ → Body
   other : Body
 
 pub record Node : Type 0 where
@@ -32,7 +33,7 @@ Files = FinMap path_cmp Node
 abbrev pub is_dir_body : Body → Bool
 is_dir_body (dir far) = true
 is_dir_body (file bytes) = false
-is_dir_body link = false
+is_dir_body (link text) = false
 is_dir_body other = false
 
 abbrev pub is_dir : Option Node → Bool
@@ -56,37 +57,48 @@ names_in files path = filter_map (name_below path) (keys files)
 abbrev pub kind_of : Body → Kind
 kind_of (dir far) = kind.Dir
 kind_of (file bytes) = kind.File
-kind_of link = kind.Link
+kind_of (link text) = kind.Link
 kind_of other = kind.Other
 
 abbrev pub size_of : Body → ℕ
 size_of (dir far) = 0
 size_of (file bytes) = length bytes
-size_of link = 0
+size_of (link text) = 0
 size_of other = 0
 
 abbrev pub far_of : Body → ℕ
 far_of (dir far) = far
 far_of (file bytes) = 0
-far_of link = 0
+far_of (link text) = 0
 far_of other = 0
 
 -- of a file its bytes
 abbrev pub bytes_of : Body → List ℕ
 bytes_of (dir far) = []
 bytes_of (file bytes) = bytes
-bytes_of link = []
+bytes_of (link text) = []
 bytes_of other = []
 
 abbrev pub is_file_body : Body → Bool
 is_file_body (dir far) = false
 is_file_body (file bytes) = true
-is_file_body link = false
+is_file_body (link text) = false
 is_file_body other = false
 
 abbrev pub is_file : Option Node → Bool
 is_file None = false
 is_file (Some n) = is_file_body n.body
+
+-- of a link its text
+abbrev pub text_of : Body → Option (List ℕ)
+text_of (dir far) = None
+text_of (file bytes) = None
+text_of (link text) = Some text
+text_of other = None
+
+abbrev pub link_at : Option Node → Option (List ℕ)
+link_at None = None
+link_at (Some n) = text_of n.body
 
 abbrev pub content : Option Node → List ℕ
 content None = []

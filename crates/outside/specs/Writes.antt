@@ -1,26 +1,40 @@
 -- Where files may be written, and what each call that writes answers and leaves. Our own, after the calls of a file system.
-use Rattle.std.specs.Prelude.{◌≡◌, ℕ, ◌+◌, ◌≤◌, Bool, true, false, not, ◌&&◌, ◌||◌, List, ◌++◌, length, take, drop, if◌then◌else◌, ◌==◌, Option, Some}
-use Rattle.std.specs.Prelude.{None, IfSome, is_some, is_none, nat_eq, Result, Ok, Err}
+use Rattle.std.specs.Prelude.{◌≡◌, ℕ, ◌+◌, ◌≤◌, Bool, true, false, not, ◌&&◌, ◌||◌, List, [], ◌∷◌, ◌++◌, length, map, take, drop, if◌then◌else◌, ◌==◌}
+use Rattle.std.specs.Prelude.{Option, Some, None, IfSome, is_some, is_none, nat_eq, Result, Ok, Err}
 use Rattle.std.specs.List.{list_any, list_all}
 use Rattle.std.specs.FinMap.{get, insert}
 use Rattle.std.specs.Cmp.Lexicographic.{pointwise}
 use Rattle.path_text.specs.Order.{is_within}
 use Rattle.path_text.specs.Path.{parent_of}
-use Rattle.outside.specs.Tree.{Files, Node, dir, file, is_dir, is_root, names_in, is_file, content, far_at}
+use Rattle.outside.specs.Tree.{Files, Node, dir, file, link, is_dir, is_root, names_in, is_file, content, far_at}
 use Rattle.outside.specs.declared.plots.WriteError.{WriteError}
 use Rattle.outside.specs.declared.plots.WriteError.TheVariants as e
 
--- where an object may write: everywhere but at, under and over the tops that are lent out, or at and under its own tops
+-- a file that is out in spans: its path, and where it was cut
+pub record Cut : Type 0 where
+  pub path : List ℕ
+  pub cuts : List ℕ
+
+-- where an object may write: everywhere but at, under and over what is out, which is the tops of parts and files in spans; or at and
+-- under its own tops
 pub data Area : Type 0 where
-  all_but : List (List (List ℕ)) → Area
+  all_but : List (List (List ℕ)) → List Cut → Area
   under : List (List ℕ) → Area
+
+-- nothing is out
+abbrev pub nothing_lent : Area
+nothing_lent = all_but [] []
+
+-- the tops of all that is out: of a file in spans its path alone
+abbrev pub all_out : List (List (List ℕ)) → List Cut → List (List (List ℕ))
+all_out lent cut = map (λ c. c.path ∷ []) cut ++ lent
 
 -- the path is neither a top, nor under one, nor over one
 abbrev pub is_apart : List ℕ → List (List ℕ) → Bool
 is_apart path tops = list_all (λ top. not (is_within path top || is_within top path)) tops
 
 abbrev pub in_area : Area → List ℕ → Bool
-in_area (all_but lent) path = list_all (is_apart path) lent
+in_area (all_but lent cut) path = list_all (is_apart path) (all_out lent cut)
 in_area (under tops) path = list_any (is_within path) tops
 
 -- a path that a call may name
@@ -28,7 +42,7 @@ abbrev pub is_open : Area → List ℕ → Bool
 is_open area path = in_area area path && not (is_root path)
 
 abbrev pub is_top : Area → List ℕ → Bool
-is_top (all_but lent) path = false
+is_top (all_but lent cut) path = false
 is_top (under tops) path = list_any (λ top. pointwise nat_eq top path) tops
 
 -- why nothing can be made at the path. Over a top of its own an object has a directory
@@ -60,6 +74,10 @@ empty_dir = record { body = dir 0; mtime = None }
 -- a file as it is made, without a time
 abbrev pub new_file : List ℕ → Node
 new_file bytes = record { body = file bytes; mtime = None }
+
+-- a link as it is made, without a time
+abbrev pub new_link : List ℕ → Node
+new_link text = record { body = link text; mtime = None }
 
 -- bytes put over those at a place, and past the end
 abbrev pub spliced : List ℕ → ℕ → List ℕ → List ℕ

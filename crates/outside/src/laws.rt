@@ -1,6 +1,9 @@
 //! Laws of trees and of leases, each the contract of a function that does nothing.
 ghost use Rattle.outside.specs.Parts.{LeasesKeepTrees, LeasesOverlap, UnderDirectories};
+ghost use Rattle.outside.specs.Links.{LinkReadingUndoesWriting};
 ghost use Rattle.outside.specs.Tree.{ChildrenAreNames, ChildrenHaveParents, NodesHavePaths};
+
+use path_text::unescaping_undoes_escaping;
 
 /// The names in a directory of any tree are valid names in strictly ascending byte order, and the path of each child has at
 /// most 4,095 bytes.
@@ -32,3 +35,10 @@ pub fn leases_keep_trees()
 pub fn leases_overlap()
     ensures { LeasesOverlap }
 {}
+
+/// What is written for a link's text is read as that text, and nothing else is.
+pub fn link_reading_undoes_writing()
+    ensures { LinkReadingUndoesWriting }
+{
+    unescaping_undoes_escaping();
+}

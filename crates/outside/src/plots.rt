@@ -2,6 +2,7 @@
 ghost use Rattle.std.specs.Prelude.{◌≡◌, ℕ, Option, IsTrue, IfErr, IfSome, IsErrOf, is_some};
 ghost use Rattle.outside.specs.Count.{RoseBy};
 
+use crate::links::LinkText;
 use path_text::{OutOfMemory, Path};
 use std::alloc::{AllocError, Global};
 use thiserror::Error;
@@ -60,7 +61,7 @@ impl From<AllocError> for WriteError {
 pub trait Plot {
     ghost use Rattle.outside.specs.Tree.{Files};
     ghost use Rattle.outside.specs.Parts.{IsTreeIn};
-    ghost use Rattle.outside.specs.Writes.{Area, is_open, make_refusal, write_refusal, remove_file_refusal, remove_dir_refusal, empty_dir, new_file, written, HasPlace, Answers, may_make, may_change, may_empty};
+    ghost use Rattle.outside.specs.Writes.{Area, is_open, make_refusal, write_refusal, remove_file_refusal, remove_dir_refusal, empty_dir, new_file, new_link, written, HasPlace, Answers, may_make, may_change, may_empty};
     ghost use Rattle.std.specs.FinMap as map;
     ghost use Rattle.outside.specs.Asked.{Write};
     ghost use Rattle.outside.specs.Asked as asked;
@@ -106,6 +107,17 @@ pub trait Plot {
         ensures count { RoseBy 0 (count self.old) (count self.new) }
         ensures cause { IsErrOf result WriteError.Failed → RoseBy 1 (count self.old) (count self.new) }
         ensures given { gives self.old path.now asked.make_file result self.new };
+
+    /// Makes a link with this text, without a time.
+    fn make_link(&mut self, alloc: Global, path: &Path, text: &LinkText) -> Result<(), WriteError>
+        requires { IsTrue (is_open (area self.old) path.now) }
+        ensures told { IfSome (tree self.old) (λ files. Answers path.now (make_refusal (area self.old) files path.now) files (map.insert files path.now (new_link text.now)) result (tree self.new)) }
+        ensures named { IfErr result (λ e. IsTrue (may_make e)) }
+        ensures tells { is_some (tree self.new) ≡ is_some (tree self.old) }
+        ensures area { area self.new ≡ area self.old }
+        ensures count { RoseBy 0 (count self.old) (count self.new) }
+        ensures cause { IsErrOf result WriteError.Failed → RoseBy 1 (count self.old) (count self.new) }
+        ensures given { gives self.old path.now (asked.make_link text.now) result self.new };
 
     /// Writes bytes over those of a file from a place on, and past its end.
     fn write_at(

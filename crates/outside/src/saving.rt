@@ -3,7 +3,7 @@ ghost use Rattle.std.specs.Prelude.{◌≡◌, ◌≢◌, ◌⊎◌, true, false
 ghost use Rattle.std.specs.FinMap as map;
 ghost use Rattle.outside.specs.Count.{RoseBy};
 ghost use Rattle.outside.specs.Tree.{is_file, is_dir};
-ghost use Rattle.outside.specs.Writes.{all_but, is_open, make_refusal, new_file, SameBut};
+ghost use Rattle.outside.specs.Writes.{nothing_lent, is_open, make_refusal, new_file, SameBut};
 ghost use Rattle.outside.specs.Whole.{can_put, Saves, Holds, IsOld};
 ghost use Rattle.outside.specs.Asked as asked;
 ghost use Rattle.outside.specs.Answered.{over_told, place_told, LookFound, LookStopped, LastWrite, Cleared, WroteFront, SaveEnded, SaveStopped};
@@ -78,7 +78,7 @@ pub fn save<G: Ground>(
     path: &Path,
     bytes: &[u8],
 ) -> Result<(), SaveError>
-    requires { G.area ground.old ≡ all_but [] }
+    requires { G.area ground.old ≡ nothing_lent }
     ensures told { IfSome (G.tree ground.old) (λ files. Saves path.now bytes.now files result (G.tree ground.new)) }
     ensures tells { is_some (G.tree ground.new) ≡ is_some (G.tree ground.old) }
     ensures area { G.area ground.new ≡ G.area ground.old }
@@ -187,9 +187,9 @@ fn clear<G: Ground>(alloc: Global, ground: &mut G, path: &Path, old: bool) -> Re
 
 // Makes an empty file, where nothing is and the parent is a directory.
 fn make_empty<G: Ground>(alloc: Global, ground: &mut G, path: &Path) -> Result<(), SaveError>
-    requires area { G.area ground.old ≡ all_but [] }
+    requires area { G.area ground.old ≡ nothing_lent }
     requires open { IsTrue (is_open (G.area ground.old) path.now) }
-    requires free { IfSome (G.tree ground.old) (λ files. make_refusal (all_but []) files path.now ≡ None) }
+    requires free { IfSome (G.tree ground.old) (λ files. make_refusal nothing_lent files path.now ≡ None) }
     ensures told { OnOk result (IfSome (G.tree ground.old) (λ files. IfSome (G.tree ground.new) (Holds path.now (Some (new_file [])) files))) }
     ensures no_place { IsErrOf result SaveError.NoPlace → is_some (G.tree ground.old) ≡ false }
     ensures rest { OnErr result (IfSome (G.tree ground.old) (λ files. IfSome (G.tree ground.new) (SameBut path.now files))) }

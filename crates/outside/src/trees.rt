@@ -1,8 +1,9 @@
 //! Trees of files that can be looked at.
-ghost use Rattle.std.specs.Prelude.{◌≡◌, ◌≢◌, ◌≤◌, ℕ, Option, Some, false, length, OnOk, OnErr, IfOk, IfSome, IsErrOf};
+ghost use Rattle.std.specs.Prelude.{◌≡◌, ◌≢◌, ◌≤◌, ℕ, Option, Some, None, false, length, OnOk, OnErr, IfOk, IfSome, IsErrOf};
 ghost use Rattle.outside.specs.Count.{RoseBy};
 
 use crate::failures::Failed;
+use crate::links::LinkText;
 use crate::listings::Listing;
 use path_text::Path;
 use std::alloc::Global;
@@ -57,9 +58,23 @@ pub enum ReadError {
     NotFile,
 }
 
+/// Why the text of a link is not told.
+#[derive(Clone, Copy, Debug, Drop, PartialEq, Eq, Error)]
+pub enum LinkError {
+    /// The outside failed, and the object has counted it.
+    #[error("the outside failed")]
+    Failed,
+    /// The path is no link.
+    #[error("the path is no link")]
+    NotLink,
+    /// No memory was found.
+    #[error("out of memory")]
+    OutOfMemory,
+}
+
 /// Files that can be looked at. Links are not followed.
 pub trait Tree {
-    ghost use Rattle.outside.specs.Tree.{Files, is_dir, is_file, stat_of, Lists, AreNames, IsTree, Reads};
+    ghost use Rattle.outside.specs.Tree.{Files, is_dir, is_file, link_at, stat_of, Lists, AreNames, IsTree, Reads};
     ghost use Rattle.std.specs.FinMap as map;
     ghost use Rattle.std.specs.Option.{option_map};
     ghost use Rattle.outside.specs.Asked.{Asked};
@@ -115,4 +130,14 @@ pub trait Tree {
         ensures size { length into.new ≡ length into.old }
         ensures untouched { IsErrOf result ReadError.NotFile → into.new ≡ into.old }
         ensures given { gives self.old (asked.read path.now at result) self.new };
+
+    /// The text of the link at the path.
+    fn read_link(&mut self, alloc: Global, path: &Path) -> Result<LinkText, LinkError>
+        ensures valid { IfSome (tree self.old) IsTree }
+        ensures same { tree self.new ≡ tree self.old }
+        ensures told { IfOk result (λ text. IfSome (tree self.old) (λ files. link_at (map.get files path.now) ≡ Some text)) }
+        ensures not_link { IsErrOf result LinkError.NotLink → IfSome (tree self.old) (λ files. link_at (map.get files path.now) ≡ None) }
+        ensures cause { IsErrOf result LinkError.Failed → RoseBy 1 (count self.old) (count self.new) }
+        ensures count { RoseBy 0 (count self.old) (count self.new) }
+        ensures given { gives self.old (asked.read_link path.now result) self.new };
 }

@@ -44,7 +44,7 @@ first_fault-append (n ∷ as') bs h =
       | Some x ↦ λ e. cc
     ] h
 
-one_name : (n : List ℕ) → name_fault n ≡ None → first_fault (n ∷ []) ≡ None
+pub one_name : (n : List ℕ) → name_fault n ≡ None → first_fault (n ∷ []) ≡ None
 one_name n e = rw e
 
 pub behind : (bytes : List ℕ) → length bytes + 1 ≤ 4095 → first_fault (slice_split is_slash bytes) ≡ None → refusal (47 ∷ bytes) ≡ None

@@ -14,3 +14,7 @@ pub mod Parts
 pub mod Readable
 pub mod Refused
 pub mod Parents
+pub mod Within
+pub mod Fronts
+pub mod Carried
+pub mod Levels

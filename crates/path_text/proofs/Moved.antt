@@ -1,11 +1,10 @@
 -- Paths below a top and on it.
-use Rattle.std.proofs.Common.{◌≡◌, ℕ, ◌<◌, List, [], ◌∷◌, ◌++◌, length, drop, refl, ap, ◌∙◌, sym, subst, arith, None, true, false, ⊎_elim}
-use Rattle.std.specs.Prelude.{nat_eq, IsTrue, ◌||◌}
-use Rattle.std.specs.Cmp.Lexicographic.{pointwise, bytes_decides}
+use Rattle.std.proofs.Common.{◌≡◌, ℕ, ◌<◌, List, [], ◌∷◌, ◌++◌, length, drop, refl, ap, ◌∙◌, sym, subst, arith, None, ⊎_elim}
+use Rattle.std.specs.Prelude.{IsTrue}
 use Rattle.std.specs.Ordering.{ordering_reverse}
 use Rattle.std.specs.declared.cmp.Ordering.TheVariants.{Less, Equal}
 use Rattle.path_text.specs.Path.{refusal}
-use Rattle.path_text.specs.Order.{path_cmp, front, is_under, is_within}
+use Rattle.path_text.specs.Order.{path_cmp, front, is_within}
 use Rattle.path_text.specs.Graft.{below_of, grafted, BelowUndoesGraft, BelowKeepsOrder}
 use Rattle.path_text.specs.Total.{path_cmp_total}
 use Rattle.path_text.proofs.Preorder.{self_equal, front-joined}
@@ -14,8 +13,9 @@ use Rattle.path_text.proofs.Words.{behind}
 use Rattle.path_text.proofs.Joined.{first_slash}
 use Rattle.path_text.proofs.Parts.{within, nothing_left, begins, grafted_names}
 use Rattle.path_text.proofs.Under.{is_under_by}
+use Rattle.path_text.proofs.Within.{itself, under_within}
 
-equal : (x : List ℕ) → path_cmp x x ≡ Equal
+pub equal : (x : List ℕ) → path_cmp x x ≡ Equal
 equal [] = refl
 equal (b ∷ x) = self_equal b (path_cmp x x) ∙ equal x
 
@@ -59,17 +59,11 @@ record IsMoved (top rest : List ℕ) : Type 0 where
   within : IsTrue (is_within (grafted top rest) top)
   back : below_of (grafted top rest) top ≡ rest
 
-itself : (top : List ℕ) → IsTrue (is_within top top)
-itself top = ap (λ b. b || is_under top top) ((bytes_decides top top).1 refl)
-
-or_under : (x top : List ℕ) → IsTrue (is_under x top) → IsTrue (is_within x top)
-or_under x top h = elim (pointwise nat_eq x top) as (λ b. (b || is_under x top) ≡ true) [ true ↦ refl | false ↦ h ]
-
 moved_names : (top names : List ℕ) → 0 < length names → IsMoved top (47 ∷ names)
 moved_names top names h =
     let whole : grafted top (47 ∷ names) ≡ front top ++ names = grafted_names top names h ∙ sym (front-joined top names) in
     record {
-      within = or_under (grafted top (47 ∷ names)) top (is_under_by (grafted top (47 ∷ names)) top names whole h);
+      within = under_within (grafted top (47 ∷ names)) top (is_under_by (grafted top (47 ∷ names)) top names whole h);
       back = ap (λ r. 47 ∷ r) (sym (begins (grafted top (47 ∷ names)) (front top) names whole).0);
     }
 

@@ -108,7 +108,7 @@ rest_of (n ∷ as') bs h =
       | Some x ↦ λ e. cc
     ] h
 
-short : (p : List ℕ) → refusal p ≡ None → length p ≤ 4095
+pub short : (p : List ℕ) → refusal p ≡ None → length p ≤ 4095
 short [] h = omega arith
 short (b ∷ bytes) h = grind (arith, nat_tests)
 
@@ -149,7 +149,7 @@ never_bare (b ∷ bytes) h e = absurd (false≢true (sym e ∙ ap (λ b. is_slas
 split_count : (bytes : List ℕ) → count_by is_slash (47 ∷ bytes) ≡ length (slice_split is_slash bytes)
 split_count bytes = sum_by-cons (λ b. cond (is_slash b) 1 0) 47 bytes ∙ omega (arith, length-slice_split is_slash bytes)
 
-level_is : (p : List ℕ) → length p ≢ 1 → level_of p ≡ length (slice_split is_slash (drop 1 p))
+pub level_is : (p : List ℕ) → length p ≢ 1 → level_of p ≡ length (slice_split is_slash (drop 1 p))
 level_is p l = grind (arith, nat_tests)
 
 -- a path other than `/` has a slash for each name
@@ -162,6 +162,9 @@ front_root p e = grind (arith, nat_tests)
 
 pub front_other : (p : List ℕ) → length p ≢ 1 → front p ≡ p ++ 47 ∷ []
 front_other p e = grind (arith, nat_tests)
+
+pub front_long : (a b : ℕ) (p : List ℕ) → front (a ∷ b ∷ p) ≡ (a ∷ b ∷ p) ++ 47 ∷ []
+front_long a b p = front_other (a ∷ b ∷ p) (λ l. absurd (omega arith))
 
 pub begins : (s f r : List ℕ) → s ≡ f ++ r → (r ≡ drop (length f) s) × (starts_with nat_eq s f ≡ true)
 begins s f r e = (sym (drop-append_seam f r) ∙ ap (drop (length f)) (sym e), (starts_is Decides-eqb s f _ refl).1 r e)
@@ -198,15 +201,15 @@ pub by_slash : (s p t : List ℕ) (r : Option (Bor (List ℕ))) → s ≡ p ++ t
 by_slash s p t None e l h = (tt, no_slash_behind s p t e h l)
 by_slash s p t (Some x) e l h = ((behind_slash s p t x.now e h l).1, tt)
 
-ends_front : (p : List ℕ) → length p ≤ length (front p)
-ends_front p = elim (length p == 1) as (λ b. length p ≤ length (cond b p (p ++ 47 ∷ []))) [
+pub front_longer : (p : List ℕ) → length p ≤ length (front p)
+front_longer p = elim (length p == 1) as (λ b. length p ≤ length (cond b p (p ++ 47 ∷ []))) [
   | true ↦ omega arith
   | false ↦ omega
       (arith, length-append p (47 ∷ []))
 ]
 
 pub nothing_left : (p : List ℕ) → [] ≡ drop (length (front p)) p
-nothing_left p = sym (drop_of_length-le p (ends_front p))
+nothing_left p = sym (drop_of_length-le p (front_longer p))
 
 -- where a path is within another, it is that one, or stands behind its front
 pub within : (x p : List ℕ) → IsTrue (is_within x p) → (x ≡ p) ⊎ ((x ≡ front p ++ drop (length (front p)) x) × (0 < length (drop (length (front p)) x)))

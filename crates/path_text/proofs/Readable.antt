@@ -16,7 +16,7 @@ use Rattle.path_text.specs.declared.errors.PathError.{PathError}
 use Rattle.path_text.specs.declared.errors.EscapeError.TheVariants.{BadEscape}
 use Rattle.path_text.specs.Path.{refusal}
 use Rattle.path_text.specs.Escape.{hex_digit, is_escaped, escaped, escape, hex_value, told_byte, begins_escape, good_len, unescaped, path_of, reading}
-use Rattle.path_text.specs.Escape.{ReadingUndoesWriting}
+use Rattle.path_text.specs.Escape.{ReadingUndoesWriting, UnescapingUndoesEscaping}
 
 pub as_escape : (b : ℕ) → is_escaped b ≡ true → escaped b ≡ 92 ∷ 120 ∷ hex_digit (b / 16) ∷ hex_digit (b % 16) ∷ []
 as_escape b e = ap (λ t. cond t (92 ∷ 120 ∷ hex_digit (b / 16) ∷ hex_digit (b % 16) ∷ []) (b ∷ [])) e
@@ -318,11 +318,12 @@ read_good s h = ap (λ t. cond t (Err (BadEscape (good_len s))) (path_of (refusa
     all_good : (m n : ℕ) → m ≡ n → nat_lt m n ≡ false
     all_good m n e = grind (arith, nat_tests)
 
-read_as : (text path : List ℕ) → reading text ≡ Ok path → (good_len text ≡ length text) × (unescaped text ≡ path)
+read_as : (text path : List ℕ) → reading text ≡ Ok path →
+    (good_len text ≡ length text) × ((unescaped text ≡ path) × (refusal (unescaped text) ≡ None))
 read_as text path =
     elim (nat_lt (good_len text) (length text)) as (λ t. nat_lt (good_len text) (length text) ≡ t →
     cond t (Err (BadEscape (good_len text))) (path_of (refusal (unescaped text)) (unescaped text)) ≡ Ok path →
-    (good_len text ≡ length text) × (unescaped text ≡ path)) [
+    (good_len text ≡ length text) × ((unescaped text ≡ path) × (refusal (unescaped text) ≡ None))) [
       | true ↦ λ e h. cc
       | false ↦ λ e h. (all_good (good_len text) (length text) (good_le text) e, unrefused (refusal (unescaped text)) (unescaped text) path h)
     ] refl
@@ -330,12 +331,24 @@ read_as text path =
     all_good : (m n : ℕ) → m ≤ n → nat_lt m n ≡ false → m ≡ n
     all_good m n l e = grind (arith, nat_tests)
 
-    unrefused : (f : Option PathError) (bytes path : List ℕ) → path_of f bytes ≡ Ok path → bytes ≡ path
-    unrefused None bytes path e = cc
+    unrefused : (f : Option PathError) (bytes path : List ℕ) → path_of f bytes ≡ Ok path → (bytes ≡ path) × (f ≡ None)
+    unrefused None bytes path e = (cc, refl)
     unrefused (Some f) bytes path e = cc
+
+-- what is read as a path is one
+pub read_is_path : (text path : List ℕ) → reading text ≡ Ok path → refusal path ≡ None
+read_is_path text path h = let w = (read_as text path h).1 in ap refusal (sym w.0) ∙ w.1
 
 pub reading_undoes_writing : ReadingUndoesWriting
 reading_undoes_writing = record {
   back = λ p h. let w = read_back p in read_good (escape p) w.good ∙ ap (λ b. path_of (refusal b) b) w.read ∙ ap (λ f. path_of f p) h;
-  one_spelling = λ text p h. let w = read_as text p h in spelled (length text) text (omega arith) w.0 ∙ ap escape w.1;
+  one_spelling = λ text p h. let w = read_as text p h in spelled (length text) text (omega arith) w.0 ∙ ap escape w.1.0;
+}
+
+pub unescaping_undoes_escaping : UnescapingUndoesEscaping
+unescaping_undoes_escaping = record {
+  within = good_le;
+  good = λ bytes. (read_back bytes).good;
+  back = λ bytes. (read_back bytes).read;
+  one_spelling = λ text h. sym (spelled (length text) text (omega arith) h);
 }

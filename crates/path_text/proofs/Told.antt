@@ -7,6 +7,7 @@ use Rattle.std.proofs.lemmas.List.Sums.{sum_by-cons}
 use Rattle.std.proofs.lemmas.Bool.Decides.{nat_tests}
 use Rattle.path_text.specs.declared.errors.PathError.TheVariants.{EmptyName, DotName, Nul}
 use Rattle.path_text.specs.Path.{is_slash, name_fault, first_fault, refusal}
+use Rattle.path_text.specs.Order.{has_zero}
 use Rattle.path_text.specs.Escape.{hex_digit, is_escaped, escaped, escape, good_len, unescaped}
 use Rattle.path_text.specs.Written.{is_backslash, begins_nul, tells_nul, written_fault, first_written}
 use Rattle.path_text.proofs.Readable.{as_escape, as_itself, low, spelled, good_more}
@@ -85,6 +86,10 @@ nul_told (b ∷ p) =
     by_byte (λ s. tells_nul s ≡ list_any (λ b. b == 0) (b ∷ p)) b (escape p)
     (λ e. past_digits b (escape p) e ∙ ap (λ t. (b == 0) || t) (nul_told p))
     (λ e. past b (escape p) (plain_backslash b e) ∙ nul_told p ∙ ap (λ t. t || list_any (λ b. b == 0) p) (sym (plain_nul b e)))
+
+-- the same of a whole text
+pub zero_told : (s : List ℕ) → good_len s ≡ length s → tells_nul s ≡ has_zero (unescaped s)
+zero_told s h = ap tells_nul (spelled (length s) s (omega arith) h) ∙ nul_told (unescaped s)
 
 -- dots
 escaped_dot : (b : ℕ) → is_escaped b ≡ true → (b == 46) ≡ false

@@ -17,7 +17,7 @@ use Rattle.path_text.proofs.Preordered.{begins, longer}
 use Rattle.path_text.proofs.Parts as parts
 
 -- no path comes before itself
-irreflexive : (x : List ℕ) → path_cmp x x ≡ Less → ⊥
+pub irreflexive : (x : List ℕ) → path_cmp x x ≡ Less → ⊥
 irreflexive x e =
     let d : path_cmp x x ≡ ordering_reverse (path_cmp x x) = path_cmp_total.antisymm x x in
     let g : Less ≡ Greater = sym e ∙ d ∙ ap ordering_reverse e in
@@ -97,7 +97,7 @@ front_lower u x e =
     ]
 
 -- no path ends in a slash but `/`
-not_front : (u x : List ℕ) → refusal u ≡ None → refusal x ≡ None → x ≡ front u → x ≡ u
+pub not_front : (u x : List ℕ) → refusal u ≡ None → refusal x ≡ None → x ≡ front u → x ≡ u
 not_front [] x v w e = cc
 not_front (b ∷ u) x v w e =
     elim (length (b ∷ u) == 1) as (λ t. x ≡ cond t (b ∷ u) (b ∷ (u ++ 47 ∷ [])) → x ≡ b ∷ u) [

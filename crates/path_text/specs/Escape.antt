@@ -1,5 +1,5 @@
--- How a path is written so that it fills one line of printable text, and how such a text is read. Our own.
-use Rattle.std.specs.Prelude.{◌≡◌, ℕ, ◌+◌, ◌-◌, ◌*◌, ◌/◌, ◌%◌, Bool, not, ◌&&◌, List, [], ◌∷◌, length, drop, if◌then◌else◌, nat_lt, nat_eq, ◌==◌}
+-- How bytes, those of a path above all, are written so that they fill one line of printable text, and how such a text is read. Our own.
+use Rattle.std.specs.Prelude.{◌≡◌, ℕ, ◌≤◌, ◌+◌, ◌-◌, ◌*◌, ◌/◌, ◌%◌, Bool, not, ◌&&◌, List, [], ◌∷◌, length, drop, if◌then◌else◌, nat_lt, nat_eq, ◌==◌}
 use Rattle.std.specs.Prelude.{◌||◌, slice_index, Option, Some, None, Result, Ok, Err}
 use Rattle.std.specs.List.{flat_map, starts_with}
 use Rattle.path_text.specs.declared.errors.PathError.{PathError}
@@ -55,6 +55,13 @@ abbrev pub reading : List ℕ → Result (List ℕ) EscapeError
 reading text =
     if nat_lt (good_len text) (length text) then Err (BadEscape (good_len text))
     else path_of (refusal (unescaped text)) (unescaped text)
+
+-- what is written for some bytes is read as them, and for what a text without a bad byte stands for that text alone is written
+pub record UnescapingUndoesEscaping : Type 0 where
+  pub within : (text : List ℕ) → good_len text ≤ length text
+  pub good : (bytes : List ℕ) → good_len (escape bytes) ≡ length (escape bytes)
+  pub back : (bytes : List ℕ) → unescaped (escape bytes) ≡ bytes
+  pub one_spelling : (text : List ℕ) → good_len text ≡ length text → escape (unescaped text) ≡ text
 
 -- reading undoes writing, and a path is read from one text alone
 pub record ReadingUndoesWriting : Type 0 where

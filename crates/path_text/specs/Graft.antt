@@ -1,7 +1,7 @@
 -- A path moved from one top to another. Our own.
 use Rattle.std.specs.Prelude.{◌≡◌, ℕ, List, ◌∷◌, length, drop, if◌then◌else◌, ◌==◌, IsTrue, None}
-use Rattle.path_text.specs.Path.{joined, refusal}
-use Rattle.path_text.specs.Order.{path_cmp, front, is_within}
+use Rattle.path_text.specs.Path.{joined, refusal, parent_of}
+use Rattle.path_text.specs.Order.{path_cmp, front, is_under, is_within}
 
 -- the path that x, which is within the top, would be if the top were `/`
 abbrev pub below_of : List ℕ → List ℕ → List ℕ
@@ -23,3 +23,10 @@ pub record BelowUndoesGraft : Type 0 where
 -- paths within one top have the order that they have below it
 abbrev pub BelowKeepsOrder : Type 0
 BelowKeepsOrder = (x y top : List ℕ) → IsTrue (is_within x top) → IsTrue (is_within y top) → path_cmp (below_of x top) (below_of y top) ≡ path_cmp x y
+
+-- what is under a source has its parent within the source, and moves to a target together with its parent
+pub record ParentMovesToo : Type 0 where
+  pub within : (path source : List ℕ) → refusal path ≡ None → refusal source ≡ None → IsTrue (is_under path source) →
+      IsTrue (is_within (parent_of path) source)
+  pub moved : (path source target : List ℕ) → refusal path ≡ None → refusal source ≡ None → refusal target ≡ None → IsTrue (is_under path source) →
+      parent_of (grafted target (below_of path source)) ≡ grafted target (below_of (parent_of path) source)

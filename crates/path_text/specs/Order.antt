@@ -1,11 +1,11 @@
 -- Path order: the bytes, with `/` before every other byte. Our own.
-use Rattle.std.specs.Prelude.{◌≡◌, ℕ, ◌+◌, Bool, false, ◌&&◌, ◌||◌, List, [], ◌∷◌, ◌++◌, length, map, if◌then◌else◌, ◌==◌, nat_eq, nat_lt, IsTrue, None}
+use Rattle.std.specs.Prelude.{◌≡◌, ◌≢◌, ◌⊎◌, ℕ, ◌+◌, Bool, false, ◌&&◌, ◌||◌, List, [], ◌∷◌, ◌++◌, length, map, if◌then◌else◌, ◌==◌, nat_eq, nat_lt, IsTrue, None}
 use Rattle.std.specs.List.{starts_with, list_any}
 use Rattle.std.specs.declared.cmp.Ordering.{Ordering}
 use Rattle.std.specs.declared.cmp.Ordering.TheVariants.{Less}
 use Rattle.std.specs.Cmp.Lexicographic.{slice_cmp, pointwise}
 use Rattle.std.specs.Ordering.{on, nat_cmp}
-use Rattle.path_text.specs.Path.{is_name, joined, refusal}
+use Rattle.path_text.specs.Path.{is_name, joined, refusal, parent_of}
 
 -- the place of a byte in the order: `/` first, and then the bytes as they are
 abbrev pub byte_rank : ℕ → ℕ
@@ -42,6 +42,16 @@ pub record UnderIsContiguous : Type 0 where
       IsTrue (is_under x u)
   -- what is under a path that is under another is under that one
   pub deeper : (x y u : List ℕ) → IsTrue (is_under x y) → IsTrue (is_under y u) → IsTrue (is_under x u)
+
+-- of two paths that a third one is within, one is within the other
+abbrev pub TopsAreNested : Type 0
+TopsAreNested = (x a b : List ℕ) → refusal a ≡ None → refusal b ≡ None → IsTrue (is_within x a) → IsTrue (is_within x b) →
+    IsTrue (is_within a b) ⊎ IsTrue (is_within b a)
+
+-- the parent of a path is a path, and each but `/` is under its parent
+pub record ParentIsOver : Type 0 where
+  pub valid : (path : List ℕ) → refusal path ≡ None → refusal (parent_of path) ≡ None
+  pub over : (path : List ℕ) → refusal path ≡ None → length path ≢ 1 → IsTrue (is_under path (parent_of path))
 
 abbrev pub slash_as_zero : ℕ → ℕ
 slash_as_zero b = if b == 47 then 0 else b

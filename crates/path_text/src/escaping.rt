@@ -25,8 +25,16 @@ pub fn put_escaped(text: &mut Vec<u8>, path: &Path) -> Result<(), OutOfMemory>
     ensures ok { OnOk result (text.new.items ≡ text.old.items ++ escape path.now) }
     ensures err { OnErr result (text.new.items ≡ text.old.items) }
 {
+    put_escaped_bytes(text, path.text().as_bytes())
+}
+
+/// Appends bytes in printable text, as [`escape`] writes those of a path. A refusal leaves the text as it was.
+pub fn put_escaped_bytes(text: &mut Vec<u8>, bytes: &[u8]) -> Result<(), OutOfMemory>
+    ensures ok { OnOk result (text.new.items ≡ text.old.items ++ escape bytes.now) }
+    ensures err { OnErr result (text.new.items ≡ text.old.items) }
+{
     let len = text.len();
-    let put = append_escaped(text, path.text().as_bytes());
+    let put = append_escaped(text, bytes);
     if put.is_err() {
         text.truncate(len);
     }

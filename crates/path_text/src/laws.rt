@@ -1,7 +1,7 @@
 //! Laws of paths, each the contract of a function that does nothing.
-ghost use Rattle.path_text.specs.Escape.{ReadingUndoesWriting};
-ghost use Rattle.path_text.specs.Graft.{GraftUndoesBelow, BelowUndoesGraft, BelowKeepsOrder};
-ghost use Rattle.path_text.specs.Order.{IsPreorder, UnderIsContiguous, ReadsSlashAsZero};
+ghost use Rattle.path_text.specs.Escape.{ReadingUndoesWriting, UnescapingUndoesEscaping};
+ghost use Rattle.path_text.specs.Graft.{GraftUndoesBelow, BelowUndoesGraft, BelowKeepsOrder, ParentMovesToo};
+ghost use Rattle.path_text.specs.Order.{IsPreorder, UnderIsContiguous, ReadsSlashAsZero, TopsAreNested, ParentIsOver};
 
 /// Path order is preorder with siblings in byte order: a path comes before all that is under it, and of two children of a
 /// path the one with the lower name comes first, with all that is under it.
@@ -12,6 +12,16 @@ pub fn path_order_is_preorder()
 /// The paths under a path stand together in path order: whatever comes after the path and before one of them is one of them.
 pub fn under_is_contiguous()
     ensures { UnderIsContiguous }
+{}
+
+/// Of two paths that a third one is or is under, one is the other or is under it.
+pub fn tops_are_nested()
+    ensures { TopsAreNested }
+{}
+
+/// The parent of a path is a path, and each path but `/` is under its parent.
+pub fn parent_is_over()
+    ensures { ParentIsOver }
 {}
 
 /// On paths, which hold no byte 0, path order is the order of the bytes with `/` read as 0.
@@ -34,7 +44,17 @@ pub fn below_keeps_order()
     ensures { BelowKeepsOrder }
 {}
 
+/// The parent of a path under a top is within the top, and moves to another top together with the path.
+pub fn parent_moves_too()
+    ensures { ParentMovesToo }
+{}
+
 /// What is written for a path is read as that path, and nothing else is.
 pub fn reading_undoes_writing()
     ensures { ReadingUndoesWriting }
+{}
+
+/// What is written for some bytes is read as them, and no other text is.
+pub fn unescaping_undoes_escaping()
+    ensures { UnescapingUndoesEscaping }
 {}

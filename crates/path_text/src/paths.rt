@@ -146,6 +146,13 @@ impl Path {
         }
     }
 
+    /// Whether it is `top`, or is under it.
+    pub fn is_within(&self, top: &Path) -> bool
+        ensures { result ≡ is_within self.now top.now }
+    {
+        self == top || self.is_under(top)
+    }
+
     /// The path that it would be if `top`, which it is or is under, were `/`.
     #[tactic(auto, using(crate::proofs::Parts::below_made))]
     pub fn below(&self, top: &Path) -> Result<Path, OutOfMemory>

@@ -48,8 +48,9 @@ fn plain(alloc: Global, text: &str) -> Result<Path, EscapeError>
     }
 }
 
-// How many bytes stand before the first bad one.
-fn good_len(text: &[u8]) -> usize
+/// How many bytes of a printable text stand before the first bad one, which is raw and would have to be escaped, or is a
+/// backslash that begins no escape.
+pub fn good_len(text: &[u8]) -> usize
     ensures good { result ≡ good_len text.now }
     ensures within { result ≤ length text.now }
 {
@@ -96,8 +97,8 @@ fn hex_value(digit: u8) -> u8
     }
 }
 
-// The bytes that a text without a bad byte stands for.
-fn unescaped(alloc: Global, text: &str) -> Result<String, AllocError>
+/// The text that a printable text without a bad byte stands for.
+pub fn unescaped(alloc: Global, text: &str) -> Result<String, AllocError>
     requires { good_len text.now ≡ length text.now }
     ensures { IfOk result (λ bytes. string_bytes bytes ≡ unescaped text.now) }
 {

@@ -2,6 +2,7 @@
 ghost use Rattle.std.specs.Prelude.{◌≡◌, ◌==◌, length, take, drop};
 ghost use Rattle.std.specs.List.{count_by, slice_split};
 ghost use Rattle.path_text.specs.Path.{is_slash, refusal};
+ghost use Rattle.path_text.specs.Order.{has_zero};
 ghost use Rattle.path_text.specs.Escape.{good_len, unescaped};
 ghost use Rattle.path_text.specs.Written.{is_backslash, begins_nul, tells_nul, written_fault, first_written};
 
@@ -34,8 +35,8 @@ pub fn told_refusal(text: &[u8]) -> Option<PathError>
     }
 }
 
-// How many bytes a text without a bad byte stands for.
-fn told_len(text: &[u8]) -> usize
+/// How many bytes a printable text without a bad byte stands for.
+pub fn told_len(text: &[u8]) -> usize
     requires { good_len text.now ≡ length text.now }
     ensures { result ≡ length (unescaped text.now) }
 {
@@ -76,6 +77,15 @@ fn written_fault(name: &[u8]) -> Option<PathError>
         return Some(PathError::Nul);
     }
     None
+}
+
+/// Whether a printable text without a bad byte stands for bytes of which one is 0.
+#[tactic(auto, using(crate::proofs::Told::zero_told))]
+pub fn tells_zero(text: &[u8]) -> bool
+    requires { good_len text.now ≡ length text.now }
+    ensures { result ≡ has_zero (unescaped text.now) }
+{
+    tells_nul(text)
 }
 
 fn tells_nul(name: &[u8]) -> bool

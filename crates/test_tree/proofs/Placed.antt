@@ -10,6 +10,7 @@ use Rattle.std.proofs.lemmas.List.{take_at, drop_at, get_or-append_right}
 use Rattle.std.proofs.lemmas.List.Sums.{suffix_len_is}
 use Rattle.std.proofs.Math.Seq.{get_or-append_seam}
 use Rattle.path_text.specs.Path.{is_slash, joined, parent_of, base_of}
+use Rattle.path_text.proofs.Parents.{around_slash}
 use Rattle.test_tree.specs.Nodes.{name_of, path_down, path_of}
 use Rattle.test_tree.specs.Made.{place, place_over}
 use Rattle.test_tree.proofs.Numbered.{name_bare, name_short, name_tells}
@@ -103,56 +104,16 @@ cut p base (inr l) = record {
   over = not_none p l;
 }
 
-all_bare : (y : List ℕ) (k : ℕ) → list_any is_slash y ≡ false → k < length y → not (is_slash (get_or y k 0)) ≡ true
-all_bare [] k e l = absurd (omega arith)
-all_bare (b ∷ y) k e l =
-    let n = or_parts (is_slash b) (list_any is_slash y) e in
-    elim k as (λ k. k < length (b ∷ y) → not (is_slash (get_or (b ∷ y) k 0)) ≡ true) [
-      | zero ↦ λ l. ap not n.0
-      | suc j ↦ λ l. all_bare y j n.1 (omega arith)
-    ] l
-
-parts : (before base : List ℕ) → list_any is_slash base ≡ false → (before_last is_slash (before ++ 47 ∷ base) ≡ before)
-    × (after_last is_slash (before ++ 47 ∷ base) ≡ base)
-parts before base bare =
-    let n : suffix_len (λ x. not (is_slash x)) all ≡ length all - (length before + 1) =
-    suffix_len_is (λ x. not (is_slash x)) all (length before + 1) 0 (omega (arith, len)) later at in (
-      ap (λ k. take k all) (omega (arith, len, n)) ∙ take_at before (47 ∷ base) (length before) refl,
-      ap (λ k. drop k all) (omega (arith, len, n)) ∙ ap (drop (length before + 1)) split
-          ∙ drop_at (before ++ 47 ∷ []) base (length before + 1) (length-append before (47 ∷ [])),
-    )
-  where
-    all : List ℕ
-    all = before ++ 47 ∷ base
-
-    len : length all ≡ length before + (length base + 1)
-    len = omega (arith, length-append before (47 ∷ base))
-
-    split : all ≡ (before ++ 47 ∷ []) ++ base
-    split = sym (append_assoc before (47 ∷ []) base)
-
-    later : (k : ℕ) → length before + 1 ≤ k → k < length all → not (is_slash (get_or all k 0)) ≡ true
-    later k l m =
-        ap (λ xs. not (is_slash (get_or xs k 0))) split
-        ∙ ap (λ b. not (is_slash b)) (get_or-append_right (before ++ 47 ∷ []) base (length before + 1) k 0 (omega (arith, length-append before (47 ∷ []))) l)
-        ∙ all_bare base (k - (length before + 1)) bare (omega (arith, len))
-
-    at : 0 < length before + 1 → not (is_slash (get_or all (length before + 1 - 1) 0)) ≡ false
-    at l = ap (λ k. not (is_slash (get_or all k 0))) (back (length before)) ∙ ap (λ b. not (is_slash b)) (get_or-append_seam before 47 base 0)
-      where
-        back : (k : ℕ) → k + 1 - 1 ≡ k
-        back k = omega arith
-
 node_cut : (k : ℕ) → Cut (place_over k) (name_of k) (path_of k)
 node_cut k = subst (Cut (place_over k) (name_of k)) (sym (path_joined k)) (cut (place_over k) (name_of k) (place_is ((k + 7) / 8)))
 
 pub parent_of-path : (k : ℕ) → k < 2 ^ 64 → parent_of (path_of k) ≡ place_over k
 parent_of-path k h =
     let c = node_cut k in
-    ap (λ b. cond (length b == 0) (47 ∷ []) b) (ap (before_last is_slash) c.whole ∙ (parts c.before (name_of k) (name_bare k h)).0) ∙ c.over
+    ap (λ b. cond (length b == 0) (47 ∷ []) b) (ap (before_last is_slash) c.whole ∙ (around_slash c.before (name_of k) (name_bare k h)).first) ∙ c.over
 
 pub base_of-path : (k : ℕ) → k < 2 ^ 64 → base_of (path_of k) ≡ name_of k
-base_of-path k h = let c = node_cut k in ap (after_last is_slash) c.whole ∙ (parts c.before (name_of k) (name_bare k h)).1
+base_of-path k h = let c = node_cut k in ap (after_last is_slash) c.whole ∙ (around_slash c.before (name_of k) (name_bare k h)).last
 
 -- so no two nodes have the same path
 pub path_tells : (i j : ℕ) → i < 2 ^ 64 → j < 2 ^ 64 → path_of i ≡ path_of j → i ≡ j

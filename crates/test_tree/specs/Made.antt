@@ -3,7 +3,7 @@ use Rattle.std.specs.Prelude.{ℕ, ◌+◌, ◌/◌, List, [], ◌∷◌, map, z
 use Rattle.std.specs.List.{range_with_len}
 use Rattle.std.specs.FinMap.{from_entries}
 use Rattle.outside.specs.Tree.{Files}
-use Rattle.outside.specs.Writes.{empty_dir, all_but}
+use Rattle.outside.specs.Writes.{empty_dir, nothing_lent}
 use Rattle.files_mem.specs.Memory.{Memory}
 use Rattle.test_tree.specs.Nodes.{path_of, node_of}
 
@@ -22,7 +22,7 @@ place_over k = place ((k + 7) / 8)
 
 -- files in memory of which no call is planned to fail
 abbrev pub memory_of : Files → Memory
-memory_of files = record { files = files; planned = []; count = 0; area = all_but [] }
+memory_of files = record { files = files; planned = []; count = 0; area = nothing_lent }
 
 -- files in memory in which the first k of n nodes are put
 abbrev pub made : ℕ → ℕ → Memory

@@ -4,13 +4,13 @@ ghost use Rattle.std.specs.FinMap as map;
 ghost use Rattle.outside.specs.Tree.{IsTree};
 ghost use Rattle.outside.specs.Laid.{laid};
 ghost use Rattle.outside.specs.Lease.{CanLease, HaveParents, Joins, leased, kept, area_without, area_with, is_out, tops_of};
-ghost use Rattle.outside.specs.Writes.{all_but, under, is_open, make_refusal, write_refusal, remove_file_refusal, remove_dir_refusal, empty_dir, new_file, written, HasPlace, Answers, may_make, may_change, may_empty};
+ghost use Rattle.outside.specs.Writes.{nothing_lent, under, is_open, make_refusal, write_refusal, remove_file_refusal, remove_dir_refusal, empty_dir, new_file, new_link, written, HasPlace, Answers, may_make, may_change, may_empty};
 ghost use Rattle.test_tree.specs.Nodes.{test_files};
 
 use crate::making::made;
 use crate::readers::TestReader;
 use files_mem::{MemGround, MemPart};
-use outside::{Ground, Plot, WriteError};
+use outside::{Ground, LinkText, Plot, WriteError};
 use path_text::{OutOfMemory, Path};
 use std::alloc::Global;
 use std::marker::Model;
@@ -64,7 +64,7 @@ impl TestGround {
     pub fn make(alloc: Global, nodes: u64) -> Result<TestGround, OutOfMemory>
         requires { (1 ≤ nodes) × (nodes ≤ 1000000) }
         ensures files { IfOk result (λ made. made.0 ≡ test_files nodes) }
-        ensures area { IfOk result (λ made. made.1 ≡ all_but []) }
+        ensures area { IfOk result (λ made. made.1 ≡ nothing_lent) }
     {
         let files = made(alloc, nodes)?;
         Ok(TestGround { files })
@@ -106,6 +106,17 @@ impl Plot for TestGround {
         ensures works { result ≢ Err WriteError.Failed }
     {
         self.files.make_file(alloc, path)
+    }
+
+    /// It never fails.
+    fn make_link(&mut self, alloc: Global, path: &Path, text: &LinkText) -> Result<(), WriteError>
+        requires { IsTrue (is_open self.old.1 path.now) }
+        ensures told { Answers path.now (make_refusal self.old.1 self.old.0 path.now) self.old.0 (map.insert self.old.0 path.now (new_link text.now)) result (Some self.new.0) }
+        ensures named { IfErr result (λ e. IsTrue (may_make e)) }
+        ensures area { self.new.1 ≡ self.old.1 }
+        ensures works { result ≢ Err WriteError.Failed }
+    {
+        self.files.make_link(alloc, path, text)
     }
 
     /// It never fails.
@@ -184,6 +195,17 @@ impl Plot for TestPart {
         ensures works { result ≢ Err WriteError.Failed }
     {
         self.part.make_file(alloc, path)
+    }
+
+    /// It never fails.
+    fn make_link(&mut self, alloc: Global, path: &Path, text: &LinkText) -> Result<(), WriteError>
+        requires { IsTrue (is_open self.old.1 path.now) }
+        ensures told { Answers path.now (make_refusal self.old.1 self.old.0 path.now) self.old.0 (map.insert self.old.0 path.now (new_link text.now)) result (Some self.new.0) }
+        ensures named { IfErr result (λ e. IsTrue (may_make e)) }
+        ensures area { self.new.1 ≡ self.old.1 }
+        ensures works { result ≢ Err WriteError.Failed }
+    {
+        self.part.make_link(alloc, path, text)
     }
 
     /// It never fails.

@@ -1,13 +1,13 @@
 //! A reader of the made-up tree.
-ghost use Rattle.std.specs.Prelude.{◌≡◌, ◌≢◌, ◌≤◌, ◌↔◌, length, Some, true, false, Err, OnErr, IfOk, IfSome, IsErrOf, IsOk};
+ghost use Rattle.std.specs.Prelude.{◌≡◌, ◌≢◌, ◌≤◌, ◌↔◌, length, Some, None, true, false, Err, OnErr, IfOk, IfSome, IsErrOf, IsOk};
 ghost use Rattle.std.specs.Option.{option_map};
 ghost use Rattle.std.specs.FinMap as map;
 ghost use Rattle.outside.specs.Count.{RoseBy};
-ghost use Rattle.outside.specs.Tree.{Lists, AreNames, IsTree, Reads, is_dir, is_file, stat_of};
+ghost use Rattle.outside.specs.Tree.{Lists, AreNames, IsTree, Reads, is_dir, is_file, link_at, stat_of};
 ghost use Rattle.test_tree.specs.Steady.{IsSteady};
 
 use files_mem::MemReader;
-use outside::{Failed, Kind, ListError, Listing, ReadError, Stat, Tree};
+use outside::{Failed, Kind, LinkError, LinkText, ListError, Listing, ReadError, Stat, Tree};
 use path_text::Path;
 use std::alloc::Global;
 use std::marker::Model;
@@ -88,5 +88,16 @@ impl Tree for TestReader {
         ensures same { self.new ≡ self.old }
     {
         self.reader.read(path, at, into)
+    }
+
+    /// Only want of memory may stand in place of the text.
+    fn read_link(&mut self, alloc: Global, path: &Path) -> Result<LinkText, LinkError>
+        ensures valid { IsTree self.old }
+        ensures works { result ≢ Err LinkError.Failed }
+        ensures not_link { IsErrOf result LinkError.NotLink ↔ (link_at (map.get self.old path.now) ≡ None) }
+        ensures told { IfOk result (λ text. link_at (map.get self.old path.now) ≡ Some text) }
+        ensures same { self.new ≡ self.old }
+    {
+        self.reader.read_link(alloc, path)
     }
 }

@@ -1,15 +1,11 @@
 -- How the text of a line of a list file is read, word by word. That this undoes the writing of `Spelling`, and reads no other text, is proved.
-use Rattle.std.specs.Prelude.{◌≡◌, ◌≢◌, ◌+◌, ◌<◌, ◌≤◌, ◌⊎◌, take, drop, nat_le, not, length, slice_index, ℕ, ◌^◌, Bool, true, ◌&&◌, ◌==◌, nat_lt, List, [], ◌∷◌, ◌++◌, if◌then◌else◌, Option, Some}
-use Rattle.std.specs.Prelude.{◌-◌, slice_get, None, is_none, Result, Ok, Err, codes}
+use Rattle.std.specs.Prelude.{◌≡◌, ◌≢◌, ◌<◌, ◌≤◌, ◌⊎◌, take, drop, nat_le, nat_eq, not, length, slice_index, ℕ, ◌^◌, Bool, true, ◌&&◌, ◌==◌, nat_lt, List, [], ◌∷◌, ◌++◌, if◌then◌else◌, Option, Some}
+use Rattle.std.specs.Prelude.{◌-◌, slice_get, IfSome, None, is_none, Result, Ok, Err, codes}
 use Rattle.std.specs.Str.{IsUtf8, is_utf8, bytes_eq}
-use Rattle.std.specs.Str.Parse.{AllDigits, digits_value}
-use Rattle.std.specs.List.{list_all}
+use Rattle.std.specs.List.{list_all, starts_with}
 use Rattle.std.specs.Ordering.{is_lt}
-use Rattle.std.specs.Fmt.{decimal}
 use Rattle.path_text.specs.Path.{refusal}
 use Rattle.path_text.specs.Order.{path_cmp}
-use Rattle.path_text.specs.Escape.{reading}
-use Rattle.path_text.specs.declared.errors.EscapeError.{EscapeError}
 use Rattle.outside.specs.declared.trees.Kind.{Kind}
 use Rattle.outside.specs.declared.trees.Kind.TheVariants as kind
 use Rattle.outside.specs.declared.trees.Stat.{Stat}
@@ -17,33 +13,13 @@ use Rattle.flat_list.specs.declared.entries.Entry.{Entry}
 use Rattle.flat_list.specs.declared.entries.Mark.{Mark}
 use Rattle.flat_list.specs.declared.entries.Mark.TheVariants as mark
 use Rattle.flat_list.specs.declared.reading.Told.{Told}
-use Rattle.flat_list.specs.declared.reading.Digits.{Digits}
-use Rattle.flat_list.specs.Entries.{is_sized, shape_by}
-use Rattle.flat_list.specs.Spelling.{Follows}
-
-infixl 10 ◌>>=◌
-abbrev pub ◌>>=◌ : {A B : Type 0} → Option A → (A → Option B) → Option B
-None >>= f = None
-(Some x) >>= f = f x
-
--- what stands before a byte's first place and what behind it
-abbrev pub onto_word : ℕ → Option (List ℕ × List ℕ) → Option (List ℕ × List ℕ)
-onto_word b None = None
-onto_word b (Some p) = Some (b ∷ p.0, p.1)
-
-unfoldable pub cut : ℕ → List ℕ → Option (List ℕ × List ℕ)
-cut c [] = None
-cut c (b ∷ bytes) = if b == c then Some ([], bytes) else onto_word b (cut c bytes)
-
--- the number of 64 bits whose decimal text is the word
-unfoldable pub number_of : List ℕ → Option ℕ
-number_of word = if bytes_eq word (decimal (digits_value 10 word)) && nat_lt (digits_value 10 word) (2 ^ 64) then Some (digits_value 10 word) else None
-
--- how a word begins that is a number without leading zeros and without a sign
-pub record LeadsNumber (word : List ℕ) : Type 0 where
-  pub some : 0 < length word
-  pub plain : slice_index word 0 ≢ 43
-  pub zero : slice_index word 0 ≡ 48 → length word ≡ 1
+use Rattle.whole_lines.specs.Words.{◌>>=◌, cut, number_of, word_at, path_from}
+use Rattle.flat_list.specs.declared.versions.Version.{Version}
+use Rattle.outside.specs.declared.links.LinkTextError.{LinkTextError}
+use Rattle.outside.specs.Links.{link_reading}
+use Rattle.flat_list.specs.Entries.{size_by, is_sized, shape_by, has_target}
+use Rattle.flat_list.specs.Orders.{time_of}
+use Rattle.flat_list.specs.Spelling.{Follows, is_marked, is_new}
 
 unfoldable pub time_from : List ℕ → Option (Option ℕ)
 time_from word = if bytes_eq word (codes "-") then Some None else number_of word >>= λ n. Some (Some n)
@@ -66,27 +42,20 @@ mark_from word =
     else if bytes_eq word (codes "changed") then Some mark.Changed
     else None
 
--- a word before a space, read, and what is behind the space
-unfoldable pub word_at : {A : Type 0} → (List ℕ → Option A) → List ℕ → Option (A × List ℕ)
-word_at read text = do
-  word ← cut 32 text
-  value ← read word.0
-  Some (value, word.1)
-
 -- without a kind there is no stat, and then no size and no time
 unfoldable pub stat_from : Option Kind → ℕ → Option ℕ → Option (Option Stat)
 stat_from None size time = if size == 0 && is_none time then Some None else None
 stat_from (Some k) size time = Some (Some (record { kind = k; size = size; mtime = time }))
 
-abbrev pub is_told : Told → Bool
-is_told t = is_sized t.stat && shape_by t.mark t.stat (t.unnamed == 0 && t.far == 0)
+abbrev pub is_told : Version → Told → Bool
+is_told v t = is_marked v t.mark t.stat && (is_sized t.stat && shape_by t.mark t.stat (t.unnamed == 0 && t.far == 0))
 
-abbrev pub told_if : Told → List ℕ → Option (Told × List ℕ)
-told_if told rest = if is_told told then Some (told, rest) else None
+abbrev pub told_if : Version → Told → List ℕ → Option (Told × List ℕ)
+told_if v told rest = if is_told v told then Some (told, rest) else None
 
 -- all but the path, and the word of the path
-unfoldable pub told_at : List ℕ → Option (Told × List ℕ)
-told_at text = do
+unfoldable pub told_at : Version → List ℕ → Option (Told × List ℕ)
+told_at v text = do
   kind ← word_at kind_from text
   size ← word_at number_of kind.1
   time ← word_at time_from size.1
@@ -94,20 +63,18 @@ told_at text = do
   unnamed ← word_at number_of mark.1
   far ← word_at number_of unnamed.1
   stat ← stat_from kind.0 size.0 time.0
-  told_if (record { stat = stat; mark = mark.0; unnamed = unnamed.0; far = far.0 }) far.1
+  told_if v (record { stat = stat; mark = mark.0; unnamed = unnamed.0; far = far.0 }) far.1
 
-abbrev pub ok_of : Result (List ℕ) EscapeError → Option (List ℕ)
-ok_of (Ok path) = Some path
-ok_of (Err e) = None
+-- the entry that a line tells: a target, if there is one, stands in the next
+abbrev pub told_entry : Told → List ℕ → Entry
+told_entry told path = record { path = path; stat = told.stat; mark = told.mark; unnamed = told.unnamed; far = told.far; target = None }
 
-unfoldable pub path_from : List ℕ → Option (List ℕ)
-path_from word = if is_utf8 word then ok_of (reading word) else None
-
-unfoldable pub entry_at : List ℕ → Option Entry
-entry_at text = do
-  told ← told_at text
+-- the entry that a line's text tells
+unfoldable pub entry_at : Version → List ℕ → Option Entry
+entry_at v text = do
+  told ← told_at v text
   path ← path_from told.1
-  Some (record { path = path; stat = told.0.stat; mark = told.0.mark; unnamed = told.0.unnamed; far = told.0.far })
+  Some (told_entry told.0 path)
 
 -- a path, if it comes behind another
 abbrev pub if_behind : List ℕ → List ℕ → Option (List ℕ)
@@ -122,11 +89,63 @@ path_after None word = path_from word
 path_after (Some before) word = path_behind before.path word
 
 -- the entry that a text tells, if its path comes behind that of another, where there is one
-unfoldable pub entry_behind : Option Entry → List ℕ → Option Entry
-entry_behind before text = do
-  told ← told_at text
+unfoldable pub entry_behind : Version → Option Entry → List ℕ → Option Entry
+entry_behind v before text = do
+  told ← told_at v text
   path ← path_after before told.1
-  Some (record { path = path; stat = told.0.stat; mark = told.0.mark; unnamed = told.0.unnamed; far = told.0.far })
+  Some (told_entry told.0 path)
+
+abbrev pub link_ok : Result (List ℕ) LinkTextError → Option (List ℕ)
+link_ok (Ok target) = Some target
+link_ok (Err e) = None
+
+-- the target that a word tells
+unfoldable pub target_from : List ℕ → Option (List ℕ)
+target_from word = if is_utf8 word then link_ok (link_reading word) else None
+
+-- the target that a line's text tells: it is behind `> `
+unfoldable pub target_at : List ℕ → Option (List ℕ)
+target_at text = if starts_with nat_eq text (codes "> ") then target_from (drop 2 text) else None
+
+-- a target may come behind an entry of which none was told yet
+abbrev pub takes_target : Version → Entry → Bool
+takes_target v e = is_new v && has_target e.mark e.stat
+
+-- the target that the first line of a text tells, and what is behind that line
+abbrev pub target_and : Option (List ℕ) → List ℕ → Option (List ℕ × List ℕ)
+target_and None rest = None
+target_and (Some target) rest = Some (target, rest)
+
+unfoldable pub target_line : List ℕ → Option (List ℕ × List ℕ)
+target_line rest = cut 10 rest >>= λ parts. target_and (target_at parts.0) parts.1
+
+-- the target that the first line of a text tells, where one may come behind the entry
+abbrev pub target_behind : Version → Entry → List ℕ → Option (List ℕ × List ℕ)
+target_behind v e rest = if takes_target v e then target_line rest else None
+
+-- an entry with the target that was found behind it, if one was
+abbrev pub with_target : Entry → Option (List ℕ × List ℕ) → Entry
+with_target e None = e
+with_target e (Some found) = record e { target = Some found.0 }
+
+-- what is behind an entry and its target
+abbrev pub behind_target : List ℕ → Option (List ℕ × List ℕ) → List ℕ
+behind_target rest None = rest
+behind_target rest (Some found) = found.1
+
+-- how many lines an entry and its target have
+abbrev pub line_count : Option (List ℕ × List ℕ) → ℕ
+line_count None = 1
+line_count (Some found) = 2
+
+-- what is found behind the entry that a line's text tells
+abbrev pub found_at : Version → List ℕ → List ℕ → Option (List ℕ × List ℕ)
+found_at v text rest = entry_at v text >>= λ e. target_behind v e rest
+
+-- no target stands behind the last entry, if there is one, that may be its own
+abbrev pub IsSettled : Version → Option Entry → List ℕ → Type 0
+IsSettled v None rest = Unit {0}
+IsSettled v (Some e) rest = is_none e.target ≡ true → target_behind v e rest ≡ None
 
 -- a byte that is printable ASCII and stands for itself
 abbrev pub is_plain : ℕ → Bool
@@ -150,33 +169,23 @@ pub record IsNear (before word : List ℕ) (at : ℕ) : Type 0 where
   pub path : refusal word ≡ None
   pub plain : list_all is_plain word ≡ true
 
--- the number that the first word of a text writes, which has so many digits
-pub record IsNumberWord (text : List ℕ) (digits : Digits) : Type 0 where
-  pub short : digits.len < length text
-  pub number : word_at number_of text ≡ Some (digits.value, drop (digits.len + 1) text)
-  pub time : word_at time_from text ≡ Some (Some digits.value, drop (digits.len + 1) text)
-
--- the first bytes of a text are digits, nineteen at most, and write a number
-pub record AreDigits (text : List ℕ) (digits : Digits) : Type 0 where
-  pub few : digits.len ≤ 19
-  pub within : digits.len ≤ length text
-  pub each : AllDigits 10 (take digits.len text)
-  pub value : digits.value ≡ digits_value 10 (take digits.len text)
-
--- the count of an end line
-unfoldable pub end_at : List ℕ → Option ℕ
-end_at text = do
-  word ← cut 32 text
-  if bytes_eq word.0 (codes "end") then number_of word.1 else None
+-- what the line of an entry tells of it
+pub record IsWritten (e : Entry) : Type 0 where
+  pub path : refusal e.path ≡ None
+  pub utf8 : IsUtf8 e.path
+  pub size : size_by e.stat < 2 ^ 64
+  pub time : IfSome (time_of e.stat) (λ seconds. seconds < 2 ^ 64)
+  pub unnamed : e.unnamed < 2 ^ 64
+  pub far : e.far < 2 ^ 64
 
 -- the last of some entries, if there is one
 abbrev pub IsLast : Option Entry → List Entry → Type 0
 IsLast last entries = slice_get entries (length entries - 1) ≡ last
 
--- what was read is added behind the entries
-abbrev pub Adds : Option Entry → List Entry → List Entry → Type 0
-Adds None old new = ⊥
-Adds (Some e) old new = IsUtf8 e.path × (Follows old e × (new ≡ old ++ e ∷ []))
+-- what was read is added behind the entries, with what was found behind it
+abbrev pub Adds : Option Entry → Option (List ℕ × List ℕ) → List Entry → List Entry → Type 0
+Adds None found old new = ⊥
+Adds (Some e) found old new = IsUtf8 e.path × (IfSome found (λ f. IsUtf8 f.0) × (Follows old e × (new ≡ old ++ with_target e found ∷ [])))
 
 -- what was read is no entry that may come behind them
 abbrev pub NoneFollows : Option Entry → List Entry → Type 0

@@ -1,8 +1,8 @@
 use Rattle.std.proofs.Common.{rules, arith, ◌≡◌, ◌+◌, ◌∷◌, ◌++◌, [], length, length-append, sym, ap, subst, ℕ, List, Option, Some, None, Bor}
 use Rattle.std.specs.Prelude.{IfSome}
 use Rattle.std.specs.Str.{IsUtf8}
-use Rattle.flat_list.specs.Spelling.{lines_of}
-use Rattle.flat_list.specs.Private.Reading.{cut, path_from}
+use Rattle.whole_lines.specs.Lines.{lines_of}
+use Rattle.whole_lines.specs.Words.{cut, path_from}
 use Rattle.circle_lists.specs.declared.decoding.RankList.{RankList}
 use Rattle.circle_lists.specs.Spelling.{Spells, IsDamaged}
 use Rattle.circle_lists.specs.Private.{IsHead, IsCause, EndsBadly}
@@ -27,37 +27,37 @@ loop-text-init c =
 pub returns-in_default-2-clause-ok : goal.returns-in_default-2-clause-ok
 returns-in_default-2-clause-ok c =
     let r : Reader = record { bytes = c.args.bytes.now; rank = c.args.rank; known = c.args.known } in
-    let reads : Reads r c.in-Some.ranks c.loop-text.paths.items c.loop-text.rest.now c.in-Some-cut.text.now c.in-Some-cut.behind.now =
-    record { stands = c.loop-text.invariant.stands; first = sym c.in-Some-cut.ensures } in
+    let reads : Reads r c.in-Some.ranks c.loop-text.paths.items c.loop-text.rest.now c.in-Some-cut_line.text.now c.in-Some-cut_line.behind.now =
+    record { stands = c.loop-text.invariant.stands; first = sym c.in-Some-cut_line.ensures } in
     if_ok_then c.ended.result _ (λ (told : RankList). Spells r.bytes r.rank told.ranks told.paths.items) c.ended.ensures.ok
     (λ l h. subst (λ (told : RankList). Spells r.bytes r.rank told.ranks told.paths.items) (sym h.1) (at_end reads h.0))
 
 pub returns-in_default-2-clause-refused : goal.returns-in_default-2-clause-refused
 returns-in_default-2-clause-refused c =
     let r : Reader = record { bytes = c.args.bytes.now; rank = c.args.rank; known = c.args.known } in
-    let reads : Reads r c.in-Some.ranks c.loop-text.paths.items c.loop-text.rest.now c.in-Some-cut.text.now c.in-Some-cut.behind.now =
-    record { stands = c.loop-text.invariant.stands; first = sym c.in-Some-cut.ensures } in
-    let none : path_from c.in-Some-cut.text.now ≡ None = first_of (cc, search rules) in
-    if_err_then c.ended.result (EndsBadly c.loop-text.paths.items c.in-Some-cut.text.now c.in-Some-cut.behind.now) (IsCause r.bytes r.rank r.known)
+    let reads : Reads r c.in-Some.ranks c.loop-text.paths.items c.loop-text.rest.now c.in-Some-cut_line.text.now c.in-Some-cut_line.behind.now =
+    record { stands = c.loop-text.invariant.stands; first = sym c.in-Some-cut_line.ensures } in
+    let none : path_from c.in-Some-cut_line.text.now ≡ None = first_of (cc, search rules) in
+    if_err_then c.ended.result (EndsBadly c.loop-text.paths.items c.in-Some-cut_line.text.now c.in-Some-cut_line.behind.now) (IsCause r.bytes r.rank r.known)
     c.ended.ensures.refused (ended_badly c.reading_undoes_writing.ensures reads none)
 
 pub loop-text-smaller : goal.loop-text-smaller
-loop-text-smaller c = cut_shorter 10 c.loop-text.rest.now c.in-Some-cut.text.now c.in-Some-cut.behind.now (sym c.in-Some-cut.ensures)
+loop-text-smaller c = cut_shorter 10 c.loop-text.rest.now c.in-Some-cut_line.text.now c.in-Some-cut_line.behind.now (sym c.in-Some-cut_line.ensures)
 
 pub loop-text-preserved : goal.loop-text-preserved
 loop-text-preserved c =
     let r : Reader = record { bytes = c.args.bytes.now; rank = c.args.rank; known = c.args.known } in
     let before = c.loop-text.invariant in
-    let reads : Reads r c.in-Some.ranks c.loop-text.paths.items c.loop-text.rest.now c.in-Some-cut.text.now c.in-Some-cut.behind.now =
-    record { stands = before.stands; first = sym c.in-Some-cut.ensures } in
+    let reads : Reads r c.in-Some.ranks c.loop-text.paths.items c.loop-text.rest.now c.in-Some-cut_line.text.now c.in-Some-cut_line.behind.now =
+    record { stands = before.stands; first = sym c.in-Some-cut_line.ensures } in
     let path = c.in-Some-2.path in
-    let told : path_from c.in-Some-cut.text.now ≡ Some path = first_of (cc, search rules) in
+    let told : path_from c.in-Some-cut_line.text.now ≡ Some path = first_of (cc, search rules) in
     let utf8 : IsUtf8 path = subst (λ o. IfSome o IsUtf8) c.in-Some-2.is c.in_ok-path.ensures.utf8 in
-    let less = cut_shorter 10 c.loop-text.rest.now c.in-Some-cut.text.now c.in-Some-cut.behind.now (sym c.in-Some-cut.ensures) in
+    let less = cut_shorter 10 c.loop-text.rest.now c.in-Some-cut_line.text.now c.in-Some-cut_line.behind.now (sym c.in-Some-cut_line.ensures) in
     let more = goes_on c.reading_undoes_writing.ensures reads path told utf8 (omega (arith, before.room, before.small)) in
     let count : length (c.loop-text.paths.items ++ path ∷ []) ≡ length c.loop-text.paths.items + 1 = length-append c.loop-text.paths.items (path ∷ []) in
     record {
-      stands = subst (λ ps. Stands r c.in-Some.ranks ps (lines_of c.in-Some-cut.behind.now)) (sym c.in_ok-push.ensures.items) more;
+      stands = subst (λ ps. Stands r c.in-Some.ranks ps (lines_of c.in-Some-cut_line.behind.now)) (sym c.in_ok-push.ensures.items) more;
       room = omega (arith, before.room, less, count, ap length c.in_ok-push.ensures.items);
       small = before.small;
     }

@@ -1,10 +1,11 @@
-use Rattle.std.proofs.Common.{rules, arith, ◌≡◌, ◌≤◌, ◌+◌, length, ◌∙◌, refl, sym, ap, subst, true, false, List, None}
+use Rattle.std.proofs.Common.{rules, arith, ℕ, Some, ◌≡◌, ◌<◌, ◌≤◌, ◌+◌, length, refl, sym, subst, List, None}
 use Rattle.flat_list.specs.declared.entries.Entry.{Entry}
-use Rattle.flat_list.specs.Spelling.{lines_of, Spells, max_entries, IsCause, IsRefused}
-use Rattle.flat_list.specs.Private.Reading.{cut, entry_at, IsLast}
-use Rattle.flat_list.proofs.Damage.{Stands}
-use Rattle.flat_list.proofs.Decoded.{Reads, starts, goes_on, bad_torn, bad_text, at_end, past_end, too_long, if_ok_then, if_err_then, nots, adds_one}
-use Rattle.flat_list.proofs.Decoded.{cut_shorter}
+use Rattle.flat_list.specs.Spelling.{entry_lines, Spells, max_entries, IsCause, IsRefused}
+use Rattle.whole_lines.specs.Lines.{lines_of}
+use Rattle.whole_lines.specs.Words.{cut}
+use Rattle.flat_list.specs.Private.Reading.{entry_at, found_at, behind_target, line_count, Adds, NoneFollows, IsLast, IsSettled}
+use Rattle.flat_list.proofs.Damage.{Undoes, Stands, line_len}
+use Rattle.flat_list.proofs.Decoded.{Reads, starts, goes_on, bad_torn, bad_text, at_end, past_end, too_long, if_ok_then, if_err_then, adds_one, left_shorter, none_holds, some_holds, few_lines}
 use Rattle.flat_list.proofs.decoding.decode.Goals as goal
 
 pub loop-text-init : goal.loop-text-init
@@ -13,15 +14,22 @@ loop-text-init c =
     let rest = c.in-Some.rest.now in
     let none = sym c.make-list.ensures in
     record {
-      stands = subst (λ (l : List Entry). Stands bytes l (lines_of rest)) none (starts bytes rest c.in-Some.ensures.some);
+      stands = subst (λ (l : List Entry). Stands c.in-Some.version bytes l (lines_of rest)) none (starts c.in-Some.version bytes rest c.in-Some.ensures.some);
       few = subst (λ (l : List Entry). length l ≤ max_entries) none (omega arith);
       last = subst (IsLast None) none refl;
+      number = subst (λ (l : List Entry). 2 ≡ length (entry_lines l) + 2) none refl;
+      settled = tt;
     }
+
+pub ended-requires : goal.ended-requires
+ended-requires c =
+    let before = c.loop-text.invariant in
+    omega (arith, before.number, before.few, line_len c.loop-text.list)
 
 pub returns-then-is_end-clause-ok : goal.returns-then-is_end-clause-ok
 returns-then-is_end-clause-ok c =
     let before = c.loop-text.invariant in
-    let reads : Reads c.args.bytes.now c.loop-text.rest.now c.in-Some-cut_line.text.now c.in-Some-cut_line.behind.now c.loop-text.list =
+    let reads : Reads c.in-Some.version c.args.bytes.now c.loop-text.rest.now c.in-Some-cut_line.text.now c.in-Some-cut_line.behind.now c.loop-text.list =
     record { stands = before.stands; few = before.few; first = sym c.in-Some-cut_line.ensures } in
     let end = c.is_end.ensures.yes c.if-is_end.true in
     if_ok_then c.ended.result _ (Spells c.args.bytes.now) c.ended.ensures.ok (λ l h. subst (Spells c.args.bytes.now) (sym h.0) (at_end reads end h.1))
@@ -29,54 +37,124 @@ returns-then-is_end-clause-ok c =
 pub returns-then-is_end-clause-refused : goal.returns-then-is_end-clause-refused
 returns-then-is_end-clause-refused c =
     let before = c.loop-text.invariant in
-    let reads : Reads c.args.bytes.now c.loop-text.rest.now c.in-Some-cut_line.text.now c.in-Some-cut_line.behind.now c.loop-text.list =
+    let reads : Reads c.in-Some.version c.args.bytes.now c.loop-text.rest.now c.in-Some-cut_line.text.now c.in-Some-cut_line.behind.now c.loop-text.list =
     record { stands = before.stands; few = before.few; first = sym c.in-Some-cut_line.ensures } in
     let end = c.is_end.ensures.yes c.if-is_end.true in
-    let undoes = c.reading_undoes_writing.ensures in
+    let undoes : Undoes = record { paths = c.reading_undoes_writing.ensures; links = c.link_reading_undoes_writing.ensures } in
     let cause = IsCause c.args.bytes.now in
-    if_err_then c.ended.result _ cause c.ended.ensures.damaged (λ e h. subst cause (sym h.0) (past_end undoes reads end h.1))
+    let here : length (entry_lines c.loop-text.list) + 3 ≡ c.loop-text.line + 1 = omega (arith, before.number) in
+    if_err_then c.ended.result _ cause c.ended.ensures.damaged
+    (λ e h. subst cause (sym h.0) (subst (IsRefused c.args.bytes.now) here (past_end undoes reads end h.1)))
 
-pub returns-then-not-added-clause-refused : goal.returns-then-not-added-clause-refused
-returns-then-not-added-clause-refused c =
+pub returns-in_default-added-clause-refused : goal.returns-in_default-added-clause-refused
+returns-in_default-added-clause-refused c =
+    let v = c.in-Some.version in
+    let bytes = c.args.bytes.now in
+    let text = c.in-Some-cut_line.text.now in
+    let behind = c.in-Some-cut_line.behind.now in
+    let list = c.loop-text.list in
     let before = c.loop-text.invariant in
-    let reads : Reads c.args.bytes.now c.loop-text.rest.now c.in-Some-cut_line.text.now c.in-Some-cut_line.behind.now c.loop-text.list =
+    let undoes : Undoes = record { paths = c.reading_undoes_writing.ensures; links = c.link_reading_undoes_writing.ensures } in
+    let reads : Reads v bytes c.loop-text.rest.now text behind list =
     record { stands = before.stands; few = before.few; first = sym c.in-Some-cut_line.ensures } in
-    let off : c.in_ok-added.added ≡ false = search (rules, nots) in
-    let count : c.len.result ≡ length c.loop-text.list = c.len.ensures ∙ ap length (c.in_ok-added.ensures.kept off) in
-    let refused = bad_text c.reading_undoes_writing.ensures reads (c.is_end.ensures.no c.if-is_end.false) (c.in_ok-added.ensures.no off) in
-    subst (λ n. IsRefused c.args.bytes.now (n + 2)) (sym count) refused
+    let none : c.in_ok-added.added ≡ None = first_of (cc, search rules) in
+    let follows = none_holds c.in_ok-added.added (NoneFollows (entry_at v text) list) none c.in_ok-added.ensures.no in
+    let refused = bad_text undoes reads c.loop-text.last before.last before.settled (c.is_end.ensures.no c.if-is_end.false) follows in
+    subst (IsRefused bytes) (sym before.number) refused
 
 pub returns-then-len-gt-MAX_ENTRIES-clause-refused : goal.returns-then-len-gt-MAX_ENTRIES-clause-refused
 returns-then-len-gt-MAX_ENTRIES-clause-refused c =
+    let v = c.in-Some.version in
+    let bytes = c.args.bytes.now in
+    let text = c.in-Some-cut_line.text.now in
+    let behind = c.in-Some-cut_line.behind.now in
+    let list = c.loop-text.list in
     let before = c.loop-text.invariant in
-    let reads : Reads c.args.bytes.now c.loop-text.rest.now c.in-Some-cut_line.text.now c.in-Some-cut_line.behind.now c.loop-text.list =
+    let undoes : Undoes = record { paths = c.reading_undoes_writing.ensures; links = c.link_reading_undoes_writing.ensures } in
+    let reads : Reads v bytes c.loop-text.rest.now text behind list =
     record { stands = before.stands; few = before.few; first = sym c.in-Some-cut_line.ensures } in
-    let so : c.in_ok-added.added ≡ true = search (rules, nots) in
-    let adds = c.in_ok-added.ensures.yes so in
-    let more = adds_one (entry_at c.in-Some-cut_line.text.now) c.loop-text.list c.add_entry.new.list adds in
+    let next = c.in-Some-added.next in
+    let some : c.in_ok-added.added ≡ Some next = c.in-Some-added.is in
+    let adds = some_holds c.in_ok-added.added next (λ n. Adds (entry_at v text) (found_at v text behind) list c.add_entry.new.list) some c.in_ok-added.ensures.yes in
+    let on = goes_on undoes reads c.add_entry.new.list adds in
+    let more = adds_one (entry_at v text) (found_at v text behind) list c.add_entry.new.list adds in
     let few = before.few in
-    let stands = goes_on c.reading_undoes_writing.ensures reads c.add_entry.new.list adds in
-    too_long c.args.bytes.now c.add_entry.new.list (lines_of c.in-Some-cut_line.behind.now) stands (omega (arith, more, few, c.len-in-Some-cut_line.ensures))
+    too_long v bytes c.add_entry.new.list (lines_of (behind_target behind (found_at v text behind))) on.stands (omega (arith, more, few, c.len.ensures))
+
+pub overflow_add-line : goal.overflow_add-line
+overflow_add-line c =
+    let v = c.in-Some.version in
+    let bytes = c.args.bytes.now in
+    let text = c.in-Some-cut_line.text.now in
+    let behind = c.in-Some-cut_line.behind.now in
+    let list = c.loop-text.list in
+    let before = c.loop-text.invariant in
+    let undoes : Undoes = record { paths = c.reading_undoes_writing.ensures; links = c.link_reading_undoes_writing.ensures } in
+    let reads : Reads v bytes c.loop-text.rest.now text behind list =
+    record { stands = before.stands; few = before.few; first = sym c.in-Some-cut_line.ensures } in
+    let next = c.in-Some-added.next in
+    let some : c.in_ok-added.added ≡ Some next = c.in-Some-added.is in
+    let adds = some_holds c.in_ok-added.added next (λ n. Adds (entry_at v text) (found_at v text behind) list c.add_entry.new.list) some c.in_ok-added.ensures.yes in
+    let on = goes_on undoes reads c.add_entry.new.list adds in
+    let rest_is : next.rest.now ≡ behind_target behind (found_at v text behind) =
+    some_holds c.in_ok-added.added next (λ n. n.rest.now ≡ behind_target behind (found_at v text behind)) some c.in_ok-added.ensures.rest in
+    let lines_is : next.lines ≡ line_count (found_at v text behind) =
+    some_holds c.in_ok-added.added next (λ n. n.lines ≡ line_count (found_at v text behind)) some c.in_ok-added.ensures.lines in
+    omega (arith, before.number, before.few, line_len list, lines_is, few_lines (found_at v text behind))
 
 pub loop-text-smaller : goal.loop-text-smaller
-loop-text-smaller c = cut_shorter 10 c.loop-text.rest.now c.in-Some-cut_line.text.now c.in-Some-cut_line.behind.now (sym c.in-Some-cut_line.ensures)
+loop-text-smaller c =
+    let v = c.in-Some.version in
+    let bytes = c.args.bytes.now in
+    let text = c.in-Some-cut_line.text.now in
+    let behind = c.in-Some-cut_line.behind.now in
+    let list = c.loop-text.list in
+    let before = c.loop-text.invariant in
+    let undoes : Undoes = record { paths = c.reading_undoes_writing.ensures; links = c.link_reading_undoes_writing.ensures } in
+    let reads : Reads v bytes c.loop-text.rest.now text behind list =
+    record { stands = before.stands; few = before.few; first = sym c.in-Some-cut_line.ensures } in
+    let next = c.in-Some-added.next in
+    let some : c.in_ok-added.added ≡ Some next = c.in-Some-added.is in
+    let adds = some_holds c.in_ok-added.added next (λ n. Adds (entry_at v text) (found_at v text behind) list c.add_entry.new.list) some c.in_ok-added.ensures.yes in
+    let on = goes_on undoes reads c.add_entry.new.list adds in
+    let rest_is : next.rest.now ≡ behind_target behind (found_at v text behind) =
+    some_holds c.in_ok-added.added next (λ n. n.rest.now ≡ behind_target behind (found_at v text behind)) some c.in_ok-added.ensures.rest in
+    let lines_is : next.lines ≡ line_count (found_at v text behind) =
+    some_holds c.in_ok-added.added next (λ n. n.lines ≡ line_count (found_at v text behind)) some c.in_ok-added.ensures.lines in
+    subst (λ (r : List ℕ). length r < length c.loop-text.rest.now) (sym rest_is) (left_shorter v text c.loop-text.rest.now behind (sym c.in-Some-cut_line.ensures))
 
 pub loop-text-preserved : goal.loop-text-preserved
 loop-text-preserved c =
+    let v = c.in-Some.version in
+    let bytes = c.args.bytes.now in
+    let text = c.in-Some-cut_line.text.now in
+    let behind = c.in-Some-cut_line.behind.now in
+    let list = c.loop-text.list in
     let before = c.loop-text.invariant in
-    let reads : Reads c.args.bytes.now c.loop-text.rest.now c.in-Some-cut_line.text.now c.in-Some-cut_line.behind.now c.loop-text.list =
+    let undoes : Undoes = record { paths = c.reading_undoes_writing.ensures; links = c.link_reading_undoes_writing.ensures } in
+    let reads : Reads v bytes c.loop-text.rest.now text behind list =
     record { stands = before.stands; few = before.few; first = sym c.in-Some-cut_line.ensures } in
-    let so : c.in_ok-added.added ≡ true = search (rules, nots) in
+    let next = c.in-Some-added.next in
+    let some : c.in_ok-added.added ≡ Some next = c.in-Some-added.is in
+    let adds = some_holds c.in_ok-added.added next (λ n. Adds (entry_at v text) (found_at v text behind) list c.add_entry.new.list) some c.in_ok-added.ensures.yes in
+    let on = goes_on undoes reads c.add_entry.new.list adds in
+    let rest_is : next.rest.now ≡ behind_target behind (found_at v text behind) =
+    some_holds c.in_ok-added.added next (λ n. n.rest.now ≡ behind_target behind (found_at v text behind)) some c.in_ok-added.ensures.rest in
+    let lines_is : next.lines ≡ line_count (found_at v text behind) =
+    some_holds c.in_ok-added.added next (λ n. n.lines ≡ line_count (found_at v text behind)) some c.in_ok-added.ensures.lines in
+    let last = some_holds c.in_ok-added.added next (λ n. IsLast c.add_entry.new.last c.add_entry.new.list) some c.in_ok-added.ensures.last in
     record {
-      stands = goes_on c.reading_undoes_writing.ensures reads c.add_entry.new.list (c.in_ok-added.ensures.yes so);
-      few = omega (arith, c.len-in-Some-cut_line.ensures);
-      last = c.in_ok-added.ensures.last so;
+      stands = subst (λ (r : List ℕ). Stands v bytes c.add_entry.new.list (lines_of r)) (sym rest_is) on.stands;
+      few = omega (arith, c.len.ensures);
+      last = last;
+      number = omega (arith, before.number, lines_is, on.lines);
+      settled = subst (IsSettled v c.add_entry.new.last) (sym rest_is) (on.settled c.add_entry.new.last last);
     }
 
 pub returns-clause-refused : goal.returns-clause-refused
 returns-clause-refused c =
     let torn : cut 10 c.loop-text.rest.now ≡ None = first_of (cc, search rules) in
     let before = c.loop-text.invariant in
-    let undoes = c.reading_undoes_writing.ensures in
-    let refused = bad_torn c.args.bytes.now c.loop-text.rest.now c.loop-text.list undoes before.stands torn before.few in
-    subst (λ n. IsRefused c.args.bytes.now (n + 2)) (sym c.len-2.ensures) refused
+    let undoes : Undoes = record { paths = c.reading_undoes_writing.ensures; links = c.link_reading_undoes_writing.ensures } in
+    let refused = bad_torn c.in-Some.version c.args.bytes.now c.loop-text.rest.now c.loop-text.list undoes before.stands torn before.few in
+    subst (IsRefused c.args.bytes.now) (sym before.number) refused

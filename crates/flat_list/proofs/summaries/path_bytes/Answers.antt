@@ -2,7 +2,9 @@ use Rattle.std.proofs.Common.{◌≡◌, ◌+◌, ◌∙◌, ℕ, arith, ap, sub
 use Rattle.std.specs.Prelude.{Some, slice_get}
 use Rattle.std.specs.List.{sum_by}
 use Rattle.std.proofs.lemmas.List.{take_all}
-use Rattle.flat_list.specs.declared.heads.Head.{Head}
+use Rattle.std.specs.Option.{option_map}
+use Rattle.flat_list.specs.Private.Slim.{with_text}
+use Rattle.flat_list.specs.Pack.{Head}
 use Rattle.flat_list.specs.Pack.{path_len}
 use Rattle.flat_list.proofs.Counted.{bytes_more}
 use Rattle.flat_list.proofs.summaries.path_bytes.Goals as goal
@@ -11,9 +13,9 @@ pub loop-preserved : goal.loop-preserved
 loop-preserved c =
     let hs = c.args.heads.0 in
     let k = c.loop.counter in
-    let h = c.head-head.result in
+    let h = (with_text c.next.result.0 (option_map (λ t. t.now) c.next.result.1)) in
     let before = c.loop.invariant in
-    let next : slice_get hs k ≡ Some h = subst (λ (l : List Head × ℕ). slice_get l.0 l.1 ≡ Some h) before.here c.head-head.ensures.next in
+    let next : slice_get hs k ≡ Some h = subst (λ (l : List Head × ℕ). slice_get l.0 l.1 ≡ Some h) before.here c.next.ensures.next in
     record {
       here = c.pass.ensures ∙ ap (λ (l : List Head × ℕ). (l.0, l.1 + 1)) before.here;
       counted = omega (arith, before.counted, bytes_more hs k h next, c.from.ensures, c.from-in-loop.ensures);

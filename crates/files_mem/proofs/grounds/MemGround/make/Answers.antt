@@ -15,6 +15,6 @@ returns-in_err-put-clause-acts c =
     let is : c.from_residual.result ≡ Err (write_error c.in_err-put.field-0.0) = search rules in
     subst (λ r. Acts c.args.call c.args.path.now (make_refusal c.args.self.now.area c.args.self.now.files c.args.path.now)
     (insert c.args.self.now.files c.args.path.now (node_of c.args.node)) c.args.self.now r c.put.new.self) (sym is)
-    (ground_refused c.args.call c.args.path.now c.self.inside.held.out
+    (ground_refused c.args.call c.args.path.now c.self.inside.held.out c.self.inside.held.cut
     (insert c.args.self.now.files c.args.path.now (node_of c.args.node)) c.args.self.now c.put.new.self c.in_err-put.field-0.0
     (search rules) (sym (ap (λ m. m.area) c.self.view_is)) planned (c.in_err-put.ensures.same ∙ same))

@@ -9,7 +9,7 @@ use Rattle.files_mem.proofs.grounds.MemGroundGround.give_back.Goals as goal
 
 pub invariant_of-self : goal.invariant_of-self
 invariant_of-self c =
-    let told : is_out (under c.into_parts-store.result.1) (all_but c.self.inside.held.out) ≡ true = search rules in
+    let told : is_out (under c.into_parts-store.result.1) (all_but c.self.inside.held.out c.self.inside.held.cut) ≡ true = search rules in
     subst IsGround (sym c.give_back.ensures)
     (back_ground c.self.inside.held c.into_parts-store.result.1 c.into_parts-store.result.0 c.self.invariant
     c.into_parts-store.ensures.valid told)

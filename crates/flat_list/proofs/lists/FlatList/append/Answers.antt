@@ -2,7 +2,7 @@ use Rattle.std.proofs.Common.{◌∙◌, ℕ, ◌+◌, ◌^◌, ◌<◌, ◌%◌
 use Rattle.std.specs.Prelude.{All}
 use Rattle.std.proofs.lemmas.Bool.Decides.{nat_tests}
 use Rattle.flat_list.specs.declared.entries.Entry.{Entry}
-use Rattle.flat_list.specs.declared.heads.Head.{Head}
+use Rattle.flat_list.specs.Pack.{Head}
 use Rattle.flat_list.specs.Private.Kept.{rest_sum}
 use Rattle.flat_list.proofs.Inverse.{kept_many, all_rests}
 use Rattle.flat_list.proofs.Appended.{starts_small, ArePut, kept_put, told_put}

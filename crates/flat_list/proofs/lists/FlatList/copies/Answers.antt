@@ -19,7 +19,7 @@ loop-cursor-preserved c =
     record {
       of_list = of_list p;
       inside = inside p;
-      so_far = c.in_ok-push.ensures.items ∙ ap (λ (x : Entry). old ++ x ∷ []) c.in_ok-copy_of.ensures
+      so_far = c.in_ok-push.ensures.items ∙ ap (λ (x : Entry). old ++ x ∷ []) c.in_ok-copy.ensures
           ∙ ap (λ (ys : List Entry). ys ++ e ∷ []) c.loop-cursor.invariant.so_far
           ∙ sym (taken xs _ e (turn_at _ refl p)) ∙ ap (λ n. take n xs) (one_on p);
     }

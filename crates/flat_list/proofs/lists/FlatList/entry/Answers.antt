@@ -1,7 +1,7 @@
 use Rattle.std.proofs.Common.{◌≡◌, ◌-◌, ◌/◌, ◌∙◌, ℕ, arith, rules, ap, sym, length, List, []}
 use Rattle.std.specs.Prelude.{Some, slice_get}
 use Rattle.flat_list.specs.declared.entries.Entry.{Entry}
-use Rattle.flat_list.specs.declared.heads.Head.{Head}
+use Rattle.flat_list.specs.Pack.{Head}
 use Rattle.flat_list.specs.Pack.{unpacked}
 use Rattle.flat_list.proofs.Inverse.{kept_many}
 use Rattle.flat_list.proofs.Passed.{before_pair}

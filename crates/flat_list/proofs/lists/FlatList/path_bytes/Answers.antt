@@ -1,7 +1,7 @@
 use Rattle.std.proofs.Common.{◌∙◌, ap, sym, length, List, ℕ, []}
 use Rattle.std.specs.List.{sum_by}
 use Rattle.flat_list.specs.declared.entries.Entry.{Entry}
-use Rattle.flat_list.specs.declared.heads.Head.{Head}
+use Rattle.flat_list.specs.Pack.{Head}
 use Rattle.flat_list.specs.Pack.{path_len, unpacked}
 use Rattle.flat_list.proofs.Inverse.{paths_many}
 use Rattle.flat_list.proofs.lists.FlatList.path_bytes.Goals as goal

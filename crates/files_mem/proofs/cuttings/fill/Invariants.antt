@@ -1,0 +1,10 @@
+use Rattle.std.proofs.Common.{◌≡◌, ◌≤◌, take}
+use Rattle.std.specs.Vec.{vec_capacity}
+use Rattle.files_mem.specs.Spanned.{bytes_of_all}
+use Rattle.files_mem.proofs.cuttings.fill.Given as goal
+
+abbrev pub invariant-loop-span : goal.invariant-loop-span
+invariant-loop-span l = record {
+  bytes : l.room.items ≡ bytes_of_all (take l.span-index l.spans);
+  capacity : vec_capacity l.fn.room ≤ vec_capacity l.room;
+}

@@ -1,0 +1,7 @@
+use Rattle.std.proofs.Common.{◌≡◌, take}
+use Rattle.std.specs.List.{sum_by}
+use Rattle.outside.specs.Count.{capped}
+use Rattle.files_mem.proofs.spans.faults_of.Given as goal
+
+abbrev pub invariant-loop-span : goal.invariant-loop-span
+invariant-loop-span l = l.count ≡ capped 0 (sum_by (λ span. span.count) (take l.span-index l.spans))

@@ -1,6 +1,0 @@
-use Rattle.std.proofs.Common.{◌∙◌}
-use Rattle.flat_list.proofs.Numbers.{parsed_is}
-use Rattle.flat_list.proofs.reading.parsed.Goals as goal
-
-pub returns : goal.returns
-returns c = c.ok.ensures.value ∙ parsed_is c.args.text.now c.parse.result c.requires c.parse.ensures.value.0
