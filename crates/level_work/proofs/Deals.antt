@@ -1,17 +1,13 @@
 -- How the items of a level are dealt.
-use Rattle.std.proofs.Common.{◌≡◌, ◌⊎◌, inl, inr, ℕ, zero, suc, ◌+◌, ◌<◌, ◌≤◌, Bool, true, false, ◌||◌, List, [], ◌∷◌, ◌++◌, length, map, Some, None}
-use Rattle.std.proofs.Common.{refl, ap, ◌∙◌, sym, subst, arith, eqb, nat_eq, nat_lt, slice_get}
+use Rattle.std.proofs.Common.{◌≡◌, ◌⊎◌, inl, inr, ⊎_elim, ℕ, zero, suc, ◌+◌, ◌<◌, ◌≤◌, Bool, true, false, List, [], ◌∷◌, ◌++◌, length, map, Some, None}
+use Rattle.std.proofs.Common.{refl, ap, ◌∙◌, sym, subst, arith, eqb, nat_lt, slice_get}
 use Rattle.std.specs.Prelude.{slice_set}
 use Rattle.std.proofs.lemmas.Bool.{false≢true}
 use Rattle.std.proofs.lemmas.Option.{slice_get_within}
-use Rattle.std.specs.declared.cmp.Ordering.{Ordering}
-use Rattle.std.specs.declared.cmp.Ordering.TheVariants.{Less, Equal, Greater}
-use Rattle.std.specs.Ordering.{ordering_reverse}
-use Rattle.std.specs.Cmp.Lexicographic.{pointwise, bytes_decides}
-use Rattle.path_text.specs.Order.{path_cmp, is_within, is_under, IsPreorder, UnderIsContiguous}
+use Rattle.path_text.specs.Order.{is_within, TopsAreNested}
 use Rattle.path_text.specs.Path.{level_of, parent_of, refusal}
-use Rattle.path_text.specs.Total.{path_cmp_total, path_cmp_same}
-use Rattle.outside.proofs.Depth.{deeper}
+use Rattle.path_text.proofs.Levels.{under_deeper}
+use Rattle.path_text.proofs.Within.{same_or_under, some_bytes}
 use Rattle.level_work.specs.Levels.{AreItems, FailsWith, HasFailedParent}
 use Rattle.level_work.specs.Chain.{AllBelow, level_at}
 use Rattle.level_work.specs.Private.Crews.{InLot, Dealt, AreShares, SameSeats}
@@ -24,7 +20,6 @@ use Rattle.level_work.specs.declared.lots.Lot.{Lot}
 use Rattle.level_work.proofs.Crewed.{map_get}
 use Rattle.level_work.proofs.Giving.{get_set_same, get_set_other, get_end, get_front, length_set, map_set}
 use Rattle.level_work.proofs.Leases.{Written, written_here, written_there, written, same_number, other_number, is_less, not_less}
-use Rattle.level_work.proofs.Running.{some_bytes}
 use Rattle.level_work.proofs.Working.{same_some, get_more}
 
 pub failed_parent : (items : List Item) (fates : List Fate) (paths : List (List ℕ)) (x : Item) → AreFailed items fates paths
@@ -38,33 +33,12 @@ no_failed_parent items fates paths x w e h =
     false≢true (sym e ∙ ap (has_path paths) (sym h.is_parent) ∙ w.complete h.place h.item h.fate_of h.at h.has h.not_done)
 
 -- two paths of one level have nothing at and under both but where they are the same
-pub one_over : IsPreorder → UnderIsContiguous → (x y q : List ℕ) → refusal x ≡ None → refusal y ≡ None → level_of x ≡ level_of y
+pub one_over : TopsAreNested → (x y q : List ℕ) → refusal x ≡ None → refusal y ≡ None → level_of x ≡ level_of y
     → is_within q x ≡ true → is_within q y ≡ true → x ≡ y
-one_over pre cont x y q fx fy lev on on' = by (pointwise nat_eq x y) (pointwise nat_eq y x) (pointwise nat_eq q x) (pointwise nat_eq q y) refl refl refl refl
+one_over nested x y q fx fy lev on on' = ⊎_elim (same x y fy lev) (λ w. sym (same y x fx (sym lev) w)) (nested q x y fx fy on on')
   where
-    apart : (a b : List ℕ) → refusal b ≡ None → pointwise nat_eq a b ≡ false → level_of a ≡ level_of b → is_under a b ≡ true → ⊥
-    apart a b f off l u = let d = deeper a b (some_bytes b f) (ap (λ c. c || is_under a b) off ∙ u) off in omega (arith, d, l)
-
-    within : (a b : List ℕ) → refusal b ≡ None → pointwise nat_eq a b ≡ false → level_of a ≡ level_of b → is_within a b ≡ true → ⊥
-    within a b f off l w = let d = deeper a b (some_bytes b f) w off in omega (arith, d, l)
-
-    under : (p : List ℕ) → is_within q p ≡ true → pointwise nat_eq q p ≡ false → is_under q p ≡ true
-    under p w off = ap (λ c. c || is_under q p) (sym off) ∙ w
-
-    back : path_cmp x y ≡ Greater → path_cmp y x ≡ Less
-    back e = path_cmp_total.antisymm y x ∙ ap ordering_reverse e
-
-    order : (o : Ordering) → path_cmp x y ≡ o → pointwise nat_eq x y ≡ false → pointwise nat_eq y x ≡ false → is_under q x ≡ true → is_under q y ≡ true → x ≡ y
-    order Equal e off off' u u' = path_cmp_same x y e
-    order Less e off off' u u' = absurd (apart y x fx off' (sym lev) (cont.between x y q fx fy e (pre.top_down q y u') u))
-    order Greater e off off' u u' = absurd (apart x y fy off lev (cont.between y x q fy fx (back e) (pre.top_down q x u) u'))
-
-    by : (a a' b b' : Bool) → pointwise nat_eq x y ≡ a → pointwise nat_eq y x ≡ a' → pointwise nat_eq q x ≡ b → pointwise nat_eq q y ≡ b' → x ≡ y
-    by true a' b b' e e' f f' = (bytes_decides x y).0 e
-    by false true b b' e e' f f' = sym ((bytes_decides y x).0 e')
-    by false false true b' e e' f f' = absurd (within x y fy e lev (ap (λ p. is_within p y) (sym ((bytes_decides q x).0 f)) ∙ on'))
-    by false false false true e e' f f' = absurd (within y x fx e' (sym lev) (ap (λ p. is_within p x) (sym ((bytes_decides q y).0 f')) ∙ on))
-    by false false false false e e' f f' = order (path_cmp x y) refl e e' (under x on f) (under y on' f')
+    same : (a b : List ℕ) → refusal b ≡ None → level_of a ≡ level_of b → is_within a b ≡ true → a ≡ b
+    same a b f l w = ⊎_elim (λ e. e) (λ u. absurd (let d = under_deeper a b (some_bytes b f) u in omega (arith, d, l))) (same_or_under a b w)
 
 widen : (n : ℕ) (places : List ℕ) (k : ℕ) → IsAmong n places k → IsAmong (n + 1) places k
 widen n places k a = record { place = a.place; at = a.at; early = omega (arith, a.early) }
@@ -205,10 +179,10 @@ module _ {A P : Type 0} where
       last : (t : ℕ) → t < n + 1 → n ≤ t → n ≡ t
       last t l m = omega (arith, l, m)
 
-  pub all_dealt : (o : Order) (level n : ℕ) (items : List Item) (fates : List Fate) (places : List ℕ) (lots : List (Lot A P)) → IsPreorder
-      → UnderIsContiguous → AreItems items → AreOnLevel (length items) level items places → length places ≤ n →
+  pub all_dealt : (o : Order) (level n : ℕ) (items : List Item) (fates : List Fate) (places : List ℕ) (lots : List (Lot A P)) → TopsAreNested
+      → AreItems items → AreOnLevel (length items) level items places → length places ≤ n →
       DealtTo n o items fates places lots → AreShares o level items fates lots
-  all_dealt o level n items fates places lots pre cont are on l d = record {
+  all_dealt o level n items fates places lots nested are on l d = record {
     inside = λ i j k lot is e. let a = d.from i j k (record { lot = lot; is_lot = is; at = e }) in on.below a.place k a.at;
     on_level = λ i t x e. lev i t x e;
     can = λ i t x e. d.can i t e.at.place x (dealt i t x e) e.at.is;
@@ -229,7 +203,7 @@ module _ {A P : Type 0} where
           → is_within q y.path ≡ true → (i ≡ j) × (t ≡ s)
       same i j t s x y q e f within within' =
           let over : x.path ≡ y.path =
-          one_over pre cont x.path y.path q (are.valid e.at.place x e.at.is) (are.valid f.at.place y f.at.is)
+          one_over nested x.path y.path q (are.valid e.at.place x e.at.is) (are.valid f.at.place y f.at.is)
           (lev i t x e ∙ sym (lev j s y f)) within within' in
           let place : e.at.place ≡ f.at.place = are.distinct e.at.place f.at.place x y e.at.is f.at.is over in
           d.once i t j s e.at.place (dealt i t x e) (subst (λ m. In lots j s m) (sym place) (dealt j s y f))

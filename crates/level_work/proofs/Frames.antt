@@ -1,9 +1,10 @@
 -- What stands at and under a path, where other paths change.
-use Rattle.std.proofs.Common.{◌≡◌, ℕ, true, false, cond, ◌||◌, List, None, refl, ap, ◌∙◌, sym, nat_eq}
+use Rattle.std.proofs.Common.{◌≡◌, ℕ, true, false, cond, List, None, refl, ap, ◌∙◌, sym, nat_eq}
 use Rattle.std.proofs.lemmas.Bool.{false≢true}
 use Rattle.std.specs.FinMap.{get, get-retain_keys, same_map}
 use Rattle.std.specs.Cmp.Lexicographic.{pointwise, bytes_decides}
-use Rattle.path_text.specs.Order.{is_within, is_under}
+use Rattle.path_text.proofs.Within.{itself}
+use Rattle.path_text.specs.Order.{is_within}
 use Rattle.path_text.specs.Total.{path_cmp_total, path_cmp_same}
 use Rattle.outside.specs.Tree.{Files}
 use Rattle.outside.specs.Writes.{SameBut}
@@ -11,9 +12,6 @@ use Rattle.level_work.specs.Acts.{at_and_under}
 
 pub get_at : (p : List ℕ) (files : Files) (q : List ℕ) → get (at_and_under p files) q ≡ cond (is_within q p) (get files q) None
 get_at p files q = get-retain_keys files (λ q. is_within q p) q (λ x e. ap (λ y. is_within y p) (sym (path_cmp_same q x e)))
-
-pub itself : (p : List ℕ) → is_within p p ≡ true
-itself p = ap (λ b. b || is_under p p) ((bytes_decides p p).1 refl)
 
 pub get_here : (p : List ℕ) (files : Files) → get (at_and_under p files) p ≡ get files p
 get_here p files = get_at p files p ∙ ap (λ b. cond b (get files p) None) (itself p)

@@ -68,18 +68,18 @@ get_set_other (y ∷ xs) (suc i) (suc j) x n = get_set_other xs i j x (λ e. n (
 
 module _ {A P : Type 0} (tree : P → Option Files) (area : P → Area) (count : P → ℕ) where
   out_first : (lots : List (Lot A P)) (i : ℕ) (lot : Lot A P) (p : P) (a : Area) → slice_get lots i ≡ Some lot → lot.part ≡ Some p
-      → part_area area lot.part ≡ under (tops_of (part_area area lot.part)) → a ≡ all_but (tops_out (part_area area) (drop i lots)) →
-      (area p ≡ under (tops_of (area p))) × (a ≡ all_but (tops_of (area p) ∷ tops_out (part_area area) (drop (i + 1) lots)))
+      → part_area area lot.part ≡ under (tops_of (part_area area lot.part)) → a ≡ all_but (tops_out (part_area area) (drop i lots)) [] →
+      (area p ≡ under (tops_of (area p))) × (a ≡ all_but (tops_of (area p) ∷ tops_out (part_area area) (drop (i + 1) lots)) [])
   out_first lots i lot p a at is own e =
       let u : area p ≡ under (tops_of (area p)) = subst (λ o. part_area area o ≡ under (tops_of (part_area area o))) is own in (
         u,
-        e ∙ ap (λ l. all_but (tops_out (part_area area) l)) (split_drop lots i lot at)
-            ∙ ap (λ o. all_but (tops_in (part_area area o) ++ tops_out (part_area area) (drop (i + 1) lots))) is
-            ∙ ap (λ x. all_but (tops_in x ++ tops_out (part_area area) (drop (i + 1) lots))) u,
+        e ∙ ap (λ l. all_but (tops_out (part_area area) l) []) (split_drop lots i lot at)
+            ∙ ap (λ o. all_but (tops_in (part_area area o) ++ tops_out (part_area area) (drop (i + 1) lots)) []) is
+            ∙ ap (λ x. all_but (tops_in x ++ tops_out (part_area area) (drop (i + 1) lots)) []) u,
       )
 
   pub is_out_now : (lots : List (Lot A P)) (i : ℕ) (lot : Lot A P) (p : P) (a : Area) → slice_get lots i ≡ Some lot → lot.part ≡ Some p
-      → part_area area lot.part ≡ under (tops_of (part_area area lot.part)) → a ≡ all_but (tops_out (part_area area) (drop i lots))
+      → part_area area lot.part ≡ under (tops_of (part_area area lot.part)) → a ≡ all_but (tops_out (part_area area) (drop i lots)) []
       → IsTrue (is_out (area p) a)
   is_out_now lots i lot p a at is own e = let w = out_first lots i lot p a at is own e in
       (λ k. is_out (w.0 k) (w.1 k))
@@ -87,18 +87,18 @@ module _ {A P : Type 0} (tree : P → Option Files) (area : P → Area) (count :
       (same_tops_self (tops_of (area p)))
 
   pub area_next : (lots : List (Lot A P)) (i : ℕ) (lot : Lot A P) (p : P) (a a' : Area) → slice_get lots i ≡ Some lot → lot.part ≡ Some p
-      → part_area area lot.part ≡ under (tops_of (part_area area lot.part)) → a ≡ all_but (tops_out (part_area area) (drop i lots)) →
-      a' ≡ area_with (tops_of (area p)) a → a' ≡ all_but (tops_out (part_area area) (drop (i + 1) lots))
+      → part_area area lot.part ≡ under (tops_of (part_area area lot.part)) → a ≡ all_but (tops_out (part_area area) (drop i lots)) [] →
+      a' ≡ area_with (tops_of (area p)) a → a' ≡ all_but (tops_out (part_area area) (drop (i + 1) lots)) []
   area_next lots i lot p a a' at is own e s = let w = out_first lots i lot p a at is own e in
       s ∙ ap (area_with (tops_of (area p))) w.1
       ∙ ap (λ b. all_but (cond b (tops_out (part_area area) (drop (i + 1) lots))
-      (tops_of (area p) ∷ without_tops (tops_of (area p)) (tops_out (part_area area) (drop (i + 1) lots)))))
+      (tops_of (area p) ∷ without_tops (tops_of (area p)) (tops_out (part_area area) (drop (i + 1) lots)))) [])
       (same_tops_self (tops_of (area p)))
 
   pub area_skip : (lots : List (Lot A P)) (i : ℕ) (lot : Lot A P) (a : Area) → slice_get lots i ≡ Some lot → lot.part ≡ None
-      → a ≡ all_but (tops_out (part_area area) (drop i lots)) → a ≡ all_but (tops_out (part_area area) (drop (i + 1) lots))
-  area_skip lots i lot a at is e = e ∙ ap (λ l. all_but (tops_out (part_area area) l)) (split_drop lots i lot at)
-      ∙ ap (λ o. all_but (tops_in (part_area area o) ++ tops_out (part_area area) (drop (i + 1) lots))) is
+      → a ≡ all_but (tops_out (part_area area) (drop i lots)) [] → a ≡ all_but (tops_out (part_area area) (drop (i + 1) lots)) []
+  area_skip lots i lot a at is e = e ∙ ap (λ l. all_but (tops_out (part_area area) l) []) (split_drop lots i lot at)
+      ∙ ap (λ o. all_but (tops_in (part_area area o) ++ tops_out (part_area area) (drop (i + 1) lots)) []) is
 
   none_more : (done : List (Lot A P)) (lot : Lot A P) (q : List ℕ) → InNone (part_area area) done q
       → in_tops (tops_of (part_area area lot.part)) q ≡ false → InNone (part_area area) (done ++ lot ∷ []) q
@@ -168,7 +168,7 @@ module _ {A P : Type 0} (tree : P → Option Files) (area : P → Area) (count :
       ∙ ap (λ k. sum_by (λ l. part_count count l.part) (take i lots) + k) (omega arith)
 
 pub start : {A P : Type 0} (tree : Option P → Option Files) (area : Option P → Area) (count : Option P → ℕ) (lots : List (Lot A P))
-    (a : Area) (t : Option Files) (g : ℕ) → a ≡ all_but (tops_out area lots) → Giving tree area count 0 lots lots a t t g g
+    (a : Area) (t : Option Files) (g : ℕ) → a ≡ all_but (tops_out area lots) [] → Giving tree area count 0 lots lots a t t g g
 start tree area count lots a t g e = record {
   len = refl;
   shares = record { actor = refl; places = refl; fates = refl; lost = refl };

@@ -11,9 +11,10 @@ use Rattle.std.specs.FinMap.{get}
 use Rattle.path_text.specs.Order.{is_within}
 use Rattle.path_text.specs.Path.{level_of, parent_of}
 use Rattle.outside.specs.Tree.{Files, is_dir, is_root}
-use Rattle.outside.specs.Writes.{Area, all_but, under, is_open, is_apart}
+use Rattle.outside.specs.Writes.{Area, all_but, nothing_lent, under, is_open, is_apart}
 use Rattle.outside.specs.Lease.{in_tops, leased, kept, area_without, tops_of, CanLease, HaveParents}
-use Rattle.outside.proofs.Depth.{as_deep, parent_above, itself}
+use Rattle.path_text.proofs.Levels.{as_deep, parent_above}
+use Rattle.path_text.proofs.Within.{itself, some_bytes}
 use Rattle.outside.proofs.Leased.{a_top, get_part, get_rest}
 use Rattle.level_work.specs.Levels.{AreItems}
 use Rattle.level_work.specs.Private.Steps.{CanStep}
@@ -29,7 +30,6 @@ use Rattle.level_work.proofs.Giving.{get_set_same, get_set_other, length_set, ma
 use Rattle.level_work.proofs.Homes.{none_out, none_counted, all_left}
 use Rattle.level_work.proofs.Lent.{item_of, can_lease, is_ready}
 use Rattle.level_work.proofs.Likes.{likes, likes_back, shares_over, same_place}
-use Rattle.level_work.proofs.Running.{some_bytes}
 use Rattle.level_work.proofs.Working.{same_some, item_at}
 
 all_of : {X : Type 0} (f : X → Bool) (xs : List X) → ((i : ℕ) (x : X) → slice_get xs i ≡ Some x → f x ≡ true) → list_all f xs ≡ true
@@ -92,13 +92,13 @@ module _ {A P : Type 0} (tree : P → Option Files) (area : P → Area) (count :
       ap (λ r. tops_in (part_area area x.part) ++ r) (out_more xs i lot new tops at (λ j one l e. later (suc j) one (omega (arith, l)) e) u)
       ∙ sym (append_assoc (tops_in (part_area area x.part)) (tops_out (part_area area) xs) (tops ∷ []))
 
-  pub begin : (items : List Item) (lots : List (Lot A P)) (a : Area) (t : Option Files) → AtHome lots → a ≡ all_but []
+  pub begin : (items : List Item) (lots : List (Lot A P)) (a : Area) (t : Option Files) → AtHome lots → a ≡ nothing_lent
       → Leasing (part_tree tree) (part_area area) (part_count count) 0 items lots lots a t t
   begin items lots a t home e = record {
     len = refl;
     shares = record { actor = refl; places = refl; fates = refl; lost = refl };
     rest = λ j l. refl;
-    at = e ∙ ap all_but (sym (none_out tree area count lots home));
+    at = e ∙ ap (λ l. all_but l []) (sym (none_out tree area count lots home));
     leased = λ j lot l at. absurd (omega (arith, l));
     paths = λ j lot l at. absurd (omega (arith, l));
     told = all_left tree area count lots t home;
@@ -337,7 +337,7 @@ module _ {A P : Type 0} (tree : P → Option Files) (area : P → Area) (count :
           len = length_set now i new ∙ v.len;
           shares = shares;
           rest = λ j l. get_set_other now i j new (λ e. absurd (omega (arith, e, l))) ∙ v.rest j (omega (arith, l));
-          at = less ∙ ap (area_without tops) v.at ∙ ap all_but (sym (out_more now i lot new tops at later new_area));
+          at = less ∙ ap (area_without tops) v.at ∙ ap (λ l. all_but l []) (sym (out_more now i lot new tops at later new_area));
           leased = is_under;
           paths = are_paths;
           told = told_again;

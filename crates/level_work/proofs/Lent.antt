@@ -12,13 +12,13 @@ use Rattle.std.specs.Cmp.Lexicographic.{pointwise, bytes_decides}
 use Rattle.path_text.specs.Order.{is_within}
 use Rattle.path_text.specs.Path.{level_of, parent_of}
 use Rattle.outside.specs.Tree.{Files, is_dir, is_root}
-use Rattle.outside.specs.Writes.{Area, all_but, under, is_top, is_open}
+use Rattle.outside.specs.Writes.{Area, nothing_lent, under, is_top, is_open}
 use Rattle.outside.specs.Lease.{in_tops, same_tops, CanLease, HaveParents}
 use Rattle.level_work.specs.Private.Lots.{IsAt, AreApart, Ready}
 use Rattle.level_work.specs.Private.Shares.{ArePaths, AreFirstPaths, IsShare, StandInDirs}
 use Rattle.level_work.specs.declared.items.Item.{Item}
 use Rattle.level_work.specs.declared.lots.Lot.{Lot}
-use Rattle.level_work.proofs.Frames.{itself}
+use Rattle.path_text.proofs.Within.{itself}
 use Rattle.level_work.proofs.Working.{item_at, same_some}
 
 get_end : {X : Type 0} (xs : List X) (y : X) → slice_get (xs ++ y ∷ []) (length xs) ≡ Some y
@@ -61,7 +61,7 @@ module _ (items : List Item) (places : List ℕ) (tops : List (List ℕ)) (s : I
       let x = item_at items places i (omega (arith, a.len, slice_get_within tops i p e)) s.inside in
       (x.0, (x.1, same_some x.0.path p (sym (a.of_item i x.0 x.1) ∙ e)))
 
-  pub can_lease : CanLease (all_but []) tops
+  pub can_lease : CanLease nothing_lent tops
   can_lease = record {
     distinct = λ i j p h k. elim (eqb i j) as (λ b. eqb i j ≡ b → i ≡ j) [
       | true ↦ λ is. same i j is

@@ -22,9 +22,9 @@ use Rattle.level_work.specs.declared.items.Fate.{Fate}
 use Rattle.level_work.specs.declared.items.Fate.TheVariants as fate
 use Rattle.level_work.specs.declared.items.Order.{Order}
 use Rattle.level_work.specs.declared.lots.Lot.{Lot}
-use Rattle.outside.proofs.Depth.{deeper}
+use Rattle.path_text.proofs.Levels.{deeper}
+use Rattle.path_text.proofs.Within.{some_bytes}
 use Rattle.level_work.proofs.Frames.{same_at}
-use Rattle.level_work.proofs.Running.{some_bytes}
 use Rattle.outside.proofs.Leased.{a_top}
 use Rattle.level_work.proofs.Working.{same_some, item_at}
 

@@ -17,9 +17,10 @@ use Rattle.level_work.specs.declared.items.Fate.TheVariants as fate
 use Rattle.level_work.specs.declared.items.Order.{Order}
 use Rattle.level_work.specs.declared.items.Order.TheVariants as order
 use Rattle.level_work.proofs.Frames.{same_at}
-use Rattle.outside.proofs.Depth.{deeper, as_deep}
+use Rattle.path_text.proofs.Levels.{deeper, as_deep}
+use Rattle.path_text.proofs.Within.{some_bytes}
 use Rattle.level_work.proofs.Stages.{Next, with_here, other_level, lt_true, le_true, true_le, done_after, not_here, still_done, now_done}
-use Rattle.level_work.proofs.Running.{next_at, not_yet, at_last, some_bytes, is_no_item, no_item, standing}
+use Rattle.level_work.proofs.Running.{next_at, not_yet, at_last, is_no_item, no_item, standing}
 use Rattle.level_work.proofs.Working.{same_some}
 
 get_stage : (o : Order) (t : ℕ) (items : List Item) (before after : Files) (q : List ℕ)

@@ -1,18 +1,14 @@
 -- Level by level, turn after turn.
-use Rattle.std.proofs.Common.{◌≡◌, ◌≢◌, ◌⊎◌, ◌↔◌, inl, inr, ℕ, zero, suc, ◌+◌, ◌-◌, ◌<◌, ◌≤◌, Bool, true, false, cond, ◌||◌, List, [], ◌∷◌, length}
-use Rattle.std.proofs.Common.{Option, Some, None, IfSome, refl, ap, ◌∙◌, sym, subst, arith, nat_eq, nat_le, is_some, slice_get, ◌++◌, ◌&&◌}
-use Rattle.std.proofs.Common.{length-append}
+use Rattle.std.proofs.Common.{◌≡◌, ◌≢◌, ◌⊎◌, ◌↔◌, inl, inr, ℕ, zero, suc, ◌+◌, ◌-◌, ◌<◌, ◌≤◌, true, false, cond, ◌||◌, List, [], ◌∷◌, length}
+use Rattle.std.proofs.Common.{Option, Some, None, IfSome, refl, ap, ◌∙◌, sym, subst, arith, nat_eq, nat_le, is_some, slice_get}
 use Rattle.std.proofs.lemmas.Bool.{false≢true, or_parts}
 use Rattle.std.proofs.lemmas.Bool.Decides.{nat_tests}
-use Rattle.std.specs.Prelude.{◌==◌, Result, Ok, Err, OnErr}
-use Rattle.std.specs.List.{before_last}
+use Rattle.std.specs.Prelude.{Result, Ok, Err, OnErr}
 use Rattle.std.specs.FinMap.{get}
 use Rattle.std.proofs.lemmas.Option.{slice_get_within}
 use Rattle.std.specs.Cmp.Lexicographic.{pointwise, bytes_decides}
-use Rattle.path_text.specs.Order.{is_under, front}
-use Rattle.path_text.specs.Path.{level_of, parent_of, refusal, is_slash}
+use Rattle.path_text.specs.Path.{level_of, parent_of, refusal}
 use Rattle.outside.specs.Tree.{Files, is_dir, is_root}
-use Rattle.outside.proofs.Parents.{child_of_parent}
 use Rattle.level_work.specs.Acts.{Deed, at_and_under, MakesDirs}
 use Rattle.level_work.specs.Levels.{found, left, Acted, SameButItems, is_item, FailsWith, ParentsFail, StandIn, AreItems}
 use Rattle.level_work.specs.Chain.{OneLevel, is_done, AllBelow, mark_at, level_at}
@@ -23,50 +19,10 @@ use Rattle.level_work.specs.declared.items.Fate.TheVariants as fate
 use Rattle.level_work.specs.declared.items.Order.{Order}
 use Rattle.level_work.specs.declared.items.Order.TheVariants as order
 use Rattle.level_work.proofs.Frames.{get_here}
-use Rattle.outside.proofs.Depth.{deeper}
-use Rattle.outside.proofs.Depth.{name_is_under}
+use Rattle.path_text.proofs.Levels.{parent_above}
+use Rattle.path_text.proofs.Within.{some_bytes}
 use Rattle.level_work.proofs.Stages.{Next, get_with, other_level, lt_true, le_true, true_lt, true_le, done_after, not_here, level_more}
 use Rattle.level_work.proofs.Working.{some_at, same_some, both_told, same_told}
-
-pub some_bytes : (p : List ℕ) → refusal p ≡ None → 0 < length p
-some_bytes [] e = cc
-some_bytes (b ∷ p) e = omega arith
-
-parent_some : (q : List ℕ) → 0 < length (parent_of q)
-parent_some q = some (before_last is_slash q)
-  where
-    some : (b : List ℕ) → 0 < length (cond (length b == 0) (47 ∷ []) b)
-    some [] = omega arith
-    some (x ∷ b) = elim (length (x ∷ b) == 0) as (λ c. 0 < length (cond c (47 ∷ []) (x ∷ b))) [ true ↦ omega arith | false ↦ omega arith ]
-
-right_so : (a b : Bool) → (a && b) ≡ true → b ≡ true
-right_so true b e = e
-right_so false b e = absurd (false≢true e)
-
-pub front_longer : (p : List ℕ) → length p ≤ length (front p)
-front_longer p = elim (length p == 1) as
-    (λ b. length p ≤ length (cond b p (p ++ 47 ∷ []))) [ true ↦ omega arith | false ↦ omega (arith, length-append p (47 ∷ [])) ]
-
-never_under_itself : (p : List ℕ) → is_under p p ≡ true → ⊥
-never_under_itself p u = let l = lt_true (length (front p)) (length p) (right_so _ _ u) in omega (arith, l, front_longer p)
-
-pub under_is_other : (q p : List ℕ) → is_under q p ≡ true → pointwise nat_eq q p ≡ false
-under_is_other q p u = elim (pointwise nat_eq q p) as (λ b. pointwise nat_eq q p ≡ b → b ≡ false) [
-  | true ↦ λ is. absurd (never_under_itself p (subst (λ x. is_under x p ≡ true) ((bytes_decides q p).0 is) u))
-  | false ↦ λ _. refl
-] refl
-
-or_true : (b : Bool) → (b || true) ≡ true
-or_true true = refl
-or_true false = refl
-
--- a path's parent is on a level above it
-pub parent_above : (q : List ℕ) → refusal q ≡ None → is_root q ≡ false → level_of (parent_of q) < level_of q
-parent_above q fine off =
-    let under : is_under q (parent_of q) ≡ true = name_is_under (parent_of q) q (child_of_parent q fine off) in
-    deeper q (parent_of q) (parent_some q)
-    (ap (λ b. pointwise nat_eq q (parent_of q) || b) under ∙ or_true (pointwise nat_eq q (parent_of q)))
-    (under_is_other q (parent_of q) under)
 
 pub is_no_item : (items : List Item) (q : List ℕ) (k : ℕ) (x : Item) → is_item items q ≡ false → slice_get items k ≡ Some x → pointwise nat_eq q x.path ≡ false
 is_no_item [] q k x off at = cc

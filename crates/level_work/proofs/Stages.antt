@@ -17,8 +17,9 @@ use Rattle.level_work.specs.declared.items.Item.{Item}
 use Rattle.level_work.specs.declared.items.Fate.{Fate}
 use Rattle.level_work.specs.declared.items.Order.{Order}
 use Rattle.level_work.specs.declared.items.Order.TheVariants as order
-use Rattle.level_work.proofs.Frames.{get_at, same_at, itself}
-use Rattle.outside.proofs.Depth.{deeper, as_deep}
+use Rattle.level_work.proofs.Frames.{get_at, same_at}
+use Rattle.path_text.proofs.Levels.{deeper, as_deep}
+use Rattle.path_text.proofs.Within.{itself}
 
 tie : (q p : List ℕ) → eq_by_cmp path_cmp q p ≡ pointwise nat_eq q p
 tie q p = sym (path_cmp_ties q p)

@@ -8,7 +8,7 @@ use Rattle.std.proofs.lemmas.List.Sums.{sum_by-cons, sum_by-append}
 use Rattle.std.specs.List.{count_by, sum_by}
 use Rattle.std.specs.Cmp.Lexicographic.{pointwise, bytes_decides}
 use Rattle.path_text.specs.Path.{level_of}
-use Rattle.outside.proofs.Depth.{itself}
+use Rattle.path_text.proofs.Within.{itself}
 use Rattle.level_work.specs.Counts.{is_failed}
 use Rattle.level_work.specs.Private.Steps.{TellsLevel}
 use Rattle.level_work.specs.Private.Crews.{AreShares, Stored}

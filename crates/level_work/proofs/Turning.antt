@@ -8,7 +8,7 @@ use Rattle.std.proofs.lemmas.List.Sums.{sum_by-cons}
 use Rattle.std.specs.List.{count_by}
 use Rattle.path_text.specs.Path.{level_of}
 use Rattle.outside.specs.Tree.{Files}
-use Rattle.outside.specs.Writes.{Area, all_but}
+use Rattle.outside.specs.Writes.{Area, nothing_lent}
 use Rattle.level_work.specs.Acts.{Deed, Alike, AllShow, MakesDirs}
 use Rattle.level_work.specs.Counts.{NoneFell, BlamedAll, is_failed}
 use Rattle.level_work.specs.Levels.{AreItems, StandIn, ParentsFail, Acted, SameButItems}
@@ -103,7 +103,7 @@ next_fresh o top turn m l e =
 
 module _ {A P D : Type 0} (plain : A → D) (count : A → ℕ) (deed : D → Deed) (o : Order) (top : ℕ) (items : List Item) where
   pub turned_none : (lots : List (Lot A P)) (fates : List Fate) (paths : List (List ℕ)) (a : Area) (t : Option Files) (g : ℕ)
-      → a ≡ all_but [] → AtHome lots → AllBelow top items → length fates ≡ length items
+      → a ≡ nothing_lent → AtHome lots → AllBelow top items → length fates ≡ length items
       → ((k : ℕ) (f : Fate) → slice_get fates k ≡ Some f → f ≡ fate.Done) → paths ≡ [] →
       Turned plain count deed o top 0 items lots lots fates paths a t t g g
   turned_none lots fates paths a t g area home below len done empty = record {
@@ -173,7 +173,7 @@ module _ {A P D : Type 0} (plain : A → D) (count : A → ℕ) (deed : D → De
           → IfSome t0 (λ before. IfSome next (SameButItems items before))
       turned_stopped told = turned_lost (only_level told)
 
-      pub turned_more : (places : List ℕ) (paths' : List (List ℕ)) (a' : Area) → AreItems items → a' ≡ all_but [] → AtHome now'
+      pub turned_more : (places : List ℕ) (paths' : List (List ℕ)) (a' : Area) → AreItems items → a' ≡ nothing_lent → AtHome now'
           → SameActors plain count now now' → g ≤ g' → is_some next ≡ is_some t → TellsLevel o level items fates fates' →
           ((d : D) → AllShow d (map (λ (l : Lot A P). plain l.actor) now) → IfSome t (λ old. IfSome next (OneLevel (deed d) level items fates' old))) →
           BlamedMore (count_by is_failed fates) (count_by is_failed fates') g (map (λ (l : Lot A P). count l.actor) now) g'

@@ -1,7 +1,7 @@
 //! One level by several actors.
 ghost use Rattle.std.specs.Prelude.{◌≡◌, ◌<◌, ◌≤◌, ℕ, [], false, length, map, OnOk, OnErr, IfSome, Some, is_some, slice_get};
 ghost use Rattle.std.specs.List.{count_by};
-ghost use Rattle.outside.specs.Writes.{all_but};
+ghost use Rattle.outside.specs.Writes.{nothing_lent};
 ghost use Rattle.level_work.specs.Acts.{AllShow};
 ghost use Rattle.level_work.specs.Counts.{is_failed};
 ghost use Rattle.level_work.specs.Levels.{AreItems};
@@ -42,7 +42,7 @@ pub(crate) fn one_level<R: Threads + Sync, G: Ground, A: Act<G::Part> + Send>(
 where
     G::Part: Send,
     requires hosts { 1 ≤ hosts }
-    requires area { G.area ground.old ≡ all_but [] }
+    requires area { G.area ground.old ≡ nothing_lent }
     requires some { 0 < length lots.old }
     requires home { AtHome lots.old }
     requires items { AreItems items.now }
@@ -50,7 +50,7 @@ where
     requires places { AreOnLevel (length items.now) level items.now places.now }
     requires knows { Knows order items.now fates.old failed.now.set.keys }
     requires parents { IfSome (G.tree ground.old) (CanStep order level items.now fates.old) }
-    ensures area { G.area ground.new ≡ all_but [] }
+    ensures area { G.area ground.new ≡ nothing_lent }
     ensures home { AtHome lots.new }
     ensures tells { is_some (G.tree ground.new) ≡ is_some (G.tree ground.old) }
     ensures actors { SameActors A.plain A.count lots.old lots.new }

@@ -10,7 +10,7 @@ ghost use Rattle.level_work.specs.Private.Dealing.{AreByLevel, AreOnLevel, Deals
 use crate::failures::Paths;
 use crate::items::{Fate, Item, Order};
 use crate::lots::Lot;
-use path_text::{OutOfMemory, path_order_is_preorder, under_is_contiguous};
+use path_text::{OutOfMemory, tops_are_nested};
 use std::alloc::Global;
 
 // The places of the items of each level, down to the deepest item.
@@ -68,8 +68,7 @@ pub(crate) fn deal<A, P>(
     ensures shares { OnOk result (AreShares order level items.now fates.now lots.new) }
     ensures fresh { OnOk result ((i : ℕ) (lot : Lot A P) → slice_get lots.new i ≡ Some lot → (lot.fates.items ≡ []) × (lot.lost ≡ false)) }
 {
-    path_order_is_preorder();
-    under_is_contiguous();
+    tops_are_nested();
     clear(lots);
     for t in 0..places.len() {
         let lot = t % lots.len();

@@ -3,7 +3,7 @@ ghost use Rattle.std.specs.Prelude.{◌≡◌, ◌<◌, ◌≤◌, ◌+◌, ◌^
 ghost use Rattle.std.specs.List.{sum_by};
 ghost use Rattle.outside.specs.Count.{capped};
 ghost use Rattle.outside.specs.Lease.{Joins, area_with, is_out, tops_of};
-ghost use Rattle.outside.specs.Writes.{all_but};
+ghost use Rattle.outside.specs.Writes.{all_but, nothing_lent};
 ghost use Rattle.level_work.specs.Levels.{AreItems};
 ghost use Rattle.level_work.specs.Private.Steps.{CanStep};
 ghost use Rattle.level_work.specs.Private.Lots.{IsAt, part_tree, part_area, part_count};
@@ -26,14 +26,14 @@ pub(crate) fn lease_all<G: Ground, A>(
     fates: &[Fate],
     lots: &mut [Lot<A, G::Part>],
 ) -> Result<(), OutOfMemory>
-    requires area { G.area ground.old ≡ all_but [] }
+    requires area { G.area ground.old ≡ nothing_lent }
     requires items { AreItems items.now }
     requires home { AtHome lots.old }
     requires shares { AreShares order level items.now fates.now lots.old }
     requires fresh { (i : ℕ) (lot : Lot A G.Part) → slice_get lots.old i ≡ Some lot → (lot.fates.items ≡ []) × (lot.lost ≡ false) }
     requires parents { IfSome (G.tree ground.old) (CanStep order level items.now fates.now) }
     ensures shares { SameShares lots.old lots.new }
-    ensures area { G.area ground.new ≡ all_but (tops_out (part_area G.Part.area) lots.new) }
+    ensures area { G.area ground.new ≡ all_but (tops_out (part_area G.Part.area) lots.new) [] }
     ensures under { AreUnder (part_area G.Part.area) lots.new }
     ensures told { IfSome (G.tree ground.old) (λ before. IfSome (G.tree ground.new) (AreOut (part_tree G.Part.tree) (part_area G.Part.area) lots.new before)) }
     ensures tells { is_some (G.tree ground.new) ≡ is_some (G.tree ground.old) }
@@ -87,10 +87,10 @@ fn path_at(items: &[Item], places: &[usize], j: usize) -> Result<Path, OutOfMemo
 
 // Takes all parts back.
 pub(crate) fn give_all<G: Ground, A>(ground: &mut G, lots: &mut [Lot<A, G::Part>])
-    requires area { G.area ground.old ≡ all_but (tops_out (part_area G.Part.area) lots.old) }
+    requires area { G.area ground.old ≡ all_but (tops_out (part_area G.Part.area) lots.old) [] }
     requires under { AreUnder (part_area G.Part.area) lots.old }
     requires tells { AllTell (part_tree G.Part.tree) (G.tree ground.old) lots.old }
-    ensures area { G.area ground.new ≡ all_but [] }
+    ensures area { G.area ground.new ≡ nothing_lent }
     ensures home { AtHome lots.new }
     ensures shares { SameShares lots.old lots.new }
     ensures tells { is_some (G.tree ground.new) ≡ is_some (G.tree ground.old) }

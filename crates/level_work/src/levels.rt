@@ -2,7 +2,7 @@
 ghost use Rattle.std.specs.Prelude.{◌≡◌, ◌<◌, ◌≤◌, [], ℕ, Some, slice_get, length, map, IfOk, IfSome, OnOk, OnErr, is_some};
 ghost use Rattle.std.specs.Vec.{vec_len, vec_capacity};
 ghost use Rattle.std.specs.List.{count_by};
-ghost use Rattle.outside.specs.Writes.{all_but};
+ghost use Rattle.outside.specs.Writes.{nothing_lent};
 ghost use Rattle.level_work.specs.Acts.{Alike, AllShow, MakesDirs};
 ghost use Rattle.level_work.specs.Counts.{BlamedAll, NoneFell, is_failed};
 ghost use Rattle.level_work.specs.Levels.{Acted, AreItems, ParentsFail, SameButItems, StandIn};
@@ -39,13 +39,13 @@ pub fn on_levels<R: Threads + Sync, G: Ground, A: Act<G::Part> + Send + Drop>(
 where
     G::Part: Send,
     requires hosts { 1 ≤ hosts }
-    requires home { G.area ground.old ≡ all_but [] }
+    requires home { G.area ground.old ≡ nothing_lent }
     requires some { 0 < length actors.old.items }
     requires alike { Alike (map A.plain actors.old.items) }
     requires items { AreItems items.now }
     requires stand { IfSome (G.tree ground.old) (StandIn order items.now) }
     requires dirs { (d : A.Plain) → AllShow d (map A.plain actors.old.items) → IfSome (G.tree ground.old) (MakesDirs order (A.deed d) items.now) }
-    ensures home { G.area ground.new ≡ all_but [] }
+    ensures home { G.area ground.new ≡ nothing_lent }
     ensures tells { is_some (G.tree ground.new) ≡ is_some (G.tree ground.old) }
     ensures plain { map A.plain actors.new.items ≡ map A.plain actors.old.items }
     ensures kept { G.count ground.old ≤ G.count ground.new }
@@ -77,7 +77,7 @@ fn all_levels<R: Threads + Sync, G: Ground, A: Act<G::Part> + Send + Drop>(
 where
     G::Part: Send,
     requires hosts { 1 ≤ hosts }
-    requires area { G.area ground.old ≡ all_but [] }
+    requires area { G.area ground.old ≡ nothing_lent }
     requires some { 0 < length lots.old }
     requires home { AtHome lots.old }
     requires alike { Alike (map (λ lot. A.plain lot.actor) lots.old) }
@@ -86,7 +86,7 @@ where
     requires places { AreByLevel (length items.now) items.now (map (λ places. places.items) levels.now) }
     requires stand { IfSome (G.tree ground.old) (StandIn order items.now) }
     requires dirs { (d : A.Plain) → AllShow d (map (λ lot. A.plain lot.actor) lots.old) → IfSome (G.tree ground.old) (MakesDirs order (A.deed d) items.now) }
-    ensures area { G.area ground.new ≡ all_but [] }
+    ensures area { G.area ground.new ≡ nothing_lent }
     ensures tells { is_some (G.tree ground.new) ≡ is_some (G.tree ground.old) }
     ensures actors { SameActors A.plain A.count lots.old lots.new }
     ensures count { G.count ground.old ≤ G.count ground.new }
@@ -118,7 +118,7 @@ fn run_levels<R: Threads + Sync, G: Ground, A: Act<G::Part> + Send + Drop>(
 where
     G::Part: Send,
     requires hosts { 1 ≤ hosts }
-    requires area { G.area ground.old ≡ all_but [] }
+    requires area { G.area ground.old ≡ nothing_lent }
     requires some { 0 < length lots.old }
     requires home { AtHome lots.old }
     requires alike { Alike (map (λ lot. A.plain lot.actor) lots.old) }
@@ -129,7 +129,7 @@ where
     requires fresh { (k : ℕ) (f : Fate) → slice_get fates.old k ≡ Some f → f ≡ Fate.Done }
     requires stand { IfSome (G.tree ground.old) (StandIn order items.now) }
     requires dirs { (d : A.Plain) → AllShow d (map (λ lot. A.plain lot.actor) lots.old) → IfSome (G.tree ground.old) (MakesDirs order (A.deed d) items.now) }
-    ensures area { G.area ground.new ≡ all_but [] }
+    ensures area { G.area ground.new ≡ nothing_lent }
     ensures tells { is_some (G.tree ground.new) ≡ is_some (G.tree ground.old) }
     ensures actors { SameActors A.plain A.count lots.old lots.new }
     ensures count { G.count ground.old ≤ G.count ground.new }

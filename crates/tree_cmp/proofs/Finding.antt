@@ -84,7 +84,7 @@ stat_told files s told p e h =
 file_body : (b : Body) → is_kind kind.File (kind_of b) ≡ true → (is_file_body b ≡ true) × (length (bytes_of b) ≡ size_of b)
 file_body (Body.dir far) e = absurd (false≢true e)
 file_body (Body.file bytes) e = (refl, refl)
-file_body Body.link e = absurd (false≢true e)
+file_body (Body.link text) e = absurd (false≢true e)
 file_body Body.other e = absurd (false≢true e)
 
 file_of : (node : Option Node) (s : Stat) → option_map stat_of node ≡ Some s → is_kind kind.File s.kind ≡ true → IsFileOf node s.size

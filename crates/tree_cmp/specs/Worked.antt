@@ -16,7 +16,7 @@ use Rattle.tree_cmp.specs.Rows.{exist_of, kinds, sizes, is_read, stat_at}
 use Rattle.tree_cmp.specs.Expressions.{expr_reading}
 
 abbrev pub entry : List ℕ → Kind → ℕ → Entry
-entry path kind size = record { path = path; stat = Some (record { kind = kind; size = size; mtime = None }); mark = Fine; unnamed = 0; far = 0 }
+entry path kind size = record { path = path; stat = Some (record { kind = kind; size = size; mtime = None }); mark = Fine; unnamed = 0; far = 0; target = None }
 
 -- a directory with a file of two bytes and an empty one, and another whose empty file has another name
 abbrev pub source : Side
@@ -30,7 +30,7 @@ abbrev pub closed : Side
 closed = side (codes "/q") (record (entry (codes "/q") Dir 0) { mark = ListFailed } ∷ [])
 
 abbrev pub gone : Side
-gone = side (codes "/q") (record { path = codes "/q"; stat = None; mark = Gone; unnamed = 0; far = 0 } ∷ [])
+gone = side (codes "/q") (record { path = codes "/q"; stat = None; mark = Gone; unnamed = 0; far = 0; target = None } ∷ [])
 
 -- which of some paths have rows
 abbrev pub shown_in : Side → Side → List Bool

@@ -11,6 +11,7 @@ use Rattle.std.proofs.lemmas.List.Folds.{list_any_at}
 use Rattle.path_text.specs.Order.{is_within}
 use Rattle.path_text.specs.Path.{refusal, joined, base_of, parent_of}
 use Rattle.path_text.proofs.Parents.{base_bare, parent_joined}
+use Rattle.path_text.proofs.Within.{within_root}
 use Rattle.outside.specs.Tree.{is_root}
 use Rattle.tree_copy.specs.declared.pairs.Pair.{Pair}
 use Rattle.tree_copy.specs.Placing.{overlap, target_in, PlacedAreApart}
@@ -27,13 +28,8 @@ root_meets root dest r h =
     or_true true = refl
     or_true false = refl
 
-    within : (dest : List ℕ) → refusal dest ≡ None → is_within dest (47 ∷ []) ≡ true
-    within [] h = cc
-    within (b ∷ []) h = grind (arith, nat_tests)
-    within (b ∷ c ∷ dest) h = grind (arith, nat_tests)
-
     over : (dest : List ℕ) → refusal dest ≡ None → meets (47 ∷ []) dest ≡ true
-    over dest h = ap (λ b. is_within (47 ∷ []) dest || b) (within dest h) ∙ or_true (is_within (47 ∷ []) dest)
+    over dest h = ap (λ b. is_within (47 ∷ []) dest || b) (within_root dest h) ∙ or_true (is_within (47 ∷ []) dest)
 
 -- ---- pairs that are due
 

@@ -28,7 +28,8 @@ use Rattle.tree_copy.specs.Copying.{Copied, FitsTree, IsCopied, IsCopyOf, IsLeft
 use Rattle.tree_copy.specs.PrivateDeeds.{CopyKind, CopyOne, CopyTold, Differ, MakeDir, MakeFile, PassOver}
 use Rattle.tree_copy.specs.PrivateSettling.{is_copied_kind, item_of, items_of, settled, settled_by}
 use Rattle.tree_copy.proofs.Comes.{Comes, Row, long, skipped_by, tried, under}
-use Rattle.tree_copy.proofs.Ends.{itself, same_some}
+use Rattle.path_text.proofs.Within.{itself}
+use Rattle.tree_copy.proofs.Ends.{same_some}
 use Rattle.tree_copy.proofs.Fits.{far_no_item, no_item, no_room_of}
 
 -- what an item finds and leaves at its path
@@ -79,7 +80,7 @@ dir_clash (Some n) s = by n.body
     by : (b : Body) → not (is_kind (kind_of b) kind.Dir) ≡ not (Rattle.outside.specs.Tree.is_dir_body b)
     by (dir far) = refl
     by (file bytes) = refl
-    by link = refl
+    by (link text) = refl
     by other = refl
 
 file_clash : (o : Option Node) → is_some o ≡ true → clash kind.File o ≡ not (is_file o)
@@ -89,7 +90,7 @@ file_clash (Some n) s = by n.body
     by : (b : Body) → not (is_kind (kind_of b) kind.File) ≡ not (Rattle.outside.specs.Tree.is_file_body b)
     by (dir far) = refl
     by (file bytes) = refl
-    by link = refl
+    by (link text) = refl
     by other = refl
 
 file_some : (o : Option Node) → is_file o ≡ true → is_some o ≡ true
@@ -103,7 +104,7 @@ not_both (Some n) d f = by n.body d f
     by : (b : Body) → Rattle.outside.specs.Tree.is_dir_body b ≡ true → Rattle.outside.specs.Tree.is_file_body b ≡ true → ⊥
     by (dir far) d f = false≢true f
     by (file bytes) d f = false≢true d
-    by link d f = false≢true d
+    by (link text) d f = false≢true d
     by other d f = false≢true d
 
 kept_dir : (source o : Option Node) → is_some o ≡ true → IsCopyOf kind.Dir source o o
@@ -186,7 +187,7 @@ told_size (Some n) stat e = ap (λ (s : Stat). s.size) (sym (same_some (stat_of 
     by : (b : Body) → Rattle.outside.specs.Tree.size_of b ≡ length (Rattle.outside.specs.Tree.bytes_of b)
     by (dir far) = refl
     by (file bytes) = refl
-    by link = refl
+    by (link text) = refl
     by other = refl
 
 may : (b : Bool) → may_fail (cond b fate.Conflict fate.Done) ≡ true

@@ -8,20 +8,15 @@ use Rattle.std.proofs.lemmas.List.Folds.{list_any-append}
 use Rattle.std.proofs.lemmas.List.Elements.{recursion_from_All}
 use Rattle.std.specs.Prelude.{◌==◌}
 use Rattle.std.specs.List.{All, AllByRecursion, list_any}
-use Rattle.std.specs.Ordering.{ordering_reverse}
-use Rattle.std.specs.declared.cmp.Ordering.{Ordering}
-use Rattle.std.specs.declared.cmp.Ordering.TheVariants.{Less, Equal, Greater}
 use Rattle.std.specs.Cmp.Lexicographic.{pointwise, bytes_decides}
 use Rattle.path_text.specs.Graft.{below_of, grafted}
-use Rattle.path_text.specs.Order.{path_cmp, front, is_under, is_within}
+use Rattle.path_text.specs.Order.{front, is_under, is_within}
 use Rattle.path_text.specs.Path.{refusal}
-use Rattle.path_text.specs.Total.{path_cmp_total, path_cmp_same}
-use Rattle.path_text.proofs.Joined.{first_slash}
 use Rattle.path_text.proofs.Moved.{below_undoes_graft}
-use Rattle.path_text.proofs.Parts.{below_made, graft_undoes_below, grafted_names}
-use Rattle.path_text.proofs.Preorder.{front-joined}
-use Rattle.path_text.proofs.Preordered.{preorder}
-use Rattle.path_text.proofs.Under.{contiguous, is_under_by, names_under}
+use Rattle.path_text.proofs.Parts.{below_made, front_longer, front_other, graft_undoes_below, grafted_names}
+use Rattle.path_text.proofs.Preorder.{front-joined, some_front}
+use Rattle.path_text.proofs.Under.{is_under_by, names_under}
+use Rattle.path_text.proofs.Within.{same_or_under, some_bytes, tops_are_nested, under_longer, within_root, within_up}
 use Rattle.outside.specs.Tree.{is_root}
 use Rattle.tree_copy.specs.declared.pairs.Pair.{Pair}
 use Rattle.tree_copy.specs.Copying.{ends_of, target_of}
@@ -59,36 +54,13 @@ at_of P (y ∷ xs) h (suc k) x e = at_of P xs h.1 k x e
 pub all_at : {X : Type 0} (P : X → Type 0) (xs : List X) → All P xs → (k : ℕ) (x : X) → slice_get xs k ≡ Some x → P x
 all_at P xs h = at_of P xs (recursion_from_All P xs h)
 
--- paths within others
-
-pub within_or : (x p : List ℕ) → is_within x p ≡ true → (x ≡ p) ⊎ (is_under x p ≡ true)
-within_or x p h = elim (pointwise nat_eq x p) as (λ b. pointwise nat_eq x p ≡ b → (b || is_under x p) ≡ true → (x ≡ p) ⊎ (is_under x p ≡ true)) [
-  | true ↦ λ same h. inl ((bytes_decides x p).0 same)
-  | false ↦ λ same h. inr h
-] refl h
-
-pub itself : (p : List ℕ) → is_within p p ≡ true
-itself p = or_left (pointwise nat_eq p p) (is_under p p) ((bytes_decides p p).1 refl)
-
-pub under_within : (x p : List ℕ) → is_under x p ≡ true → is_within x p ≡ true
-under_within x p h = or_right (pointwise nat_eq x p) (is_under x p) h
-
 abbrev pub meets : List ℕ → List ℕ → Bool
 meets a b = is_within a b || is_within b a
 
 -- of two paths that another one is within, one is within the other
 pub one_over : (a b t : List ℕ) → refusal a ≡ None → refusal b ≡ None → is_within t a ≡ true → is_within t b ≡ true → meets a b ≡ true
 one_over a b t v w h g =
-    ⊎_elim (λ e. or_left (is_within a b) (is_within b a) (subst (λ x. is_within x b ≡ true) e g))
-    (λ u. ⊎_elim (λ e. or_right (is_within a b) (is_within b a) (subst (λ x. is_within x a ≡ true) e h)) (λ d. by (path_cmp a b) refl u d)
-    (within_or t b g)) (within_or t a h)
-  where
-    by : (o : Ordering) → path_cmp a b ≡ o → is_under t a ≡ true → is_under t b ≡ true → meets a b ≡ true
-    by Less e u d = or_right (is_within a b) (is_within b a) (under_within b a (contiguous.between a b t v w e (preorder.top_down t b d) u))
-    by Equal e u d = or_left (is_within a b) (is_within b a) (subst (λ x. is_within a x ≡ true) (path_cmp_same a b e) (itself a))
-    by Greater e u d =
-        let turned : path_cmp b a ≡ Less = path_cmp_total.antisymm b a ∙ ap ordering_reverse e in
-        or_left (is_within a b) (is_within b a) (under_within a b (contiguous.between b a t w v turned (preorder.top_down t a u) d))
+    ⊎_elim (or_left (is_within a b) (is_within b a)) (or_right (is_within a b) (is_within b a)) (tops_are_nested t a b v w h g)
 
 -- sources, and targets, stand apart
 
@@ -236,54 +208,32 @@ target_by pairs f x k p e h =
 
 -- what is behind the top
 
-some_front : (t : List ℕ) → refusal t ≡ None → 0 < length (front t)
-some_front [] h = cc
-some_front (b ∷ t) h = elim (length (b ∷ t) == 1) as (λ c. 0 < length (cond c (b ∷ t) (b ∷ (t ++ 47 ∷ [])))) [ true ↦ omega arith | false ↦ omega arith ]
-
-front_longer : (t : List ℕ) → length t ≤ length (front t)
-front_longer t = elim (length t == 1) as (λ c. length t ≤ length (cond c t (t ++ 47 ∷ [])))
-    [ true ↦ omega arith | false ↦ omega (arith, length-append t (47 ∷ [])) ]
-
-front_of_long : (x : List ℕ) → 1 < length x → front x ≡ x ++ 47 ∷ []
-front_of_long x l = ap (λ b. cond b x (x ++ 47 ∷ [])) (off (length x) l)
-  where
-    off : (n : ℕ) → 1 < n → (n == 1) ≡ false
-    off n l = grind (arith, nat_tests)
-
-pub under_longer : (x p : List ℕ) → is_under x p ≡ true → length p < length x
-under_longer x p h =
-    let u = names_under x p h in
-    omega (arith, u.some, ap length u.whole, length-append (front p) u.names, front_longer p)
-
-within_longer : (x p : List ℕ) → is_within x p ≡ true → length p ≤ length x
-within_longer x p h = ⊎_elim (λ e. omega (arith, ap length e)) (λ u. omega (arith, under_longer x p u)) (within_or x p h)
-
 grafted_some : (t : List ℕ) (b : ℕ) (n : List ℕ) → grafted t (47 ∷ b ∷ n) ≡ front t ++ b ∷ n
 grafted_some t b n = grafted_names t (b ∷ n) (omega arith) ∙ sym (front-joined t (b ∷ n))
 
 -- what is under another path behind one top is so behind any
-moved_under : (s t m n : List ℕ) → refusal s ≡ None → refusal t ≡ None → is_under (grafted t (47 ∷ m)) (grafted t (47 ∷ n)) ≡ true →
+moved_under : (s t m n : List ℕ) → is_under (grafted t (47 ∷ m)) (grafted t (47 ∷ n)) ≡ true →
     is_under (grafted s (47 ∷ m)) (grafted s (47 ∷ n)) ≡ true
-moved_under s t [] [] v w h = absurd (omega (arith, under_longer t t h))
-moved_under s t [] (b ∷ n) v w h =
+moved_under s t [] [] h = absurd (omega (arith, under_longer t t h))
+moved_under s t [] (b ∷ n) h =
     absurd (omega (arith, under_longer t (grafted t (47 ∷ b ∷ n)) h, ap length (grafted_some t b n), length-append (front t) (b ∷ n), front_longer t))
-moved_under s t (a ∷ m) [] v w h = is_under_by (grafted s (47 ∷ a ∷ m)) s (a ∷ m) (grafted_some s a m) (omega arith)
-moved_under s t (a ∷ m) (b ∷ n) v w h =
+moved_under s t (a ∷ m) [] h = is_under_by (grafted s (47 ∷ a ∷ m)) s (a ∷ m) (grafted_some s a m) (omega arith)
+moved_under s t (a ∷ m) (b ∷ n) h =
     let u = names_under (grafted t (47 ∷ a ∷ m)) (grafted t (47 ∷ b ∷ n)) h in
     let whole : front t ++ (a ∷ m) ≡ front t ++ ((b ∷ n) ++ 47 ∷ u.names) =
-    sym (grafted_some t a m) ∙ u.whole ∙ ap (λ r. r ++ u.names) (fronted t w) ∙ append_assoc (front t ++ b ∷ n) (47 ∷ []) u.names
+    sym (grafted_some t a m) ∙ u.whole ∙ ap (λ r. r ++ u.names) (fronted t) ∙ append_assoc (front t ++ b ∷ n) (47 ∷ []) u.names
     ∙ append_assoc (front t) (b ∷ n) (47 ∷ u.names)
     in
     let names = append_cancel_left (front t) (a ∷ m) ((b ∷ n) ++ 47 ∷ u.names) whole in
     let moved : grafted s (47 ∷ a ∷ m) ≡ front (grafted s (47 ∷ b ∷ n)) ++ u.names =
     grafted_some s a m ∙ ap (λ r. front s ++ r) names ∙ sym (append_assoc (front s) (b ∷ n) (47 ∷ u.names))
     ∙ sym (append_assoc (front s ++ b ∷ n) (47 ∷ []) u.names)
-    ∙ sym (ap (λ r. r ++ u.names) (fronted s v))
+    ∙ sym (ap (λ r. r ++ u.names) (fronted s))
     in
     is_under_by (grafted s (47 ∷ a ∷ m)) (grafted s (47 ∷ b ∷ n)) u.names moved u.some
   where
-    fronted : (t : List ℕ) → refusal t ≡ None → front (grafted t (47 ∷ b ∷ n)) ≡ (front t ++ b ∷ n) ++ 47 ∷ []
-    fronted t w = ap front (grafted_some t b n) ∙ front_of_long (front t ++ b ∷ n) (omega (arith, length-append (front t) (b ∷ n), some_front t w))
+    fronted : (t : List ℕ) → front (grafted t (47 ∷ b ∷ n)) ≡ (front t ++ b ∷ n) ++ 47 ∷ []
+    fronted t = ap front (grafted_some t b n) ∙ front_other (front t ++ b ∷ n) (λ l. absurd (omega (arith, l, length-append (front t) (b ∷ n), some_front t)))
 
 -- what is so of the targets of paths
 
@@ -325,15 +275,13 @@ module _ (pairs : List Pair) (f : Fine pairs) where
       let p = g.pair in
       let t = target_of pairs x in
       let over : is_within t h.pair.target ≡ true =
-      ⊎_elim (λ e. under_within t h.pair.target (subst (λ r. is_under t r ≡ true) e u))
-      (λ d. under_within t h.pair.target (contiguous.deeper t (target_of pairs y) h.pair.target u d))
-      (within_or (target_of pairs y) h.pair.target (in_top y h w))
+      within_up t (target_of pairs y) h.pair.target u (in_top y h w)
       in
       let same = one_pair x y t g h (in_top x g v) over in
       let there : is_within y p.source ≡ true = subst (λ (q : Pair). is_within y q.source ≡ true) same h.within in
       let is : target_of pairs y ≡ grafted p.target (below_of y p.source) = h.is ∙ ap (λ (q : Pair). grafted q.target (below_of y q.source)) same in
-      let moved = moved_under p.source p.target (drop (length (front p.source)) x) (drop (length (front p.source)) y) (top_valid x g).source
-      (top_valid x g).target (subst (λ r. is_under r (grafted p.target (below_of y p.source)) ≡ true) g.is (subst (λ r. is_under t r ≡ true) is u)) in
+      let moved = moved_under p.source p.target (drop (length (front p.source)) x) (drop (length (front p.source)) y)
+      (subst (λ r. is_under r (grafted p.target (below_of y p.source)) ≡ true) g.is (subst (λ r. is_under t r ≡ true) is u)) in
       subst (λ r. is_under r y ≡ true) (graft_undoes_below x p.source g.within) (subst (λ r. is_under (grafted p.source (below_of x p.source)) r ≡ true)
       (graft_undoes_below y p.source there) moved)
 
@@ -348,18 +296,6 @@ module _ (pairs : List Pair) (f : Fine pairs) where
           let is = (bytes_decides (target_of pairs x) (47 ∷ [])).0 e in
           let over : is_within (47 ∷ []) p.target ≡ true = subst (λ t. is_within t p.target ≡ true) is (in_top x g v) in
           absurd (false≢true (sym (own_apart pairs f.apart g.place p g.at) ∙ or_left (is_within p.source p.target) (is_within p.target p.source)
-          (⊎_elim (λ e. subst (λ t. is_within p.source t ≡ true) e (all_over p.source (top_valid x g).source))
-          (λ u. absurd (omega (arith, under_longer (47 ∷ []) p.target u, some_path p.target (top_valid x g).target)))
-          (within_or (47 ∷ []) p.target over))))
-        where
-          some_path : (t : List ℕ) → refusal t ≡ None → 0 < length t
-          some_path [] h = cc
-          some_path (b ∷ t) h = omega arith
-
-          is_under_root : (s names : List ℕ) → s ≡ 47 ∷ names → 0 < length names → is_within s (47 ∷ []) ≡ true
-          is_under_root s names e l = under_within s (47 ∷ []) (is_under_by s (47 ∷ []) names e l)
-
-          all_over : (s : List ℕ) → refusal s ≡ None → is_within s (47 ∷ []) ≡ true
-          all_over [] h = cc
-          all_over (b ∷ []) h = subst (λ c. is_within (c ∷ []) (47 ∷ []) ≡ true) (sym (first_slash b [] h)) refl
-          all_over (b ∷ c ∷ s) h = is_under_root (b ∷ c ∷ s) (c ∷ s) (ap (λ d. d ∷ c ∷ s) (first_slash b (c ∷ s) h)) (omega arith)
+          (⊎_elim (λ e. subst (λ t. is_within p.source t ≡ true) e (within_root p.source (top_valid x g).source))
+          (λ u. absurd (omega (arith, under_longer (47 ∷ []) p.target u, some_bytes p.target (top_valid x g).target)))
+          (same_or_under (47 ∷ []) p.target over))))

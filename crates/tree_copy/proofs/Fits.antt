@@ -19,7 +19,8 @@ use Rattle.outside.specs.Tree.{Files, Node, Body, dir, file, link, other, IsTree
 use Rattle.outside.specs.Writes.{empty_dir}
 use Rattle.outside.specs.declared.trees.Kind.TheVariants as kind
 use Rattle.outside.specs.declared.trees.Stat.{Stat}
-use Rattle.outside.proofs.Leased.{parent_under}
+use Rattle.path_text.proofs.Parents.{parent_under}
+use Rattle.path_text.proofs.Within.{under_longer}
 use Rattle.flat_list.specs.declared.entries.Entry.{Entry}
 use Rattle.flat_list.specs.Spelling.{paths}
 use Rattle.level_work.specs.Acts.{MakesDirs}
@@ -31,7 +32,7 @@ use Rattle.tree_copy.specs.declared.pairs.Pair.{Pair}
 use Rattle.tree_copy.specs.Copying.{CanCopy, FitsTree, is_target, target_of, treated}
 use Rattle.tree_copy.specs.PrivateDeeds.{CopyKind, CopyOne, CopyTold, MakeDir}
 use Rattle.tree_copy.specs.PrivateSettling.{IsPair, has_room, item_of, items_of, placed_of}
-use Rattle.tree_copy.proofs.Ends.{Fine, Goes, all_at, both_off, goes, no_root, one_path, same_some, under_kept, under_longer}
+use Rattle.tree_copy.proofs.Ends.{Fine, Goes, all_at, both_off, goes, no_root, one_path, same_some, under_kept}
 
 -- what is known of the entries and of the pairs
 pub record Known (list : List Entry) (pairs : List Pair) : Type 0 where
@@ -242,7 +243,7 @@ module _ (list : List Entry) (pairs : List Pair) (k : Known list pairs) where
 dir_body : (b : Body) (far : Bool) → is_dir (Some (record { body = b; mtime = None })) ≡ true → kind_of b ≡ kind.Dir
 dir_body (dir n) far e = refl
 dir_body (file bytes) far e = absurd (false≢true e)
-dir_body link far e = absurd (false≢true e)
+dir_body (link text) far e = absurd (false≢true e)
 dir_body other far e = absurd (false≢true e)
 
 pub told_dir : (found : Option Node) (told : Option Stat) → is_some told ≡ true → IfSome told (λ stat. option_map stat_of found ≡ Some stat) →

@@ -22,7 +22,7 @@ pub data Sight (o : Option Node) (f : Fate) : Type 0 where
 dir_kind : (b : Body) → is_kind kind.Dir (kind_of b) ≡ is_dir_body b
 dir_kind (dir far) = refl
 dir_kind (file bytes) = refl
-dir_kind link = refl
+dir_kind (link text) = refl
 dir_kind other = refl
 
 pub sight : (seen : Files) (p : List ℕ) (f : Fate) → Looked p f seen → Sight (get seen p) f

@@ -14,7 +14,8 @@ use Rattle.level_work.specs.declared.items.Fate.TheVariants as fate
 use Rattle.tree_copy.specs.PrivateDeeds.{MakeDir}
 use Rattle.tree_copy.specs.PrivateActs.{ByReader, IsDirMade}
 use Rattle.tree_copy.proofs.Looks.{Looked, Sight, failed, there, in_way, absent, sight}
-use Rattle.tree_copy.proofs.Puts.{get_at, get_here, within_itself, put_others}
+use Rattle.path_text.proofs.Within.{itself}
+use Rattle.tree_copy.proofs.Puts.{get_at, get_here, put_others}
 
 same_inserted : (p : List ℕ) (n : Node) (files : Files) → at_and_under p (insert files p n) ≡ insert (at_and_under p files) p n
 same_inserted p n files = same_map path_cmp_total path_cmp_same _ _ (λ q.
@@ -24,7 +25,7 @@ same_inserted p n files = same_map path_cmp_total path_cmp_same _ _ (λ q.
   where
     by : (q : List ℕ) (b : Bool) → eq_by_cmp path_cmp q p ≡ b →
         cond (is_within q p) (cond b (Some n) (get files q)) None ≡ cond b (Some n) (cond (is_within q p) (get files q) None)
-    by q true e = ap (λ w. cond w (Some n) None) (ap (λ x. is_within x p) ((bytes_decides q p).0 (path_cmp_ties q p ∙ e)) ∙ within_itself p)
+    by q true e = ap (λ w. cond w (Some n) None) (ap (λ x. is_within x p) ((bytes_decides q p).0 (path_cmp_ties q p ∙ e)) ∙ itself p)
     by q false e = refl
 
 pub told_all : (t : Option Files) (X : Files → Type 0) → ((seen : Files) → X seen) → IfSome t X

@@ -7,6 +7,7 @@ use Rattle.std.proofs.lemmas.Bool.{false≢true}
 use Rattle.std.proofs.lemmas.Bool.Decides.{nat_tests}
 use Rattle.std.proofs.lemmas.List.{take_all}
 use Rattle.std.proofs.lemmas.List.Folds.{list_any-append}
+use Rattle.path_text.proofs.Within.{not_one}
 use Rattle.path_text.specs.Order.{is_within}
 use Rattle.path_text.specs.Path.{refusal}
 use Rattle.outside.specs.Tree.{is_root}
@@ -63,16 +64,7 @@ targets_more (p ∷ rest) pair n h is e =
     ∙ ap (λ q. list_any (λ other. meets q.target other.target) rest || overlap (map target rest)) (sym is)
     ∙ ap (λ ps. list_any (λ other. meets pair.target other.target) ps || overlap (map target ps)) all
 
-pub root_is : (p : List ℕ) → refusal p ≡ None → length p ≡ 1 → is_root p ≡ true
-root_is [] h l = absurd (omega arith)
-root_is (b ∷ []) h l = grind (arith, nat_tests)
-root_is (b ∷ c ∷ p) h l = absurd (omega arith)
-
--- a path other than `/` has more than one byte
-pub not_one : (p : List ℕ) → refusal p ≡ None → is_root p ≡ false → length p ≢ 1
-not_one p h off l = false≢true (sym off ∙ root_is p h l)
-
--- so it has a parent
+-- a path other than `/` has a parent
 pub no_parent : {X : Type 0} (p : List ℕ) (x : X) (found : Option X) → refusal p ≡ None → is_root p ≡ false →
     found ≡ cond (length p == 1) None (Some x) → found ≡ None → ⊥
 no_parent p x found h off e none =

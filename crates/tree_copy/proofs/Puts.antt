@@ -4,7 +4,8 @@ use Rattle.std.specs.Prelude.{Err}
 use Rattle.std.proofs.lemmas.Bool.{false≢true}
 use Rattle.std.specs.FinMap.{get, insert, remove, get-insert, get-remove, get-retain_keys}
 use Rattle.std.specs.Cmp.Lexicographic.{pointwise, bytes_decides}
-use Rattle.path_text.specs.Order.{is_within, is_under}
+use Rattle.path_text.specs.Order.{is_within}
+use Rattle.path_text.proofs.Within as within
 use Rattle.path_text.specs.Path.{parent_of}
 use Rattle.path_text.specs.Total.{path_cmp_total, path_cmp_ties, path_cmp_same}
 use Rattle.outside.specs.Tree.{Files, Node, is_dir}
@@ -17,14 +18,11 @@ use Rattle.tree_copy.specs.PrivateActs.{is_taken}
 itself : (p : List ℕ) → pointwise nat_eq p p ≡ true
 itself p = (bytes_decides p p).1 refl
 
-pub within_itself : (p : List ℕ) → is_within p p ≡ true
-within_itself p = ap (λ b. b || is_under p p) (itself p)
-
 pub get_at : (p : List ℕ) (files : Files) (q : List ℕ) → get (at_and_under p files) q ≡ cond (is_within q p) (get files q) None
 get_at p files q = get-retain_keys files (λ q. is_within q p) q (λ x e. ap (λ y. is_within y p) (sym (path_cmp_same q x e)))
 
 pub get_here : (p : List ℕ) (files : Files) → get (at_and_under p files) p ≡ get files p
-get_here p files = get_at p files p ∙ ap (λ b. cond b (get files p) None) (within_itself p)
+get_here p files = get_at p files p ∙ ap (λ b. cond b (get files p) None) (within.itself p)
 
 pub put_here : (p : List ℕ) (n : Node) (files : Files) → get (insert files p n) p ≡ Some n
 put_here p n files = get-insert path_cmp_total files p n p ∙ ap (λ b. cond b (Some n) (get files p)) (sym (path_cmp_ties p p) ∙ itself p)

@@ -10,7 +10,7 @@ use Rattle.path_text.specs.Path.{refusal, parent_of}
 use Rattle.outside.specs.Count.{RoseBy}
 use Rattle.outside.specs.Parts.{IsTreeIn, UnderDirectories}
 use Rattle.outside.specs.Tree.{Files}
-use Rattle.outside.specs.Writes.{all_but}
+use Rattle.outside.specs.Writes.{nothing_lent}
 use Rattle.flat_list.specs.declared.entries.Entry.{Entry}
 use Rattle.flat_list.specs.Entries.{bytes_by}
 use Rattle.flat_list.specs.Spelling.{paths}
@@ -51,7 +51,7 @@ module _ (list : List Entry) (pairs : List Pair) (made items : List Item) (m : M
   stand None f = tt
   stand (Some before) f = subst (λ xs. StandIn order.TopDown xs before) (sym (m.same ∙ m.are)) (stand_in list pairs known before f)
 
-  pub dirs : UnderDirectories → (t : Option Files) → IfSome t (IsTreeIn (all_but [])) → IfSome t (FitsTree list pairs) →
+  pub dirs : UnderDirectories → (t : Option Files) → IfSome t (IsTreeIn nothing_lent) → IfSome t (FitsTree list pairs) →
       IfSome t (λ before. MakesDirs order.TopDown (CopyOne before) items before)
   dirs law None tree f = tt
   dirs law (Some before) tree f = subst (λ xs. MakesDirs order.TopDown (CopyOne before) xs before) (sym (m.same ∙ m.are))

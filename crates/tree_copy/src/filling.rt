@@ -39,7 +39,7 @@ pub(crate) fn file_made<P: Plot, R: Tree>(
     ensures cause { IfOk result (λ fate. fate ≡ Fate.Failed → (RoseBy 1 (P.count part.old) (P.count part.new)) ⊎ (RoseBy 1 (R.count reader.old) (R.count reader.new))) }
 {
     let size = size_of(entry);
-    let fate = placed(alloc, reader, part, path)?;
+    let fate = placed(alloc, reader, buffer, part, &entry.path, path)?;
     if is_done(fate) {
         filled(alloc, reader, buffer, part, &entry.path, path, size)
     } else {
@@ -67,11 +67,15 @@ fn is_done(fate: Fate) -> bool
 fn placed<P: Plot, R: Tree>(
     alloc: Global,
     reader: &mut R,
+    buffer: &mut [u8],
     part: &mut P,
+    source: &Path,
     path: &Path,
 ) -> Result<Fate, OutOfMemory>
     requires top { IsTrue (is_top (P.area part.old) path.now) }
     requires open { IsTrue (is_open (P.area part.old) path.now) }
+    requires buffer { 0 < length buffer.old }
+    ensures len { length buffer.new ≡ length buffer.old }
     ensures told { IfSome (P.tree part.old) (λ before. IfSome (P.tree part.new) (IsPlaced (R.tree reader.old) path.now result before)) }
     ensures named { IfOk result (λ fate. fate ≢ Fate.ParentFailed) }
     ensures same { R.tree reader.new ≡ R.tree reader.old }
@@ -85,7 +89,7 @@ fn placed<P: Plot, R: Tree>(
         Ok(()) => Ok(Fate::Done),
         Err(refused) => {
             if is_taken(refused) {
-                placed_over(alloc, reader, part, path)
+                placed_over(alloc, reader, buffer, part, source, path)
             } else {
                 fate_of(refused)
             }
@@ -93,16 +97,21 @@ fn placed<P: Plot, R: Tree>(
     }
 }
 
-// Makes an empty file at a path that is taken, in place of a file.
+// Makes an empty file at a path that is taken, in place of a file. The source is read from before that is removed: on a disk it may
+// be the same file by another name, whose bytes then stay with the reader that has it open.
 fn placed_over<P: Plot, R: Tree>(
     alloc: Global,
     reader: &mut R,
+    buffer: &mut [u8],
     part: &mut P,
+    source: &Path,
     path: &Path,
 ) -> Result<Fate, OutOfMemory>
     requires top { IsTrue (is_top (P.area part.old) path.now) }
     requires open { IsTrue (is_open (P.area part.old) path.now) }
     requires taken { IfSome (P.tree part.old) (λ before. is_some (get before path.now) ≡ true) }
+    requires buffer { 0 < length buffer.old }
+    ensures len { length buffer.new ≡ length buffer.old }
     ensures told { IfSome (P.tree part.old) (λ before. IfSome (P.tree part.new) (IsPlaced (R.tree reader.old) path.now result before)) }
     ensures named { IfOk result (λ fate. fate ≢ Fate.ParentFailed) }
     ensures same { R.tree reader.new ≡ R.tree reader.old }
@@ -113,10 +122,13 @@ fn placed_over<P: Plot, R: Tree>(
     ensures cause { IfOk result (λ fate. fate ≡ Fate.Failed → (RoseBy 1 (P.count part.old) (P.count part.new)) ⊎ (RoseBy 1 (R.count reader.old) (R.count reader.new))) }
 {
     let seen = look(reader, path, Kind::File);
-    if is_done(seen) {
-        replaced(alloc, part, path)
-    } else {
-        Ok(seen)
+    if !is_done(seen) {
+        return Ok(seen);
+    }
+    match reader.read(source, 0, &mut buffer[..1]) {
+        Err(ReadError::Failed) => Ok(Fate::Failed),
+        Err(ReadError::NotFile) => replaced(alloc, part, path),
+        Ok(_) => replaced(alloc, part, path),
     }
 }
 

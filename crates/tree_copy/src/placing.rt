@@ -265,11 +265,5 @@ fn meets_target(path: &Path, pairs: &[Pair]) -> bool
 fn meet(path: &Path, other: &Path) -> bool
     ensures { result ≡ (is_within path.now other.now || is_within other.now path.now) }
 {
-    is_within(path, other) || is_within(other, path)
-}
-
-fn is_within(path: &Path, top: &Path) -> bool
-    ensures { result ≡ is_within path.now top.now }
-{
-    path == top || path.is_under(top)
+    path.is_within(other) || other.is_within(path)
 }

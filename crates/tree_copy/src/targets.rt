@@ -104,21 +104,15 @@ fn pair_of(path: &Path, pairs: &[Pair], last: usize) -> usize
     ensures inside { result < length pairs.now }
     ensures within { IfSome (slice_get pairs.now result) (λ pair. is_within path.now pair.source ≡ true) }
 {
-    if last < pairs.len() && is_within(path, &pairs[last].source) {
+    if last < pairs.len() && path.is_within(&pairs[last].source) {
         return last;
     }
     for k in 0..pairs.len() {
-        if is_within(path, &pairs[k].source) {
+        if path.is_within(&pairs[k].source) {
             return k;
         }
     }
     unreachable!()
-}
-
-fn is_within(path: &Path, top: &Path) -> bool
-    ensures { result ≡ is_within path.now top.now }
-{
-    path == top || path.is_under(top)
 }
 
 // Where the pair sends a path, unless that is too long.
@@ -144,12 +138,6 @@ fn item_at(path: Path, entry: &Entry) -> Result<Item, OutOfMemory>
 {
     Ok(Item {
         path,
-        entry: Entry {
-            path: entry.path.copy()?,
-            stat: entry.stat,
-            mark: entry.mark,
-            unnamed: entry.unnamed,
-            far: entry.far,
-        },
+        entry: entry.copy()?,
     })
 }

@@ -2,7 +2,7 @@
 ghost use Rattle.std.specs.Prelude.{◌≡◌, ◌-◌, ◌+◌, ◌^◌, ◌<◌, ◌≤◌, [], All, length, map, min, IfOk, IfSome, OnErr, is_some};
 ghost use Rattle.std.specs.List.{count_by, sum_by};
 ghost use Rattle.outside.specs.Count.{RoseBy};
-ghost use Rattle.outside.specs.Writes.{all_but};
+ghost use Rattle.outside.specs.Writes.{nothing_lent};
 ghost use Rattle.level_work.specs.Acts.{MakesDirs};
 ghost use Rattle.level_work.specs.Counts.{is_failed};
 ghost use Rattle.level_work.specs.Levels.{Acted, AreItems, ParentsFail, SameButItems, StandIn};
@@ -30,11 +30,11 @@ where
     G::Part: Send,
     requires ranks { 1 ≤ ranks }
     requires hosts { 1 ≤ hosts }
-    requires lent { G.area ground.old ≡ all_but [] }
+    requires lent { G.area ground.old ≡ nothing_lent }
     requires items { AreItems items.now }
     requires stand { IfSome (G.tree ground.old) (StandIn Order.TopDown items.now) }
     requires dirs { IfSome (G.tree ground.old) (λ before. MakesDirs Order.TopDown (CopyOne before) items.now before) }
-    ensures lent { G.area ground.new ≡ all_but [] }
+    ensures lent { G.area ground.new ≡ nothing_lent }
     ensures tells { is_some (G.tree ground.new) ≡ is_some (G.tree ground.old) }
     ensures len { IfOk result (λ fates. length fates ≡ length items.now) }
     ensures failed { IfOk result (ParentsFail Order.TopDown items.now) }

@@ -107,7 +107,7 @@ record SeenAs (found : Option Node) (stat : Option Stat) : Type 0 where
 dir_kind : (b : Body) → is_dir_body b ≡ is_kind kind.Dir (kind_of b)
 dir_kind (dir far) = refl
 dir_kind (file bytes) = refl
-dir_kind link = refl
+dir_kind (link text) = refl
 dir_kind other = refl
 
 seen_as : (found : Option Node) (stat : Option Stat) → is_some stat ≡ true

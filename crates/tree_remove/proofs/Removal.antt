@@ -58,7 +58,7 @@ no_dir_near (Some n) h = by n.body h
     by : (b : Body) → is_dir_body b ≡ false → far_of b ≡ 0
     by (dir far) h = absurd (false≢true (sym h))
     by (file bytes) h = refl
-    by link h = refl
+    by (link text) h = refl
     by other h = refl
 
 -- the node of its own path is the one before

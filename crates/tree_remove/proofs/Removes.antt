@@ -14,7 +14,7 @@ use Rattle.path_text.specs.Path.{refusal}
 use Rattle.outside.specs.Count.{RoseBy}
 use Rattle.outside.specs.Parts.{IsTreeIn, UnderDirectories}
 use Rattle.outside.specs.Tree.{Files, IsTree}
-use Rattle.outside.specs.Writes.{all_but}
+use Rattle.outside.specs.Writes.{nothing_lent}
 use Rattle.flat_list.specs.declared.entries.Entry.{Entry}
 use Rattle.flat_list.specs.Spelling.{paths}
 use Rattle.level_work.specs.Counts.{BlamedAll, NoneAtEnd}
@@ -85,7 +85,7 @@ pub record Levels (es : List Entry) (items : List Item) : Type 0 where
   pub valid : All (λ e. refusal e.path ≡ None) es
   pub is : items ≡ items_of es
 
-pub stands_in : (es : List Entry) (items : List Item) (t : Option Files) → Levels es items → IfSome t (AreThere es) → IfSome t (IsTreeIn (all_but [])) →
+pub stands_in : (es : List Entry) (items : List Item) (t : Option Files) → Levels es items → IfSome t (AreThere es) → IfSome t (IsTreeIn nothing_lent) →
     IfSome t (StandIn order.BottomUp items)
 stands_in es items None l there tree = tt
 stands_in es items (Some files) l there tree =
@@ -113,7 +113,7 @@ row_paths es items fates is len =
     ∙ ap (map (λ (x : Item). x.path)) is ∙ item_paths es
 
 pub removed : (es : List Entry) (items : List Item) (fates : List Fate) (t t' : Option Files) → Levels es items → length fates ≡ length items →
-    ParentsFail order.BottomUp items fates → IfSome t (AreThere es) → IfSome t' (IsTreeIn (all_but [])) →
+    ParentsFail order.BottomUp items fates → IfSome t (AreThere es) → IfSome t' (IsTreeIn nothing_lent) →
     IfSome t (λ before. IfSome t' (Acted Removal order.BottomUp items fates before))
     → IfSome t (λ before. IfSome t' (Removed (zip (map (λ x. x.path) items) fates) before))
 removed es items fates None t' l len parents there tree acted = tt

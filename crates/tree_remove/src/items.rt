@@ -39,12 +39,6 @@ fn item_of(entry: &Entry) -> Result<Item, OutOfMemory>
 {
     Ok(Item {
         path: entry.path.copy()?,
-        entry: Entry {
-            path: entry.path.copy()?,
-            stat: entry.stat,
-            mark: entry.mark,
-            unnamed: entry.unnamed,
-            far: entry.far,
-        },
+        entry: entry.copy()?,
     })
 }

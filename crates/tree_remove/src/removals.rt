@@ -2,7 +2,7 @@
 ghost use Rattle.std.specs.Prelude.{◌≡◌, ◌≤◌, [], length, map, IfOk, IfSome, is_some};
 ghost use Rattle.std.specs.List.{count_by};
 ghost use Rattle.outside.specs.Count.{RoseBy};
-ghost use Rattle.outside.specs.Writes.{all_but};
+ghost use Rattle.outside.specs.Writes.{nothing_lent};
 ghost use Rattle.flat_list.specs.Spelling.{paths};
 ghost use Rattle.level_work.specs.Counts.{is_failed};
 ghost use Rattle.tree_remove.specs.Removing.{AreChosen, AreThere, Removed, SameButChosen, is_done};
@@ -31,7 +31,7 @@ where
     G::Part: Send,
     requires ranks { 1 ≤ ranks }
     requires hosts { 1 ≤ hosts }
-    requires lent { G.area ground.old ≡ all_but [] }
+    requires lent { G.area ground.old ≡ nothing_lent }
     requires chosen { AreChosen chosen.now }
     requires there { IfSome (G.tree ground.old) (AreThere chosen.now) }
     ensures paths { IfOk result (λ report. map (λ row. row.0) report.0 ≡ paths chosen.now) }
@@ -40,7 +40,7 @@ where
     ensures blamed { IfOk result (λ report. RoseBy (count_by (λ row. is_failed row.1) report.0) (G.count ground.old) (G.count ground.new)) }
     ensures rest { IfSome (G.tree ground.old) (λ before. IfSome (G.tree ground.new) (SameButChosen (paths chosen.now) before)) }
     ensures tells { is_some (G.tree ground.new) ≡ is_some (G.tree ground.old) }
-    ensures lent { G.area ground.new ≡ all_but [] }
+    ensures lent { G.area ground.new ≡ nothing_lent }
     ensures count { RoseBy 0 (G.count ground.old) (G.count ground.new) }
 {
     nodes_are_under_directories();

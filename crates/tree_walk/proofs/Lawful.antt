@@ -17,7 +17,8 @@ use Rattle.path_text.specs.Order.{path_cmp}
 use Rattle.path_text.proofs.Preorder.{precedes, precedes-Less, front-joined}
 use Rattle.path_text.specs.Total.{path_cmp_total}
 use Rattle.outside.specs.Tree.{Files, Node, IsTree, is_dir_body, name_below, names_in}
-use Rattle.outside.proofs.Names.{not_long, placed_path}
+use Rattle.outside.proofs.Names.{placed_path}
+use Rattle.path_text.proofs.Parts as parts
 use Rattle.outside.proofs.Children.{child_is}
 use Rattle.flat_list.specs.declared.entries.Entry.{Entry}
 use Rattle.flat_list.specs.declared.entries.Mark.TheVariants as mark
@@ -29,7 +30,7 @@ use Rattle.tree_walk.proofs.Same.{unequal}
 use Rattle.tree_walk.proofs.Recursive.{walk_is, children_are, of_children}
 
 pub walk_is_recursive : WalkIsRecursive
-walk_is_recursive files a path t v = walk_is files a path t (not_long path v)
+walk_is_recursive files a path t v = walk_is files a path t (parts.short path v)
 
 -- where P goes from a path to those that the walk goes on with, and makes Q of an entry, Q holds of all entries of a walk
 walk_all : (P : List ℕ → Type 0) (Q : Entry → Type 0) (files : Files) (a : Answers) → ((p : List ℕ) → P p → Q (entry_of (a p) (get files p) p)) →

@@ -16,6 +16,7 @@ pub mod Cuts
 pub mod Ranks
 pub mod Held
 pub mod Looked
+pub mod Caused
 pub mod Pushed
 pub mod Rooted
 pub mod InBytes

@@ -7,12 +7,14 @@ use Rattle.std.specs.FinMap.{get}
 use Rattle.std.proofs.Math.Bool.{or-true}
 use Rattle.std.proofs.lemmas.Bool.{false≢true}
 use Rattle.path_text.specs.Path.{joined}
-use Rattle.outside.specs.Tree.{Files, Node, Body, dir, file, link, other, IsTree, Lists, AreNames, is_dir, stat_of, far_of, names_in}
+use Rattle.outside.specs.Tree.{Files, Node, Body, dir, file, link, other, IsTree, Lists, AreNames, is_dir, stat_of, far_of, text_of, link_at, names_in}
 use Rattle.outside.specs.Count.{RoseBy}
 use Rattle.outside.specs.declared.failures.Failed.{Failed}
 use Rattle.outside.specs.declared.listings.Listing.{Listing}
 use Rattle.outside.specs.declared.trees.ListError.{ListError}
 use Rattle.outside.specs.declared.trees.ListError.TheVariants as list
+use Rattle.outside.specs.declared.trees.LinkError.{LinkError}
+use Rattle.outside.specs.declared.trees.LinkError.TheVariants as link_e
 use Rattle.outside.specs.declared.trees.Kind.{Kind}
 use Rattle.outside.specs.declared.trees.Kind.TheVariants as kind
 use Rattle.outside.specs.declared.trees.Stat.{Stat}
@@ -22,7 +24,7 @@ use Rattle.flat_list.specs.declared.entries.Mark.TheVariants as mark
 use Rattle.flat_list.specs.Entries.{is_kind}
 use Rattle.tree_walk.specs.Walk.{bare, told, list_failed, entry_of}
 use Rattle.tree_walk.specs.Held.{IsDone, is_listed}
-use Rattle.tree_walk.specs.Looking.{by_stat, by_list, IsLook}
+use Rattle.tree_walk.specs.Looking.{by_stat, by_link, by_list, is_linked, IsLook}
 use Rattle.tree_walk.proofs.Names.{no_names}
 
 -- an answer of a stat at a path, over files that may tell a tree and whose count of faults went from old to new
@@ -45,7 +47,7 @@ pub record IsListing (tree : Option Files) (path : List ℕ) (old new : ℕ) (an
 
 -- an entry with a stat
 abbrev with_stat : List ℕ → Stat → Mark → ℕ → ℕ → Entry
-with_stat path stat m unnamed far = record { path = path; stat = Some stat; mark = m; unnamed = unnamed; far = far }
+with_stat path stat m unnamed far = record { path = path; stat = Some stat; mark = m; unnamed = unnamed; far = far; target = None }
 
 -- ---- the shape
 
@@ -78,16 +80,51 @@ record IsPlain (path : List ℕ) (stat : Stat) (found : Option Node) : Type 0 wh
   none : is_dir found ≡ false
 
 plain_node : (body : Body) (mtime : Option ℕ) (path : List ℕ) (stat : Stat) → stat ≡ stat_of (record { body = body; mtime = mtime }) →
-    is_kind kind.Dir stat.kind ≡ false → IsPlain path stat (Some (record { body = body; mtime = mtime }))
-plain_node (dir far) mtime path stat e l = absurd (false≢true (sym l ∙ ap (λ s. is_kind kind.Dir s.kind) e))
-plain_node (file bytes) mtime path stat e l = record { entry = ap (λ s. with_stat path s mark.Fine 0 0) e; none = refl }
-plain_node link mtime path stat e l = record { entry = ap (λ s. with_stat path s mark.Fine 0 0) e; none = refl }
-plain_node other mtime path stat e l = record { entry = ap (λ s. with_stat path s mark.Fine 0 0) e; none = refl }
+    is_kind kind.Dir stat.kind ≡ false → is_kind kind.Link stat.kind ≡ false → IsPlain path stat (Some (record { body = body; mtime = mtime }))
+plain_node (dir far) mtime path stat e l k = absurd (false≢true (sym l ∙ ap (λ s. is_kind kind.Dir s.kind) e))
+plain_node (file bytes) mtime path stat e l k = record { entry = ap (λ s. with_stat path s mark.Fine 0 0) e; none = refl }
+plain_node (link text) mtime path stat e l k = absurd (false≢true (sym k ∙ ap (λ s. is_kind kind.Link s.kind) e))
+plain_node other mtime path stat e l k = record { entry = ap (λ s. with_stat path s mark.Fine 0 0) e; none = refl }
 
 plain : (found : Option Node) (path : List ℕ) (stat : Stat) → Some stat ≡ option_map stat_of found → is_kind kind.Dir stat.kind ≡ false →
-    IsPlain path stat found
-plain None path stat e l = absurd (cc)
-plain (Some node) path stat e l = plain_node node.body node.mtime path stat (cc) l
+    is_kind kind.Link stat.kind ≡ false → IsPlain path stat found
+plain None path stat e l k = absurd (cc)
+plain (Some node) path stat e l k = plain_node node.body node.mtime path stat (cc) l k
+
+-- a link
+record IsLinkThere (stat : Stat) (text : List ℕ) (found : Option Node) : Type 0 where
+  mtime : Option ℕ
+  there : found ≡ Some (record { body = link text; mtime = mtime })
+  told : stat ≡ stat_of (record { body = link text; mtime = mtime })
+
+link_node : (body : Body) (mtime : Option ℕ) (stat : Stat) (text : List ℕ) → stat ≡ stat_of (record { body = body; mtime = mtime }) →
+    text_of body ≡ Some text → IsLinkThere stat text (Some (record { body = body; mtime = mtime }))
+link_node (dir far) mtime stat text e l = absurd cc
+link_node (file bytes) mtime stat text e l = absurd cc
+link_node (link own) mtime stat text e l =
+    let same : own ≡ text = cc in
+    record {
+      mtime = mtime;
+      there = ap (λ t. Some (let n : Node = record { body = link t; mtime = mtime } in n)) same;
+      told = e ∙ ap (λ t. stat_of (record { body = link t; mtime = mtime })) same;
+    }
+link_node other mtime stat text e l = absurd cc
+
+link_there : (found : Option Node) (stat : Stat) (text : List ℕ) → Some stat ≡ option_map stat_of found → link_at found ≡ Some text →
+    IsLinkThere stat text found
+link_there None stat text e l = absurd cc
+link_there (Some node) stat text e l = link_node node.body node.mtime stat text (cc) l
+
+-- what its stat tells to be a link is one
+some_link : (found : Option Node) (stat : Stat) → Some stat ≡ option_map stat_of found → is_kind kind.Link stat.kind ≡ true → link_at found ≡ None → ⊥
+some_link None stat e l n = absurd cc
+some_link (Some node) stat e l n = by_body node.body (cc) n
+  where
+    by_body : (body : Body) → stat ≡ stat_of (record { body = body; mtime = node.mtime }) → text_of body ≡ None → ⊥
+    by_body (dir far) e n = false≢true (ap (λ s. is_kind kind.Link s.kind) (sym e) ∙ l)
+    by_body (file bytes) e n = false≢true (ap (λ s. is_kind kind.Link s.kind) (sym e) ∙ l)
+    by_body (link text) e n = absurd cc
+    by_body other e n = false≢true (ap (λ s. is_kind kind.Link s.kind) (sym e) ∙ l)
 
 -- a directory
 record IsDirThere (stat : Stat) (found : Option Node) : Type 0 where
@@ -100,7 +137,7 @@ dir_node : (body : Body) (mtime : Option ℕ) (stat : Stat) → stat ≡ stat_of
     is_kind kind.Dir stat.kind ≡ true → IsDirThere stat (Some (record { body = body; mtime = mtime }))
 dir_node (dir far) mtime stat e l = record { far = far; mtime = mtime; there = refl; told = e }
 dir_node (file bytes) mtime stat e l = absurd (false≢true (sym (ap (λ s. is_kind kind.Dir s.kind) e) ∙ l))
-dir_node link mtime stat e l = absurd (false≢true (sym (ap (λ s. is_kind kind.Dir s.kind) e) ∙ l))
+dir_node (link text) mtime stat e l = absurd (false≢true (sym (ap (λ s. is_kind kind.Dir s.kind) e) ∙ l))
 dir_node other mtime stat e l = absurd (false≢true (sym (ap (λ s. is_kind kind.Dir s.kind) e) ∙ l))
 
 dir_there : (found : Option Node) (stat : Stat) → Some stat ≡ option_map stat_of found → is_kind kind.Dir stat.kind ≡ true → IsDirThere stat found
@@ -133,11 +170,11 @@ gone_told (Some files) path t s h =
     }
 
 plain_told : (tree : Option Files) (path : List ℕ) (stat : Stat) → IfSome tree IsTree → length path ≤ 4095 →
-    IfSome tree (λ files. Some stat ≡ option_map stat_of (get files path)) → is_kind kind.Dir stat.kind ≡ false →
+    IfSome tree (λ files. Some stat ≡ option_map stat_of (get files path)) → is_kind kind.Dir stat.kind ≡ false → is_kind kind.Link stat.kind ≡ false →
     IfSome tree (λ files. IsDone files (with_stat path stat mark.Fine 0 0, []))
-plain_told None path stat t s h l = tt
-plain_told (Some files) path stat t s h l =
-    let p = plain (get files path) path stat h l in
+plain_told None path stat t s h l k = tt
+plain_told (Some files) path stat t s h l k =
+    let p = plain (get files path) path stat h l k in
     record {
       valid = t;
       short = s;
@@ -150,8 +187,8 @@ no_dir true e = e
 no_dir false e = refl
 
 pub stat_alone : (tree : Option Files) (path : List ℕ) (old new : ℕ) (answer : Result (Option Stat) Failed) → IsStat tree path old new answer →
-    is_listed (by_stat path answer) ≡ false → IsLook tree path old new (by_stat path answer) ([], 0, 0)
-stat_alone tree path old new (Err failed) s l = record {
+    is_listed (by_stat path answer) ≡ false → is_linked (by_stat path answer) ≡ false → IsLook tree path old new (by_stat path answer) ([], 0, 0)
+stat_alone tree path old new (Err failed) s l k = record {
   told = failed_told tree path s.valid s.short;
   at = refl;
   shaped = refl;
@@ -160,7 +197,7 @@ stat_alone tree path old new (Err failed) s l = record {
   listed = λ y. absurd (false≢true y);
   counted = s.cause;
 }
-stat_alone tree path old new (Ok None) s l = record {
+stat_alone tree path old new (Ok None) s l k = record {
   told = gone_told tree path s.valid s.short s.told;
   at = refl;
   shaped = refl;
@@ -169,8 +206,9 @@ stat_alone tree path old new (Ok None) s l = record {
   listed = λ y. absurd (false≢true y);
   counted = s.ok;
 }
-stat_alone tree path old new (Ok (Some stat)) s l = record {
-  told = plain_told tree path stat s.valid s.short s.told (no_dir (is_kind kind.Dir stat.kind) l);
+stat_alone tree path old new (Ok (Some stat)) s l k = record {
+  told = plain_told tree path stat s.valid s.short s.told (no_dir (is_kind kind.Dir stat.kind) l)
+      (no_dir (is_kind kind.Link stat.kind) k);
   at = refl;
   shaped = both (is_kind kind.File stat.kind || stat.size == 0) (is_kind kind.Dir stat.kind || true) (sized stat.kind stat.size s.size)
       (or-true (is_kind kind.Dir stat.kind));
@@ -179,6 +217,99 @@ stat_alone tree path old new (Ok (Some stat)) s l = record {
   listed = λ y. absurd (false≢true (sym l ∙ y));
   counted = s.ok;
 }
+
+-- faults of two calls
+rose : (k old mid new : ℕ) → RoseBy 0 old mid → RoseBy k mid new → RoseBy k old new
+rose k old mid new f g = record { kept = omega (arith, f.kept, g.kept); rose = omega (arith, f.kept, g.rose) }
+
+-- ---- a link's text behind a stat
+
+-- an answer of a reading of a link
+pub record IsReading (tree : Option Files) (path : List ℕ) (old new : ℕ) (answer : Result (List ℕ) LinkError) : Type 0 where
+  pub told : IfOk answer (λ text. IfSome tree (λ files. link_at (get files path) ≡ Some text))
+  pub not_link : IsErrOf answer link_e.NotLink → IfSome tree (λ files. link_at (get files path) ≡ None)
+  pub cause : IsErrOf answer link_e.Failed → RoseBy 1 old new
+  pub count : RoseBy 0 old new
+
+-- an entry of a link
+abbrev with_text : List ℕ → Stat → Option (List ℕ) → Entry
+with_text path stat text = record { path = path; stat = Some stat; mark = mark.Fine; unnamed = 0; far = 0; target = text }
+
+link_told : (tree : Option Files) (path : List ℕ) (stat : Stat) (text : List ℕ) → IfSome tree IsTree → length path ≤ 4095 →
+    IfSome tree (λ files. Some stat ≡ option_map stat_of (get files path)) → IfSome tree (λ files. link_at (get files path) ≡ Some text) →
+    IfSome tree (λ files. IsDone files (with_text path stat (Some text), []))
+link_told None path stat text t s h g = tt
+link_told (Some files) path stat text t s h g =
+    let l = link_there (get files path) stat text h g in
+    record {
+      valid = t;
+      short = s;
+      entry = ap (λ x. with_text path x (Some text)) l.told ∙ ap (λ o. entry_of (told 0) o path) (sym l.there);
+      children = ap (λ o. cond (is_dir o) (map (joined path) (names_in files path)) []) (sym l.there);
+    }
+
+-- files that tell their tree do not change
+never_told : (tree : Option Files) (path : List ℕ) (stat : Stat) → IfSome tree (λ files. Some stat ≡ option_map stat_of (get files path)) →
+    is_kind kind.Link stat.kind ≡ true → IfSome tree (λ files. link_at (get files path) ≡ None) →
+    IfSome tree (λ files. IsDone files (with_stat path stat mark.Changed 0 0, []))
+never_told None path stat h l n = tt
+never_told (Some files) path stat h l n = absurd (some_link (get files path) stat h l n)
+
+no_dir_link : (k : Kind) → is_kind kind.Link k ≡ true → (is_kind kind.Dir k && true) ≡ false
+no_dir_link kind.File l = absurd (false≢true l)
+no_dir_link kind.Dir l = absurd (false≢true l)
+no_dir_link kind.Link l = refl
+no_dir_link kind.Other l = absurd (false≢true l)
+
+pub stat_and_link : (tree : Option Files) (path : List ℕ) (old mid new : ℕ) (answer : Result (Option Stat) Failed) (text : Result (List ℕ) LinkError) →
+    IsStat tree path old mid answer → IsReading tree path mid new text → is_linked (by_stat path answer) ≡ true →
+    IfSome (by_link (by_stat path answer) text) (λ e. IsLook tree path old new e ([], 0, 0))
+stat_and_link tree path old mid new (Err failed) text s g l = absurd (false≢true l)
+stat_and_link tree path old mid new (Ok None) text s g l = absurd (false≢true l)
+stat_and_link tree path old mid new (Ok (Some stat)) text s g l = by text g
+  where
+    is : is_kind kind.Link stat.kind ≡ true
+    is = first (is_kind kind.Link stat.kind) true l
+
+    size : (is_kind kind.File stat.kind || stat.size == 0) ≡ true
+    size = sized stat.kind stat.size s.size
+
+    off : (is_kind kind.Dir stat.kind && true) ≡ false
+    off = no_dir_link stat.kind is
+
+    by : (text : Result (List ℕ) LinkError) → IsReading tree path mid new text →
+        IfSome (by_link (by_stat path (Ok (Some stat))) text) (λ e. IsLook tree path old new e ([], 0, 0))
+    by (Ok text) g = record {
+      told = link_told tree path stat text s.valid s.short s.told g.told;
+      at = refl;
+      shaped = both (is_kind kind.Link stat.kind && true) ((is_kind kind.File stat.kind || stat.size == 0) && (is_kind kind.Dir stat.kind || true)) l
+          (both (is_kind kind.File stat.kind || stat.size == 0) (is_kind kind.Dir stat.kind || true) size (or-true (is_kind kind.Dir stat.kind)));
+      are = no_names path [] refl;
+      alone = λ n. refl;
+      listed = λ y. absurd (false≢true (sym off ∙ y));
+      counted = rose 0 old mid new s.ok g.count;
+    }
+    by (Err link_e.Failed) g = record {
+      told = failed_told tree path s.valid s.short;
+      at = refl;
+      shaped = refl;
+      are = no_names path [] refl;
+      alone = λ n. refl;
+      listed = λ y. absurd (false≢true y);
+      counted = rose 1 old mid new s.ok (g.cause refl);
+    }
+    by (Err link_e.NotLink) g = record {
+      told = never_told tree path stat s.told is (g.not_link refl);
+      at = refl;
+      shaped = both (is_kind kind.File stat.kind || stat.size == 0) ((is_kind kind.Dir stat.kind || is_kind kind.Link stat.kind) && true) size
+          (both (is_kind kind.Dir stat.kind || is_kind kind.Link stat.kind) true
+          (ap (λ (b : Bool). is_kind kind.Dir stat.kind || b) is ∙ or-true (is_kind kind.Dir stat.kind)) refl);
+      are = no_names path [] refl;
+      alone = λ n. refl;
+      listed = λ y. absurd (false≢true (sym (and_false (is_kind kind.Dir stat.kind)) ∙ y));
+      counted = rose 0 old mid new s.ok g.count;
+    }
+    by (Err link_e.OutOfMemory) g = tt
 
 -- ---- a listing behind a stat
 
@@ -217,10 +348,6 @@ changed_told : (tree : Option Files) (path : List ℕ) (stat : Stat) → IfSome 
 changed_told None path stat h l n = tt
 changed_told (Some files) path stat h l n = let d = dir_there (get files path) stat h l in absurd (false≢true (sym n ∙ ap is_dir d.there))
 
--- faults of two calls
-rose : (k old mid new : ℕ) → RoseBy 0 old mid → RoseBy k mid new → RoseBy k old new
-rose k old mid new f g = record { kept = omega (arith, f.kept, g.kept); rose = omega (arith, f.kept, g.rose) }
-
 pub stat_and_list : (tree : Option Files) (path : List ℕ) (old mid new : ℕ) (answer : Result (Option Stat) Failed) (names : Result Listing ListError) →
     IsStat tree path old mid answer → IsListing tree path mid new names → is_listed (by_stat path answer) ≡ true →
     IfSome (by_list (by_stat path answer) names) (λ r. IsLook tree path old new r.0 r.1)
@@ -258,7 +385,8 @@ stat_and_list tree path old mid new (Ok (Some stat)) names s g l = by names g
     by (Err list.NotDir) g = record {
       told = changed_told tree path stat s.told is (g.not_dir refl);
       at = refl;
-      shaped = both (is_kind kind.File stat.kind || stat.size == 0) (is_kind kind.Dir stat.kind && true) size l;
+      shaped = both (is_kind kind.File stat.kind || stat.size == 0) ((is_kind kind.Dir stat.kind || is_kind kind.Link stat.kind) && true) size
+          (both (is_kind kind.Dir stat.kind || is_kind kind.Link stat.kind) true (ap (λ (b : Bool). b || is_kind kind.Link stat.kind) is) refl);
       are = no_names path [] refl;
       alone = λ n. refl;
       listed = λ y. absurd (false≢true (sym (and_false (is_kind kind.Dir stat.kind)) ∙ y));

@@ -9,7 +9,8 @@ use Rattle.std.proofs.lemmas.List.Elements.{recursion_from_All, All-from_recursi
 use Rattle.path_text.specs.Path.{refusal, joined}
 use Rattle.path_text.specs.Order.{path_cmp}
 use Rattle.outside.specs.Tree.{Files, IsTree, AreNames, names_in}
-use Rattle.outside.proofs.Names.{children_are_names, not_long}
+use Rattle.outside.proofs.Names.{children_are_names}
+use Rattle.path_text.proofs.Parts as parts
 use Rattle.flat_list.specs.declared.entries.Entry.{Entry}
 use Rattle.circle_run.specs.Balance.{Balanced}
 use Rattle.flat_list.specs.declared.entries.Mark.TheVariants as mark
@@ -269,7 +270,7 @@ restart_is_walk files starts left done later list t valid apart cut walks joined
     let waiting = in_order left few in
     let is = walks waiting.list waiting.all waiting.ascend in
     let line = lined waiting.list waiting.ascend (λ x. omega (arith, few x, sum_by-IsPermutation (covers x) left waiting.list waiting.all)) in
-    let short = weaker (λ p. refusal p ≡ None) (λ p. length p ≤ 4095) not_long starts (recursion_from_All (λ p. refusal p ≡ None) starts valid) in
+    let short = weaker (λ p. refusal p ≡ None) (λ p. length p ≤ 4095) parts.short starts (recursion_from_All (λ p. refusal p ≡ None) starts valid) in
     let restart : IsRestart files starts waiting.list done later list =
     record {
       valid = t;

@@ -6,7 +6,7 @@ use Rattle.std.proofs.lemmas.List.Elements.{All-from_recursion}
 use Rattle.outside.specs.Tree.{Files, Node, Body, dir, file, link, other}
 use Rattle.flat_list.specs.declared.entries.Entry.{Entry}
 use Rattle.tree_walk.specs.Walk.{Answer, told, stat_failed, list_failed, Answers, entry_of, entry_of_node, walk}
-use Rattle.tree_walk.specs.Told.{stat_by, StandsBy, far_by, IsTold, EntriesAreTold}
+use Rattle.tree_walk.specs.Told.{stat_by, StandsBy, far_by, target_by, IsTold, EntriesAreTold}
 use Rattle.tree_walk.proofs.Lawful.{IsOwn, walk_own, walks_own}
 use Rattle.tree_walk.proofs.Lists.{weaker}
 
@@ -15,26 +15,27 @@ record Tells (found : Option Node) (e : Entry) : Type 0 where
   stat : e.stat ≡ stat_by e.mark found
   stands : StandsBy e.mark found
   far : e.far ≡ far_by e.mark found
+  target : e.target ≡ target_by e.mark found
 
 -- where the names failed
 unlisted : (body : Body) (mtime : Option ℕ) (p : List ℕ) →
     Tells (Some (record { body = body; mtime = mtime })) (entry_of_node list_failed (record { body = body; mtime = mtime }) p)
-unlisted (dir far) mtime p = record { stat = refl; stands = refl; far = refl }
-unlisted (file bytes) mtime p = record { stat = refl; stands = refl; far = refl }
-unlisted link mtime p = record { stat = refl; stands = refl; far = refl }
-unlisted other mtime p = record { stat = refl; stands = refl; far = refl }
+unlisted (dir far) mtime p = record { stat = refl; stands = refl; far = refl; target = refl }
+unlisted (file bytes) mtime p = record { stat = refl; stands = refl; far = refl; target = refl }
+unlisted (link text) mtime p = record { stat = refl; stands = refl; far = refl; target = refl }
+unlisted other mtime p = record { stat = refl; stands = refl; far = refl; target = refl }
 
 tells : (answer : Answer) (found : Option Node) (p : List ℕ) → Tells found (entry_of answer found p)
-tells stat_failed found p = record { stat = refl; stands = tt; far = refl }
-tells list_failed None p = record { stat = refl; stands = refl; far = refl }
-tells (told unnamed) None p = record { stat = refl; stands = refl; far = refl }
+tells stat_failed found p = record { stat = refl; stands = tt; far = refl; target = refl }
+tells list_failed None p = record { stat = refl; stands = refl; far = refl; target = refl }
+tells (told unnamed) None p = record { stat = refl; stands = refl; far = refl; target = refl }
 tells list_failed (Some node) p = unlisted node.body node.mtime p
-tells (told unnamed) (Some node) p = record { stat = refl; stands = refl; far = refl }
+tells (told unnamed) (Some node) p = record { stat = refl; stands = refl; far = refl; target = refl }
 
 is_told : (files : Files) (a : Answers) (e : Entry) → IsOwn files a e → IsTold files a e
 is_told files a e own =
     let t = subst (Tells (get files e.path)) (sym own) (tells (a e.path) (get files e.path) e.path) in
-    record { own = own; stat = t.stat; stands = t.stands; far = t.far }
+    record { own = own; stat = t.stat; stands = t.stands; far = t.far; target = t.target }
 
 all_told : (files : Files) (a : Answers) (entries : List Entry) → AllByRecursion (IsOwn files a) entries → All (IsTold files a) entries
 all_told files a entries own = All-from_recursion (IsTold files a) entries (weaker (IsOwn files a) (IsTold files a) (is_told files a) entries own)

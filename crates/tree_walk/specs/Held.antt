@@ -1,6 +1,6 @@
 -- What a job of a walk holds: its entries, each with the paths that were pushed for it. After the process step of libcircle's walk (SC
 -- 2012); the form is our own.
-use Rattle.std.specs.Prelude.{◌≡◌, ◌≤◌, ℕ, Bool, true, false, ◌&&◌, List, [], ◌∷◌, map, length, drop, if◌then◌else◌, Option, IfSome}
+use Rattle.std.specs.Prelude.{◌≡◌, ◌≤◌, ℕ, Bool, true, ◌&&◌, List, [], ◌∷◌, map, length, drop, if◌then◌else◌, Option, IfSome}
 use Rattle.std.specs.List.{AllByRecursion, sum_by}
 use Rattle.std.specs.FinMap.{get}
 use Rattle.path_text.specs.Path.{joined}
@@ -9,9 +9,7 @@ use Rattle.outside.specs.Count.{RoseBy}
 use Rattle.outside.specs.declared.listings.Listing.{Listing}
 use Rattle.outside.specs.declared.trees.Kind.TheVariants as kind
 use Rattle.flat_list.specs.declared.entries.Entry.{Entry}
-use Rattle.flat_list.specs.declared.entries.Mark.{Mark}
-use Rattle.flat_list.specs.declared.entries.Mark.TheVariants as mark
-use Rattle.flat_list.specs.Entries.{is_of, is_shaped}
+use Rattle.flat_list.specs.Entries.{is_of, is_fine, is_shaped}
 use Rattle.circle_run.specs.Balance.{Log}
 use Rattle.tree_walk.specs.Walk.{answer_in, entry_of, children_of, weight_of}
 
@@ -45,14 +43,6 @@ pub record Holds (tree : Option Files) (count : ℕ) (held : List Held) : Type 0
   pub done : IfSome tree (λ files. AllByRecursion (IsDone files) held)
   pub shaped : AllByRecursion (λ h. is_shaped h.0 ≡ true) held
   pub faults : RoseBy (sum_by weight_of (entries_of held)) 0 count
-
--- whether the files answered as they are
-abbrev pub is_fine : Mark → Bool
-is_fine mark.Fine = true
-is_fine mark.StatFailed = false
-is_fine mark.ListFailed = false
-is_fine mark.Gone = false
-is_fine mark.Changed = false
 
 -- whether names are kept for an entry: it is a directory that was listed
 abbrev pub is_listed : Entry → Bool

@@ -3,6 +3,7 @@ pub mod Roots
 pub mod Told
 pub mod Held
 pub mod Looking
+pub mod Answered
 pub mod Found
 pub mod Cut
 pub mod Traced

@@ -1,6 +1,8 @@
--- What the files' answers make of one path, each asked for once. After the process step of libcircle's walk (SC 2012), a stat and then the names.
+-- What the files' answers make of one path, each asked for once. After the process step of libcircle's walk (SC 2012): a stat, and then of
+-- a directory its names; the text of a link is our own. So a mark is `StatFailed` where the stat of its path failed or the reading of its
+-- link, and `Changed` where what the stat told to be a directory, or a link, answered that it is none.
 -- Only clauses of this crate's own functions cite this file.
-use Rattle.std.specs.Prelude.{◌≡◌, ℕ, true, false, List, [], map, Option, Some, None, IfSome, Result, Ok, Err}
+use Rattle.std.specs.Prelude.{◌≡◌, ℕ, Bool, true, false, List, [], map, Option, Some, None, IfSome, Result, Ok, Err}
 use Rattle.path_text.specs.Path.{joined}
 use Rattle.outside.specs.Tree.{Files, AreNames}
 use Rattle.outside.specs.Count.{RoseBy}
@@ -8,10 +10,12 @@ use Rattle.outside.specs.declared.failures.Failed.{Failed}
 use Rattle.outside.specs.declared.listings.Listing.{Listing}
 use Rattle.outside.specs.declared.trees.ListError.{ListError}
 use Rattle.outside.specs.declared.trees.ListError.TheVariants as list
+use Rattle.outside.specs.declared.trees.LinkError.{LinkError}
+use Rattle.outside.specs.declared.trees.LinkError.TheVariants as link
 use Rattle.outside.specs.declared.trees.Stat.{Stat}
 use Rattle.flat_list.specs.declared.entries.Entry.{Entry}
 use Rattle.flat_list.specs.declared.entries.Mark.TheVariants as mark
-use Rattle.flat_list.specs.Entries.{is_shaped}
+use Rattle.flat_list.specs.Entries.{has_target, is_shaped}
 use Rattle.tree_walk.specs.Walk.{bare, weight_of}
 use Rattle.tree_walk.specs.Held.{IsDone, is_listed}
 
@@ -19,7 +23,18 @@ use Rattle.tree_walk.specs.Held.{IsDone, is_listed}
 abbrev pub by_stat : List ℕ → Result (Option Stat) Failed → Entry
 by_stat path (Err failed) = bare path mark.StatFailed
 by_stat path (Ok None) = bare path mark.Gone
-by_stat path (Ok (Some stat)) = record { path = path; stat = Some stat; mark = mark.Fine; unnamed = 0; far = 0 }
+by_stat path (Ok (Some stat)) = record { path = path; stat = Some stat; mark = mark.Fine; unnamed = 0; far = 0; target = None }
+
+-- an entry by a stat whose link is read
+abbrev pub is_linked : Entry → Bool
+is_linked e = has_target e.mark e.stat
+
+-- the entry of a link, by the answer of its reading; none where no memory was found
+abbrev pub by_link : Entry → Result (List ℕ) LinkError → Option Entry
+by_link e (Ok text) = Some (record e { target = Some text })
+by_link e (Err link.Failed) = Some (bare e.path mark.StatFailed)
+by_link e (Err link.NotLink) = Some (record e { mark = mark.Changed })
+by_link e (Err link.OutOfMemory) = None
 
 -- the entry of a directory and the names below it, by the answer of its listing; none where no memory was found
 abbrev pub by_list : Entry → Result Listing ListError → Option (Entry × Listing)

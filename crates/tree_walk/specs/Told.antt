@@ -4,7 +4,7 @@ use Rattle.std.specs.List.{flat_map, Contains}
 use Rattle.std.specs.Option.{option_map}
 use Rattle.std.specs.FinMap.{get}
 use Rattle.path_text.specs.Path.{refusal, parent_of}
-use Rattle.outside.specs.Tree.{Files, Node, IsTree, is_dir, is_root, far_at, stat_of}
+use Rattle.outside.specs.Tree.{Files, Node, IsTree, is_dir, is_root, far_at, link_at, stat_of}
 use Rattle.outside.specs.declared.trees.Kind.TheVariants as kind
 use Rattle.outside.specs.declared.trees.Stat.{Stat}
 use Rattle.flat_list.specs.declared.entries.Entry.{Entry}
@@ -38,6 +38,14 @@ far_by mark.ListFailed found = 0
 far_by mark.Gone found = 0
 far_by mark.Changed found = 0
 
+-- the target of an entry with this mark: a link's text, where it was read
+abbrev pub target_by : Mark → Option Node → Option (List ℕ)
+target_by mark.Fine found = link_at found
+target_by mark.StatFailed found = None
+target_by mark.ListFailed found = None
+target_by mark.Gone found = None
+target_by mark.Changed found = None
+
 -- an entry tells what the tree has at its path
 pub record IsTold (files : Files) (a : Answers) (e : Entry) : Type 0 where
   -- it is the entry of its path
@@ -47,6 +55,7 @@ pub record IsTold (files : Files) (a : Answers) (e : Entry) : Type 0 where
   -- and what its mark says stands there
   pub stands : StandsBy e.mark (get files e.path)
   pub far : e.far ≡ far_by e.mark (get files e.path)
+  pub target : e.target ≡ target_by e.mark (get files e.path)
 
 -- each entry of a walk, and of the walks of several roots, tells what the tree has at its path
 pub record EntriesAreTold : Type 0 where

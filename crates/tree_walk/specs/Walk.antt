@@ -7,12 +7,13 @@ use Rattle.std.specs.List.Sorted.{IsStrictlySortedBy}
 use Rattle.std.specs.FinMap.{get}
 use Rattle.path_text.specs.Path.{joined, refusal}
 use Rattle.path_text.specs.Order.{path_cmp}
-use Rattle.outside.specs.Tree.{Files, Node, is_dir, is_dir_body, far_of, stat_of, names_in, IsTree}
+use Rattle.outside.specs.Tree.{Files, Node, is_dir, is_dir_body, far_of, text_of, stat_of, names_in, IsTree}
 use Rattle.flat_list.specs.declared.entries.Entry.{Entry}
 use Rattle.flat_list.specs.declared.entries.Mark.{Mark}
 use Rattle.flat_list.specs.declared.entries.Mark.TheVariants as mark
 
--- how the files answered of a path: as they are, leaving out a number of names that are no text; or not at all; or not of its names
+-- how the files answered of a path: as they are, leaving out a number of names that are no text; or its stat, or the reading of its link,
+-- failed; or the listing of its names failed
 pub data Answer : Type 0 where
   told : ℕ → Answer
   stat_failed : Answer
@@ -28,15 +29,28 @@ all_told path = told 0
 
 -- an entry with no more than a mark
 abbrev pub bare : List ℕ → Mark → Entry
-bare path m = record { path = path; stat = None; mark = m; unnamed = 0; far = 0 }
+bare path m = record { path = path; stat = None; mark = m; unnamed = 0; far = 0; target = None }
 
--- the entry of a node
+-- the entry of a node. A directory tells how many of its names are no text and how many of its children have too long a path, and a link
+-- tells its text
 abbrev pub entry_of_node : Answer → Node → List ℕ → Entry
 entry_of_node stat_failed node path = bare path mark.StatFailed
-entry_of_node list_failed node path =
-    record { path = path; stat = Some (stat_of node); mark = if is_dir_body node.body then mark.ListFailed else mark.Fine; unnamed = 0; far = 0 }
-entry_of_node (told unnamed) node path =
-    record { path = path; stat = Some (stat_of node); mark = mark.Fine; unnamed = if is_dir_body node.body then unnamed else 0; far = far_of node.body }
+entry_of_node list_failed node path = record {
+  path = path;
+  stat = Some (stat_of node);
+  mark = if is_dir_body node.body then mark.ListFailed else mark.Fine;
+  unnamed = 0;
+  far = 0;
+  target = text_of node.body;
+}
+entry_of_node (told unnamed) node path = record {
+  path = path;
+  stat = Some (stat_of node);
+  mark = mark.Fine;
+  unnamed = if is_dir_body node.body then unnamed else 0;
+  far = far_of node.body;
+  target = text_of node.body;
+}
 
 -- the entry of a path
 abbrev pub entry_of : Answer → Option Node → List ℕ → Entry

@@ -25,17 +25,20 @@ pub struct WalkJob<R: Tree> {
 
 impl<R: Tree> Model for WalkJob<R> {
     ghost use Rattle.std.specs.Prelude.{List, ◌≡◌, length};
-    ghost use Rattle.std.specs.List.{count_by};
+    ghost use Rattle.std.specs.List.{count_by, AllByRecursion};
+    ghost use Rattle.tree_walk.specs.Answered.{IsAnswered};
     ghost use Rattle.tree_walk.specs.Held.{Held, held_of, is_listed, Holds};
 
     ghost Value = { R × List Held };
 
     ghost view = { λ w. (w.reader, held_of w.entries w.names.items) };
 
-    ghost invariant = { λ w. Holds (R.tree w.reader) (R.count w.reader) (held_of w.entries w.names.items) × (count_by is_listed w.entries ≡ length w.names.items) };
+    ghost invariant = { λ w. Holds (R.tree w.reader) (R.count w.reader) (held_of w.entries w.names.items) × (count_by is_listed w.entries ≡ length w.names.items) × AllByRecursion (IsAnswered R.gives) w.entries };
 }
 
 impl<R: Tree> WalkJob<R> {
+    ghost use Rattle.std.specs.List.{AllByRecursion};
+    ghost use Rattle.tree_walk.specs.Answered.{IsAnswered};
     ghost use Rattle.tree_walk.specs.Held.{entries_of, Holds};
 
     // A job that holds nothing yet.
@@ -55,6 +58,7 @@ impl<R: Tree> WalkJob<R> {
         ensures reader { result.0 ≡ self.0 }
         ensures entries { result.1 ≡ entries_of self.1 }
         ensures holds { Holds (R.tree self.0) (R.count self.0) self.1 }
+        ensures answered { AllByRecursion (IsAnswered R.gives) result.1 }
     {
         let WalkJob {
             reader,
@@ -80,7 +84,7 @@ impl<R: Tree> Job for WalkJob<R> {
 
     ghost plain = { λ w. R.tree w.0 };
 
-    /// Handles a path by `stat` and, where it is a directory, `list`, and pushes its children.
+    /// Handles a path by `stat`, a directory then by `list` and a link by `read_link`, and pushes its children.
     fn handle(&mut self, item: &Path, _waiting: u64, fresh: &mut Batch) -> Result<(), OutOfMemory> {
         handle_path(
             &mut self.reader,

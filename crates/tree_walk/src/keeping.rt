@@ -1,8 +1,9 @@
 //! What a job keeps of one path.
 ghost use Rattle.std.specs.Prelude.{◌≡◌, ◌++◌, ◌∷◌, ◌<◌, [], true, false, map, length, OnOk, OnErr, IfOk};
-ghost use Rattle.std.specs.List.{count_by};
+ghost use Rattle.std.specs.List.{count_by, AllByRecursion};
 ghost use Rattle.std.specs.Vec.{vec_len, vec_capacity};
 ghost use Rattle.path_text.specs.Path.{joined};
+ghost use Rattle.tree_walk.specs.Answered.{IsAnswered};
 ghost use Rattle.tree_walk.specs.Held.{Holds, held_of, is_listed, log_of};
 
 use crate::looking::{is_listed, look, push_children};
@@ -22,9 +23,11 @@ pub fn handle_path<R: Tree>(
 ) -> Result<(), OutOfMemory>
     requires empty { fresh.old ≡ [] }
     requires holds { Holds (R.tree reader.old) (R.count reader.old) (held_of entries.old names.old.items) }
+    requires answered { AllByRecursion (IsAnswered R.gives) entries.old }
     requires pairs { count_by is_listed entries.old ≡ length names.old.items }
     ensures same { R.tree reader.new ≡ R.tree reader.old }
     ensures holds { Holds (R.tree reader.new) (R.count reader.new) (held_of entries.new names.new.items) }
+    ensures answered { AllByRecursion (IsAnswered R.gives) entries.new }
     ensures pairs { count_by is_listed entries.new ≡ length names.new.items }
     ensures ok { OnOk result (log_of (held_of entries.new names.new.items) ≡ log_of (held_of entries.old names.old.items) ++ (item.now, fresh.new) ∷ []) }
     ensures err { OnErr result (held_of entries.new names.new.items ≡ held_of entries.old names.old.items) }
@@ -71,6 +74,8 @@ fn keep(
     ensures held { OnOk result (held_of entries.new names.new.items ≡ held_of entries.old names.old.items ++ (entry.now, map (joined entry.now.path) listing.0) ∷ []) }
     ensures pairs { count_by is_listed entries.new ≡ length names.new.items }
     ensures err { OnErr result (held_of entries.new names.new.items ≡ held_of entries.old names.old.items) }
+    ensures added { OnOk result (entries.new ≡ entries.old ++ entry.now ∷ []) }
+    ensures refused { OnErr result (entries.new ≡ entries.old) }
 {
     entries.add(entry)?;
     if !is_listed(entry) {

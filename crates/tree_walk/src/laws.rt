@@ -30,7 +30,7 @@ pub fn walk_without_faults_is_fine()
 {}
 
 /// Each entry of a walk tells what the tree has at its path: an entry with a stat has that of the node there, one that is fine
-/// or was not listed stands in the tree, and one that is gone does not.
+/// or was not listed stands in the tree, and one that is gone does not. Each fine link has its text, and nothing else has one.
 pub fn entries_are_told()
     ensures { EntriesAreTold }
 {}

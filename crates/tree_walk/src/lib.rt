@@ -3,8 +3,8 @@
 //! - [`walk`] looks at the starts and at all that is under them, and gives a [`WalkReport`]: the entries as a list in path
 //!   order, what each rank did, the events of the run where they are kept, and how the number of entries rose.
 //! - [`roots_of`] makes starts of any paths: it drops what is equal to or under another, so that nothing is walked twice.
-//! - A [`WalkJob`] is what one rank does with a path: it asks the files what stands there, and the names in a directory,
-//!   keeps the entry and pushes the children. The ranks of [`circle_run`] hand paths to each other in any order.
+//! - A [`WalkJob`] is what one rank does with a path: it asks the files what stands there, and the names in a directory or the
+//!   text of a link, keeps the entry and pushes the children. The ranks of [`circle_run`] hand paths to each other in any order.
 //!
 //! ```text
 //! let starts = roots_of(words)?;
@@ -21,9 +21,9 @@
 //!
 //! Proved, over any files and whatever the order in which paths are handled: where the files tell their tree, the list is
 //! the recursive walk of the starts, with the failed answers that its marks name; over all files each path stands in the
-//! list once, in path order, is a start or under one, and each failed answer was counted. This follows from the balance of
-//! the run alone: each path was handled as often as it was a start or was pushed. So the list is the same for every number of
-//! ranks, split and seed.
+//! list once, in path order, is a start or under one, has its mark by an answer that a reader gave, and each failed answer was
+//! counted; each fine link has the text that was read. This follows from the balance of the run alone: each path was handled as
+//! often as it was a start or was pushed. So the list is the same for every number of ranks, split and seed.
 //!
 //! Proved of what a report tells beside its list: some whole run by the options was made in which the ranks handle just the
 //! paths of the list, each once; the shares are its counts, and with a trace the events are its own. Where the files tell their
@@ -36,8 +36,9 @@
 //! entries. Over all files the done paths and the left strings all differ. No rank handled more strings than the stop says, one
 //! handled as many, and a string is left.
 //!
-//! Only tested: that each path is asked for its stat once, and each directory for its names once. Over files that change, what
-//! is no directory any more when it is asked for its names has the mark `Changed`.
+//! Only tested: that each path is asked for its stat once, each directory for its names once, and each link for its text once.
+//! Over files that change, what is no directory any more when it is asked for its names has the mark `Changed`, and so has what
+//! is no link any more when it is asked for its text.
 //!
 //! That a walk ends is not proved: the runtime that works it off may wait.
 //!
@@ -48,8 +49,9 @@
 //! ([`restart_is_walk`], [`cut_goes_on`], [`left_is_apart`]).
 //!
 //! Definitions stand in `specs/`: `Walk` (the recursive walk and failed answers), `Roots`, `Told` (what entries tell of the tree),
-//! `Found` (what a walk gives), `Cut` (what one that was cut gives, and how another goes on), `Traced` (what events, shares and
-//! progress tell), `Held` (what a job keeps), and `Looking` (what the files' answers make of a path), which no public clause cites.
+//! `Answered` (the answers by which an entry has its mark and its text), `Found` (what a walk gives), `Cut` (what one that was
+//! cut gives, and how another goes on), `Traced` (what events, shares and progress tell), `Held` (what a job keeps), and `Looking`
+//! (what the files' answers make of a path), which no public clause cites.
 #![tactic(auto)]
 
 mod errors;

@@ -4,29 +4,40 @@ ghost use Rattle.path_text.specs.Path.{joined};
 ghost use Rattle.outside.specs.Count.{RoseBy};
 ghost use Rattle.outside.specs.Tree.{AreNames};
 ghost use Rattle.outside.specs.declared.trees.Kind.TheVariants as kinds;
-ghost use Rattle.flat_list.specs.Entries.{is_kind};
-ghost use Rattle.tree_walk.specs.Held.{is_fine, is_listed};
-ghost use Rattle.tree_walk.specs.Looking.{by_stat, by_list, IsLook};
+ghost use Rattle.flat_list.specs.Entries.{is_fine, is_kind};
+ghost use Rattle.tree_walk.specs.Answered.{IsAnswered};
+ghost use Rattle.tree_walk.specs.Held.{is_listed};
+ghost use Rattle.tree_walk.specs.Walk.{bare};
+ghost use Rattle.tree_walk.specs.Looking.{by_stat, by_link, by_list, is_linked, IsLook};
 
 use flat_list::{Entry, Mark};
-use outside::{Failed, Kind, ListError, Listing, Stat, Tree};
+use outside::{Failed, Kind, LinkError, LinkText, ListError, Listing, Stat, Tree};
 use path_text::{JoinError, OutOfMemory, Path};
 use rank_queue::Batch;
 use std::alloc::Global;
 
-// Looks at one path, by one stat and for a directory by one listing: its entry, and the names below it.
+// Looks at one path, by one stat, and then a directory by one listing and a link by one reading of its text: its entry, and the
+// names below it.
 pub fn look<R: Tree>(
     alloc: Global,
     reader: &mut R,
     path: Path,
 ) -> Result<(Entry, Listing), OutOfMemory>
     ensures look { IfOk result (λ r. IsLook (R.tree reader.old) path (R.count reader.old) (R.count reader.new) r.0 r.1) }
+    ensures answered { IfOk result (λ r. IsAnswered R.gives r.0) }
     ensures same { R.tree reader.new ≡ R.tree reader.old }
     ensures count { RoseBy 0 (R.count reader.old) (R.count reader.new) }
 {
     let _text = path.text();
     let stat = reader.stat(&path);
     let entry = by_stat(path, stat);
+    if is_linked(&entry) {
+        let text = reader.read_link(alloc, &entry.path);
+        return match by_link(entry, text) {
+            Some(entry) => Ok((entry, Listing::make(alloc))),
+            None => Err(OutOfMemory),
+        };
+    }
     if !is_listed(&entry) {
         return Ok((entry, Listing::make(alloc)));
     }
@@ -47,12 +58,38 @@ fn by_stat(path: Path, answer: Result<Option<Stat>, Failed>) -> Entry
         Ok(Some(stat)) => (Some(stat), Mark::Fine),
     };
     Entry {
-        path,
         stat,
+        ..bare(path, mark)
+    }
+}
+
+// An entry with no more than a mark.
+fn bare(path: Path, mark: Mark) -> Entry
+    ensures { result ≡ bare path mark }
+{
+    Entry {
+        path,
+        stat: None,
         mark,
         unnamed: 0,
         far: 0,
+        target: None,
     }
+}
+
+// The entry of a link, by the answer of its reading; none where no memory was found. Where its text failed nothing is told of it,
+// and what is no link any more has changed.
+fn by_link(entry: Entry, answer: Result<LinkText, LinkError>) -> Option<Entry>
+    ensures { result ≡ by_link entry answer }
+{
+    let mut entry = entry;
+    match answer {
+        Ok(text) => entry.target = Some(text),
+        Err(LinkError::Failed) => return Some(bare(entry.path, Mark::StatFailed)),
+        Err(LinkError::NotLink) => entry.mark = Mark::Changed,
+        Err(LinkError::OutOfMemory) => return None,
+    }
+    Some(entry)
 }
 
 // The entry of a directory and the names below it, by the answer of its listing; none where no memory was found.
@@ -90,6 +127,25 @@ pub fn push_children(path: &Path, listing: &Listing, fresh: &mut Batch) -> Resul
         }
     }
     Ok(())
+}
+
+// Whether an entry is of a link whose text is to be read.
+fn is_linked(entry: &Entry) -> bool
+    ensures { result ≡ is_linked entry.now }
+{
+    match entry.stat {
+        Some(stat) => is_link(stat.kind) && is_fine(entry.mark),
+        None => false,
+    }
+}
+
+fn is_link(kind: Kind) -> bool
+    ensures { result ≡ is_kind kinds.Link kind }
+{
+    match kind {
+        Kind::Link => true,
+        Kind::File | Kind::Dir | Kind::Other => false,
+    }
 }
 
 // Whether an entry is of a directory that was listed.

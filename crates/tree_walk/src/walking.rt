@@ -10,6 +10,7 @@ ghost use Rattle.circle_run.specs.Traced.{share_in};
 ghost use Rattle.outside.specs.Count.{RoseBy};
 ghost use Rattle.tree_walk.specs.Walk.{weight_of};
 ghost use Rattle.tree_walk.specs.Roots.{Apart};
+ghost use Rattle.tree_walk.specs.Answered.{IsAnswered};
 ghost use Rattle.tree_walk.specs.Held.{Holds, entries_of};
 ghost use Rattle.tree_walk.specs.Traced.{IsTracedWalk, WasWalked, IsProgressTo};
 ghost use Rattle.tree_walk.specs.Found.{IsFound, IfTooMany, max_entries};
@@ -31,7 +32,8 @@ use std::thread::Threads;
 pub const MAX_ENTRIES: usize = 4_194_304;
 
 /// Walks the trees at the starts, of which none is equal to or under another. All readers are taken back, but that after
-/// `OutOfMemory` some may have been dropped.
+/// `OutOfMemory` some may have been dropped. Each entry has its mark by an answer that a reader gave, and each fine link has the
+/// text that was read.
 pub fn walk<W: Threads + Wait + Sync, G: Ground>(
     rt: &W,
     alloc: Global,
@@ -47,6 +49,7 @@ where
     requires width { (2 ≤ options.now.width) × (options.now.width ≤ 64) }
     requires apart { Apart starts.items }
     ensures found { IfOk result (λ report. report.walked ≡ Walked.Whole → IsFound (G.tree ground.old) starts.items (G.count ground.old) (G.count ground.new) report.list) }
+    ensures answered { IfOk result (λ report. All (IsAnswered G.Reader.gives) (found_in report.walked report.list)) }
     ensures few { IfOk result (λ report. length (found_in report.walked report.list) ≤ max_entries) }
     ensures too_many { IfErr result (λ e. IfTooMany e (IsTooMany options.now.stop_after (G.tree ground.old) starts.items (G.count ground.old) (G.count ground.new))) }
     ensures whole { IfOk result (λ report. options.now.stop_after ≡ None → report.walked ≡ Walked.Whole) }
@@ -100,6 +103,7 @@ where
     requires width { (2 ≤ options.now.width) × (options.now.width ≤ 64) }
     requires apart { Apart starts.items }
     ensures found { IfOk result (λ r. r.walked ≡ Walked.Whole → IsFound (G.tree ground.old) starts.items (G.count ground.old) (G.count ground.new) r.list) }
+    ensures answered { IfOk result (λ r. All (IsAnswered G.Reader.gives) (found_in r.walked r.list)) }
     ensures whole { IfOk result (λ r. options.now.stop_after ≡ None → r.walked ≡ Walked.Whole) }
     ensures cut { IfOk result (λ r. IfCut r.walked (λ cut. IsCutFound (G.tree ground.old) starts.items (G.count ground.old) (G.count ground.new) cut.done (all_left cut.left.items))) }
     ensures empty { IfOk result (λ r. IfCut r.walked (λ cut. r.list ≡ [])) }
@@ -215,6 +219,7 @@ fn opened<G: Ground>(
 ) -> Result<Vec<FlatList>, OutOfMemory>
     ensures logs { IfOk result (λ logs. flat_map (λ log. log) logs.items ≡ entries_of (flat_map (λ job. job.1) jobs.items)) }
     ensures holds { OnOk result (AllByRecursion (λ job. Holds (G.Reader.tree job.0) (G.Reader.count job.0) job.1) jobs.items) }
+    ensures answered { IfOk result (λ logs. AllByRecursion (IsAnswered G.Reader.gives) (flat_map (λ log. log) logs.items)) }
     ensures counted { OnOk result (RoseBy (sum_by weight_of (entries_of (flat_map (λ job. job.1) jobs.items))) (G.count ground.old) (G.count ground.new)) }
     ensures same { G.tree ground.new ≡ G.tree ground.old }
     ensures area { G.area ground.new ≡ G.area ground.old }

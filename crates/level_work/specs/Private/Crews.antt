@@ -18,7 +18,7 @@ use Rattle.level_work.specs.declared.items.Order.{Order}
 use Rattle.level_work.specs.declared.lots.Lot.{Lot}
 
 abbrev pub tops_in : Area → List (List (List ℕ))
-tops_in (all_but out) = []
+tops_in (all_but out cut) = []
 tops_in (under tops) = tops ∷ []
 
 module _ {A P : Type 0} where

@@ -1,5 +1,5 @@
 -- Parts that are taken back, after some of them. Our own.
-use Rattle.std.specs.Prelude.{◌≡◌, ℕ, ◌+◌, ◌-◌, ◌^◌, ◌<◌, ◌≤◌, List, length, take, drop, Option, Some, None, IfSome, slice_get, is_some}
+use Rattle.std.specs.Prelude.{◌≡◌, ℕ, ◌+◌, ◌-◌, ◌^◌, ◌<◌, ◌≤◌, List, length, take, drop, Option, Some, None, IfSome, slice_get, is_some, []}
 use Rattle.std.specs.List.{sum_by}
 use Rattle.outside.specs.Tree.{Files}
 use Rattle.outside.specs.Writes.{Area, all_but}
@@ -13,7 +13,7 @@ pub record Giving {A P : Type 0} (tree : Option P → Option Files) (area : Opti
   pub shares : SameShares lots now
   pub home : (j : ℕ) (lot : Lot A P) → j < i → slice_get now j ≡ Some lot → lot.part ≡ None
   pub rest : (j : ℕ) → i ≤ j → slice_get now j ≡ slice_get lots j
-  pub at : a ≡ all_but (tops_out area (drop i lots))
+  pub at : a ≡ all_but (tops_out area (drop i lots)) []
   pub tells : is_some t ≡ is_some t0
   pub told : IfSome t0 (λ r. IfSome t (AllBack tree area (take i lots) r))
   pub kept : g0 ≤ g

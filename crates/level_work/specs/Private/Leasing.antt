@@ -1,5 +1,5 @@
 -- Shares that are leased, after some of them. Our own.
-use Rattle.std.specs.Prelude.{◌≡◌, ℕ, ◌<◌, ◌≤◌, List, length, map, Option, Some, IfSome, slice_get, is_some}
+use Rattle.std.specs.Prelude.{◌≡◌, ℕ, ◌<◌, ◌≤◌, List, length, map, Option, Some, IfSome, slice_get, is_some, []}
 use Rattle.outside.specs.Tree.{Files}
 use Rattle.outside.specs.Writes.{Area, all_but, under}
 use Rattle.outside.specs.Lease.{tops_of}
@@ -14,7 +14,7 @@ pub record Leasing {A P : Type 0} (tree : Option P → Option Files) (area : Opt
   pub len : length now ≡ length lots
   pub shares : SameShares lots now
   pub rest : (j : ℕ) → i ≤ j → slice_get now j ≡ slice_get lots j
-  pub at : a ≡ all_but (tops_out area now)
+  pub at : a ≡ all_but (tops_out area now) []
   pub leased : (j : ℕ) (lot : Lot A P) → j < i → slice_get now j ≡ Some lot → area lot.part ≡ under (tops_of (area lot.part))
   pub paths : (j : ℕ) (lot : Lot A P) → j < i → slice_get now j ≡ Some lot → ArePaths items lot.places.items (tops_of (area lot.part))
   pub told : IfSome t0 (λ b. IfSome t (AreOut tree area now b))

@@ -6,7 +6,7 @@ use Rattle.std.specs.FinMap.{get}
 use Rattle.std.specs.Cmp.Lexicographic.{pointwise}
 use Rattle.path_text.specs.Order.{is_within}
 use Rattle.outside.specs.Tree.{Files}
-use Rattle.outside.specs.Writes.{Area, all_but, is_top, is_open}
+use Rattle.outside.specs.Writes.{Area, nothing_lent, is_top, is_open}
 use Rattle.outside.specs.Writes.{SameBut}
 use Rattle.level_work.specs.Counts.{is_failed}
 use Rattle.level_work.specs.Acts.{Deed, IsDone, at_and_under}
@@ -51,7 +51,7 @@ part_tree tree None = None
 part_tree tree (Some p) = tree p
 
 abbrev pub part_area : {P : Type 0} → (P → Area) → Option P → Area
-part_area area None = all_but []
+part_area area None = nothing_lent
 part_area area (Some p) = area p
 
 abbrev pub part_count : {P : Type 0} → (P → ℕ) → Option P → ℕ

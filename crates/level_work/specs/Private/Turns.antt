@@ -1,9 +1,9 @@
 -- All lots at work, after some levels. Our own.
-use Rattle.std.specs.Prelude.{◌≡◌, ℕ, ◌≤◌, false, List, [], map, Option, Some, slice_get}
+use Rattle.std.specs.Prelude.{◌≡◌, ℕ, ◌≤◌, false, List, map, Option, Some, slice_get}
 use Rattle.std.specs.List.{count_by}
 use Rattle.path_text.specs.Path.{level_of}
 use Rattle.outside.specs.Tree.{Files}
-use Rattle.outside.specs.Writes.{Area, all_but}
+use Rattle.outside.specs.Writes.{Area, nothing_lent}
 use Rattle.level_work.specs.Acts.{Deed, AllShow}
 use Rattle.level_work.specs.Counts.{is_failed}
 use Rattle.level_work.specs.Chain.{is_done, mark_at}
@@ -19,7 +19,7 @@ use Rattle.level_work.specs.declared.lots.Lot.{Lot}
 -- the lots, the fates, the failed paths and the ground after so many turns
 pub record Turned {A P D : Type 0} (plain : A → D) (count : A → ℕ) (deed : D → Deed) (o : Order) (top turn : ℕ) (items : List Item)
     (lots now : List (Lot A P)) (fates : List Fate) (paths : List (List ℕ)) (a : Area) (t0 t : Option Files) (g0 g : ℕ) : Type 0 where
-  pub area : a ≡ all_but []
+  pub area : a ≡ nothing_lent
   pub home : AtHome now
   pub actors : SameActors plain count lots now
   pub kept : g0 ≤ g

@@ -1,4 +1,4 @@
-use Rattle.std.proofs.Common.{ap, subst, sym, ◌∙◌, Some, arith}
+use Rattle.std.proofs.Common.{ap, subst, sym, ◌∙◌, [], Some, arith}
 use Rattle.std.proofs.lemmas.Option.{slice_get-get_or}
 use Rattle.outside.specs.Writes.{all_but}
 use Rattle.level_work.specs.Counts.{NoneAtEnd}
@@ -28,7 +28,7 @@ work_all-requires-clause-ready g c = λ _ _ i lot l e. c.in-Ok.ensures.ready.rea
 
 pub give_all-requires-2-clause-area : goal.give_all-requires-2-clause-area
 give_all-requires-2-clause-area g c = c.lease_all.ensures.area
-    ∙ ap all_but (sym (tops_kept g.G.Part.Plot.tree g.G.Part.Plot.area
+    ∙ ap (λ l. all_but l []) (sym (tops_kept g.G.Part.Plot.tree g.G.Part.Plot.area
     (part_count g.G.Part.Plot.count) g.A.Act.plain g.A.Act.count g.A.Act.deed c.args.items.now _ _ c.work_all.auto.lots c.work_all.ensures))
 
 pub give_all-requires-2-clause-under : goal.give_all-requires-2-clause-under

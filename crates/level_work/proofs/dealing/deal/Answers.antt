@@ -30,5 +30,5 @@ loop-t-preserved g c =
 pub returns-clause-shares : goal.returns-clause-shares
 returns-clause-shares g c =
     all_dealt c.args.order c.args.level c.loop-t.t c.args.items.now c.args.fates.now c.args.places.now c.loop-t.lots
-    c.path_order_is_preorder.ensures c.under_is_contiguous.ensures c.requires.items c.requires.places
+    c.tops_are_nested.ensures c.requires.items c.requires.places
     (omega (arith, c.loop-t-test.false, c.loop-t.auto)) c.loop-t.invariant.dealt

@@ -1,6 +1,6 @@
 use Rattle.std.proofs.Common.{sym, ap, ◌∙◌}
 use Rattle.path_text.specs.Path.{is_name}
-use Rattle.tree_copy.proofs.Overlaps.{not_one}
+use Rattle.path_text.proofs.Within.{not_one}
 use Rattle.tree_copy.proofs.placing.target.Goals as goal
 
 pub join-requires : goal.join-requires

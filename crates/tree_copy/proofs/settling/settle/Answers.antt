@@ -171,3 +171,7 @@ returns-clause-even c = (at_end c.args.list.now c.args.fits.now c.args.outcome.n
 pub returns-clause-copied : goal.returns-clause-copied
 returns-clause-copied c = (at_end c.args.list.now c.args.fits.now c.args.outcome.now c.loop-cursor.cursor c.in_ok-advance.field-0 _ _ _ _ _ _
     c.requires.fits c.loop-cursor.invariant.of_list c.in_ok-advance.ensures.answer c.if-branch.false c.loop-cursor.invariant.so_far).copied_is
+
+pub returns-clause-bytes : goal.returns-clause-bytes
+returns-clause-bytes c = (at_end c.args.list.now c.args.fits.now c.args.outcome.now c.loop-cursor.cursor c.in_ok-advance.field-0 _ _ _ _ _ _
+    c.requires.fits c.loop-cursor.invariant.of_list c.in_ok-advance.ensures.answer c.if-branch.false c.loop-cursor.invariant.so_far).bytes_are

@@ -1,8 +1,11 @@
-use Rattle.std.proofs.Common.{ap, ◌∙◌, ◌++◌, ◌∷◌, [], map, List}
+use Rattle.std.proofs.Common.{ap, ◌∙◌, ◌++◌, ◌∷◌, [], map, List, subst, sym}
 use Rattle.path_text.specs.Path.{joined}
 use Rattle.outside.specs.declared.listings.Listing.{Listing}
+use Rattle.std.specs.List.{AllByRecursion}
+use Rattle.tree_walk.specs.Answered.{IsAnswered}
 use Rattle.tree_walk.specs.Held.{log_of, held_of}
 use Rattle.tree_walk.proofs.Held.{IsStep, step_holds, step_log}
+use Rattle.tree_walk.proofs.Lists.{all_append}
 use Rattle.tree_walk.proofs.keeping.handle_path.Goals as goal
 
 pub returns-clause-holds : goal.returns-clause-holds
@@ -44,3 +47,9 @@ returns-clause-ok g c =
       pushed = c.in-Ok.ensures ∙ ap (λ x. x ++ map (joined entry.path) names.0) c.requires.empty;
     } in
     step_log step ∙ ap (λ x. log_of old ++ (x, c.push_children.new.fresh) ∷ []) c.in_ok-path.ensures
+
+pub returns-clause-answered : goal.returns-clause-answered
+returns-clause-answered g c =
+    let P = IsAnswered g.R.Tree.gives in
+    subst (AllByRecursion P) (sym c.in-Ok-keep.ensures.added)
+    (all_append P c.args.entries.now (c.in_ok-entry.entry ∷ []) c.requires.answered (c.in_ok-entry.ensures.answered, tt))

@@ -1,10 +1,12 @@
 use Rattle.std.proofs.Common.{◌≡◌, ◌∙◌, ap, sym, subst, arith, ◌<◌, ◌-◌, ◌^◌, [], length}
-use Rattle.std.specs.List.{flat_map, sum_by}
+use Rattle.std.specs.List.{flat_map, sum_by, All}
 use Rattle.circle_run.specs.Left.{all_left}
 use Rattle.tree_walk.specs.declared.reports.Walked.TheVariants as walked
+use Rattle.tree_walk.specs.Answered.{IsAnswered}
 use Rattle.tree_walk.specs.Cut.{IsCutFound, found_in}
 use Rattle.tree_walk.specs.Found.{IsFound}
 use Rattle.tree_walk.specs.Traced.{WasWalked, IsProgressTo}
+use Rattle.tree_walk.proofs.Caused.{all_answered}
 use Rattle.tree_walk.proofs.Cuts.{of_cut}
 use Rattle.tree_walk.proofs.Ranks.{IsRun, is_run, found, cut_found, shared, share_each}
 use Rattle.tree_walk.proofs.Stops.{bound, reached, fits}
@@ -44,6 +46,12 @@ returns-clause-found g c = λ whole.
     (found g.G.Reader.Tree.tree g.G.Reader.Tree.count told c.in_ok-finished.finished.jobs.items c.in_ok-found.found starts
     (count c.args.ground.now) (count c.made.new.ground) (count c.opened.new.ground) (whole_run g c (c.split-list.ensures.whole whole))
     c.made.ensures.count c.in_ok-logs.ensures.counted)
+
+pub returns-clause-answered : goal.returns-clause-answered
+returns-clause-answered g c =
+    let gives = g.G.Reader.Tree.gives in
+    subst (All (IsAnswered gives)) (sym c.split-list.ensures.found)
+    (all_answered gives (flat_map (λ log. log) c.in_ok-logs.logs.items) c.in_ok-found.found c.in_ok-found.ensures.all c.in_ok-logs.ensures.answered)
 
 pub returns-clause-cut : goal.returns-clause-cut
 returns-clause-cut g c =
