@@ -1,13 +1,14 @@
 -- A folder holds one checkpoint, and where nothing stands against it only want of memory stops reading and writing.
-use Rattle.std.proofs.Common.{◌≡◌, inl, inr, ℕ, ◌+◌, ◌<◌, ◌≤◌, zero, suc, true, false, not, ◌&&◌, ◌||◌, List, [], ◌∷◌, ◌++◌, map, length}
+use Rattle.std.proofs.Common.{◌≡◌, ◌⊎◌, inl, inr, ℕ, ◌+◌, ◌<◌, ◌≤◌, zero, suc, Bool, true, false, not, ◌&&◌, ◌||◌, List, [], ◌∷◌, ◌++◌, map, length}
 use Rattle.std.proofs.Common.{Option, Some, None, refl, ap, sym, ◌∙◌, subst, arith, add-zero, zero-add}
-use Rattle.std.specs.Prelude.{IfSome, is_some, is_none}
+use Rattle.std.specs.Prelude.{IfSome, is_some, is_none, nat_eq}
 use Rattle.std.specs.List.{AllByRecursion, flat_map, range_with_len}
 use Rattle.std.specs.FinMap.{get}
+use Rattle.std.specs.Cmp.Lexicographic.{pointwise}
 use Rattle.std.proofs.lemmas.Bool.{false≢true}
 use Rattle.std.proofs.lemmas.List.Elements.{recursion_from_All, All-from_recursion}
 use Rattle.path_text.specs.Path.{refusal, parent_of}
-use Rattle.outside.specs.Tree.{Files, is_file, is_dir, is_root}
+use Rattle.outside.specs.Tree.{Files, Node, is_file, is_dir, is_root}
 use Rattle.outside.specs.Count.{RoseBy, StoodStill}
 use Rattle.outside.specs.Whole.{HoldsFile, can_save}
 use Rattle.flat_list.specs.declared.entries.Entry.{Entry}
@@ -18,7 +19,7 @@ use Rattle.circle_lists.specs.Spelling as circle
 use Rattle.circle_lists.specs.Checkpoint.{file_path, Fits, AllFit, HoldsList, HoldFirst, HoldLists, Reached, SameButFiles, StopsReadingAt, StopsWritingAt}
 use Rattle.circle_lists.specs.Checkpoint.{IsDamagedAt, ReadsBack}
 use Rattle.circle_lists.specs.Checkpoint as lists
-use Rattle.circle_lists.proofs.Places.{folder_differs}
+use Rattle.circle_lists.proofs.Places.{folder_differs, parent_of_file}
 use Rattle.tool_words.specs.Asked.{input}
 use Rattle.run_report.specs.declared.stops.Trouble.TheVariants as trouble
 use Rattle.run_report.specs.declared.stops.Stop.{Stop}
@@ -30,9 +31,9 @@ use Rattle.run_entries.specs.Saving.{output_of}
 use Rattle.run_entries.specs.Stopping.{StopsListing}
 use Rattle.checkpoints.specs.Kept.{list_path, checkpoint_paths, HoldsEntries, IsKept}
 use Rattle.checkpoints.specs.Placing.{is_misplaced, ArePlaced, IsFirstMisplaced}
-use Rattle.checkpoints.specs.Stopping.{stop_by, HasNoRanks, HasMisplaced, WroteNoRanks, WroteNoList}
+use Rattle.checkpoints.specs.Stopping.{stop_by, HasNoRanks, HasMisplaced, IsGone, WroteNoRanks, WroteNoList, WroteTorn}
 use Rattle.checkpoints.specs.Laws.{CheckpointsAreOne, IsFineKept, FineReadsStopForMemory, IsFree, FineWritesStopForMemory}
-use Rattle.checkpoints.proofs.Paths.{list_differs, parent_of_list}
+use Rattle.checkpoints.proofs.Paths.{dir_differs, file_differs, list_differs, parent_of_list}
 
 -- ---- counts and trees
 
@@ -205,13 +206,53 @@ rank_written dir rank files before after (error.NoPlace path) stood free (inl lo
 rank_written dir rank files before after (error.NoPlace path) stood free (inr none) = absurd (false≢true (sym none.taken ∙ free.place))
 
 ranks_written : (dir : List ℕ) (ranks : ℕ) (files : Files) (before after : Side) (why : Stop) → before.tree ≡ Some files →
-    StoodStill before.count after.count → AllByRecursion (IsFree files) (map (file_path dir) (range_with_len 0 ranks)) →
+    StoodStill before.count after.count → ((rank : ℕ) → rank < ranks → IsFree files (file_path dir rank)) →
     WroteNoRanks dir ranks before after why → why ≡ stop.OutOfMemory
 ranks_written dir ranks files before after why told stood free s =
     let stops = subst (λ t. lists.StopsWriting dir ranks t before.count after.count s.error) told s.stops in
-    let at = at_rank (IsFree files) (file_path dir) 0 ranks free stops.rank stops.within in
-    let here = subst (λ k. IsFree files (file_path dir k)) (zero-add stops.rank) at in
-    s.told ∙ ap stop_by (rank_written dir stops.rank files before.count after.count s.error stood here stops.stops)
+    s.told ∙ ap stop_by (rank_written dir stops.rank files before.count after.count s.error stood (free stops.rank stops.within) stops.stops)
+
+-- the removal of the old list file leaves each file its place
+place_left : (dir p : List ℕ) (old mid : Files) → parent_of p ≡ dir → pointwise nat_eq p (list_path dir) ≡ false → IsGone (list_path dir) old mid →
+    can_save mid p ≡ can_save old p
+place_left dir p old mid above off gone =
+    let over : get mid (parent_of p) ≡ get old (parent_of p) = subst (λ d. get mid d ≡ get old d) (sym above) (gone.others dir (dir_differs dir)) in
+    let here : get mid p ≡ get old p = gone.others p off in
+    ap (λ n. not (is_root p) && (is_dir n && (is_none (get mid p) || is_file (get mid p)))) over
+    ∙ ap (λ n. not (is_root p) && (is_dir (get old (parent_of p)) && (is_none n || is_file n))) here
+
+rank_left : (dir : List ℕ) (ranks : ℕ) (old mid : Files) → refusal dir ≡ None → ranks ≤ 64 → IsGone (list_path dir) old mid →
+    AllByRecursion (IsFree old) (map (file_path dir) (range_with_len 0 ranks)) → (rank : ℕ) → rank < ranks → IsFree mid (file_path dir rank)
+rank_left dir ranks old mid fine few gone free rank lt =
+    let at = subst (λ k. IsFree old (file_path dir k)) (zero-add rank) (at_rank (IsFree old) (file_path dir) 0 ranks free rank lt) in
+    let small : rank < 64 = omega (arith, lt, few) in
+    record {
+      place = place_left dir (file_path dir rank) old mid (parent_of_file dir rank fine small) (file_differs dir rank small) gone ∙ at.place;
+      near = at.near;
+    }
+
+none_free : (a b : Bool) (n : Option Node) → (a && (b && (is_none n || is_file n))) ≡ true → (a && (b && true)) ≡ true
+none_free true true n e = refl
+none_free true false n e = absurd (false≢true e)
+none_free false b n e = absurd (false≢true e)
+
+list_left : (dir : List ℕ) (old mid : Files) → refusal dir ≡ None → IsGone (list_path dir) old mid → IsFree old (list_path dir) → IsFree mid (list_path dir)
+list_left dir old mid fine gone free = by_gone gone.gone
+  where
+    path : List ℕ
+    path = list_path dir
+
+    by_gone : (get mid (list_path dir) ≡ None) ⊎ ((is_dir (get old (list_path dir)) ≡ true) × (mid ≡ old)) → IsFree mid (list_path dir)
+    by_gone (inr stays) = subst (λ files. IsFree files (list_path dir)) (sym stays.1) free
+    by_gone (inl none) =
+        let over : get mid (parent_of path) ≡ get old (parent_of path) =
+        subst (λ d. get mid d ≡ get old d) (sym (parent_of_list dir fine)) (gone.others dir (dir_differs dir)) in
+        record {
+          place = ap (λ n. not (is_root path) && (is_dir n && (is_none (get mid path) || is_file (get mid path)))) over
+              ∙ ap (λ n. not (is_root path) && (is_dir (get old (parent_of path)) && (is_none n || is_file n))) none
+              ∙ none_free (not (is_root path)) (is_dir (get old (parent_of path))) (get old path) free.place;
+          near = free.near;
+        }
 
 -- the ranks' files take the list file's place from it neither at its path nor over it
 same_place : (dir : List ℕ) (ranks : ℕ) (old mid : Files) → refusal dir ≡ None → ranks ≤ 64 → SameButFiles dir ranks old mid →
@@ -249,11 +290,42 @@ list_written dir ranks done files before after why places fine few told stood fr
     places (output_of (Some (list_path dir)) done) now.files s.between after why now.is
     (All-from_recursion P (output_of (Some (list_path dir)) done) (can, tt)) still s.stops
 
+-- a tree that is told still after the old list file was removed
+record IsToldGone (tree : Option Files) (dir : List ℕ) (old : Files) : Type 0 where
+  files : Files
+  is : tree ≡ Some files
+  gone : IsGone (list_path dir) old files
+
+gone_told : (dir : List ℕ) (before : Option Files) (old : Files) (tree : Option Files) → before ≡ Some old → is_some tree ≡ is_some before →
+    IfSome before (λ files. IfSome tree (IsGone (list_path dir) files)) → IsToldGone tree dir old
+gone_told dir before old None told tells gone = absurd (false≢true (tells ∙ ap is_some told))
+gone_told dir before old (Some mid) told tells gone =
+    record { files = mid; is = refl; gone = of_told (λ files. IsGone (list_path dir) files mid) before old told gone }
+
+torn_by : (dir : List ℕ) (ranks : ℕ) (done : List Entry) (mid : Files) (between after : Side) (why : Stop) → FinePlacesStopForMemory →
+    refusal dir ≡ None → ranks ≤ 64 → between.tree ≡ Some mid → StoodStill between.count after.count →
+    ((rank : ℕ) → rank < ranks → IsFree mid (file_path dir rank)) → IsFree mid (list_path dir) →
+    WroteNoRanks dir ranks between after why ⊎ WroteNoList dir ranks done between after why → why ≡ stop.OutOfMemory
+torn_by dir ranks done mid between after why places fine few told still rank_free list_free (inl s) =
+    ranks_written dir ranks mid between after why told still rank_free s
+torn_by dir ranks done mid between after why places fine few told still rank_free list_free (inr s) =
+    list_written dir ranks done mid between after why places fine few told still list_free s
+
+torn_written : (dir : List ℕ) (ranks : ℕ) (done : List Entry) (files : Files) (before after : Side) (why : Stop) → FinePlacesStopForMemory →
+    refusal dir ≡ None → ranks ≤ 64 → before.tree ≡ Some files → StoodStill before.count after.count →
+    AllByRecursion (IsFree files) (checkpoint_paths dir ranks) → WroteTorn dir ranks done before after why → why ≡ stop.OutOfMemory
+torn_written dir ranks done files before after why places fine few told stood free s =
+    let now = gone_told dir before.tree files s.between.tree told s.cleared.tells s.cleared.gone in
+    let still : StoodStill s.between.count after.count =
+    record { same = omega (arith, s.cleared.kept, s.still, stood.same); below_end = stood.below_end } in
+    torn_by dir ranks done now.files s.between after why places fine few now.is still (rank_left dir ranks files now.files fine few now.gone free.1)
+    (list_left dir files now.files fine now.gone free.0) s.stops
+
 pub writes_for_memory : FinePlacesStopForMemory → FineWritesStopForMemory
 writes_for_memory places dir ranks done files before after why fine few told stood free (inl is) = is
 writes_for_memory places dir ranks done files before after why fine few told stood free (inr (inl s)) =
-    let all = recursion_from_All (IsFree files) (checkpoint_paths dir ranks) free in
-    ranks_written dir ranks files before after why told stood all.1 s
-writes_for_memory places dir ranks done files before after why fine few told stood free (inr (inr s)) =
-    let all = recursion_from_All (IsFree files) (checkpoint_paths dir ranks) free in
-    list_written dir ranks done files before after why places fine few told stood all.0 s
+    absurd (omega (arith, s.long, (recursion_from_All (IsFree files) (checkpoint_paths dir ranks) free).0.near))
+writes_for_memory places dir ranks done files before after why fine few told stood free (inr (inr (inl s))) =
+    absurd (no_fault before.count after.count s.counted stood)
+writes_for_memory places dir ranks done files before after why fine few told stood free (inr (inr (inr s))) =
+    torn_written dir ranks done files before after why places fine few told stood (recursion_from_All (IsFree files) (checkpoint_paths dir ranks) free) s

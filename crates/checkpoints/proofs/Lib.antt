@@ -11,3 +11,5 @@ pub mod Paths
 pub mod Written
 pub mod Read
 pub mod Fine
+mod Removed
+mod Stopped

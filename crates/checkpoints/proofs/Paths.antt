@@ -1,5 +1,5 @@
 -- The paths of a checkpoint's files: that of the list file stands in the folder, and is none of the ranks'.
-use Rattle.std.proofs.Common.{◌≡◌, ℕ, ◌+◌, ◌<◌, ◌≤◌, ◌^◌, zero, suc, false, cond, eqb, None, List, ◌++◌, length, get_or, refl, ap, sym, ◌∙◌, arith}
+use Rattle.std.proofs.Common.{◌≡◌, ℕ, ◌+◌, ◌<◌, ◌≤◌, ◌^◌, zero, suc, Bool, true, false, cond, eqb, None, List, [], ◌∷◌, ◌++◌, length, get_or, refl, ap, sym, ◌∙◌, arith}
 use Rattle.std.specs.Prelude.{codes, nat_eq}
 use Rattle.std.specs.Bool.{IsTrue}
 use Rattle.std.specs.Fmt.{decimal}
@@ -7,6 +7,7 @@ use Rattle.std.specs.Cmp.Lexicographic.{pointwise}
 use Rattle.std.proofs.lemmas.Fmt.{decimal_digit, decimal_nonempty, first_decimal}
 use Rattle.std.proofs.lemmas.List.{append_cancel_left, get_or_append_left}
 use Rattle.path_text.specs.Path.{refusal, is_name, parent_of}
+use Rattle.outside.specs.Tree.{is_root}
 use Rattle.path_text.proofs.Joined.{joined_length}
 use Rattle.circle_lists.specs.Checkpoint.{file_name, file_path}
 use Rattle.path_text.proofs.Parents.{parent_joined}
@@ -43,13 +44,18 @@ file_differs dir rank few =
 pub parent_of_list : (dir : List ℕ) → refusal dir ≡ None → parent_of (list_path dir) ≡ dir
 parent_of_list dir fine = parent_joined dir (codes "circle.list") fine refl
 
--- ---- it is as long as that of rank 0
+-- which is another path, and is not the root
+pub dir_differs : (dir : List ℕ) → pointwise nat_eq dir (list_path dir) ≡ false
+dir_differs dir = differ dir (list_path dir) (λ same. longer (eqb (length dir) 1) (ap length same ∙ joined_length dir (codes "circle.list")))
+  where
+    longer : (t : Bool) → length dir ≡ cond t (length dir + 11) (length dir + 12) → ⊥
+    longer true e = absurd (omega arith)
+    longer false e = absurd (omega arith)
 
-first_name : length (file_name 0) ≡ 11
-first_name = ap (λ digits. length (codes "circle" ++ (digits ++ codes ".txt"))) (decimal_digit 0 (omega arith))
-
-pub as_long : (dir : List ℕ) → length (list_path dir) ≡ length (file_path dir 0)
-as_long dir =
-    joined_length dir (codes "circle.list")
-    ∙ ap (λ n. cond (eqb (length dir) 1) (length dir + n) (length dir + (n + 1))) (sym first_name)
-    ∙ sym (joined_length dir (file_name 0))
+pub list_below : (dir : List ℕ) → is_root (list_path dir) ≡ false
+list_below dir =
+    differ (list_path dir) (47 ∷ []) (λ same. longer (eqb (length dir) 1) (joined_length dir (codes "circle.list")) (ap length same))
+  where
+    longer : (t : Bool) → length (list_path dir) ≡ cond t (length dir + 11) (length dir + 12) → length (list_path dir) ≡ 1 → ⊥
+    longer true e one = absurd (omega (arith, e, one))
+    longer false e one = absurd (omega (arith, e, one))

@@ -9,7 +9,7 @@ use Rattle.flat_list.proofs.Sourced.{Stepped}
 use Rattle.checkpoints.specs.Passing.{passed_of, ahead_of, moved}
 
 no_entry : Entry
-no_entry = record { path = []; stat = None; mark = mark.Fine; unnamed = 0; far = 0 }
+no_entry = record { path = []; stat = None; mark = mark.Fine; unnamed = 0; far = 0; target = None }
 
 moved_at : (n : ℕ) (es : List Entry) → n < length es → moved (take n es) (drop n es) ≡ (take (n + 1) es, drop (n + 1) es)
 moved_at n es l =

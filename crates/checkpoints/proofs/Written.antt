@@ -1,27 +1,23 @@
 -- What stands after the files of a checkpoint are written.
-use Rattle.std.proofs.Common.{◌≡◌, inl, ℕ, ◌+◌, ◌<◌, ◌≤◌, zero, suc, Bool, true, false, ◌||◌, List, [], ◌∷◌, map, length, Option, Some, None}
+use Rattle.std.proofs.Common.{◌≡◌, ◌⊎◌, inl, inr, ℕ, ◌+◌, ◌<◌, ◌≤◌, zero, suc, Bool, true, false, ◌||◌, List, [], ◌∷◌, map, length, Option, Some, None}
 use Rattle.std.proofs.Common.{refl, ap, sym, ◌∙◌, subst, arith, add-zero, zero-add}
 use Rattle.std.specs.Prelude.{IfSome, is_some, nat_eq}
 use Rattle.std.specs.List.{list_any, range_with_len}
 use Rattle.std.specs.Cmp.Lexicographic.{pointwise}
-use Rattle.std.specs.FinMap.{insert}
+use Rattle.std.specs.FinMap.{get, insert}
 use Rattle.std.proofs.lemmas.Bool.{false≢true, or_parts}
-use Rattle.outside.specs.Tree.{Files}
-use Rattle.outside.specs.Writes.{new_file}
+use Rattle.outside.specs.Tree.{Files, is_dir}
+use Rattle.outside.specs.Writes.{SameBut, new_file}
 use Rattle.outside.specs.Whole.{HoldsFile}
 use Rattle.outside.proofs.Saved.{put_one}
 use Rattle.flat_list.specs.declared.entries.Entry.{Entry}
 use Rattle.flat_list.specs.Spelling.{Spells}
-use Rattle.circle_lists.specs.declared.errors.ListsError.TheVariants as error
+use Rattle.flat_list.specs.declared.versions.Version.TheVariants.{Two}
 use Rattle.circle_lists.specs.Checkpoint.{file_path, HoldLists, SameButFiles}
-use Rattle.run_report.specs.declared.stops.Trouble.TheVariants as trouble
-use Rattle.run_report.specs.declared.stops.Stop.{Stop}
-use Rattle.run_report.specs.declared.stops.Stop.TheVariants as stop
-use Rattle.run_report.specs.Sides.{Side}
 use Rattle.run_entries.specs.Saving.{Saved, output_of, SameButAll, SameButOutputs}
-use Rattle.checkpoints.specs.Kept.{list_path, checkpoint_paths, IsKept}
-use Rattle.checkpoints.specs.Stopping.{WroteNoRanks}
-use Rattle.checkpoints.proofs.Paths.{file_differs, as_long}
+use Rattle.checkpoints.specs.Kept.{list_path, checkpoint_paths, IsKept, HoldsNewest}
+use Rattle.checkpoints.specs.Stopping.{IsGone, IsTorn}
+use Rattle.checkpoints.proofs.Paths.{file_differs, list_differs}
 
 -- ---- what the files hold
 
@@ -48,7 +44,20 @@ all_kept dir path done left (Some files) new is few holds saved =
     let put = saved.1.1 in
     let made : new ≡ Some (insert files (list_path dir) (new_file put.0)) =
     saved.2 ∙ put.3 ∙ ap (λ p. Some (insert files p (new_file put.0))) is in
-    subst (λ o. IfSome o (IsKept dir done left)) (sym made) (one_kept dir done left put.0 files few holds put.1)
+    subst (λ o. IfSome o (IsKept dir done left)) (sym made) (one_kept dir done left put.0 files few holds (record { version = Two; spells = put.1 }))
+
+-- and it holds its entries in version 2
+pub all_newest : (dir path : List ℕ) (done : List Entry) (mid new : Option Files) → path ≡ list_path dir → Saved (output_of (Some path) done) mid new →
+    IfSome new (HoldsNewest (list_path dir) done)
+all_newest dir path done None None is saved = tt
+all_newest dir path done None (Some after) is saved = absurd (false≢true (sym (ap is_some saved.2 ∙ saved.1.0)))
+all_newest dir path done (Some files) new is saved =
+    let put = saved.1.1 in
+    let made : new ≡ Some (insert files (list_path dir) (new_file put.0)) =
+    saved.2 ∙ put.3 ∙ ap (λ p. Some (insert files p (new_file put.0))) is in
+    let here = put_one files (list_path dir) (new_file put.0) in
+    subst (λ o. IfSome o (HoldsNewest (list_path dir) done)) (sym made)
+    (put.0, subst (HoldsFile put.0) (sym here.here) (record { is_file = refl; same = refl }), put.1)
 
 -- ---- what is as before
 
@@ -92,23 +101,83 @@ all_rest dir path ranks (Some old) (Some mid) None is wrote rest = tt
 all_rest dir path ranks (Some old) (Some mid) (Some new) is wrote rest =
     both_same dir ranks old mid new wrote.rest (subst (λ p. SameButAll (p ∷ []) mid new) is rest.1)
 
--- ---- a list file whose path would be too long
+-- the removal of the old list file, and what came after it
+pub record ClearedFirst (dir : List ℕ) (old mid : Option Files) : Type 0 where
+  pub tells : is_some mid ≡ is_some old
+  pub gone : IfSome old (λ files. IfSome mid (IsGone (list_path dir) files))
 
-ranks_still : (dir : List ℕ) (ranks : ℕ) (tree : Option Files) → IfSome tree (λ files. IfSome tree (SameButFiles dir ranks files))
-ranks_still dir ranks None = tt
-ranks_still dir ranks (Some files) = λ q off. refl
+gone_same : (dir : List ℕ) (ranks : ℕ) (old mid new : Files) → IsGone (list_path dir) old mid → SameButAll (checkpoint_paths dir ranks) mid new →
+    SameButAll (checkpoint_paths dir ranks) old new
+gone_same dir ranks old mid new gone later q off =
+    let here = (or_parts (pointwise nat_eq q (list_path dir)) (list_any (pointwise nat_eq q) (map (file_path dir) (range_with_len 0 ranks))) off).0 in
+    later q off ∙ gone.others q here
 
--- then the file of rank 0 has such a path too
-pub too_long : (dir : List ℕ) (ranks : ℕ) (before : Side) (why : Stop) → 4095 < length (list_path dir) → 1 ≤ ranks →
-    why ≡ stop.ListFile trouble.NoPlace dir → WroteNoRanks dir ranks before before why
-too_long dir ranks before why long some told = record {
-  error = error.NoPlace dir;
-  stops = record {
-    rank = 0;
-    within = omega (arith, some);
-    earlier = λ lower lt. absurd (omega (arith, lt));
-    stops = inl (record { folder = refl; long = omega (arith, long, as_long dir) });
-  };
-  told = told;
-  rest = ranks_still dir ranks before.tree;
-}
+pub cleared_rest : (dir : List ℕ) (ranks : ℕ) (old mid new : Option Files) → ClearedFirst dir old mid →
+    IfSome mid (λ files. IfSome new (SameButAll (checkpoint_paths dir ranks) files)) →
+    IfSome old (λ files. IfSome new (SameButAll (checkpoint_paths dir ranks) files))
+cleared_rest dir ranks None mid new first later = tt
+cleared_rest dir ranks (Some old) None new first later = absurd (false≢true first.tells)
+cleared_rest dir ranks (Some old) (Some mid) None first later = tt
+cleared_rest dir ranks (Some old) (Some mid) (Some new) first later = gone_same dir ranks old mid new first.gone later
+
+-- ---- what is torn
+
+list_only : (dir : List ℕ) (ranks : ℕ) (old new : Files) → SameBut (list_path dir) old new → SameButAll (checkpoint_paths dir ranks) old new
+list_only dir ranks old new same q off =
+    same q (or_parts (pointwise nat_eq q (list_path dir)) (list_any (pointwise nat_eq q) (map (file_path dir) (range_with_len 0 ranks))) off).0
+
+-- the old list file was not removed
+pub kept_rest : (dir : List ℕ) (ranks : ℕ) (old new : Option Files) → IfSome old (λ files. IfSome new (SameBut (list_path dir) files)) →
+    IfSome old (λ files. IfSome new (SameButAll (checkpoint_paths dir ranks) files))
+kept_rest dir ranks None new same = tt
+kept_rest dir ranks (Some old) None same = tt
+kept_rest dir ranks (Some old) (Some new) same = list_only dir ranks old new same
+
+pub kept_torn : (dir : List ℕ) (left : List (List (List ℕ))) (old new : Option Files) → IfSome old (λ files. IfSome new (SameBut (list_path dir) files)) →
+    IfSome old (λ files. IfSome new (IsTorn dir left files))
+kept_torn dir left None new same = tt
+kept_torn dir left (Some old) None same = tt
+kept_torn dir left (Some old) (Some new) same = inr (inr (inl same))
+
+pub still_torn : (dir : List ℕ) (left : List (List (List ℕ))) (tree : Option Files) → IfSome tree (λ files. IfSome tree (IsTorn dir left files))
+still_torn dir left None = tt
+still_torn dir left (Some files) = inr (inr (inl (λ q off. refl)))
+
+-- the ranks' files were not all written
+ranks_off : (dir : List ℕ) (left : List (List (List ℕ))) (ranks : ℕ) (old mid new : Files) → ranks ≤ 64 → IsGone (list_path dir) old mid →
+    SameButFiles dir ranks mid new → IsTorn dir left old new
+ranks_off dir left ranks old mid new few gone later =
+    let here : get new (list_path dir) ≡ get mid (list_path dir) = later (list_path dir) (λ rank lt. list_differs dir rank (omega (arith, lt, few))) in
+    by_gone gone.gone here
+  where
+    by_gone : (get mid (list_path dir) ≡ None) ⊎ ((is_dir (get old (list_path dir)) ≡ true) × (mid ≡ old)) →
+        get new (list_path dir) ≡ get mid (list_path dir) → IsTorn dir left old new
+    by_gone (inl none) here = inl (here ∙ none)
+    by_gone (inr stays) here = inr (inl (ap is_dir (here ∙ ap (λ files. get files (list_path dir)) stays.1) ∙ stays.0))
+
+pub ranks_torn : (dir : List ℕ) (left : List (List (List ℕ))) (ranks : ℕ) (old mid new : Option Files) → ranks ≤ 64 → ClearedFirst dir old mid →
+    IfSome mid (λ files. IfSome new (SameButFiles dir ranks files)) → IfSome old (λ files. IfSome new (IsTorn dir left files))
+ranks_torn dir left ranks None mid new few first later = tt
+ranks_torn dir left ranks (Some old) None new few first later = absurd (false≢true first.tells)
+ranks_torn dir left ranks (Some old) (Some mid) None few first later = tt
+ranks_torn dir left ranks (Some old) (Some mid) (Some new) few first later = ranks_off dir left ranks old mid new few first.gone later
+
+-- they were, and the list file was not
+held_still : (dir path : List ℕ) (left : List (List (List ℕ))) (mid new : Files) → path ≡ list_path dir → length left ≤ 64 → HoldLists dir left mid →
+    SameButAll (path ∷ []) mid new → HoldLists dir left new
+held_still dir path left mid new is few holds same rank lt =
+    let held = holds rank lt in
+    let differs = ap (λ p. pointwise nat_eq (file_path dir rank) p) is ∙ file_differs dir rank (omega (arith, lt, few)) in
+    record {
+      bytes = held.bytes;
+      file = subst (HoldsFile held.bytes) (sym (same (file_path dir rank) (ap (λ b. b || false) differs))) held.file;
+      spells = held.spells;
+    }
+
+pub list_torn : (dir path : List ℕ) (left : List (List (List ℕ))) (old mid new : Option Files) → path ≡ list_path dir → length left ≤ 64 →
+    IfSome mid (HoldLists dir left) → SameButOutputs (path ∷ []) mid new → is_some mid ≡ is_some old →
+    IfSome old (λ files. IfSome new (IsTorn dir left files))
+list_torn dir path left None mid new is few holds same tells = tt
+list_torn dir path left (Some old) None new is few holds same tells = absurd (false≢true tells)
+list_torn dir path left (Some old) (Some mid) None is few holds same tells = tt
+list_torn dir path left (Some old) (Some mid) (Some new) is few holds same tells = inr (inr (inr (held_still dir path left mid new is few holds same.1)))

@@ -7,7 +7,8 @@ use Rattle.path_text.specs.Path.{joined}
 use Rattle.outside.specs.Tree.{Files}
 use Rattle.outside.specs.Whole.{HoldsFile}
 use Rattle.flat_list.specs.declared.entries.Entry.{Entry}
-use Rattle.flat_list.specs.Spelling.{Spells}
+use Rattle.flat_list.specs.Spelling.{Spells, SpellsAs}
+use Rattle.flat_list.specs.declared.versions.Version.TheVariants.{Two}
 use Rattle.circle_lists.specs.Spelling.{IsRank}
 use Rattle.circle_lists.specs.Checkpoint.{file_path, HoldLists}
 use Rattle.run_report.specs.Sides.{Side}
@@ -25,6 +26,10 @@ checkpoint_paths dir ranks = list_path dir ∷ map (file_path dir) (range_with_l
 -- the file at the path is the list file of the entries
 abbrev pub HoldsEntries : List ℕ → List Entry → Files → Type 0
 HoldsEntries path entries files = (bytes : List ℕ) × HoldsFile bytes (get files path) × Spells bytes entries
+
+-- the same, in version 2 of list files, in which lists are written
+abbrev pub HoldsNewest : List ℕ → List Entry → Files → Type 0
+HoldsNewest path entries files = (bytes : List ℕ) × HoldsFile bytes (get files path) × SpellsAs Two bytes entries
 
 -- the folder's files hold these done entries and, by rank, these left strings
 pub record IsKept (dir : List ℕ) (done : List Entry) (left : List (List (List ℕ))) (files : Files) : Type 0 where

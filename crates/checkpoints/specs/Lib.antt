@@ -4,3 +4,4 @@ pub mod Lefts
 pub mod Kept
 pub mod Stopping
 pub mod Laws
+pub mod PrivateRemoval

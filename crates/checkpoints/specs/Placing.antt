@@ -3,8 +3,7 @@ use Rattle.std.specs.Prelude.{◌≡◌, ℕ, Bool, true, false, not, ◌&&◌, 
 use Rattle.std.specs.List.{flat_map, list_any, count_by}
 use Rattle.outside.specs.declared.trees.Kind.TheVariants as kind
 use Rattle.flat_list.specs.declared.entries.Entry.{Entry}
-use Rattle.flat_list.specs.Entries.{is_of}
-use Rattle.tree_walk.specs.Held.{is_fine}
+use Rattle.flat_list.specs.Entries.{is_of, is_fine}
 use Rattle.tree_walk.specs.Roots.{is_in}
 
 -- what is under it may still be left: a directory whose names were told

@@ -1,5 +1,9 @@
 -- Why no checkpoint is read or written, step by step. Our own.
-use Rattle.std.specs.Prelude.{◌≡◌, ◌⊎◌, ℕ, ◌+◌, ◌<◌, ◌≤◌, List, length, Some, is_some, IfSome}
+use Rattle.std.specs.Prelude.{◌≡◌, ◌⊎◌, ℕ, ◌+◌, ◌<◌, ◌≤◌, true, List, length, Some, None, is_some, IfSome}
+use Rattle.std.specs.FinMap.{get}
+use Rattle.outside.specs.Count.{RoseBy}
+use Rattle.outside.specs.Tree.{Files, is_dir}
+use Rattle.outside.specs.Writes.{SameBut}
 use Rattle.flat_list.specs.declared.entries.Entry.{Entry}
 use Rattle.circle_lists.specs.declared.errors.ListsError.{ListsError}
 use Rattle.circle_lists.specs.declared.errors.ListsError.TheVariants as error
@@ -68,7 +72,28 @@ StopsReading dir before after why =
 
 -- ---- writing
 
--- the ranks' files were not written, and every path but theirs is as before, that of the list file too
+-- the path of the list file would be too long: the folder is told
+pub record HasNoName (dir : List ℕ) (why : Stop) : Type 0 where
+  pub long : 4095 < length (list_path dir)
+  pub told : why ≡ stop.ListFile trouble.NoPlace dir
+
+-- the old list file was not removed
+pub record KeptOldList (dir : List ℕ) (before after : Side) (why : Stop) : Type 0 where
+  pub counted : RoseBy 1 before.count after.count
+  pub told : why ≡ stop.ListFile trouble.Fault (list_path dir)
+
+-- nothing is at the path any more, or a directory that was there; every other path is as before
+pub record IsGone (path : List ℕ) (old new : Files) : Type 0 where
+  pub others : SameBut path old new
+  pub gone : (get new path ≡ None) ⊎ ((is_dir (get old path) ≡ true) × (new ≡ old))
+
+-- the old list file was removed, if there was one
+pub record IsCleared (dir : List ℕ) (before after : Side) : Type 0 where
+  pub tells : is_some after.tree ≡ is_some before.tree
+  pub gone : IfSome before.tree (λ old. IfSome after.tree (IsGone (list_path dir) old))
+  pub kept : before.count ≤ after.count
+
+-- the ranks' files were not written, and every path but theirs is as before
 pub record WroteNoRanks (dir : List ℕ) (ranks : ℕ) (before after : Side) (why : Stop) : Type 0 where
   pub error : ListsError
   pub stops : lists.StopsWriting dir ranks before.tree before.count after.count error
@@ -84,7 +109,20 @@ pub record WroteNoList (dir : List ℕ) (ranks : ℕ) (done : List Entry) (befor
   pub kept : before.count ≤ between.count
   pub stops : StopsSaving (output_of (Some (list_path dir)) done) between after why
 
+-- the old list file was removed, and then not all was written
+pub record WroteTorn (dir : List ℕ) (ranks : ℕ) (done : List Entry) (before after : Side) (why : Stop) : Type 0 where
+  pub between : Side
+  pub cleared : IsCleared dir before between
+  pub still : between.count ≤ after.count
+  pub stops : WroteNoRanks dir ranks between after why ⊎ WroteNoList dir ranks done between after why
+
 -- no checkpoint was written
 abbrev pub StopsWriting : List ℕ → ℕ → List Entry → Side → Side → Stop → Type 0
 StopsWriting dir ranks done before after why =
-    (why ≡ stop.OutOfMemory) ⊎ WroteNoRanks dir ranks before after why ⊎ WroteNoList dir ranks done before after why
+    (why ≡ stop.OutOfMemory) ⊎ HasNoName dir why ⊎ KeptOldList dir before after why ⊎ WroteTorn dir ranks done before after why
+
+-- what stands in the folder then: no list file, or a directory at its path, so that no checkpoint is read; or every file but that one as before;
+-- or the files of all ranks
+abbrev pub IsTorn : List ℕ → List (List (List ℕ)) → Files → Files → Type 0
+IsTorn dir left old new =
+    (get new (list_path dir) ≡ None) ⊎ (is_dir (get new (list_path dir)) ≡ true) ⊎ SameBut (list_path dir) old new ⊎ HoldLists dir left new

@@ -1,7 +1,7 @@
 //! What dcmp does.
 ghost use Rattle.std.specs.Prelude.{◌≡◌, [], IfOk, IfErr};
 ghost use Rattle.outside.specs.Count.{RoseBy};
-ghost use Rattle.outside.specs.Writes.{all_but};
+ghost use Rattle.outside.specs.Writes.{nothing_lent};
 ghost use Rattle.tool_words.specs.Limits.{WithinCompare};
 ghost use Rattle.run_report.specs.Sides.{side_of};
 ghost use Rattle.compare_report.specs.Comparing.{compare_asked, ReportsCompare, StopsCompare, LeavesCompare};
@@ -42,12 +42,12 @@ pub fn report_of_compare<T: Threads + Wait + Sync, G: Ground>(
 ) -> Result<Report, Stop>
 where
     G::Reader: Send,
-    requires lent { G.area files.old ≡ all_but [] }
+    requires lent { G.area files.old ≡ nothing_lent }
     requires within { WithinCompare (compare_asked task) }
     ensures reports { IfOk result (ReportsCompare (compare_asked task) (side_of (G.tree files.old) (G.count files.old)) (side_of (G.tree files.new) (G.count files.new))) }
     ensures stops { IfErr result (StopsCompare (compare_asked task) (side_of (G.tree files.old) (G.count files.old)) (side_of (G.tree files.new) (G.count files.new))) }
     ensures leaves { LeavesCompare (compare_asked task) (G.tree files.old) (G.tree files.new) }
-    ensures lent { G.area files.new ≡ all_but [] }
+    ensures lent { G.area files.new ≡ nothing_lent }
     ensures count { RoseBy 0 (G.count files.old) (G.count files.new) }
 {
     let CompareTask {

@@ -8,12 +8,13 @@ use Rattle.std.specs.Cmp.Lexicographic.{pointwise, bytes_decides}
 use Rattle.path_text.specs.Path.{refusal, parent_of}
 use Rattle.path_text.specs.Order.{front, is_under, is_within}
 use Rattle.path_text.specs.Graft.{grafted, below_of}
-use Rattle.path_text.proofs.Under.{names_under, is_under_by, contiguous}
+use Rattle.path_text.proofs.Carried.{grafted_itself, parent_moves_too}
+use Rattle.path_text.proofs.Parents.{parent_under}
+use Rattle.path_text.proofs.Within.{never_under_itself, same_or_under, under_no_root, under_within, within_up}
 use Rattle.outside.specs.Tree.{is_root}
 use Rattle.tree_copy.specs.Copying.{target_of}
 use Rattle.tree_copy.specs.Placing.{overlap}
 use Rattle.tree_copy.specs.declared.pairs.Pair.{Pair}
-use Rattle.copy_report.proofs.Parents.{cut, or_under, under_no_root, goes_under, grafted_itself}
 
 -- ---- what stands in a list of paths
 
@@ -38,25 +39,15 @@ one_off f x [] i e = absurd i
 one_off f x (y ∷ ys) i e =
     let n = or_parts (f y) (list_any f ys) e in ⊎_elim (λ is. ap f is ∙ n.0) (λ j. one_off f x ys j n.1) i
 
-not_under_itself : (x : List ℕ) → is_under x x ≡ true → ⊥
-not_under_itself x u = let n = names_under x x u in long x n.names n.some n.whole
-  where
-    long : (x r : List ℕ) → 0 < length r → x ≡ front x ++ r → ⊥
-    long x r some e = absurd (omega (arith, some, ap length e, length-append (front x) r, grows x))
-      where
-        grows : (x : List ℕ) → length x ≤ length (front x)
-        grows x = elim (length x == 1) as (λ b. length x ≤ length (cond b x (x ++ 47 ∷ [])))
-            [ true ↦ omega arith | false ↦ omega (arith, length-append x (47 ∷ [])) ]
-
 -- of paths that do not overlap none is under another
 pub none_under : (a b : List ℕ) (xs : List (List ℕ)) → overlap xs ≡ false → In a xs → In b xs → is_under a b ≡ true → ⊥
 none_under a b [] off i j u = absurd i
 none_under a b (x ∷ xs) off i j u =
     let n = or_parts (list_any (λ other. is_within x other || is_within other x) xs) (overlap xs) off in
-    let within = or_under a b u in
+    let within = under_within a b u in
     ⊎_elim
     (λ is. ⊎_elim
-    (λ same. not_under_itself a (subst (λ y. is_under a y ≡ true) (same ∙ sym is) u))
+    (λ same. never_under_itself a (subst (λ y. is_under a y ≡ true) (same ∙ sym is) u))
     (λ later. false≢true (sym (or_parts (is_within x b) (is_within b x) (one_off (λ other. is_within x other || is_within other x) b xs later n.0)).0
     ∙ subst (λ y. is_within y b ≡ true) is within)) j)
     (λ later. ⊎_elim
@@ -98,21 +89,9 @@ pub record GoesDeeper (P : Pair → Type 0) (pairs : List Pair) (p : List ℕ) :
 abbrev pub AreValid : Pair → Type 0
 AreValid pair = (refusal pair.source ≡ None) × (refusal pair.target ≡ None)
 
-within_parts : (x p : List ℕ) → is_within x p ≡ true → (x ≡ p) ⊎ (is_under x p ≡ true)
-within_parts x p e = elim (pointwise nat_eq x p) as (λ b. pointwise nat_eq x p ≡ b → (b || is_under x p) ≡ true → (x ≡ p) ⊎ (is_under x p ≡ true)) [
-  | true ↦ λ is _. inl ((bytes_decides x p).0 is)
-  | false ↦ λ _ u. inr u
-] refl e
-
 -- a path is under its parent, and so within all that its parent is within
-pub under_parent : (p : List ℕ) → refusal p ≡ None → is_root p ≡ false → is_under p (parent_of p) ≡ true
-under_parent p v off = let c = cut p v off in is_under_by p (parent_of p) c.name c.whole c.some
-
 within_parent : (p s : List ℕ) → refusal p ≡ None → is_root p ≡ false → is_within (parent_of p) s ≡ true → is_within p s ≡ true
-within_parent p s v off w =
-    let u = under_parent p v off in
-    ⊎_elim (λ is. or_under p s (subst (λ y. is_under p y ≡ true) is u)) (λ d. or_under p s (contiguous.deeper p (parent_of p) s u d))
-    (within_parts (parent_of p) s w)
+within_parent p s v off w = within_up p (parent_of p) s (parent_under p v off) w
 
 chosen : (pair : Pair) (pairs : List Pair) (p : List ℕ) → is_within p pair.source ≡ true →
     target_of (pair ∷ pairs) p ≡ grafted pair.target (below_of p pair.source)
@@ -121,15 +100,15 @@ chosen pair pairs p w = ap (λ b. cond b (grafted pair.target (below_of p pair.s
 passed : (pair : Pair) (pairs : List Pair) (p : List ℕ) → is_within p pair.source ≡ false → target_of (pair ∷ pairs) p ≡ target_of pairs p
 passed pair pairs p w = ap (λ b. cond b (grafted pair.target (below_of p pair.source)) (target_of pairs p)) w
 
-pub goes : (P : Pair → Type 0) (pairs : List Pair) (p : List ℕ) → refusal p ≡ None → (is_root p ≡ false → refusal (parent_of p) ≡ None) →
+pub goes : (P : Pair → Type 0) (pairs : List Pair) (p : List ℕ) → refusal p ≡ None →
     AllByRecursion AreValid pairs → AllByRecursion P pairs → list_any (λ pair. is_within p pair.source) pairs ≡ true →
     GoesFirst P pairs p ⊎ GoesDeeper P pairs p
-goes P [] p v q valid holds e = absurd (false≢true e)
-goes P (pair ∷ pairs) p v q valid holds e =
+goes P [] p v valid holds e = absurd (false≢true e)
+goes P (pair ∷ pairs) p v valid holds e =
     elim (is_within p pair.source) as (λ b. is_within p pair.source ≡ b → (b || list_any (λ pair. is_within p pair.source) pairs) ≡ true →
     GoesFirst P (pair ∷ pairs) p ⊎ GoesDeeper P (pair ∷ pairs) p) [
-      | true ↦ λ w _. ⊎_elim (λ is. inl (at is w)) (λ u. inr (deeper u w)) (within_parts p pair.source w)
-      | false ↦ λ w more. ⊎_elim (λ f. inl (first w f)) (λ d. inr (later w d)) (goes P pairs p v q valid.1 holds.1 more)
+      | true ↦ λ w _. ⊎_elim (λ is. inl (at is w)) (λ u. inr (deeper u w)) (same_or_under p pair.source w)
+      | false ↦ λ w more. ⊎_elim (λ f. inl (first w f)) (λ d. inr (later w d)) (goes P pairs p v valid.1 holds.1 more)
     ] refl e
   where
     at : p ≡ pair.source → is_within p pair.source ≡ true → GoesFirst P (pair ∷ pairs) p
@@ -142,13 +121,13 @@ goes P (pair ∷ pairs) p v q valid holds e =
 
     deeper : is_under p pair.source ≡ true → is_within p pair.source ≡ true → GoesDeeper P (pair ∷ pairs) p
     deeper u w =
-        let g = goes_under pair.target pair.source p valid.0.1 valid.0.0 v (q (under_no_root p pair.source valid.0.0 u)) u in
         record {
           pair = pair;
           holds = holds.0;
           under = u;
-          lower = under_no_root p pair.source valid.0.0 u;
-          goes = ap parent_of (chosen pair pairs p w) ∙ g.goes ∙ sym (chosen pair pairs (parent_of p) g.within);
+          lower = under_no_root p pair.source u;
+          goes = ap parent_of (chosen pair pairs p w) ∙ parent_moves_too.moved p pair.source pair.target v valid.0.0 valid.0.1 u
+              ∙ sym (chosen pair pairs (parent_of p) (parent_moves_too.within p pair.source v valid.0.0 u));
         }
 
     first : is_within p pair.source ≡ false → GoesFirst P pairs p → GoesFirst P (pair ∷ pairs) p

@@ -11,6 +11,7 @@ use Rattle.std.specs.Cmp.Lexicographic.{pointwise, bytes_decides}
 use Rattle.path_text.specs.Graft.{grafted, below_of}
 use Rattle.path_text.specs.Order.{is_within}
 use Rattle.path_text.specs.Path.{is_slash, parent_of, joined}
+use Rattle.path_text.proofs.Parents.{parent_some}
 use Rattle.outside.specs.Tree.{Files}
 use Rattle.flat_list.specs.declared.entries.Entry.{Entry}
 use Rattle.flat_list.specs.Spelling.{paths}
@@ -38,13 +39,6 @@ shorter : (t : List ℕ) → 1 < length (parent_of t) → length (parent_of t) <
 shorter [] long = absurd (omega (arith, long))
 shorter (b ∷ t) long = root_or (length (b ∷ t)) (before_last is_slash (b ∷ t))
     (before_short (suffix_len (λ x. not (is_slash x)) (b ∷ t)) (b ∷ t) (omega arith)) long
-
-parent_some : (t : List ℕ) → 0 < length (parent_of t)
-parent_some t = by (before_last is_slash t)
-  where
-    by : (before : List ℕ) → 0 < length (cond (length before == 0) (47 ∷ []) before)
-    by [] = omega arith
-    by (b ∷ before) = elim (length (b ∷ before) == 0) as (λ c. 0 < length (cond c (47 ∷ []) (b ∷ before))) [ true ↦ omega arith | false ↦ omega arith ]
 
 -- ---- a target is long, where all targets of sources are
 

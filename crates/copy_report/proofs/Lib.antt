@@ -3,7 +3,6 @@ pub mod Fated
 pub mod Inside
 pub mod Listed
 pub mod Named
-pub mod Parents
 pub mod Placed
 pub mod Ready
 pub mod Steps

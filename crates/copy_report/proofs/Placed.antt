@@ -6,6 +6,7 @@ use Rattle.std.proofs.lemmas.List.Elements.{recursion_from_All}
 use Rattle.std.specs.Prelude.{◌==◌}
 use Rattle.std.specs.FinMap.{get}
 use Rattle.std.specs.List.{All, AllByRecursion}
+use Rattle.path_text.proofs.Within.{within_root}
 use Rattle.path_text.specs.Order.{is_within}
 use Rattle.path_text.specs.Path.{refusal, parent_of, joined, base_of}
 use Rattle.path_text.proofs.Joined.{first_slash}
@@ -24,7 +25,6 @@ use Rattle.copy_report.specs.Placing.{Places}
 use Rattle.copy_report.specs.PrivateSteps.{ArePlaced, HasPaths, StopsPlacing}
 use Rattle.copy_report.proofs.Apart.{In, none_within}
 use Rattle.copy_report.proofs.Fated.{IsLong}
-use Rattle.copy_report.proofs.Parents.{itself, or_under}
 
 -- ---- what was placed
 
@@ -132,13 +132,6 @@ target_slashed : (in_dir : Bool) (dest source : List ℕ) → refusal dest ≡ N
 target_slashed true dest source v = elim (is_root source) as (λ b. Slashed (cond b dest (joined dest (base_of source))))
     [ true ↦ slashed dest v | false ↦ joined_slashed dest (base_of source) v ]
 target_slashed false dest source v = slashed dest v
-
-within_root : (p : List ℕ) → refusal p ≡ None → is_within p (47 ∷ []) ≡ true
-within_root p v = let s = slashed p v in subst (λ q. is_within q (47 ∷ []) ≡ true) (sym s.is) (by s.rest)
-  where
-    by : (rest : List ℕ) → is_within (47 ∷ rest) (47 ∷ []) ≡ true
-    by [] = itself (47 ∷ []) (47 ∷ []) refl
-    by (b ∷ rest) = or_under (47 ∷ b ∷ rest) (47 ∷ []) (is_under_by (47 ∷ b ∷ rest) (47 ∷ []) (b ∷ rest) refl (omega arith))
 
 longer : (s t : List ℕ) → refusal s ≡ None → is_within s t ≡ false → (rest : List ℕ) → t ≡ 47 ∷ rest → 1 < length t
 longer s t v off [] is = absurd (false≢true (sym off ∙ ap (is_within s) is ∙ within_root s v))

@@ -28,7 +28,6 @@ use Rattle.copy_report.specs.PrivateSteps.{ArePlaced, HasPaths}
 use Rattle.copy_report.proofs.Apart.{In, in_list, in_front, none_under, AreValid, goes}
 use Rattle.copy_report.proofs.Inside.{root_of, within_source}
 use Rattle.copy_report.proofs.Listed.{Has, has_target, come}
-use Rattle.copy_report.proofs.Parents.{parent_valid}
 
 weaker : {X : Type 0} (P Q : X → Type 0) → ((x : X) → P x → Q x) → (xs : List X) → AllByRecursion P xs → AllByRecursion Q xs
 weaker P Q t [] h = h
@@ -128,7 +127,7 @@ module _ (files : Files) (pairs : List Pair) (roots : List (List ℕ)) (r : AreR
       (in_front e.path (sources_of pairs) (map (λ p. p.target) pairs) (in_sources pairs roots r.among e.path i)) d.holds.1 d.under))
       (λ has. absurd (false≢true (sym off ∙ ap (is_target pairs list) d.goes ∙ has_target pairs list (parent_of e.path) has)))
       comes)
-      (goes (Stands files pairs) pairs e.path v (λ _. parent_valid e.path v) r.valid ends s)
+      (goes (Stands files pairs) pairs e.path v r.valid ends s)
 
   all : (es : List Entry) → AllByRecursion (λ e. refusal e.path ≡ None) es → AllByRecursion (IsSourced pairs) es →
       AllByRecursion (λ e. In e.path roots ⊎ Has list (parent_of e.path)) es → AllByRecursion (StandsIn files pairs list) es

@@ -1,7 +1,7 @@
 //! What dcp does.
 ghost use Rattle.std.specs.Prelude.{◌≡◌, [], Ok, IfOk, IfErr};
 ghost use Rattle.outside.specs.Count.{RoseBy};
-ghost use Rattle.outside.specs.Writes.{all_but};
+ghost use Rattle.outside.specs.Writes.{nothing_lent};
 ghost use Rattle.tool_words.specs.Limits.{WithinCopy};
 ghost use Rattle.run_report.specs.Sides.{side_of};
 ghost use Rattle.copy_report.specs.Copying.{copy_asked, ReportsCopy, StopsCopy, LeavesCopy};
@@ -41,12 +41,12 @@ pub fn report_of_copy<T: Threads + Wait + Sync, G: Ground>(
 where
     G::Reader: Send,
     G::Part: Send,
-    requires lent { G.area files.old ≡ all_but [] }
+    requires lent { G.area files.old ≡ nothing_lent }
     requires within { WithinCopy (copy_asked task) }
     ensures reports { IfOk result (ReportsCopy (copy_asked task) (side_of (G.tree files.old) (G.count files.old)) (side_of (G.tree files.new) (G.count files.new))) }
     ensures stops { IfErr result (StopsCopy (copy_asked task) (side_of (G.tree files.old) (G.count files.old)) (side_of (G.tree files.new) (G.count files.new))) }
     ensures leaves { LeavesCopy (copy_asked task) (side_of (G.tree files.old) (G.count files.old)) (side_of (G.tree files.new) (G.count files.new)) }
-    ensures lent { G.area files.new ≡ all_but [] }
+    ensures lent { G.area files.new ≡ nothing_lent }
     ensures count { RoseBy 0 (G.count files.old) (G.count files.new) }
 {
     let CopyTask {

@@ -1,7 +1,7 @@
 //! What is asked for, done up to the texts, a line a tool.
 ghost use Rattle.std.specs.Prelude.{◌≡◌, [], IfOk, IfErr, true};
 ghost use Rattle.outside.specs.Count.{RoseBy};
-ghost use Rattle.outside.specs.Writes.{all_but};
+ghost use Rattle.outside.specs.Writes.{nothing_lent};
 ghost use Rattle.tool_words.specs.Asked.{asked_by};
 ghost use Rattle.tool_words.specs.Limits.{Within};
 ghost use Rattle.run_report.specs.Sides.{side_of};
@@ -30,13 +30,13 @@ pub(crate) fn report_of<T: Threads + Wait + Sync, G: Ground>(
 where
     G::Reader: Send,
     G::Part: Send,
-    requires lent { G.area files.old ≡ all_but [] }
+    requires lent { G.area files.old ≡ nothing_lent }
     requires within { Within (asked_by command) }
     ensures reports { IfOk result (Reports (asked_by command) now (side_of (G.tree files.old) (G.count files.old)) (side_of (G.tree files.new) (G.count files.new))) }
     ensures stops { IfErr result (Stops (asked_by command) (side_of (G.tree files.old) (G.count files.old)) (side_of (G.tree files.new) (G.count files.new))) }
     ensures leaves { Leaves (asked_by command) now (side_of (G.tree files.old) (G.count files.old)) (side_of (G.tree files.new) (G.count files.new)) }
     ensures apart { is_apart (asked_by command) ≡ true → files.new ≡ files.old }
-    ensures lent { G.area files.new ≡ all_but [] }
+    ensures lent { G.area files.new ≡ nothing_lent }
     ensures count { RoseBy 0 (G.count files.old) (G.count files.new) }
 {
     // The count of faults is a number of 64 bits.

@@ -1,7 +1,7 @@
 //! The run.
 ghost use Rattle.std.specs.Prelude.{◌≡◌, ◌⊎◌, ◌<◌, [], ℕ, map, string_bytes, Ok, Err, IfOk, IfErr, IfSome, IsErr, true};
 ghost use Rattle.outside.specs.Count.{RoseBy, StoodStill};
-ghost use Rattle.outside.specs.Writes.{all_but};
+ghost use Rattle.outside.specs.Writes.{nothing_lent};
 ghost use Rattle.tool_words.specs.Asked.{asked_by};
 ghost use Rattle.tool_words.specs.Refusals.{refusal_in};
 ghost use Rattle.tool_words.specs.Words.{reading};
@@ -40,8 +40,8 @@ where
     G::Reader: Send,
     G::Part: Send,
     // No part of the files is lent to anybody, and none is after the run.
-    requires lent { G.area files.old ≡ all_but [] }
-    ensures lent { G.area files.new ≡ all_but [] }
+    requires lent { G.area files.old ≡ nothing_lent }
+    ensures lent { G.area files.new ≡ nothing_lent }
 
     // Every path of the files but those that the tool may change is as before, and no count falls.
     ensures rest { IfOk (reading (map string_bytes words.now)) (λ asked. Leaves asked now (side_of (G.tree files.old) (G.count files.old)) (side_of (G.tree files.new) (G.count files.new))) }

@@ -1,7 +1,7 @@
 //! What the words of dwalk ask for: a list, or a stage of a walk.
 ghost use Rattle.std.specs.Prelude.{◌≡◌, [], IfOk, IfErr, None};
 ghost use Rattle.outside.specs.Count.{RoseBy};
-ghost use Rattle.outside.specs.Writes.{all_but};
+ghost use Rattle.outside.specs.Writes.{nothing_lent};
 ghost use Rattle.tool_words.specs.Asked.{asked_by};
 ghost use Rattle.tool_words.specs.Limits.{Within};
 ghost use Rattle.run_report.specs.Sides.{side_of};
@@ -88,12 +88,12 @@ pub(crate) fn report_of_walk<T: Threads + Wait + Sync, G: Ground>(
 ) -> Result<Report, Stop>
 where
     G::Reader: Send,
-    requires lent { G.area files.old ≡ all_but [] }
+    requires lent { G.area files.old ≡ nothing_lent }
     requires within { Within (asked_of task) }
     ensures reports { IfOk result (Reports (asked_of task) now (side_of (G.tree files.old) (G.count files.old)) (side_of (G.tree files.new) (G.count files.new))) }
     ensures stops { IfErr result (Stops (asked_of task) (side_of (G.tree files.old) (G.count files.old)) (side_of (G.tree files.new) (G.count files.new))) }
     ensures leaves { Leaves (asked_of task) now (side_of (G.tree files.old) (G.count files.old)) (side_of (G.tree files.new) (G.count files.new)) }
-    ensures lent { G.area files.new ≡ all_but [] }
+    ensures lent { G.area files.new ≡ nothing_lent }
     ensures count { RoseBy 0 (G.count files.old) (G.count files.new) }
 {
     match task {

@@ -1,7 +1,7 @@
 //! The removal, where it is asked for.
 ghost use Rattle.std.specs.Prelude.{◌≡◌, ◌≤◌, [], true, IfOk, IfSome, is_some};
 ghost use Rattle.outside.specs.Count.{RoseBy};
-ghost use Rattle.outside.specs.Writes.{all_but};
+ghost use Rattle.outside.specs.Writes.{nothing_lent};
 ghost use Rattle.flat_list.specs.Spelling.{paths};
 ghost use Rattle.std.specs.List.{count_by};
 ghost use Rattle.tree_remove.specs.Removing.{AreChosen, AreThere, SameButChosen, is_done};
@@ -30,7 +30,7 @@ pub(crate) fn remove_unless<T: Threads + Sync, G: Ground>(
 where
     G::Part: Send,
     requires within { CommonWithin common.now }
-    requires lent { G.area files.old ≡ all_but [] }
+    requires lent { G.area files.old ≡ nothing_lent }
     requires chosen { AreChosen chosen.now }
     requires there { IfSome (G.tree files.old) (AreThere chosen.now) }
     ensures acts { IfOk result (λ report. Acts dryrun chosen.now (rows_in report) (side_of (G.tree files.old) (G.count files.old)) (side_of (G.tree files.new) (G.count files.new))) }
@@ -38,7 +38,7 @@ where
     ensures rest { IfSome (G.tree files.old) (λ before. IfSome (G.tree files.new) (SameButChosen (paths chosen.now) before)) }
     ensures dry { dryrun ≡ true → G.tree files.new ≡ G.tree files.old }
     ensures tells { is_some (G.tree files.new) ≡ is_some (G.tree files.old) }
-    ensures lent { G.area files.new ≡ all_but [] }
+    ensures lent { G.area files.new ≡ nothing_lent }
     ensures count { RoseBy 0 (G.count files.old) (G.count files.new) }
 {
     // The count of faults is a number of 64 bits.

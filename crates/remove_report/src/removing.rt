@@ -2,7 +2,7 @@
 ghost use Rattle.std.specs.Prelude.{◌≡◌, [], IfOk, IfErr, IfSome};
 ghost use Rattle.std.specs.List.{count_by};
 ghost use Rattle.outside.specs.Count.{RoseBy};
-ghost use Rattle.outside.specs.Writes.{all_but};
+ghost use Rattle.outside.specs.Writes.{nothing_lent};
 ghost use Rattle.tree_remove.specs.Removing.{is_done};
 ghost use Rattle.tool_words.specs.Limits.{WithinRemove};
 ghost use Rattle.run_report.specs.Sides.{side_of};
@@ -47,12 +47,12 @@ pub fn report_of_remove<T: Threads + Wait + Sync, G: Ground>(
 where
     G::Reader: Send,
     G::Part: Send,
-    requires lent { G.area files.old ≡ all_but [] }
+    requires lent { G.area files.old ≡ nothing_lent }
     requires within { WithinRemove (remove_asked task) }
     ensures reports { IfOk result (ReportsRemove (remove_asked task) now (side_of (G.tree files.old) (G.count files.old)) (side_of (G.tree files.new) (G.count files.new))) }
     ensures stops { IfErr result (StopsRemove (remove_asked task) (side_of (G.tree files.old) (G.count files.old)) (side_of (G.tree files.new) (G.count files.new))) }
     ensures leaves { LeavesRemove (remove_asked task) now (side_of (G.tree files.old) (G.count files.old)) (side_of (G.tree files.new) (G.count files.new)) }
-    ensures lent { G.area files.new ≡ all_but [] }
+    ensures lent { G.area files.new ≡ nothing_lent }
     ensures count { RoseBy 0 (G.count files.old) (G.count files.new) }
 {
     let RemoveTask {

@@ -17,7 +17,8 @@ use Rattle.outside.specs.Count.{RoseBy, StoodStill}
 use Rattle.outside.specs.Whole.{HoldsFile, can_save}
 use Rattle.flat_list.specs.declared.entries.Entry.{Entry}
 use Rattle.flat_list.specs.declared.entries.Mark.TheVariants as mark
-use Rattle.flat_list.specs.Spelling.{Spells, SpellsOne, RefusesExactly, IsRefused, IsTooLong}
+use Rattle.flat_list.specs.declared.versions.Version.TheVariants.{Two}
+use Rattle.flat_list.specs.Spelling.{Spells, SpellsAs, SpellsOne, RefusesExactly, IsRefused, IsTooLong}
 use Rattle.path_looks.specs.declared.looks.Look.{Look}
 use Rattle.path_looks.specs.declared.looks.Seen.{Seen}
 use Rattle.path_looks.specs.declared.looks.Seen.TheVariants as seen
@@ -234,7 +235,7 @@ is_free node = is_none node || is_file node
 no_dir_body : (b : Body) → is_dir_body b ≡ true → is_file_body b ≡ true → ⊥
 no_dir_body (dir far) d f = false≢true f
 no_dir_body (file bytes) d f = false≢true d
-no_dir_body link d f = false≢true d
+no_dir_body (link text) d f = false≢true d
 no_dir_body other d f = false≢true d
 
 no_dir : (node : Option Node) → is_dir node ≡ true → is_free node ≡ true → ⊥
@@ -276,7 +277,7 @@ place_after : (earlier : List Output) (old new : Option Files) (files : Files) (
     AllByRecursion (λ output. can_save files output.path ≡ true) earlier → can_save files path ≡ true → IfSome new (λ now. can_save now path ≡ true)
 place_after [] old new files path told same can here = subst (λ t. IfSome t (λ now. can_save now path ≡ true)) (sym (same ∙ told)) here
 place_after (output ∷ earlier) old new files path told saved can here =
-    let at = of_told (λ files. (bytes : List ℕ) × Spells bytes output.list × (can_save files output.path ≡ true)
+    let at = of_told (λ files. (bytes : List ℕ) × SpellsAs Two bytes output.list × (can_save files output.path ≡ true)
     × (saved.0 ≡ Some (insert files output.path (new_file bytes)))) old files told saved.1.1 in
     place_after earlier saved.0 new (insert files output.path (new_file at.0)) path at.3 saved.2
     (places_stay files output.path at.0 at.2 earlier can.1) (place_stays files output.path at.0 path at.2 here)

@@ -7,14 +7,15 @@ use Rattle.outside.specs.Tree.{Files}
 use Rattle.outside.specs.Writes.{new_file}
 use Rattle.outside.specs.Whole.{can_save}
 use Rattle.flat_list.specs.declared.entries.Entry.{Entry}
-use Rattle.flat_list.specs.Spelling.{Spells}
+use Rattle.flat_list.specs.Spelling.{SpellsAs}
+use Rattle.flat_list.specs.declared.versions.Version.TheVariants.{Two}
 use Rattle.run_entries.specs.declared.saving.Output.{Output}
 
--- the output was saved: only its file has changed, and the bytes there spell its entries
+-- the output was saved: only its file has changed, and the bytes there are the list file of its entries, in version 2
 abbrev pub SavedAt : Output → Option Files → Option Files → Type 0
 SavedAt output old new =
     (is_some new ≡ is_some old)
-    × IfSome old (λ files. (bytes : List ℕ) × Spells bytes output.list × (can_save files output.path ≡ true)
+    × IfSome old (λ files. (bytes : List ℕ) × SpellsAs Two bytes output.list × (can_save files output.path ≡ true)
     × (new ≡ Some (insert files output.path (new_file bytes))))
 
 -- the outputs were saved, one after the other

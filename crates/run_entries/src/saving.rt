@@ -4,7 +4,7 @@ ghost use Rattle.std.specs.Option.{option_to_list};
 ghost use Rattle.std.specs.List.Sorted.{IsStrictlySortedBy};
 ghost use Rattle.path_text.specs.Order.{path_cmp};
 ghost use Rattle.outside.specs.Count.{RoseBy};
-ghost use Rattle.outside.specs.Writes.{all_but, SameBut};
+ghost use Rattle.outside.specs.Writes.{nothing_lent, SameBut};
 ghost use Rattle.flat_list.specs.Entries.{is_shaped};
 ghost use Rattle.flat_list.specs.Spelling.{paths};
 ghost use Rattle.run_report.specs.Sides.{side_of};
@@ -33,13 +33,13 @@ pub fn save_list<G: Ground>(
     output: Option<Path>,
     list: &FlatList,
 ) -> Result<(), Stop>
-    requires lent { G.area files.old ≡ all_but [] }
+    requires lent { G.area files.old ≡ nothing_lent }
     requires ascend { IsStrictlySortedBy path_cmp (paths list.now) }
     requires shaped { All (λ e. is_shaped e ≡ true) list.now }
     ensures saved { OnOk result (Saved (output_of output list.now) (G.tree files.old) (G.tree files.new)) }
     ensures rest { SameButOutputs (option_to_list output) (G.tree files.old) (G.tree files.new) }
     ensures stopped { IfErr result (StopsSaving (output_of output list.now) (side_of (G.tree files.old) (G.count files.old)) (side_of (G.tree files.new) (G.count files.new))) }
-    ensures lent { G.area files.new ≡ all_but [] }
+    ensures lent { G.area files.new ≡ nothing_lent }
     ensures count { RoseBy 0 (G.count files.old) (G.count files.new) }
 {
     // The count of faults is a number of 64 bits.
@@ -53,13 +53,13 @@ pub fn save_list<G: Ground>(
 /// Writes each list to its file, one after the other, so that a later one replaces an earlier one of the same file. The first
 /// that is not written ends that.
 pub fn save_lists<G: Ground>(alloc: Global, files: &mut G, outputs: &[Output]) -> Result<(), Stop>
-    requires lent { G.area files.old ≡ all_but [] }
+    requires lent { G.area files.old ≡ nothing_lent }
     requires ascend { All (λ o. IsStrictlySortedBy path_cmp (paths o.list)) outputs.now }
     requires shaped { All (λ o. All (λ e. is_shaped e ≡ true) o.list) outputs.now }
     ensures saved { OnOk result (Saved outputs.now (G.tree files.old) (G.tree files.new)) }
     ensures rest { SameButOutputs (map (λ o. o.path) outputs.now) (G.tree files.old) (G.tree files.new) }
     ensures stopped { IfErr result (StopsSaving outputs.now (side_of (G.tree files.old) (G.count files.old)) (side_of (G.tree files.new) (G.count files.new))) }
-    ensures lent { G.area files.new ≡ all_but [] }
+    ensures lent { G.area files.new ≡ nothing_lent }
     ensures count { RoseBy 0 (G.count files.old) (G.count files.new) }
 {
     // The count of faults is a number of 64 bits.
@@ -77,14 +77,14 @@ fn save_at<G: Ground>(
     path: &Path,
     list: &FlatList,
 ) -> Result<(), Stop>
-    requires lent { G.area files.old ≡ all_but [] }
+    requires lent { G.area files.old ≡ nothing_lent }
     requires ascend { IsStrictlySortedBy path_cmp (paths list.now) }
     requires shaped { All (λ e. is_shaped e ≡ true) list.now }
     ensures saved { OnOk result (SavedAt (record { path = path.now; list = list.now }) (G.tree files.old) (G.tree files.new)) }
     ensures tells { is_some (G.tree files.new) ≡ is_some (G.tree files.old) }
     ensures rest { IfSome (G.tree files.old) (λ old. IfSome (G.tree files.new) (SameBut path.now old)) }
     ensures stopped { IfErr result (StopsAt (record { path = path.now; list = list.now }) (side_of (G.tree files.old) (G.count files.old)) (side_of (G.tree files.new) (G.count files.new))) }
-    ensures lent { G.area files.new ≡ all_but [] }
+    ensures lent { G.area files.new ≡ nothing_lent }
     ensures count { RoseBy 0 (G.count files.old) (G.count files.new) }
 {
     // The count of faults is a number of 64 bits.

@@ -12,7 +12,7 @@ use Rattle.std.proofs.lemmas.List.Sorted.{sum_by-IsPermutation, length_permutati
 use Rattle.path_text.specs.Order.{path_cmp}
 use Rattle.outside.specs.Tree.{Files, IsTree}
 use Rattle.outside.specs.Count.{StoodStill}
-use Rattle.outside.proofs.Names.{not_long}
+use Rattle.path_text.proofs.Parts as parts
 use Rattle.flat_list.specs.declared.entries.Entry.{Entry}
 use Rattle.flat_list.specs.declared.entries.Mark.TheVariants as mark
 use Rattle.tool_text.specs.declared.noting.Why.TheVariants as why
@@ -157,7 +157,7 @@ cut_few files done starts tree old new later left told b found stood =
     (λ some.
     let cut = of_told (λ files. IsCut files starts later left) tree files told found.told in
     let t = of_told IsTree tree files told (found.valid some) in
-    let short = weaker Valid (λ p. length p ≤ 4095) not_long starts b.valid in
+    let short = weaker Valid (λ p. length p ≤ 4095) parts.short starts b.valid in
     omega (
       arith,
       done_few files starts left later t short cut (no_weight (sum_by weight_of later) old new found.counted stood),

@@ -3,7 +3,7 @@ ghost use Rattle.std.specs.Prelude.{◌≡◌, ◌≤◌, [], All, length, map, 
 ghost use Rattle.std.specs.List.Sorted.{IsStrictlySortedBy};
 ghost use Rattle.path_text.specs.Order.{path_cmp};
 ghost use Rattle.outside.specs.Count.{RoseBy};
-ghost use Rattle.outside.specs.Writes.{all_but};
+ghost use Rattle.outside.specs.Writes.{nothing_lent};
 ghost use Rattle.flat_list.specs.Entries.{is_shaped};
 ghost use Rattle.flat_list.specs.Spelling.{paths};
 ghost use Rattle.checkpoints.specs.Kept.{IsKept, checkpoint_paths};
@@ -30,7 +30,7 @@ pub(crate) fn keep<G: Ground>(
 ) -> Result<Stop, Stop>
     requires some { 1 ≤ length left.now }
     requires few { length left.now ≤ 64 }
-    requires lent { G.area files.old ≡ all_but [] }
+    requires lent { G.area files.old ≡ nothing_lent }
     requires ascend { IsStrictlySortedBy path_cmp (paths done.now) }
     requires shaped { All (λ e. is_shaped e ≡ true) done.now }
     ensures named { IfOk result (λ why. why ≡ Stop.Stopped handled (length (all_of (map (λ list. list.items) left.now)))) }
@@ -38,7 +38,7 @@ pub(crate) fn keep<G: Ground>(
     ensures stopped { IfErr result (StopsWriting lists.now (length left.now) done.now (side_of (G.tree files.old) (G.count files.old)) (side_of (G.tree files.new) (G.count files.new))) }
     ensures tells { is_some (G.tree files.new) ≡ is_some (G.tree files.old) }
     ensures rest { IfSome (G.tree files.old) (λ old. IfSome (G.tree files.new) (SameButAll (checkpoint_paths lists.now (length left.now)) old)) }
-    ensures lent { G.area files.new ≡ all_but [] }
+    ensures lent { G.area files.new ≡ nothing_lent }
     ensures count { RoseBy 0 (G.count files.old) (G.count files.new) }
 {
     let left_strings = strings_in(left)?;

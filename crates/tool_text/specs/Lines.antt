@@ -1,5 +1,5 @@
 -- What dwalk prints: a line for each entry that has a stat, and the line of the summary. After mpiFileUtils' dwalk, with the signs of
--- `find`; the texts are our own.
+-- `find`, and the arrow of `ls` behind a link; the texts are our own.
 use Rattle.std.specs.Prelude.{ℕ, ◌-◌, List, [], ◌∷◌, ◌++◌, length, replicate, Option, Some, None, codes}
 use Rattle.std.specs.List.{flat_map}
 use Rattle.std.specs.Fmt.{decimal}
@@ -21,17 +21,22 @@ letter kind.Other = 111
 abbrev pub right : ℕ → ℕ → List ℕ
 right places n = let digits = decimal n in replicate (places - length digits) 32 ++ digits
 
--- the line of a path with a stat
-abbrev pub stat_line : Stat → List ℕ → List ℕ
-stat_line stat path = (letter stat.kind ∷ 32 ∷ right 12 stat.size) ++ (32 ∷ escape path) ++ 10 ∷ []
+-- what stands behind a path: nothing, or an arrow and the text of a link
+abbrev pub target_part : Option (List ℕ) → List ℕ
+target_part None = []
+target_part (Some target) = codes " -> " ++ escape target
+
+-- the line of a path with a stat, and with the text of a link where it was told
+abbrev pub stat_line : Stat → List ℕ → Option (List ℕ) → List ℕ
+stat_line stat path target = (letter stat.kind ∷ 32 ∷ right 12 stat.size) ++ (32 ∷ escape path) ++ target_part target ++ 10 ∷ []
 
 -- the line of an entry, where it has a stat
-abbrev pub line_by : Option Stat → List ℕ → List ℕ
-line_by None path = []
-line_by (Some stat) path = stat_line stat path
+abbrev pub line_by : Option Stat → List ℕ → Option (List ℕ) → List ℕ
+line_by None path target = []
+line_by (Some stat) path target = stat_line stat path target
 
 abbrev pub line_of : Entry → List ℕ
-line_of e = line_by e.stat e.path
+line_of e = line_by e.stat e.path e.target
 
 -- the lines of the entries, in their order
 abbrev pub lines_of : List Entry → List ℕ

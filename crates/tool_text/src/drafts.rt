@@ -3,7 +3,7 @@ ghost use Rattle.std.specs.Prelude.{◌≡◌, ◌++◌, ◌∷◌, [], replicat
 ghost use Rattle.path_text.specs.Escape.{escape};
 ghost use Rattle.ring_core.specs.Text.{line_of};
 
-use path_text::{OutOfMemory, Path, put_escaped};
+use path_text::{OutOfMemory, Path, put_escaped, put_escaped_bytes};
 use ring_core::{Event, put_event};
 use std::alloc::Global;
 use std::marker::Model;
@@ -80,6 +80,13 @@ impl Draft {
         ensures stands { self.new.0 ≡ self.old.0 }
     {
         put_escaped(&mut self.bytes, path)
+    }
+
+    pub(crate) fn put_text(&mut self, text: &str) -> Result<(), OutOfMemory>
+        ensures ok { OnOk result (self.new.1 ≡ self.old.1 ++ escape text.now) }
+        ensures stands { self.new.0 ≡ self.old.0 }
+    {
+        put_escaped_bytes(&mut self.bytes, text.as_bytes())
     }
 
     pub(crate) fn put_event(&mut self, event: &Event) -> Result<(), OutOfMemory>

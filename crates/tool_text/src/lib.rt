@@ -2,7 +2,8 @@
 //!
 //! - [`Text`] is text in the making, seen as its bytes. It is put to a sink at once, when it is whole.
 //! - [`put_list`] appends a line for each entry that has a stat: the letter of its kind, its size right in 12 places, its path
-//!   in printable text. [`put_summary`] appends the line of a [`Summary`](flat_list::Summary).
+//!   in printable text, and for a link whose text was told ` -> ` and that text. [`put_summary`] appends the line of a
+//!   [`Summary`](flat_list::Summary).
 //! - [`notes_of`] makes the failure notes of a list, as many as its summary counts, and [`put_notes`] appends a line for each
 //!   [`Note`].
 //! - [`in_order`] puts notes from several places into one order, each once: in path order, of one path those of a destination

@@ -1,22 +1,22 @@
 //! The lines of a list, and of its summary.
 ghost use Rattle.std.specs.Prelude.{◌≡◌, ◌+◌, ◌++◌, ◌∷◌, [], OnOk, codes};
 ghost use Rattle.std.specs.Fmt.{decimal};
-ghost use Rattle.tool_text.specs.Lines.{letter, stat_line, line_of, lines_of, summary_line};
+ghost use Rattle.tool_text.specs.Lines.{letter, target_part, stat_line, line_of, lines_of, summary_line};
 
 use crate::drafts::Draft;
 use crate::numbers::{put_decimal, put_right, put_wide};
 use flat_list::{Entry, FlatList, Summary};
-use outside::{Kind, Stat};
+use outside::{Kind, LinkText, Stat};
 use path_text::{OutOfMemory, Path};
 
-// What a line has beside its path, with up to 12 digits.
+// What a line has beside its path and the text of a link, with up to 12 digits.
 const LINE_LEN: usize = 16;
 
 // More than a summary has, which comes behind the lines.
 const SUMMARY_LEN: usize = 256;
 
-/// Adds a line for each entry that has a stat. Memory is taken once, unless bytes of a path have to be escaped or a size has
-/// more than 12 digits.
+/// Adds a line for each entry that has a stat. Memory is taken once, unless links have texts, bytes of a path have to be escaped or
+/// a size has more than 12 digits.
 pub(crate) fn add_list(draft: &mut Draft, list: &FlatList) -> Result<(), OutOfMemory>
     ensures ok { OnOk result (draft.new.1 ≡ draft.old.1 ++ lines_of list.now) }
     ensures stands { draft.new.0 ≡ draft.old.0 }
@@ -29,7 +29,8 @@ pub(crate) fn add_list(draft: &mut Draft, list: &FlatList) -> Result<(), OutOfMe
     Ok(())
 }
 
-// So many bytes the lines and a summary have at most where each entry has a stat and no byte of a path is escaped.
+// So many bytes the lines and a summary have at most where each entry has a stat, none has a target and no byte of a path is
+// escaped.
 fn expected_len(list: &FlatList) -> usize {
     let paths = usize::try_from(list.path_bytes()).unwrap_or(usize::MAX);
     let lines = paths.saturating_add(list.len().saturating_mul(LINE_LEN));
@@ -41,20 +42,40 @@ fn add_entry(draft: &mut Draft, entry: &Entry) -> Result<(), OutOfMemory>
     ensures stands { draft.new.0 ≡ draft.old.0 }
 {
     match entry.stat {
-        Some(stat) => add_line(draft, stat, &entry.path),
+        Some(stat) => add_line(draft, stat, &entry.path, &entry.target),
         None => Ok(()),
     }
 }
 
-fn add_line(draft: &mut Draft, stat: Stat, path: &Path) -> Result<(), OutOfMemory>
-    ensures ok { OnOk result (draft.new.1 ≡ draft.old.1 ++ stat_line stat path.now) }
+fn add_line(
+    draft: &mut Draft,
+    stat: Stat,
+    path: &Path,
+    target: &Option<LinkText>,
+) -> Result<(), OutOfMemory>
+    ensures ok { OnOk result (draft.new.1 ≡ draft.old.1 ++ stat_line stat path.now target.now) }
     ensures stands { draft.new.0 ≡ draft.old.0 }
 {
     draft.extend(&[letter(stat.kind), b' '])?;
     put_right(draft, 12, stat.size)?;
     draft.push(b' ')?;
     draft.put_path(path)?;
+    add_target(draft, target)?;
     draft.push(b'\n')
+}
+
+// Adds what stands behind a path: nothing, or an arrow and the text of a link.
+fn add_target(draft: &mut Draft, target: &Option<LinkText>) -> Result<(), OutOfMemory>
+    ensures ok { OnOk result (draft.new.1 ≡ draft.old.1 ++ target_part target.now) }
+    ensures stands { draft.new.0 ≡ draft.old.0 }
+{
+    match target {
+        None => Ok(()),
+        Some(text) => {
+            draft.extend(b" -> ")?;
+            draft.put_text(text.text())
+        }
+    }
 }
 
 fn letter(kind: Kind) -> u8

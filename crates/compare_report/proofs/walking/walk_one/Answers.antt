@@ -1,7 +1,7 @@
-use Rattle.std.proofs.Common.{subst}
+use Rattle.std.proofs.Common.{◌∷◌, [], subst}
 use Rattle.run_report.specs.Sides.{side_of}
 use Rattle.run_entries.specs.Entries.{Walked}
-use Rattle.compare_report.proofs.Sided.{is_side}
+use Rattle.compare_report.proofs.Sided.{is_side, stats_told}
 use Rattle.compare_report.proofs.walking.walk_one.Goals as goal
 
 pub returns-clause-side : goal.returns-clause-side
@@ -13,3 +13,13 @@ returns-clause-side g c =
     let list = c.in_ok-list.field-0.list in
     let walked = subst (λ given. Walked given list before after) c.in_ok-given.ensures c.in_ok-list.ensures.walked in
     is_side c.args.top.now list before after c.requires.top walked c.in_ok-see_paths.ensures c.in_ok-list.ensures.ascend
+
+pub returns-clause-told : goal.returns-clause-told
+returns-clause-told g c =
+    let tree = g.G.Plot.tree in
+    let count = g.G.Plot.count in
+    let before = side_of (tree c.args.files.now) (count c.args.files.now) in
+    let after = side_of (tree c.walk_side.new.files) (count c.walk_side.new.files) in
+    let list = c.in_ok-list.field-0.list in
+    let walked = subst (λ given. Walked given list before after) c.in_ok-given.ensures c.in_ok-list.ensures.walked in
+    stats_told c.entries_are_told.ensures (c.args.top.now ∷ []) list before after walked

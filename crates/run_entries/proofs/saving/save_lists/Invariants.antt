@@ -1,6 +1,6 @@
 use Rattle.std.proofs.Common.{◌≡◌, take, []}
 use Rattle.outside.specs.Count.{RoseBy}
-use Rattle.outside.specs.Writes.{all_but}
+use Rattle.outside.specs.Writes.{nothing_lent}
 use Rattle.run_entries.specs.Saving.{Saved}
 use Rattle.run_entries.proofs.saving.save_lists.Given as goal
 
@@ -8,6 +8,6 @@ use Rattle.run_entries.proofs.saving.save_lists.Given as goal
 abbrev pub invariant-loop-output : goal.invariant-loop-output
 invariant-loop-output g l = record {
   saved : Saved (take l.output-index l.outputs) (g.G.Plot.tree l.fn.files) (g.G.Plot.tree l.files);
-  lent : g.G.Plot.area l.files ≡ all_but [];
+  lent : g.G.Plot.area l.files ≡ nothing_lent;
   count : RoseBy 0 (g.G.Plot.count l.fn.files) (g.G.Plot.count l.files);
 }
