@@ -8,6 +8,7 @@ use std::fs::{File, Files, Metadata, OpenOptions};
 use std::io;
 use std::io::{ErrorKind, Read};
 use std::process::Abort;
+use std::random::RandomSource;
 use std::rt::Clock;
 use std::time::Duration;
 
@@ -90,6 +91,12 @@ impl Files for Odd {
     }
 
     fn remove_dir_all<B: Allocator>(&self, _alloc: B, _path: &str) -> io::Result<()> {
+        refused()
+    }
+}
+
+impl RandomSource for Odd {
+    fn fill_bytes(&self, _bytes: &mut [u8]) -> io::Result<()> {
         refused()
     }
 }

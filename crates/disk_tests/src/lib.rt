@@ -20,6 +20,8 @@ mod shared;
 #[cfg(test)]
 mod streams;
 #[cfg(test)]
+mod swaps;
+#[cfg(test)]
 mod walks;
 #[cfg(test)]
 mod whole_disk;

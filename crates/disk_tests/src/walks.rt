@@ -82,9 +82,13 @@ fn add_children(host: HostRuntime, path: &str, left: &mut Vec<String>) -> io::Re
     Ok(())
 }
 
-// The line of what stands at the path.
+// The line of what stands at the path, with the text of a link.
 fn line(host: HostRuntime, path: &str, kind: char, size: u64) -> io::Result<String> {
     let shown = printed(host, path)?;
+    if kind == 'l' {
+        let text = printed(host, fs::read_link(&host, path)?.as_str())?;
+        return Ok(format!(in host.alloc(); "{kind} {size:>12} {shown} -> {text}\n")?);
+    }
     Ok(format!(in host.alloc(); "{kind} {size:>12} {shown}\n")?)
 }
 

@@ -2,7 +2,7 @@
 ghost use Rattle.std.specs.Prelude.{◌≡◌};
 ghost use Rattle.outside.specs.Tree.{is_root};
 
-use outside::{Ground, LoadError, Plot, SaveError, WriteError, load, save};
+use outside::{Ground, LinkText, LoadError, Plot, SaveError, WriteError, load, save};
 use path_text::{OutOfMemory, Path};
 use real_disk::{RealGround, RealReader};
 use std::alloc::Global;
@@ -16,6 +16,7 @@ const MOST: u64 = 1_000_000;
 pub enum Act {
     MakeDir,
     MakeFile,
+    MakeLink(&'static str),
     Write(u64, &'static [u8]),
     RemoveFile,
     RemoveDir,
@@ -32,9 +33,9 @@ impl Model for WholeDisk {
 
     ghost Value = { ℕ };
 
-    ghost view = { λ whole. whole.files.0 };
+    ghost view = { λ whole. whole.files.count };
 
-    ghost invariant = { λ whole. whole.files.1 ≡ [] };
+    ghost invariant = { λ whole. (whole.files.lent ≡ []) × (whole.files.cut ≡ []) };
 }
 
 impl WholeDisk {
@@ -53,6 +54,10 @@ impl WholeDisk {
         match act {
             Act::MakeDir => self.files.make_dir(alloc, path),
             Act::MakeFile => self.files.make_file(alloc, path),
+            Act::MakeLink(text) => match LinkText::parse(alloc, text) {
+                Ok(text) => self.files.make_link(alloc, path, &text),
+                Err(_) => Err(WriteError::Failed),
+            },
             Act::Write(at, bytes) if at <= MOST && bytes.len() as u64 <= MOST => {
                 self.files.write_at(alloc, path, at, bytes)
             }

@@ -1,4 +1,4 @@
-//! What the program says of itself.
+//! The help and the version, which the program prints by itself.
 use mfu_top::Status;
 use outside::put_all;
 use real_disk::RealSink;
@@ -6,300 +6,302 @@ use std::io::Write;
 
 const VERSION: &str = "mfu 0.1.0\n";
 
-// Each text begins with one screen, 24 lines of at most 80 columns: how the tool is called, the options most used, the
-// statuses, and that paths are absolute.
+// Each text begins with one screen, 24 lines of at most 80 columns: the call, the options most used, the exit statuses, and that paths
+// are absolute.
 
-const TOOLS: &str = "usage: mfu TOOL WORD..
+const TOOLS: &str = "usage: mfu TOOL WORD...
 
-Tools for trees of files. Every path is absolute.
+Lists, searches, compares, copies and deletes directory trees. Paths are
+absolute.
 
-  dwalk PATH..       lists what stands at each path and below it, in path order
-  dfind PATH..       lists of that what meets tests
-  dcmp SOURCE DEST   compares two trees, the bytes of their files too
-  dcp SOURCE.. DEST  copies what stands at each source and below it
-  drm PATH..         removes of what dfind lists what meets tests
-  dtest N            walks a made-up tree of N nodes in memory
+  dwalk PATH...       list trees, in path order
+  dfind PATH...       list the entries that pass tests (name, size, age, ...)
+  dcmp SOURCE DEST    compare two trees, contents included
+  dcp SOURCE... DEST  copy trees
+  drm PATH...         delete trees, or the entries that pass tests
+  dtest N             walk a made-up tree of N nodes in memory
 
-  mfu TOOL --help    says more of a tool, as mfu TOOL -h and mfu help TOOL do
-  mfu --version      prints the version, as mfu -V does
+  mfu TOOL --help     help on a tool; also mfu TOOL -h, mfu help TOOL
+  mfu --version       the version; also mfu -V
 
 Exit status:
-  0  all was done
-  1  all that could be done was done; standard error names what could not
-  2  the words were refused, or dcp's destination; standard error says why
-  3  no memory was left
-  4  an output could not be written; no line says so
-  5  more than 4194304 entries
-  6  the walk stopped after a number of paths; standard error says how many
-  7  the file of --input is no list; standard error says in which line
+  0  success
+  1  finished; standard error names what could not be read, copied or deleted
+  2  command line or dcp's destination refused; standard error says why
+  3  out of memory                4  output could not be written; no message
+  5  more than 4,194,304 entries
+  6  stopped by --stop-after; standard error says how far it came
+  7  a list file or checkpoint is damaged; standard error names the line
   8  a list file could not be read or written; standard error says why
 ";
 
-const DWALK: &str = "usage: mfu dwalk [OPTION].. PATH..
-       mfu dwalk [OPTION].. --input FILE
-       mfu dwalk [OPTION].. --restart --lists DIR
+const DWALK: &str = "usage: mfu dwalk [OPTION]... PATH...
+       mfu dwalk [OPTION]... --input FILE
+       mfu dwalk [OPTION]... --restart --lists DIR
 
-Lists what stands at each path and below it, in path order: the kind (f, d, l or
-o), the size of a file and the path, and at last a summary. Links are not
-followed. Every path is absolute.
+Lists each path and everything below it, in path order: kind (f, d, l or o),
+size of a file, path, and -> TEXT for a link; then a summary. Links are not
+followed, mount points are crossed. Prints at the end. Paths are absolute.
 
-  --sort FIELD   prints by path, name, size, mtime or kind; with a - in front of
-                 FIELD from the greatest to the least
-  --output FILE  saves the list, in path order
-  --input FILE   prints the list that was saved in FILE, and walks nothing
-  --ranks N      N ranks, workers with a queue of paths each, share the walk, 1
-                 to 64; without it 4
-  --hosts N      the ranks run in N threads, 1 to 64; without it 1
-
-Exit status:
-  0  all was done
-  1  all that could be done was done; standard error names what could not
-  2  words refused       3  no memory left      4  an output failed
-  5  too many entries    6  it stopped          7  FILE is no list
-  8  a list not read or written
-
-A walk can stop, and a later one go on:
-  --stop-after K  stops once one rank has handled K paths: what was found and
-                  what is left is saved, and no list is printed
-  --lists DIR     the folder in which that is saved
-  --restart       goes on from what was saved in DIR; no path is given then
---stop-after and --restart need --lists; --trace doesn't go with --stop-after.
-
-Further options change nothing of the list:
-  --split RULE   what a rank gives to one that asks: equal, the same part to
-                 each, or random
-  --seed N       the seed of all that is drawn by lot, a number below 2^64;
-                 without it 0
-  --width N      N ranks report their counts to one, 2 to 64; without it 64
-
-Standard error tells first, of a walk alone:
-  --trace        each thing that a rank did, one a line; on one host alone
-  --shares       how many paths each rank handled, gave and took
-  --progress     how many entries had been found, as that number rose by 1000 or
-                 more, and at last; printed at the end, as all is
-
-A path that is the same as another one, or under it, is dropped, also where the
-other one is a link. The word -- ends the options. A control byte or a backslash
-of a path is printed as \\x and two digits.
-
-Notes on standard error:
-  gone P                        nothing stands at P
-  failed stat P, failed list P  the system did not tell of P, or of the names
-                                in P
-  changed P                     P was a directory, and then was none
-  unnamed P K                   K names in P are no UTF-8
-  too long P K                  K children of P have a path of more than 4095
-                                bytes
-
-A walk that stopped says so on standard error, and nothing is printed:
-  stopped handled H left L      H paths were handled, and L are left
-
-A list that is not read or written is named on standard error, and nothing is
-printed:
-  list absent F                 F is no file
-  list place F                  no file can be F: no directory is over it, or it
-                                is something else
-  list fault F                  the system failed
-  damaged F line N              line N of F is the first that shows that it is
-                                no list
-";
-
-const DFIND: &str = "usage: mfu dfind [OPTION].. [TEST].. PATH..
-       mfu dfind [OPTION].. [TEST].. --input FILE
-
-Lists, of what dwalk lists, what meets all tests, and a summary of that. Every
-path is absolute.
-
-  --name GLOB    the last name of the path matches
-  --path GLOB    the whole path matches
-  --type KIND    f, a regular file; d, a directory; l, a symbolic link; o, else
-  --size BOUND   the size in bytes; B, k, M or G may stand behind the number
-  --mtime BOUND  whole days since the last change;  --mmin BOUND  whole minutes
-  --newer PATH   the last change came after that of PATH
-  --sort FIELD   prints by path, name, size, mtime or kind, or by -FIELD
-  --output FILE  saves what was chosen;  --input FILE  chooses from a saved list
-A BOUND is N, which means exactly N; +N, more; or -N, less.
+  --hosts N      run in N threads, 1 to 64 (default 1)
+  --ranks N      divide the work among N ranks, workers with a queue of paths
+                 each, 1 to 64 (default 4)
+  --sort FIELD   sort by path, name, size, mtime or kind; -FIELD reverses
+  --output FILE  save the list, in path order
+  --input FILE   print the list saved in FILE instead of walking
 
 Exit status:
-  0  all was done
-  1  all that could be done was done; standard error names what could not
-  2  words refused       3  no memory left      4  an output failed
-  5  too many entries    7  FILE is no list     8  a list not read or written
+  0  success
+  1  finished; standard error names what could not be read
+  2  command line refused    3  out of memory    4  output could not be written
+  5  too many entries        6  stopped          7  list or checkpoint damaged
+  8  a list file could not be read or written
 
-A test may stand several times; all of them have to be met. All other options
-are those of dwalk. Every failure is named, also that of a path that no test
-would have chosen.
+Walking in stages:
+  --stop-after K  stop when one rank has handled K paths, and save a checkpoint:
+                  the entries found and the paths left; prints nothing
+  --lists DIR     the directory of the checkpoint; it must exist
+  --restart       continue from the checkpoint in DIR; give no PATH
+--stop-after and --restart need --lists. --stop-after excludes --trace. All
+stages together may find 4,194,304 entries.
 
-B, k, M and G stand for 1, 1024, 1024^2 and 1024^3 bytes. Only regular files
-have a size above 0. A day has 86400 seconds. What has no time meets no test of
-time. --newer compares whole seconds; PATH is looked at once, at the start.
+These change nothing in the list:
+  --split RULE   how a rank divides its queue with ranks that ask for work:
+                 equal (default) or random
+  --seed N       seed of the random numbers, below 2^64 (default 0)
+  --width N      fan-in of the tree that adds up counts, 2 to 64 (default 64)
 
-In a GLOB * is any text and ? any character, / too. [abc] is one of these
-characters, [a-c] one from a to c, [!abc] one that is none of them. A ] that
-stands first and a - that stands first or last are members. A backslash makes
-the next character stand for itself, as a [ does that no ] closes.
+Reports on the walk, first on standard error:
+  --trace        every step of every rank, one per line; only with one thread
+  --shares       how many paths each rank handled, gave away and received
+  --progress     the number of entries found, as it rose by 1,000 or more, and
+                 at the end; it is printed after the walk, like everything
 
-Notes on standard error, beside those of dwalk:
-  gone P, failed newer P        nothing stands at a path P of --newer, or the
-                                system did not tell of it
+A path that is equal to or below another given path is dropped, even if the
+other one is a link. The word -- ends the options. Control bytes and backslashes
+in paths and link texts are printed as \\x and two digits. FILE of --input must
+be a regular file, not a link or a pipe.
+
+Messages on standard error:
+  gone P                        P does not exist
+  failed stat P                 P, or the text of the link P, could not be read
+  failed list P                 the names in P could not be read
+  changed P                     P was a directory or a link, and then was not
+  unnamed P K                   K names in P are not valid UTF-8; they are left
+                                out, with everything below them
+  too long P K                  K entries of P have paths over 4,095 bytes
+
+A walk that stopped, with nothing on standard output:
+  stopped handled H left L      H paths were handled, L are left
+
+A list that was not read or written, with nothing on standard output:
+  list absent F                 there is no file F
+  list place F                  F cannot be written: its directory does not
+                                exist, or something else has that name
+  list fault F                  the system reported an error
+  damaged F line N              line N of F is the first bad one
 ";
 
-const DCMP: &str = "usage: mfu dcmp [OPTION].. [-o EXPR:FILE].. SOURCE DEST
+const DFIND: &str = "usage: mfu dfind [OPTION]... [TEST]... PATH...
+       mfu dfind [OPTION]... [TEST]... --input FILE
 
-Compares what stands at SOURCE and below it with what stands at DEST and below
-it. A line tells of each path that is on a side by four signs and the path below
-the two; the last line counts. Files of one size are read until they differ.
-Nothing is changed but the files of -o. Every path is absolute.
+Lists the entries that dwalk would list and that pass all tests, then a summary.
+Paths are absolute.
 
-  EXIST    S, only in SOURCE; D, only in DEST; C, in both
-  TYPE     =, both are of one kind; !, they differ; -, that can't be said
-  SIZE     the same of the sizes of two regular files
-  CONTENT  the same of their bytes
-
-  -o EXPR:FILE   saves as a list what meets EXPR, as EXIST=ONLY_SRC or
-                 EXIST=ONLY_SRC,CONTENT=DIFFER
-  --hosts N      walks and reads in N threads, 1 to 64; without it 1
+  --name GLOB    the name matches;  --path GLOB  the whole path matches
+  --type KIND    f, regular file; d, directory; l, symbolic link; o, other
+  --size BOUND   size in bytes; suffix B, k, M or G
+  --mtime BOUND  days since the last modification;  --mmin BOUND  minutes
+  --newer PATH   modified after PATH was
+  --sort FIELD   sort by path, name, size, mtime or kind; -FIELD reverses
+  --output FILE  save what was found;  --input FILE  search a saved list
+  --hosts N      run in N threads, 1 to 64 (default 1)
+A BOUND is N (exactly), +N (more) or -N (less).
 
 Exit status:
-  0  all was done, also where the two differ
-  1  all that could be done was done; standard error names what could not
-  2  words refused       3  no memory left      4  an output failed
-  5  too many entries    8  a list not written
+  0  success
+  1  finished; standard error names what could not be read
+  2  command line refused    3  out of memory    4  output could not be written
+  5  too many entries        7  list damaged
+  8  a list file could not be read or written
 
-The path of a line is / for SOURCE and DEST themselves. A sign is - where there
-are not two to compare: a path on one side, a SIZE or a CONTENT of what is no
-file on both; CONTENT also where a read failed. Links are told by their kind
-alone.
+Tests may be repeated; an entry must pass all of them. The other options are
+those of dwalk. Every failure is reported, even for paths that no test matches.
 
-What -o saves is what SOURCE has at each line that meets EXPR, or what DEST has
-where SOURCE has nothing, in path order. It may stand several times; the lists
-are saved in that order, before anything is printed. dwalk and dfind read them
-by --input.
+B, k, M and G multiply by 1, 1,024, 1,024^2 and 1,024^3. Anything but a regular
+file has size 0. A day has 86,400 seconds. An entry without a time passes no
+test of time. --newer compares whole seconds; PATH is looked at once, at the
+start.
 
-An EXPR is FIELD=STATE, or several of them: with @ between them all have to
-hold, with , one of the parts, and @ binds tighter. EXIST has the states
-ONLY_SRC, ONLY_DEST, COMMON and DIFFER, which is on one side only; TYPE, SIZE
-and CONTENT have COMMON and DIFFER, and a line with - meets neither. The first :
-ends the EXPR.
+In a GLOB * matches any text and ? any character, / included. [abc] matches one
+of these, [a-c] one in the range, [!abc] any other. Put ] first, or - first or
+last, to match the character itself. A backslash takes away the meaning of the
+next character; a [ that is never closed matches itself.
 
-What is under a path has no line where SOURCE or DEST could not tell all that is
-in it; such a path is named. How the two walks go changes nothing of the lines:
---ranks, --hosts, --split, --seed and --width, as for dwalk.
-
-Notes on standard error, beside those of dwalk on the entries of both sides:
-  failed read P                 a read of the file P failed
-  changed P                     P was a file of some size, and then was not
-  dest ..                       so begins each note on the side of DEST
-
-A list that is not written is named as by dwalk, and nothing is printed.
+Messages on standard error, besides those of dwalk:
+  gone P, failed newer P        a path P of --newer does not exist, or could not
+                                be looked at
 ";
 
-const DCP: &str = "usage: mfu dcp [OPTION].. SOURCE.. DEST
+const DCMP: &str = "usage: mfu dcmp [OPTION]... [-o EXPR:FILE]... SOURCE DEST
 
-Copies what stands at each SOURCE and below it: into DEST under the last name of
-SOURCE where DEST is a directory; else to DEST itself, and then there is one
-SOURCE. It prints how many entries were copied, of how many, the bytes of the
-copied files, and how many notes there are. Nothing asks before. Every path is
+Compares two trees. Prints a line for each path on either side, with four signs
+and the path below SOURCE and DEST; the last line counts. Files of equal size
+are read until they differ. Nothing is changed but the files of -o. Paths are
 absolute.
 
-  --hosts N      walks and copies in N threads, 1 to 64; without it 1
-  --ranks N      N ranks share the work, 1 to 64; without it 4
+  EXIST    S, only in SOURCE; D, only in DEST; C, in both
+  TYPE     =, same kind; !, different; -, nothing to compare
+  SIZE     the same for the sizes of regular files
+  CONTENT  the same for their bytes
 
-  mfu dcp /a/b /d      copies to /d/b where /d is a directory, else to /d
+  -o EXPR:FILE   save what matches EXPR as a list: EXIST=ONLY_SRC, or
+                 EXIST=ONLY_SRC,CONTENT=DIFFER (, is or; @ is and)
+  --hosts N      run in N threads, 1 to 64 (default 1)
+
+Exit status:
+  0  success, even if the trees differ
+  1  finished; standard error names what could not be read
+  2  command line refused    3  out of memory    4  output could not be written
+  5  too many entries        8  a list file could not be written
+
+The path / is SOURCE and DEST themselves. A sign is - if the path is on one side
+only, for SIZE and CONTENT if the two are not both regular files, and for
+CONTENT if one could not be read. Links are compared by their kind alone. Names
+that are not valid UTF-8 are on no line; a message counts them.
+
+-o saves SOURCE's entry of each line that matches EXPR, or DEST's if SOURCE has
+none, in path order. It may be repeated; the lists are written in that order,
+before anything is printed. dwalk and dfind read them with --input.
+
+An EXPR is FIELD=STATE, or several joined by @ (and) and , (or); @ binds
+tighter. EXIST has the states ONLY_SRC, ONLY_DEST, COMMON and DIFFER (one side
+only); TYPE, SIZE and CONTENT have COMMON and DIFFER, and the sign - matches
+neither. The first : ends the EXPR.
+
+Nothing is printed below a directory that could not be listed on one side, or
+that has entries with paths over 4,095 bytes there; a message names it. --ranks,
+--split, --seed and --width are as for dwalk, and do not change the lists.
+
+Messages on standard error, besides those of dwalk about both sides:
+  failed read P                 the file P could not be read
+  changed P                     P changed while it was read
+  dest ...                      a message about DEST
+
+A list that was not written is named as by dwalk, and nothing is printed.
+";
+
+const DCP: &str = "usage: mfu dcp [OPTION]... SOURCE... DEST
+
+Copies trees. If DEST is a directory, each SOURCE goes into it under its own
+last name; otherwise there must be one SOURCE, and the copy is DEST. Prints how
+many entries were copied, of how many, their bytes, and the number of messages.
+Does not ask before it replaces files. Copies no links, permissions, owners or
+times; the umask decides who can read the copy. Paths are absolute.
+
+  --hosts N      run in N threads, 1 to 64 (default 1)
+  --ranks N      divide the work among N ranks, 1 to 64 (default 4)
+
+  mfu dcp /a/b /d      copies to /d/b if /d is a directory, otherwise to /d
   mfu dcp /a /b /d     copies to /d/a and /d/b
 
 Exit status:
-  0  all was done
-  1  all that could be done was done; standard error names what could not
-  2  words refused, or: refused overlap, two of all sources and targets are the
-     same or one is under the other; refused no directory, none is there for a
-     target. Nothing is changed
-  3  no memory left; some targets may be changed
-  4  an output failed    5  too many entries; nothing is changed
+  0  success
+  1  finished; standard error names what could not be copied
+  2  command line refused; or refused overlap: two of all sources and targets
+     are equal or one is below the other; or refused no directory: a target has
+     no directory to go to. Nothing was changed
+  3  out of memory; some targets may have been changed
+  4  output could not be written; the copy was made
+  5  too many entries; nothing was changed
 
-A directory that stands at a target is kept, with what is in it. A file there is
-removed, and made anew. What is of another kind stays, and the entry is named.
-What stands in DEST and is no target stays as it is. Not copied are links and
-what is no file and no directory, which are named, and owners, modes, times and
-holes. A file with several hard links becomes a file at each of its names. The
-top levels go first.
+A directory that exists at a target is kept with its contents. A file there is
+deleted and made anew. Anything of another kind is left alone, with a message.
+Other things in DEST stay as they are. Links and special files are not copied; a
+message names them. Holes are written as zeros; a file with several hard links
+becomes several files. Upper levels are copied first.
 
-How the walk goes and by how many ranks and threads the entries are copied
-changes nothing of the answer: --split, --seed and --width, as for dwalk.
+A copy of a private file may be readable by everybody, also if it replaces a
+private file: set umask 077 first. Mount points are crossed. Files of size 0, as
+in /proc, come out empty. Names that are not valid UTF-8 are left out. An
+interrupted run prints nothing, and may leave incomplete files. If other users
+can change the trees, run dcp as their owner, not as root.
 
-Notes on standard error, beside those of dwalk on the sources:
-  failed copy P                 the system failed when P was copied
-  conflict P                    at the target of P stands something of another
-                                kind
-  skipped P                     P is a link, or neither a file nor a directory
-  parent P                      the directory over P was not copied
-  long target P                 the target of P has more than 4095 bytes
-  changed P                     two answers contradict each other, as of a file
-                                that became shorter while it was read
-  failed stat P                 also where P is DEST or the path over it;
-                                nothing is copied then
+--split, --seed and --width are as for dwalk, and do not change what is copied.
+
+Messages on standard error, besides those of dwalk about the sources:
+  failed copy P                 P could not be copied; its target may be missing
+                                or incomplete
+  conflict P                    something of another kind is at the target of P
+  skipped P                     P is a link or a special file
+  parent P                      the directory above P was not copied
+  long target P                 the target of P is over 4,095 bytes
+  changed P                     P or its target changed during the copy
+  failed stat P                 also if P is DEST or its parent; then nothing is
+                                copied
 ";
 
-const DRM: &str = "usage: mfu drm [OPTION].. [TEST].. PATH..
+const DRM: &str = "usage: mfu drm [OPTION]... [TEST]... PATH...
 
-Removes, of what stands at each path and below it, what meets all tests; without
-a test that is all. Nothing asks before, and nothing that is gone comes back. It
-prints a line for each entry that was chosen, as dwalk does, and at last how
-many of them are gone. Every path is absolute, and none may be /.
+Deletes every entry of each tree that passes all tests; without tests, the whole
+tree, PATH included. There is no question before and no way back. Prints each
+chosen entry as dwalk does, then how many were deleted. Crosses mount points.
+Paths are absolute, and / is refused.
 
-  --dryrun       removes nothing, and prints what would have been chosen
-  --name GLOB    the last name of the path matches; so do the other tests, as
-                 for dfind
-  --hosts N      walks and removes in N threads, 1 to 64; without it 1
+  --dryrun       delete nothing; print the chosen entries
+  --name GLOB    the name matches; the other tests are those of dfind
+  --hosts N      run in N threads, 1 to 64 (default 1)
 
-  mfu drm --dryrun --name '*.tmp' /p   prints what has such a name in /p
-  mfu drm --name '*.tmp' /p            removes it
+  mfu drm --dryrun --name '*.tmp' /p   shows which entries of /p it would delete
+  mfu drm --name '*.tmp' /p            deletes them
 
 Exit status:
-  0  all was done
-  1  all that could be done was done; standard error names what could not
-  2  words refused       3  no memory left; some of it may be gone
-  4  an output failed    5  too many entries; nothing is gone
+  0  success
+  1  finished; standard error names what could not be deleted
+  2  command line refused    3  out of memory; some entries may be deleted
+  4  output could not be written; the entries were deleted
+  5  too many entries; nothing was deleted
 
-The deepest level goes first. A directory goes only where it is empty then:
-nothing is removed that was not chosen, so a directory with something else in it
-stays, and is named. A link is removed, and never what it leads to.
+The deepest level goes first. A directory is deleted only if it is empty by
+then. Nothing is deleted that was not chosen, so a directory that still contains
+something stays, with a message. A link is deleted, not the file that it leads
+to. Names that are not valid UTF-8 stay. An interrupted run prints nothing. If
+other users can change a tree, run drm as the owner of the tree, not as root.
 
-The tests are those of dfind. How the walk goes and by how many ranks and
-threads the entries are removed changes nothing of the answer: --ranks, --hosts,
---split, --seed and --width, as for dwalk.
+--ranks, --split, --seed and --width are as for dwalk, and do not change what is
+deleted.
 
-Notes on standard error, beside those of dfind:
-  failed remove P               the system did not remove P
-  not empty P                   P is a directory, and something is left in it
-  changed P                     something else stood at P than was listed, or
-                                nothing did
+Messages on standard error, besides those of dfind:
+  failed remove P               P could not be deleted
+  not empty P                   P is a directory with something left in it
+  changed P                     P was replaced or had gone when it was to be
+                                deleted
 ";
 
-const DTEST: &str = "usage: mfu dtest [OPTION].. [TEST].. N
+const DTEST: &str = "usage: mfu dtest [OPTION]... [TEST]... N
 
-Makes a tree of N nodes in memory, 1 to 1000000, walks it, and prints the
-summary of what meets all tests. It touches no disk.
+Makes a tree of N nodes in memory, 1 to 1,000,000, walks it, and prints the
+summary of the nodes that pass all tests. Touches no disk.
 
-  --ranks N      N ranks share the walk, 1 to 64; without it 4
-  --hosts N      the ranks run in N threads, 1 to 64; without it 1
-  --shares       tells how many paths each rank handled, gave and took
-  --type KIND    f, a file; d, a directory; the other tests are those of dfind
+  --ranks N      divide the work among N ranks, 1 to 64 (default 4)
+  --hosts N      run in N threads, 1 to 64 (default 1)
+  --shares       report how many paths each rank handled, gave away and received
+  --type KIND    f, file; d, directory; the other tests are those of dfind
 
 Exit status:
-  0  all was done
-  1  done; standard error names a path of --newer that is not there
-  2  words refused       3  no memory left      4  an output failed
+  0  success
+  1  finished; standard error names a path of --newer that does not exist
+  2  command line refused    3  out of memory    4  output could not be written
 
-Node K is named nK; node 0 stands under /, and each other node K under node
-(K - 1) / 8, rounded down. A node with children is a directory, each other one a
-file of 37 K mod 101 bytes. No node has a time.
+Node K is named nK; node 0 is below /, every other node K below node (K - 1) /
+8, rounded down. A node with children is a directory, any other a file of 37 K
+mod 101 bytes. Nodes have no times.
 
-A path of --newer is absolute, and is looked at in the made-up tree. The other
-options are --split, --seed, --width, --trace and --progress, as for dwalk.
+A path of --newer is absolute, and is looked at in the made-up tree. --split,
+--seed, --width, --trace and --progress are as for dwalk.
 ";
 
-/// The text that the words ask for, where they are `--help`, `-h` or `help`, a tool and `--help` or `-h`, `help` and a tool,
+/// The text that the words ask for, if they are `--help`, `-h` or `help`, a tool and `--help` or `-h`, `help` and a tool,
 /// `--version` or `-V`, and no more.
 pub fn asked(words: &[String]) -> Option<&'static str> {
     match words {
@@ -328,7 +330,7 @@ fn help_of(tool: &str) -> Option<&'static str> {
     }
 }
 
-/// Prints the text, and answers how the program ends.
+/// Prints the text, and answers the status with which the program ends.
 pub fn print<W: Write + Drop>(out: W, text: &str) -> Status {
     match put_all(&mut RealSink::make(out), text.as_bytes()) {
         Ok(()) => Status::Done,

@@ -15,9 +15,12 @@ mod help;
 
 use mfu_top::run;
 use real_disk::{RealGround, RealSink, seconds};
+use std::fs::File;
+use std::os::fd::{AsRawFd, IntoRawFd};
 use std::process::ExitCode;
 
 fn main(rt: HostRuntime) -> ExitCode {
+    take_closed_streams(&rt);
     let words = match given::words(&rt) {
         Ok(words) => words,
         Err(status) => return ExitCode::from(status.number()),
@@ -39,4 +42,18 @@ fn main(rt: HostRuntime) -> ExitCode {
         now,
     );
     ExitCode::from(status.number())
+}
+
+// Takes the numbers of standard streams that are closed, as long as the program runs: else the next file that it opens would get
+// one, and what is printed would be written into that file. A write to such a stream fails.
+fn take_closed_streams(rt: &HostRuntime) {
+    for _ in 0..3 {
+        let Ok(file) = File::open(rt, "/dev/null") else {
+            return;
+        };
+        if file.as_raw_fd() > 2 {
+            return;
+        }
+        let _ = file.into_raw_fd();
+    }
 }

@@ -2,7 +2,7 @@
 ghost use Rattle.std.specs.Prelude.{◌≡◌, IfErr, IsTrue};
 ghost use Rattle.outside.specs.Writes.{may_make, may_change, may_empty};
 
-use outside::{ReadError, WriteError};
+use outside::{LinkError, ReadError, WriteError};
 use std::io;
 use std::io::ErrorKind;
 
@@ -71,14 +71,29 @@ pub fn wrote(told: io::Result<usize>, len: usize) -> Result<(), WriteError>
     }
 }
 
-/// What a call answers that opened a file to read it.
+/// Why the text of a link was not read. Where something else stands at the path, the system says that the call makes no sense.
+pub fn unread(kind: ErrorKind) -> LinkError {
+    match kind {
+        ErrorKind::NotFound => LinkError::NotLink,
+        ErrorKind::NotADirectory => LinkError::NotLink,
+        ErrorKind::InvalidInput => LinkError::NotLink,
+        ErrorKind::OutOfMemory => LinkError::OutOfMemory,
+        _ => LinkError::Failed,
+    }
+}
+
+/// What a call answers that opened a file to read it. What is no file is refused as a directory is.
 pub fn opened<T>(told: io::Result<T>) -> Result<T, ReadError>
 where
     T: Drop,
 {
     match told {
         Ok(opened) => Ok(opened),
-        Err(e) if is_absent(e.kind()) => Err(ReadError::NotFile),
-        Err(_) => Err(ReadError::Failed),
+        Err(e) => Err(match e.kind() {
+            ErrorKind::NotFound => ReadError::NotFile,
+            ErrorKind::NotADirectory => ReadError::NotFile,
+            ErrorKind::IsADirectory => ReadError::NotFile,
+            _ => ReadError::Failed,
+        }),
     }
 }

@@ -3,23 +3,25 @@ ghost use Rattle.std.specs.Prelude.{◌≡◌, ◌≢◌, ◌≤◌, ℕ, pos, n
 ghost use Rattle.outside.specs.Count.{RoseBy};
 ghost use Rattle.outside.specs.Tree.{AreNames};
 
-use crate::answers::is_absent;
+use crate::answers::{is_absent, opened, unread};
 use crate::handles::{Handle, to_read};
 use crate::names::FoundNames;
-use outside::{Failed, Kind, ListError, Listing, ReadError, Stat, Tree};
+use crate::parents::Parents;
+use outside::{
+    Failed, Kind, LinkError, LinkText, LinkTextError, ListError, Listing, ReadError, Stat, Tree,
+};
 use path_text::{OutOfMemory, Path};
 use std::alloc::Global;
-use std::fs;
 use std::fs::{Files, Metadata};
 use std::io::Read;
 use std::marker::Model;
+use std::os::fd::AsRawFd;
 use std::os::unix::fs::{FileExt, MetadataExt};
+use std::path::PathBuf;
+use std::{fs, io};
 
 /// How many bytes of names are asked of the system at a time.
 const PIECE: usize = 32768;
-
-/// A file of which fewer bytes were read is closed at once: mostly they were all that it has.
-const LONG: usize = 65536;
 
 /// Looks at the files of a system, seen as its count of faults. It tells no tree.
 #[derive(Drop)]
@@ -27,8 +29,9 @@ pub struct RealReader<R: Files> {
     system: R,
     // What the system writes names into, made once.
     buffer: Vec<u8>,
-    // The two files of which long pieces were read last, the later one first, until the next look at a path. Two that are compared
-    // are read in turn.
+    parents: Parents<R::File>,
+    // The two files that were read last, the later one first, until the next look at a path: two that are compared are read in
+    // turn, and one that is removed meanwhile is read to its end.
     last: Option<Handle<R::File>>,
     before: Option<Handle<R::File>>,
     count: u64,
@@ -43,18 +46,29 @@ impl<R: Files> Model for RealReader<R> {
 }
 
 impl<R: Files + Copy> RealReader<R> {
-    /// A reader that has not failed yet.
-    pub fn make(alloc: Global, system: R) -> Result<RealReader<R>, OutOfMemory>
+    /// A reader that has not failed yet, and knows these directories.
+    pub(crate) fn make(
+        alloc: Global,
+        system: R,
+        parents: Parents<R::File>,
+    ) -> Result<RealReader<R>, OutOfMemory>
         ensures { IfOk result (λ reader. reader ≡ 0) }
     {
         let buffer = vec![in alloc; 0u8; PIECE]?;
         Ok(RealReader {
             system,
             buffer,
+            parents,
             last: None,
             before: None,
             count: 0,
         })
+    }
+
+    /// What it has come to know of directories.
+    pub(crate) fn into_parents(self) -> Parents<R::File> {
+        let RealReader { parents, .. } = self;
+        parents
     }
 }
 
@@ -70,8 +84,24 @@ impl<R: Files> RealReader<R> {
 
 impl<R: Files> RealReader<R>
 where
-    R::File: FileExt,
+    R::File: FileExt + AsRawFd,
 {
+    // What stands at the path; a directory is one that is known from then on.
+    fn look(&mut self, path: &Path) -> io::Result<Option<Stat>>
+        ensures same { self.new ≡ self.old }
+        ensures size { IfOk result (λ answer. IfSome answer (λ stat. stat.kind ≢ Kind.File → stat.size ≡ 0)) }
+    {
+        let data = match fs::symlink_metadata(&self.system, path.text()) {
+            Ok(data) => data,
+            Err(e) if is_absent(e.kind()) => return Ok(None),
+            Err(e) => return Err(e),
+        };
+        if data.is_dir() {
+            self.parents.keep_first(path, &data)?;
+        }
+        Ok(Some(stat_of(&data)))
+    }
+
     // Reads through the handle that is open, or opens one.
     fn read_open(&mut self, path: &Path, at: u64, into: &mut [u8]) -> Result<usize, ReadError>
         ensures same { self.new ≡ self.old }
@@ -81,13 +111,29 @@ where
         if let Some(file) = self.open_file(path) {
             return file.read_at(into, at).map_err(|_| ReadError::Failed);
         }
-        let file = to_read(&self.system, path)?;
+        let file = opened(self.opened(path))?;
         let n = file.read_at(into, at).map_err(|_| ReadError::Failed)?;
-        if n >= LONG {
-            self.before = self.last.take();
-            self.last = Handle::keep(path, file);
-        }
+        self.before = self.last.take();
+        self.last = Handle::keep(path, file);
         Ok(n)
+    }
+
+    // Opens the file at the path, in the directory over it.
+    fn opened(&mut self, path: &Path) -> io::Result<R::File>
+        ensures { self.new ≡ self.old }
+    {
+        self.parents.go(&self.system, path)?;
+        let told = to_read(&self.system, self.parents.way());
+        self.parents.told(&self.system, told)
+    }
+
+    // The text of the link at the path, in the directory over it.
+    fn text_at(&mut self, alloc: Global, path: &Path) -> io::Result<PathBuf>
+        ensures { self.new ≡ self.old }
+    {
+        self.parents.go(&self.system, path)?;
+        let told = self.system.read_link(alloc, self.parents.way());
+        self.parents.told(&self.system, told)
     }
 
     // The file at the path, where it is open.
@@ -101,7 +147,7 @@ where
 
 impl<R: Files> Tree for RealReader<R>
 where
-    R::File: FileExt,
+    R::File: FileExt + AsRawFd,
 {
     ghost use Rattle.std.specs.Prelude.{None};
 
@@ -117,16 +163,21 @@ where
     fn stat(&mut self, path: &Path) -> Result<Option<Stat>, Failed> {
         self.last = None;
         self.before = None;
-        match fs::symlink_metadata(&self.system, path.text()) {
-            Ok(data) => Ok(Some(stat_of(&data))),
-            Err(e) if is_absent(e.kind()) => Ok(None),
+        self.parents.leave(path);
+        match self.look(path) {
+            Ok(stat) => Ok(stat),
             Err(_) => Err(self.fault()),
         }
     }
 
-    /// A link is not followed.
+    /// A link is not followed, and a directory that is not the child of the known one above it is a fault.
     fn list(&mut self, alloc: Global, path: &Path) -> Result<Listing, ListError> {
-        match listing_of(&self.system, alloc, path, self.buffer.as_mut_slice()) {
+        let told = listing_of(&self.system, alloc, path, self.buffer.as_mut_slice());
+        match told {
+            Ok(_) if !self.parents.is_child(&self.system, path) => {
+                self.fault();
+                Err(ListError::Failed)
+            }
             Ok(listing) => {
                 self.count = self.count.saturating_add(listing.unnamed());
                 Ok(listing)
@@ -147,6 +198,30 @@ where
             },
             told => told,
         }
+    }
+
+    /// The text is that of the link itself. One that is no text of a link, as one that is not UTF-8, is a fault.
+    fn read_link(&mut self, alloc: Global, path: &Path) -> Result<LinkText, LinkError> {
+        match text_of(alloc, self.text_at(alloc, path)) {
+            Err(LinkError::Failed) => {
+                self.fault();
+                Err(LinkError::Failed)
+            }
+            told => told,
+        }
+    }
+}
+
+// The text of a link, as the system told it.
+fn text_of(alloc: Global, told: io::Result<PathBuf>) -> Result<LinkText, LinkError> {
+    let text = match told {
+        Ok(text) => text,
+        Err(e) => return Err(unread(e.kind())),
+    };
+    match LinkText::parse(alloc, text.as_str()) {
+        Ok(text) => Ok(text),
+        Err(LinkTextError::OutOfMemory) => Err(LinkError::OutOfMemory),
+        Err(_) => Err(LinkError::Failed),
     }
 }
 

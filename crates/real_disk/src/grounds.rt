@@ -1,20 +1,31 @@
 //! The files of the system, written.
-ghost use Rattle.std.specs.Prelude.{◌≡◌, []};
+ghost use Rattle.std.specs.Prelude.{◌≡◌, ◌≤◌, ◌++◌, ◌∷◌, [], All, Some, None, map, IfErr, IfOk, OnOk, OnErr, IsTrue};
+ghost use Rattle.std.specs.List.{sum_by};
+ghost use Rattle.std.specs.Option.{option_map};
+ghost use Rattle.outside.specs.Count.{capped};
+ghost use Rattle.outside.specs.Spans.{are_cuts, cuts_at, pieces, without_cut, zeros_of};
+ghost use Rattle.real_disk.specs.Spans.{count_of, piece_of, untold};
 
 use crate::disk::RealReader;
+use crate::parents::Parents;
+use crate::spans::{Cuttings, RealSpan, faults_of, spans_of};
 use crate::writers::RealWriter;
-use outside::{Ground, Lent, Plot, Tops, Tree, WriteError};
+use outside::{Ground, Lent, LinkText, Plot, SpanError, Tops, Tree, Wide, WriteError};
 use path_text::{OutOfMemory, Path};
 use std::alloc::Global;
 use std::fs::Files;
 use std::marker::Model;
+use std::os::fd::AsRawFd;
 use std::os::unix::fs::FileExt;
+use std::random::RandomSource;
 
-/// The files of a system, seen as its count of faults and the tops of the parts that are out. It tells no tree.
+/// The files of a system, seen as its count of faults, the tops of the parts that are out, and the files that are out in spans. It tells
+/// no tree.
 #[derive(Drop)]
 pub struct RealGround<R: Files> {
     writer: RealWriter<R>,
     lent: Lent,
+    cut: Cuttings,
 }
 
 /// A part of them, seen as its count of faults and its tops. It tells no tree, and nothing is checked while it is out.
@@ -25,11 +36,13 @@ pub struct RealPart<R: Files> {
 }
 
 impl<R: Files> Model for RealGround<R> {
-    ghost use Rattle.std.specs.Prelude.{List, ℕ};
+    ghost use Rattle.real_disk.specs.Spans.{Seen, seen_code};
 
-    ghost Value = { ℕ × List (List (List ℕ)) };
+    ghost Value = { Seen };
 
-    ghost view = { λ ground. (ground.writer, ground.lent) };
+    ghost coded = { seen_code };
+
+    ghost view = { λ ground. record { count = ground.writer; lent = ground.lent; cut = ground.cut } };
 }
 
 impl<R: Files> Model for RealPart<R> {
@@ -40,30 +53,38 @@ impl<R: Files> Model for RealPart<R> {
     ghost view = { λ part. (part.writer, part.tops) };
 }
 
-impl<R: Files> RealGround<R> {
-    /// The files of a system, with no fault yet and no part out. It takes no memory.
+impl<R: Files + RandomSource> RealGround<R>
+where
+    R::File: AsRawFd,
+{
+    /// The files of a system, with no fault yet and no part out.
     pub fn make(alloc: Global, system: R) -> RealGround<R>
-        ensures { result ≡ (0, []) }
+        ensures { result ≡ record { count = 0; lent = []; cut = [] } }
     {
+        let mut key = [0u8; 16];
+        // A system that gives no bytes gives a key that can be guessed: then paths of one hash may be refused as another's.
+        let _ = system.fill_bytes(&mut key);
+        let parents = Parents::make(alloc, &system, key);
         RealGround {
-            writer: RealWriter::make(system),
+            writer: RealWriter::make(system, parents),
             lent: Lent::make(alloc),
+            cut: Cuttings::make(alloc),
         }
     }
 }
 
 impl<R: Files + Copy> Plot for RealGround<R>
 where
-    R::File: FileExt,
+    R::File: FileExt + AsRawFd,
 {
     ghost use Rattle.std.specs.Prelude.{None};
     ghost use Rattle.outside.specs.Writes.{all_but};
 
     ghost tree = { λ _. None };
 
-    ghost count = { λ plot. plot.0 };
+    ghost count = { λ plot. plot.count };
 
-    ghost area = { λ plot. all_but plot.1 };
+    ghost area = { λ plot. all_but plot.lent plot.cut };
 
     fn faults(&self) -> u64 {
         self.writer.faults()
@@ -76,6 +97,15 @@ where
     /// A link is not followed.
     fn make_file(&mut self, _alloc: Global, path: &Path) -> Result<(), WriteError> {
         self.writer.make_file(path)
+    }
+
+    fn make_link(
+        &mut self,
+        _alloc: Global,
+        path: &Path,
+        text: &LinkText,
+    ) -> Result<(), WriteError> {
+        self.writer.make_link(path, text)
     }
 
     /// A write of nothing, or of fewer bytes than were given, is a fault.
@@ -100,7 +130,7 @@ where
 
 impl<R: Files + Copy> Plot for RealPart<R>
 where
-    R::File: FileExt,
+    R::File: FileExt + AsRawFd,
 {
     ghost use Rattle.std.specs.Prelude.{None};
     ghost use Rattle.outside.specs.Writes.{under};
@@ -122,6 +152,15 @@ where
     /// A link is not followed.
     fn make_file(&mut self, _alloc: Global, path: &Path) -> Result<(), WriteError> {
         self.writer.make_file(path)
+    }
+
+    fn make_link(
+        &mut self,
+        _alloc: Global,
+        path: &Path,
+        text: &LinkText,
+    ) -> Result<(), WriteError> {
+        self.writer.make_link(path, text)
     }
 
     /// A write of nothing, or of fewer bytes than were given, is a fault.
@@ -146,28 +185,69 @@ where
 
 impl<R: Files + Copy> Ground for RealGround<R>
 where
-    R::File: FileExt,
+    R::File: FileExt + AsRawFd,
 {
     type Reader = RealReader<R>;
 
     type Part = RealPart<R>;
 
     fn reader(&mut self, alloc: Global) -> Result<RealReader<R>, OutOfMemory> {
-        RealReader::make(alloc, self.writer.system())
+        let parents = self.writer.share()?;
+        RealReader::make(alloc, self.writer.system(), parents)
     }
 
     fn take_reader(&mut self, reader: RealReader<R>) {
         self.writer.add(reader.faults());
+        self.writer.take(reader.into_parents());
     }
 
     fn lease(&mut self, alloc: Global, tops: &[Path]) -> Result<RealPart<R>, OutOfMemory> {
+        let parents = self.writer.share()?;
         let tops = self.lent.lend(alloc, tops)?;
-        let writer = RealWriter::make(self.writer.system());
+        let writer = RealWriter::make(self.writer.system(), parents);
         Ok(RealPart { writer, tops })
     }
 
     fn give_back(&mut self, part: RealPart<R>) {
         self.writer.add(part.writer.faults());
         self.lent.end(&part.tops);
+        let RealPart { writer, .. } = part;
+        self.writer.take(writer.into_parents());
+    }
+}
+
+impl<R: Files + Copy> Wide for RealGround<R>
+where
+    R::File: FileExt + AsRawFd,
+{
+    type Span = RealSpan<R>;
+
+    /// Nothing is asked of the system.
+    fn lease_spans(
+        &mut self,
+        alloc: Global,
+        path: &Path,
+        cuts: &[u64],
+    ) -> Result<Vec<RealSpan<R>>, SpanError>
+        requires cuts { IsTrue (are_cuts cuts.now) }
+        ensures pieces { IfOk result (λ spans. map piece_of spans.items ≡ pieces path.now cuts.now) }
+        ensures holds { IfOk result (λ spans. map untold spans.items ≡ map (zeros_of None) (pieces path.now cuts.now)) }
+        ensures zero { IfOk result (λ spans. All (λ span. count_of span ≡ 0) spans.items) }
+        ensures lent { OnOk result (self.new ≡ record self.old { cut = self.old.cut ++ record { path = path.now; cuts = cuts.now } ∷ [] }) }
+        ensures memory { OnErr result (self.new ≡ self.old) }
+        ensures refused { IfErr result (λ e. e ≡ SpanError.OutOfMemory) }
+    {
+        let spans = spans_of(alloc, &mut self.writer, path, cuts)?;
+        self.cut.lend(alloc, path, cuts)?;
+        Ok(spans)
+    }
+
+    fn give_back_spans(&mut self, path: &Path, spans: Vec<RealSpan<R>>)
+        requires { option_map (pieces path.now) (cuts_at path.now self.old.cut) ≡ Some (map piece_of spans.items) }
+        ensures back { self.new ≡ record self.old { count = capped self.old.count (sum_by count_of spans.items); cut = without_cut path.now self.old.cut } }
+        ensures rises { self.old.count ≤ self.new.count }
+    {
+        self.writer.add(faults_of(&spans));
+        self.cut.end(path);
     }
 }

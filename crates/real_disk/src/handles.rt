@@ -1,12 +1,9 @@
 //! Files of the system that are open.
-ghost use Rattle.std.specs.Prelude.{◌≡◌, IfErr, IsTrue};
-ghost use Rattle.outside.specs.Writes.{may_make, may_change};
-
-use crate::answers::{changed, made, opened};
-use outside::{ReadError, WriteError};
+use crate::known::Identity;
 use path_text::Path;
-use std::fs;
-use std::fs::{Files, OpenOptions};
+use std::fs::{Files, OpenFile, OpenOptions};
+use std::io::ErrorKind;
+use std::{fs, io};
 
 /// A file that is open, and its path.
 #[derive(Drop)]
@@ -34,34 +31,38 @@ impl<F: Drop> Handle<F> {
     }
 }
 
-/// Opens a file to read it. What is no file is not opened.
-pub fn to_read<R: Files>(system: &R, path: &Path) -> Result<R::File, ReadError> {
-    if !opened(fs::symlink_metadata(system, path.text()))?.is_file() {
-        return Err(ReadError::NotFile);
-    }
+/// Opens a file to read it.
+pub fn to_read<R: Files>(system: &R, way: &str) -> io::Result<R::File> {
     let mut how = OpenOptions::new();
     how.read(true);
-    opened(how.open(system, path.text()))
+    file_at(system, way, &how)
 }
 
-/// Opens a file to write to it. What is no file is not opened.
-pub fn to_write<R: Files>(system: &R, path: &Path) -> Result<R::File, WriteError>
-    ensures { IfErr result (λ e. IsTrue (may_change e)) }
-{
-    if !changed(fs::symlink_metadata(system, path.text()))?.is_file() {
-        return Err(WriteError::WrongKind);
-    }
+/// Opens a file to write to it.
+pub fn to_write<R: Files>(system: &R, way: &str) -> io::Result<R::File> {
     let mut how = OpenOptions::new();
     how.write(true);
-    changed(how.open(system, path.text()))
+    file_at(system, way, &how)
 }
 
 /// Makes a file where nothing is, open to write to it.
-pub fn to_make<R: Files>(system: &R, path: &Path) -> Result<R::File, WriteError>
-    ensures { IfErr result (λ e. IsTrue (may_make e)) }
-{
+pub fn to_make<R: Files>(system: &R, way: &str) -> io::Result<R::File> {
     let mut how = OpenOptions::new();
     how.write(true);
     how.create_new(true);
-    made(how.open(system, path.text()))
+    how.open(system, way)
+}
+
+// Opens a file. What is no file is not opened, and is refused as a directory is. A file that took the place of the one that was
+// looked at is a fault.
+fn file_at<R: Files>(system: &R, way: &str, how: &OpenOptions) -> io::Result<R::File> {
+    let data = fs::symlink_metadata(system, way)?;
+    if !data.is_file() {
+        return Err(io::Error::from(ErrorKind::IsADirectory));
+    }
+    let file = how.open(system, way)?;
+    if Identity::of(&file.metadata()?) != Identity::of(&data) {
+        return Err(io::Error::from(ErrorKind::StaleNetworkFileHandle));
+    }
+    Ok(file)
 }

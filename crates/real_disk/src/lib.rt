@@ -25,11 +25,15 @@ mod clocks;
 mod disk;
 mod grounds;
 mod handles;
+mod known;
 mod names;
+mod parents;
+mod spans;
 mod streams;
 mod writers;
 
 pub use clocks::seconds;
 pub use disk::RealReader;
 pub use grounds::{RealGround, RealPart};
+pub use spans::RealSpan;
 pub use streams::RealSink;

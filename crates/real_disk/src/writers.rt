@@ -5,17 +5,21 @@ ghost use Rattle.outside.specs.Writes.{may_make, may_change, may_empty};
 
 use crate::answers::{changed, emptied, is_absent, made, wrote};
 use crate::handles::{Handle, to_make, to_write};
-use outside::WriteError;
-use path_text::Path;
-use std::fs;
+use crate::parents::Parents;
+use outside::{LinkText, SpanError, WriteError};
+use path_text::{OutOfMemory, Path};
 use std::fs::Files;
+use std::io::ErrorKind;
 use std::marker::Model;
+use std::os::fd::AsRawFd;
 use std::os::unix::fs::FileExt;
+use std::{fs, io};
 
 /// What writes to the files of a system, seen as its count of faults. The file that was made or written last stays open.
 #[derive(Drop)]
 pub struct RealWriter<R: Files> {
     system: R,
+    parents: Parents<R::File>,
     written: Option<Handle<R::File>>,
     count: u64,
 }
@@ -29,12 +33,13 @@ impl<R: Files> Model for RealWriter<R> {
 }
 
 impl<R: Files> RealWriter<R> {
-    /// It has no fault yet.
-    pub fn make(system: R) -> RealWriter<R>
+    /// It has no fault yet, and knows these directories.
+    pub fn make(system: R, parents: Parents<R::File>) -> RealWriter<R>
         ensures { result ≡ 0 }
     {
         RealWriter {
             system,
+            parents,
             written: None,
             count: 0,
         }
@@ -55,6 +60,20 @@ impl<R: Files> RealWriter<R> {
         self.count = self.count.saturating_add(faults);
     }
 
+    /// What it knows of directories, for a reader or a part.
+    pub fn share(&mut self) -> Result<Parents<R::File>, OutOfMemory>
+        ensures { self.new ≡ self.old }
+    {
+        self.parents.share()
+    }
+
+    /// Takes what a reader or a part has come to know of directories.
+    pub fn take(&mut self, parents: Parents<R::File>)
+        ensures { self.new ≡ self.old }
+    {
+        self.parents.take(parents);
+    }
+
     // Counts the fault, where the answer is one.
     fn counted(&mut self, told: Result<(), WriteError>) -> Result<(), WriteError>
         ensures same { result ≡ told }
@@ -73,11 +92,17 @@ impl<R: Files + Copy> RealWriter<R> {
     pub fn system(&self) -> R {
         self.system
     }
+
+    /// What it has come to know of directories.
+    pub fn into_parents(self) -> Parents<R::File> {
+        let RealWriter { parents, .. } = self;
+        parents
+    }
 }
 
-impl<R: Files + Copy> RealWriter<R>
+impl<R: Files> RealWriter<R>
 where
-    R::File: FileExt,
+    R::File: FileExt + AsRawFd,
 {
     /// Makes an empty directory.
     pub fn make_dir(&mut self, path: &Path) -> Result<(), WriteError>
@@ -85,7 +110,7 @@ where
         ensures count { RoseBy 0 self.old self.new }
         ensures cause { IsErrOf result WriteError.Failed → RoseBy 1 self.old self.new }
     {
-        let told = made(fs::create_dir(&self.system, path.text()));
+        let told = made(self.dir_made(path));
         self.counted(told)
     }
 
@@ -95,7 +120,17 @@ where
         ensures count { RoseBy 0 self.old self.new }
         ensures cause { IsErrOf result WriteError.Failed → RoseBy 1 self.old self.new }
     {
-        let told = self.made_file(path);
+        let told = made(self.file_made(path));
+        self.counted(told)
+    }
+
+    /// Makes a link with this text.
+    pub fn make_link(&mut self, path: &Path, text: &LinkText) -> Result<(), WriteError>
+        ensures named { IfErr result (λ e. IsTrue (may_make e)) }
+        ensures count { RoseBy 0 self.old self.new }
+        ensures cause { IsErrOf result WriteError.Failed → RoseBy 1 self.old self.new }
+    {
+        let told = made(self.link_made(path, text));
         self.counted(told)
     }
 
@@ -109,6 +144,27 @@ where
         self.counted(told)
     }
 
+    /// Writes bytes to a range of a file that begins at a start. Each refusal but want of memory is a fault, also that no file is there.
+    pub fn write_range(
+        &mut self,
+        path: &Path,
+        start: u64,
+        at: u64,
+        bytes: &[u8],
+    ) -> Result<(), SpanError>
+        ensures count { RoseBy 0 self.old self.new }
+        ensures cause { IsErrOf result SpanError.Failed → RoseBy 1 self.old self.new }
+    {
+        match self.write_from(path, start, at, bytes) {
+            Ok(()) => Ok(()),
+            Err(WriteError::OutOfMemory) => Err(SpanError::OutOfMemory),
+            Err(_) => {
+                self.count = self.count.saturating_add(1);
+                Err(SpanError::Failed)
+            }
+        }
+    }
+
     /// Removes what is no directory.
     pub fn remove_file(&mut self, path: &Path) -> Result<(), WriteError>
         ensures named { IfErr result (λ e. IsTrue (may_change e)) }
@@ -116,7 +172,7 @@ where
         ensures cause { IsErrOf result WriteError.Failed → RoseBy 1 self.old self.new }
     {
         self.written = None;
-        let told = changed(fs::remove_file(&self.system, path.text()));
+        let told = changed(self.file_removed(path));
         self.counted(told)
     }
 
@@ -126,26 +182,116 @@ where
         ensures count { RoseBy 0 self.old self.new }
         ensures cause { IsErrOf result WriteError.Failed → RoseBy 1 self.old self.new }
     {
-        let told = emptied(fs::remove_dir(&self.system, path.text()));
-        if told == Err(WriteError::WrongKind) && is_gone(&self.system, path) {
-            return Err(WriteError::Absent);
-        }
+        let told = emptied(self.dir_removed(path));
         self.counted(told)
     }
 }
 
+// The same as the system tells it, each in the directory over the path.
 impl<R: Files> RealWriter<R>
 where
-    R::File: FileExt,
+    R::File: FileExt + AsRawFd,
 {
-    // Makes a file, which stays open.
-    fn made_file(&mut self, path: &Path) -> Result<(), WriteError>
-        ensures same { self.new ≡ self.old }
-        ensures named { IfErr result (λ e. IsTrue (may_make e)) }
+    // A directory that was made, or is there already, is one that is known from then on.
+    fn dir_made(&mut self, path: &Path) -> io::Result<()>
+        ensures { self.new ≡ self.old }
     {
-        let file = to_make(&self.system, path)?;
+        self.parents.go(&self.system, path)?;
+        let told = fs::create_dir(&self.system, self.parents.way());
+        let told = self.parents.told(&self.system, told);
+        match told {
+            Ok(()) => self.keep(path)?,
+            Err(e) if e.kind() == ErrorKind::AlreadyExists => {
+                self.keep(path)?;
+                return Err(e);
+            }
+            Err(e) => return Err(e),
+        }
+        Ok(())
+    }
+
+    // Keeps which directory is at the path that was gone to, if one is.
+    fn keep(&mut self, path: &Path) -> io::Result<()>
+        ensures { self.new ≡ self.old }
+    {
+        let data = fs::symlink_metadata(&self.system, self.parents.way())?;
+        if data.is_dir() {
+            self.parents.keep(path, &data)?;
+        }
+        Ok(())
+    }
+
+    // The file stays open.
+    fn file_made(&mut self, path: &Path) -> io::Result<()>
+        ensures { self.new ≡ self.old }
+    {
+        self.parents.go(&self.system, path)?;
+        let told = to_make(&self.system, self.parents.way());
+        let file = self.parents.told(&self.system, told)?;
         self.written = Handle::keep(path, file);
         Ok(())
+    }
+
+    fn link_made(&mut self, path: &Path, text: &LinkText) -> io::Result<()>
+        ensures { self.new ≡ self.old }
+    {
+        self.parents.go(&self.system, path)?;
+        let told = self.system.symlink(text.text(), self.parents.way());
+        self.parents.told(&self.system, told)
+    }
+
+    fn file_opened(&mut self, path: &Path) -> io::Result<R::File>
+        ensures { self.new ≡ self.old }
+    {
+        self.parents.go(&self.system, path)?;
+        let told = to_write(&self.system, self.parents.way());
+        self.parents.told(&self.system, told)
+    }
+
+    fn file_removed(&mut self, path: &Path) -> io::Result<()>
+        ensures { self.new ≡ self.old }
+    {
+        self.parents.go(&self.system, path)?;
+        let told = fs::remove_file(&self.system, self.parents.way());
+        self.parents.told(&self.system, told)
+    }
+
+    // Where a directory is missing, the path itself may be none or one over it, which is told as if nothing were there.
+    fn dir_removed(&mut self, path: &Path) -> io::Result<()>
+        ensures { self.new ≡ self.old }
+    {
+        self.parents.go(&self.system, path)?;
+        let told = fs::remove_dir(&self.system, self.parents.way());
+        match self.parents.told(&self.system, told) {
+            Err(e) if e.kind() == ErrorKind::NotADirectory && self.is_gone() => {
+                Err(io::Error::from(ErrorKind::NotFound))
+            }
+            told => told,
+        }
+    }
+
+    // Whether nothing is at the path that was gone to.
+    fn is_gone(&self) -> bool {
+        match fs::symlink_metadata(&self.system, self.parents.way()) {
+            Ok(_) => false,
+            Err(e) => is_absent(e.kind()),
+        }
+    }
+
+    // The same, where a place that is too far is a fault.
+    fn write_from(
+        &mut self,
+        path: &Path,
+        start: u64,
+        at: u64,
+        bytes: &[u8],
+    ) -> Result<(), WriteError>
+        ensures { self.new ≡ self.old }
+    {
+        match start.checked_add(at) {
+            Some(place) => self.write_open(path, place, bytes),
+            None => Err(WriteError::Failed),
+        }
     }
 
     // Writes through the handle that is open, or opens one.
@@ -158,17 +304,9 @@ where
                 return wrote(file.write_at(bytes, at), bytes.len());
             }
         }
-        let file = to_write(&self.system, path)?;
+        let file = changed(self.file_opened(path))?;
         wrote(file.write_at(bytes, at), bytes.len())?;
         self.written = Handle::keep(path, file);
         Ok(())
-    }
-}
-
-// Whether nothing stands at the path.
-fn is_gone<R: Files>(system: &R, path: &Path) -> bool {
-    match fs::symlink_metadata(system, path.text()) {
-        Ok(_) => false,
-        Err(e) => is_absent(e.kind()),
     }
 }

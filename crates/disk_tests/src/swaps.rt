@@ -1,0 +1,147 @@
+//! A directory stays the one that was looked at: each test puts a link in the place of a directory between two calls.
+use crate::rooms::{Node, Room};
+use crate::shared::{same, so};
+use crate::whole_disk::{Act, WholeDisk};
+use outside::{LinkError, ListError, ReadError, Tree, WriteError};
+use real_disk::RealReader;
+use std::os::unix::fs::symlink;
+use std::{fs, io};
+
+// A directory that is looked at, and another one with the same names.
+const NODES: [(&str, Node<'static>); 9] = [
+    ("top", Node::Dir),
+    ("top/a", Node::Dir),
+    ("top/a/empty", Node::Dir),
+    ("top/a/file", Node::File(b"own")),
+    ("top/a/link", Node::Link("file")),
+    ("out", Node::Dir),
+    ("out/empty", Node::Dir),
+    ("out/file", Node::File(b"other")),
+    ("out/link", Node::Link("other")),
+];
+
+// Puts a link to the other directory in the place of the one that was looked at.
+fn swap(host: HostRuntime, room: &Room) -> io::Result<()> {
+    let own = room.at("top/a")?;
+    fs::rename(&host, own.text(), room.at("top/aside")?.text())?;
+    symlink(&host, room.at("out")?.text(), own.text())
+}
+
+// Whether nothing was made, written or removed in the other directory.
+fn is_as_before(host: HostRuntime, room: &Room) -> io::Result<bool> {
+    let mut names = 0u32;
+    for entry in fs::read_dir(&host, room.at("out")?.text())? {
+        let _ = entry?;
+        names = names.saturating_add(1);
+    }
+    for entry in fs::read_dir(&host, room.at("out/empty")?.text())? {
+        let _ = entry?;
+        names = names.saturating_add(1);
+    }
+    Ok(names == 3 && room.holds("out/file", b"other"))
+}
+
+// Looks at these as a walk does; whether each is a directory.
+fn are_listed(
+    host: HostRuntime,
+    reader: &mut RealReader<HostRuntime>,
+    room: &Room,
+    all: &[&str],
+) -> bool {
+    for names in all {
+        let Ok(path) = room.at(names) else {
+            return false;
+        };
+        if reader.stat(&path).is_err() || reader.list(host.alloc(), &path).is_err() {
+            return false;
+        }
+    }
+    true
+}
+
+// The files of the system, which were looked at before the swap, and these names after it.
+fn looked_at(host: HostRuntime, room: &Room, after: &str) -> io::Result<WholeDisk> {
+    let mut disk = WholeDisk::make(host);
+    let Ok(mut reader) = disk.reader(host.alloc()) else {
+        return Err(io::Error::from(io::ErrorKind::OutOfMemory));
+    };
+    if !are_listed(host, &mut reader, room, &["top", "top/a"]) {
+        return Err(io::Error::from(io::ErrorKind::NotFound));
+    }
+    swap(host, room)?;
+    let _ = reader.stat(&room.at(after)?);
+    disk.take_reader(reader);
+    Ok(disk)
+}
+
+#[test]
+fn nothing_is_written_in_another_directory(rt: HostRuntime) {
+    for (act, names) in [
+        (Act::RemoveFile, "top/a/file"),
+        (Act::RemoveDir, "top/a/empty"),
+        (Act::MakeFile, "top/a/new"),
+        (Act::MakeDir, "top/a/new"),
+        (Act::MakeLink("file"), "top/a/new"),
+        (Act::Write(0, b"new"), "top/a/file"),
+        // What is looked at by way of the link is not the child of the one above it.
+        (Act::MakeFile, "top/a/empty/new"),
+    ] {
+        let room = Room::with(rt, &NODES).expect(&rt, "a room");
+        let mut disk = looked_at(rt, &room, "top/a/empty").expect(&rt, "looks");
+        let path = room.at(names).expect(&rt, "a path");
+        let told = disk.act(rt.alloc(), act, &path);
+        same(&rt, &told, &Err(WriteError::Failed));
+        same(&rt, &disk.faults(), &1);
+        let stands = is_as_before(rt, &room).expect(&rt, "names");
+        so(&rt, stands, names);
+        room.remove().expect(&rt, "an empty room");
+    }
+}
+
+#[test]
+fn nothing_is_read_in_another_directory(rt: HostRuntime) {
+    let room = Room::with(rt, &NODES).expect(&rt, "a room");
+    let mut disk = looked_at(rt, &room, "top/a/empty").expect(&rt, "looks");
+    let mut reader = disk.reader(rt.alloc()).expect(&rt, "memory");
+    let file = room.at("top/a/file").expect(&rt, "a path");
+    let told = reader.read(&file, 0, &mut [0; 5]);
+    same(&rt, &told, &Err(ReadError::Failed));
+    let link = room.at("top/a/link").expect(&rt, "a path");
+    let told = reader.read_link(rt.alloc(), &link).err();
+    same(&rt, &told, &Some(LinkError::Failed));
+    let empty = room.at("top/a/empty").expect(&rt, "a path");
+    let told = reader.list(rt.alloc(), &empty).err();
+    same(&rt, &told, &Some(ListError::Failed));
+    same(&rt, &reader.faults(), &3);
+    // The link itself is no directory.
+    let own = room.at("top/a").expect(&rt, "a path");
+    let told = reader.list(rt.alloc(), &own).err();
+    same(&rt, &told, &Some(ListError::NotDir));
+    room.remove().expect(&rt, "an empty room");
+}
+
+// All is done as before in a directory that was looked at and has moved, where its path still leads to it.
+#[test]
+fn the_same_directory_is_written(rt: HostRuntime) {
+    let room = Room::with(rt, &NODES).expect(&rt, "a room");
+    let mut disk = looked_at(rt, &room, "top").expect(&rt, "looks");
+    let own = room.at("top/a").expect(&rt, "a path");
+    fs::remove_file(&rt, own.text()).expect(&rt, "no link");
+    symlink(&rt, "aside", own.text()).expect(&rt, "a link");
+    for (act, names) in [
+        (Act::MakeDir, "top/a/new"),
+        (Act::MakeFile, "top/a/new/file"),
+        (Act::Write(0, b"new"), "top/a/new/file"),
+        (Act::RemoveFile, "top/a/file"),
+        (Act::RemoveDir, "top/a/empty"),
+        (Act::MakeLink("new"), "top/a/to_new"),
+    ] {
+        let path = room.at(names).expect(&rt, "a path");
+        let told = disk.act(rt.alloc(), act, &path);
+        so(&rt, told == Ok(()), names);
+    }
+    same(&rt, &disk.faults(), &0);
+    so(&rt, room.holds("top/aside/new/file", b"new"), "the file");
+    so(&rt, room.holds("top/aside/to_new/file", b"new"), "the link");
+    room.remove().expect(&rt, "an empty room");
+}

@@ -1,0 +1,11 @@
+use Rattle.std.proofs.Common.{◌≡◌, ◌++◌, true, map, drop}
+use Rattle.outside.specs.Spans.{ascends_above, pieces_from}
+use Rattle.real_disk.specs.Spans.{blank}
+use Rattle.real_disk.proofs.spans.spans_behind.Given as goal
+
+abbrev pub invariant-loop-cut : goal.invariant-loop-cut
+invariant-loop-cut g l = record {
+  made : l.spans.items ++ map blank (pieces_from l.path l.at (drop l.cut-index l.rest)) ≡ map blank (pieces_from l.path l.first l.rest);
+  up : ascends_above l.at (drop l.cut-index l.rest) ≡ true;
+  same : l.writer ≡ l.fn.writer;
+}

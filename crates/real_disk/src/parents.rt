@@ -1,0 +1,339 @@
+//! The directories in which things are done.
+//!
+//! **A directory stays the one that was looked at**: what is done below a directory that the run looked at, made or found is done in
+//! that very directory, which is the child of the one above it, or it is a counted failure. The paths that a run was given, and the
+//! links in the middle of them, are as the system takes them.
+//!
+//! So a directory that is known is opened, and compared with what is known of it; its `..` is compared with what is known of the
+//! directory above it, and so on up to the first that is not known. Then the system is asked of `/proc/self/fd/N/NAME`, where N is
+//! the open directory, whatever its path leads to meanwhile. Where the system has no such names, or does not open the directory,
+//! it is asked of the whole path, and the directory is compared before and after.
+use crate::answers::is_absent;
+use crate::known::{Found, Identity, Known};
+use path_text::{MAX_PATH, OutOfMemory, Path};
+use std::alloc::Global;
+use std::fs::{File, Files, Metadata, OpenFile};
+use std::io::ErrorKind;
+use std::os::fd::AsRawFd;
+use std::{fs, io, mem};
+
+// A path by open directories that has more bytes begins anew at one that is opened for it.
+const FAR_UP: usize = 3000;
+
+// A directory in which something was done.
+#[derive(Drop)]
+struct Here<F: Drop> {
+    path: String,
+    // What stands before a name in it when the system is asked.
+    front: String,
+    // Which one the front must lead to, where it is the path itself.
+    due: Option<Identity>,
+    // Keeps the directory open that the front names.
+    _open: Option<F>,
+}
+
+/// What is known of directories, and the two of them in which something was done last.
+#[derive(Drop)]
+pub struct Parents<F: Drop> {
+    alloc: Global,
+    known: Known,
+    // Whether the system has names for what is open.
+    has_names: bool,
+    // The one of the path that was gone to, and the one before: files that are compared are read in turn.
+    here: Option<Here<F>>,
+    other: Option<Here<F>>,
+    // The path of the last directory that was seen to stand where it should.
+    seen: String,
+    way: String,
+}
+
+impl<F: OpenFile + AsRawFd + Drop> Parents<F> {
+    /// No directory is known yet.
+    pub fn make<R: Files<File = F>>(alloc: Global, system: &R, key: [u8; 16]) -> Parents<F> {
+        let has_names = has_names(alloc, system).unwrap_or(false);
+        Parents::over(alloc, Known::make(alloc, key), has_names)
+    }
+}
+
+impl<F: Drop> Parents<F> {
+    fn over(alloc: Global, known: Known, has_names: bool) -> Parents<F> {
+        Parents {
+            alloc,
+            known,
+            has_names,
+            here: None,
+            other: None,
+            seen: String::new(alloc),
+            way: String::new(alloc),
+        }
+    }
+
+    /// All that is known, for a reader or a part.
+    pub fn share(&mut self) -> Result<Parents<F>, OutOfMemory> {
+        let known = self.known.share()?;
+        Ok(Parents::over(self.alloc, known, self.has_names))
+    }
+
+    /// Takes what a reader or a part has come to know.
+    pub fn take(&mut self, other: Parents<F>) {
+        let Parents { known, .. } = other;
+        self.here = None;
+        self.other = None;
+        self.seen.clear();
+        self.known.take(known);
+    }
+
+    /// Keeps which directory is at a path, in place of any that was.
+    pub fn keep(&mut self, path: &Path, data: &Metadata) -> io::Result<()> {
+        self.known.keep(plain(path), Identity::of(data))
+    }
+
+    /// Keeps which directory is at a path, unless one is known there: that stays the one in which things are done.
+    pub fn keep_first(&mut self, path: &Path, data: &Metadata) -> io::Result<()> {
+        match self.known.find(plain(path)) {
+            Found::Is(_) => Ok(()),
+            Found::Nothing | Found::Lost => self.keep(path, data),
+        }
+    }
+
+    /// Closes the directories in which something was done last, unless the path stands in one of them.
+    pub fn leave(&mut self, path: &Path) {
+        let above = around(path).0;
+        if !is_at(&self.here, above) && !is_at(&self.other, above) {
+            self.here = None;
+            self.other = None;
+        }
+    }
+
+    /// How the system is asked of the path that was gone to.
+    pub fn way(&self) -> &str {
+        self.way.as_str()
+    }
+
+    /// Whether the directory at a path is the child of the one above it, where that one is known and the system tells of it.
+    pub fn is_child<R: Files>(&mut self, system: &R, path: &Path) -> bool {
+        let due = match self.known.find(around(path).0) {
+            Found::Is(due) => due,
+            Found::Nothing => return true,
+            Found::Lost => return false,
+        };
+        if self.put_way(plain(path), "/..").is_err() {
+            return false;
+        }
+        match fs::metadata(system, self.way()) {
+            Ok(data) => Identity::of(&data) == due,
+            Err(_) => true,
+        }
+    }
+
+    fn put_way(&mut self, front: &str, name: &str) -> io::Result<()> {
+        self.way.clear();
+        self.way.push_str(front)?;
+        self.way.push_str(name)?;
+        Ok(())
+    }
+
+    /// What the system told, where the directory is still the one that is known.
+    pub fn told<R: Files, T: Drop>(&self, system: &R, told: io::Result<T>) -> io::Result<T> {
+        if self.stands(system) {
+            told
+        } else {
+            Err(another())
+        }
+    }
+
+    // Whether the directory is the one that is known. One that is open is.
+    fn stands<R: Files>(&self, system: &R) -> bool {
+        let Some(here) = &self.here else {
+            return true;
+        };
+        let Some(due) = here.due else {
+            return true;
+        };
+        match fs::metadata(system, here.front.as_str()) {
+            Ok(data) => Identity::of(&data) == due,
+            Err(_) => false,
+        }
+    }
+}
+
+impl<F: OpenFile + AsRawFd + Drop> Parents<F> {
+    /// Goes to a path: from then on [`Parents::way`] is how the system is asked of it. Where nothing is at the directory over it,
+    /// nothing is at the path.
+    pub fn go<R: Files<File = F>>(&mut self, system: &R, path: &Path) -> io::Result<()> {
+        let (above, name) = around(path);
+        if !is_at(&self.here, above) {
+            mem::swap(&mut self.here, &mut self.other);
+        }
+        if !is_at(&self.here, above) {
+            self.here = None;
+            match self.entered(system, above) {
+                Ok(here) => self.here = Some(here),
+                Err(e) if is_absent(e.kind()) => {
+                    return Err(io::Error::from(ErrorKind::NotFound));
+                }
+                Err(e) => return Err(e),
+            }
+        }
+        if !self.stands(system) {
+            return Err(another());
+        }
+        self.way.clear();
+        if let Some(here) = &self.here {
+            self.way.push_str(here.front.as_str())?;
+        }
+        self.way.push_str(name)?;
+        Ok(())
+    }
+
+    fn entered<R: Files<File = F>>(&mut self, system: &R, path: &str) -> io::Result<Here<F>> {
+        match self.known.find(path) {
+            Found::Is(due) => self.known_entered(system, path, due),
+            Found::Nothing => self.by_path(path, None),
+            Found::Lost => Err(another()),
+        }
+    }
+
+    // The directory at a path, by its path.
+    fn by_path(&self, path: &str, due: Option<Identity>) -> io::Result<Here<F>> {
+        Ok(Here {
+            path: String::from_str(self.alloc, path)?,
+            front: with_slash(self.alloc, path)?,
+            due,
+            _open: None,
+        })
+    }
+
+    // The directory at a path, which must be this one, in its place.
+    fn known_entered<R: Files<File = F>>(
+        &mut self,
+        system: &R,
+        path: &str,
+        due: Identity,
+    ) -> io::Result<Here<F>> {
+        let here = if self.has_names {
+            self.opened(system, path, due)?
+        } else {
+            self.by_path(path, Some(due))?
+        };
+        if !self.is_in_place(system, path, here.front.as_str())? {
+            return Err(another());
+        }
+        self.seen.clear();
+        self.seen.push_str(path)?;
+        Ok(here)
+    }
+
+    // The directory at a path, which must be this one, open if the system opens it.
+    fn opened<R: Files<File = F>>(
+        &self,
+        system: &R,
+        path: &str,
+        due: Identity,
+    ) -> io::Result<Here<F>> {
+        let open = match File::open(system, with_slash(self.alloc, path)?.as_str()) {
+            Ok(open) => open,
+            Err(e) if is_absent(e.kind()) => return Err(e),
+            Err(_) => return self.by_path(path, Some(due)),
+        };
+        if Identity::of(&open.metadata()?) != due {
+            return Err(another());
+        }
+        Ok(Here {
+            path: String::from_str(self.alloc, path)?,
+            front: name_of(self.alloc, &open)?,
+            due: None,
+            _open: Some(open),
+        })
+    }
+
+    // Whether the directory at a path, to which the front leads, is the child of the one above it, as far up as the directories are
+    // known, and as it was not seen already.
+    fn is_in_place<R: Files<File = F>>(
+        &self,
+        system: &R,
+        path: &str,
+        front: &str,
+    ) -> io::Result<bool> {
+        let mut up = String::from_str(self.alloc, front)?;
+        let mut rest = path;
+        let mut _open = None;
+        for _ in 0..MAX_PATH {
+            if is_within(self.seen.as_str(), rest) {
+                return Ok(true);
+            }
+            let Some((above, _)) = rest.rsplit_once('/') else {
+                return Ok(true);
+            };
+            up.push_str("../")?;
+            match self.known.find(above) {
+                Found::Is(due) if Identity::of(&fs::metadata(system, up.as_str())?) == due => {}
+                Found::Nothing => return Ok(true),
+                _ => return Ok(false),
+            }
+            if up.len() > FAR_UP && self.has_names {
+                let open = File::open(system, up.as_str())?;
+                up = name_of(self.alloc, &open)?;
+                _open = Some(open);
+            }
+            rest = above;
+        }
+        Ok(false)
+    }
+}
+
+// Whether this is the directory at a path.
+fn is_at<F: Drop>(here: &Option<Here<F>>, path: &str) -> bool {
+    match here {
+        Some(here) => here.path.as_str() == path,
+        None => false,
+    }
+}
+
+// Whether the system has names for what is open: that of `/` leads to `/`.
+fn has_names<R: Files>(alloc: Global, system: &R) -> io::Result<bool>
+where
+    R::File: AsRawFd,
+{
+    let top = File::open(system, "/")?;
+    let named = fs::metadata(system, name_of(alloc, &top)?.as_str())?;
+    Ok(Identity::of(&named) == Identity::of(&top.metadata()?))
+}
+
+// The name of an open directory, with a slash behind it.
+fn name_of<F: AsRawFd>(alloc: Global, open: &F) -> io::Result<String> {
+    let number = open.as_raw_fd();
+    Ok(format!(in alloc; "/proc/self/fd/{number}/")?)
+}
+
+fn with_slash(alloc: Global, path: &str) -> io::Result<String> {
+    let mut folder = String::from_str(alloc, path)?;
+    folder.push('/')?;
+    Ok(folder)
+}
+
+// A path without the slash that `/` has at its end.
+fn plain(path: &Path) -> &str {
+    match path.text() {
+        "/" => "",
+        text => text,
+    }
+}
+
+// The path of the directory over a path, without a slash at its end, and the last name.
+fn around(path: &Path) -> (&str, &str) {
+    path.text().rsplit_once('/').unwrap_or(("", ""))
+}
+
+// Whether a path is another one or is under it.
+fn is_within(path: &str, top: &str) -> bool {
+    match path.strip_prefix(top) {
+        Some(rest) => rest.is_empty() || rest.starts_with('/'),
+        None => false,
+    }
+}
+
+// Another directory stands where a known one should.
+fn another() -> io::Error {
+    io::Error::from(ErrorKind::StaleNetworkFileHandle)
+}
