@@ -19,8 +19,8 @@ pub struct WholeBlind {
 }
 
 impl Model for WholeBlind {
-    ghost use Rattle.std.specs.Prelude.{◌≡◌, []};
-    ghost use Rattle.outside.specs.Writes.{all_but};
+    ghost use Rattle.std.specs.Prelude.{◌≡◌};
+    ghost use Rattle.outside.specs.Writes.{nothing_lent};
     ghost use Rattle.files_mem.specs.Blinded.{Blinded, blinded_code};
 
     ghost Value = { Blinded };
@@ -29,7 +29,7 @@ impl Model for WholeBlind {
 
     ghost view = { λ whole. whole.files };
 
-    ghost invariant = { λ whole. whole.files.area ≡ all_but [] };
+    ghost invariant = { λ whole. whole.files.area ≡ nothing_lent };
 }
 
 impl WholeBlind {

@@ -1,11 +1,11 @@
 //! Files of which no part is lent.
-ghost use Rattle.std.specs.Prelude.{◌≡◌, [], IfOk};
-ghost use Rattle.outside.specs.Writes.{all_but};
+ghost use Rattle.std.specs.Prelude.{◌≡◌, IfOk};
+ghost use Rattle.outside.specs.Writes.{nothing_lent};
 ghost use Rattle.files_mem.specs.Memory.{empty_files};
 
 use files_mem::{Call, MemGround, PutError};
 use mfu_top::{Status, run};
-use outside::{Ground, LoadError, MemSink, Plot, load};
+use outside::{Ground, LinkText, LoadError, MemSink, Plot, load};
 use path_text::{OutOfMemory, Path};
 use std::alloc::Global;
 use std::marker::Model;
@@ -19,8 +19,8 @@ pub struct WholeFiles {
 }
 
 impl Model for WholeFiles {
-    ghost use Rattle.std.specs.Prelude.{◌≡◌, []};
-    ghost use Rattle.outside.specs.Writes.{all_but};
+    ghost use Rattle.std.specs.Prelude.{◌≡◌};
+    ghost use Rattle.outside.specs.Writes.{nothing_lent};
     ghost use Rattle.files_mem.specs.Memory.{Memory, memory_code};
 
     ghost Value = { Memory };
@@ -29,7 +29,7 @@ impl Model for WholeFiles {
 
     ghost view = { λ whole. whole.files };
 
-    ghost invariant = { λ whole. whole.files.area ≡ all_but [] };
+    ghost invariant = { λ whole. whole.files.area ≡ nothing_lent };
 }
 
 impl WholeFiles {
@@ -44,7 +44,7 @@ impl WholeFiles {
     // The files, of which no part is lent.
     pub(crate) fn into_files(self) -> MemGround
         ensures same { result ≡ self }
-        ensures whole { result.area ≡ all_but [] }
+        ensures whole { result.area ≡ nothing_lent }
     {
         self.files
     }
@@ -70,9 +70,14 @@ impl WholeFiles {
         }
     }
 
-    /// Puts a link.
-    pub fn put_link(&mut self, path: &Path, mtime: Option<u64>) -> Result<(), PutError> {
-        match self.files.put_link(path, mtime) {
+    /// Puts a link with this text.
+    pub fn put_link(
+        &mut self,
+        path: &Path,
+        text: &LinkText,
+        mtime: Option<u64>,
+    ) -> Result<(), PutError> {
+        match self.files.put_link(path, text, mtime) {
             Ok(()) => Ok(()),
             Err(e) => Err(e),
         }

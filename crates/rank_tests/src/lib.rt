@@ -19,8 +19,6 @@ mod of_placing;
 #[cfg(test)]
 mod of_post_board;
 #[cfg(test)]
-mod of_ring_core;
-#[cfg(test)]
 mod of_shared_ranks;
 #[cfg(test)]
 mod of_stops;

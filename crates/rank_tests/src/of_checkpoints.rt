@@ -1,6 +1,6 @@
 //! Checkpoints in a folder: written, read back, and refused by each cause.
 ghost use Rattle.std.specs.Prelude.{◌≡◌, [], IfOk};
-ghost use Rattle.outside.specs.Writes.{all_but};
+ghost use Rattle.outside.specs.Writes.{nothing_lent};
 
 use crate::of_tree_walk::paths;
 use checkpoints::{read_checkpoint, write_checkpoint};
@@ -14,7 +14,14 @@ use std::process::Abort;
 use std::test::Fail;
 
 // What is done: a directory, and a file in it.
-const DONE: &str = "mfu list 1
+const DONE: &str = "mfu list 2
+d 0 - ok 0 0 /t
+f 5 86400 ok 0 0 /t/a
+end 2
+";
+
+// The same in version 1 of list files, which is read and not written.
+const DONE_IN_ONE: &str = "mfu list 1
 d 0 - ok 0 0 /t
 f 5 86400 ok 0 0 /t/a
 end 2
@@ -22,7 +29,7 @@ end 2
 
 // Files with the folder `/c`, of which no part is lent.
 fn with_folder(alloc: Global) -> Result<MemGround, Fail>
-    ensures { IfOk result (λ files. files.area ≡ all_but []) }
+    ensures { IfOk result (λ files. files.area ≡ nothing_lent) }
 {
     let mut files = MemGround::empty(alloc)?;
     files.put_dir(&Path::parse(alloc, "/c")?, 0, None)?;
@@ -80,8 +87,8 @@ fn writing(
     dir: &Path,
     lists: &[&[&str]],
 ) -> Result<String, Fail>
-    requires { files.old.area ≡ all_but [] }
-    ensures { files.new.area ≡ all_but [] }
+    requires { files.old.area ≡ nothing_lent }
+    ensures { files.new.area ≡ nothing_lent }
 {
     let done = FlatList::decode(alloc, DONE.as_bytes())?;
     let mut left = Vec::new(alloc);
@@ -157,12 +164,13 @@ fn each_checkpoint_that_is_none_is_refused_by_its_cause(rt: HostRuntime) -> Resu
     let clash = Some("circle 1 0 2\n/t/b\n/t/a/x\nend 2\n");
     for (list, first, second, want) in [
         (Some(DONE), one, two, "2 /t/b ;/t/c /t/d ;"),
+        (Some(DONE_IN_ONE), one, two, "2 /t/b ;/t/c /t/d ;"),
         (None, one, two, "Absent /c/circle.list"),
         (Some(DONE), None, two, "Absent /c/circle0.txt"),
         (Some(DONE), one, None, "Absent /c/circle1.txt"),
         // what is damaged: the list first, and then the files of the ranks
         (
-            Some("mfu list 1\n"),
+            Some("mfu list 2\n"),
             clash,
             None,
             "damaged /c/circle.list 2",
@@ -239,7 +247,7 @@ fn a_path_that_would_be_too_long_is_told_by_its_folder(rt: HostRuntime) -> Resul
     Ok(())
 }
 
-// The files of the ranks are written first, and the list of what is done stays until then.
+// The old list of what is done is removed first, and all else in the folder stays.
 #[test]
 fn a_fault_leaves_all_else_in_the_folder(rt: HostRuntime) -> Result<(), Fail> {
     let alloc = rt.alloc();
@@ -250,13 +258,40 @@ fn a_fault_leaves_all_else_in_the_folder(rt: HostRuntime) -> Result<(), Fail> {
     files.plan(Call::Write, &Path::parse(alloc, "/c/circle1.txt")?)?;
     let told = writing(alloc, &mut files, &dir, &[&["/t/b"], &["/t/c"]])?;
     assert_eq!(rt; told.as_str(), "Fault /c/circle1.txt");
-    holds(&rt, alloc, &mut files, "/c/circle.list", Some("old"))?;
+    holds(&rt, alloc, &mut files, "/c/circle.list", None)?;
     holds(&rt, alloc, &mut files, "/c/circle5.txt", Some("other"))?;
     files.plan(Call::Write, &Path::parse(alloc, "/c/circle.list")?)?;
     let told = writing(alloc, &mut files, &dir, &[&["/t/b"]])?;
     assert_eq!(rt; told.as_str(), "Fault /c/circle.list");
     holds(&rt, alloc, &mut files, "/c/circle5.txt", Some("other"))?;
     assert!(rt; files.faults() > 1);
+    Ok(())
+}
+
+// Whichever call fails, what is read then is the old checkpoint, or it is told that there is none.
+#[test]
+fn a_checkpoint_that_is_torn_is_not_read(rt: HostRuntime) -> Result<(), Fail> {
+    let alloc = rt.alloc();
+    let dir = Path::parse(alloc, "/c")?;
+    for (call, at, want) in [
+        (Call::RemoveFile, "/c/circle.list", "2 /t/b ;"),
+        (Call::RemoveFile, "/c/circle0.txt", "Absent /c/circle.list"),
+        (Call::MakeFile, "/c/circle0.txt", "Absent /c/circle.list"),
+        (Call::Write, "/c/circle0.txt", "Absent /c/circle.list"),
+        (Call::MakeFile, "/c/circle1.txt", "Absent /c/circle.list"),
+        (Call::Write, "/c/circle1.txt", "Absent /c/circle.list"),
+        (Call::MakeFile, "/c/circle.list", "Absent /c/circle.list"),
+        (Call::Write, "/c/circle.list", "damaged /c/circle.list 1"),
+    ] {
+        let mut files = with_folder(alloc)?;
+        let told = writing(alloc, &mut files, &dir, &[&["/t/b"]])?;
+        assert_eq!(rt; told.as_str(), "");
+        files.plan(call, &Path::parse(alloc, at)?)?;
+        let told = writing(alloc, &mut files, &dir, &[&["/t/c"], &["/t/d"]])?;
+        let fault = format!(in alloc; "Fault {at}")?;
+        assert_eq!(rt; told.as_str(), fault.as_str());
+        assert_eq!(rt; reading(alloc, &mut files, &dir)?.as_str(), want);
+    }
     Ok(())
 }
 

@@ -1,11 +1,12 @@
 //! Roots of paths, and walks of small trees, also of files that change.
-ghost use Rattle.std.specs.Prelude.{◌≡◌, ◌≤◌, None};
+ghost use Rattle.std.specs.Prelude.{◌≡◌, ◌≤◌, ◌<◌, length, None};
 
 use circle_run::{Options, Split};
 use files_mem::{Call, MemGround, MemReader};
 use flat_list::Mark;
 use outside::{
-    Failed, Ground, Kind, Lent, ListError, Listing, Plot, ReadError, Stat, Tops, Tree, WriteError,
+    Failed, Ground, Kind, Lent, LinkError, LinkText, ListError, Listing, Plot, ReadError, Stat,
+    Tops, Tree, WriteError,
 };
 use path_text::{OutOfMemory, Path};
 use std::alloc::Global;
@@ -221,14 +222,81 @@ fn what_fails_is_marked_and_counted(rt: HostRuntime) -> Result<(), Fail> {
     Ok(())
 }
 
-// Files that tell no tree and change: what a stat tells of `/t/a` as a directory has no names when it is asked for them. They
-// count how often they were asked.
+// Whether the entry of a path in a list has this target.
+fn has_target(
+    rt: &impl Abort,
+    report: &WalkReport,
+    place: usize,
+    target: Option<&str>,
+) -> Result<(), Fail>
+    requires { place < length report.now.list }
+{
+    let entry = report.list.entry(place)?;
+    match (entry.target, target) {
+        (Some(text), Some(told)) => assert_eq!(rt; text.text(), told),
+        (None, None) => {}
+        _ => assert!(rt; false, "{place}"),
+    }
+    Ok(())
+}
+
+// `/s` with the link `k` of the text `a b`, and the file `m`.
+fn tree_s(alloc: Global) -> Result<MemGround, Fail> {
+    let mut files = MemGround::empty(alloc)?;
+    files.put_dir(&Path::parse(alloc, "/s")?, 0, None)?;
+    let text = LinkText::parse(alloc, "a b")?;
+    files.put_link(&Path::parse(alloc, "/s/k")?, &text, None)?;
+    files.put_file(&Path::parse(alloc, "/s/m")?, b"m", None)?;
+    Ok(files)
+}
+
+#[test]
+fn a_link_has_its_text(rt: HostRuntime) -> Result<(), Fail> {
+    let alloc = rt.alloc();
+    let mut files = tree_s(alloc)?;
+    let report = walked(&rt, alloc, &mut files, &["/s"])?;
+    let found = [
+        ("/s", Mark::Fine),
+        ("/s/k", Mark::Fine),
+        ("/s/m", Mark::Fine),
+    ];
+    has(&rt, &report, &found)?;
+    assert_eq!(rt; report.list.len(), 3);
+    has_target(&rt, &report, 0, None)?;
+    has_target(&rt, &report, 1, Some("a b"))?;
+    has_target(&rt, &report, 2, None)?;
+    assert_eq!(rt; files.faults(), 0);
+    Ok(())
+}
+
+#[test]
+fn a_link_whose_text_fails_is_marked_and_counted(rt: HostRuntime) -> Result<(), Fail> {
+    let alloc = rt.alloc();
+    let mut files = tree_s(alloc)?;
+    files.plan(Call::ReadLink, &Path::parse(alloc, "/s/k")?)?;
+    let report = walked(&rt, alloc, &mut files, &["/s"])?;
+    let found = [
+        ("/s", Mark::Fine),
+        ("/s/k", Mark::StatFailed),
+        ("/s/m", Mark::Fine),
+    ];
+    has(&rt, &report, &found)?;
+    assert_eq!(rt; report.list.len(), 3);
+    has_target(&rt, &report, 1, None)?;
+    assert!(rt; report.list.entry(1)?.stat.is_none());
+    assert_eq!(rt; files.faults(), 1);
+    Ok(())
+}
+
+// Files that tell no tree and change: what a stat tells of `/t/a` as a directory has no names when it is asked for them, and what
+// it tells of `/t/c` as a link has no text. They count how often they were asked.
 #[derive(Drop)]
 struct Shifting {
     files: MemGround,
     lent: Lent,
     stats: u64,
     lists: u64,
+    links: u64,
 }
 
 // A part of files of which nothing is told, and which finds no memory to write.
@@ -259,6 +327,15 @@ impl Plot for Quiet {
         Err(WriteError::OutOfMemory)
     }
 
+    fn make_link(
+        &mut self,
+        _alloc: Global,
+        _path: &Path,
+        _text: &LinkText,
+    ) -> Result<(), WriteError> {
+        Err(WriteError::OutOfMemory)
+    }
+
     fn write_at(
         &mut self,
         _alloc: Global,
@@ -283,6 +360,7 @@ struct ShiftingReader {
     files: MemReader,
     stats: u64,
     lists: u64,
+    links: u64,
 }
 
 impl Tree for ShiftingReader {
@@ -320,6 +398,14 @@ impl Tree for ShiftingReader {
     fn read(&mut self, _path: &Path, _at: u64, _into: &mut [u8]) -> Result<usize, ReadError> {
         Err(ReadError::NotFile)
     }
+
+    fn read_link(&mut self, alloc: Global, path: &Path) -> Result<LinkText, LinkError> {
+        self.links = self.links.saturating_add(1);
+        match self.files.read_link(alloc, path) {
+            Ok(text) => Ok(text),
+            _ => Err(LinkError::NotLink),
+        }
+    }
 }
 
 impl Plot for Shifting {
@@ -330,7 +416,7 @@ impl Plot for Shifting {
 
     ghost count = { λ _. 0 };
 
-    ghost area = { λ files. all_but files.lent };
+    ghost area = { λ files. all_but files.lent [] };
 
     fn faults(&self) -> u64 {
         0
@@ -341,6 +427,15 @@ impl Plot for Shifting {
     }
 
     fn make_file(&mut self, _alloc: Global, _path: &Path) -> Result<(), WriteError> {
+        Err(WriteError::OutOfMemory)
+    }
+
+    fn make_link(
+        &mut self,
+        _alloc: Global,
+        _path: &Path,
+        _text: &LinkText,
+    ) -> Result<(), WriteError> {
         Err(WriteError::OutOfMemory)
     }
 
@@ -373,12 +468,14 @@ impl Ground for Shifting {
             files: self.files.reader(alloc)?,
             stats: 0,
             lists: 0,
+            links: 0,
         })
     }
 
     fn take_reader(&mut self, reader: ShiftingReader) {
         self.stats = self.stats.saturating_add(reader.stats);
         self.lists = self.lists.saturating_add(reader.lists);
+        self.links = self.links.saturating_add(reader.links);
     }
 
     fn lease(&mut self, alloc: Global, tops: &[Path]) -> Result<Quiet, OutOfMemory> {
@@ -391,21 +488,25 @@ impl Ground for Shifting {
     }
 }
 
-// Each path is asked for its stat once, and each directory for its names once, by any number of ranks.
+// Each path is asked for its stat once, each directory for its names once, and each link for its text once, by any number of
+// ranks.
 #[test]
 fn what_changes_between_two_answers_is_marked(rt: HostRuntime) -> Result<(), Fail> {
     let alloc = rt.alloc();
     for ranks in 1..4 {
         let mut files = MemGround::empty(alloc)?;
         files.put_dir(&Path::parse(alloc, "/t")?, 0, None)?;
+        let text = LinkText::parse(alloc, "b")?;
         for path in ["/t/a", "/t/b"] {
-            files.put_link(&Path::parse(alloc, path)?, None)?;
+            files.put_link(&Path::parse(alloc, path)?, &text, None)?;
         }
+        files.put_file(&Path::parse(alloc, "/t/c")?, b"", None)?;
         let mut files = Shifting {
             files,
             lent: Lent::make(alloc),
             stats: 0,
             lists: 0,
+            links: 0,
         };
         let options = Options { ranks, ..OPTIONS };
         let starts = roots_of(paths(alloc, &["/t"])?)?;
@@ -414,10 +515,15 @@ fn what_changes_between_two_answers_is_marked(rt: HostRuntime) -> Result<(), Fai
             ("/t", Mark::Fine),
             ("/t/a", Mark::Changed),
             ("/t/b", Mark::Fine),
+            ("/t/c", Mark::Changed),
         ];
         has(&rt, &report, &found)?;
-        assert_eq!(rt; files.stats, 3);
+        assert_eq!(rt; report.list.len(), 4);
+        has_target(&rt, &report, 2, Some("b"))?;
+        has_target(&rt, &report, 3, None)?;
+        assert_eq!(rt; files.stats, 4);
         assert_eq!(rt; files.lists, 2);
+        assert_eq!(rt; files.links, 2);
     }
     Ok(())
 }

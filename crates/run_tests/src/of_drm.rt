@@ -1,8 +1,11 @@
-//! drm over files in memory, to the byte.
-use crate::rows::{AMPLE, TIME, TREE_T, Want, do_as_wanted, run_with, trees};
+//! drm over a wide level, and over each choice of a small tree.
+ghost use Rattle.std.specs.Prelude.{◌<◌};
+
+use crate::rows::{AMPLE, TIME, Want, do_as_wanted, run_with};
 use files_mem::Call;
 use memory_runs::WholeFiles;
 use mfu_top::Status;
+use outside::LinkText;
 use path_text::Path;
 use std::alloc::Global;
 use std::process::Abort;
@@ -10,248 +13,12 @@ use std::sync::Wait;
 use std::test::Fail;
 use std::thread::Threads;
 
-const LINES_T: &str = "d            0 /t
-f            5 /t/a
-d            0 /t/b
-f            0 /t/b/c
-f            1 /t/b-x
-";
-
-const DIRS_T: &str = "d            0 /t\nd            0 /t/b\n";
-
-const NOTHING: &str = "items 0 dirs 0 files 0 links 0 others 0 bytes 0 failed 1\n";
-
-fn joined(alloc: Global, parts: &[&str]) -> Result<String, Fail> {
-    let mut text = String::new(alloc);
-    for part in parts {
-        text.push_str(part)?;
-    }
-    Ok(text)
-}
-
-#[test]
-fn removes_what_is_chosen_and_nothing_else(rt: HostRuntime) -> Result<(), Fail> {
-    let alloc = rt.alloc();
-    let dry = joined(alloc, &[LINES_T, "removed 0 of 5 failed 0\n"])?;
-    let full = joined(alloc, &[DIRS_T, "removed 0 of 2 failed 2\n"])?;
-    let half = joined(alloc, &[DIRS_T, "removed 1 of 2 failed 1\n"])?;
-    let both = "not empty /t\nnot empty /t/b\n";
-    let odd = "d            0 /v
-l            0 /v/l
-o            0 /v/o
-f            2 /v/x\\x0Ay
-d            0 /w
-removed 4 of 5 failed 2
-";
-    let wants: [Want; 12] = [
-        (&["drm", "--dryrun", "/t"], Status::Done, &dry, ""),
-        (&["dwalk", "/t"], Status::Done, TREE_T, ""),
-        (&["drm", "/t", "--type", "d"], Status::Named, &full, both),
-        (&["dwalk", "/t"], Status::Done, TREE_T, ""),
-        (
-            &["drm", "--name", "c", "/t"],
-            Status::Done,
-            "f            0 /t/b/c\nremoved 1 of 1 failed 0\n",
-            "",
-        ),
-        (
-            &["drm", "/t", "--type", "d"],
-            Status::Named,
-            &half,
-            "not empty /t\n",
-        ),
-        (
-            &["drm", "/none"],
-            Status::Named,
-            "removed 0 of 0 failed 1\n",
-            "gone /none\n",
-        ),
-        (
-            &["drm", "/"],
-            Status::Words,
-            "",
-            "refused word 1 bad value\n",
-        ),
-        (
-            &["drm", "/t", "/t/a"],
-            Status::Done,
-            "d            0 /t\nf            5 /t/a\nf            1 /t/b-x\nremoved 3 of 3 failed 0\n",
-            "",
-        ),
-        (&["dwalk", "/t"], Status::Named, NOTHING, "gone /t\n"),
-        (
-            &["drm", "/v", "/w"],
-            Status::Named,
-            odd,
-            "too long /w 1\nnot empty /w\n",
-        ),
-        (
-            &["dwalk", "/"],
-            Status::Named,
-            "d            0 /\nd            0 /w\nitems 2 dirs 2 files 0 links 0 others 0 bytes 0 failed 1\n",
-            "too long /w 1\n",
-        ),
-    ];
-    let mut files = trees(alloc)?;
-    do_as_wanted(&rt, alloc, &mut files, &wants)
-}
-
 // One thread does all, or four share the ranks; the work of a level goes to as many actors, each over a part of its own.
 const SHARES: [[&str; 4]; 3] = [
     ["--ranks", "1", "--hosts", "1"],
     ["--ranks", "4", "--hosts", "4"],
     ["--ranks", "8", "--hosts", "4"],
 ];
-
-// The calls that are to fail in a run of drm over `/t`; the lines, the last line and the notes that are wanted, and how many faults
-// the files then count; and what dwalk then tells of `/t`.
-type Planned<'p> = (
-    &'p [(Call, &'p str)],
-    (&'p str, &'p str, &'p str, u64),
-    (Status, &'p str, &'p str),
-);
-
-const PLANS: [Planned; 9] = [
-    (
-        &[(Call::RemoveFile, "/t/a")],
-        (
-            LINES_T,
-            "removed 3 of 5 failed 2\n",
-            "not empty /t\nfailed remove /t/a\n",
-            1,
-        ),
-        (
-            Status::Done,
-            "d            0 /t\nf            5 /t/a\nitems 2 dirs 1 files 1 links 0 others 0 bytes 5 failed 0\n",
-            "",
-        ),
-    ),
-    (
-        &[(Call::RemoveDir, "/t/b")],
-        (
-            LINES_T,
-            "removed 3 of 5 failed 2\n",
-            "not empty /t\nfailed remove /t/b\n",
-            1,
-        ),
-        (
-            Status::Done,
-            "d            0 /t\nd            0 /t/b\nitems 2 dirs 2 files 0 links 0 others 0 bytes 0 failed 0\n",
-            "",
-        ),
-    ),
-    (
-        &[(Call::RemoveFile, "/t/a"), (Call::RemoveFile, "/t/b-x")],
-        (
-            LINES_T,
-            "removed 2 of 5 failed 3\n",
-            "not empty /t\nfailed remove /t/a\nfailed remove /t/b-x\n",
-            2,
-        ),
-        (
-            Status::Done,
-            "d            0 /t\nf            5 /t/a\nf            1 /t/b-x\nitems 3 dirs 1 files 2 links 0 others 0 bytes 6 failed 0\n",
-            "",
-        ),
-    ),
-    (
-        &[(Call::RemoveFile, "/t/b/c"), (Call::RemoveFile, "/t/a")],
-        (
-            LINES_T,
-            "removed 1 of 5 failed 4\n",
-            "not empty /t\nfailed remove /t/a\nnot empty /t/b\nfailed remove /t/b/c\n",
-            2,
-        ),
-        (
-            Status::Done,
-            "d            0 /t\nf            5 /t/a\nd            0 /t/b\nf            0 /t/b/c\nitems 4 dirs 2 files 2 links 0 others 0 bytes 5 failed 0\n",
-            "",
-        ),
-    ),
-    (
-        &[(Call::RemoveDir, "/t")],
-        (
-            LINES_T,
-            "removed 4 of 5 failed 1\n",
-            "failed remove /t\n",
-            1,
-        ),
-        (
-            Status::Done,
-            "d            0 /t\nitems 1 dirs 1 files 0 links 0 others 0 bytes 0 failed 0\n",
-            "",
-        ),
-    ),
-    (
-        &[(Call::List, "/t/b")],
-        (
-            "d            0 /t\nf            5 /t/a\nd            0 /t/b\nf            1 /t/b-x\n",
-            "removed 2 of 4 failed 3\n",
-            "not empty /t\nfailed list /t/b\nnot empty /t/b\n",
-            1,
-        ),
-        (
-            Status::Named,
-            "d            0 /t\nd            0 /t/b\nitems 2 dirs 2 files 0 links 0 others 0 bytes 0 failed 1\n",
-            "failed list /t/b\n",
-        ),
-    ),
-    (
-        &[(Call::Stat, "/t/b")],
-        (
-            "d            0 /t\nf            5 /t/a\nf            1 /t/b-x\n",
-            "removed 2 of 3 failed 2\n",
-            "not empty /t\nfailed stat /t/b\n",
-            1,
-        ),
-        (
-            Status::Named,
-            "d            0 /t\nitems 1 dirs 1 files 0 links 0 others 0 bytes 0 failed 1\n",
-            "failed stat /t/b\n",
-        ),
-    ),
-    (
-        &[(Call::Name, "/t/b")],
-        (LINES_T, "removed 5 of 5 failed 1\n", "unnamed /t/b 1\n", 1),
-        (Status::Named, NOTHING, "gone /t\n"),
-    ),
-    (
-        &[(Call::Stat, "/t")],
-        ("", "removed 0 of 0 failed 1\n", "failed stat /t\n", 1),
-        (Status::Named, NOTHING, "failed stat /t\n"),
-    ),
-];
-
-// Whether a run of drm does as is planned, with these ranks and hosts.
-fn removes<T: Abort + Threads + Wait + Sync>(
-    rt: &T,
-    alloc: Global,
-    shares: &[&str; 4],
-    planned: &Planned,
-) -> Result<(), Fail> {
-    let (calls, (lines, last, notes, faults), (left, text, after)) = *planned;
-    let mut files = trees(alloc)?;
-    for (call, at) in calls {
-        files.plan(*call, &Path::parse(alloc, at)?)?;
-    }
-    let out = joined(alloc, &[lines, last])?;
-    let words = ["drm", shares[0], shares[1], shares[2], shares[3], "/t"];
-    let want: [Want; 1] = [(&words, Status::Named, &out, notes)];
-    do_as_wanted(rt, alloc, &mut files, &want)?;
-    assert_eq!(rt; files.faults(), faults, "{last}");
-    let want: [Want; 1] = [(&["dwalk", "/t"], left, text, after)];
-    do_as_wanted(rt, alloc, &mut files, &want)
-}
-
-#[test]
-fn names_what_could_not_be_removed(rt: HostRuntime) -> Result<(), Fail> {
-    for shares in &SHARES {
-        for planned in &PLANS {
-            removes(&rt, rt.alloc(), shares, planned)?;
-        }
-    }
-    Ok(())
-}
 
 // So many files stand in a directory that several threads work on their level. Of the four parts each has one that can't be removed.
 const WIDE: [u32; 4] = [100, 201, 302, 503];
@@ -336,7 +103,7 @@ fn small_tree(alloc: Global, chosen: u32) -> Result<WholeFiles, Fail> {
         match letter {
             'd' => files.put_dir(&path, 0, time)?,
             'f' => files.put_file(&path, b"", time)?,
-            'l' => files.put_link(&path, time)?,
+            'l' => files.put_link(&path, &LinkText::parse(alloc, "x")?, time)?,
             _ => files.put_other(&path, time)?,
         }
         bits /= 2;
@@ -358,6 +125,15 @@ fn held_by(chosen: u32) -> [bool; 11] {
     held
 }
 
+// The line of a node; a link has the text `x`.
+fn line_of(alloc: Global, k: usize) -> Result<String, Fail>
+    requires { k < 11 }
+{
+    let (path, letter, _) = NODES[k];
+    let target = if letter == 'l' { " -> x" } else { "" };
+    Ok(format!(in alloc; "{letter}            0 {path}{target}\n")?)
+}
+
 // What drm is to print for such a choice, and its notes.
 fn wanted_of(alloc: Global, chosen: u32) -> Result<(String, String), Fail> {
     let held = held_by(chosen);
@@ -367,7 +143,7 @@ fn wanted_of(alloc: Global, chosen: u32) -> Result<(String, String), Fail> {
     let mut stay = 0u32;
     for k in 0..11 {
         if (chosen >> k) % 2 == 1 {
-            out.push_str(&format!(in alloc; "{}            0 {}\n", NODES[k].1, NODES[k].0)?)?;
+            out.push_str(&line_of(alloc, k)?)?;
             all = all.saturating_add(1);
             if held[k] {
                 notes.push_str(&format!(in alloc; "not empty {}\n", NODES[k].0)?)?;
@@ -386,7 +162,7 @@ fn is_left(alloc: Global, listing: &[u8], chosen: u32) -> Result<bool, Fail> {
     let mut want = String::new(alloc);
     for k in 0..11 {
         if held[k] || (chosen >> k) % 2 == 0 {
-            want.push_str(&format!(in alloc; "{}            0 {}\n", NODES[k].1, NODES[k].0)?)?;
+            want.push_str(&line_of(alloc, k)?)?;
         }
     }
     Ok(

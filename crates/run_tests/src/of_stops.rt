@@ -1,5 +1,4 @@
 //! A walk that is stopped at every number of paths, on one host and on several, goes on to the whole.
-use crate::of_stages::EMPTY_C;
 use crate::rows::{AMPLE, do_as_wanted, run_with};
 use memory_runs::WholeFiles;
 use mfu_top::Status;
@@ -9,6 +8,9 @@ use std::process::Abort;
 use std::sync::Wait;
 use std::test::Fail;
 use std::thread::Threads;
+
+const EMPTY_C: &str =
+    "d            0 /c\nitems 1 dirs 1 files 0 links 0 others 0 bytes 0 failed 0\n";
 
 // A tree of 100 nodes and an empty folder: node k is named n and k, and stands under node (k - 1) / 8, which is a directory.
 fn hundred(alloc: Global) -> Result<WholeFiles, Fail> {

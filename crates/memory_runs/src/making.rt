@@ -1,0 +1,136 @@
+//! Nodes that lines put.
+use crate::troubles::Trouble;
+use crate::whole::WholeFiles;
+use files_mem::Call;
+use outside::LinkText;
+use path_text::Path;
+use std::alloc::Global;
+
+/// A node that a line puts.
+#[derive(Drop)]
+pub(crate) struct Making {
+    kind: Kind,
+    path: Path,
+    time: Option<u64>,
+    far: u64,
+    text: String,
+}
+
+#[derive(Clone, Copy, Drop, PartialEq, Eq)]
+enum Kind {
+    Dir,
+    File,
+    Link,
+    Other,
+}
+
+static KINDS: [(&str, Kind); 4] = [
+    ("dir", Kind::Dir),
+    ("file", Kind::File),
+    ("link", Kind::Link),
+    ("other", Kind::Other),
+];
+
+fn kind_of(word: &str) -> Option<Kind> {
+    for (name, kind) in KINDS.iter() {
+        if *name == word {
+            return Some(*kind);
+        }
+    }
+    None
+}
+
+impl Making {
+    /// What the words of a line put, if they put anything.
+    pub(crate) fn of(alloc: Global, words: &[String]) -> Result<Option<Making>, Trouble> {
+        let [word, path, rest @ ..] = words else {
+            return Ok(None);
+        };
+        let Some(kind) = kind_of(word) else {
+            return Ok(None);
+        };
+        let mut made = Making {
+            kind,
+            path: Path::parse(alloc, path)?,
+            time: None,
+            far: 0,
+            text: String::new(alloc),
+        };
+        for word in rest {
+            made.set(word)?;
+        }
+        Ok(Some(made))
+    }
+
+    fn set(&mut self, word: &str) -> Result<(), Trouble> {
+        let Some((name, value)) = word.split_once('=') else {
+            return Err(Trouble::Line);
+        };
+        if name == "text" {
+            return self.add(value);
+        }
+        let number = number_of(value)?;
+        if name == "time" {
+            self.time = Some(number);
+        } else if name == "far" {
+            self.far = number;
+        } else if name == "size" {
+            for _ in 0..number {
+                self.text.push('x')?;
+            }
+        } else {
+            return Err(Trouble::Line);
+        }
+        Ok(())
+    }
+
+    /// Adds to its text.
+    pub(crate) fn add(&mut self, text: &str) -> Result<(), Trouble> {
+        self.text.push_str(text)?;
+        Ok(())
+    }
+
+    /// Puts the node.
+    pub(crate) fn put(self, alloc: Global, files: &mut WholeFiles) -> Result<(), Trouble> {
+        match self.kind {
+            Kind::Dir => files.put_dir(&self.path, self.far, self.time)?,
+            Kind::File => files.put_file(&self.path, self.text.as_bytes(), self.time)?,
+            Kind::Link => {
+                let text = LinkText::parse(alloc, &self.text)?;
+                files.put_link(&self.path, &text, self.time)?;
+            }
+            Kind::Other => files.put_other(&self.path, self.time)?,
+        }
+        Ok(())
+    }
+}
+
+/// The number that a word is.
+pub(crate) fn number_of(word: &str) -> Result<u64, Trouble> {
+    script_lines::number(word).ok_or(Trouble::Number)
+}
+
+static CALLS: [(&str, Call); 12] = [
+    ("stat", Call::Stat),
+    ("list", Call::List),
+    ("name", Call::Name),
+    ("read", Call::Read),
+    ("make_dir", Call::MakeDir),
+    ("make_file", Call::MakeFile),
+    ("write", Call::Write),
+    ("remove_file", Call::RemoveFile),
+    ("remove_dir", Call::RemoveDir),
+    ("read_link", Call::ReadLink),
+    ("make_link", Call::MakeLink),
+    ("spans", Call::Spans),
+];
+
+/// The call of this name.
+pub(crate) fn call_of(word: &str) -> Option<Call> {
+    for (name, call) in CALLS.iter() {
+        if *name == word {
+            return Some(*call);
+        }
+    }
+    None
+}

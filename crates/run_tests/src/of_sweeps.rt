@@ -1,0 +1,86 @@
+//! Runs at every size: a tree of ten thousand nodes, a sink that is full at any byte, and a list that is cut at any byte.
+use crate::rows::{AMPLE, TIME, run_with};
+use memory_runs::WholeFiles;
+use mfu_top::Status;
+use path_text::Path;
+use std::test::Fail;
+
+#[test]
+fn walks_ten_thousand_nodes(rt: HostRuntime) -> Result<(), Fail> {
+    let alloc = rt.alloc();
+    let mut files = WholeFiles::empty(alloc)?;
+    for d in 0..100 {
+        let dir = format!(in alloc; "/d{d}")?;
+        files.put_dir(&Path::parse(alloc, &dir)?, 0, TIME)?;
+        for k in 0..99 {
+            let file = format!(in alloc; "/d{d}/f{k}")?;
+            files.put_file(&Path::parse(alloc, &file)?, b"ab", TIME)?;
+        }
+    }
+    let told = run_with(&rt, alloc, &mut files, &["dwalk", "/"], (AMPLE, AMPLE))?;
+    let summary = b"items 10001 dirs 101 files 9900 links 0 others 0 bytes 19800 failed 0\n";
+    assert_eq!(rt; told.0, Status::Done);
+    assert!(rt; told.1.text().ends_with(summary));
+    Ok(())
+}
+
+const TREE_T: &str = "d            0 /t
+f            5 /t/a
+d            0 /t/b
+f            0 /t/b/c
+f            1 /t/b-x
+items 5 dirs 2 files 3 links 0 others 0 bytes 6 failed 0
+";
+
+#[test]
+fn a_sink_that_is_full_holds_what_it_took(rt: HostRuntime) -> Result<(), Fail> {
+    let alloc = rt.alloc();
+    let mut files = WholeFiles::empty(alloc)?;
+    files.put_dir(&Path::parse(alloc, "/t")?, 0, TIME)?;
+    files.put_file(&Path::parse(alloc, "/t/a")?, b"hello", TIME)?;
+    files.put_dir(&Path::parse(alloc, "/t/b")?, 0, TIME)?;
+    files.put_file(&Path::parse(alloc, "/t/b/c")?, b"", TIME)?;
+    files.put_file(&Path::parse(alloc, "/t/b-x")?, b"x", TIME)?;
+    let whole = TREE_T.as_bytes();
+    for takes in 0..whole.len() {
+        let limits = (takes as u64, AMPLE);
+        let told = run_with(&rt, alloc, &mut files, &["dwalk", "/t"], limits)?;
+        assert_eq!(rt; told.0, Status::Sink, "{takes}");
+        assert_eq!(rt; told.1.text(), &whole[..takes], "{takes}");
+        assert_eq!(rt; told.2.text(), b"".as_slice(), "{takes}");
+    }
+    let limits = (whole.len() as u64, AMPLE);
+    let told = run_with(&rt, alloc, &mut files, &["dwalk", "/t"], limits)?;
+    assert_eq!(rt; told.0, Status::Done);
+    assert_eq!(rt; told.1.text(), whole);
+    Ok(())
+}
+
+const LIST_T: &str = "mfu list 2
+d 0 86400 ok 0 0 /t
+f 5 86400 ok 0 0 /t/a
+d 0 86400 ok 0 0 /t/b
+f 0 86400 ok 0 0 /t/b/c
+f 1 86400 ok 0 0 /t/b-x
+end 5
+";
+
+#[test]
+fn names_the_line_at_which_a_list_is_cut(rt: HostRuntime) -> Result<(), Fail> {
+    let alloc = rt.alloc();
+    let whole = LIST_T.as_bytes();
+    assert_eq!(rt; whole.len(), 129);
+    for len in 0..whole.len() {
+        let part = &whole[..len];
+        let line = part.iter().filter(|byte| **byte == b'\n').count() as u64 + 1;
+        let notes = format!(in alloc; "damaged /l line {line}\n")?;
+        let mut files = WholeFiles::empty(alloc)?;
+        files.put_file(&Path::parse(alloc, "/l")?, part, None)?;
+        let words = ["dwalk", "--input", "/l"];
+        let told = run_with(&rt, alloc, &mut files, &words, (AMPLE, AMPLE))?;
+        assert_eq!(rt; told.0, Status::Damaged, "{len}");
+        assert_eq!(rt; told.1.text(), b"".as_slice(), "{len}");
+        assert_eq!(rt; told.2.text(), notes.as_bytes(), "{len}");
+    }
+    Ok(())
+}

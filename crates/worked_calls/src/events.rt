@@ -1,0 +1,221 @@
+//! Events of ranks.
+use crate::troubles::{Trouble, number_of, small_of};
+use path_text::{Path, unescape};
+use ring_core::{Colour, Event, World, check_run, step};
+use script_lines::{put_bytes, put_value};
+use std::alloc::Global;
+use tool_text::{Text, put_trace};
+
+/// What is asked of events.
+#[derive(Clone, Copy, Drop, PartialEq, Eq)]
+pub enum Asked {
+    Trace,
+    Check,
+    Steps,
+}
+
+/// Tells what is asked of the events that the lines of a text say.
+pub fn tell(
+    alloc: Global,
+    asked: Asked,
+    text: &str,
+    words: &[String],
+    told: &mut String,
+) -> Result<(), Trouble> {
+    let events = events_of(alloc, text)?;
+    match (asked, words) {
+        (Asked::Trace, []) => {
+            let mut lines = Text::make(alloc);
+            put_trace(&mut lines, &events)?;
+            put_bytes(told, '|', lines.bytes())?;
+            Ok(())
+        }
+        (Asked::Check, [ranks, starts]) => {
+            let ranks = small_of(ranks)?;
+            tell_verdict(alloc, &events, ranks, number_of(starts)?, told)
+        }
+        (Asked::Steps, [ranks, starts]) => {
+            let ranks = small_of(ranks)?;
+            tell_steps(alloc, &events, ranks, number_of(starts)?, told)
+        }
+        _ => Err(Trouble::Line),
+    }
+}
+
+fn events_of(alloc: Global, text: &str) -> Result<Vec<Event>, Trouble> {
+    let mut events = Vec::new(alloc);
+    for line in text.lines() {
+        let mut words = line.splitn(2, ' ');
+        let (Some(name), Some(rest)) = (words.next(), words.next()) else {
+            return Err(Trouble::Line);
+        };
+        events.push(event_of(alloc, name, rest)?)?;
+    }
+    Ok(events)
+}
+
+fn event_of(alloc: Global, name: &str, rest: &str) -> Result<Event, Trouble> {
+    if name == "handle" {
+        return handled(alloc, rest);
+    }
+    if name == "pass" {
+        return passed(rest);
+    }
+    let mut numbers = Vec::new(alloc);
+    for word in rest.split(' ') {
+        numbers.push(number_of(word)?)?;
+    }
+    event_by(name, &numbers)
+}
+
+fn handled(alloc: Global, rest: &str) -> Result<Event, Trouble> {
+    let mut words = rest.splitn(3, ' ');
+    let (Some(rank), Some(kids), Some(path)) = (words.next(), words.next(), words.next()) else {
+        return Err(Trouble::Line);
+    };
+    Ok(Event::Handle {
+        rank: small_of(rank)?,
+        path: path_of(alloc, path)?,
+        kids: number_of(kids)?,
+    })
+}
+
+fn path_of(alloc: Global, text: &str) -> Result<Path, Trouble> {
+    unescape(alloc, text).map_err(|_| Trouble::Path)
+}
+
+fn passed(rest: &str) -> Result<Event, Trouble> {
+    let Some((rank, colour)) = rest.split_once(' ') else {
+        return Err(Trouble::Line);
+    };
+    let colour = if colour == "white" {
+        Colour::White
+    } else if colour == "black" {
+        Colour::Black
+    } else {
+        return Err(Trouble::Line);
+    };
+    Ok(Event::Pass {
+        rank: small_of(rank)?,
+        colour,
+    })
+}
+
+// The number of a rank.
+fn rank(number: u64) -> Result<u32, Trouble> {
+    u32::try_from(number).map_err(|_| Trouble::Number)
+}
+
+fn event_by(name: &str, numbers: &[u64]) -> Result<Event, Trouble> {
+    match *numbers {
+        [one] => event_of_one(name, rank(one)?),
+        [one, other] => event_of_two(name, rank(one)?, rank(other)?),
+        [one, other, count] => event_of_three(name, rank(one)?, rank(other)?, count),
+        _ => Err(Trouble::Line),
+    }
+}
+
+fn event_of_one(name: &str, rank: u32) -> Result<Event, Trouble> {
+    if name == "restart" {
+        return Ok(Event::Restart { rank });
+    }
+    if name == "conclude" {
+        return Ok(Event::Conclude { rank });
+    }
+    if name == "over" {
+        return Ok(Event::SeeOver { rank });
+    }
+    Err(Trouble::Line)
+}
+
+fn event_of_two(name: &str, rank: u32, other: u32) -> Result<Event, Trouble> {
+    if name == "ask" {
+        return Ok(Event::Ask {
+            rank,
+            victim: other,
+        });
+    }
+    if name == "refuse" {
+        return Ok(Event::Refuse { rank, to: other });
+    }
+    if name == "none" {
+        return Ok(Event::TakeNone { rank, from: other });
+    }
+    Err(Trouble::Line)
+}
+
+fn event_of_three(name: &str, rank: u32, other: u32, count: u64) -> Result<Event, Trouble> {
+    if name == "give" {
+        return Ok(Event::Give {
+            rank,
+            to: other,
+            count,
+        });
+    }
+    if name == "take" {
+        return Ok(Event::Take {
+            rank,
+            from: other,
+            count,
+        });
+    }
+    Err(Trouble::Line)
+}
+
+fn tell_verdict(
+    alloc: Global,
+    events: &[Event],
+    ranks: u32,
+    starts: u64,
+    told: &mut String,
+) -> Result<(), Trouble> {
+    if ranks == 0 || ranks > 64 {
+        return Err(Trouble::Number);
+    }
+    let text = match check_run(alloc, events, ranks, starts) {
+        Ok(verdict) => format!(in alloc; "{verdict:?}")?,
+        Err(error) => format!(in alloc; "{error:?}")?,
+    };
+    put_value(told, &text)?;
+    Ok(())
+}
+
+fn tell_steps(
+    alloc: Global,
+    events: &[Event],
+    ranks: u32,
+    starts: u64,
+    told: &mut String,
+) -> Result<(), Trouble> {
+    if ranks == 0 || ranks > 64 {
+        return Err(Trouble::Number);
+    }
+    let mut world = World::start(alloc, ranks, starts)?;
+    for event in events {
+        let text = match step(&mut world, event) {
+            Ok(()) => format!(in alloc; "done")?,
+            Err(reason) => format!(in alloc; "{reason:?}")?,
+        };
+        put_value(told, &text)?;
+    }
+    for rank in 0..ranks {
+        let count = handled_by(alloc, &mut world, rank)?;
+        put_value(told, &format!(in alloc; "rank {rank} has {count}")?)?;
+    }
+    Ok(())
+}
+
+// How many strings the rank can handle, of at most ten.
+fn handled_by(alloc: Global, world: &mut World, rank: u32) -> Result<u64, Trouble> {
+    let event = Event::Handle {
+        rank,
+        path: Path::parse(alloc, "/a")?,
+        kids: 0,
+    };
+    for count in 0..10 {
+        if step(world, &event).is_err() {
+            return Ok(count);
+        }
+    }
+    Ok(10)
+}

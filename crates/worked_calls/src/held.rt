@@ -1,0 +1,36 @@
+//! What lines hold for those behind them.
+use flat_list::{Entry, FlatList};
+use rank_queue::{Batch, RankQueue};
+use std::alloc::{AllocError, Global};
+use tool_text::Note;
+
+/// A text, a list, what ranks found, notes, a queue, and what was given of it.
+#[derive(Drop)]
+pub struct Held {
+    pub text: String,
+    pub list: FlatList,
+    pub found: Vec<Vec<Entry>>,
+    pub notes: Vec<Note>,
+    pub queue: RankQueue,
+    pub given: Batch,
+}
+
+impl Held {
+    /// Nothing.
+    pub fn nothing(alloc: Global) -> Held {
+        Held {
+            text: String::new(alloc),
+            list: FlatList::make(alloc),
+            found: Vec::new(alloc),
+            notes: Vec::new(alloc),
+            queue: RankQueue::make(alloc),
+            given: Batch::make(alloc),
+        }
+    }
+
+    /// Adds to the text.
+    pub fn add_text(&mut self, line: &str, end: &str) -> Result<(), AllocError> {
+        self.text.push_str(line)?;
+        self.text.push_str(end)
+    }
+}

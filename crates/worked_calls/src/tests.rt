@@ -1,0 +1,86 @@
+//! Globs, and the tests and expressions that options say.
+use crate::troubles::Trouble;
+use find_tests::{Test, TestName, glob_match, parse_test};
+use script_lines::put_value;
+use std::alloc::Global;
+use tree_cmp::parse_expr;
+
+static NAMES: [(&str, TestName); 6] = [
+    ("name", TestName::Name),
+    ("path", TestName::Path),
+    ("type", TestName::Kind),
+    ("size", TestName::Size),
+    ("mtime", TestName::Days),
+    ("mmin", TestName::Minutes),
+];
+
+/// The name of a test that a word is.
+pub fn test_named(word: &str) -> Option<TestName> {
+    for (name, test) in NAMES.iter() {
+        if *name == word {
+            return Some(*test);
+        }
+    }
+    None
+}
+
+/// Tells whether a text matches a pattern.
+pub fn tell_match(alloc: Global, words: &[String], told: &mut String) -> Result<(), Trouble> {
+    let [pattern, text] = words else {
+        return Err(Trouble::Line);
+    };
+    match parse_test(alloc, TestName::Name, pattern) {
+        Ok(Test::Name(glob)) => put_value(told, yes_or_no(glob_match(&glob, text)))?,
+        _ => return Err(Trouble::Memory),
+    }
+    Ok(())
+}
+
+/// How a truth is written.
+pub fn yes_or_no(holds: bool) -> &'static str {
+    if holds { "true" } else { "false" }
+}
+
+/// Tells the test that a value is, or why it is none.
+pub fn tell_test(alloc: Global, words: &[String], told: &mut String) -> Result<(), Trouble> {
+    let [name, value] = words else {
+        return Err(Trouble::Line);
+    };
+    let Some(name) = test_named(name) else {
+        return Err(Trouble::Line);
+    };
+    let text = match parse_test(alloc, name, value) {
+        Ok(test) => said(alloc, &test)?,
+        Err(error) => format!(in alloc; "{error:?}")?,
+    };
+    put_value(told, &text)?;
+    Ok(())
+}
+
+/// What a test asks for: of a glob whether it matches a log.
+pub fn said(alloc: Global, test: &Test) -> Result<String, Trouble> {
+    let text = match test {
+        Test::Name(glob) if glob_match(glob, "x.log") => format!(in alloc; "name of x.log"),
+        Test::Name(_) => format!(in alloc; "another name"),
+        Test::Path(glob) if glob_match(glob, "/u/x.log") => format!(in alloc; "path of /u/x.log"),
+        Test::Path(_) => format!(in alloc; "another path"),
+        Test::Kind(kind) => format!(in alloc; "kind {kind:?}"),
+        Test::Size(bound) => format!(in alloc; "size {bound:?}"),
+        Test::Days(bound) => format!(in alloc; "days {bound:?}"),
+        Test::Minutes(bound) => format!(in alloc; "minutes {bound:?}"),
+        Test::Newer(time) => format!(in alloc; "newer {time:?}"),
+    };
+    Ok(text?)
+}
+
+/// Tells whether a text is an expression about rows of a comparison, or why it is none.
+pub fn tell_expr(alloc: Global, words: &[String], told: &mut String) -> Result<(), Trouble> {
+    let [text] = words else {
+        return Err(Trouble::Line);
+    };
+    match parse_expr(alloc, text) {
+        Ok(_) => put_value(told, "an expression")?,
+        Err(error) => put_value(told, &format!(in alloc; "{error:?}")?)?,
+    }
+    Ok(())
+}
