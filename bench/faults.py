@@ -21,7 +21,8 @@ import subprocess
 import sys
 import tempfile
 
-CALLS = ["statx", "openat", "getdents64", "read", "pread64", "write", "pwrite64", "unlink", "rmdir", "mkdir"]
+CALLS = ["statx", "openat", "getdents64", "read", "pread64", "write", "pwrite64", "unlink", "rmdir", "mkdir",
+         "readlink", "symlink"]
 ERRORS = ["EIO", "ENOSPC", "EACCES", "EMFILE", "ENOMEM", "EINTR"]
 ESCAPED = re.compile(rb"\\x([0-9A-F]{2})")
 
@@ -35,6 +36,7 @@ def make(top):
             for folder in ("", "/a", "/a/deep", "/b"):
                 with open(f"{top}/{name}{folder}/f{number}", "wb") as file:
                     file.write(bytes([number]) * (70000 * number + 10))
+    os.symlink("f0", f"{top}/t/a/l")
     with open(f"{top}/u/b/f2", "r+b") as file:
         file.write(b"other")
     os.mkdir(f"{top}/d")
@@ -42,7 +44,7 @@ def make(top):
         file.write("mfu list 1\nf 5 - ok 0 0 /x\nend 1\n")
     for folder, folders, files in os.walk(top):
         for name in [*folders, *files]:
-            os.utime(os.path.join(folder, name), (86400, 86400))
+            os.utime(os.path.join(folder, name), (86400, 86400), follow_symlinks=False)
 
 
 def tools(top):
@@ -59,14 +61,18 @@ def tools(top):
 
 
 def state(top):
-    """What stands on the disk: kinds and bytes by paths."""
+    """The paths on the disk, with the bytes of files and the texts of links."""
     found = {}
     for folder, folders, files in os.walk(top):
         for name in folders:
             found[os.path.join(folder, name)] = "folder"
         for name in files:
-            with open(os.path.join(folder, name), "rb") as file:
-                found[os.path.join(folder, name)] = file.read()
+            path = os.path.join(folder, name)
+            if os.path.islink(path):
+                found[path] = os.readlink(path)
+                continue
+            with open(path, "rb") as file:
+                found[path] = file.read()
     return found
 
 
@@ -81,14 +87,22 @@ def run(program, words, work, inject=None, log=None):
 
 
 def calls_in(log, top):
-    """The numbers and paths of the calls of each kind that have to do with the tree or with the outputs."""
-    counts, found = dict.fromkeys(CALLS, 0), {name: [] for name in CALLS}
+    """The numbers and paths of the calls of each kind that have to do with the tree or with the outputs.
+
+    A path in an open directory, as /proc/self/fd/N/NAME, counts as one below the path by which that was opened.
+    """
+    counts, found, opened = dict.fromkeys(CALLS, 0), {name: [] for name in CALLS}, {}
     with open(log, encoding="utf-8", errors="replace") as lines:
         for line in lines:
             told = re.match(r"\d+\s+(\w+)\((.*)", line)
             if not told or told[1] not in counts:
                 continue
             counts[told[1]] += 1
+            line = re.sub(r"/proc/self/fd/(\d+)(?=/)", lambda name: opened.get(name[1], name[0]), line)
+            told = re.match(r"\d+\s+(\w+)\((.*)", line)
+            made = re.search(r"= (\d+)<([^>]*)>", told[2])
+            if made:
+                opened[made[1]] = made[2]
             path = re.search(rf"[\"<]({re.escape(top)}/[^\">]*)", told[2])
             if path:
                 found[told[1]].append((counts[told[1]], path[1]))

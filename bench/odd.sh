@@ -40,9 +40,9 @@ no_line() { ! grep -Fq -- "$2" "$work/$1"; }
 walk "$tree"
 said 'a tree with failures: status 1' [ "$status" -eq 1 ]
 said 'a file has its size' line out "f           11 $tree/file"
-said 'a link is told' line out "l            0 $tree/link"
-said 'a link to a directory is not followed' no_line out "$tree/way/"
-said 'a dangling link is told' line out "l            0 $tree/dangling"
+said 'a link is told' line out "l            0 $tree/link -> file"
+said 'a link to a directory is not followed' no_line out " $tree/way/"
+said 'a dangling link is told' line out "l            0 $tree/dangling -> nowhere"
 said 'a pipe is told, and not opened' line out "o            0 $tree/pipe"
 said 'a directory that is refused is told' line out "d            0 $tree/closed"
 said 'and so is that it was not listed' line notes "failed list $tree/closed"
@@ -59,7 +59,7 @@ said 'it is told as gone' line notes "gone $tree/absent"
 
 walk "$tree/way"
 said 'a root that is a link: status 0' [ "$status" -eq 0 ]
-said 'it is told, and not followed' line out "l            0 $tree/way"
+said 'it is told, and not followed' line out "l            0 $tree/way -> folder"
 
 walk "$tree/file/x"
 said 'a root below a file: status 1' [ "$status" -eq 1 ]
@@ -80,6 +80,62 @@ status=$?
 said 'a word that is not UTF-8: status 2' [ "$status" -eq 2 ]
 said 'without a line' [ ! -s "$work/out" ]
 said 'and without a note' [ ! -s "$work/notes" ]
+
+# A file that a run opens does not take the number of a stream that is closed: what is saved is whole, and nothing is printed into it.
+ends() {
+    [ "$(tail -n 1 "$1" | cut -d ' ' -f 1)" = end ] || return
+    "$work/mfu" dwalk --input "$1" >"$work/out" 2>/dev/null
+    [ $? -le 1 ]
+}
+list=$work/list
+
+"$work/mfu" dwalk --output "$list" "$tree/folder" <&- >"$work/out" 2>"$work/notes"
+status=$?
+said 'standard input closed: status 0' [ "$status" -eq 0 ]
+said 'and the list is whole' ends "$list"
+rm -f "$list"
+
+"$work/mfu" dwalk --output "$list" "$tree/folder" >&- 2>"$work/notes"
+status=$?
+said 'standard output closed, with --output: status 4' [ "$status" -eq 4 ]
+said 'and the list is whole' ends "$list"
+rm -f "$list"
+
+"$work/mfu" dcmp -o "EXIST=COMMON:$list" "$tree/folder" "$tree/folder" >&- 2>"$work/notes"
+status=$?
+said 'standard output closed, with -o: status 4' [ "$status" -eq 4 ]
+said 'and the list is whole' ends "$list"
+rm -f "$list"
+
+"$work/mfu" dwalk --output "$list" "$tree/folder" "$tree/absent" >"$work/out" 2>&-
+status=$?
+said 'standard error closed, with a note: status 4' [ "$status" -eq 4 ]
+said 'and the list is whole' ends "$list"
+rm -f "$list"
+
+"$work/mfu" dwalk --output "$list" "$tree/folder" <&- >&- 2>&-
+status=$?
+said 'all three closed: status 4' [ "$status" -eq 4 ]
+said 'and the list is whole' ends "$list"
+
+# A file that is its own target by another name keeps its bytes.
+one=$work/one
+mkdir -p "$one/deep"
+printf 'abc' >"$one/deep/short"
+head -c 200000 /dev/zero | tr '\0' x >"$one/deep/long"
+cp -r "$one" "$work/same"
+ln -s "$one" "$work/other"
+"$work/mfu" dcp "$one/deep/short" "$work/other/deep" >"$work/out" 2>"$work/notes"
+status=$?
+said 'a short file copied onto itself: status 0' [ "$status" -eq 0 ]
+"$work/mfu" dcp "$one/deep/long" "$work/other/deep" >"$work/out" 2>"$work/notes"
+status=$?
+said 'a long file copied onto itself: status 0' [ "$status" -eq 0 ]
+ln -s "$work" "$work/up"
+"$work/mfu" dcp "$one/deep" "$work/up/one" >"$work/out" 2>"$work/notes"
+status=$?
+said 'a whole tree copied onto itself: status 0' [ "$status" -eq 0 ]
+said 'and all bytes are as before' diff -r "$one" "$work/same"
 
 echo "wrong: $wrong"
 [ "$wrong" -eq 0 ]

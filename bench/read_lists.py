@@ -1,10 +1,10 @@
 #!/usr/bin/env python3
 """Reads random list files, whole and damaged, and compares each answer with that of a reader of its own. usage: read_lists.py [COUNT [SEED]]
 
-Each file is a list of up to 25 paths, some hidden, some with bytes that are escaped or beyond ASCII, in which up to two bytes or lines are then
-dropped, put in, changed, doubled or swapped. `mfu dwalk --input` has to print the lines of its entries, or to name its first bad line. The
-reader below follows docs/LISTS.md line by line and knows nothing of the program. The exit status is 1 where an answer was wrong; that file is
-kept.
+Each file is a list of version 1 or 2 with up to 25 paths, some hidden, some with bytes that are escaped or beyond ASCII, and in version 2 with
+links that have texts. Then up to two bytes or lines are dropped, put in, changed, doubled or swapped. `mfu dwalk --input` has to print the lines of
+the entries, or to name the first bad line. The reader below follows docs/LISTS.md line by line and knows nothing of the program. The exit
+status is 1 if an answer was wrong; that file is kept.
 """
 import os
 import random
@@ -17,7 +17,10 @@ PROGRAM = os.path.join(os.path.dirname(os.path.realpath(__file__)), "..", "crate
 NAMES = [b"a", b"b", b"ab", b"abc", b".a", b"...", b"a.", b"zz", b"x y", b"0", b"~", b"!", b"a\\b", b"a\nb", b"\x01", b"\x7f", "ä".encode()]
 LONG = b"a-name-of-many-bytes.txt"
 NO_NAMES = [b"", b".", b"..", b"\xc3", b"a\x00b"]
+TEXTS = [b"a", b"../b", b"x y", b"a -> b", b"> a", b"\n", b"a\\b", "ä".encode(), b"t" * 4095]
+NO_TEXTS = [b"", b"\xc3", b"a\x00b", b"t" * 4096]
 BYTES = b" /.\\0123456789\n\x00\xff+-aexk~\x7f"
+HEADS = [b"mfu list 1", b"mfu list 2"]
 BIG = [b"0", b"7", b"12345", b"9999999999999999999", b"10000000000000000000", b"18446744073709551615"]
 
 
@@ -35,7 +38,7 @@ def in_order(path):
 
 
 def unescaped(word):
-    """The path that a word tells, or None."""
+    """The path or the text of a link that a word stands for, or None."""
     path = re.sub(rb"\\x([0-9A-F]{2})", lambda found: bytes([int(found[1], 16)]), word)
     return path if escaped(path) == word else None
 
@@ -50,14 +53,22 @@ def is_path(path):
     return path.startswith(b"/") and len(path) <= 4095 and fine
 
 
+def is_link_text(text):
+    try:
+        text.decode()
+    except UnicodeDecodeError:
+        return False
+    return 1 <= len(text) <= 4095 and b"\x00" not in text
+
+
 def number(word):
     """A number of 64 bits without leading zeros, or None."""
     value = int(word) if re.fullmatch(rb"0|[1-9][0-9]*", word) else 2**64
     return value if value < 2**64 else None
 
 
-def entry(line):
-    """Kind, size and path of the entry that a line tells, or None."""
+def entry(line, version):
+    """Kind, size, path and mark of the entry of a line, or None."""
     words = line.split(b" ", 6)
     if len(words) < 7:
         return None
@@ -71,25 +82,38 @@ def entry(line):
         b"stat": kind == b"-" and untold,
         b"gone": kind == b"-" and untold,
         b"list": kind == b"d" and untold,
-        b"changed": kind == b"d" and untold,
+        b"changed": kind in (b"d", b"l")[:version] and untold,
     }
     sized = (kind == b"f" or size == 0) and (kind != b"-" or time == b"-")
-    return (kind, size, path) if shapes.get(mark, False) and sized else None
+    return (kind, size, path, mark) if shapes.get(mark, False) and sized else None
+
+
+def target(line):
+    """The text of a link in a line of its own, or None."""
+    text = unescaped(line[2:]) if line.startswith(b"> ") else None
+    return text if text is not None and is_link_text(text) else None
 
 
 def read(data):
-    """The entries that a list file tells, and no line; or None, and the number of its first bad line."""
+    """The entries of a list file, each with its path, its kind, its size and the text of a link or None, and no line; or None, and the number of
+    the first bad line."""
     *lines, rest = data.split(b"\n")
-    if not lines or lines[0] != b"mfu list 1":
+    if not lines or lines[0] not in HEADS:
         return None, 1
-    entries = []
+    version, entries, may_have_text = 1 + HEADS.index(lines[0]), [], False
     for at, line in enumerate(lines[1:], 2):
         if line.startswith(b"end ") and number(line[4:]) == len(entries):
             return (None, at + 1) if lines[at:] or rest else (entries, None)
-        told = entry(line)
-        if told is None or (entries and in_order(entries[-1][2]) >= in_order(told[2])):
+        text = target(line) if may_have_text else None
+        if text is not None:
+            entries[-1], may_have_text = (*entries[-1][:3], text), False
+            continue
+        told = entry(line, version)
+        if told is None or (entries and in_order(entries[-1][0]) >= in_order(told[2])):
             return None, at
-        entries.append(told)
+        kind, size, path, mark = told
+        entries.append((path, kind, size, None))
+        may_have_text = version == 2 and (kind, mark) == (b"l", b"ok")
     return None, len(lines) + 1
 
 
@@ -104,13 +128,17 @@ def some_paths(dice):
     return sorted(paths, key=in_order)
 
 
-def some_line(dice, path):
+def some_lines(dice, path, version):
+    """The line of an entry, and in version 2 perhaps that of its text."""
     kind = dice.choice([b"f", b"f", b"d", b"d", b"l", b"o", b"-"])
     time = b"-" if kind == b"-" else dice.choice([b"-", b"1732800000"] + BIG)
-    marks = {b"-": [b"stat", b"gone"], b"d": [b"ok", b"ok", b"list", b"changed"]}
+    marks = {b"-": [b"stat", b"gone"], b"d": [b"ok", b"ok", b"list", b"changed"], b"l": [b"ok", b"ok", b"changed"] if version == 2 else [b"ok"]}
     mark = dice.choice(marks.get(kind, [b"ok"]))
     told = [dice.choice([b"0", b"3"]) if kind == b"d" and mark == b"ok" else b"0" for _ in range(2)]
-    return b" ".join([kind, dice.choice(BIG) if kind == b"f" else b"0", time, mark, *told, escaped(path)])
+    line = b" ".join([kind, dice.choice(BIG) if kind == b"f" else b"0", time, mark, *told, escaped(path)])
+    if version == 1 or (kind, mark) != (b"l", b"ok") or dice.random() < 0.1:
+        return [line]
+    return [line, b"> " + escaped(dice.choice(NO_TEXTS if dice.random() < 0.02 else TEXTS))]
 
 
 def damaged(dice, data):
@@ -123,11 +151,17 @@ def damaged(dice, data):
 
 
 def some_list(dice):
-    paths = some_paths(dice)
-    data = b"\n".join([b"mfu list 1", *(some_line(dice, path) for path in paths), b"end %d" % len(paths), b""])
+    paths, version = some_paths(dice), dice.choice([1, 2, 2])
+    lines = [line for path in paths for line in some_lines(dice, path, version)]
+    data = b"\n".join([HEADS[version - 1], *lines, b"end %d" % len(paths), b""])
     for _ in range(dice.choice([0, 0, 1, 1, 2])):
         data = damaged(dice, data)
     return data
+
+
+def printed(told):
+    path, kind, size, text = told
+    return b"%s %12d %s%s\n" % (kind, size, escaped(path), b"" if text is None else b" -> " + escaped(text))
 
 
 def is_right(name, data):
@@ -136,7 +170,7 @@ def is_right(name, data):
     entries, line = read(data)
     if entries is None:
         return (run.returncode, run.stdout, run.stderr) == (7, b"", b"damaged %s line %d\n" % (name.encode(), line))
-    told = b"".join(b"%s %12d %s\n" % (kind, size, escaped(path)) for kind, size, path in entries if kind != b"-")
+    told = b"".join(printed(told) for told in entries if told[1] != b"-")
     return run.returncode in (0, 1) and run.stdout.startswith(told + b"items ") and run.stdout.count(b"\n") == told.count(b"\n") + 1
 
 

@@ -1,0 +1,188 @@
+#!/usr/bin/env python3
+"""Runs the program over trees in which another program swaps directories for links, and looks whether anything outside is touched.
+
+usage: races.py [PROGRAM [RUNS]]
+
+RUNS runs (500 by default) of dwalk, dcmp, dcp and drm in turn, each over a fresh tree, while two other processes take directories of
+it away, put links to a directory with the same names in their places, and take that back, as fast as they can. The trees and the
+swapping belong to an ordinary user, who may not write outside, so whatever changes there was changed by the program. If root runs
+this, half of the runs are root's, and the user may not read the directory outside; in the other half a second user runs the program,
+who owns that directory and may write in the trees. If an ordinary user runs this, everything is that user's, and directories are
+swapped directly below the tops alone, so that no swap goes through a link. After each run the script looks at:
+
+- the directory outside: no path of it is gone or new, and no byte of it is another one;
+- dcp: no byte of a file outside stands in what was copied;
+- the status: 0 or 1, and 1 where there is a note.
+
+The last line counts the runs, how often a directory was seen swapped, and what was wrong.
+"""
+import os
+import random
+import shutil
+import signal
+import subprocess
+import sys
+import tempfile
+import time
+
+NOBODY, SWAPPER = 65534, 65533
+OWN, OTHER = b"own bytes\n", b"bytes from outside\n"
+TOOLS = ("dwalk", "dcmp", "dcp", "drm")
+
+
+def fill(top, content):
+    """Makes a tree of 4 directories of 3, with 4 files and a link in each."""
+    for a in range(4):
+        for b in range(3):
+            folder = f"{top}/d{a}/e{b}"
+            os.makedirs(folder)
+            for name in (*(f"f{n}" for n in range(4)), "../g"):
+                with open(f"{folder}/{name}", "wb") as file:
+                    file.write(content)
+            os.symlink("f0", f"{folder}/l")
+
+
+def state(top):
+    """The paths of a tree below its top, with the bytes of files and the texts of links."""
+    found = {}
+    for folder, folders, files in os.walk(top):
+        for name in (*folders, *files):
+            path = os.path.join(folder, name)
+            if os.path.islink(path):
+                found[os.path.relpath(path, top)] = os.readlink(path)
+            elif os.path.isfile(path):
+                with open(path, "rb") as file:
+                    found[os.path.relpath(path, top)] = file.read()
+            else:
+                found[os.path.relpath(path, top)] = None
+    return found
+
+
+def swap(tops, outside, aside, seed, below):
+    """Swaps directories of the trees for links to those outside, until it is ended."""
+    draw = random.Random(seed)
+    number = 0
+    while True:
+        name = draw.choice(below)
+        name = f"d{draw.randrange(4)}{name}"
+        path = f"{draw.choice(tops)}/{name}"
+        number += 1
+        kept = f"{aside}/{seed}-{number}"
+        try:
+            if os.path.islink(path):
+                continue
+            os.rename(path, kept)
+        except OSError:
+            continue
+        try:
+            os.symlink(f"{outside}/{name}", path)
+            for _ in range(draw.randrange(200)):
+                pass
+            os.unlink(path)
+        except OSError:
+            pass
+        try:
+            os.rename(kept, path)
+        except OSError:
+            pass
+
+
+def become(user):
+    """What a child process does to become the user."""
+    def change():
+        if user is not None:
+            os.setgroups([])
+            os.setgid(user)
+            os.setuid(user)
+    return change
+
+
+def start_swapping(tops, outside, aside, seed, user):
+    child = os.fork()
+    if child == 0:
+        become(user)()
+        try:
+            swap(tops, outside, aside, seed, [""] if user is None else ["", "/e0", "/e1", "/e2"])
+        finally:
+            os._exit(0)
+    return child
+
+
+def words(tool, work):
+    return {
+        "dwalk": ["dwalk", f"{work}/t"],
+        "dcmp": ["dcmp", f"{work}/t", f"{work}/u"],
+        "dcp": ["dcp", f"{work}/t", f"{work}/d"],
+        "drm": ["drm", f"{work}/t"],
+    }[tool]
+
+
+def one_run(program, tool, work, user, swapper, seed):
+    """Runs a tool beside the swapping, and answers what was wrong."""
+    outside = f"{work}/outside/top"
+    before = state(outside)
+    tops = [f"{work}/t"] + ([f"{work}/d/t"] if tool == "dcp" else []) + ([f"{work}/u"] if tool == "dcmp" else [])
+    children = [start_swapping(tops, outside, f"{work}/aside", seed * 2 + k, swapper) for k in (0, 1)]
+    time.sleep(0.003)
+    try:
+        done = subprocess.run([program, *words(tool, work)], capture_output=True, check=False, preexec_fn=become(user), timeout=60)
+    finally:
+        for child in children:
+            os.kill(child, signal.SIGKILL)
+            os.waitpid(child, 0)
+    wrong = []
+    after = state(outside)
+    for path in sorted(set(before) | set(after)):
+        if before.get(path, b"") != after.get(path, b""):
+            wrong.append(f"outside: {path}")
+    if tool == "dcp":
+        wrong += [f"copied from outside: {path}" for path, held in state(f"{work}/d").items() if held == OTHER]
+    if done.returncode not in (0, 1) or (done.returncode == 1) != bool(done.stderr):
+        wrong.append(f"status {done.returncode} with {len(done.stderr.splitlines())} notes")
+    return wrong, len(done.stderr.splitlines())
+
+
+def main():
+    here = os.path.dirname(os.path.abspath(__file__))
+    given = sys.argv[1] if len(sys.argv) > 1 else os.path.join(here, "../crates/mfu/out/mfu")
+    runs = int(sys.argv[2]) if len(sys.argv) > 2 else 500
+    root = os.getuid() == 0
+    base = tempfile.mkdtemp(prefix="mfu_races_")
+    os.chmod(base, 0o755)
+    program = shutil.copy(given, f"{base}/mfu")
+    wrong = notes = 0
+    for number in range(runs):
+        tool = TOOLS[number % len(TOOLS)]
+        as_root = root and number // len(TOOLS) % 2 == 0
+        work = f"{base}/{number}"
+        os.makedirs(f"{work}/outside")
+        os.makedirs(f"{work}/aside")
+        os.makedirs(f"{work}/d")
+        fill(f"{work}/t", OWN)
+        fill(f"{work}/u", OWN)
+        fill(f"{work}/outside/top", OTHER)
+        if root:
+            owned = [work] + [os.path.join(folder, name) for folder, folders, files in os.walk(work) for name in (*folders, *files)]
+            for path in owned:
+                if not path.startswith(f"{work}/outside"):
+                    os.lchown(path, SWAPPER, SWAPPER)
+                    if not as_root and not os.path.islink(path):
+                        os.chmod(path, 0o777)
+                elif not as_root:
+                    os.lchown(path, NOBODY, NOBODY)
+            if as_root:
+                os.chmod(f"{work}/outside/top", 0o700)
+        user = NOBODY if root and not as_root else None
+        found, noted = one_run(program, tool, work, user, SWAPPER if root else None, number)
+        notes += noted
+        for text in found:
+            print(f"WRONG: {tool}, {'root' if as_root else 'user'}, run {number}: {text}")
+            wrong += 1
+        shutil.rmtree(work)
+    shutil.rmtree(base)
+    print(f"{runs} runs, {notes} notes, {wrong} wrong")
+    return 1 if wrong else 0
+
+
+if __name__ == "__main__":
+    sys.exit(main())
