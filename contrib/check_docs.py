@@ -2,16 +2,17 @@
 """Checks that the documents, the man pages and the completions agree with the program. usage: check_docs.py
 
 - The table contrib/tools.txt has the options that the program reads (tool_words/specs/Table.antt) and those of its help
-  (mfu/src/help.rt), and what is made of it is not old.
+  (mfu/src/help.rt), and the files made from it are up to date.
 - Each help begins with one screen, 24 lines of 80 columns, that has the call, every status of its tool, and that paths are absolute.
-- Each option stands in the man page of its tool, and bash, zsh and fish offer it.
-- `man --warnings` has nothing to say, and each shell reads its completion.
-- Each wrong body stands in docs/PROMISES.md, and each definition, function and wrong body that this names stands in the crates.
-- Each link in a Markdown file leads to a file and a heading that are there.
-- Where the program is built, each command in README.md, docs/TOOLS.md, docs/RECIPES.md, docs/LISTS.md and docs/CHECKPOINTS.md that begins with `$ ` prints what
-  stands below it. A line `...` stands for any lines.
+- The man page of a tool has each of its options, and bash, zsh and fish offer it.
+- `man --warnings` prints nothing, and each shell reads its completion.
+- docs/PROMISES.md names each must-fail edit, and each definition, function and edit that it names is in the crates.
+- Each link in a Markdown file leads to a file and a heading that exist.
+- The texts for users have none of the words that the house style (CONTRIBUTING.md) replaces.
+- If the program is built, each command in README.md, docs/TOOLS.md, docs/RECIPES.md, docs/LISTS.md and docs/CHECKPOINTS.md that begins with `$ ` prints the
+  lines below it. A line `...` matches any lines.
 
-What needs a tool that is missing is skipped, and a line says so. The exit status is 1 where something is wrong.
+A check that needs a missing tool is skipped, and a line says so. The exit status is 1 if something is wrong.
 """
 import glob
 import os
@@ -25,6 +26,9 @@ import make_pages
 
 TOP = make_pages.TOP
 TRIED = ["README.md", "docs/TOOLS.md", "docs/RECIPES.md", "docs/LISTS.md", "docs/CHECKPOINTS.md"]
+PLAIN = [*TRIED, "CHANGELOG.md", "docs/COMING_FROM.md", "docs/PERFORMANCE.md", "docs/GATE.md", "contrib/tools.txt", "crates/mfu/src/help.rt"]
+COINED = (r"what stands\b|what meets\b|\b(?:is|are) told\b|drawn by lot|\bwanting\b|\brobbed\b|begun anew|wrong bod(?:y|ies) that the gate|"
+          r"(?<!there )\b(?:is|are) no [a-z]+|\bin front of\b|\w \.\.(?![./])")
 OPTION = r"(?<![\w-])--?[a-z][a-z-]*"
 wrong = []
 
@@ -154,7 +158,7 @@ def promises_name_what_is_there():
             there.update(re.findall(r"\w+", text_of(name)))
     named = set(re.findall(r"`(?:\w+::)*([A-Za-z]\w+)`", text_of("docs/PROMISES.md")))
     for name in sorted(edits - named):
-        said(f"docs/PROMISES.md says nothing of the wrong body {name}")
+        said(f"docs/PROMISES.md does not name the must-fail edit {name}")
     for name in sorted(name for name in named - there if "_" in name or name[0].isupper()):
         said(f"docs/PROMISES.md names {name}, which is nowhere in crates/")
 
@@ -184,14 +188,21 @@ def links_of(name):
             said(f"{name}: {to} has no heading {title}")
 
 
+def words_are_plain():
+    for name in PLAIN:
+        text = " ".join(text_of(name).split())
+        for found in re.findall(COINED, text, re.I):
+            said(f"{name}: the house style replaces: {found}")
+
+
 def as_printed(want, got):
-    """Whether the lines are those wanted, where a line `...` stands for any lines."""
+    """Whether the lines are those wanted; a line `...` matches any lines."""
     pattern = "".join("(?:.*\n)*" if line == "..." else re.escape(line) + "\n" for line in want)
     return re.fullmatch(pattern, got) is not None
 
 
 def commands_of(name):
-    """The commands of a file with the lines that stand below them, in order."""
+    """The commands of a file with the lines below them, in order."""
     found = []
     for block in re.findall(r"^```console\n(.*?)^```", text_of(name), re.M | re.S):
         for line in block.splitlines():
@@ -239,6 +250,7 @@ def main():
     completions_offer(table)
     promises_name_what_is_there()
     links_lead()
+    words_are_plain()
     commands_print()
     print(f"documents: {len(wrong)} wrong")
     return 1 if wrong else 0

@@ -1,5 +1,5 @@
 #!/bin/sh
-# Makes the small tree over which the examples of the documents were run. usage: example_tree.sh /tmp/site
+# Makes the small tree that the examples of the documents use. usage: example_tree.sh /tmp/site
 set -eu
 site=$1
 mkdir "$site" "$site/data" "$site/logs" "$site/notes"

@@ -1,7 +1,7 @@
 #!/usr/bin/env python3
-"""Makes the man pages, the completions and docs/TOOLS.md of the table contrib/tools.txt. usage: make_pages.py [--check]
+"""Makes the man pages, the completions and docs/TOOLS.md from the table contrib/tools.txt. usage: make_pages.py [--check]
 
-With --check nothing is written: each file that is not as it would be made is named, and the exit status is then 1.
+With --check it writes nothing, and names each file that would change; the exit status is then 1.
 """
 import os
 import re
@@ -13,7 +13,7 @@ MADE = "contrib/make_pages.py from contrib/tools.txt"
 
 
 class Block:
-    """A block of the table: its kind, its name, and its fields in order, each a name and a text."""
+    """A block of the table: its kind, its name, and its fields in order, each with a name and a text."""
 
     def __init__(self, kind, name):
         self.kind, self.name, self.fields = kind, name, []
@@ -31,7 +31,7 @@ class Block:
         return self.one(field).split()
 
     def examples(self):
-        """What each example shows, its command and the lines that this prints."""
+        """Each example: its title, its command and the output."""
         shows = ""
         for name, text in self.fields:
             if name == "shows":
@@ -42,7 +42,7 @@ class Block:
                 shows = ""
 
     def flags(self):
-        """The name of an option, and how its value is called."""
+        """The name of an option, and the word for its value."""
         name, _, value = self.name.partition(" ")
         return name, value
 
@@ -83,7 +83,7 @@ class Table:
         return [block for block in self.of(kind) if tool.name in block.words("tools")]
 
     def meanings(self, kind, tool=None):
-        """Each note or status by its name with what it means: with this tool, or with all, and then those of few tools are named."""
+        """Each message or status by its name with its meaning: with this tool, or with all; a meaning of a few tools names them."""
         found = {}
         for block in self.of(kind):
             if tool is None or tool.name in block.words("tools"):
@@ -106,7 +106,7 @@ class Table:
 
 
 def version():
-    """The version, which stands in the program's help alone."""
+    """The version, which only the program's help has."""
     text = open(os.path.join(TOP, "crates/mfu/src/help.rt"), encoding="utf-8").read()
     return re.search(r'"mfu ([0-9.]+)\\n"', text).group(1)
 
@@ -118,7 +118,7 @@ def roff(text):
 
 
 def prose(text):
-    """A text for a man page: what stands between backquotes is bold."""
+    """A text for a man page: text between backquotes is bold."""
     parts = text.split("`")
     out = "".join(roff(part) if k % 2 == 0 else "\\fB" + roff(part) + "\\fR" for k, part in enumerate(parts))
     return "\\&" + out if out[:1] in (".", "'") else out
@@ -156,7 +156,7 @@ def man_terms(meanings):
 
 
 def man_examples(tool):
-    lines = [".SH EXAMPLES", "The tree of the examples is made by contrib/example_tree.sh in the sources."]
+    lines = [".SH EXAMPLES", "The examples use the tree that the script example_tree.sh makes; see FILES in \\fBmfu\\fR(1)."]
     for shows, command, printed in tool.examples():
         lines += [".PP", prose(shows)] if shows else []
         lines += [".PP", ".nf", ".RS", "\\fB$ " + roff(command) + "\\fR"] + ["\\&" + roff(line) for line in printed] + [".RE", ".fi"]
@@ -168,11 +168,11 @@ def tool_page(table, tool):
     for takes in tool.all("takes"):
         body += [".PP", f"\\fBmfu {tool.name}\\fR {roff(takes)}"]
     body += [".SH DESCRIPTION"] + paragraphs(tool.all("say"))
-    body += [".PP", "Paths, words and what is printed are described in \\fBmfu\\fR(1)."]
+    body += [".PP", "The command line, paths and the output are described in \\fBmfu\\fR(1)."]
     body += [".SH OPTIONS"] + man_options(table, tool)
     for title, block in table.more(tool):
         body += [f".SH {roff(title).upper()}"] + paragraphs(block.all("say"))
-    body += [".SH NOTES ON STANDARD ERROR"] + man_terms(table.meanings("note", tool))
+    body += [".SH MESSAGES ON STANDARD ERROR"] + man_terms(table.meanings("note", tool))
     body += [".SH EXIT STATUS"] + man_terms(table.meanings("status", tool))
     see = f", \\fB{tool.one('see')}\\fR(1)" if tool.has("see") else ""
     body += man_examples(tool) + [".SH SEE ALSO", "\\fBmfu\\fR(1)" + see]
@@ -180,17 +180,19 @@ def tool_page(table, tool):
 
 
 def main_page(table):
-    body = [".SH SYNOPSIS", "\\fBmfu\\fR \\fITOOL\\fR \\fIWORD\\fR..", ".PP", "\\fBmfu\\fR \\fITOOL\\fR \\fB\\-\\-help\\fR"]
+    body = [".SH SYNOPSIS", "\\fBmfu\\fR \\fITOOL\\fR \\fIWORD\\fR...", ".PP", "\\fBmfu\\fR \\fITOOL\\fR \\fB\\-\\-help\\fR"]
     body += [".PP", "\\fBmfu \\-\\-help\\fR | \\fB\\-\\-version\\fR", ".SH DESCRIPTION"]
-    body += ["For \\fB\\-\\-help\\fR there stand also \\fB\\-h\\fR and \\fBhelp\\fR, as in \\fBmfu help dwalk\\fR, and for",
-             "\\fB\\-\\-version\\fR also \\fB\\-V\\fR, where they are the whole command line.", ".PP", "The first word is one of these tools:"]
+    body += ["\\fB\\-h\\fR, \\fBhelp\\fR and \\fBhelp\\fR \\fITOOL\\fR do the same as \\fB\\-\\-help\\fR, and \\fB\\-V\\fR the same as \\fB\\-\\-version\\fR. They",
+             "must be the whole command line.", ".PP", "The first word is one of these tools:"]
     for tool in table.tools:
         body += [".TP", f"\\fB{tool.name}\\fR", f"{roff(tool.one('does'))}; see \\fBmfu\\-{tool.name}\\fR(1)"]
     for topic in table.of("topic"):
         body += [f".SH {topic.name.upper()}"] + man_topic(topic)
     body += [".SH EXIT STATUS"] + man_terms(table.meanings("status"))
+    body += [".SH FILES", ".TP", "\\fIPREFIX\\fR/share/mfu", "the scripts; in the sources contrib/"]
+    body += [".TP", "\\fIPREFIX\\fR/share/doc/mfu", "the documents: README.md, and docs/ with RECIPES.md, LISTS.md and others"]
     others = ", ".join(f"\\fBmfu\\-{tool.name}\\fR(1)" for tool in table.tools)
-    return page("mfu", "tools for trees of files", body + [".SH SEE ALSO", others])
+    return page("mfu", "list, search, compare, copy and delete directory trees", body + [".SH SEE ALSO", others])
 
 
 # Completions
@@ -274,7 +276,7 @@ _mfu() {{
     local -a tools=(
 {tools}
     )
-    local -a asks=('help:say what the tools are, or more of one' '--help:say what the tools are' '--version:print the version')
+    local -a asks=('help:show help, or the help of a tool' '--help:show help' '--version:show the version')
     if (( CURRENT == 2 )); then
         _describe -t tools tool tools -- asks
         return
@@ -293,7 +295,7 @@ _mfu "$@"
 
 
 def zsh_case(table, tool):
-    lines = [f"        {tool.name})", "            _arguments -S \\", "                '(- *)--help[say more of the tool]' \\"]
+    lines = [f"        {tool.name})", "            _arguments -S \\", "                '(- *)--help[show the help of this tool]' \\"]
     for option in table.options(tool):
         many = option in table.groups["tests"] or option.has("many")
         lines.append(f"                {zsh_option(option, many)} \\")
@@ -326,12 +328,12 @@ def fish_completion(table):
     first = "__fish_use_subcommand"
     lines = [f"# fish completion for mfu. Made by {MADE}.", "complete -c mfu -f"]
     lines += [fish_line(first, f"-a {tool.name} -d {quoted(tool.one('does'))}") for tool in table.tools]
-    lines += [fish_line(first, "-a help -d 'say what the tools are, or more of one'"), fish_line(first, "-l help -d 'say what the tools are'")]
-    lines += [fish_line(first, "-l version -d 'print the version'")]
+    lines += [fish_line(first, "-a help -d 'show help, or the help of a tool'"), fish_line(first, "-l help -d 'show help'")]
+    lines += [fish_line(first, "-l version -d 'show the version'")]
     lines += [fish_line("__fish_seen_subcommand_from help", f"-a {tool.name} -d {quoted(tool.one('does'))}") for tool in table.tools]
     for tool in table.tools:
         when = f"__fish_seen_subcommand_from {tool.name}"
-        lines.append(fish_line(when, "-l help -d 'say more of the tool'"))
+        lines.append(fish_line(when, "-l help -d 'show the help of this tool'"))
         lines += [fish_line(when, "-F")] if tool.one("plain") == "path" else []
         lines += [fish_line(when, fish_option(option)) for option in table.options(tool)]
     return "\n".join(lines) + "\n"
@@ -356,7 +358,7 @@ def spread(texts):
 
 
 def option_rows(options):
-    return rows(("Option", "Does"), [(f"`{option.name}`", option.one("say")) for option in options])
+    return rows(("Option", "What it does"), [(f"`{option.name}`", option.one("say")) for option in options])
 
 
 def anchor(title):
@@ -383,7 +385,7 @@ def tool_part(table, tool):
     out += [f"Options: {links}.", ""]
     for title, block in table.more(tool):
         out += [f"### {title}", ""] + spread(block.all("say"))
-    out += [f"[Notes](#notes): {notes}.", "", f"[Statuses](#statuses): {statuses}.", ""]
+    out += [f"[Messages](#messages): {notes}.", "", f"[Exit statuses](#exit-statuses): {statuses}.", ""]
     for shows, command, printed in tool.examples():
         lines = ["```console", "$ " + command] + printed + ["```", ""]
         # An example that nothing is said of goes on with the one before.
@@ -393,17 +395,17 @@ def tool_part(table, tool):
 
 def tools_doc(table):
     out = [f"<!-- Made by {MADE}: change that table, and run the script. -->", "# The tools", "",
-           "Each tool by itself, then what they share: words, paths, what is printed, options, notes and statuses. The examples were run over the",
-           "small tree that `sh contrib/example_tree.sh /tmp/site` makes.", ""]
+           "First each tool, then what they share: the command line, paths, output, options, messages and exit statuses. The examples use the small",
+           "tree that `sh contrib/example_tree.sh /tmp/site` makes.", ""]
     for tool in table.tools:
         out += tool_part(table, tool)
     for topic in table.of("topic"):
         out += topic_part(topic)
     for name, options in table.groups.items():
         out += [f"## {table.title(name)}", ""] + option_rows(options)
-    out += ["## Notes", "", "A note is a line of standard error. Each stands once.", ""]
-    out += rows(("Note", "Means"), [(f"`{name}`", text) for name, text in table.meanings("note")])
-    out += ["## Statuses", ""] + rows(("Status", "Means"), table.meanings("status"))
+    out += ["## Messages", "", "A message is a line on standard error. Each comes once.", ""]
+    out += rows(("Message", "Meaning"), [(f"`{name}`", text) for name, text in table.meanings("note")])
+    out += ["## Exit statuses", ""] + rows(("Status", "Meaning"), table.meanings("status"))
     return "\n".join(out).rstrip("\n") + "\n"
 
 
