@@ -13,7 +13,8 @@ use std::thread::Threads;
 
 const SEEDS: u64 = 100;
 
-const STRINGS: u32 = 100_000;
+// bench/storms.sh runs these tests with more.
+const STRINGS: u32 = 10_000;
 
 // Each of eight ranks is in a thread of its own.
 #[test]
