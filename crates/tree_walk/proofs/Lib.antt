@@ -25,3 +25,5 @@ pub mod Traced
 pub mod Ordered
 pub mod Restarts
 pub mod Stops
+pub mod Complete
+pub mod HaveParents

@@ -1,19 +1,17 @@
 -- Each entry of a walk is one of its roots, or the walk went on with it from its parent, which was listed.
-use Rattle.std.proofs.Common.{◌≡◌, ◌⊎◌, inl, inr, ⊎_elim, ℕ, ◌-◌, ◌<◌, ◌≤◌, Bool, true, false, ◌&&◌, ◌||◌, List, [], ◌∷◌, ◌++◌, map, length}
-use Rattle.std.proofs.Common.{Option, Some, None, refl, ap, ◌∙◌, sym, subst, arith, cond, append_assoc, length-append}
+use Rattle.std.proofs.Common.{◌≡◌, ◌⊎◌, inl, inr, ⊎_elim, ℕ, ◌-◌, ◌<◌, ◌≤◌, true, false, List, [], ◌∷◌, map, length}
+use Rattle.std.proofs.Common.{Option, Some, None, refl, ap, ◌∙◌, sym, subst, cond}
 use Rattle.std.specs.Prelude.{is_some, is_none, IsTrue}
-use Rattle.std.specs.List.{AllByRecursion, flat_map, list_any, count_by}
+use Rattle.std.specs.List.{AllByRecursion, flat_map, count_by}
 use Rattle.std.specs.FinMap.{get}
-use Rattle.std.specs.Cmp.Lexicographic.{bytes_decides}
 use Rattle.std.proofs.lemmas.Bool.{false≢true}
 use Rattle.std.proofs.lemmas.List.Elements.{recursion_from_All, All-from_recursion, All-contains}
-use Rattle.path_text.specs.Path.{is_slash, is_name, joined, refusal, parent_of}
+use Rattle.path_text.specs.Path.{is_name, joined, refusal, parent_of}
 use Rattle.path_text.specs.Order.{front}
+use Rattle.path_text.proofs.Parents.{cut, parent_joined}
 use Rattle.path_text.proofs.Preorder.{front-joined, some_bytes, no_slash}
-use Rattle.outside.specs.Tree.{Files, Node, Body, dir, file, link, other, IsTree, is_dir, is_dir_body, is_root, name_below, names_in}
+use Rattle.outside.specs.Tree.{Files, Node, Body, dir, file, link, other, IsTree, is_dir, is_dir_body, is_root, names_in}
 use Rattle.outside.proofs.Names.{placed_path, children_are_names}
-use Rattle.outside.proofs.Children.{child_is, one_name_parts}
-use Rattle.outside.proofs.Parents.{child_of_parent}
 use Rattle.outside.specs.declared.trees.Kind.TheVariants as kind
 use Rattle.flat_list.specs.declared.entries.Entry.{Entry}
 use Rattle.flat_list.specs.declared.entries.Mark.TheVariants as mark
@@ -22,73 +20,12 @@ use Rattle.tree_walk.specs.Walk.{told, stat_failed, list_failed, Answers, entry_
 use Rattle.tree_walk.specs.Roots.{is_in}
 use Rattle.tree_walk.specs.Told.{IsTold, ParentsAreListed}
 use Rattle.tree_walk.proofs.Lists.{weaker, all_flat, all_map}
-use Rattle.tree_walk.proofs.Names.{some_front}
 use Rattle.tree_walk.proofs.Covers.{child_covers, child_not_above}
 use Rattle.tree_walk.proofs.Recursive.{of_children}
-use Rattle.tree_walk.proofs.Lawful.{walk_entries, children_found}
-use Rattle.tree_walk.proofs.Inside.{begins-itself, front_of_two, front_same, first_slash, is_in_is, in_itself, in_trans}
+use Rattle.tree_walk.proofs.Lawful.{walk_entries}
+use Rattle.tree_walk.proofs.Inside.{begins-itself, is_in_is, in_itself, in_trans}
 use Rattle.tree_walk.proofs.Standing.{In, Above, only, of_all, each_in}
 use Rattle.tree_walk.proofs.Told.{entries_are_told}
-
--- ---- a path's parent
-
-has_slash : (y n : List ℕ) → list_any is_slash (y ++ 47 ∷ n) ≡ true
-has_slash [] n = refl
-has_slash (b ∷ y) n = second (is_slash b) (list_any is_slash (y ++ 47 ∷ n)) (has_slash y n)
-  where
-    second : (a b : Bool) → b ≡ true → (a || b) ≡ true
-    second true b e = refl
-    second false b e = e
-
-bare : (y m n : List ℕ) → m ≡ y ++ 47 ∷ n → list_any is_slash m ≡ false → ⊥
-bare y m n e s = false≢true (sym s ∙ ap (list_any is_slash) e ∙ has_slash y n)
-
--- a text is cut at its last slash in one way
-same_cut : (x y m n : List ℕ) → x ++ 47 ∷ m ≡ y ++ 47 ∷ n → list_any is_slash m ≡ false → list_any is_slash n ≡ false → x ≡ y
-same_cut [] [] m n e s t = refl
-same_cut [] (b ∷ y) m n e s t = absurd (bare y m n (cc) s)
-same_cut (a ∷ x) [] m n e s t = absurd (bare x n m (cc) t)
-same_cut (a ∷ x) (b ∷ y) m n e s t =
-    let first : a ≡ b = cc in
-    let behind : x ++ 47 ∷ m ≡ y ++ 47 ∷ n = cc in
-    let rest = same_cut x y m n behind s t in
-    λ i. first i ∷ rest i
-
-front_ends : (p : List ℕ) → refusal p ≡ None → (x : List ℕ) × (front p ≡ x ++ 47 ∷ [])
-front_ends [] v = absurd (cc)
-front_ends (a ∷ []) v = ([], ap (λ b. b ∷ []) (first_slash a [] v))
-front_ends (a ∷ b ∷ p) v = (a ∷ b ∷ p, front_of_two a b p)
-
-same_parent : (p q m n : List ℕ) → refusal p ≡ None → refusal q ≡ None → front p ++ m ≡ front q ++ n →
-    list_any is_slash m ≡ false → list_any is_slash n ≡ false → p ≡ q
-same_parent p q m n v w e s t =
-    let x = front_ends p v in
-    let y = front_ends q w in
-    let whole : x.0 ++ 47 ∷ m ≡ y.0 ++ 47 ∷ n =
-    sym (append_assoc x.0 (47 ∷ []) m) ∙ ap (λ f. f ++ m) (sym x.1) ∙ e ∙ ap (λ f. f ++ n) y.1 ∙ append_assoc y.0 (47 ∷ []) n in
-    front_same p q v w (x.1 ∙ ap (λ z. z ++ 47 ∷ []) (same_cut x.0 y.0 m n whole s t) ∙ sym y.1)
-
--- a path other than `/`, cut into its parent and its name
-record Cut (path : List ℕ) : Type 0 where
-  name : List ℕ
-  whole : path ≡ front (parent_of path) ++ name
-  some : 0 < length name
-  one : list_any is_slash name ≡ false
-
-cut : (path : List ℕ) → refusal path ≡ None → is_root path ≡ false → Cut path
-cut path v off = elim (name_below (parent_of path) path) as (λ o. name_below (parent_of path) path ≡ o → is_some o ≡ true → Cut path) [
-  | None ↦ λ is s. absurd (false≢true s)
-  | Some m ↦ λ is s.
-      let c = child_is (parent_of path) path m is in
-      let o = one_name_parts m c.1 in
-      record { name = m; whole = c.0; some = o.0; one = o.1 }
-] refl (child_of_parent path v off)
-
-no_root : (path : List ℕ) → 1 < length path → is_root path ≡ false
-no_root path l = elim (is_root path) as (λ b. is_root path ≡ b → b ≡ false) [
-  | true ↦ λ e. absurd (omega (arith, l, ap length ((bytes_decides path (47 ∷ [])).0 e)))
-  | false ↦ λ e. refl
-] refl
 
 -- ---- nodes of a tree
 
@@ -103,32 +40,6 @@ some_dir (Some x) e = refl
 path_of_node : (files : Files) (path : List ℕ) → IsTree files → is_some (get files path) ≡ true → refusal path ≡ None
 path_of_node files path t some = placed_path files path t (not_none (get files path) some)
 
-placed_in : (a b : Bool) → a ≡ false → (a || b) ≡ true → b ≡ true
-placed_in a b e d = ap (λ c. c || b) (sym e) ∙ d
-
-second : (a b : Bool) → (a && b) ≡ true → b ≡ true
-second true b e = e
-second false b e = absurd (false≢true e)
-
--- what stands in a tree stands in a directory
-in_dir : (files : Files) (path : List ℕ) → IsTree files → is_some (get files path) ≡ true → is_root path ≡ false → is_dir (get files (parent_of path)) ≡ true
-unfolding IsTree
-in_dir files path t some off =
-    let placed = is_none (refusal path) && is_dir (get files (parent_of path)) in
-    let here : (is_none (get files path) || placed) ≡ true =
-    ap (λ b. cond b (is_dir (get files path)) (is_none (get files path) || placed)) (sym off) ∙ t path in
-    second (is_none (refusal path)) (is_dir (get files (parent_of path))) (placed_in (is_none (get files path)) placed (not_none (get files path) some) here)
-
-childs_parent : (files : Files) (p n : List ℕ) → IsTree files → refusal p ≡ None → IsTrue (is_name n) → is_some (get files (joined p n)) ≡ true →
-    parent_of (joined p n) ≡ p
-childs_parent files p n t v name some =
-    let c = joined p n in
-    let whole = front-joined p n in
-    let off = no_root c (omega (arith, sym (ap length whole), length-append (front p) n, some_front p, some_bytes n name)) in
-    let over = some_dir (get files (parent_of c)) (in_dir files c t some off) in
-    let k = cut c (path_of_node files c t some) off in
-    same_parent (parent_of c) p k.name n (path_of_node files (parent_of c) t over) v (sym k.whole ∙ sym whole) k.one (no_slash n name)
-
 -- ---- what a walk goes on with
 
 -- the walk went on with the path from its parent, which was listed
@@ -138,13 +49,12 @@ record IsChild (files : Files) (a : Answers) (path : List ℕ) : Type 0 where
   dir : is_dir (get files (parent_of path)) ≡ true
 
 children_of_listed : (files : Files) (a : Answers) (p : List ℕ) (u : ℕ) → IsTree files → a p ≡ told u → is_dir (get files p) ≡ true →
-    (names : List (List ℕ)) → AllByRecursion (λ n. IsTrue (is_name n)) names → AllByRecursion (λ q. is_some (get files q) ≡ true) (map (joined p) names) →
-    AllByRecursion (IsChild files a) (map (joined p) names)
-children_of_listed files a p u t e d [] v f = tt
-children_of_listed files a p u t e d (n ∷ names) v f =
-    let same = childs_parent files p n t (path_of_node files p t (some_dir (get files p) d)) v.0 f.0 in (
+    (names : List (List ℕ)) → AllByRecursion (λ n. IsTrue (is_name n)) names → AllByRecursion (IsChild files a) (map (joined p) names)
+children_of_listed files a p u t e d [] v = tt
+children_of_listed files a p u t e d (n ∷ names) v =
+    let same = parent_joined p n (path_of_node files p t (some_dir (get files p) d)) (no_slash n v.0) in (
       record { unnamed = u; answer = ap a same ∙ e; dir = ap (λ q. is_dir (get files q)) same ∙ d },
-      children_of_listed files a p u t e d names v.1 f.1,
+      children_of_listed files a p u t e d names v.1,
     )
 
 each_child : (files : Files) (a : Answers) (p : List ℕ) → IsTree files → AllByRecursion (IsChild files a) (children_of (a p) files p)
@@ -155,7 +65,7 @@ each_child files a p t =
       | stat_failed ↦ λ e. tt
       | list_failed ↦ λ e. tt
       | told u ↦ λ e. elim (is_dir (get files p)) as (λ b. is_dir (get files p) ≡ b → AllByRecursion (IsChild files a) (cond b (map (joined p) names) [])) [
-        | true ↦ λ d. children_of_listed files a p u t e d names valid (children_found files p)
+        | true ↦ λ d. children_of_listed files a p u t e d names valid
         | false ↦ λ d. tt
       ] refl
     ] refl

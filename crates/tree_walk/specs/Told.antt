@@ -1,6 +1,7 @@
 -- What the entries of a walk tell of the tree that was walked. That each has a stat is after mpiFileUtils' flat lists; the rest is our own.
-use Rattle.std.specs.Prelude.{◌≡◌, ℕ, true, false, List, Option, None, is_some, All}
-use Rattle.std.specs.List.{flat_map, Contains}
+use Rattle.std.specs.Prelude.{◌≡◌, ℕ, Bool, ◌&&◌, ◌||◌, true, false, List, Option, None, is_some, nat_eq, All}
+use Rattle.std.specs.List.{flat_map, list_any, Contains}
+use Rattle.std.specs.Cmp.Lexicographic.{pointwise}
 use Rattle.std.specs.Option.{option_map}
 use Rattle.std.specs.FinMap.{get}
 use Rattle.path_text.specs.Path.{refusal, parent_of}
@@ -73,3 +74,13 @@ abbrev pub ParentsAreListed : Type 0
 ParentsAreListed =
     (files : Files) (a : Answers) (roots : List (List ℕ)) → IsTree files → All (λ root. refusal root ≡ None) roots → Apart roots →
     StandInListed (flat_map (walk files a) roots)
+
+-- the list has an entry of the path that tells a directory
+abbrev pub has_dir : List Entry → List ℕ → Bool
+has_dir list q = list_any (λ e. pointwise nat_eq q e.path && is_of kind.Dir e.stat) list
+
+-- each entry of the walks of several roots is that of a root, or the list has its directory too
+abbrev pub EntriesHaveParents : Type 0
+EntriesHaveParents =
+    (files : Files) (a : Answers) (roots : List (List ℕ)) → IsTree files →
+    All (λ e. (list_any (pointwise nat_eq e.path) roots || has_dir (flat_map (walk files a) roots) (parent_of e.path)) ≡ true) (flat_map (walk files a) roots)

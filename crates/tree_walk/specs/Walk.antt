@@ -1,13 +1,13 @@
 -- The recursive walk of a tree of files, and the answers of it that failed. After the process step of libcircle's walk (SC 2012); the
 -- failed answers are our own.
-use Rattle.std.specs.Prelude.{◌≡◌, ℕ, ◌-◌, ◌≤◌, List, [], ◌∷◌, zero, suc, map, length, if◌then◌else◌, Option, Some, None, is_some, true, All, nat_eq}
+use Rattle.std.specs.Prelude.{◌≡◌, ℕ, ◌-◌, ◌≤◌, List, [], ◌∷◌, zero, suc, map, length, if◌then◌else◌, Option, Some, None, is_some, Bool, true, false, All, nat_eq}
 use Rattle.std.specs.Cmp.Lexicographic.{pointwise}
-use Rattle.std.specs.List.{flat_map, sum_by, count_by}
+use Rattle.std.specs.List.{flat_map, sum_by, count_by, list_any}
 use Rattle.std.specs.List.Sorted.{IsStrictlySortedBy}
 use Rattle.std.specs.FinMap.{get}
 use Rattle.path_text.specs.Path.{joined, refusal}
-use Rattle.path_text.specs.Order.{path_cmp}
-use Rattle.outside.specs.Tree.{Files, Node, is_dir, is_dir_body, far_of, text_of, stat_of, names_in, IsTree}
+use Rattle.path_text.specs.Order.{path_cmp, is_under, is_within}
+use Rattle.outside.specs.Tree.{Files, Node, is_dir, is_dir_body, is_root, far_of, text_of, stat_of, names_in, IsTree}
 use Rattle.flat_list.specs.declared.entries.Entry.{Entry}
 use Rattle.flat_list.specs.declared.entries.Mark.{Mark}
 use Rattle.flat_list.specs.declared.entries.Mark.TheVariants as mark
@@ -66,6 +66,12 @@ children_of stat_failed files path = []
 children_of list_failed files path = []
 children_of (told unnamed) files path = if is_dir (get files path) then map (joined path) (names_in files path) else []
 
+-- the files answered of a path, and of its names
+abbrev pub is_told : Answer → Bool
+is_told stat_failed = false
+is_told list_failed = false
+is_told (told unnamed) = true
+
 -- the walk of a path, at most so many levels down: its entry, and then the walk of each child
 abbrev pub walk_down : ℕ → Files → Answers → List ℕ → List Entry
 walk_down zero files a path = []
@@ -121,6 +127,12 @@ WalkHasEachPathOnce = (files : Files) (a : Answers) (path q : List ℕ) → IsTr
 abbrev pub WalkFindsAll : Type 0
 WalkFindsAll = (files : Files) (root : List ℕ) → IsTree files → refusal root ≡ None → is_some (get files root) ≡ true
     → All (λ e. (e.mark ≡ mark.Fine) × (e.unnamed ≡ 0)) (walk files all_told root)
+
+-- nothing is left out off what failed: where the files answered of every path on the way from the root to a node, the node has an entry
+abbrev pub WalkListsAll : Type 0
+WalkListsAll = (files : Files) (a : Answers) (root q : List ℕ) → IsTree files → refusal root ≡ None → is_root root ≡ false → is_within q root ≡ true
+    → is_some (get files q) ≡ true → ((p : List ℕ) → is_under q p ≡ true → is_within p root ≡ true → is_told (a p) ≡ true)
+    → list_any (pointwise nat_eq q) (paths_of (walk files a root)) ≡ true
 
 -- where no answer failed and every root is there, the entries are those of the walk in which nothing fails, and each is fine
 abbrev pub WalkWithoutFaultsIsFine : Type 0

@@ -1,8 +1,8 @@
 //! Laws of the recursive walk and of roots, each the contract of a function that does nothing.
 ghost use Rattle.tree_walk.specs.Cut.{RestartIsWalk, CutGoesOn, LeftIsApart};
 ghost use Rattle.tree_walk.specs.Roots.{RootsAreUnique};
-ghost use Rattle.tree_walk.specs.Told.{EntriesAreTold, ParentsAreListed};
-ghost use Rattle.tree_walk.specs.Walk.{WalkIsRecursive, WalkAscends, WalkHasEachPathOnce, WalkFindsAll, WalkWithoutFaultsIsFine};
+ghost use Rattle.tree_walk.specs.Told.{EntriesAreTold, EntriesHaveParents, ParentsAreListed};
+ghost use Rattle.tree_walk.specs.Walk.{WalkIsRecursive, WalkAscends, WalkHasEachPathOnce, WalkFindsAll, WalkListsAll, WalkWithoutFaultsIsFine};
 
 /// The walk of a path is its entry, and then the walk of each child, names in byte order.
 pub fn walk_is_recursive()
@@ -24,6 +24,11 @@ pub fn walk_finds_all()
     ensures { WalkFindsAll }
 {}
 
+/// Nothing is left out off what failed: if the files answered of every path on the way from the root to a node, the node has an entry.
+pub fn walk_lists_all()
+    ensures { WalkListsAll }
+{}
+
 /// Entries of several roots that tell no failed answer are those of the walk in which nothing fails, and each is fine.
 pub fn walk_without_faults_is_fine()
     ensures { WalkWithoutFaultsIsFine }
@@ -38,6 +43,11 @@ pub fn entries_are_told()
 /// In the walks of roots that are apart an entry whose parent has an entry too stands in a directory that was listed.
 pub fn parents_are_listed()
     ensures { ParentsAreListed }
+{}
+
+/// In the walks of several roots each entry is that of a root, or its directory has an entry too.
+pub fn entries_have_parents()
+    ensures { EntriesHaveParents }
 {}
 
 /// The roots of given paths are unique: two lists that are roots of the same valid paths are the same.

@@ -43,8 +43,8 @@
 //! That a walk ends is not proved: the runtime that works it off may wait.
 //!
 //! The recursive walk has laws of its own, each the contract of a function that does nothing: [`walk_is_recursive`],
-//! [`walk_ascends`], [`walk_has_each_path_once`], [`walk_finds_all`], [`walk_without_faults_is_fine`],
-//! [`entries_are_told`], [`parents_are_listed`]. So have the roots: [`roots_are_unique`]. And so has a cut of the walk, which is
+//! [`walk_ascends`], [`walk_has_each_path_once`], [`walk_finds_all`], [`walk_lists_all`], [`walk_without_faults_is_fine`],
+//! [`entries_are_told`], [`entries_have_parents`], [`parents_are_listed`]. So have the roots: [`roots_are_unique`]. And so has a cut of the walk, which is
 //! some entries of it and the strings that are left: a walk of these goes on, and with the entries is the whole
 //! ([`restart_is_walk`], [`cut_goes_on`], [`left_is_apart`]).
 //!
@@ -66,9 +66,9 @@ mod walking;
 pub use errors::WalkError;
 pub use jobs::WalkJob;
 pub use laws::{
-    cut_goes_on, entries_are_told, left_is_apart, parents_are_listed, restart_is_walk,
-    roots_are_unique, walk_ascends, walk_finds_all, walk_has_each_path_once, walk_is_recursive,
-    walk_without_faults_is_fine,
+    cut_goes_on, entries_are_told, entries_have_parents, left_is_apart, parents_are_listed,
+    restart_is_walk, roots_are_unique, walk_ascends, walk_finds_all, walk_has_each_path_once,
+    walk_is_recursive, walk_lists_all, walk_without_faults_is_fine,
 };
 pub use reports::{Cut, WalkReport, Walked};
 pub use rooting::{is_in, roots_of};

@@ -1,0 +1,151 @@
+-- Each entry of walks is that of a root, or its directory has an entry too.
+use Rattle.std.proofs.Common.{◌≡◌, ◌⊎◌, inl, inr, ⊎_elim, ℕ, ◌-◌, zero, suc, Bool, true, false, cond, ◌&&◌, ◌||◌, List, [], ◌∷◌, ◌++◌, map}
+use Rattle.std.proofs.Common.{length, Option, Some, None, refl, ◌∙◌, sym, subst}
+use Rattle.std.proofs.lemmas.Bool.{false≢true}
+use Rattle.std.proofs.lemmas.List.Elements.{recursion_from_All, All-from_recursion}
+use Rattle.std.proofs.lemmas.List.Folds.{list_any-append}
+use Rattle.std.specs.Prelude.{is_none, nat_eq, IsTrue}
+use Rattle.std.specs.FinMap.{get}
+use Rattle.std.specs.List.{AllByRecursion, flat_map, list_any}
+use Rattle.std.specs.Cmp.Lexicographic.{pointwise, bytes_decides}
+use Rattle.path_text.specs.Path.{is_name, joined, refusal, parent_of}
+use Rattle.path_text.proofs.Parents.{parent_joined}
+use Rattle.path_text.proofs.Preorder.{no_slash}
+use Rattle.outside.specs.Tree.{Files, Node, Body, dir, file, link, other, IsTree, is_dir, is_dir_body, kind_of, names_in}
+use Rattle.outside.proofs.Names.{placed_path, children_are_names}
+use Rattle.outside.specs.declared.trees.Kind.TheVariants as kind
+use Rattle.flat_list.specs.declared.entries.Entry.{Entry}
+use Rattle.flat_list.specs.Entries.{is_kind, is_of}
+use Rattle.tree_walk.specs.Walk.{Answer, told, stat_failed, list_failed, Answers, entry_of, children_of, walk_down, walk}
+use Rattle.tree_walk.specs.Told.{has_dir, EntriesHaveParents}
+use Rattle.tree_walk.proofs.Lists.{weaker}
+use Rattle.tree_walk.proofs.Lawful.{path_is}
+
+-- the test of a directory's entry at a path
+abbrev dir_at : List ℕ → Entry → Bool
+dir_at q e = pointwise nat_eq q e.path && is_of kind.Dir e.stat
+
+or_left : (a b : Bool) → a ≡ true → (a || b) ≡ true
+or_left true b e = refl
+or_left false b e = absurd (false≢true e)
+
+or_right : (a b : Bool) → b ≡ true → (a || b) ≡ true
+or_right true b e = refl
+or_right false b e = e
+
+both_true : (a b : Bool) → a ≡ true → b ≡ true → (a && b) ≡ true
+both_true true b e h = h
+both_true false b e h = absurd (false≢true e)
+
+has_left : (xs ys : List Entry) (q : List ℕ) → has_dir xs q ≡ true → has_dir (xs ++ ys) q ≡ true
+has_left xs ys q h = list_any-append (dir_at q) xs ys ∙ or_left (list_any (dir_at q) xs) (list_any (dir_at q) ys) h
+
+has_right : (xs ys : List Entry) (q : List ℕ) → has_dir ys q ≡ true → has_dir (xs ++ ys) q ≡ true
+has_right xs ys q h = list_any-append (dir_at q) xs ys ∙ or_right (list_any (dir_at q) xs) (list_any (dir_at q) ys) h
+
+-- a path that the walk goes on with from p, whose entry tells a directory
+abbrev IsKid : Answer → Option Node → List ℕ → List ℕ → Type 0
+IsKid answer found p c = (parent_of c ≡ p) × (is_of kind.Dir (entry_of answer found p).stat ≡ true)
+
+dir_kind : (b : Body) → is_dir_body b ≡ true → is_kind kind.Dir (kind_of b) ≡ true
+dir_kind (dir far) d = refl
+dir_kind (file bytes) d = absurd (false≢true d)
+dir_kind (link text) d = absurd (false≢true d)
+dir_kind other d = absurd (false≢true d)
+
+dir_told : (u : ℕ) (found : Option Node) (p : List ℕ) → is_dir found ≡ true → is_of kind.Dir (entry_of (told u) found p).stat ≡ true
+dir_told u None p d = absurd (false≢true d)
+dir_told u (Some n) p d = dir_kind n.body d
+
+not_none : (o : Option Node) → is_dir o ≡ true → is_none o ≡ false
+not_none None e = absurd (false≢true e)
+not_none (Some n) e = refl
+
+kids_of : (u : ℕ) (found : Option Node) (p : List ℕ) → refusal p ≡ None → is_dir found ≡ true → (names : List (List ℕ)) →
+    AllByRecursion (λ n. IsTrue (is_name n)) names → AllByRecursion (IsKid (told u) found p) (map (joined p) names)
+kids_of u found p v d [] h = tt
+kids_of u found p v d (n ∷ names) h = ((parent_joined p n v (no_slash n h.0), dir_told u found p d), kids_of u found p v d names h.1)
+
+kids : (files : Files) (answer : Answer) (p : List ℕ) → IsTree files → AllByRecursion (IsKid answer (get files p) p) (children_of answer files p)
+kids files stat_failed p t = tt
+kids files list_failed p t = tt
+kids files (told u) p t =
+    let names = names_in files p in
+    let valid = recursion_from_All (λ n. IsTrue (is_name n)) names (children_are_names files p t).valid in
+    elim (is_dir (get files p)) as (λ b. is_dir (get files p) ≡ b → AllByRecursion (IsKid (told u) (get files p) p) (cond b (map (joined p) names) [])) [
+      | true ↦ λ d. kids_of u (get files p) p (placed_path files p t (not_none (get files p) d)) d names valid
+      | false ↦ λ _. tt
+    ] refl
+
+all_append : {X : Type 0} (P : X → Type 0) (xs ys : List X) → AllByRecursion P xs → AllByRecursion P ys → AllByRecursion P (xs ++ ys)
+all_append P [] ys h g = g
+all_append P (x ∷ xs) ys h g = (h.0, all_append P xs ys h.1 g)
+
+-- the entry is that of the top, or its directory has one
+abbrev Comes : List Entry → List ℕ → Entry → Type 0
+Comes list p e = (e.path ≡ p) ⊎ (has_dir list (parent_of e.path) ≡ true)
+
+module _ (files : Files) (a : Answers) (t : IsTree files) where
+  down : (n : ℕ) (p : List ℕ) → AllByRecursion (Comes (walk_down n files a p) p) (walk_down n files a p)
+  down zero p = tt
+  down (suc n) p = (inl (path_is (a p) (get files p) p), rest (λ c. down n c) (children_of (a p) files p) (kids files (a p) p t) into_whole)
+    where
+      top : Entry
+      top = entry_of (a p) (get files p) p
+
+      below : List Entry
+      below = flat_map (walk_down n files a) (children_of (a p) files p)
+
+      into_whole : (q : List ℕ) → has_dir below q ≡ true → has_dir (top ∷ below) q ≡ true
+      into_whole q h = or_right (dir_at q top) (list_any (dir_at q) below) h
+
+      -- the top's own entry is that of the directory of its children
+      top_is : (c : List ℕ) → IsKid (a p) (get files p) p c → has_dir (top ∷ below) (parent_of c) ≡ true
+      top_is c kid =
+          or_left (dir_at (parent_of c) top) (list_any (dir_at (parent_of c)) below)
+          (both_true (pointwise nat_eq (parent_of c) top.path) (is_of kind.Dir top.stat)
+          ((bytes_decides (parent_of c) top.path).1 (kid.0 ∙ sym (path_is (a p) (get files p) p))) kid.1)
+
+      rest : ((c : List ℕ) → AllByRecursion (Comes (walk_down n files a c) c) (walk_down n files a c)) → (cs : List (List ℕ)) →
+          AllByRecursion (IsKid (a p) (get files p) p) cs → ((q : List ℕ) → has_dir (flat_map (walk_down n files a) cs) q ≡ true → has_dir (top ∷ below) q ≡ true) →
+          AllByRecursion (Comes (top ∷ below) p) (flat_map (walk_down n files a) cs)
+      rest sub [] h into = tt
+      rest sub (c ∷ cs) h into =
+          let here = walk_down n files a c in
+          let more = flat_map (walk_down n files a) cs in
+          all_append (Comes (top ∷ below) p) here more
+          (weaker (Comes here c) (Comes (top ∷ below) p)
+          (λ e. ⊎_elim (λ is. inr (subst (λ q. has_dir (top ∷ below) (parent_of q) ≡ true) (sym is) (top_is c h.0)))
+          (λ has. inr (into (parent_of e.path) (has_left here more (parent_of e.path) has))))
+          here (sub c))
+          (rest sub cs h.1 (λ q g. into q (has_right here more q g)))
+
+  abbrev IsIn : List (List ℕ) → List ℕ → Type 0
+  IsIn roots q = list_any (pointwise nat_eq q) roots ≡ true
+
+  -- each entry of the walks of several roots
+  come : (roots : List (List ℕ)) → AllByRecursion (λ e. IsIn roots e.path ⊎ (has_dir (flat_map (walk files a) roots) (parent_of e.path) ≡ true))
+      (flat_map (walk files a) roots)
+  unfolding walk
+  come [] = tt
+  come (r ∷ rs) =
+      let here = walk_down (4096 - length r) files a r in
+      let more = flat_map (λ q. walk_down (4096 - length q) files a q) rs in
+      all_append _ here more
+      (weaker (Comes here r) (λ e. IsIn (r ∷ rs) e.path ⊎ (has_dir (here ++ more) (parent_of e.path) ≡ true))
+      (λ e. ⊎_elim (λ is. inl (or_left (pointwise nat_eq e.path r) (list_any (pointwise nat_eq e.path) rs) ((bytes_decides e.path r).1 is)))
+      (λ has. inr (has_left here more (parent_of e.path) has))) here (down (4096 - length r) r))
+      (weaker (λ e. IsIn rs e.path ⊎ (has_dir more (parent_of e.path) ≡ true)) (λ e. IsIn (r ∷ rs) e.path ⊎ (has_dir (here ++ more) (parent_of e.path) ≡ true))
+      (λ e. ⊎_elim (λ i. inl (or_right (pointwise nat_eq e.path r) (list_any (pointwise nat_eq e.path) rs) i))
+      (λ has. inr (has_right here more (parent_of e.path) has))) more (come rs))
+
+pub entries_have_parents : EntriesHaveParents
+entries_have_parents files a roots t =
+    All-from_recursion (λ (e : Entry). (list_any (pointwise nat_eq e.path) roots || has_dir (flat_map (walk files a) roots) (parent_of e.path)) ≡ true)
+    (flat_map (walk files a) roots)
+    (weaker (λ (e : Entry). (list_any (pointwise nat_eq e.path) roots ≡ true) ⊎ (has_dir (flat_map (walk files a) roots) (parent_of e.path) ≡ true))
+    (λ (e : Entry). (list_any (pointwise nat_eq e.path) roots || has_dir (flat_map (walk files a) roots) (parent_of e.path)) ≡ true)
+    (λ e. ⊎_elim
+    (λ i. or_left (list_any (pointwise nat_eq e.path) roots) (has_dir (flat_map (walk files a) roots) (parent_of e.path)) i)
+    (λ has. or_right (list_any (pointwise nat_eq e.path) roots) (has_dir (flat_map (walk files a) roots) (parent_of e.path)) has))
+    (flat_map (walk files a) roots) (come files a t roots))
