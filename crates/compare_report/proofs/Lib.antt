@@ -1,6 +1,5 @@
 pub mod Both
 pub mod Chosen
-pub mod Counted
 pub mod Inside
 pub mod Passed
 pub mod Picked

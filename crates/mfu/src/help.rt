@@ -167,7 +167,7 @@ Exit status:
 
 The path / is SOURCE and DEST themselves. A sign is - if the path is on one side
 only, for SIZE and CONTENT if the two are not both regular files, and for
-CONTENT if one could not be read. Links are compared by their kind alone. Names
+CONTENT if one could not be read. The CONTENT of two links is their texts. Names
 that are not valid UTF-8 are on no line; a message counts them.
 
 -o saves SOURCE's entry of each line that matches EXPR, or DEST's if SOURCE has

@@ -1,5 +1,5 @@
 -- Counts of faults of several readers.
-use Rattle.std.proofs.Common.{◌≡◌, ℕ, ◌+◌, ◌<◌, ◌≤◌, List, [], ◌∷◌, map, length, get_or, set, arith, subst}
+use Rattle.std.proofs.Common.{◌≡◌, ℕ, ◌<◌, ◌≤◌, List, [], ◌∷◌, map, length, get_or, set, arith}
 use Rattle.tree_cmp.specs.Readers.{NoneFell, RoseTogether}
 
 pub NoneFell-same : (counts : List ℕ) → NoneFell counts counts

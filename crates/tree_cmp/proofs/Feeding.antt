@@ -1,11 +1,15 @@
 -- An entry more of a list.
-use Rattle.std.proofs.Common.{◌≡◌, ℕ, ◌+◌, ◌-◌, ◌<◌, ◌≤◌, zero, suc, Bool, true, false, not, if◌then◌else◌, All, List, [], ◌∷◌, map, filter, drop}
-use Rattle.std.proofs.Common.{length, refl, ap, ◌∙◌, sym, subst, cond, arith, Some, None}
+use Rattle.std.proofs.Common.{◌≡◌, ℕ, ◌+◌, ◌-◌, ◌<◌, zero, suc, Bool, true, false, not, if◌then◌else◌, All, List, [], ◌∷◌, map, filter, drop}
+use Rattle.std.proofs.Common.{ap, ◌∙◌, sym, subst, cond, arith, Some}
 use Rattle.std.specs.List.{slice_get}
+use Rattle.std.specs.Option.{option_map}
+use Rattle.path_text.specs.Graft.{below_of}
 use Rattle.flat_list.specs.declared.entries.Entry.{Entry}
 use Rattle.tree_cmp.specs.declared.items.Item.{Item}
+use Rattle.tree_cmp.specs.declared.items.Feed.{Feed}
 use Rattle.tree_cmp.specs.Sides.{is_gone}
 use Rattle.tree_cmp.specs.Private.Items.{items_of, item_of}
+use Rattle.tree_cmp.specs.Private.Steps.{IsCurrent}
 
 drop_at : (es : List Entry) (n : ℕ) (e : Entry) → slice_get es n ≡ Some e → drop n es ≡ e ∷ drop (suc n) es
 drop_at [] n e h = cc
@@ -33,7 +37,7 @@ there top es n m e x k h g y =
     ∙ (λ i. map (item_of top) (cond (not (g i)) (e ∷ filter (λ e. not (is_gone e.mark)) (drop m es)) (filter (λ e. not (is_gone e.mark)) (drop m es))))
     ∙ ap (λ (z : Item). z ∷ items_of top (drop m es)) (sym y)
 
-passed_0 : (old new : List Entry × ℕ) (t : Bool) → new ≡ (old.0, if t then old.1 + 1 else old.1) → new.0 ≡ old.0
+pub passed_0 : (old new : List Entry × ℕ) (t : Bool) → new ≡ (old.0, if t then old.1 + 1 else old.1) → new.0 ≡ old.0
 passed_0 old new t h = ap (λ (p : List Entry × ℕ). p.0) h
 
 passed_1 : (old new : List Entry × ℕ) (t : Bool) → new ≡ (old.0, if t then old.1 + 1 else old.1) → t ≡ true → new.1 ≡ old.1 + 1
@@ -52,3 +56,14 @@ passed_gone top old new t e h g s m = gone top new.0 old.1 new.1 e (passed_1 old
 
 pub within_still : (P : Entry → Type 0) (old new : List Entry × ℕ) (t : Bool) → new ≡ (old.0, if t then old.1 + 1 else old.1) → All P old.0 → All P new.0
 within_still P old new t h g = subst (All P) (sym (passed_0 old new t h)) g
+
+-- an item that was given is that of the entry passed last
+pub is_current : (f : Feed) (e : Entry) (x : Item) → slice_get f.cursor.0 (f.cursor.1 - 1) ≡ Some e → is_gone e.mark ≡ false
+    → x ≡ item_of f.top.now e → IsCurrent f x
+is_current f e x at here is = record {
+  there = ap (option_map (λ e. is_gone e.mark)) at ∙ ap Some here;
+  path = ap (option_map (λ e. below_of e.path f.top.now)) at ∙ ap (λ (y : Item). Some y.path) (sym is);
+}
+
+pub begun : (old new : List Entry × ℕ) (t : Bool) → new ≡ (old.0, if t then old.1 + 1 else old.1) → t ≡ true → 0 < new.1
+begun old new t h g = omega (arith, passed_1 old new t h g)

@@ -1,7 +1,7 @@
 -- A buffer is filled piece by piece.
-use Rattle.std.proofs.Common.{◌≡◌, ℕ, zero, suc, refl, ◌+◌, ◌-◌, ◌<◌, ◌≤◌, true, List, ◌++◌, length, take, drop, Option, Some, None, IfSome, ap, ◌∙◌}
-use Rattle.std.proofs.Common.{sym, subst, arith, length-append}
-use Rattle.std.proofs.lemmas.List.{take_all, take-take, drop-drop, length-take-le}
+use Rattle.std.proofs.Common.{◌≡◌, ℕ, zero, suc, refl, ◌+◌, ◌<◌, ◌≤◌, true, List, ◌++◌, length, take, drop, Option, Some, None, IfSome, ap, ◌∙◌}
+use Rattle.std.proofs.Common.{sym, arith, length-append}
+use Rattle.std.proofs.lemmas.List.{take-take, drop-drop, length-take-le}
 use Rattle.std.proofs.lemmas.Slice.{take-put_mid}
 use Rattle.std.proofs.Math.Seq.{take-append-add, take-add}
 use borrow.Rule.Slice.PartMut.{put_mid}

@@ -1,8 +1,8 @@
 -- The findings that settled rows make are those of the two sides.
-use Rattle.std.proofs.Common.{◌≡◌, ℕ, ◌+◌, ◌<◌, Bool, true, false, not, ◌&&◌, ◌||◌, List, [], ◌∷◌, ◌++◌, map, length, get_or, refl, sym, subst, ap}
+use Rattle.std.proofs.Common.{◌≡◌, ℕ, ◌+◌, Bool, true, false, not, ◌&&◌, ◌||◌, List, [], ◌∷◌, ◌++◌, map, length, refl, sym, subst, ap}
 use Rattle.std.proofs.Common.{◌∙◌, arith, cond, eqb, Option, Some, None, is_some, IfSome, IsTrue, All}
 use Rattle.std.specs.Prelude.{◌==◌}
-use Rattle.std.specs.List.{AllByRecursion, list_any, filter_map, cons_option, sum_by, find}
+use Rattle.std.specs.List.{AllByRecursion, list_any, filter_map, cons_option, find}
 use Rattle.std.specs.List.Sorted.{IsStrictlySortedBy}
 use Rattle.std.specs.FinMap.{get}
 use Rattle.std.specs.Option.{option_map}
@@ -15,7 +15,8 @@ use Rattle.std.proofs.lemmas.List.Folds.{list_any-append}
 use Rattle.std.proofs.lemmas.List.Sums.{sum_by-cons}
 use Rattle.path_text.specs.Order.{path_cmp, is_within}
 use Rattle.path_text.specs.Graft.{below_of, grafted, GraftUndoesBelow}
-use Rattle.outside.specs.Tree.{Files, Node, Body, content, stat_of, kind_of, size_of, is_file, is_file_body, bytes_of}
+use Rattle.outside.specs.Asked.{Asks}
+use Rattle.outside.specs.Tree.{Files, Node, Body, stat_of, kind_of, size_of, is_file_body, bytes_of}
 use Rattle.outside.specs.declared.trees.Kind.TheVariants as kind
 use Rattle.outside.specs.declared.trees.Stat.{Stat}
 use Rattle.flat_list.specs.declared.entries.Entry.{Entry}
@@ -28,12 +29,11 @@ use Rattle.tree_cmp.specs.declared.reading.Outcome.{Outcome}
 use Rattle.tree_cmp.specs.declared.reading.Outcome.TheVariants as outcome
 use Rattle.tree_cmp.specs.declared.rows.Missed.{Missed}
 use Rattle.tree_cmp.specs.declared.rows.Row.{Row}
-use Rattle.tree_cmp.specs.declared.rows.Two.TheVariants as two
-use Rattle.tree_cmp.specs.Sides.{Side, side, IsSide, is_gone, entry_at, is_shown}
-use Rattle.tree_cmp.specs.Rows.{stat_at, is_read, are_files, sizes, kinds, exist_of, two_of, has_value, same_bytes, IsContent, IsRow, row_path}
+use Rattle.tree_cmp.specs.Sides.{Side, IsSide, is_gone, entry_at, is_shown}
+use Rattle.tree_cmp.specs.Rows.{stat_at, is_read, are_files, sizes, unread, kinds, exist_of, two_of, has_value, same_bytes, IsContent, IsRow, row_path}
 use Rattle.tree_cmp.specs.Rows.{is_missed, WasToBeRead, IsComparison}
 use Rattle.tree_cmp.specs.Readers.{StatsTold}
-use Rattle.tree_cmp.specs.Private.Items.{items_of, at, item_stat, unread, draft_of, AreDrafts, paths}
+use Rattle.tree_cmp.specs.Private.Items.{items_of, at, to_read, links_at, content_before, draft_of, AreDrafts, paths}
 use Rattle.tree_cmp.specs.Private.Steps.{is_row}
 use Rattle.tree_cmp.specs.Private.Reading.{IsFileOf, Told}
 use Rattle.tree_cmp.specs.Private.Sharing.{ToldAt, IsOf, IsSettled, unsettled, some_counts, blames}
@@ -151,24 +151,24 @@ value_of_two : (b : Bool) → has_value (two_of b) ≡ true
 value_of_two true = refl
 value_of_two false = refl
 
-read_some : (s t : Option Stat) → is_read s t ≡ true → is_some (unread s t) ≡ true
+read_some : (s t : Option Stat) → is_read s t ≡ true → is_some (to_read s t) ≡ true
 read_some s t e = λ i. is_some (cond (e i) (Some (size_by s)) None)
 
-unread_none : (s t : Option Stat) → is_read s t ≡ false → is_some (unread s t) ≡ false
+unread_none : (s t : Option Stat) → is_read s t ≡ false → is_some (to_read s t) ≡ false
 unread_none s t e = λ i. is_some (cond (e i) (Some (size_by s)) None)
 
 true_not_false : true ≡ false → ⊥
 true_not_false e = false≢true (sym e)
 
 content_row : (tree : Option Files) (a b : Option Entry) (o : Option Outcome) (c : Rattle.tree_cmp.specs.declared.rows.Two.Two) (m : Bool)
-    → c ≡ sizes (stat_at a) (stat_at b) → is_some (unread (stat_at a) (stat_at b)) ≡ is_some o → m ≡ gave_nothing o →
+    → c ≡ unread a b → is_some (to_read (stat_at a) (stat_at b)) ≡ is_some o → m ≡ gave_nothing o →
     ((x : Bool) → o ≡ Some (outcome.Same x) → IfSome tree (λ files. x ≡ same_bytes files a b)) → IsContent tree m a b (content_by c o)
 content_row tree a b None c m e u g t =
     let never : is_read (stat_at a) (stat_at b) ≡ true → ⊥ = λ r. true_not_false (sym (read_some (stat_at a) (stat_at b) r) ∙ u) in
-    record { unread = λ r. e; unknown = λ r x. absurd (never r); known = λ r x. absurd (never r); told = λ r x. absurd (never r) }
+    record { not_read = λ r. e; unknown = λ r x. absurd (never r); known = λ r x. absurd (never r); told = λ r x. absurd (never r) }
 content_row tree a b (Some (outcome.Same x)) c m e u g t =
     record {
-      unread = λ r. absurd (true_not_false (sym u ∙ unread_none (stat_at a) (stat_at b) r));
+      not_read = λ r. absurd (true_not_false (sym u ∙ unread_none (stat_at a) (stat_at b) r));
       unknown = λ r y. absurd (true_not_false (sym y ∙ g));
       known = λ r y. value_of_two x;
       told = λ r y. same_two tree (t x refl);
@@ -179,7 +179,7 @@ content_row tree a b (Some (outcome.Same x)) c m e u g t =
     same_two (Some files) h = ap two_of h
 content_row tree a b (Some (outcome.Missed dest why)) c m e u g t =
     record {
-      unread = λ r. absurd (true_not_false (sym u ∙ unread_none (stat_at a) (stat_at b) r));
+      not_read = λ r. absurd (true_not_false (sym u ∙ unread_none (stat_at a) (stat_at b) r));
       unknown = λ r y. refl;
       known = λ r y. absurd (true_not_false (sym g ∙ y));
       told = λ r y. absurd (true_not_false (sym g ∙ y));
@@ -187,11 +187,11 @@ content_row tree a b (Some (outcome.Missed dest why)) c m e u g t =
 
 -- ---- sides that were missed
 
-of_map : (f : Bool → Missed) (o : Option Bool) (m : Missed) → option_map f o ≡ Some m → (dest : Bool) × (o ≡ Some dest) × (m ≡ f dest)
+pub of_map : (f : Bool → Missed) (o : Option Bool) (m : Missed) → option_map f o ≡ Some m → (dest : Bool) × (o ≡ Some dest) × (m ≡ f dest)
 of_map f None m e = absurd cc
 of_map f (Some dest) m e = let s : f dest ≡ m = cc in (dest, refl, sym s)
 
-side_is : (why : Missing) (o : Option Outcome) (dest : Bool) → side_missed why o ≡ Some dest → o ≡ Some (outcome.Missed dest why)
+pub side_is : (why : Missing) (o : Option Outcome) (dest : Bool) → side_missed why o ≡ Some dest → o ≡ Some (outcome.Missed dest why)
 side_is why None dest e = absurd cc
 side_is why (Some (outcome.Same x)) dest e = absurd cc
 side_is missing.Failed (Some (outcome.Missed d missing.Failed)) dest e = let s : d ≡ dest = cc in ap (λ b. Some (outcome.Missed b missing.Failed)) s
@@ -252,7 +252,7 @@ paths-rows (d ∷ ds) = ap (λ ps. d.row.path ∷ ps) (paths-rows ds)
 
 -- ---- the rows of two sides that were settled
 
-module _ (law : GraftUndoesBelow) (tree : Option Files) (l r : Side) (left : IsSide l) (right : IsSide r)
+module _ (law : GraftUndoesBelow) {S : Type 0} (gives : Asks S) (tree : Option Files) (l r : Side) (left : IsSide l) (right : IsSide r)
     (told_left : IfSome tree (λ files. StatsTold files l.entries)) (told_right : IfSome tree (λ files. StatsTold files r.entries)) where
   -- what is known of a settled row
   record Settled (d : Draft) : Type 0 where
@@ -260,9 +260,9 @@ module _ (law : GraftUndoesBelow) (tree : Option Files) (l r : Side) (left : IsS
     exist : d.row.exist ≡ exist_of (is_some (entry_at l d.row.path)) (is_some (entry_at r d.row.path))
     kind : d.row.kind ≡ kinds (stat_at (entry_at l d.row.path)) (stat_at (entry_at r d.row.path))
     size : d.row.size ≡ sizes (stat_at (entry_at l d.row.path)) (stat_at (entry_at r d.row.path))
-    content : d.row.content ≡ sizes (stat_at (entry_at l d.row.path)) (stat_at (entry_at r d.row.path))
-    bytes : d.unread ≡ unread (stat_at (entry_at l d.row.path)) (stat_at (entry_at r d.row.path))
-    outcome : IsSettled tree l.top r.top d
+    content : d.row.content ≡ unread (entry_at l d.row.path) (entry_at r d.row.path)
+    bytes : d.unread ≡ to_read (stat_at (entry_at l d.row.path)) (stat_at (entry_at r d.row.path))
+    outcome : IsSettled gives tree l.top r.top d
 
   abbrev L : List Item
   L = items_of l.top l.entries
@@ -270,8 +270,8 @@ module _ (law : GraftUndoesBelow) (tree : Option Files) (l r : Side) (left : IsS
   abbrev R : List Item
   R = items_of r.top r.entries
 
-  settled_row : (d : Draft) → unsettled d ≡ draft_of d.row.path (at d.row.path L) (at d.row.path R) → is_shown l r d.row.path ≡ true
-      → IsSettled tree l.top r.top d → Settled d
+  settled_row : (d : Draft) → unsettled d ≡ draft_of (links_at l r d.row.path) d.row.path (at d.row.path L) (at d.row.path R) → is_shown l r d.row.path ≡ true
+      → IsSettled gives tree l.top r.top d → Settled d
   settled_row d e s o =
       let p = d.row.path in
       let ll = stat-items l.top p l.entries in
@@ -281,8 +281,8 @@ module _ (law : GraftUndoesBelow) (tree : Option Files) (l r : Side) (left : IsS
         exist = ap (λ (x : Draft). x.row.exist) e ∙ (λ i. exist_of (some-items l.top p l.entries i) (some-items r.top p r.entries i));
         kind = ap (λ (x : Draft). x.row.kind) e ∙ (λ i. kinds (ll i) (rr i));
         size = ap (λ (x : Draft). x.row.size) e ∙ (λ i. sizes (ll i) (rr i));
-        content = ap (λ (x : Draft). x.row.content) e ∙ (λ i. sizes (ll i) (rr i));
-        bytes = ap (λ (x : Draft). x.unread) e ∙ (λ i. unread (ll i) (rr i));
+        content = ap (λ (x : Draft). x.row.content) e ∙ (λ i. content_before (links_at l r p) (ll i) (rr i));
+        bytes = ap (λ (x : Draft). x.unread) e ∙ (λ i. to_read (ll i) (rr i));
         outcome = o;
       }
 
@@ -299,7 +299,7 @@ module _ (law : GraftUndoesBelow) (tree : Option Files) (l r : Side) (left : IsS
 
   -- what reading them came to, in the tree that is told
   told_of : (files : Files) → StatsTold files l.entries → StatsTold files r.entries → (d : Draft) → Settled d → (o : Outcome)
-      → d.outcome ≡ Some o → IsSettled (Some files) l.top r.top d →
+      → d.outcome ≡ Some o → IsSettled gives (Some files) l.top r.top d →
       (e : AreEntries (entry_at l d.row.path) (entry_at r d.row.path)) → Told (get files (AreEntries.one e).path) (get files (AreEntries.other e).path) o
   told_of files tl tr d s o is settled e =
       let p = d.row.path in
@@ -307,7 +307,7 @@ module _ (law : GraftUndoesBelow) (tree : Option Files) (l r : Side) (left : IsS
       let f = are_read (stat_at (entry_at l p)) (stat_at (entry_at r p)) read in
       let one = AreEntries.one e in
       let other = AreEntries.other e in
-      let own : IsOf (Some files) l.top r.top p d.unread o = subst (λ x. IfSome x (IsOf (Some files) l.top r.top p d.unread)) is settled.own in
+      let own : IsOf gives (Some files) l.top r.top p d.unread o = subst (λ x. IfSome x (IsOf gives (Some files) l.top r.top p d.unread)) is settled.own in
       let bytes : d.unread ≡ Some (AreRead.one f).size = s.bytes ∙ (λ i. cond (read i) (Some (size_by (stat_at (entry_at l p)))) None)
       ∙ ap (λ x. Some (size_by x)) (AreRead.one_is f) in
       let told : ToldAt (Some files) l.top r.top p (AreRead.one f).size o =
@@ -471,7 +471,7 @@ module _ (law : GraftUndoesBelow) (tree : Option Files) (l r : Side) (left : IsS
       let es = are_entries (entry_at l d.row.path) (entry_at r d.row.path) (was_read d s (outcome.Same x) is) in
       let told = told_of files (subst (λ u. IfSome u (λ files. StatsTold files l.entries)) (sym e) told_left)
       (subst (λ u. IfSome u (λ files. StatsTold files r.entries)) (sym e) told_right) d s (outcome.Same x) is
-      (subst (λ u. IsSettled u l.top r.top d) (sym e) (Settled.outcome s)) es in
+      (subst (λ u. IsSettled gives u l.top r.top d) (sym e) (Settled.outcome s)) es in
       told ∙ (λ i. same_bytes files (sym (AreEntries.one_is es) i) (sym (AreEntries.other_is es) i))
 
   unchanged : (t : Option Files) → t ≡ tree → (ds : List Draft) → AllByRecursion Settled ds
@@ -489,7 +489,7 @@ module _ (law : GraftUndoesBelow) (tree : Option Files) (l r : Side) (left : IsS
             absurd (told_of files (subst (λ u. IfSome u (λ files. StatsTold files l.entries)) (sym e) told_left)
             (subst (λ u. IfSome u (λ files. StatsTold files r.entries)) (sym e) told_right) d h.0
             (outcome.Missed f.0 missing.Changed) is
-            (subst (λ u. IsSettled u l.top r.top d) (sym e) (Settled.outcome h.0)) es)
+            (subst (λ u. IsSettled gives u l.top r.top d) (sym e) (Settled.outcome h.0)) es)
       ] refl
 
   the_rows : (missed : List Missed) (ds : List Draft) → AllByRecursion Settled ds
@@ -518,8 +518,8 @@ module _ (law : GraftUndoesBelow) (tree : Option Files) (l r : Side) (left : IsS
     nothing_here F C ds h.1 g.1,
   )
 
-  all_settled : (ds : List Draft) → AllByRecursion (λ d. unsettled d ≡ draft_of d.row.path (at d.row.path L) (at d.row.path R)) ds
-      → AllByRecursion (λ d. is_shown l r d.row.path ≡ true) ds → AllByRecursion (IsSettled tree l.top r.top) ds → AllByRecursion Settled ds
+  all_settled : (ds : List Draft) → AllByRecursion (λ d. unsettled d ≡ draft_of (links_at l r d.row.path) d.row.path (at d.row.path L) (at d.row.path R)) ds
+      → AllByRecursion (λ d. is_shown l r d.row.path ≡ true) ds → AllByRecursion (IsSettled gives tree l.top r.top) ds → AllByRecursion Settled ds
   all_settled [] h g o = tt
   all_settled (d ∷ ds) h g o = (settled_row d h.0 g.0 o.0, all_settled ds h.1 g.1 o.1)
 
@@ -528,15 +528,15 @@ module _ (law : GraftUndoesBelow) (tree : Option Files) (l r : Side) (left : IsS
   are_shown ds e [] h = tt
   are_shown ds e (d ∷ part) h = (sym (e d.row.path) ∙ h.0, are_shown ds e part h.1)
 
-  pub comparison : (drafts : List Draft) → AreDrafts L R (map unsettled drafts) → All (IsSettled tree l.top r.top) drafts
+  pub comparison : (drafts : List Draft) → AreDrafts (links_at l r) L R (map unsettled drafts) → All (IsSettled gives tree l.top r.top) drafts
       → IsComparison tree l r (findings_of l.top r.top drafts)
   comparison drafts are settled =
-      let each = all_unmapped_drafts (λ d. d ≡ draft_of d.row.path (at d.row.path L) (at d.row.path R)) drafts
-      (recursion_from_All (λ (d : Draft). d ≡ draft_of d.row.path (at d.row.path L) (at d.row.path R))
+      let each = all_unmapped_drafts (λ d. d ≡ draft_of (links_at l r d.row.path) d.row.path (at d.row.path L) (at d.row.path R)) drafts
+      (recursion_from_All (λ (d : Draft). d ≡ draft_of (links_at l r d.row.path) d.row.path (at d.row.path L) (at d.row.path R))
       (map unsettled drafts) are.each) in
       let has : (p : List ℕ) → is_row p drafts ≡ is_shown l r p = λ p. sym (is_row-unsettled p drafts) ∙ are.shown p
       ∙ shown-items l.top r.top p l.entries r.entries in
-      let all = all_settled drafts each (are_shown drafts has drafts (rows_there drafts)) (recursion_from_All (IsSettled tree l.top r.top) drafts settled) in
+      let all = all_settled drafts each (are_shown drafts has drafts (rows_there drafts)) (recursion_from_All (IsSettled gives tree l.top r.top) drafts settled) in
       let sorted : IsStrictlySortedBy path_cmp (paths drafts) = subst (IsStrictlySortedBy path_cmp) (paths-unsettled drafts) are.ascend in
       let failed = follows missing.Failed drafts all in
       let changed = follows missing.Changed drafts all in
@@ -559,9 +559,12 @@ module _ (law : GraftUndoesBelow) (tree : Option Files) (l r : Side) (left : IsS
       }
 
 -- rows of which no file was read yet
-pub fresh : (l r : List Item) (drafts : List Draft) → AreDrafts l r drafts → map unsettled drafts ≡ drafts
-fresh l r drafts are = each drafts (recursion_from_All (λ (d : Draft). d ≡ draft_of d.row.path (at d.row.path l) (at d.row.path r)) drafts are.each)
+pub fresh : (links : List ℕ → Rattle.tree_cmp.specs.declared.rows.Two.Two) (l r : List Item) (drafts : List Draft)
+    → AreDrafts links l r drafts → map unsettled drafts ≡ drafts
+fresh links l r drafts are =
+    each drafts (recursion_from_All (λ (d : Draft). d ≡ draft_of (links d.row.path) d.row.path (at d.row.path l) (at d.row.path r)) drafts are.each)
   where
-    each : (ds : List Draft) → AllByRecursion (λ d. d ≡ draft_of d.row.path (at d.row.path l) (at d.row.path r)) ds → map unsettled ds ≡ ds
+    each : (ds : List Draft) → AllByRecursion (λ d. d ≡ draft_of (links d.row.path) d.row.path (at d.row.path l) (at d.row.path r)) ds
+        → map unsettled ds ≡ ds
     each [] h = refl
     each (d ∷ ds) h = λ i. (ap unsettled h.0 ∙ sym h.0) i ∷ each ds h.1 i

@@ -1,9 +1,12 @@
 pub mod Lists
 pub mod Counts
+pub mod Counted
 pub mod Under
 pub mod Taken
+pub mod Linked
 pub mod Feeding
 pub mod Filling
+pub mod Shown
 pub mod Pieces
 pub mod Sided
 pub mod Shared
@@ -12,3 +15,4 @@ pub mod Hired
 pub mod Parts
 pub mod Workers
 pub mod Finding
+pub mod Causes

@@ -1,10 +1,10 @@
 -- The parts of a text, one after the other.
-use Rattle.std.proofs.Common.{◌≡◌, ℕ, ◌+◌, ◌<◌, ◌≤◌, true, false, List, [], ◌∷◌, ◌++◌, append_assoc, append-nil, length, take, drop, refl, ap, ◌∙◌}
-use Rattle.std.proofs.Common.{sym, subst, arith, Option, Some, None, Result, Ok, Err, cond, ltb}
-use Rattle.std.specs.Prelude.{Bool, map}
+use Rattle.std.proofs.Common.{◌≡◌, ℕ, ◌+◌, ◌<◌, ◌≤◌, true, false, List, [], ◌∷◌, ◌++◌, append_assoc, length, take, drop, refl, ap, ◌∙◌}
+use Rattle.std.proofs.Common.{sym, arith, Option, Some, None, Result, Ok, Err, cond, ltb}
+use Rattle.std.specs.Prelude.{Bool}
 use Rattle.std.specs.List.{slice_split, onto_first, position, position_or_len}
 use Rattle.std.specs.Option.{IfSome, IfNone}
-use Rattle.std.proofs.lemmas.List.{length-take-le, map-append}
+use Rattle.std.proofs.lemmas.List.{length-take-le}
 use Rattle.std.proofs.lemmas.List.Splits.{slice_split_first, slice_split-cons_no}
 use Rattle.std.proofs.lemmas.Bool.Decides.{nat_tests}
 use Rattle.tree_cmp.specs.declared.errors.ExprError.{ExprError}

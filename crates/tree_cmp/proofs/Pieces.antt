@@ -1,16 +1,16 @@
 -- Two files compared piece by piece.
-use Rattle.std.proofs.Common.{◌≡◌, ℕ, ◌+◌, ◌<◌, ◌≤◌, Bool, true, false, List, ◌++◌, length, take, drop, Option, Some, None, IfSome, ap, ◌∙◌, sym}
-use Rattle.std.proofs.Common.{subst, arith, refl, eqb}
+use Rattle.std.proofs.Common.{◌≡◌, ℕ, ◌+◌, ◌≤◌, Bool, true, false, List, ◌++◌, length, take, drop, Option, Some, None, IfSome, ap, ◌∙◌, sym}
+use Rattle.std.proofs.Common.{arith, refl, eqb}
 use Rattle.std.proofs.lemmas.Bool.{false≢true}
 use Rattle.std.proofs.lemmas.List.{take_all}
 use Rattle.std.proofs.Math.Seq.{take-add}
 use Rattle.std.specs.FinMap.{get}
 use Rattle.std.specs.Cmp.Lexicographic.{pointwise, bytes_decides}
-use Rattle.outside.specs.Tree.{Files, Node, content, is_file}
+use Rattle.outside.specs.Tree.{Files, Node, content}
 use Rattle.tree_cmp.specs.declared.reading.Missing.TheVariants.{Failed, Changed}
 use Rattle.tree_cmp.specs.declared.reading.Outcome.{Outcome}
 use Rattle.tree_cmp.specs.declared.reading.Outcome.TheVariants.{Same, Missed}
-use Rattle.tree_cmp.specs.Private.Reading.{Fills, IsShort, IsFileOf, Told, PieceTold, goes_on, counts}
+use Rattle.tree_cmp.specs.Private.Reading.{Fills, IsFileOf, Told, PieceTold, goes_on, counts}
 use Rattle.outside.specs.Count.{RoseBy}
 
 pub filled_same : (told : Option Files) (left right : List ℕ) (at n : ℕ) (ours theirs : List ℕ) (same : Bool) → length ours ≡ n

@@ -1,13 +1,14 @@
 -- What was found is put beside the rows.
 use Rattle.std.proofs.Common.{◌≡◌, ℕ, ◌+◌, ◌<◌, ◌≤◌, List, [], ◌∷◌, map, length, set, get_or, get_or-set_same, get_or-set_other, refl, sym, subst, ap}
-use Rattle.std.proofs.Common.{◌∙◌, arith, Option, Some, None, IfSome, All, true, is_some}
-use Rattle.std.specs.List.{sum_by, AllByRecursion}
+use Rattle.std.proofs.Common.{◌∙◌, arith, Option, Some, All}
+use Rattle.std.specs.List.{AllByRecursion}
 use Rattle.std.proofs.lemmas.List.Sums.{sum_by-set}
 use Rattle.std.proofs.lemmas.List.Elements.{All-set, All-from_recursion}
-use Rattle.std.proofs.lemmas.List.{get_or-map, length-map}
+use Rattle.std.proofs.lemmas.List.{get_or-map}
 use Rattle.std.proofs.Math.Seq.{map-set_same}
 use mathlib.Core.Logic.{dite}
 use native.Mathlib.Decide.{ℕ_discrete}
+use Rattle.outside.specs.Asked.{Asks}
 use Rattle.outside.specs.Tree.{Files}
 use Rattle.tree_cmp.specs.declared.drafts.Draft.{Draft}
 use Rattle.tree_cmp.specs.declared.reading.Outcome.{Outcome}
@@ -23,16 +24,16 @@ pub placed_unsettled : (drafts was : List Draft) (k : ℕ) (o : Outcome) (d : Dr
     → map unsettled (set drafts k (with_outcome o (get_or drafts k d))) ≡ map unsettled was
 placed_unsettled drafts was k o d e = map-set_same unsettled drafts k (with_outcome o (get_or drafts k d)) d refl ∙ e
 
-pub placed_so_far : (tree : Option Files) (left right : List ℕ) (drafts was : List Draft) (f : Found) (d : Draft) → f.place < length drafts
+pub placed_so_far : {S : Type 0} (gives : Asks S) (tree : Option Files) (left right : List ℕ) (drafts was : List Draft) (f : Found) (d : Draft) → f.place < length drafts
     → map unsettled drafts ≡ map unsettled was →
-    IsFound tree left right (map unsettled was) f → All (IsSoFar tree left right) drafts
-    → All (IsSoFar tree left right) (set drafts f.place (with_outcome f.outcome (get_or drafts f.place d)))
-placed_so_far tree left right drafts was f d i e h so_far =
-    let own : IsOf tree left right (get_or drafts f.place d).row.path (get_or drafts f.place d).unread f.outcome =
-    subst (λ (q : Draft). IsOf tree left right q.row.path q.unread f.outcome)
+    IsFound gives tree left right (map unsettled was) f → All (IsSoFar gives tree left right) drafts
+    → All (IsSoFar gives tree left right) (set drafts f.place (with_outcome f.outcome (get_or drafts f.place d)))
+placed_so_far gives tree left right drafts was f d i e h so_far =
+    let own : IsOf gives tree left right (get_or drafts f.place d).row.path (get_or drafts f.place d).unread f.outcome =
+    subst (λ (q : Draft). IsOf gives tree left right q.row.path q.unread f.outcome)
     ((λ j. get_or (sym e j) f.place (unsettled d)) ∙ get_or-map unsettled drafts f.place d (unsettled d) i)
     (h.own (unsettled d)) in
-    All-set (IsSoFar tree left right) drafts f.place (with_outcome f.outcome (get_or drafts f.place d)) own so_far
+    All-set (IsSoFar gives tree left right) drafts f.place (with_outcome f.outcome (get_or drafts f.place d)) own so_far
 
 pub placed_counted : (drafts : List Draft) (k : ℕ) (o : Outcome) (d : Draft) → k < length drafts
     → blames (set drafts k (with_outcome o (get_or drafts k d))) ≤ blames drafts + counts o
@@ -75,10 +76,10 @@ blames-unsettled (d ∷ drafts) = let h = blames-unsettled drafts in omega arith
 pub blames_none : (drafts : List Draft) → map unsettled drafts ≡ drafts → blames drafts ≡ 0
 blames_none drafts e = ap blames (sym e) ∙ blames-unsettled drafts
 
-pub nothing_so_far : (tree : Option Files) (left right : List ℕ) (drafts : List Draft) → map unsettled drafts ≡ drafts → All (IsSoFar tree left right) drafts
-nothing_so_far tree left right drafts e =
-    subst (All (IsSoFar tree left right)) e (All-from_recursion (IsSoFar tree left right) (map unsettled drafts) (each drafts))
+pub nothing_so_far : {S : Type 0} (gives : Asks S) (tree : Option Files) (left right : List ℕ) (drafts : List Draft) → map unsettled drafts ≡ drafts → All (IsSoFar gives tree left right) drafts
+nothing_so_far gives tree left right drafts e =
+    subst (All (IsSoFar gives tree left right)) e (All-from_recursion (IsSoFar gives tree left right) (map unsettled drafts) (each drafts))
   where
-    each : (drafts : List Draft) → AllByRecursion (IsSoFar tree left right) (map unsettled drafts)
+    each : (drafts : List Draft) → AllByRecursion (IsSoFar gives tree left right) (map unsettled drafts)
     each [] = tt
     each (d ∷ drafts) = (tt, each drafts)

@@ -1,7 +1,7 @@
 -- A side as a list of items.
-use Rattle.std.proofs.Common.{◌≡◌, ℕ, Bool, true, false, not, ◌&&◌, ◌||◌, List, [], ◌∷◌, map, filter, refl, ap, ◌∙◌, sym, subst, cond, eqb, IsTrue}
-use Rattle.std.proofs.Common.{Option, Some, None, is_some, All}
-use Rattle.std.specs.List.{AllByRecursion, find, list_any}
+use Rattle.std.proofs.Common.{◌≡◌, ℕ, true, false, not, ◌&&◌, ◌||◌, List, [], ◌∷◌, map, filter, refl, ap, ◌∙◌, cond, eqb, IsTrue}
+use Rattle.std.proofs.Common.{Option, Some, None, is_some}
+use Rattle.std.specs.List.{AllByRecursion}
 use Rattle.std.specs.List.Sorted.{IsStrictlySortedBy}
 use Rattle.std.specs.Option.{option_map}
 use Rattle.std.specs.Cmp.Lexicographic.{pointwise}
@@ -10,8 +10,7 @@ use Rattle.std.proofs.lemmas.List.Elements.{recursion_from_All}
 use Rattle.path_text.specs.Order.{path_cmp, is_under, is_within}
 use Rattle.path_text.specs.Graft.{below_of, BelowKeepsOrder}
 use Rattle.flat_list.specs.declared.entries.Entry.{Entry}
-use Rattle.tree_cmp.specs.declared.items.Item.{Item}
-use Rattle.tree_cmp.specs.Sides.{Side, side, IsSide, is_gone, is_partial, entry_at, is_hidden, is_shown}
+use Rattle.tree_cmp.specs.Sides.{side, IsSide, is_gone, is_partial, entry_at, is_hidden, is_shown}
 use Rattle.tree_cmp.specs.Rows.{stat_at}
 use Rattle.tree_cmp.specs.Private.Items.{item_of, items_of, at, is_below_partial, has_row, item_stat}
 use Rattle.tree_cmp.specs.Private.Steps.{Ascend}

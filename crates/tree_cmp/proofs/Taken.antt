@@ -1,7 +1,7 @@
 -- One path more: what both sides have at the next path in path order.
-use Rattle.std.proofs.Common.{◌≡◌, ℕ, ◌+◌, ◌<◌, ◌≤◌, Bool, true, false, not, ◌&&◌, ◌||◌, List, [], ◌∷◌, ◌++◌, map, length, append_assoc, refl, ap}
+use Rattle.std.proofs.Common.{◌≡◌, ℕ, ◌+◌, ◌<◌, Bool, true, false, not, ◌&&◌, ◌||◌, List, [], ◌∷◌, ◌++◌, map, length, append_assoc, refl, ap}
 use Rattle.std.proofs.Common.{◌∙◌, sym, subst, arith, cond, eqb, append-nil, if◌then◌else◌, Option, Some, None, is_some}
-use Rattle.std.specs.List.{AllByRecursion, list_any, find, cons_option}
+use Rattle.std.specs.List.{AllByRecursion, cons_option}
 use Rattle.std.specs.List.Sorted.{IsStrictlySortedBy}
 use Rattle.std.proofs.lemmas.Bool.{false≢true}
 use Rattle.std.specs.Cmp.Lexicographic.{pointwise, bytes_decides}
@@ -12,6 +12,7 @@ use Rattle.path_text.specs.Total.{path_cmp_total, path_cmp_same}
 use Rattle.path_text.specs.Order.{path_cmp, is_under, IsPreorder, UnderIsContiguous}
 use Rattle.path_text.specs.Path.{refusal}
 use Rattle.tree_cmp.specs.declared.items.Item.{Item}
+use Rattle.tree_cmp.specs.declared.rows.Two.{Two}
 use Rattle.tree_cmp.specs.declared.drafts.Draft.{Draft}
 use Rattle.std.proofs.lemmas.List.Elements.{All-from_recursion}
 use Rattle.tree_cmp.specs.Private.Items.{at, is_below_partial, draft_of, paths, AreDrafts}
@@ -22,7 +23,7 @@ use Rattle.tree_cmp.proofs.Under.{not_itself, not_both, not_true, none_later}
 same : (x y : List ℕ) → pointwise eqb x y ≡ true → x ≡ y
 same x y e = (bytes_decides x y).0 e
 
-is_same : (x : List ℕ) → pointwise eqb x x ≡ true
+pub is_same : (x : List ℕ) → pointwise eqb x x ≡ true
 is_same x = (bytes_decides x x).1 refl
 
 -- what stands behind a path
@@ -45,7 +46,7 @@ found_behind p q (x ∷ items) h e =
 or_false : (a b : Bool) → a ≡ false → b ≡ false → (a || b) ≡ false
 or_false a b e d = (λ i. e i || b) ∙ d
 
-and_false : (a b : Bool) → b ≡ false → (a && b) ≡ false
+pub and_false : (a b : Bool) → b ≡ false → (a && b) ≡ false
 and_false true b e = e
 and_false false b e = refl
 
@@ -74,7 +75,7 @@ hidden_by p q items None rest h = ap (is_below_partial q) h.are
 hidden_by p q items (Some x) rest h = ap (is_below_partial q) h.are ∙ (λ i. (x.partial && is_under q (h.path x refl i)) || is_below_partial q rest)
 
 -- two that differ
-differ : (p q : List ℕ) → path_cmp p q ≡ Less → pointwise eqb p q ≡ false
+pub differ : (p q : List ℕ) → path_cmp p q ≡ Less → pointwise eqb p q ≡ false
 differ p q l = not_true (pointwise eqb p q) (λ e. not_itself p (subst (λ y. path_cmp p y ≡ Less) (sym (same p q e)) l))
 
 not_under_itself : IsPreorder → (p : List ℕ) → is_under p p ≡ false
@@ -127,8 +128,8 @@ not_under_later : UnderIsContiguous → (p : List ℕ) (h : Option (List ℕ)) (
 not_under_later contiguous p None q v g u l = refl
 not_under_later contiguous p (Some k) q v g u l = none_later contiguous k p q g.0 v g.1 u l
 
-module _ (order : IsPreorder) (contiguous : UnderIsContiguous) (p : List ℕ) (h : Option (List ℕ)) (l r : List Item) (a b : Option Item)
-    (l' r' : List Item) (left : Heads p l a l') (right : Heads p r b r') where
+module _ (order : IsPreorder) (contiguous : UnderIsContiguous) (links : List ℕ → Two) (p : List ℕ) (h : Option (List ℕ)) (l r : List Item)
+    (a b : Option Item) (l' r' : List Item) (left : Heads p l a l') (right : Heads p r b r') where
   some_behind : (q : List ℕ) → (is_some (at q l') || is_some (at q r')) ≡ true → path_cmp p q ≡ Less
   some_behind q e =
       elim (is_some (at q l')) as (λ s. is_some (at q l') ≡ s → (s || is_some (at q r')) ≡ true → path_cmp p q ≡ Less) [
@@ -160,17 +161,17 @@ module _ (order : IsPreorder) (contiguous : UnderIsContiguous) (p : List ℕ) (h
   not_shown_later k = λ i. (is_some (none_at p l' left.behind i) || is_some (none_at p r' right.behind i))
       && not (is_below_partial p l' || (is_below_partial p r' || under_some p k))
 
-  at_later : (q : List ℕ) → path_cmp p q ≡ Less → draft_of q (at q l') (at q r') ≡ draft_of q (at q l) (at q r)
-  at_later q e = sym (λ i. draft_of q (at_other p q l a l' left (differ p q e) i) (at_other p q r b r' right (differ p q e) i))
+  at_later : (q : List ℕ) → path_cmp p q ≡ Less → draft_of (links q) q (at q l') (at q r') ≡ draft_of (links q) q (at q l) (at q r)
+  at_later q e = sym (λ i. draft_of (links q) q (at_other p q l a l' left (differ p q e) i) (at_other p q r b r' right (differ p q e) i))
 
   each_later : (ds : List Draft) → AllByRecursion (λ d. path_cmp p d.row.path ≡ Less) ds
-      → AllByRecursion (λ d. d ≡ draft_of d.row.path (at d.row.path l') (at d.row.path r')) ds →
-      AllByRecursion (λ d. d ≡ draft_of d.row.path (at d.row.path l) (at d.row.path r)) ds
+      → AllByRecursion (λ d. d ≡ draft_of (links d.row.path) d.row.path (at d.row.path l') (at d.row.path r')) ds →
+      AllByRecursion (λ d. d ≡ draft_of (links d.row.path) d.row.path (at d.row.path l) (at d.row.path r)) ds
   each_later [] h g = tt
   each_later (d ∷ ds) h g = (g.0 ∙ at_later d.row.path h.0, each_later ds h.1 g.1)
 
   -- the rows of the rest stand behind the path
-  rows_behind : (k : Option (List ℕ)) (rest : List Draft) → From k l' r' rest → AllByRecursion (λ d. path_cmp p d.row.path ≡ Less) rest
+  rows_behind : (k : Option (List ℕ)) (rest : List Draft) → From links k l' r' rest → AllByRecursion (λ d. path_cmp p d.row.path ≡ Less) rest
   rows_behind k rest f = weaker (λ d. is_row d.row.path rest ≡ true) (λ d. path_cmp p d.row.path ≡ Less)
       (λ d e. some_behind d.row.path
       (first_of_and (is_some (at d.row.path l') || is_some (at d.row.path r'))
@@ -178,7 +179,7 @@ module _ (order : IsPreorder) (contiguous : UnderIsContiguous) (p : List ℕ) (h
       rest (rows_there rest)
 
   -- where the path lies under one whose children are not all known, it has no row
-  pub skips : under_some p h ≡ true → (rest : List Draft) → From h l' r' rest → From h l r rest
+  pub skips : under_some p h ≡ true → (rest : List Draft) → From links h l' r' rest → From links h l r rest
   skips u rest f = record {
     ascend = f.ascend;
     shown = λ q. f.shown q ∙ sym (skipped q);
@@ -195,12 +196,12 @@ module _ (order : IsPreorder) (contiguous : UnderIsContiguous) (p : List ℕ) (h
 
   -- else it has one
   pub shows : (is_some a || is_some b) ≡ true → under_some p h ≡ false → (is_partial_item a || is_partial_item b) ≡ false
-      → (rest : List Draft) → From h l' r' rest → From h l r (draft_of p a b ∷ rest)
+      → (rest : List Draft) → From links h l' r' rest → From links h l r (draft_of (links p) p a b ∷ rest)
   unfolding IsStrictlySortedBy
   shows s u n rest f = record {
     ascend = (paths_behind p rest (rows_behind h rest f), f.ascend);
     shown = λ q. shown_q q;
-    each = (sym (λ i. draft_of p (at_here p l a l' left i) (at_here p r b r' right i)), each_later rest (rows_behind h rest f) f.each);
+    each = (sym (λ i. draft_of (links p) p (at_here p l a l' left i) (at_here p r b r' right i)), each_later rest (rows_behind h rest f) f.each);
   }
     where
       shown_q : (q : List ℕ) → (pointwise eqb p q || is_row q rest) ≡ shown_from h q l r
@@ -213,12 +214,12 @@ module _ (order : IsPreorder) (contiguous : UnderIsContiguous) (p : List ℕ) (h
 
   -- and where its children are not all known, nothing under it has one
   pub shows_alone : (is_some a || is_some b) ≡ true → under_some p h ≡ false → (is_partial_item a || is_partial_item b) ≡ true
-      → refusal p ≡ None → BeforeSome h p → (rest : List Draft) → From (Some p) l' r' rest → From h l r (draft_of p a b ∷ rest)
+      → refusal p ≡ None → BeforeSome h p → (rest : List Draft) → From links (Some p) l' r' rest → From links h l r (draft_of (links p) p a b ∷ rest)
   unfolding IsStrictlySortedBy
   shows_alone s u n v g rest f = record {
     ascend = (paths_behind p rest (rows_behind (Some p) rest f), f.ascend);
     shown = λ q. shown_q q;
-    each = (sym (λ i. draft_of p (at_here p l a l' left i) (at_here p r b r' right i)), each_later rest (rows_behind (Some p) rest f) f.each);
+    each = (sym (λ i. draft_of (links p) p (at_here p l a l' left i) (at_here p r b r' right i)), each_later rest (rows_behind (Some p) rest f) f.each);
   }
     where
       shown_q : (q : List ℕ) → (pointwise eqb p q || is_row q rest) ≡ shown_from h q l r
@@ -339,38 +340,38 @@ ready_after h l r a b l' r' t y z =
       ]
     ]
 
-pub step : IsPreorder → UnderIsContiguous → (h : Option (List ℕ)) (l r : List Item) (a b : Option Item) (l' r' : List Item)
-    → Takes l r a b l' r' → Ready h l r → refusal (path_of a b) ≡ None → (rest : List Draft) → From (hidden_after h a b) l' r' rest
-    → From h l r (row_after h a b ++ rest)
-step order contiguous h l r a b l' r' t y v rest =
+pub step : IsPreorder → UnderIsContiguous → (links : List ℕ → Two) (h : Option (List ℕ)) (l r : List Item) (a b : Option Item) (l' r' : List Item)
+    → Takes l r a b l' r' → Ready h l r → refusal (path_of a b) ≡ None → (rest : List Draft) → From links (hidden_after h a b) l' r' rest
+    → From links h l r (row_after (links (path_of a b)) h a b ++ rest)
+step order contiguous links h l r a b l' r' t y v rest =
     elim (under_some (path_of a b) h) as
     (λ u. under_some (path_of a b) h ≡ u
-    → From (cond u h (cond (is_partial_item a || is_partial_item b) (Some (path_of a b)) h)) l' r' rest
-    → From h l r (cond u [] (draft_of (path_of a b) a b ∷ []) ++ rest)) [
-      | true ↦ λ u f. skips order contiguous (path_of a b) h l r a b l' r' t.left t.right u rest f
+    → From links (cond u h (cond (is_partial_item a || is_partial_item b) (Some (path_of a b)) h)) l' r' rest
+    → From links h l r (cond u [] (draft_of (links (path_of a b)) (path_of a b) a b ∷ []) ++ rest)) [
+      | true ↦ λ u f. skips order contiguous links (path_of a b) h l r a b l' r' t.left t.right u rest f
       | false ↦ λ u. elim (is_partial_item a || is_partial_item b) as
-          (λ n. (is_partial_item a || is_partial_item b) ≡ n → From (cond n (Some (path_of a b)) h) l' r' rest
-          → From h l r (draft_of (path_of a b) a b ∷ rest)) [
-            | true ↦ λ n f. shows_alone order contiguous (path_of a b) h l r a b l' r' t.left t.right t.some u n v (above_path h l r a b l' r' t y) rest f
-            | false ↦ λ n f. shows order contiguous (path_of a b) h l r a b l' r' t.left t.right t.some u n rest f
+          (λ n. (is_partial_item a || is_partial_item b) ≡ n → From links (cond n (Some (path_of a b)) h) l' r' rest
+          → From links h l r (draft_of (links (path_of a b)) (path_of a b) a b ∷ rest)) [
+            | true ↦ λ n f. shows_alone order contiguous links (path_of a b) h l r a b l' r' t.left t.right t.some u n v (above_path h l r a b l' r' t y) rest f
+            | false ↦ λ n f. shows order contiguous links (path_of a b) h l r a b l' r' t.left t.right t.some u n rest f
           ] refl
     ] refl
 
-pub over : (h : Option (List ℕ)) → From h [] [] []
+pub over : (links : List ℕ → Two) (h : Option (List ℕ)) → From links h [] [] []
 unfolding IsStrictlySortedBy
-over h = record { ascend = tt; shown = λ p. refl; each = tt }
+over links h = record { ascend = tt; shown = λ p. refl; each = tt }
 
 or_none : (b : Bool) → (b || false) ≡ b
 or_none true = refl
 or_none false = refl
 
-pub whole : (l r : List Item) (drafts : List Draft) → From None l r (drafts ++ []) → AreDrafts l r drafts
-whole l r drafts f =
-    let g : From None l r drafts = subst (From None l r) (append-nil drafts) f in
+pub whole : (links : List ℕ → Two) (l r : List Item) (drafts : List Draft) → From links None l r (drafts ++ []) → AreDrafts links l r drafts
+whole links l r drafts f =
+    let g : From links None l r drafts = subst (From links None l r) (append-nil drafts) f in
     record {
       ascend = g.ascend;
       shown = λ p. g.shown p ∙ (λ i. (is_some (at p l) || is_some (at p r)) && not (is_below_partial p l || or_none (is_below_partial p r) i));
-      each = All-from_recursion (λ d. d ≡ draft_of d.row.path (at d.row.path l) (at d.row.path r)) drafts g.each;
+      each = All-from_recursion (λ d. d ≡ draft_of (links d.row.path) d.row.path (at d.row.path l) (at d.row.path r)) drafts g.each;
     }
 
 -- a turn of the loop
@@ -400,13 +401,15 @@ pub ready_next : (h h' : Option (List ℕ)) (l r : List Item) (a b : Option Item
     → refusal (path_of a b) ≡ None → h' ≡ hidden_after h a b → Ready h' l' r'
 ready_next h h' l r a b l' r' t y v e = subst (λ k. Ready k l' r') (sym e) (ready_after h l r a b l' r' t y v)
 
-pub goes_on : IsPreorder → UnderIsContiguous → (h h' : Option (List ℕ)) (l r : List Item) (a b : Option Item) (l' r' : List Item)
+pub goes_on : IsPreorder → UnderIsContiguous → (links : List ℕ → Two) (h h' : Option (List ℕ)) (l r : List Item) (a b : Option Item) (l' r' : List Item)
     → Takes l r a b l' r' → Ready h l r → refusal (path_of a b) ≡ None → h' ≡ hidden_after h a b →
-    (L R : List Item) (before after : List Draft) → after ≡ before ++ row_after h a b →
-    ((rest : List Draft) → From h l r rest → From None L R (before ++ rest)) → (rest : List Draft) → From h' l' r' rest → From None L R (after ++ rest)
-goes_on order contiguous h h' l r a b l' r' t y v e L R before after d g rest f =
-    subst (From None L R) (sym (ap (λ x. x ++ rest) d ∙ append_assoc before (row_after h a b) rest))
-    (g (row_after h a b ++ rest) (step order contiguous h l r a b l' r' t y v rest (subst (λ k. From k l' r' rest) e f)))
+    (L R : List Item) (before after : List Draft) → after ≡ before ++ row_after (links (path_of a b)) h a b →
+    ((rest : List Draft) → From links h l r rest → From links None L R (before ++ rest)) →
+    (rest : List Draft) → From links h' l' r' rest → From links None L R (after ++ rest)
+goes_on order contiguous links h h' l r a b l' r' t y v e L R before after d g rest f =
+    let row = row_after (links (path_of a b)) h a b in
+    subst (From links None L R) (sym (ap (λ x. x ++ rest) d ∙ append_assoc before row rest))
+    (g (row ++ rest) (step order contiguous links h l r a b l' r' t y v rest (subst (λ k. From links k l' r' rest) e f)))
 
 pub fewer : (l r : List Item) (a b : Option Item) (l' r' : List Item) → Takes l r a b l' r' → length l' + length r' < length l + length r
 fewer l r None None l' r' t = absurd (false≢true t.some)
@@ -418,11 +421,12 @@ none_left : (next : Option Item) (items : List Item) → false ≡ is_some next 
 none_left None items e g = g refl
 none_left (Some x) items e g = absurd (false≢true e)
 
-pub ended : (h : Option (List ℕ)) (nl nr : Option Item) (ml mr L R L' R' : List Item) (drafts : List Draft) → false ≡ is_some nl
+pub ended : (links : List ℕ → Two) (h : Option (List ℕ)) (nl nr : Option Item) (ml mr L R L' R' : List Item) (drafts : List Draft) → false ≡ is_some nl
     → false ≡ is_some nr → (nl ≡ None → ml ≡ []) → (nr ≡ None → mr ≡ []) →
-    ((rest : List Draft) → From h (cons_option nl ml) (cons_option nr mr) rest → From None L R (drafts ++ rest)) → L ≡ L' → R ≡ R' → AreDrafts L' R' drafts
-ended h nl nr ml mr L R L' R' drafts e d el er g sl sr =
-    let f : From h (cons_option nl ml) (cons_option nr mr) [] =
-    subst (λ l. From h l (cons_option nr mr) []) (sym (none_left nl ml e el))
-    (subst (λ r. From h [] r []) (sym (none_left nr mr d er)) (over h)) in
-    subst (λ l. AreDrafts l R' drafts) sl (subst (λ r. AreDrafts L r drafts) sr (whole L R drafts (g [] f)))
+    ((rest : List Draft) → From links h (cons_option nl ml) (cons_option nr mr) rest → From links None L R (drafts ++ rest)) → L ≡ L' → R ≡ R'
+    → AreDrafts links L' R' drafts
+ended links h nl nr ml mr L R L' R' drafts e d el er g sl sr =
+    let f : From links h (cons_option nl ml) (cons_option nr mr) [] =
+    subst (λ l. From links h l (cons_option nr mr) []) (sym (none_left nl ml e el))
+    (subst (λ r. From links h [] r []) (sym (none_left nr mr d er)) (over links h)) in
+    subst (λ l. AreDrafts links l R' drafts) sl (subst (λ r. AreDrafts links L r drafts) sr (whole links L R drafts (g [] f)))

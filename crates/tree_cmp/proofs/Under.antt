@@ -1,10 +1,9 @@
 -- What lies under a path stands together, right behind it.
 use Rattle.std.proofs.Common.{◌≡◌, Bool, true, false, List, ℕ, refl, ap, ◌∙◌, sym, None}
 use Rattle.std.specs.Ordering.{ordering_reverse}
-use Rattle.std.specs.declared.cmp.Ordering.{Ordering}
 use Rattle.std.specs.declared.cmp.Ordering.TheVariants.{Less, Greater}
 use Rattle.std.proofs.lemmas.Bool.{false≢true}
-use Rattle.path_text.specs.Order.{path_cmp, is_under, IsPreorder, UnderIsContiguous}
+use Rattle.path_text.specs.Order.{path_cmp, is_under, UnderIsContiguous}
 use Rattle.path_text.specs.Path.{refusal}
 use Rattle.path_text.specs.Total.{path_cmp_total}
 

@@ -1,15 +1,15 @@
 -- Readers before, while and after they are workers.
 use Rattle.std.proofs.Common.{◌≡◌, ℕ, zero, suc, ◌+◌, ◌-◌, ◌^◌, ◌<◌, ◌≤◌, Bool, true, false, ◌||◌, List, [], ◌∷◌, ◌++◌, map, length, get_or, refl}
-use Rattle.std.proofs.Common.{sym, subst, ap, ◌∙◌, arith, Option, Some, All, append-nil}
+use Rattle.std.proofs.Common.{sym, subst, ap, ◌∙◌, arith, Option, All}
 use Rattle.std.specs.Prelude.{reverse, sum, nat_le}
-use Rattle.std.specs.List.{AllByRecursion, list_any, sum_by}
+use Rattle.std.specs.List.{AllByRecursion, sum_by}
 use Rattle.std.proofs.lemmas.Bool.Decides.{nat_tests}
 use Rattle.std.proofs.lemmas.Grind.{reverse_onto}
 use Rattle.std.proofs.lemmas.List.{map-append}
 use Rattle.std.proofs.lemmas.List.Sums.{sum-map, sum_by-cons}
 use Rattle.std.proofs.lemmas.List.Elements.{recursion_from_All, All-from_recursion}
 use Rattle.std.proofs.lemmas.List.Folds.{list_any-append}
-use Rattle.outside.specs.Count.{RoseBy}
+use Rattle.outside.specs.Asked.{Asks}
 use Rattle.outside.specs.Tree.{Files}
 use Rattle.tree_cmp.specs.declared.drafts.Draft.{Draft}
 use Rattle.tree_cmp.specs.declared.sharing.Work.{Work}
@@ -132,7 +132,7 @@ end_stays (y ∷ b) (z ∷ c) h e =
     below : (y z : ℕ) → y ≤ z → nat_le (2 ^ 64 - 1) z ≡ false → nat_le (2 ^ 64 - 1) y ≡ false
     below y z h e = less (2 ^ 64 - 1) y z h e
 
-module _ {R : Type 0} (tree : R → Option Files) (count : R → ℕ) where
+module _ {R : Type 0} (tree : R → Option Files) (count : R → ℕ) (gives : Asks R) where
   abbrev pub counts_of : List (Worker R) → List ℕ
   counts_of workers = map (λ w. count w.reader) workers
 
@@ -140,7 +140,7 @@ module _ {R : Type 0} (tree : R → Option Files) (count : R → ℕ) where
   trees_of workers = map (λ w. tree w.reader) workers
 
   abbrev pub Each : Work → List (Worker R) → List (Worker R) → Type 0
-  Each work ws ws' = (k : ℕ) (d : Worker R) → k < length ws → IsWorked tree count work (get_or ws k d) (get_or ws' k d)
+  Each work ws ws' = (k : ℕ) (d : Worker R) → k < length ws → IsWorked tree count gives work (get_or ws k d) (get_or ws' k d)
 
   rest : (work : Work) (w w' : Worker R) (ws ws' : List (Worker R)) → Each work (w ∷ ws) (w' ∷ ws') → Each work ws ws'
   rest work w w' ws ws' each k d h = each (suc k) d (omega arith)
@@ -179,9 +179,9 @@ module _ {R : Type 0} (tree : R → Option Files) (count : R → ℕ) where
 
   pub worked_found : (told : Option Files) (work : Work) (ws ws' : List (Worker R)) → length ws' ≡ length ws
       → All (λ (w : Worker R). tree w.reader ≡ told) ws → Each work ws ws' →
-      All (λ (w : Worker R). All (IsFound told work.left.now work.right.now work.drafts.now) w.desk.found.items) ws'
+      All (λ (w : Worker R). All (IsFound gives told work.left.now work.right.now work.drafts.now) w.desk.found.items) ws'
   worked_found told work ws ws' l own each = λ k d h.
-      subst (λ (t : Option Files). All (IsFound t work.left.now work.right.now work.drafts.now) (get_or ws' k d).desk.found.items)
+      subst (λ (t : Option Files). All (IsFound gives t work.left.now work.right.now work.drafts.now) (get_or ws' k d).desk.found.items)
       (own k d (omega arith)) (each k d (omega arith)).found
 
   -- ---- from readers to workers and back
@@ -264,11 +264,11 @@ module _ {R : Type 0} (tree : R → Option Files) (count : R → ℕ) where
 
   pub all_found : (work : Work) (drafts : List Draft) (ws ws' : List (Worker R)) → length ws' ≡ length ws → Each work ws ws'
       → Alike (trees_of ws) → work.drafts.now ≡ drafts →
-      All (λ (w : Worker R). All (IsFound (first_told (trees_of ws')) work.left.now work.right.now drafts) w.desk.found.items) ws'
+      All (λ (w : Worker R). All (IsFound gives (first_told (trees_of ws')) work.left.now work.right.now drafts) w.desk.found.items) ws'
   all_found work drafts ws ws' l each h e =
-      subst (λ ts. All (λ (w : Worker R). All (IsFound (first_told ts) work.left.now work.right.now drafts) w.desk.found.items) ws')
+      subst (λ ts. All (λ (w : Worker R). All (IsFound gives (first_told ts) work.left.now work.right.now drafts) w.desk.found.items) ws')
       (sym (worked_trees work ws ws' l each))
-      (subst (λ ds. All (λ (w : Worker R). All (IsFound (first_told (trees_of ws)) work.left.now work.right.now ds) w.desk.found.items) ws') e
+      (subst (λ ds. All (λ (w : Worker R). All (IsFound gives (first_told (trees_of ws)) work.left.now work.right.now ds) w.desk.found.items) ws') e
       (worked_found (first_told (trees_of ws)) work ws ws' l (own_told ws h) each))
 
   pub then_fell : (work : Work) (ws ws' ws'' : List (Worker R)) → length ws' ≡ length ws → Each work ws ws'

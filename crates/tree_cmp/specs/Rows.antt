@@ -1,5 +1,5 @@
 -- The comparison of two sides, row by row, and the reads that gave nothing. The fields and their states are those of mpiFileUtils' dcmp;
--- what has no value, and what is read, is our own.
+-- that two links are compared by their texts is as in rsync; what has no value, and what is read, is our own.
 use Rattle.std.specs.Prelude.{◌≡◌, ℕ, Bool, true, false, not, ◌&&◌, ◌==◌, List, [], ◌++◌, map, if◌then◌else◌, Option, Some, None, is_some, nat_eq, IfSome, All}
 use Rattle.std.specs.List.{list_any}
 use Rattle.std.specs.List.Sorted.{IsStrictlySortedBy}
@@ -8,11 +8,11 @@ use Rattle.std.specs.Option.{option_map}
 use Rattle.std.specs.Cmp.Lexicographic.{pointwise}
 use Rattle.path_text.specs.Order.{path_cmp}
 use Rattle.path_text.specs.Graft.{below_of}
-use Rattle.outside.specs.Tree.{Files, content, stat_of}
+use Rattle.outside.specs.Tree.{Files, content}
 use Rattle.outside.specs.declared.trees.Kind.TheVariants as kind
 use Rattle.outside.specs.declared.trees.Stat.{Stat}
 use Rattle.flat_list.specs.declared.entries.Entry.{Entry}
-use Rattle.flat_list.specs.Entries.{is_kind}
+use Rattle.flat_list.specs.Entries.{is_kind, is_of}
 use Rattle.tree_cmp.specs.declared.rows.Exist.{Exist}
 use Rattle.tree_cmp.specs.declared.rows.Exist.TheVariants as exist
 use Rattle.tree_cmp.specs.declared.rows.Two.{Two}
@@ -33,6 +33,10 @@ abbrev pub stat_at : Option Entry → Option Stat
 stat_at None = None
 stat_at (Some e) = e.stat
 
+abbrev pub target_at : Option Entry → Option (List ℕ)
+target_at None = None
+target_at (Some e) = e.target
+
 abbrev pub two_of : Bool → Two
 two_of same = if same then two.Common else two.Differ
 
@@ -48,6 +52,20 @@ abbrev pub sizes : Option Stat → Option Stat → Two
 sizes None t = two.NoValue
 sizes (Some s) None = two.NoValue
 sizes (Some s) (Some t) = if are_files s t then two_of (s.size == t.size) else two.NoValue
+
+abbrev pub are_links : Option Stat → Option Stat → Bool
+are_links s t = is_of kind.Link s && is_of kind.Link t
+
+-- whether the texts of two links agree, where both are known
+abbrev pub texts : Option (List ℕ) → Option (List ℕ) → Two
+texts None u = two.NoValue
+texts (Some t) None = two.NoValue
+texts (Some t) (Some u) = two_of (pointwise nat_eq t u)
+
+-- the content without a read: two links are compared by their texts; files of two sizes differ, and files without bytes are equal
+abbrev pub unread : Option Entry → Option Entry → Two
+unread a b =
+    if are_links (stat_at a) (stat_at b) then texts (target_at a) (target_at b) else sizes (stat_at a) (stat_at b)
 
 -- whether the bytes are read: of two files of one size that is not 0
 abbrev pub is_read : Option Stat → Option Stat → Bool
@@ -69,8 +87,7 @@ has_value two.NoValue = false
 
 -- the content of a row, over files that may tell their tree; `missed` is whether a read of one of its files gave nothing
 pub record IsContent (tree : Option Files) (missed : Bool) (a b : Option Entry) (c : Two) : Type 0 where
-  -- without a read it is as the size: files of two sizes differ, and files without bytes are equal
-  pub unread : is_read (stat_at a) (stat_at b) ≡ false → c ≡ sizes (stat_at a) (stat_at b)
+  pub not_read : is_read (stat_at a) (stat_at b) ≡ false → c ≡ unread a b
   pub unknown : is_read (stat_at a) (stat_at b) ≡ true → missed ≡ true → c ≡ two.NoValue
   pub known : is_read (stat_at a) (stat_at b) ≡ true → missed ≡ false → has_value c ≡ true
   -- and where the files tell their tree, it says whether the bytes are equal

@@ -1,22 +1,26 @@
 -- Rows and expressions worked out by hand. Our own.
 use Rattle.std.specs.Prelude.{◌≡◌, ℕ, Bool, true, false, List, [], ◌∷◌, map, Option, Some, None, is_some, Ok, Err, codes}
 use Rattle.outside.specs.declared.trees.Kind.{Kind}
-use Rattle.outside.specs.declared.trees.Kind.TheVariants.{File, Dir}
+use Rattle.outside.specs.declared.trees.Kind.TheVariants.{File, Dir, Link}
 use Rattle.flat_list.specs.declared.entries.Entry.{Entry}
 use Rattle.flat_list.specs.declared.entries.Mark.TheVariants.{Fine, Gone, ListFailed}
 use Rattle.tree_cmp.specs.declared.rows.Exist.{Exist}
 use Rattle.tree_cmp.specs.declared.rows.Exist.TheVariants.{OnlySrc, OnlyDest, Common as Both}
 use Rattle.tree_cmp.specs.declared.rows.Two.{Two}
-use Rattle.tree_cmp.specs.declared.rows.Two.TheVariants.{Common, NoValue}
+use Rattle.tree_cmp.specs.declared.rows.Two.TheVariants.{Common, Differ, NoValue}
 use Rattle.tree_cmp.specs.declared.errors.ExprError.TheVariants.{BadField, BadState, Empty}
 use Rattle.tree_cmp.specs.declared.conditions.Aspect.TheVariants as aspect
 use Rattle.tree_cmp.specs.declared.conditions.Condition.TheVariants as condition
 use Rattle.tree_cmp.specs.Sides.{Side, side, entry_at, is_shown}
-use Rattle.tree_cmp.specs.Rows.{exist_of, kinds, sizes, is_read, stat_at}
+use Rattle.tree_cmp.specs.Rows.{exist_of, kinds, sizes, is_read, unread, stat_at}
 use Rattle.tree_cmp.specs.Expressions.{expr_reading}
 
 abbrev pub entry : List ℕ → Kind → ℕ → Entry
 entry path kind size = record { path = path; stat = Some (record { kind = kind; size = size; mtime = None }); mark = Fine; unnamed = 0; far = 0; target = None }
+
+-- a link, where its text is known
+abbrev pub link : Option (List ℕ) → Option Entry
+link target = Some (record (entry (codes "/k") Link 0) { target = target })
 
 -- a directory with a file of two bytes and an empty one, and another whose empty file has another name
 abbrev pub source : Side
@@ -60,6 +64,11 @@ pub record WorkedRows : Type 0 where
   -- a directory whose names failed hides what is under it on both sides; what is gone is on no side
   pub hidden : shown_in source closed ≡ true ∷ false ∷ false ∷ false ∷ false ∷ false ∷ []
   pub absent : shown_in source gone ≡ true ∷ false ∷ true ∷ false ∷ true ∷ false ∷ []
+  -- two links are compared by their texts, where both are known
+  pub same_links : unread (link (Some (codes "a b"))) (link (Some (codes "a b"))) ≡ Common
+  pub other_links : unread (link (Some (codes "a b"))) (link (Some (codes "c"))) ≡ Differ
+  pub unknown_link : unread (link (Some (codes "a b"))) (link None) ≡ NoValue
+  pub link_and_file : unread (link (Some (codes "a b"))) (Some (entry (codes "/k") File 0)) ≡ NoValue
 
 pub record WorkedExpressions : Type 0 where
   pub two_terms : expr_reading (codes "EXIST=ONLY_SRC,SIZE=DIFFER@TYPE=COMMON")

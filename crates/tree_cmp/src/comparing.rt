@@ -2,7 +2,7 @@
 ghost use Rattle.std.specs.Prelude.{◌≡◌, ◌<◌, ◌≤◌, length, map, IfOk, OnOk, IfSome, All};
 ghost use Rattle.tree_cmp.specs.Sides.{side, IsSide};
 ghost use Rattle.tree_cmp.specs.Rows.{IsComparison};
-ghost use Rattle.tree_cmp.specs.Readers.{first_told, Alike, StatsTold, NoneFell, RoseTogether};
+ghost use Rattle.tree_cmp.specs.Readers.{first_told, Alike, HaveCauses, StatsTold, NoneFell, RoseTogether};
 ghost use Rattle.tree_cmp.specs.Private.Sharing.{IsIdle, IsSettled, unsettled, blames};
 
 use crate::compared::Compared;
@@ -18,8 +18,9 @@ use path_text::{Path, graft_undoes_below};
 use std::alloc::Global;
 use std::thread::Threads;
 
-/// Compares two lists, each of a walk from its top. The files of one size that both sides have are read, the source's first, up to
-/// the first piece that differs; files without bytes are not. `hosts`, 1 to 64, is how many threads read at most, each with a
+/// Compares two lists, each of a walk from its top. Two links are compared by the texts that the lists have; no reader is asked for
+/// them. The files of one size that both sides have are read, the source's first, up to the first piece that differs; files without
+/// bytes are not. `hosts`, 1 to 64, is how many threads read at most, each with a
 /// reader of its own. All readers are there again afterwards, in their order, also where memory was wanting.
 pub fn compare<W: Threads + Sync, R: Tree + Send + Drop>(
     rt: &W,
@@ -40,6 +41,7 @@ pub fn compare<W: Threads + Sync, R: Tree + Send + Drop>(
     requires hosts { (1 ≤ hosts) × (hosts ≤ 64) }
     ensures found { IfOk result (IsComparison (first_told (map R.tree readers.old.items)) (side left_top.now left.now) (side right_top.now right.now)) }
     ensures counted { IfOk result (λ found. RoseTogether (length found.failed) (map R.count readers.old.items) (map R.count readers.new.items)) }
+    ensures causes { IfOk result (HaveCauses R.gives) }
     ensures none_fell { NoneFell (map R.count readers.old.items) (map R.count readers.new.items) }
     ensures same { map R.tree readers.new.items ≡ map R.tree readers.old.items }
 {
@@ -64,7 +66,7 @@ fn read_all<W: Threads + Sync, R: Tree + Send + Drop>(
     requires alike { Alike (map R.tree readers.old.items) }
     requires hosts { 1 ≤ hosts }
     ensures unsettled { map unsettled drafts.new.items ≡ drafts.old.items }
-    ensures settled { OnOk result (All (IsSettled (first_told (map R.tree readers.old.items)) left.now right.now) drafts.new.items) }
+    ensures settled { OnOk result (All (IsSettled R.gives (first_told (map R.tree readers.old.items)) left.now right.now) drafts.new.items) }
     ensures counted { RoseTogether (blames drafts.new.items) (map R.count readers.old.items) (map R.count readers.new.items) }
     ensures none_fell { NoneFell (map R.count readers.old.items) (map R.count readers.new.items) }
     ensures same { map R.tree readers.new.items ≡ map R.tree readers.old.items }
@@ -90,7 +92,7 @@ fn read_by<W: Threads + Sync, R: Tree + Send>(
     requires idle { All (λ w. IsIdle w.desk) workers.old }
     requires alike { Alike (map (λ w. R.tree w.reader) workers.old) }
     ensures unsettled { map unsettled drafts.new ≡ drafts.old }
-    ensures settled { OnOk result (All (IsSettled (first_told (map (λ w. R.tree w.reader) workers.old)) left.now right.now) drafts.new) }
+    ensures settled { OnOk result (All (IsSettled R.gives (first_told (map (λ w. R.tree w.reader) workers.old)) left.now right.now) drafts.new) }
     ensures counted { RoseTogether (blames drafts.new) (map (λ w. R.count w.reader) workers.old) (map (λ w. R.count w.reader) workers.new) }
     ensures none_fell { NoneFell (map (λ w. R.count w.reader) workers.old) (map (λ w. R.count w.reader) workers.new) }
     ensures same { map (λ w. R.tree w.reader) workers.new ≡ map (λ w. R.tree w.reader) workers.old }

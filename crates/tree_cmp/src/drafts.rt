@@ -1,31 +1,31 @@
 //! Rows, as far as they are known before files are read.
 ghost use Rattle.std.specs.Prelude.{◌≡◌, ◌||◌, ◌+◌, ◌<◌, true, is_some, None};
-ghost use Rattle.flat_list.specs.Entries.{is_kind};
+ghost use Rattle.flat_list.specs.Entries.{is_kind, is_of};
 ghost use Rattle.path_text.specs.Path.{refusal};
-ghost use Rattle.tree_cmp.specs.Rows.{exist_of, two_of, are_files, kinds, sizes};
-ghost use Rattle.tree_cmp.specs.Private.Items.{item_stat, unread, draft_of};
+ghost use Rattle.tree_cmp.specs.Rows.{exist_of, two_of, are_files, are_links, kinds, sizes, texts};
+ghost use Rattle.tree_cmp.specs.Private.Items.{item_stat, to_read, content_before, draft_of};
 ghost use Rattle.tree_cmp.specs.Private.Steps.{path_of};
 
 use crate::items::Item;
 use crate::reading::Outcome;
 use crate::rows::{Exist, Row, Two};
-use outside::{Kind, Stat};
+use outside::{Kind, LinkText, Stat};
 use path_text::Path;
 
 // A row, how many bytes of each of its two files are to be read, and what reading them came to.
 #[derive(Debug, Drop)]
 pub(crate) struct Draft {
-    // Its content stands as its size until the files are read.
+    // Until the files are read, its content says whether two links agree, and stands as its size of all else.
     pub(crate) row: Row,
     pub(crate) unread: Option<u64>,
     pub(crate) outcome: Option<Outcome>,
 }
 
 impl Draft {
-    // The row of what the sides have at a path.
-    pub(crate) fn of(a: Option<Item>, b: Option<Item>) -> Draft
+    // The row of what the sides have at a path, where it is known whether two links agree.
+    pub(crate) fn of(a: Option<Item>, b: Option<Item>, links: Two) -> Draft
         requires { (is_some a || is_some b) ≡ true }
-        ensures draft { result ≡ draft_of (path_of a b) a b }
+        ensures draft { result ≡ draft_of links (path_of a b) a b }
         ensures valid { refusal (path_of a b) ≡ None }
     {
         let exist = exist_of(a.is_some(), b.is_some());
@@ -38,11 +38,11 @@ impl Draft {
             exist,
             kind: kinds(s, t),
             size: sizes(s, t),
-            content: sizes(s, t),
+            content: content_before(links, s, t),
         };
         Draft {
             row,
-            unread: unread(s, t),
+            unread: to_read(s, t),
             outcome: None,
         }
     }
@@ -115,9 +115,38 @@ fn sizes(s: Option<Stat>, t: Option<Stat>) -> Two
     }
 }
 
+fn is_of(kind: Kind, stat: Option<Stat>) -> bool
+    ensures { result ≡ is_of kind stat }
+{
+    match stat {
+        None => false,
+        Some(stat) => is_kind(kind, stat.kind),
+    }
+}
+
+fn content_before(links: Two, s: Option<Stat>, t: Option<Stat>) -> Two
+    ensures { result ≡ content_before links s t }
+{
+    if is_of(Kind::Link, s) && is_of(Kind::Link, t) {
+        links
+    } else {
+        sizes(s, t)
+    }
+}
+
+// Whether the texts of two links agree, where both are known.
+pub(crate) fn texts(a: &Option<LinkText>, b: &Option<LinkText>) -> Two
+    ensures { result ≡ texts a.now b.now }
+{
+    match (a, b) {
+        (Some(text), Some(other)) => two_of(*text == *other),
+        _ => Two::NoValue,
+    }
+}
+
 // How many bytes of two files are to be read: all, where there are some and both have as many.
-fn unread(s: Option<Stat>, t: Option<Stat>) -> Option<u64>
-    ensures { result ≡ unread s t }
+fn to_read(s: Option<Stat>, t: Option<Stat>) -> Option<u64>
+    ensures { result ≡ to_read s t }
 {
     match (s, t) {
         (Some(s), Some(t)) if are_files(s, t) && (s.size == t.size && s.size != 0) => Some(s.size),

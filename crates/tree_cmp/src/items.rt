@@ -1,15 +1,15 @@
 //! The items of a side, one after the other.
-ghost use Rattle.std.specs.Prelude.{◌≡◌, ◌∷◌, [], IfOk, IfSome, IsTrue, None};
+ghost use Rattle.std.specs.Prelude.{◌≡◌, ◌<◌, ◌∷◌, [], true, is_some, IfOk, IfSome, IsTrue, None};
 ghost use Rattle.path_text.specs.Order.{is_within};
 ghost use Rattle.tree_cmp.specs.Sides.{is_gone, is_closed, is_partial};
 ghost use Rattle.tree_cmp.specs.Private.Items.{item_of};
-ghost use Rattle.tree_cmp.specs.Private.Steps.{ahead, IsSound};
+ghost use Rattle.tree_cmp.specs.Private.Steps.{ahead, IsCurrent, IsSound};
 
 use flat_list::{Cursor, Entry, Mark};
 use outside::Stat;
 use path_text::{OutOfMemory, Path};
 
-// What a side has at a path below its top.
+// What a side has at a path below its top. The text of a link stays in the list.
 #[derive(Debug, Drop)]
 pub(crate) struct Item {
     pub(crate) path: Path,
@@ -32,6 +32,10 @@ impl<'a> Feed<'a> {
         ensures sound { IsSound self.new }
         ensures some { IfOk result (λ item. IfSome item (λ x. ahead self.old ≡ x ∷ ahead self.new)) }
         ensures none { IfOk result (λ item. item ≡ None → (ahead self.old ≡ []) × (ahead self.new ≡ [])) }
+        ensures current { IfOk result (λ item. IfSome item (IsCurrent self.new)) }
+        ensures begun { IfOk result (λ item. is_some item ≡ true → 0 < self.new.cursor.1) }
+        ensures list { self.new.cursor.0 ≡ self.old.cursor.0 }
+        ensures top { self.new.top.now ≡ self.old.top.now }
     {
         while self.cursor.advance()? {
             let entry = self.cursor.entry();

@@ -1,13 +1,15 @@
 //! The two sides laid beside each other.
-ghost use Rattle.std.specs.Prelude.{◌≡◌, ◌++◌, ◌||◌, true, OnOk, IfOk, is_some, if◌then◌else◌, None};
+ghost use Rattle.std.specs.Prelude.{◌≡◌, ◌++◌, ◌||◌, true, OnOk, IfOk, IfSome, is_some, if◌then◌else◌, None, Some};
 ghost use Rattle.path_text.specs.Path.{refusal};
 ghost use Rattle.tree_cmp.specs.Sides.{side, IsSide};
-ghost use Rattle.tree_cmp.specs.Private.Items.{items_of, AreDrafts};
-ghost use Rattle.tree_cmp.specs.Private.Steps.{ahead, IsSound, HasSoundEnds, left_of, order_by, path_of, is_partial_item, under_some, hidden_after, row_after, Ascend};
+ghost use Rattle.tree_cmp.specs.Rows.{target_at, texts};
+ghost use Rattle.tree_cmp.specs.Private.Items.{items_of, links_at, AreDrafts};
+ghost use Rattle.tree_cmp.specs.Private.Steps.{ahead, current, side_of, IsSound, HasSoundEnds, left_of, order_by, path_of, is_partial_item, under_some, hidden_after, row_after, Ascend};
 
-use crate::drafts::Draft;
+use crate::drafts::{Draft, texts};
 use crate::items::{Feed, Item};
-use flat_list::FlatList;
+use crate::rows::Two;
+use flat_list::{Entry, FlatList};
 use path_text::{
     OutOfMemory, Path, below_keeps_order, path_order_is_preorder, under_is_contiguous,
 };
@@ -27,6 +29,7 @@ impl<'a> Ends<'a> {
         requires { IsSound feed }
         ensures sound { IfOk result (λ ends. HasSoundEnds ends) }
         ensures same { IfOk result (λ ends. left_of ends ≡ ahead feed.entry) }
+        ensures side { IfOk result (λ ends. side_of ends.feed ≡ side_of feed.entry) }
     {
         let next = feed.next()?;
         Ok(Ends { next, feed })
@@ -38,12 +41,22 @@ impl<'a> Ends<'a> {
         ensures sound { OnOk result (HasSoundEnds self.new) }
         ensures popped { IfOk result (λ item. item ≡ (if wanted then self.old.next else None)) }
         ensures rest { OnOk result (left_of self.new ≡ (if wanted then ahead self.old.feed else left_of self.old)) }
+        ensures side { side_of self.new.feed ≡ side_of self.old.feed }
     {
         if !wanted {
             return Ok(None);
         }
         let next = self.feed.next()?;
         Ok(mem::replace(&mut self.next, next))
+    }
+
+    // The entry of the next item.
+    fn entry(&self) -> &Entry
+        requires sound { HasSoundEnds self.now }
+        requires some { is_some self.now.next ≡ true }
+        ensures { current self.now.feed ≡ Some result.now }
+    {
+        self.feed.cursor.entry()
     }
 }
 
@@ -57,7 +70,7 @@ pub(crate) fn drafts_of(
 ) -> Result<Vec<Draft>, OutOfMemory>
     requires left { IsSide (side left_top.now left.now) }
     requires right { IsSide (side right_top.now right.now) }
-    ensures { IfOk result (λ drafts. AreDrafts (items_of left_top.now left.now) (items_of right_top.now right.now) drafts.items) }
+    ensures { IfOk result (λ drafts. AreDrafts (links_at (side left_top.now left.now) (side right_top.now right.now)) (items_of left_top.now left.now) (items_of right_top.now right.now) drafts.items) }
 {
     below_keeps_order();
     let left = Feed {
@@ -77,7 +90,9 @@ fn merged<'a>(alloc: Global, left: Feed<'a>, right: Feed<'a>) -> Result<Vec<Draf
     requires right { IsSound right }
     requires left_ascends { Ascend (ahead left) }
     requires right_ascends { Ascend (ahead right) }
-    ensures { IfOk result (λ drafts. AreDrafts (ahead left.entry) (ahead right.entry) drafts.items) }
+    requires left_new { left.cursor.1 ≡ 0 }
+    requires right_new { right.cursor.1 ≡ 0 }
+    ensures { IfOk result (λ drafts. AreDrafts (links_at (side_of left.entry) (side_of right.entry)) (ahead left.entry) (ahead right.entry) drafts.items) }
 {
     path_order_is_preorder();
     under_is_contiguous();
@@ -87,9 +102,10 @@ fn merged<'a>(alloc: Global, left: Feed<'a>, right: Feed<'a>) -> Result<Vec<Draf
     let mut drafts = Vec::new(alloc);
     while left.next.is_some() || right.next.is_some() {
         let order = order_by(&left.next, &right.next);
+        let links = links_of(&left, &right);
         let a = left.pop_if(order.is_le())?;
         let b = right.pop_if(order.is_ge())?;
-        add(&mut drafts, &mut hidden, a, b)?;
+        add(&mut drafts, &mut hidden, a, b, links)?;
     }
     Ok(drafts)
 }
@@ -100,14 +116,15 @@ fn add(
     hidden: &mut Option<Path>,
     a: Option<Item>,
     b: Option<Item>,
+    links: Two,
 ) -> Result<(), OutOfMemory>
     requires { (is_some a || is_some b) ≡ true }
     ensures valid { OnOk result (refusal (path_of a b) ≡ None) }
     ensures hidden { OnOk result (hidden.new ≡ hidden_after hidden.old a b) }
-    ensures added { OnOk result (drafts.new.items ≡ drafts.old.items ++ row_after hidden.old a b) }
+    ensures added { OnOk result (drafts.new.items ≡ drafts.old.items ++ row_after links hidden.old a b) }
 {
     let partial = is_partial(&a) || is_partial(&b);
-    let draft = Draft::of(a, b);
+    let draft = Draft::of(a, b, links);
     if is_under(&draft.row.path, hidden) {
         return Ok(());
     }
@@ -116,6 +133,18 @@ fn add(
     }
     drafts.push(draft)?;
     Ok(())
+}
+
+// Whether the texts of two links agree, where the next item of both sides is a link.
+fn links_of<'a>(left: &Ends<'a>, right: &Ends<'a>) -> Two
+    requires left { HasSoundEnds left.now }
+    requires right { HasSoundEnds right.now }
+    ensures { is_some left.now.next ≡ true → is_some right.now.next ≡ true → result ≡ texts (target_at (current left.now.feed)) (target_at (current right.now.feed)) }
+{
+    if left.next.is_none() || right.next.is_none() {
+        return Two::NoValue;
+    }
+    texts(&left.entry().target, &right.entry().target)
 }
 
 // Which side is next.

@@ -3,7 +3,7 @@ ghost use Rattle.std.specs.Prelude.{◌≡◌, ℕ, ◌+◌, ◌^◌, ◌<◌, �
 ghost use Rattle.std.specs.FinMap.{get};
 ghost use Rattle.outside.specs.Count.{RoseBy};
 ghost use Rattle.outside.specs.Tree.{is_file, content};
-ghost use Rattle.tree_cmp.specs.Private.Reading.{Fills, IsShort, IsFileOf, Told, PieceTold, goes_on, counts};
+ghost use Rattle.tree_cmp.specs.Private.Reading.{Fills, IsShort, IsFileOf, Told, PieceTold, Shows, ShowsMissing, goes_on, counts};
 
 use outside::{ReadError, Tree};
 use path_text::Path;
@@ -55,6 +55,7 @@ pub(crate) fn fill<R: Tree>(
     ensures short { IsErrOf result Missing.Changed → IfSome (R.tree reader.old) (λ files. IsShort (get files path.now) (at + length into.new)) }
     ensures count { RoseBy 0 (R.count reader.old) (R.count reader.new) }
     ensures cause { IsErrOf result Missing.Failed → RoseBy 1 (R.count reader.old) (R.count reader.new) }
+    ensures shows { IfErr result (ShowsMissing R.gives path.now) }
 {
     let mut done = 0;
     while done < into.len() {
@@ -81,6 +82,7 @@ pub(crate) fn same_bytes<R: Tree>(
     ensures told { IfSome (R.tree reader.old) (λ files. IsFileOf (get files left.now) size → IsFileOf (get files right.now) size → Told (get files left.now) (get files right.now) result) }
     ensures same { R.tree reader.new ≡ R.tree reader.old }
     ensures cause { RoseBy (counts result) (R.count reader.old) (R.count reader.new) }
+    ensures shows { Shows R.gives left.now right.now result }
     ensures ours { length ours.new ≡ length ours.old }
     ensures theirs { length theirs.new ≡ length theirs.old }
 {
@@ -130,6 +132,7 @@ fn same_piece<R: Tree>(
     ensures told { IfSome (R.tree reader.old) (λ files. PieceTold (get files left.now) (get files right.now) at room result) }
     ensures same { R.tree reader.new ≡ R.tree reader.old }
     ensures cause { RoseBy (counts result) (R.count reader.old) (R.count reader.new) }
+    ensures shows { Shows R.gives left.now right.now result }
 {
     if let Err(missing) = fill(reader, left, at, ours) {
         return Outcome::Missed(false, missing);

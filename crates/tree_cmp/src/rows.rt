@@ -34,7 +34,7 @@ pub struct Row {
     pub kind: Two,
     /// Whether the sizes of two files agree.
     pub size: Two,
-    /// Whether the bytes of two files agree.
+    /// Whether the bytes of two files agree, or the texts of two links.
     pub content: Two,
 }
 

@@ -1,7 +1,8 @@
 //! Readers that share the rows whose files are to be read, in threads of their own. Each takes the next row that is left.
 ghost use Rattle.std.specs.Prelude.{◌≡◌, ℕ, ◌<◌, [], length, All, IfOk, OnOk, slice_index_or};
+ghost use Rattle.path_text.specs.Graft.{grafted};
 ghost use Rattle.outside.specs.Count.{RoseBy};
-ghost use Rattle.tree_cmp.specs.Private.Reading.{counts};
+ghost use Rattle.tree_cmp.specs.Private.Reading.{Shows, counts};
 ghost use Rattle.tree_cmp.specs.Private.Sharing.{ToldAt, IsIdle, HasRoom, IsWorked};
 
 use crate::drafts::Draft;
@@ -64,7 +65,7 @@ impl<R: Tree> Worker<R> {
     // Reads the files of rows, each time of the next one that no worker has taken. It stops where memory is wanting.
     pub(crate) fn work(&mut self, next: &AtomicU64, work: &Work<'_>)
         requires { IsIdle self.old.desk }
-        ensures { IsWorked R.tree R.count work.now self.old self.new }
+        ensures { IsWorked R.tree R.count R.gives work.now self.old self.new }
     {
         for _ in 0..work.drafts.len() {
             let place = next.fetch_add(1, SeqCst);
@@ -81,7 +82,7 @@ impl<R: Tree> Worker<R> {
     fn read_at(&mut self, place: usize, work: &Work<'_>) -> Result<(), CmpError>
         requires inside { place < length work.now.drafts.now }
         requires room { HasRoom self.old.desk }
-        ensures on { (before : Worker R) → IsWorked R.tree R.count work.now before self.old → IsWorked R.tree R.count work.now before self.new }
+        ensures on { (before : Worker R) → IsWorked R.tree R.count R.gives work.now before self.old → IsWorked R.tree R.count R.gives work.now before self.new }
         ensures room { HasRoom self.new.desk }
     {
         let draft = &work.drafts[place];
@@ -104,6 +105,7 @@ impl<R: Tree> Worker<R> {
         requires room { HasRoom self.old.desk }
         ensures told { IfOk result (ToldAt (R.tree self.old.reader) left.now right.now path.now size) }
         ensures same { R.tree self.new.reader ≡ R.tree self.old.reader }
+        ensures shows { IfOk result (Shows R.gives (grafted left.now path.now) (grafted right.now path.now)) }
         ensures cause { IfOk result (λ outcome. RoseBy (counts outcome) (R.count self.old.reader) (R.count self.new.reader)) }
         ensures count { RoseBy 0 (R.count self.old.reader) (R.count self.new.reader) }
         ensures found { self.new.desk.found.items ≡ self.old.desk.found.items }
@@ -132,7 +134,7 @@ pub(crate) fn work_all<W: Threads + Sync, R: Tree + Send>(
 )
     requires hosts { 0 < hosts }
     requires idle { All (λ w. IsIdle w.desk) workers.old }
-    ensures { (k : ℕ) (d : Worker R) → k < length workers.old → IsWorked R.tree R.count work.now (slice_index_or workers.old k d) (slice_index_or workers.new k d) }
+    ensures { (k : ℕ) (d : Worker R) → k < length workers.old → IsWorked R.tree R.count R.gives work.now (slice_index_or workers.old k d) (slice_index_or workers.new k d) }
 {
     let next = AtomicU64::new(0);
     thread::for_each_mut(rt, workers, hosts, &|_, worker| worker.work(&next, work));

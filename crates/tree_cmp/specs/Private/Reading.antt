@@ -1,17 +1,16 @@
 -- Two files that are read and compared, piece by piece. Our own.
 -- Only clauses of this crate's own functions cite this file.
-use Rattle.std.specs.Prelude.{◌≡◌, ℕ, ◌+◌, ◌<◌, ◌≤◌, ◌⊎◌, Bool, true, false, List, length, take, drop, Option, Some, None, nat_eq}
-use Rattle.std.specs.FinMap.{get}
+use Rattle.std.specs.Prelude.{◌≡◌, ℕ, ◌+◌, ◌<◌, ◌≤◌, Bool, true, false, List, length, take, drop, if◌then◌else◌, Option, nat_eq}
 use Rattle.std.specs.Cmp.Lexicographic.{pointwise}
-use Rattle.path_text.specs.Order.{path_cmp}
-use Rattle.outside.specs.Count.{RoseBy}
-use Rattle.outside.specs.Tree.{Files, Node, is_file, content}
+use Rattle.outside.specs.Asked.{Asks}
+use Rattle.outside.specs.Tree.{Node, is_file, content}
 use Rattle.outside.specs.declared.trees.ReadError.{ReadError}
 use Rattle.outside.specs.declared.trees.ReadError.TheVariants as read
 use Rattle.tree_cmp.specs.declared.reading.Missing.{Missing}
 use Rattle.tree_cmp.specs.declared.reading.Missing.TheVariants as m
 use Rattle.tree_cmp.specs.declared.reading.Outcome.{Outcome}
 use Rattle.tree_cmp.specs.declared.reading.Outcome.TheVariants as o
+use Rattle.tree_cmp.specs.Readers.{ShowsFailure, ShowsChange}
 
 abbrev pub missing : ReadError → Missing
 missing read.Failed = m.Failed
@@ -51,6 +50,16 @@ PieceTold a b at n (o.Same same) = (at + n ≤ length (content a)) × (at + n �
 PieceTold a b at n (o.Missed dest m.Failed) = Unit {0}
 PieceTold a b at n (o.Missed false m.Changed) = IsShort a (at + n)
 PieceTold a b at n (o.Missed true m.Changed) = IsShort b (at + n)
+
+-- the answer of a read of the path for which its bytes were missed
+abbrev pub ShowsMissing : {S : Type 0} → Asks S → List ℕ → Missing → Type 0
+ShowsMissing gives path m.Failed = ShowsFailure gives path
+ShowsMissing gives path m.Changed = ShowsChange gives path
+
+-- the file that an outcome names was asked for, and answered so
+abbrev pub Shows : {S : Type 0} → Asks S → List ℕ → List ℕ → Outcome → Type 0
+Shows gives left right (o.Same same) = Unit {0}
+Shows gives left right (o.Missed dest why) = ShowsMissing gives (if dest then right else left) why
 
 -- so far the bytes are the same
 abbrev pub goes_on : Outcome → Bool

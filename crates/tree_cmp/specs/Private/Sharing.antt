@@ -4,6 +4,7 @@ use Rattle.std.specs.Prelude.{◌≡◌, ℕ, ◌+◌, ◌-◌, ◌^◌, ◌<◌
 use Rattle.std.specs.List.{sum_by}
 use Rattle.std.specs.FinMap.{get}
 use Rattle.path_text.specs.Graft.{grafted}
+use Rattle.outside.specs.Asked.{Asks}
 use Rattle.outside.specs.Count.{RoseBy}
 use Rattle.outside.specs.Tree.{Files}
 use Rattle.tree_cmp.specs.declared.drafts.Draft.{Draft}
@@ -13,7 +14,7 @@ use Rattle.tree_cmp.specs.declared.sharing.Found.{Found}
 use Rattle.tree_cmp.specs.declared.sharing.Desk.{Desk}
 use Rattle.tree_cmp.specs.declared.sharing.Worker.{Worker}
 use Rattle.tree_cmp.specs.Readers.{is_at_end}
-use Rattle.tree_cmp.specs.Private.Reading.{IsFileOf, Told, counts}
+use Rattle.tree_cmp.specs.Private.Reading.{IsFileOf, Told, Shows, counts}
 
 -- what reading the two files of a path below two tops comes to, over files that may tell their tree
 abbrev pub ToldAt : Option Files → List ℕ → List ℕ → List ℕ → ℕ → Outcome → Type 0
@@ -22,18 +23,19 @@ ToldAt tree left right path size o = IfSome tree (λ files.
     Told (get files (grafted left path)) (get files (grafted right path)) o)
 
 -- an outcome is of a row whose files are to be read, and is what reading them comes to
-pub record IsOf (tree : Option Files) (left right path : List ℕ) (bytes : Option ℕ) (o : Outcome) : Type 0 where
+pub record IsOf {S : Type 0} (gives : Asks S) (tree : Option Files) (left right path : List ℕ) (bytes : Option ℕ) (o : Outcome) : Type 0 where
   pub unread : is_some bytes ≡ true
   pub told : IfSome bytes (λ size. ToldAt tree left right path size o)
+  pub shows : Shows gives (grafted left path) (grafted right path) o
 
 -- what is known of a row before all are read
-abbrev pub IsSoFar : Option Files → List ℕ → List ℕ → Draft → Type 0
-IsSoFar tree left right d = IfSome d.outcome (IsOf tree left right d.row.path d.unread)
+abbrev pub IsSoFar : {S : Type 0} → Asks S → Option Files → List ℕ → List ℕ → Draft → Type 0
+IsSoFar gives tree left right d = IfSome d.outcome (IsOf gives tree left right d.row.path d.unread)
 
 -- and afterwards
-pub record IsSettled (tree : Option Files) (left right : List ℕ) (d : Draft) : Type 0 where
+pub record IsSettled {S : Type 0} (gives : Asks S) (tree : Option Files) (left right : List ℕ) (d : Draft) : Type 0 where
   pub all : is_some d.unread ≡ is_some d.outcome
-  pub own : IsSoFar tree left right d
+  pub own : IsSoFar gives tree left right d
 
 -- a row as it was before its files were read
 abbrev pub unsettled : Draft → Draft
@@ -66,18 +68,18 @@ pub record IsIdle (d : Desk) : Type 0 where
   pub room : HasRoom d
 
 -- what was found is of one of the rows
-pub record IsFound (tree : Option Files) (left right : List ℕ) (drafts : List Draft) (f : Found) : Type 0 where
+pub record IsFound {S : Type 0} (gives : Asks S) (tree : Option Files) (left right : List ℕ) (drafts : List Draft) (f : Found) : Type 0 where
   pub inside : f.place < length drafts
-  pub own : (d : Draft) → IsOf tree left right (slice_index_or drafts f.place d).row.path (slice_index_or drafts f.place d).unread f.outcome
+  pub own : (d : Draft) → IsOf gives tree left right (slice_index_or drafts f.place d).row.path (slice_index_or drafts f.place d).unread f.outcome
 
 -- how many faults were counted for what was found
 abbrev pub all_counts : List Found → ℕ
 all_counts found = sum_by (λ f. counts f.outcome) found
 
-module _ {R : Type 0} (tree : R → Option Files) (count : R → ℕ) where
+module _ {R : Type 0} (tree : R → Option Files) (count : R → ℕ) (gives : Asks R) where
   -- what a worker comes to
   pub record IsWorked (work : Work) (w w' : Worker R) : Type 0 where
-    pub found : All (IsFound (tree w.reader) work.left.now work.right.now work.drafts.now) w'.desk.found.items
+    pub found : All (IsFound gives (tree w.reader) work.left.now work.right.now work.drafts.now) w'.desk.found.items
     pub same : tree w'.reader ≡ tree w.reader
     pub counted : RoseBy (all_counts w'.desk.found.items) (count w.reader) (count w'.reader)
     pub room : HasRoom w'.desk

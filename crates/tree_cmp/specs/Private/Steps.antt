@@ -1,18 +1,23 @@
 -- The steps by which two sides are laid beside each other. Our own.
 -- Only clauses of this crate's own functions cite this file.
 use Rattle.std.specs.Prelude.{◌≡◌, ℕ, ◌≤◌, Bool, true, false, not, ◌&&◌, ◌||◌, List, [], ◌∷◌, map, length, drop, if◌then◌else◌, Option, Some, None}
-use Rattle.std.specs.Prelude.{is_some, nat_eq, IsTrue, All}
+use Rattle.std.specs.Prelude.{is_some, nat_eq, IsTrue, All, IfSome, ◌<◌, ◌-◌, slice_get}
 use Rattle.std.specs.List.{AllByRecursion, list_any, cons_option}
 use Rattle.std.specs.List.Sorted.{IsStrictlySortedBy}
+use Rattle.std.specs.Option.{option_map}
 use Rattle.std.specs.Cmp.Lexicographic.{pointwise}
 use Rattle.std.specs.declared.cmp.Ordering.{Ordering}
 use Rattle.std.specs.declared.cmp.Ordering.TheVariants.{Less, Greater}
 use Rattle.path_text.specs.Order.{path_cmp, is_under, is_within}
+use Rattle.path_text.specs.Graft.{below_of}
 use Rattle.path_text.specs.Path.{refusal}
+use Rattle.flat_list.specs.declared.entries.Entry.{Entry}
 use Rattle.tree_cmp.specs.declared.items.Item.{Item}
 use Rattle.tree_cmp.specs.declared.items.Feed.{Feed}
 use Rattle.tree_cmp.specs.declared.merging.Ends.{Ends}
 use Rattle.tree_cmp.specs.declared.drafts.Draft.{Draft}
+use Rattle.tree_cmp.specs.declared.rows.Two.{Two}
+use Rattle.tree_cmp.specs.Sides.{Side, side, is_gone}
 use Rattle.tree_cmp.specs.Private.Items.{at, is_below_partial, items_of, draft_of, paths}
 
 -- what a feed has not given yet
@@ -23,12 +28,27 @@ pub record IsSound (f : Feed) : Type 0 where
   pub within : All (λ e. IsTrue (is_within e.path f.top.now)) f.cursor.0
   pub inside : f.cursor.1 ≤ length f.cursor.0
 
+-- the whole side that a feed goes over
+abbrev pub side_of : Feed → Side
+side_of f = side f.top.now f.cursor.0
+
+-- the entry that a feed passed last
+abbrev pub current : Feed → Option Entry
+current f = slice_get f.cursor.0 (f.cursor.1 - 1)
+
+-- the item is that of the entry passed last
+pub record IsCurrent (f : Feed) (x : Item) : Type 0 where
+  pub there : option_map (λ e. is_gone e.mark) (current f) ≡ Some false
+  pub path : option_map (λ e. below_of e.path f.top.now) (current f) ≡ Some x.path
+
 abbrev pub left_of : Ends → List Item
 left_of e = cons_option e.next (ahead e.feed)
 
 pub record HasSoundEnds (e : Ends) : Type 0 where
   pub feed : IsSound e.feed
   pub last : e.next ≡ None → ahead e.feed ≡ []
+  pub begun : is_some e.next ≡ true → 0 < e.feed.cursor.1
+  pub own : IfSome e.next (IsCurrent e.feed)
 
 abbrev pub Ascend : List Item → Type 0
 Ascend items = IsStrictlySortedBy path_cmp (map (λ x. x.path) items)
@@ -61,10 +81,10 @@ abbrev pub is_row : List ℕ → List Draft → Bool
 is_row p drafts = list_any (λ d. pointwise nat_eq d.row.path p) drafts
 
 -- the rows of what is left of two sides, where nothing under one path is shown
-pub record From (h : Option (List ℕ)) (l r : List Item) (drafts : List Draft) : Type 0 where
+pub record From (links : List ℕ → Two) (h : Option (List ℕ)) (l r : List Item) (drafts : List Draft) : Type 0 where
   pub ascend : IsStrictlySortedBy path_cmp (paths drafts)
   pub shown : (p : List ℕ) → is_row p drafts ≡ shown_from h p l r
-  pub each : AllByRecursion (λ d. d ≡ draft_of d.row.path (at d.row.path l) (at d.row.path r)) drafts
+  pub each : AllByRecursion (λ d. d ≡ draft_of (links d.row.path) d.row.path (at d.row.path l) (at d.row.path r)) drafts
 
 -- of a side this stands at the path, which is the least, and the rest behind it
 pub record Heads (p : List ℕ) (items : List Item) (a : Option Item) (rest : List Item) : Type 0 where
@@ -100,5 +120,5 @@ abbrev pub hidden_after : Option (List ℕ) → Option Item → Option Item → 
 hidden_after h a b = if under_some (path_of a b) h then h else (if is_partial_item a || is_partial_item b then Some (path_of a b) else h)
 
 -- and which row it adds
-abbrev pub row_after : Option (List ℕ) → Option Item → Option Item → List Draft
-row_after h a b = if under_some (path_of a b) h then [] else draft_of (path_of a b) a b ∷ []
+abbrev pub row_after : Two → Option (List ℕ) → Option Item → Option Item → List Draft
+row_after links h a b = if under_some (path_of a b) h then [] else draft_of links (path_of a b) a b ∷ []

@@ -1,12 +1,12 @@
-use Rattle.std.proofs.Common.{rules, ◌≡◌, map, length, subst, sym, ap, ◌∙◌, IfOk, Result, Ok, Err}
+use Rattle.std.proofs.Common.{◌≡◌, map, length, subst, sym, IfOk, Result, Ok, Err}
 use Rattle.tree_cmp.specs.Sides.{side}
 use Rattle.tree_cmp.specs.Rows.{Findings, IsComparison}
-use Rattle.tree_cmp.specs.Readers.{first_told, RoseTogether}
-use Rattle.tree_cmp.specs.Private.Items.{items_of, AreDrafts}
+use Rattle.tree_cmp.specs.Readers.{first_told, HaveCauses, RoseTogether}
+use Rattle.tree_cmp.specs.Private.Items.{items_of, links_at, AreDrafts}
 use Rattle.tree_cmp.specs.Private.Parts.{findings_of}
-use Rattle.tree_cmp.specs.Private.Sharing.{unsettled}
 use Rattle.tree_cmp.proofs.Counts.{NoneFell-same}
 use Rattle.tree_cmp.proofs.Finding.{comparison, fresh, failed_count}
+use Rattle.tree_cmp.proofs.Causes.{causes}
 use Rattle.tree_cmp.proofs.comparing.compare.Goals as goal
 
 if_found : {E : Type 0} (P : Findings → Type 0) (r : Result Findings E) (f : Findings) → P f → IfOk r (λ found. found ≡ f) → IfOk r P
@@ -17,7 +17,7 @@ pub returns-in_err-drafts-clause-none_fell : goal.returns-in_err-drafts-clause-n
 returns-in_err-drafts-clause-none_fell g c = NoneFell-same (map g.R.Tree.count c.args.readers.now.items)
 
 pub read_all-requires-clause-unread : goal.read_all-requires-clause-unread
-read_all-requires-clause-unread g c = λ κs h. fresh _ _ c.in_ok-drafts.drafts.items c.in_ok-drafts.ensures
+read_all-requires-clause-unread g c = λ κs h. fresh _ _ _ c.in_ok-drafts.drafts.items c.in_ok-drafts.ensures
 
 pub returns-clause-found : goal.returns-clause-found
 returns-clause-found g c =
@@ -25,10 +25,10 @@ returns-clause-found g c =
     let r = side c.args.right_top.now c.args.right.now in
     if_found (IsComparison (first_told (map g.R.Tree.tree c.args.readers.now.items)) l r) c.of.result
     (findings_of c.args.left_top.now c.args.right_top.now c.read_all.new.drafts.items)
-    (comparison c.graft_undoes_below.ensures
+    (comparison c.graft_undoes_below.ensures g.R.Tree.gives
     (first_told (map g.R.Tree.tree c.args.readers.now.items)) l r c.requires.left c.requires.right c.requires.left_told
     c.requires.right_told c.read_all.new.drafts.items
-    (subst (AreDrafts (items_of c.args.left_top.now c.args.left.now) (items_of c.args.right_top.now c.args.right.now))
+    (subst (AreDrafts (links_at l r) (items_of c.args.left_top.now c.args.left.now) (items_of c.args.right_top.now c.args.right.now))
     (sym c.in_ok-read_all.ensures.unsettled) c.in_ok-drafts.ensures)
     c.in_ok-read_all.ensures.settled)
     c.of.ensures
@@ -40,4 +40,12 @@ returns-clause-counted g c =
     (findings_of c.args.left_top.now c.args.right_top.now c.read_all.new.drafts.items)
     (subst (λ n. RoseTogether n (map g.R.Tree.count c.args.readers.now.items) (map g.R.Tree.count c.read_all.new.readers.items))
     (sym (failed_count c.args.left_top.now c.args.right_top.now c.read_all.new.drafts.items)) c.in_ok-read_all.ensures.counted)
+    c.of.ensures
+
+pub returns-clause-causes : goal.returns-clause-causes
+returns-clause-causes g c =
+    if_found (HaveCauses g.R.Tree.gives) c.of.result
+    (findings_of c.args.left_top.now c.args.right_top.now c.read_all.new.drafts.items)
+    (causes g.R.Tree.gives (first_told (map g.R.Tree.tree c.args.readers.now.items)) c.args.left_top.now c.args.right_top.now
+    c.read_all.new.drafts.items c.in_ok-read_all.ensures.settled)
     c.of.ensures

@@ -1,4 +1,4 @@
-use Rattle.std.proofs.Common.{rules, arith, ◌≡◌, ◌<◌, ◌++◌, length, take, drop, map, subst, sym, ap, ◌∙◌, List, ℕ, All}
+use Rattle.std.proofs.Common.{arith, ◌≡◌, ◌<◌, ◌++◌, length, take, drop, map, subst, sym, ap, ◌∙◌, List, All}
 use Rattle.std.specs.Prelude.{reverse, OnOk}
 use Rattle.tree_cmp.specs.declared.sharing.Worker.{Worker}
 use Rattle.tree_cmp.specs.Readers.{first_told, NoneFell, RoseTogether}
@@ -37,7 +37,7 @@ read_by-settled-requires-clause-alike g c = λ κs h.
     ∙ c.in_ok-workers.ensures.readers in
     let told = first_told (map g.R.Tree.tree c.args.readers.now.items) in
     let own : All (λ (w : Worker g.row.R.Denot). g.R.Tree.tree w.reader ≡ told) slice =
-    all_told g.R.Tree.tree g.R.Tree.count told left slice c.args.readers.now.items lent c.requires.alike in
+    all_told g.R.Tree.tree g.R.Tree.count g.R.Tree.gives told left slice c.args.readers.now.items lent c.requires.alike in
     let some : 0 < length slice =
     omega (
       arith,
@@ -46,7 +46,7 @@ read_by-settled-requires-clause-alike g c = λ κs h.
       c.in_ok-desks.ensures.number,
       c.worker_count-number.ensures.some,
     ) in
-    alike g.R.Tree.tree g.R.Tree.count told slice some own
+    alike g.R.Tree.tree g.R.Tree.count g.R.Tree.gives told slice some own
 
 pub returns-clause-settled : goal.returns-clause-settled
 returns-clause-settled g c =
@@ -57,7 +57,7 @@ returns-clause-settled g c =
     ∙ c.in_ok-workers.ensures.readers in
     let told = first_told (map g.R.Tree.tree c.args.readers.now.items) in
     let own : All (λ (w : Worker g.row.R.Denot). g.R.Tree.tree w.reader ≡ told) slice =
-    all_told g.R.Tree.tree g.R.Tree.count told left slice c.args.readers.now.items lent c.requires.alike in
+    all_told g.R.Tree.tree g.R.Tree.count g.R.Tree.gives told left slice c.args.readers.now.items lent c.requires.alike in
     let some : 0 < length slice =
     omega (
       arith,
@@ -72,9 +72,9 @@ returns-clause-settled g c =
     written c.args.drafts.now.len c.read_by-settled.new.drafts c.args.drafts.now.items
     (omega (arith, c.read_by-settled.auto.drafts, c.deref_mut-2.ensures.len))
     (omega (arith, ap length c.deref_mut-2.ensures.value, c.deref_mut-2.ensures.len)) in
-    subst (λ ds. OnOk c.read_by-settled.result (All (IsSettled told c.args.left.now c.args.right.now) ds)) (sym rows)
-    (subst (λ t. OnOk c.read_by-settled.result (All (IsSettled t c.args.left.now c.args.right.now) c.read_by-settled.new.drafts))
-    (first_is g.R.Tree.tree g.R.Tree.count told slice some own) c.read_by-settled.ensures.settled)
+    subst (λ ds. OnOk c.read_by-settled.result (All (IsSettled g.R.Tree.gives told c.args.left.now c.args.right.now) ds)) (sym rows)
+    (subst (λ t. OnOk c.read_by-settled.result (All (IsSettled g.R.Tree.gives t c.args.left.now c.args.right.now) c.read_by-settled.new.drafts))
+    (first_is g.R.Tree.tree g.R.Tree.count g.R.Tree.gives told slice some own) c.read_by-settled.ensures.settled)
 
 pub returns-clause-counted : goal.returns-clause-counted
 returns-clause-counted g c =
@@ -96,7 +96,7 @@ returns-clause-counted g c =
     (omega (arith, c.read_by-settled.auto.drafts, c.deref_mut-2.ensures.len))
     (omega (arith, ap length c.deref_mut-2.ensures.value, c.deref_mut-2.ensures.len)) in
     subst (λ ds. RoseTogether (blames ds) (map g.R.Tree.count c.args.readers.now.items) (map g.R.Tree.count c.dismissed.new.readers.items)) (sym rows)
-    (all_rose g.R.Tree.tree g.R.Tree.count
+    (all_rose g.R.Tree.tree g.R.Tree.count g.R.Tree.gives
     (blames c.read_by-settled.new.drafts) left c.args.readers.now.items c.dismissed.new.readers.items slice new lent back
     c.read_by-settled.ensures.counted)
 
@@ -113,7 +113,7 @@ returns-clause-none_fell g c =
     (written c.in_ok-workers.workers.len new c.in_ok-workers.workers.items
     (omega (arith, c.read_by-settled.auto.workers, c.deref_mut.ensures.len))
     (omega (arith, ap length c.deref_mut.ensures.value, c.deref_mut.ensures.len))) in
-    none_fell g.R.Tree.tree g.R.Tree.count left c.args.readers.now.items c.dismissed.new.readers.items slice new lent back c.read_by-settled.ensures.none_fell
+    none_fell g.R.Tree.tree g.R.Tree.count g.R.Tree.gives left c.args.readers.now.items c.dismissed.new.readers.items slice new lent back c.read_by-settled.ensures.none_fell
 
 pub returns-clause-same : goal.returns-clause-same
 returns-clause-same g c =
@@ -128,4 +128,4 @@ returns-clause-same g c =
     (written c.in_ok-workers.workers.len new c.in_ok-workers.workers.items
     (omega (arith, c.read_by-settled.auto.workers, c.deref_mut.ensures.len))
     (omega (arith, ap length c.deref_mut.ensures.value, c.deref_mut.ensures.len))) in
-    same_trees g.R.Tree.tree g.R.Tree.count left c.args.readers.now.items c.dismissed.new.readers.items slice new lent back c.read_by-settled.ensures.same
+    same_trees g.R.Tree.tree g.R.Tree.count g.R.Tree.gives left c.args.readers.now.items c.dismissed.new.readers.items slice new lent back c.read_by-settled.ensures.same

@@ -1,8 +1,7 @@
-use Rattle.std.proofs.Common.{rules, arith, ◌≡◌, ◌+◌, ◌<◌, ◌++◌, ◌∷◌, [], List, ℕ, length, length-drop, take, drop, map, refl, ap, sym, ◌∙◌}
+use Rattle.std.proofs.Common.{arith, ◌≡◌, ◌+◌, ◌++◌, ◌∷◌, [], length-drop, drop, map, refl, ap, sym, ◌∙◌}
 use Rattle.std.specs.Prelude.{◌==◌}
 use Rattle.std.specs.List.{slice_split}
 use Rattle.std.proofs.lemmas.List.{take_all, map-append}
-use Rattle.tree_cmp.specs.declared.conditions.Condition.{Condition}
 use Rattle.tree_cmp.specs.Expressions.{term_reading, terms_reading}
 use Rattle.tree_cmp.proofs.Parts.{onto, reads_more}
 use Rattle.tree_cmp.proofs.expressions.terms_in.Goals as goal

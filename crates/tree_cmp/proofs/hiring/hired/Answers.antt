@@ -1,8 +1,7 @@
-use Rattle.std.proofs.Common.{rules, arith, ◌≡◌, List, [], ◌∷◌, ◌++◌, length, length-append, ap, sym, subst, ◌∙◌, All}
+use Rattle.std.proofs.Common.{arith, ◌≡◌, List, [], ◌∷◌, ◌++◌, length, length-append, ap, sym, subst, ◌∙◌, All}
 use Rattle.std.specs.Prelude.{reverse}
 use Rattle.std.proofs.lemmas.List.Elements.{All-push}
 use Rattle.tree_cmp.specs.declared.sharing.Worker.{Worker}
-use Rattle.tree_cmp.specs.declared.sharing.Desk.{Desk}
 use Rattle.tree_cmp.specs.Private.Sharing.{IsIdle}
 use Rattle.tree_cmp.proofs.Hired.{readers_of, moved, unpushed}
 use Rattle.tree_cmp.proofs.hiring.hired.Goals as goal

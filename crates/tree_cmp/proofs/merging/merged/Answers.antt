@@ -1,8 +1,8 @@
-use Rattle.std.proofs.Common.{rules, ◌≡◌, ◌||◌, true, false, is_some, Some, None, sym, ◌∙◌, ap, subst, List, ◌++◌, []}
-use Rattle.tree_cmp.specs.declared.items.Item.{Item}
-use Rattle.tree_cmp.specs.declared.drafts.Draft.{Draft}
-use Rattle.tree_cmp.specs.Private.Steps.{ahead, left_of, order_by, path_of, Ready, Takes, From}
+use Rattle.std.proofs.Common.{rules, ◌≡◌, ◌||◌, true, is_some, ◌∙◌, ap, subst, ◌++◌}
+use Rattle.tree_cmp.specs.Private.Items.{links_at, AreDrafts}
+use Rattle.tree_cmp.specs.Private.Steps.{ahead, left_of, path_of, side_of, Takes}
 use Rattle.tree_cmp.proofs.Taken.{took, ready_next, goes_on, ended}
+use Rattle.tree_cmp.proofs.Linked.{popped_link, row_links, whole_ascends}
 use Rattle.tree_cmp.proofs.merging.merged.Goals as goal
 
 pub loop-right-preserved : goal.loop-right-preserved
@@ -18,17 +18,33 @@ loop-right-preserved c =
     c.loop-right.invariant.ready c.loop-right.invariant.left.last c.loop-right.invariant.right.last some
     in
     let v = c.in_ok-add.ensures.valid in
+    let l = side_of c.in_ok-left.left.feed in
+    let r = side_of c.in_ok-right.right.feed in
+    let left_ascends = whole_ascends c.args.left c.in_ok-left.left.feed c.in_ok-left.ensures.side c.requires.left_new c.requires.left_ascends in
+    let right_ascends = whole_ascends c.args.right c.in_ok-right.right.feed c.in_ok-right.ensures.side c.requires.right_new c.requires.right_ascends in
+    let links = popped_link c.loop-right.left.feed c.loop-right.right.feed l r c.loop-right.left.next c.loop-right.right.next
+    c.in_ok-a.a c.in_ok-b.b c.is_le.result c.is_ge.result c.links_of-links.result
+    c.loop-right.invariant.left_side c.loop-right.invariant.right_side left_ascends right_ascends
+    c.loop-right.invariant.left.own c.loop-right.invariant.right.own c.in_ok-a.ensures.popped c.in_ok-b.ensures.popped
+    t.right.path c.links_of-links.ensures in
+    let added = c.in_ok-add.ensures.added
+    ∙ ap (λ rows. c.loop-right.drafts.items ++ rows)
+    (row_links c.links_of-links.result (links_at l r (path_of c.in_ok-a.a c.in_ok-b.b)) c.loop-right.hidden c.in_ok-a.a c.in_ok-b.b links) in
     record {
       ready = ready_next _ _ _ _ _ _ _ _ t c.loop-right.invariant.ready v c.in_ok-add.ensures.hidden;
       left = c.in_ok-a.ensures.sound;
       right = c.in_ok-b.ensures.sound;
-      goes = goes_on c.path_order_is_preorder.ensures c.under_is_contiguous.ensures _ _ _ _ _ _ _ _ t c.loop-right.invariant.ready v
-          c.in_ok-add.ensures.hidden _ _ _ _ c.in_ok-add.ensures.added c.loop-right.invariant.goes;
+      left_side = c.in_ok-a.ensures.side ∙ c.loop-right.invariant.left_side;
+      right_side = c.in_ok-b.ensures.side ∙ c.loop-right.invariant.right_side;
+      goes = goes_on c.path_order_is_preorder.ensures c.under_is_contiguous.ensures (links_at l r) _ _ _ _ _ _ _ _ t c.loop-right.invariant.ready v
+          c.in_ok-add.ensures.hidden _ _ _ _ added c.loop-right.invariant.goes;
     }
 
 pub returns : goal.returns
 returns c =
-    ended c.loop-right.hidden c.loop-right.left.next c.loop-right.right.next (ahead c.loop-right.left.feed) (ahead c.loop-right.right.feed)
+    subst (λ k. AreDrafts k (ahead c.args.left) (ahead c.args.right) c.loop-right.drafts.items)
+    (λ i. links_at (c.in_ok-left.ensures.side i) (c.in_ok-right.ensures.side i))
+    (ended (links_at (side_of c.in_ok-left.left.feed) (side_of c.in_ok-right.right.feed)) c.loop-right.hidden c.loop-right.left.next c.loop-right.right.next (ahead c.loop-right.left.feed) (ahead c.loop-right.right.feed)
     (left_of c.in_ok-left.left) (left_of c.in_ok-right.right) (ahead c.args.left) (ahead c.args.right) c.loop-right.drafts.items
     c.if-is_some.ensures c.if-is_some-2.ensures c.loop-right.invariant.left.last c.loop-right.invariant.right.last
-    c.loop-right.invariant.goes c.in_ok-left.ensures.same c.in_ok-right.ensures.same
+    c.loop-right.invariant.goes c.in_ok-left.ensures.same c.in_ok-right.ensures.same)

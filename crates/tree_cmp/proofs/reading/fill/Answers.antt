@@ -1,9 +1,9 @@
-use Rattle.std.proofs.Common.{rules, arith, ◌≡◌, ◌≤◌, ◌<◌, ◌+◌, ◌-◌, length, take, IfSome, subst, sym, ap, ◌∙◌}
+use Rattle.std.proofs.Common.{rules, arith, ◌≡◌, ◌≤◌, ◌<◌, ◌+◌, ◌-◌, length, IfSome, subst, ◌∙◌}
 use Rattle.std.proofs.lemmas.Grind.{common_steps}
-use Rattle.std.specs.FinMap.{get}
 use Rattle.outside.specs.Tree.{Reads}
-use Rattle.tree_cmp.specs.Private.Reading.{Fills}
+use Rattle.tree_cmp.specs.Private.Reading.{ShowsMissing, missing}
 use Rattle.tree_cmp.proofs.Filling.{filled}
+use Rattle.tree_cmp.proofs.Shown.{refused, ended}
 use Rattle.tree_cmp.proofs.reading.fill.Goals as goal
 
 pub loop-done-preserved : goal.loop-done-preserved
@@ -23,3 +23,13 @@ loop-done-preserved g c =
       same = c.in_ok-n.ensures.same ∙ c.loop-done.invariant.same;
       count = search rules;
     }
+
+pub returns-in_err-n-clause-shows : goal.returns-in_err-n-clause-shows
+returns-in_err-n-clause-shows g c =
+    let shown : ShowsMissing g.R.Tree.gives c.args.path.now (missing c.in_err-n.field-0.0) =
+    refused g.R.Tree.gives c.args.path.now (c.args.at + c.loop-done.done) c.in_err-n.field-0.0 _ _ c.in_err-n.ensures.given in
+    search (rules, shown, c.from_residual.ensures)
+
+pub returns-then-n-eq0-clause-shows : goal.returns-then-n-eq0-clause-shows
+returns-then-n-eq0-clause-shows g c =
+    ended g.R.Tree.gives c.args.path.now (c.args.at + c.loop-done.done) c.in_ok-n.n _ _ (search rules) c.in_ok-n.ensures.given

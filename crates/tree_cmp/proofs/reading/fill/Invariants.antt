@@ -1,7 +1,6 @@
-use Rattle.std.proofs.Common.{◌≡◌, ◌+◌, ◌-◌, ◌<◌, ◌≤◌, true, length, take, drop, IfSome}
+use Rattle.std.proofs.Common.{◌≡◌, ◌-◌, ◌<◌, ◌≤◌, length, take, IfSome}
 use Rattle.std.specs.FinMap.{get}
 use Rattle.outside.specs.Count.{RoseBy}
-use Rattle.outside.specs.Tree.{is_file, content}
 use Rattle.tree_cmp.specs.Private.Reading.{Fills}
 use Rattle.tree_cmp.proofs.reading.fill.Given as goal
 

@@ -1,4 +1,3 @@
-use Rattle.std.proofs.Common.{ℕ}
 use Rattle.tree_cmp.proofs.Counts.{NoneFell-set}
 use Rattle.tree_cmp.proofs.settling.settle.Goals as goal
 

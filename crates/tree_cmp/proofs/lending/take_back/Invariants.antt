@@ -1,6 +1,6 @@
 use Rattle.std.proofs.Common.{◌≡◌, ◌+◌, ◌-◌, ◌^◌, ◌<◌, min}
 use Rattle.std.specs.List.{sum_by}
-use Rattle.compare_report.proofs.reading.take_back.Given as goal
+use Rattle.tree_cmp.proofs.lending.take_back.Given as goal
 
 -- the counts that were added so far
 abbrev pub invariant-loop-reader : goal.invariant-loop-reader

@@ -1,6 +1,6 @@
 use Rattle.std.proofs.Common.{◌≡◌, ◌-◌, ◌≤◌, length}
 use Rattle.std.specs.List.{All, sum_by}
-use Rattle.compare_report.proofs.reading.readers_of.Given as goal
+use Rattle.tree_cmp.proofs.lending.readers_of.Given as goal
 
 -- the readers so far
 abbrev pub invariant-loop-alloc : goal.invariant-loop-alloc

@@ -1,0 +1,90 @@
+//! Two lists compared, with readers that files lend.
+ghost use Rattle.std.specs.Prelude.{◌≡◌, ◌-◌, ◌+◌, ◌^◌, ◌<◌, ◌≤◌, All, length, min, IfOk, IfSome};
+ghost use Rattle.std.specs.List.{sum_by};
+ghost use Rattle.outside.specs.Count.{RoseBy};
+ghost use Rattle.tree_cmp.specs.Readers.{HaveCauses, StatsTold};
+ghost use Rattle.tree_cmp.specs.Rows.{IsComparison};
+ghost use Rattle.tree_cmp.specs.Sides.{side, IsSide};
+
+use crate::compared::Compared;
+use crate::comparing::compare;
+use crate::errors::CmpError;
+use flat_list::FlatList;
+use outside::Ground;
+use path_text::{OutOfMemory, Path};
+use std::alloc::Global;
+use std::thread::Threads;
+
+/// Compares two lists as [`compare`] does, with a reader of the files for each host, 1 to 64. All readers are taken back, also where
+/// memory was wanting, and so the files count what the readers counted.
+pub fn compare_files<T: Threads + Sync, G: Ground>(
+    rt: &T,
+    alloc: Global,
+    left: &FlatList,
+    left_top: &Path,
+    right: &FlatList,
+    right_top: &Path,
+    files: &mut G,
+    hosts: u32,
+) -> Result<Compared, CmpError>
+where
+    G::Reader: Send,
+    requires left { IsSide (side left_top.now left.now) }
+    requires right { IsSide (side right_top.now right.now) }
+    requires left_told { IfSome (G.tree files.old) (λ tree. StatsTold tree left.now) }
+    requires right_told { IfSome (G.tree files.old) (λ tree. StatsTold tree right.now) }
+    requires hosts { (1 ≤ hosts) × (hosts ≤ 64) }
+    ensures found { IfOk result (IsComparison (G.tree files.old) (side left_top.now left.now) (side right_top.now right.now)) }
+    ensures counted { IfOk result (λ found. RoseBy (length found.failed) (G.count files.old) (G.count files.new)) }
+    ensures causes { IfOk result (HaveCauses G.Reader.gives) }
+    ensures same { G.tree files.new ≡ G.tree files.old }
+    ensures area { G.area files.new ≡ G.area files.old }
+    ensures count { RoseBy 0 (G.count files.old) (G.count files.new) }
+{
+    // The count of faults is a number of 64 bits.
+    let _faults = files.faults();
+    let mut readers = readers_of(alloc, files, hosts)?;
+    let compared = compare(
+        rt,
+        alloc,
+        left,
+        left_top,
+        right,
+        right_top,
+        &mut readers,
+        hosts,
+    );
+    take_back(files, readers);
+    compared
+}
+
+// So many readers of the files as they are.
+fn readers_of<G: Ground>(
+    alloc: Global,
+    files: &mut G,
+    n: u32,
+) -> Result<Vec<G::Reader>, OutOfMemory>
+    ensures number { IfOk result (λ readers. length readers.items ≡ n) }
+    ensures told { IfOk result (λ readers. All (λ r. G.Reader.tree r ≡ G.tree files.old) readers.items) }
+    ensures zero { IfOk result (λ readers. sum_by G.Reader.count readers.items ≡ 0) }
+    ensures same { G.tree files.new ≡ G.tree files.old }
+    ensures area { G.area files.new ≡ G.area files.old }
+    ensures count { G.count files.new ≡ G.count files.old }
+{
+    let mut readers = Vec::new(alloc);
+    while readers.len() < n as usize {
+        readers.push(files.reader(alloc)?)?;
+    }
+    Ok(readers)
+}
+
+// Takes all readers back, and so adds their counts.
+fn take_back<G: Ground>(files: &mut G, readers: Vec<G::Reader>)
+    ensures same { G.tree files.new ≡ G.tree files.old }
+    ensures area { G.area files.new ≡ G.area files.old }
+    ensures count { G.count files.old < 2 ^ 64 → G.count files.new ≡ min (G.count files.old + sum_by G.Reader.count readers.items) (2 ^ 64 - 1) }
+{
+    for reader in readers {
+        files.take_reader(reader);
+    }
+}
