@@ -118,11 +118,12 @@ status=$?
 said 'all three closed: status 4' [ "$status" -eq 4 ]
 said 'and the list is whole' ends "$list"
 
-# A file that is its own target by another name keeps its bytes.
+# A file that is its own target by another name keeps its bytes, and a link its text.
 one=$work/one
 mkdir -p "$one/deep"
 printf 'abc' >"$one/deep/short"
 head -c 200000 /dev/zero | tr '\0' x >"$one/deep/long"
+ln -s short "$one/deep/link"
 cp -r "$one" "$work/same"
 ln -s "$one" "$work/other"
 "$work/mfu" dcp "$one/deep/short" "$work/other/deep" >"$work/out" 2>"$work/notes"
@@ -131,11 +132,14 @@ said 'a short file copied onto itself: status 0' [ "$status" -eq 0 ]
 "$work/mfu" dcp "$one/deep/long" "$work/other/deep" >"$work/out" 2>"$work/notes"
 status=$?
 said 'a long file copied onto itself: status 0' [ "$status" -eq 0 ]
+"$work/mfu" dcp "$one/deep/link" "$work/other/deep" >"$work/out" 2>"$work/notes"
+status=$?
+said 'a link copied onto itself: status 0' [ "$status" -eq 0 ]
 ln -s "$work" "$work/up"
 "$work/mfu" dcp "$one/deep" "$work/up/one" >"$work/out" 2>"$work/notes"
 status=$?
 said 'a whole tree copied onto itself: status 0' [ "$status" -eq 0 ]
-said 'and all bytes are as before' diff -r "$one" "$work/same"
+said 'and all bytes and texts are as before' diff -r --no-dereference "$one" "$work/same"
 
 echo "wrong: $wrong"
 [ "$wrong" -eq 0 ]

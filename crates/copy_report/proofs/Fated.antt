@@ -18,7 +18,7 @@ use Rattle.flat_list.specs.Spelling.{paths}
 use Rattle.level_work.specs.Counts.{is_failed}
 use Rattle.level_work.specs.declared.items.Fate.{Fate}
 use Rattle.level_work.specs.declared.items.Fate.TheVariants as fate
-use Rattle.tree_copy.specs.Copying.{IsCopied, due, is_done, or_else, parent_failed, target_of}
+use Rattle.tree_copy.specs.Copying.{IsCopied, due, is_done, is_untold, or_else, parent_failed, target_of}
 use Rattle.tree_copy.specs.declared.pairs.Pair.{Pair}
 use Rattle.copy_report.specs.Copying.{IsFineEntry, fate_notes, row_notes}
 
@@ -67,13 +67,13 @@ long_target (pair ∷ pairs) p h =
 not_longer : (n : ℕ) → n ≤ 4095 → nat_lt 4095 n ≡ false
 not_longer n h = grind (arith, nat_tests)
 
-due_done : (files : Files) (pairs : List Pair) (rows : List Row) (e : Entry) → IsFineEntry files pairs e →
+due_done : (files : Files) (pairs : List Pair) (rows : List Row) (e : Entry) → IsFineEntry files pairs e → is_untold e ≡ false →
     parent_failed pairs rows (target_of pairs e.path) ≡ false →
     due files pairs rows e ≡ fate.Done
-due_done files pairs rows e f none =
+due_done files pairs rows e f known none =
     λ i. or_else (cond (not_longer (length (target_of pairs e.path)) f.short i) (Some fate.TooLong)
-    (cond (none i) (Some fate.ParentFailed) (cond (f.kind i) None (Some fate.Skipped))))
-    (cond (f.free i) fate.Conflict fate.Done)
+    (cond (none i) (Some fate.ParentFailed) (cond (f.kind i) (Some fate.Skipped) None)))
+    (cond (f.free i) fate.Conflict (cond (known i) fate.Changed fate.Done))
 
 -- a row is done that stands at this path
 abbrev IsDoneAt : List Pair → List ℕ → Row → Type 0
@@ -95,12 +95,13 @@ IsUnfailed one = is_failed one.1.1 ≡ false
 pub record IsWell (files after : Files) (pairs : List Pair) (rows : List Row) (one : Entry × Row) : Type 0 where
   pub copied : IsCopied files after pairs rows one.0 one.1.1
   pub fine : IsFineEntry files pairs one.0
+  pub known : is_untold one.0 ≡ false
   pub unfailed : is_failed one.1.1 ≡ false
 
 one_done : (files after : Files) (pairs : List Pair) (rows : List Row) (one : Entry × Row) → IsWell files after pairs rows one →
     AllByRecursion (IsDoneAt pairs (parent_of (target_of pairs one.0.path))) rows → one.1.1 ≡ fate.Done
 one_done files after pairs rows one w parents =
-    ⊎_elim (λ is. is ∙ due_done files pairs rows one.0 w.fine (none_failed pairs (target_of pairs one.0.path) rows parents))
+    ⊎_elim (λ is. is ∙ due_done files pairs rows one.0 w.fine w.known (none_failed pairs (target_of pairs one.0.path) rows parents))
     (λ failed. absurd (false≢true (sym w.unfailed ∙ ap is_failed failed.0))) w.copied.fate_of
 
 -- ---- all of them, by the lengths of their targets
@@ -191,8 +192,8 @@ unfailed (row ∷ rows) e =
 -- what is known of entries and of rows is known of both together
 pub together : (files after : Files) (pairs : List Pair) (rows : List Row) (es : List Entry) (rs : List Row) →
     AllByRecursion (λ one. IsCopied files after pairs rows one.0 one.1.1) (zip es rs) → AllByRecursion (IsFineEntry files pairs) es →
-    AllByRecursion (λ row. is_failed row.1 ≡ false) rs → AllByRecursion (IsWell files after pairs rows) (zip es rs)
-together files after pairs rows [] rs c f u = tt
-together files after pairs rows (e ∷ es) [] c f u = tt
-together files after pairs rows (e ∷ es) (r ∷ rs) c f u =
-    (record { copied = c.0; fine = f.0; unfailed = u.0 }, together files after pairs rows es rs c.1 f.1 u.1)
+    AllByRecursion (λ e. is_untold e ≡ false) es → AllByRecursion (λ row. is_failed row.1 ≡ false) rs → AllByRecursion (IsWell files after pairs rows) (zip es rs)
+together files after pairs rows [] rs c f k u = tt
+together files after pairs rows (e ∷ es) [] c f k u = tt
+together files after pairs rows (e ∷ es) (r ∷ rs) c f k u =
+    (record { copied = c.0; fine = f.0; known = k.0; unfailed = u.0 }, together files after pairs rows es rs c.1 f.1 k.1 u.1)

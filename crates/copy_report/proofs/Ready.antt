@@ -10,7 +10,7 @@ use Rattle.std.specs.List.Sorted.{IsStrictlySortedBy}
 use Rattle.std.specs.Option.{option_map}
 use Rattle.path_text.specs.Order.{path_cmp, is_within}
 use Rattle.path_text.specs.Path.{refusal, parent_of}
-use Rattle.outside.specs.Tree.{Files, Node, IsTree, is_dir, stat_of, NodesHavePaths}
+use Rattle.outside.specs.Tree.{Files, Node, IsTree, is_dir, link_at, stat_of, NodesHavePaths}
 use Rattle.outside.specs.declared.trees.Stat.{Stat}
 use Rattle.flat_list.specs.declared.entries.Entry.{Entry}
 use Rattle.flat_list.specs.declared.entries.Mark.{Mark}
@@ -20,7 +20,7 @@ use Rattle.tree_copy.specs.Copying.{CanCopy, FitsTree, ends_of, is_target, targe
 use Rattle.tree_copy.specs.Placing.{overlap}
 use Rattle.tree_copy.specs.declared.pairs.Pair.{Pair}
 use Rattle.tree_walk.specs.Roots.{is_in_some}
-use Rattle.tree_walk.specs.Told.{EntriesAreTold, IsTold, stat_by}
+use Rattle.tree_walk.specs.Told.{EntriesAreTold, IsTold, stat_by, target_by}
 use Rattle.tree_walk.specs.Walk.{answers_in, walk}
 use Rattle.run_report.specs.Sides.{Side}
 use Rattle.run_entries.specs.Entries.{Walked}
@@ -91,6 +91,14 @@ stat_told mark.Fine found (Some stat) e = sym e
 stat_told mark.ListFailed found (Some stat) e = sym e
 stat_told mark.Changed found (Some stat) e = sym e
 
+text_told : (m : Mark) (found : Option Node) (target : Option (List ℕ)) → target ≡ target_by m found → IfSome target (λ text. link_at found ≡ Some text)
+text_told m found None e = tt
+text_told mark.Fine found (Some text) e = sym e
+text_told mark.StatFailed found (Some text) e = absurd (cc)
+text_told mark.Gone found (Some text) e = absurd (cc)
+text_told mark.ListFailed found (Some text) e = absurd (cc)
+text_told mark.Changed found (Some text) e = absurd (cc)
+
 -- ---- each target stands in a directory, or in the target of an entry
 
 -- a target stands in a directory, and its source is an end
@@ -145,6 +153,7 @@ pub fits_tree : NodesHavePaths → EntriesAreTold → (files : Files) (pairs : L
     (0 < length roots → IsTree files) → FitsTree list pairs files
 fits_tree law told files pairs roots list r can valid stand is tree = record {
   told = λ k d l. let e = get_or list k d in stat_told e.mark (get files e.path) e.stat (tells k d l).stat;
+  targets = λ k d l. let e = get_or list k d in text_told e.mark (get files e.path) e.target (tells k d l).target;
   stand = All-filter (λ (e : Entry). is_some e.stat) (StandsIn files pairs list) list (All-from_recursion (StandsIn files pairs list) list every);
 }
   where

@@ -3,20 +3,23 @@ use Rattle.std.proofs.Common.{◌≡◌, ⊎_elim, ℕ, zero, suc, ◌<◌, ◌�
 use Rattle.std.proofs.Common.{Result, Ok, Err, refl, ap, ◌∙◌, sym, subst, arith}
 use Rattle.std.proofs.lemmas.Bool.{false≢true}
 use Rattle.std.proofs.lemmas.List.Elements.{All-filter, recursion_from_All}
-use Rattle.std.specs.Prelude.{is_some}
+use Rattle.std.specs.Prelude.{◌&&◌, get_or, is_none, is_some}
 use Rattle.std.specs.FinMap.{get}
 use Rattle.std.specs.List.{All, flat_map, sum_by, zip}
 use Rattle.path_text.specs.Path.{parent_of}
 use Rattle.outside.specs.Count.{RoseBy, StoodStill}
-use Rattle.outside.specs.Tree.{Files, IsTree, is_dir}
+use Rattle.outside.specs.Tree.{Body, Files, Node, IsTree, dir, file, is_dir, kind_of, link, other, text_of}
+use Rattle.outside.specs.declared.trees.Kind.TheVariants as kind
 use Rattle.flat_list.specs.declared.entries.Entry.{Entry}
-use Rattle.tree_copy.specs.Copying.{Copied, IsCopied, treated}
+use Rattle.flat_list.specs.Entries.{is_kind}
+use Rattle.tree_copy.specs.Copying.{Copied, IsCopied, is_untold, treated}
 use Rattle.tree_copy.specs.Placing.{PlacedAreApart, placed, placed_over}
 use Rattle.tree_copy.specs.declared.pairs.Pair.{Pair}
 use Rattle.tree_copy.specs.declared.pairs.PlaceError.{PlaceError}
 use Rattle.tree_copy.specs.declared.pairs.PlaceError.TheVariants as place
 use Rattle.tree_walk.specs.Roots.{RootsAreUnique}
-use Rattle.tree_walk.specs.Walk.{walk, all_told, answers_in, weight_of, WalkWithoutFaultsIsFine}
+use Rattle.tree_walk.specs.Told.{EntriesAreTold}
+use Rattle.tree_walk.specs.Walk.{walk, all_told, answers_in, entry_of, weight_of, WalkWithoutFaultsIsFine}
 use Rattle.tool_text.specs.NoteOrder.{AreInOrder, NothingToOrder}
 use Rattle.tool_words.specs.Asked.{CopyAsked, roots}
 use Rattle.tool_words.specs.Limits.{WithinCopy}
@@ -37,6 +40,7 @@ pub record Laws : Type 0 where
   pub stops : FineWalksStopForMemory
   pub order : NothingToOrder
   pub apart : PlacedAreApart
+  pub are_told : EntriesAreTold
   pub unique : RootsAreUnique
   pub fine : WalkWithoutFaultsIsFine
 
@@ -89,6 +93,23 @@ walked_all : (files : Files) (starts : List (List ℕ)) (entries : List Entry) �
 walked_all files [] entries law valid there told none = told
 walked_all files (start ∷ starts) entries law valid there told none = (law files (start ∷ starts) entries (valid (omega arith)) there told none).0
 
+-- in a walk in which nothing fails the text of each link is known
+
+body_known : (b : Body) → (is_kind kind.Link (kind_of b) && is_none (text_of b)) ≡ false
+body_known (dir far) = refl
+body_known (file bytes) = refl
+body_known (link text) = refl
+body_known other = refl
+
+node_known : (found : Option Node) (p : List ℕ) → is_untold (entry_of (all_told p) found p) ≡ false
+node_known None p = refl
+node_known (Some n) p = body_known n.body
+
+all_known : EntriesAreTold → (files : Files) (starts : List (List ℕ)) → All (λ e. is_untold e ≡ false) (flat_map (walk files all_told) starts)
+all_known law files starts k d l =
+    let e = get_or (flat_map (walk files all_told) starts) k d in
+    ap is_untold (law.of_all files all_told starts k d l).own ∙ node_known (get files e.path) e.path
+
 module _ (laws : Laws) (asked : CopyAsked) (before after : Side) (within : WithinCopy asked) (fine : FineCopy asked before after) where
   abbrev files : Files
   files = fine.side.files
@@ -127,6 +148,9 @@ module _ (laws : Laws) (asked : CopyAsked) (before after : Side) (within : Withi
       let each = subst (λ ps. All (IsFineEntry files ps) entries) same (subst (All (IsFineEntry files fine.pairs)) is fine.entries) in
       let can = recursion_from_All (IsFineEntry files pairs) (treated entries)
       (All-filter (λ (e : Entry). is_some e.stat) (IsFineEntry files pairs) entries each) in
+      let known = recursion_from_All (λ (e : Entry). is_untold e ≡ false) (treated entries)
+      (All-filter (λ (e : Entry). is_some e.stat) (λ (e : Entry). is_untold e ≡ false) entries
+      (subst (All (λ (e : Entry). is_untold e ≡ false)) is (all_known laws.are_told files fine.side.fine.roots))) in
       let stood = stood_between before.count found after.count after.count early c.blamed.kept (omega arith) fine.side.stood in
       let none = unfailed rows (none_of _ found after.count c.blamed stood) in
       let last = some_of (Copied entries pairs rows) before.tree after.tree files fine.side.told c.tells c.copied in
@@ -134,7 +158,7 @@ module _ (laws : Laws) (asked : CopyAsked) (before after : Side) (within : Withi
       let long = all_long laws.apart (is_dir (get files asked.dest)) (is_dir (get files (parent_of asked.dest))) asked.dest asked.sources pairs within.dest
       within.sources
       (told_due asked before.tree files (Ok pairs) fine.side.told p) in
-      all_done files last.0 pairs rows long (treated entries) c.paths (together files last.0 pairs rows (treated entries) rows copied can none)
+      all_done files last.0 pairs rows long (treated entries) c.paths (together files last.0 pairs rows (treated entries) rows copied can known none)
 
   of_copies : (report : Report) → ReportsCopies asked before after report → report.failed ≡ 0
   of_copies report r =

@@ -1,5 +1,5 @@
 -- What dcp does: what it reports, why it stops, what it may have changed, and when nothing stands against it. After mpiFileUtils' dcp; the texts are our own.
-use Rattle.std.specs.Prelude.{◌≡◌, ◌⊎◌, ℕ, ◌≤◌, ◌||◌, true, false, List, [], ◌∷◌, ◌++◌, length, map, codes, All, Ok, IfSome, is_some}
+use Rattle.std.specs.Prelude.{◌≡◌, ◌⊎◌, ℕ, ◌≤◌, false, List, [], ◌∷◌, ◌++◌, length, map, codes, All, Ok, IfSome, is_some}
 use Rattle.std.specs.Fmt.{decimal}
 use Rattle.std.specs.FinMap.{get}
 use Rattle.std.specs.List.{flat_map, count_by}
@@ -127,9 +127,9 @@ pub record LeavesAllOthers (asked : CopyAsked) (before after : Side) : Type 0 wh
 abbrev pub LeavesCopy : CopyAsked → Side → Side → Type 0
 LeavesCopy asked before after = (after.tree ≡ before.tree) ⊎ LeavesAllOthers asked before after
 
--- an entry that can be copied: a directory or a file, whose target is not too long, and where nothing of another kind stands
+-- an entry that can be copied: no other, whose target is not too long, and where nothing of another kind stands
 pub record IsFineEntry (files : Files) (pairs : List Pair) (e : Entry) : Type 0 where
-  pub kind : (is_of kind.Dir e.stat || is_of kind.File e.stat) ≡ true
+  pub kind : is_of kind.Other e.stat ≡ false
   pub short : length (target_of pairs e.path) ≤ 4095
   pub free : clashes e.stat (get files (target_of pairs e.path)) ≡ false
 

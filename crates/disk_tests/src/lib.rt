@@ -8,6 +8,10 @@
 #[cfg(test)]
 mod fakes;
 #[cfg(test)]
+mod grudges;
+#[cfg(test)]
+mod links;
+#[cfg(test)]
 mod looks;
 #[cfg(test)]
 mod names;

@@ -90,6 +90,17 @@ impl Room {
         }
     }
 
+    /// Whether the link there has just this text.
+    pub fn leads(&self, names: &str, text: &str) -> bool {
+        let Ok(path) = self.at(names) else {
+            return false;
+        };
+        match fs::read_link(&self.host, path.text()) {
+            Ok(told) => told.as_str() == text,
+            Err(_) => false,
+        }
+    }
+
     /// Removes it, with all that is in it.
     pub fn remove(self) -> io::Result<()> {
         fs::remove_dir_all(&self.host, self.top.text())

@@ -6,8 +6,10 @@ use mfu_top::{Status, run};
 use outside::MemSink;
 use path_text::Path;
 use real_disk::{RealGround, seconds};
+use std::fs::{File, Files};
 use std::io::ErrorKind;
 use std::process::Abort;
+use std::random::RandomSource;
 use std::rt::Clock;
 use std::sync::Wait;
 use std::thread::Threads;
@@ -16,18 +18,36 @@ use std::{fs, io};
 
 const AMPLE: u64 = 10_000_000;
 
-// Whether a run over the files of the system with these words succeeds, prints just this text, and has no notes.
-fn prints<T>(rt: &T, host: HostRuntime, words: &[&str], text: &str) -> bool
+/// What a run comes to.
+#[derive(Drop)]
+pub struct Run {
+    pub status: Status,
+    pub out: MemSink,
+    pub notes: MemSink,
+}
+
+/// Runs these words over the files of a system.
+pub fn ran<T, F>(rt: &T, system: F, words: &[&str]) -> Run
 where
     T: Abort + AllocGlobal + Clock + Threads + Wait + Sync,
+    F: Files<File = File> + RandomSource + Copy + Send,
 {
     let alloc = rt.alloc();
     let given = texts(rt, words);
     let mut out = MemSink::limited(alloc, AMPLE).expect(rt, "memory");
     let mut notes = MemSink::limited(alloc, AMPLE).expect(rt, "memory");
-    let mut files = RealGround::make(alloc, host);
+    let mut files = RealGround::make(alloc, system);
     let now = seconds(rt);
     let status = run(rt, alloc, &given, &mut files, &mut out, &mut notes, now);
+    Run { status, out, notes }
+}
+
+// Whether a run over the files of the system with these words succeeds, prints just this text, and has no notes.
+fn prints<T>(rt: &T, host: HostRuntime, words: &[&str], text: &str) -> bool
+where
+    T: Abort + AllocGlobal + Clock + Threads + Wait + Sync,
+{
+    let Run { status, out, notes } = ran(rt, host, words);
     status == Status::Done && out.text() == text.as_bytes() && notes.text().is_empty()
 }
 

@@ -196,8 +196,8 @@ const DCP: &str = "usage: mfu dcp [OPTION]... SOURCE... DEST
 Copies trees. If DEST is a directory, each SOURCE goes into it under its own
 last name; otherwise there must be one SOURCE, and the copy is DEST. Prints how
 many entries were copied, of how many, their bytes, and the number of messages.
-Does not ask before it replaces files. Copies no links, permissions, owners or
-times; the umask decides who can read the copy. Paths are absolute.
+Does not ask before it replaces files. Copies no permissions, owners or times;
+the umask decides who can read the copy. Paths are absolute.
 
   --hosts N      run in N threads, 1 to 64 (default 1)
   --ranks N      divide the work among N ranks, 1 to 64 (default 4)
@@ -217,7 +217,8 @@ Exit status:
 
 A directory that exists at a target is kept with its contents. A file there is
 deleted and made anew. Anything of another kind is left alone, with a message.
-Other things in DEST stay as they are. Links and special files are not copied; a
+Other things in DEST stay as they are. A link is copied with its text as it is,
+in place of a link that is there. Sockets, pipes and devices are not copied; a
 message names them. Holes are written as zeros; a file with several hard links
 becomes several files. Upper levels are copied first.
 
@@ -233,7 +234,7 @@ Messages on standard error, besides those of dwalk about the sources:
   failed copy P                 P could not be copied; its target may be missing
                                 or incomplete
   conflict P                    something of another kind is at the target of P
-  skipped P                     P is a link or a special file
+  skipped P                     P is a socket, a pipe or a device
   parent P                      the directory above P was not copied
   long target P                 the target of P is over 4,095 bytes
   changed P                     P or its target changed during the copy

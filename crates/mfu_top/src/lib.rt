@@ -15,7 +15,7 @@
 //! was chosen in path order, and every other path is as before. dtest's tree is the map of its rule and never fails, and a run
 //! over it leaves the files alone. dcmp printed a row for each path that is to be shown of its two walks, with what the files
 //! tell of both, and each list that it saved spells the entries of the rows that were wanted. dcp copied each entry of the walk
-//! of its sources, or named why not: a file at its target has the bytes of the source then, and every path but the targets is
+//! of its sources, or named why not: a file at its target has the bytes of the source then, a link its text, and every path but the targets is
 //! as before, whatever the status is. drm chose as dfind does, and of the chosen paths alone some are gone: each goes or stays
 //! as its line and its note say, and whatever the status is, every other path is as before. A walk that stops leaves a
 //! checkpoint that is a cut of the recursive walk, and the stage that goes on from it and ends prints what one walk prints.

@@ -15,8 +15,8 @@ use Rattle.level_work.specs.declared.items.Fate.{Fate}
 use Rattle.level_work.specs.declared.items.Fate.TheVariants as fate
 use Rattle.level_work.specs.declared.items.Order.TheVariants as order
 use Rattle.tree_copy.specs.declared.pairs.Pair.{Pair}
-use Rattle.tree_copy.specs.Copying.{IsEarly, early, is_done, is_tried, parent_failed, target_of}
-use Rattle.tree_copy.specs.PrivateSettling.{any_odd, fates_of, has_room, is_copied_kind, is_odd, item_of, settled, settled_by}
+use Rattle.tree_copy.specs.Copying.{IsEarly, early, is_done, is_tried, is_untold, parent_failed, target_of}
+use Rattle.tree_copy.specs.PrivateSettling.{any_odd, fates_of, has_room, is_odd, is_other, item_of, settled, settled_by}
 use Rattle.tree_copy.proofs.Ends.{or_left, or_right, same_some}
 use Rattle.tree_copy.proofs.Fits.{no_room_of, other_path, room_of}
 
@@ -53,13 +53,13 @@ rows_by marks es outs = zip (paths es) (fates_of marks es outs)
 -- an entry is too long, or has an item with a fate
 pub data Settles (pairs : List Pair) (items : List Item) (outs : List Fate) (e : Entry) (f : Fate) : Type 0 where
   far : has_room pairs e ≡ false → f ≡ fate.TooLong → Settles pairs items outs e f
-  placed : (k : ℕ) (g : Fate) → slice_get items k ≡ Some (item_of pairs e) → slice_get outs k ≡ Some g → has_room pairs e ≡ true → f ≡ settled e g →
-      Settles pairs items outs e f
+  placed : (k : ℕ) (g : Fate) → slice_get items k ≡ Some (item_of pairs e) → slice_get outs k ≡ Some g → has_room pairs e ≡ true → is_odd e g ≡ false →
+      f ≡ settled e g → Settles pairs items outs e f
 
 settles_more : (pairs : List Pair) (items : List Item) (outs : List Fate) (x : Item) (g : Fate) (e : Entry) (f : Fate) → Settles pairs items outs e f →
     Settles pairs (x ∷ items) (g ∷ outs) e f
 settles_more pairs items outs x g e f (far room is) = far room is
-settles_more pairs items outs x g e f (placed k h at has room is) = placed (suc k) h at has room is
+settles_more pairs items outs x g e f (placed k h at has room even is) = placed (suc k) h at has room even is
 
 pub weaker : {X : Type 0} (P Q : X → Type 0) (xs : List X) → ((x : X) → P x → Q x) → AllByRecursion P xs → AllByRecursion Q xs
 weaker P Q [] h p = tt
@@ -69,20 +69,20 @@ abbrev pub Row : Type 0
 Row = Entry × (List ℕ × Fate)
 
 settle_rows : (pairs : List Pair) (marks : List Bool) (es : List Entry) (outs : List Fate) → AreMarks pairs marks es →
-    length outs ≡ length (items_by pairs marks es) →
+    length outs ≡ length (items_by pairs marks es) → any_odd marks es outs ≡ false →
     AllByRecursion (λ (one : Row). Settles pairs (items_by pairs marks es) outs one.0 one.1.1) (zip es (rows_by marks es outs))
-settle_rows pairs [] [] outs m l = tt
-settle_rows pairs [] (e ∷ es) outs m l = absurd m
-settle_rows pairs (b ∷ marks) [] outs m l = absurd m
-settle_rows pairs (true ∷ marks) (e ∷ es) [] m l = absurd (omega (arith, l))
-settle_rows pairs (true ∷ marks) (e ∷ es) (g ∷ outs) m l = (
-  placed 0 g refl refl m.0 refl,
+settle_rows pairs [] [] outs m l odd = tt
+settle_rows pairs [] (e ∷ es) outs m l odd = absurd m
+settle_rows pairs (b ∷ marks) [] outs m l odd = absurd m
+settle_rows pairs (true ∷ marks) (e ∷ es) [] m l odd = absurd (omega (arith, l))
+settle_rows pairs (true ∷ marks) (e ∷ es) (g ∷ outs) m l odd = (
+  placed 0 g refl refl m.0 (or_parts (is_odd e g) (any_odd marks es outs) odd).0 refl,
   weaker (λ (one : Row). Settles pairs (items_by pairs marks es) outs one.0 one.1.1)
       (λ (one : Row). Settles pairs (item_of pairs e ∷ items_by pairs marks es) (g ∷ outs) one.0 one.1.1)
       (zip es (rows_by marks es outs)) (λ one h. settles_more pairs (items_by pairs marks es) outs (item_of pairs e) g one.0 one.1.1 h)
-      (settle_rows pairs marks es outs m.1 (omega (arith, l))),
+      (settle_rows pairs marks es outs m.1 (omega (arith, l)) (or_parts (is_odd e g) (any_odd marks es outs) odd).1),
 )
-settle_rows pairs (false ∷ marks) (e ∷ es) outs m l = (far m.0 refl, settle_rows pairs marks es outs m.1 l)
+settle_rows pairs (false ∷ marks) (e ∷ es) outs m l odd = (far m.0 refl, settle_rows pairs marks es outs m.1 l odd)
 
 -- an item at a path that did not come to `Done`
 record Fails (items : List Item) (outs : List Fate) (q : List ℕ) : Type 0 where
@@ -114,10 +114,10 @@ done_by false fate.Changed off = refl
 done_by false fate.NotEmpty off = refl
 done_by false fate.TooLong off = refl
 
--- where no link is said to be copied, what is done stays done
-still_done : (b : Bool) (g : Fate) → (is_done g && not b) ≡ false → is_done (settled_by b g) ≡ false → g ≢ fate.Done
-still_done true g odd off is = false≢true (sym off ∙ ap (λ h. is_done (settled_by true h)) is)
-still_done false g odd off is = false≢true (sym odd ∙ ap (λ h. is_done h && true) is)
+-- where no other is said to be copied, what is done stays done
+still_done : (other untold : Bool) (g : Fate) → (is_done g && (other || untold)) ≡ false → is_done (settled_by other g) ≡ false → g ≢ fate.Done
+still_done false untold g odd off is = false≢true (sym off ∙ ap (λ h. is_done (settled_by false h)) is)
+still_done true untold g odd off is = false≢true (sym odd ∙ ap (λ h. is_done h && true) is)
 
 both : (a b : Bool) → (a && not b) ≡ true → (a ≡ true) × (b ≡ false)
 both true true e = absurd (false≢true e)
@@ -153,7 +153,7 @@ fails_by pairs q s (true ∷ marks) (e ∷ es) (g ∷ outs) m l odd h =
           has = refl;
           is = (bytes_decides (target_of pairs e.path) q).0 p.0;
           not_done =
-              still_done (is_copied_kind e) g odd p.1;
+              still_done (is_other e) (is_untold e) g odd p.1;
         }
     by odd later false is h = fails_more (items_by pairs marks es) outs q (item_of pairs e) g (later h)
 fails_by pairs q s (false ∷ marks) (e ∷ es) outs m l odd h =
@@ -177,7 +177,7 @@ failed_by pairs q (true ∷ marks) (e ∷ es) (h ∷ outs) m l zero x g at has i
     there = (bytes_decides (target_of pairs e.path) q).1 (ap (λ (y : Item). y.path) (same_some (item_of pairs e) x at) ∙ is)
 
     undone : is_done (settled e h) ≡ false
-    undone = done_by (is_copied_kind e) h (λ d. off (sym (same_some h g has) ∙ d))
+    undone = done_by (is_other e) h (λ d. off (sym (same_some h g has) ∙ d))
 failed_by pairs q (true ∷ marks) (e ∷ es) (h ∷ outs) m l (suc k) x g at has is off =
     or_right (pointwise nat_eq (target_of pairs e.path) q && not (is_done (settled e h))) (failed_at pairs q (rows_by marks es outs))
     (failed_by pairs q marks es outs m.1 (omega (arith, l)) k x g at has is off)
@@ -192,11 +192,11 @@ pub data Comes (pairs : List Pair) (rows : List (List ℕ × Fate)) (items : Lis
   under : (k : ℕ) → slice_get items k ≡ Some (item_of pairs e) → slice_get outs k ≡ Some fate.ParentFailed → early pairs rows e ≡ Some fate.ParentFailed →
       f ≡ fate.ParentFailed →
       Comes pairs rows items outs e f
-  tried : (k : ℕ) (g : Fate) → slice_get items k ≡ Some (item_of pairs e) → slice_get outs k ≡ Some g → g ≢ fate.ParentFailed →
-      early pairs rows e ≡ cond (is_copied_kind e) None (Some fate.Skipped) → f ≡ settled e g → Comes pairs rows items outs e f
+  tried : (k : ℕ) (g : Fate) → slice_get items k ≡ Some (item_of pairs e) → slice_get outs k ≡ Some g → g ≢ fate.ParentFailed → is_odd e g ≡ false →
+      early pairs rows e ≡ cond (is_other e) (Some fate.Skipped) None → f ≡ settled e g → Comes pairs rows items outs e f
 
-abbrev early_by : (too failed copied : Bool) → Option Fate
-early_by too failed copied = cond too (Some fate.TooLong) (cond failed (Some fate.ParentFailed) (cond copied None (Some fate.Skipped)))
+abbrev early_by : (too failed other : Bool) → Option Fate
+early_by too failed other = cond too (Some fate.TooLong) (cond failed (Some fate.ParentFailed) (cond other (Some fate.Skipped) None))
 
 over : (n : ℕ) → 4095 < n → nat_lt 4095 n ≡ true
 over n l = grind (arith, nat_tests)
@@ -214,12 +214,12 @@ module _ (pairs : List Pair) (marks : List Bool) (es : List Entry) (outs : List 
     length (parent_of x.path) ≤ 4095) where
   comes_at : (e : Entry) (f : Fate) → Settles pairs (items_by pairs marks es) outs e f → Comes pairs (rows_by marks es outs) (items_by pairs marks es) outs e f
   comes_at e f (far room is) =
-      long (ap (λ b. early_by b (parent_failed pairs (rows_by marks es outs) (target_of pairs e.path)) (is_copied_kind e))
+      long (ap (λ b. early_by b (parent_failed pairs (rows_by marks es outs) (target_of pairs e.path)) (is_other e))
       (over (length (target_of pairs e.path)) (no_room_of pairs e room))) room is
-  comes_at e f (placed k g at has room is) = by (parent_failed pairs (rows_by marks es outs) (target_of pairs e.path)) refl
+  comes_at e f (placed k g at has room odd is) = by (parent_failed pairs (rows_by marks es outs) (target_of pairs e.path)) refl
     where
-      now : early pairs (rows_by marks es outs) e ≡ early_by false (parent_failed pairs (rows_by marks es outs) (target_of pairs e.path)) (is_copied_kind e)
-      now = ap (λ b. early_by b (parent_failed pairs (rows_by marks es outs) (target_of pairs e.path)) (is_copied_kind e))
+      now : early pairs (rows_by marks es outs) e ≡ early_by false (parent_failed pairs (rows_by marks es outs) (target_of pairs e.path)) (is_other e)
+      now = ap (λ b. early_by b (parent_failed pairs (rows_by marks es outs) (target_of pairs e.path)) (is_other e))
           (within (length (target_of pairs e.path)) (room_of pairs e room))
 
       by : (b : Bool) → parent_failed pairs (rows_by marks es outs) (target_of pairs e.path) ≡ b →
@@ -237,25 +237,25 @@ module _ (pairs : List Pair) (marks : List Bool) (es : List Entry) (outs : List 
                 h.is;
             not_done = h.not_done;
           }) in
-          under k at (has ∙ ap (λ x. Some x) u) (now ∙ ap (λ b. early_by false b (is_copied_kind e)) p) (is ∙ ap (settled e) u
-          ∙ settled_under (is_copied_kind e))
+          under k at (has ∙ ap (λ x. Some x) u) (now ∙ ap (λ b. early_by false b (is_other e)) p) (is ∙ ap (settled e) u
+          ∙ settled_under (is_other e))
       by false p =
           let off : g ≢ fate.ParentFailed = λ u.
           let h = (fail k (item_of pairs e) g at has).0 u in
           false≢true (sym p ∙ failed_by pairs (parent_of (target_of pairs e.path)) marks es outs m l h.place h.item h.fate_of h.at h.has h.is_parent h.not_done)
           in
-          tried k g at has off (now ∙ ap (λ b. early_by false b (is_copied_kind e)) p) is
+          tried k g at has off odd (now ∙ ap (λ b. early_by false b (is_other e)) p) is
 
   pub all_come : AllByRecursion (λ (one : Row). Comes pairs (rows_by marks es outs) (items_by pairs marks es) outs one.0 one.1.1)
       (zip es (rows_by marks es outs))
   all_come =
       weaker (λ (one : Row). Settles pairs (items_by pairs marks es) outs one.0 one.1.1)
       (λ (one : Row). Comes pairs (rows_by marks es outs) (items_by pairs marks es) outs one.0 one.1.1)
-      (zip es (rows_by marks es outs)) (λ one h. comes_at one.0 one.1.1 h) (settle_rows pairs marks es outs m l)
+      (zip es (rows_by marks es outs)) (λ one h. comes_at one.0 one.1.1 h) (settle_rows pairs marks es outs m l even)
 
 -- what is so over all files
 
-tried_by : (g : Fate) → g ≢ fate.ParentFailed → is_tried (settled_by true g) ≡ true
+tried_by : (g : Fate) → g ≢ fate.ParentFailed → is_tried (settled_by false g) ≡ true
 tried_by fate.Done off = refl
 tried_by fate.Failed off = refl
 tried_by fate.Conflict off = refl
@@ -265,7 +265,7 @@ tried_by fate.Changed off = refl
 tried_by fate.NotEmpty off = refl
 tried_by fate.TooLong off = refl
 
-pub skipped_by : (g : Fate) → g ≢ fate.ParentFailed → settled_by false g ≡ fate.Skipped
+pub skipped_by : (g : Fate) → g ≢ fate.ParentFailed → settled_by true g ≡ fate.Skipped
 skipped_by fate.Done off = refl
 skipped_by fate.Failed off = refl
 skipped_by fate.Conflict off = refl
@@ -275,15 +275,28 @@ skipped_by fate.Changed off = refl
 skipped_by fate.NotEmpty off = refl
 skipped_by fate.TooLong off = refl
 
+-- a link whose text is not known is not made
+unmade : (untold : Bool) (g : Fate) → (is_done g && untold) ≡ false → (untold && is_done (settled_by false g)) ≡ false
+unmade false g odd = refl
+unmade true fate.Done odd = odd
+unmade true fate.Failed odd = refl
+unmade true fate.Conflict odd = refl
+unmade true fate.Skipped odd = refl
+unmade true fate.ParentFailed odd = refl
+unmade true fate.Changed odd = refl
+unmade true fate.NotEmpty odd = refl
+unmade true fate.TooLong odd = refl
+
 is_early : (pairs : List Pair) (rows : List (List ℕ × Fate)) (items : List Item) (outs : List Fate) (e : Entry) (f : Fate) →
     Comes pairs rows items outs e f → IsEarly pairs rows e f
 is_early pairs rows items outs e f (long now room is) = inl (now ∙ ap (λ x. Some x) (sym is))
 is_early pairs rows items outs e f (under k at has now is) = inl (now ∙ ap (λ x. Some x) (sym is))
-is_early pairs rows items outs e f (tried k g at has off now is) =
-    elim (is_copied_kind e) as (λ b. early pairs rows e ≡ cond b None (Some fate.Skipped) → f ≡ settled_by b g → IsEarly pairs rows e f) [
-      | true ↦ λ now is. inr (now, ap is_tried is ∙ tried_by g off)
-      | false ↦ λ now is. inl (now ∙ ap (λ x. Some x) (sym (is ∙ skipped_by g off)))
-    ] now is
+is_early pairs rows items outs e f (tried k g at has off odd now is) =
+    elim (is_other e) as (λ b. (is_done g && (b || is_untold e)) ≡ false → early pairs rows e ≡ cond b (Some fate.Skipped) None → f ≡ settled_by b g →
+    IsEarly pairs rows e f) [
+      | false ↦ λ odd now is. inr (now, ap is_tried is ∙ tried_by g off, ap (λ h. is_untold e && is_done h) is ∙ unmade (is_untold e) g odd)
+      | true ↦ λ odd now is. inl (now ∙ ap (λ x. Some x) (sym (is ∙ skipped_by g off)))
+    ] odd now is
 
 pub are_early : (pairs : List Pair) (rows : List (List ℕ × Fate)) (items : List Item) (outs : List Fate) (ones : List Row) →
     AllByRecursion (λ (one : Row). Comes pairs rows items outs one.0 one.1.1) ones → All (λ (one : Row). IsEarly pairs rows one.0 one.1.1) ones

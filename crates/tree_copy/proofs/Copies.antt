@@ -1,6 +1,7 @@
 -- Work from the top down by copiers copies: each entry has the fate that is due, and its target what that fate says.
-use Rattle.std.proofs.Common.{◌≡◌, ◌≢◌, ◌⊎◌, inl, inr, ℕ, ◌<◌, Bool, true, false, not, cond, ◌||◌, List, [], ◌∷◌, length, take, Option, Some, None}
+use Rattle.std.proofs.Common.{◌≡◌, ◌≢◌, ◌⊎◌, inl, inr, ℕ, ◌<◌, Bool, true, false, not, cond, ◌&&◌, List, [], ◌∷◌, length, take, Option, Some, None}
 use Rattle.std.proofs.Common.{IfSome, refl, ap, ◌∙◌, sym, subst, arith, nat_eq, is_some}
+use Rattle.std.specs.Prelude.{is_none}
 use Rattle.std.proofs.lemmas.Bool.{false≢true}
 use Rattle.std.proofs.lemmas.List.{take_all}
 use Rattle.std.proofs.lemmas.List.Elements.{All-from_recursion, recursion_from_All}
@@ -10,13 +11,13 @@ use Rattle.std.specs.Option.{option_map}
 use Rattle.std.specs.Cmp.Lexicographic.{pointwise, bytes_decides}
 use Rattle.path_text.specs.Order.{is_within}
 use Rattle.path_text.specs.Total.{path_cmp_total, path_cmp_ties, path_cmp_same}
-use Rattle.outside.specs.Tree.{Files, Node, Body, dir, file, link, other, is_dir, is_file, kind_of, content, stat_of}
-use Rattle.outside.specs.Writes.{empty_dir, new_file}
+use Rattle.outside.specs.Tree.{Files, Node, Body, dir, file, link, other, is_dir, is_file, kind_of, content, link_at, stat_of}
+use Rattle.outside.specs.Writes.{empty_dir, new_file, new_link}
 use Rattle.outside.specs.declared.trees.Kind.{Kind}
 use Rattle.outside.specs.declared.trees.Kind.TheVariants as kind
 use Rattle.outside.specs.declared.trees.Stat.{Stat}
 use Rattle.flat_list.specs.declared.entries.Entry.{Entry}
-use Rattle.flat_list.specs.Entries.{is_kind, size_by}
+use Rattle.flat_list.specs.Entries.{is_kind, is_of, size_by}
 use Rattle.level_work.specs.Acts.{at_and_under}
 use Rattle.level_work.specs.Levels.{Acted, SameButItems, found, is_item, left, with_at}
 use Rattle.level_work.specs.declared.items.Item.{Item}
@@ -24,9 +25,10 @@ use Rattle.level_work.specs.declared.items.Fate.{Fate}
 use Rattle.level_work.specs.declared.items.Fate.TheVariants as fate
 use Rattle.level_work.specs.declared.items.Order.TheVariants as order
 use Rattle.tree_copy.specs.declared.pairs.Pair.{Pair}
-use Rattle.tree_copy.specs.Copying.{Copied, FitsTree, IsCopied, IsCopyOf, IsLeft, SameButTargets, clashes, due, early, may_fail, or_else, target_of, treated}
-use Rattle.tree_copy.specs.PrivateDeeds.{CopyKind, CopyOne, CopyTold, Differ, MakeDir, MakeFile, PassOver}
-use Rattle.tree_copy.specs.PrivateSettling.{is_copied_kind, item_of, items_of, settled, settled_by}
+use Rattle.tree_copy.specs.Copying.{Copied, FitsTree, IsCopied, IsCopyOf, IsLeft, SameButTargets, clashes, due, early, is_untold, may_fail}
+use Rattle.tree_copy.specs.Copying.{or_else, target_of, treated}
+use Rattle.tree_copy.specs.PrivateDeeds.{CopyKind, CopyOne, CopyTold, Differ, LeaveLink, LinkBy, MakeDir, MakeFile, MakeLink, PassOver, is_link}
+use Rattle.tree_copy.specs.PrivateSettling.{is_other, item_of, items_of, settled, settled_by}
 use Rattle.tree_copy.proofs.Comes.{Comes, Row, long, skipped_by, tried, under}
 use Rattle.path_text.proofs.Within.{itself}
 use Rattle.tree_copy.proofs.Ends.{same_some}
@@ -57,21 +59,22 @@ same_here p before after e = sym (left_here p before after) ∙ ap (λ m. get m 
 none_not : {X : Type 0} (o : Option X) → is_some o ≡ true → o ≡ None → ⊥
 none_not o s e = false≢true (sym (ap is_some e) ∙ s)
 
--- the nodes at source and target, with the fate of the item: what is known of a directory or a file that is copied
+-- the nodes at source and target, with the fate of the item: what is known of a directory, a file or a link that is copied. `untold`
+-- says that a link's text is not known
 
 abbrev clash : Kind → Option Node → Bool
 clash k None = false
 clash k (Some n) = not (is_kind (kind_of n.body) k)
 
-abbrev Told : Kind → (source old new : Option Node) → Fate → Type 0
-Told k source old new fate.Done = (clash k old ≡ false) × IsCopyOf k source old new
-Told k source old new fate.Conflict = (clash k old ≡ true) × (new ≡ old)
-Told k source old new fate.Failed = Unit {0}
-Told k source old new fate.Changed = ⊥
-Told k source old new fate.Skipped = ⊥
-Told k source old new fate.NotEmpty = ⊥
-Told k source old new fate.TooLong = ⊥
-Told k source old new fate.ParentFailed = ⊥
+abbrev Told : (untold : Bool) → Kind → (source old new : Option Node) → Fate → Type 0
+Told u k source old new fate.Done = (clash k old ≡ false) × (u ≡ false) × IsCopyOf k source old new
+Told u k source old new fate.Conflict = (clash k old ≡ true) × (new ≡ old)
+Told u k source old new fate.Changed = (clash k old ≡ false) × (u ≡ true) × (new ≡ old)
+Told u k source old new fate.Failed = Unit {0}
+Told u k source old new fate.Skipped = ⊥
+Told u k source old new fate.NotEmpty = ⊥
+Told u k source old new fate.TooLong = ⊥
+Told u k source old new fate.ParentFailed = ⊥
 
 dir_clash : (o : Option Node) → is_some o ≡ true → clash kind.Dir o ≡ not (is_dir o)
 dir_clash None s = absurd (false≢true s)
@@ -92,6 +95,30 @@ file_clash (Some n) s = by n.body
     by (file bytes) = refl
     by (link text) = refl
     by other = refl
+
+link_clash : (o : Option Node) → is_some o ≡ true → clash kind.Link o ≡ not (is_link o)
+link_clash None s = absurd (false≢true s)
+link_clash (Some n) s = by n.body
+  where
+    by : (b : Body) → not (is_kind (kind_of b) kind.Link) ≡ not (is_some (Rattle.outside.specs.Tree.text_of b))
+    by (dir far) = refl
+    by (file bytes) = refl
+    by (link text) = refl
+    by other = refl
+
+link_some : (o : Option Node) → is_link o ≡ true → is_some o ≡ true
+link_some None e = absurd (false≢true e)
+link_some (Some n) e = refl
+
+dir_or_link : (o : Option Node) → is_dir o ≡ true → is_link o ≡ true → ⊥
+dir_or_link None d l = false≢true d
+dir_or_link (Some n) d l = by n.body d l
+  where
+    by : (b : Body) → Rattle.outside.specs.Tree.is_dir_body b ≡ true → is_some (Rattle.outside.specs.Tree.text_of b) ≡ true → ⊥
+    by (dir far) d l = false≢true l
+    by (file bytes) d l = false≢true d
+    by (link text) d l = false≢true d
+    by other d l = false≢true d
 
 file_some : (o : Option Node) → is_file o ≡ true → is_some o ≡ true
 file_some None e = absurd (false≢true e)
@@ -116,15 +143,16 @@ module _ (before after : Files) (e : Entry) (p : List ℕ) where
   there s = ap is_some (sym (get_here p before)) ∙ s
 
   dir_told : (g : Fate) → g ≢ fate.ParentFailed → MakeDir before p e g (found order.TopDown p before after) (left order.TopDown p before after) →
-      Told kind.Dir (get before e.path) (get before p) (get after p) g
+      Told false kind.Dir (get before e.path) (get before p) (get after p) g
   dir_told fate.Done off (inl d) =
       let none : get before p ≡ None = sym (get_here p before) ∙ d.0 in
       let is : get after p ≡ Some empty_dir = sym (left_here p before after) ∙ ap (λ m. get m p) d.1
       ∙ put_here p empty_dir (found order.TopDown p before after) in
-      (ap (clash kind.Dir) none, subst (λ o. IsCopyOf kind.Dir (get before e.path) o (get after p)) (sym none) (ap (option_map (λ (n : Node). n.body)) is))
+      (ap (clash kind.Dir) none, refl, subst (λ o. IsCopyOf kind.Dir (get before e.path) o (get after p)) (sym none) (ap (option_map (λ (n : Node). n.body)) is))
   dir_told fate.Done off (inr d) =
       let some = there d.0 in (
         dir_clash (get before p) some ∙ ap not d.1,
+        refl,
         subst (λ o. IsCopyOf kind.Dir (get before e.path) (get before p) o) (sym (same_here p before after d.2))
             (kept_dir (get before e.path) (get before p) some),
       )
@@ -140,7 +168,7 @@ module _ (before after : Files) (e : Entry) (p : List ℕ) where
   no_clash (inl n) = ap (clash kind.File) (sym (get_here p before) ∙ n)
   no_clash (inr f) = file_clash (get before p) (file_some (get before p) f) ∙ ap not f
 
-  no_change : size_by e.stat ≡ length (content (get before e.path)) → (length (content (get before e.path)) < size_by e.stat) ⊎ Differ before p
+  no_change : size_by e.stat ≡ length (content (get before e.path)) → (length (content (get before e.path)) < size_by e.stat) ⊎ Differ is_file before p
       (found order.TopDown p before after) → ⊥
   no_change size (inl l) = absurd (omega (arith, l, size))
   no_change size (inr (s, inl n)) = none_not (get before p) (there s) n
@@ -148,12 +176,12 @@ module _ (before after : Files) (e : Entry) (p : List ℕ) where
 
   file_told : size_by e.stat ≡ length (content (get before e.path)) → (g : Fate) → g ≢ fate.ParentFailed →
       MakeFile before p e g (found order.TopDown p before after) (left order.TopDown p before after) →
-      Told kind.File (get before e.path) (get before p) (get after p) g
+      Told false kind.File (get before e.path) (get before p) (get after p) g
   file_told size fate.Done off d =
       let source = content (get before e.path) in
       let whole : take (size_by e.stat) source ≡ source = take_all (size_by e.stat) source (omega (arith, size)) in
       let is : get after p ≡ Some (new_file source) = sym (left_here p before after) ∙ d.1.has ∙ ap (λ bytes. Some (new_file bytes)) whole in
-      (no_clash d.0, ap (option_map (λ (n : Node). n.body)) is)
+      (no_clash d.0, refl, ap (option_map (λ (n : Node). n.body)) is)
   file_told size fate.Conflict off d = (file_clash (get before p) (there d.0) ∙ ap not d.2, same_here p before after d.3)
   file_told size fate.Failed off d = tt
   file_told size fate.Changed off d = absurd (no_change size d)
@@ -161,6 +189,50 @@ module _ (before after : Files) (e : Entry) (p : List ℕ) where
   file_told size fate.NotEmpty off d = absurd d
   file_told size fate.TooLong off d = absurd d
   file_told size fate.ParentFailed off d = absurd d
+
+  -- nothing but a link is in the way of a link
+  link_free : (get before p ≡ None) ⊎ (is_link (get before p) ≡ true) → clash kind.Link (get before p) ≡ false
+  link_free (inl n) = ap (clash kind.Link) n
+  link_free (inr l) = link_clash (get before p) (link_some (get before p) l) ∙ ap not l
+
+  was : (get (found order.TopDown p before after) p ≡ None) ⊎ (is_link (get before p) ≡ true) → (get before p ≡ None) ⊎ (is_link (get before p) ≡ true)
+  was (inl n) = inl (sym (get_here p before) ∙ n)
+  was (inr l) = inr l
+
+  no_difference : Differ is_link before p (found order.TopDown p before after) → ⊥
+  no_difference (s, inl n) = none_not (get before p) (there s) n
+  no_difference (s, inr d) = dir_or_link (get before p) (ap is_dir (sym (get_here p before)) ∙ d.0) d.1
+
+  made_link : (text : List ℕ) → link_at (get before e.path) ≡ Some text → (g : Fate) →
+      MakeLink text before p e g (found order.TopDown p before after) (left order.TopDown p before after) →
+      Told false kind.Link (get before e.path) (get before p) (get after p) g
+  made_link text known fate.Done d =
+      let is : get after p ≡ Some (new_link text) = sym (left_here p before after) ∙ d.1 in
+      (link_free (was d.0), refl, (ap is_some known, ap link_at is ∙ sym known))
+  made_link text known fate.Conflict d = (link_clash (get before p) (there d.0) ∙ ap not d.2, same_here p before after d.3)
+  made_link text known fate.Changed d = absurd (no_difference d)
+  made_link text known fate.Failed d = tt
+  made_link text known fate.Skipped d = absurd d
+  made_link text known fate.NotEmpty d = absurd d
+  made_link text known fate.TooLong d = absurd d
+  made_link text known fate.ParentFailed d = absurd d
+
+  left_link : (g : Fate) → LeaveLink before p e g (found order.TopDown p before after) (left order.TopDown p before after) →
+      Told true kind.Link (get before e.path) (get before p) (get after p) g
+  left_link fate.Conflict d = (link_clash (get before p) d.0 ∙ ap not d.1, same_here p before after d.2)
+  left_link fate.Changed d = (link_free d.0, refl, same_here p before after d.1)
+  left_link fate.Failed d = tt
+  left_link fate.Done d = absurd d
+  left_link fate.Skipped d = absurd d
+  left_link fate.NotEmpty d = absurd d
+  left_link fate.TooLong d = absurd d
+  left_link fate.ParentFailed d = absurd d
+
+  link_told : (target : Option (List ℕ)) → IfSome target (λ text. link_at (get before e.path) ≡ Some text) → (g : Fate) →
+      LinkBy target before p e g (found order.TopDown p before after) (left order.TopDown p before after) →
+      Told (is_none target) kind.Link (get before e.path) (get before p) (get after p) g
+  link_told None known g d = left_link g d
+  link_told (Some text) known g d = made_link text known g d
 
   passed_over : (g : Fate) → g ≢ fate.ParentFailed → PassOver p e g (found order.TopDown p before after) (left order.TopDown p before after) →
       get after p ≡ get before p
@@ -190,41 +262,53 @@ told_size (Some n) stat e = ap (λ (s : Stat). s.size) (sym (same_some (stat_of 
     by (link text) = refl
     by other = refl
 
-may : (b : Bool) → may_fail (cond b fate.Conflict fate.Done) ≡ true
-may true = refl
-may false = refl
+-- the fate where nothing that comes early applies
+abbrev free_fate : (clash untold : Bool) → Fate
+free_fate c u = cond c fate.Conflict (cond u fate.Changed fate.Done)
+
+may : (c u : Bool) → may_fail (free_fate c u) ≡ true
+may true u = refl
+may false true = refl
+may false false = refl
 
 -- an entry with its fate
 module _ (before after : Files) (pairs : List Pair) (rows : List (List ℕ × Fate)) (e : Entry) where
-  due_by : (stat : Stat) (k : Kind) → e.stat ≡ Some stat → stat.kind ≡ k → early pairs rows e ≡ None →
-      due before pairs rows e ≡ cond (clash k (get before (target_of pairs e.path))) fate.Conflict fate.Done
-  due_by stat k has is now =
-      ap (λ x. or_else x (cond (clashes e.stat (get before (target_of pairs e.path))) fate.Conflict fate.Done)) now
-      ∙ ap (λ b. cond b fate.Conflict fate.Done) (clashes_by e.stat stat k (get before (target_of pairs e.path)) has is)
+  untold_by : (stat : Stat) (k : Kind) → e.stat ≡ Some stat → stat.kind ≡ k → is_untold e ≡ (is_kind kind.Link k && is_none e.target)
+  untold_by stat k has is = ap (λ s. is_of kind.Link s && is_none e.target) has ∙ ap (λ k. is_kind kind.Link k && is_none e.target) is
 
-  copied_by : (stat : Stat) (k : Kind) → e.stat ≡ Some stat → stat.kind ≡ k → early pairs rows e ≡ None → (g : Fate) →
-      Told k (get before e.path) (get before (target_of pairs e.path)) (get after (target_of pairs e.path)) g →
-      IsCopied before after pairs rows e (settled_by true g)
-  copied_by stat k has is now fate.Done t = record {
-    fate_of = inl (sym (due_by stat k has is now ∙ ap (λ b. cond b fate.Conflict fate.Done) t.0));
+  due_by : (stat : Stat) (k : Kind) (u : Bool) → e.stat ≡ Some stat → stat.kind ≡ k → is_untold e ≡ u → early pairs rows e ≡ None →
+      due before pairs rows e ≡ free_fate (clash k (get before (target_of pairs e.path))) u
+  due_by stat k u has is free now =
+      ap (λ x. or_else x (free_fate (clashes e.stat (get before (target_of pairs e.path))) (is_untold e))) now
+      ∙ ap (λ b. free_fate b (is_untold e)) (clashes_by e.stat stat k (get before (target_of pairs e.path)) has is)
+      ∙ ap (free_fate (clash k (get before (target_of pairs e.path)))) free
+
+  copied_by : (stat : Stat) (k : Kind) (u : Bool) → e.stat ≡ Some stat → stat.kind ≡ k → is_untold e ≡ u → early pairs rows e ≡ None → (g : Fate) →
+      Told u k (get before e.path) (get before (target_of pairs e.path)) (get after (target_of pairs e.path)) g →
+      IsCopied before after pairs rows e (settled_by false g)
+  copied_by stat k u has is free now fate.Done t = record {
+    fate_of = inl (sym (due_by stat k u has is free now ∙ ap (λ b. free_fate b u) t.0 ∙ ap (free_fate false) t.1));
     left = subst (λ s. IfSome s (λ stat. IsCopyOf stat.kind (get before e.path) (get before (target_of pairs e.path)) (get after (target_of pairs e.path))))
         (sym has)
-        (subst (λ k. IsCopyOf k (get before e.path) (get before (target_of pairs e.path)) (get after (target_of pairs e.path))) (sym is) t.1);
+        (subst (λ k. IsCopyOf k (get before e.path) (get before (target_of pairs e.path)) (get after (target_of pairs e.path))) (sym is) t.2);
   }
-  copied_by stat k has is now fate.Conflict t =
-      record { fate_of = inl (sym (due_by stat k has is now ∙ ap (λ b. cond b fate.Conflict fate.Done) t.0)); left = t.1 }
-  copied_by stat k has is now fate.Failed t = record {
-    fate_of = inr (refl, ap may_fail (due_by stat k has is now) ∙ may (clash k (get before (target_of pairs e.path))));
+  copied_by stat k u has is free now fate.Conflict t =
+      record { fate_of = inl (sym (due_by stat k u has is free now ∙ ap (λ b. free_fate b u) t.0)); left = t.1 }
+  copied_by stat k u has is free now fate.Changed t = record {
+    fate_of = inl (sym (due_by stat k u has is free now ∙ ap (λ b. free_fate b u) t.0 ∙ ap (free_fate false) t.1));
+    left = t.2;
+  }
+  copied_by stat k u has is free now fate.Failed t = record {
+    fate_of = inr (refl, ap may_fail (due_by stat k u has is free now) ∙ may (clash k (get before (target_of pairs e.path))) u);
     left = tt;
   }
-  copied_by stat k has is now fate.Changed t = absurd t
-  copied_by stat k has is now fate.Skipped t = absurd t
-  copied_by stat k has is now fate.NotEmpty t = absurd t
-  copied_by stat k has is now fate.TooLong t = absurd t
-  copied_by stat k has is now fate.ParentFailed t = absurd t
+  copied_by stat k u has is free now fate.Skipped t = absurd t
+  copied_by stat k u has is free now fate.NotEmpty t = absurd t
+  copied_by stat k u has is free now fate.TooLong t = absurd t
+  copied_by stat k u has is free now fate.ParentFailed t = absurd t
 
   early_is : (f : Fate) → early pairs rows e ≡ Some f → f ≡ due before pairs rows e
-  early_is f now = sym (ap (λ x. or_else x (cond (clashes e.stat (get before (target_of pairs e.path))) fate.Conflict fate.Done)) now)
+  early_is f now = sym (ap (λ x. or_else x (free_fate (clashes e.stat (get before (target_of pairs e.path))) (is_untold e))) now)
 
   as_before : (f : Fate) → (f ≡ fate.Skipped) ⊎ ((f ≡ fate.ParentFailed) ⊎ (f ≡ fate.TooLong)) → early pairs rows e ≡ Some f →
       get after (target_of pairs e.path) ≡ get before (target_of pairs e.path) →
@@ -235,79 +319,82 @@ module _ (before after : Files) (pairs : List Pair) (rows : List (List ℕ × Fa
   as_before f (inr (inr is)) now same =
       record { fate_of = inl (early_is f now); left = subst (λ f. IsLeft before after e (target_of pairs e.path) f) (sym is) same }
 
-  dir_or_file : (stat : Stat) (k : Kind) → e.stat ≡ Some stat → stat.kind ≡ k → (f g : Fate) → (is_kind kind.Dir k || is_kind kind.File k) ≡ true →
-      early pairs rows e ≡ cond (is_copied_kind e) None (Some fate.Skipped) → f ≡ settled e g →
-      Told k (get before e.path) (get before (target_of pairs e.path)) (get after (target_of pairs e.path)) g → IsCopied before after pairs rows e f
-  dir_or_file stat k has is f g some now end t =
-      let copied : is_copied_kind e ≡ true =
-      ap (λ s. Rattle.flat_list.specs.Entries.is_of kind.Dir s || Rattle.flat_list.specs.Entries.is_of kind.File s) has ∙ ap
-      (λ k. is_kind kind.Dir k || is_kind kind.File k) is ∙ some
-      in
-      subst (λ f. IsCopied before after pairs rows e f) (sym (end ∙ ap (λ b. settled_by b g) copied))
-      (copied_by stat k has is (now ∙ ap (λ b. cond b None (Some fate.Skipped)) copied) g t)
+  other_by : (stat : Stat) (k : Kind) → e.stat ≡ Some stat → stat.kind ≡ k → is_other e ≡ is_kind kind.Other k
+  other_by stat k has is = ap (is_of kind.Other) has ∙ ap (is_kind kind.Other) is
 
-  passed_by : (stat : Stat) (k : Kind) → e.stat ≡ Some stat → stat.kind ≡ k → (f g : Fate) → g ≢ fate.ParentFailed →
-      (is_kind kind.Dir k || is_kind kind.File k) ≡ false →
-      early pairs rows e ≡ cond (is_copied_kind e) None (Some fate.Skipped) → f ≡ settled e g →
+  is_copied_by : (stat : Stat) (k : Kind) (u : Bool) → e.stat ≡ Some stat → stat.kind ≡ k → (f g : Fate) → is_kind kind.Other k ≡ false →
+      (is_kind kind.Link k && is_none e.target) ≡ u → early pairs rows e ≡ cond (is_other e) (Some fate.Skipped) None → f ≡ settled e g →
+      Told u k (get before e.path) (get before (target_of pairs e.path)) (get after (target_of pairs e.path)) g → IsCopied before after pairs rows e f
+  is_copied_by stat k u has is f g none free now end t =
+      let copied : is_other e ≡ false = other_by stat k has is ∙ none in
+      subst (λ f. IsCopied before after pairs rows e f) (sym (end ∙ ap (λ b. settled_by b g) copied))
+      (copied_by stat k u has is (untold_by stat k has is ∙ free) (now ∙ ap (λ b. cond b (Some fate.Skipped) None) copied) g t)
+
+  passed_by : (stat : Stat) → e.stat ≡ Some stat → stat.kind ≡ kind.Other → (f g : Fate) → g ≢ fate.ParentFailed →
+      early pairs rows e ≡ cond (is_other e) (Some fate.Skipped) None → f ≡ settled e g →
       get after (target_of pairs e.path) ≡ get before (target_of pairs e.path) →
       IsCopied before after pairs rows e f
-  passed_by stat k has is f g off none now end same =
-      let over : is_copied_kind e ≡ false =
-      ap (λ s. Rattle.flat_list.specs.Entries.is_of kind.Dir s || Rattle.flat_list.specs.Entries.is_of kind.File s) has ∙ ap
-      (λ k. is_kind kind.Dir k || is_kind kind.File k) is ∙ none
-      in
+  passed_by stat has is f g off now end same =
+      let over : is_other e ≡ true = other_by stat kind.Other has is in
       let skipped : f ≡ fate.Skipped = end ∙ ap (λ b. settled_by b g) over ∙ skipped_by g off in
-      as_before f (inl skipped) (now ∙ ap (λ b. cond b None (Some fate.Skipped)) over ∙ ap (λ x. Some x) (sym skipped)) same
+      as_before f (inl skipped) (now ∙ ap (λ b. cond b (Some fate.Skipped) None) over ∙ ap (λ x. Some x) (sym skipped)) same
 
-  tried_by : (stat : Stat) (k : Kind) → e.stat ≡ Some stat → stat.kind ≡ k → option_map stat_of (get before e.path) ≡ Some stat → (f g : Fate) →
-      g ≢ fate.ParentFailed →
-      early pairs rows e ≡ cond (is_copied_kind e) None (Some fate.Skipped) → f ≡ settled e g →
+  tried_by : (stat : Stat) (k : Kind) → e.stat ≡ Some stat → stat.kind ≡ k → option_map stat_of (get before e.path) ≡ Some stat →
+      IfSome e.target (λ text. link_at (get before e.path) ≡ Some text) → (f g : Fate) → g ≢ fate.ParentFailed →
+      early pairs rows e ≡ cond (is_other e) (Some fate.Skipped) None → f ≡ settled e g →
       CopyKind k before (target_of pairs e.path) e g (found order.TopDown (target_of pairs e.path) before after)
       (left order.TopDown (target_of pairs e.path) before after) →
       IsCopied before after pairs rows e f
-  tried_by stat kind.Dir has is told f g off now end d =
-      dir_or_file stat kind.Dir has is f g refl now end (dir_told before after e (target_of pairs e.path) g off d)
-  tried_by stat kind.File has is told f g off now end d =
+  tried_by stat kind.Dir has is told known f g off now end d =
+      is_copied_by stat kind.Dir false has is f g refl refl now end (dir_told before after e (target_of pairs e.path) g off d)
+  tried_by stat kind.File has is told known f g off now end d =
       let size : size_by e.stat ≡ length (content (get before e.path)) = ap size_by has ∙ told_size (get before e.path) stat told in
-      dir_or_file stat kind.File has is f g refl now end (file_told before after e (target_of pairs e.path) size g off d)
-  tried_by stat kind.Link has is told f g off now end d =
-      passed_by stat kind.Link has is f g off refl now end (passed_over before after e (target_of pairs e.path) g off d)
-  tried_by stat kind.Other has is told f g off now end d =
-      passed_by stat kind.Other has is f g off refl now end (passed_over before after e (target_of pairs e.path) g off d)
+      is_copied_by stat kind.File false has is f g refl refl now end (file_told before after e (target_of pairs e.path) size g off d)
+  tried_by stat kind.Link has is told known f g off now end d =
+      is_copied_by stat kind.Link (is_none e.target) has is f g refl refl now end (link_told before after e (target_of pairs e.path) e.target known g d)
+  tried_by stat kind.Other has is told known f g off now end d =
+      passed_by stat has is f g off now end (passed_over before after e (target_of pairs e.path) g off d)
 
-  told_by : (s : Option Stat) → e.stat ≡ s → is_some s ≡ true → IfSome s (λ stat. option_map stat_of (get before e.path) ≡ Some stat) → (f g : Fate) →
-      g ≢ fate.ParentFailed →
-      early pairs rows e ≡ cond (is_copied_kind e) None (Some fate.Skipped) → f ≡ settled e g →
+  told_by : (s : Option Stat) → e.stat ≡ s → is_some s ≡ true → IfSome s (λ stat. option_map stat_of (get before e.path) ≡ Some stat) →
+      IfSome e.target (λ text. link_at (get before e.path) ≡ Some text) → (f g : Fate) → g ≢ fate.ParentFailed →
+      early pairs rows e ≡ cond (is_other e) (Some fate.Skipped) None → f ≡ settled e g →
       CopyTold s before (target_of pairs e.path) e g (found order.TopDown (target_of pairs e.path) before after)
       (left order.TopDown (target_of pairs e.path) before after) →
       IsCopied before after pairs rows e f
-  told_by None has some told f g off now end d = absurd (false≢true some)
-  told_by (Some stat) has some told f g off now end d = tried_by stat stat.kind has refl told f g off now end d
+  told_by None has some told known f g off now end d = absurd (false≢true some)
+  told_by (Some stat) has some told known f g off now end d = tried_by stat stat.kind has refl told known f g off now end d
 
   is_copied : (list : List Entry) (items : List Item) (outs : List Fate) → items ≡ items_of pairs list →
       Acted (CopyOne before) order.TopDown items outs before after → is_some e.stat ≡ true →
-      IfSome e.stat (λ stat. option_map stat_of (get before e.path) ≡ Some stat) → (f : Fate) → Comes pairs rows items outs e f →
+      IfSome e.stat (λ stat. option_map stat_of (get before e.path) ≡ Some stat) →
+      IfSome e.target (λ text. link_at (get before e.path) ≡ Some text) → (f : Fate) → Comes pairs rows items outs e f →
       IsCopied before after pairs rows e f
-  is_copied list items outs are acted some told f (long now room is) =
+  is_copied list items outs are acted some told known f (long now room is) =
       let off = ap (λ xs. is_item xs (target_of pairs e.path)) are ∙ far_no_item pairs (treated list) (target_of pairs e.path) (no_room_of pairs e room) in
       as_before f (inr (inr is)) (now ∙ ap (λ x. Some x) (sym is)) (acted.others (target_of pairs e.path) off)
-  is_copied list items outs are acted some told f (under k at has now is) =
+  is_copied list items outs are acted some told known f (under k at has now is) =
       as_before f (inr (inl is)) (now ∙ ap (λ x. Some x) (sym is)) ((acted.each k (item_of pairs e) fate.ParentFailed at has).untouched refl)
-  is_copied list items outs are acted some told f (tried k g at has off now is) =
-      told_by e.stat refl some told f g off now is ((acted.each k (item_of pairs e) g at has).touched off)
+  is_copied list items outs are acted some told known f (tried k g at has off odd now is) =
+      told_by e.stat refl some told known f g off now is ((acted.each k (item_of pairs e) g at has).touched off)
 
 -- all entries
 
-abbrev IsTold : Files → Entry → Type 0
-IsTold before e = (is_some e.stat ≡ true) × IfSome e.stat (λ stat. option_map stat_of (get before e.path) ≡ Some stat)
+abbrev TellsStat : Files → Entry → Type 0
+TellsStat before e = IfSome e.stat (λ stat. option_map stat_of (get before e.path) ≡ Some stat)
 
-told_treated : (before : Files) (list : List Entry) → AllByRecursion (λ e. IfSome e.stat (λ stat. option_map stat_of (get before e.path) ≡ Some stat))
-    list → AllByRecursion (IsTold before) (treated list)
-told_treated before [] h = tt
-told_treated before (e ∷ list) h =
+abbrev TellsText : Files → Entry → Type 0
+TellsText before e = IfSome e.target (λ text. link_at (get before e.path) ≡ Some text)
+
+abbrev IsTold : Files → Entry → Type 0
+IsTold before e = (is_some e.stat ≡ true) × TellsStat before e × TellsText before e
+
+told_treated : (before : Files) (list : List Entry) → AllByRecursion (TellsStat before) list → AllByRecursion (TellsText before) list →
+    AllByRecursion (IsTold before) (treated list)
+told_treated before [] h t = tt
+told_treated before (e ∷ list) h t =
     elim (is_some e.stat) as (λ b. is_some e.stat ≡ b → AllByRecursion (IsTold before) (cond b (e ∷ treated list) (treated list))) [
-      | true ↦ λ some. ((some, h.0), told_treated before list h.1)
-      | false ↦ λ none. told_treated before list h.1
+      | true ↦ λ some. ((some, h.0, t.0), told_treated before list h.1 t.1)
+      | false ↦ λ none. told_treated before list h.1 t.1
     ] refl
 
 firsts : {X Y : Type 0} (P : X → Type 0) (xs : List X) (ys : List Y) → AllByRecursion P xs → AllByRecursion (λ (one : X × Y). P one.0) (zip xs ys)
@@ -333,8 +420,7 @@ copied list pairs rows items outs before after are fits acted come = record {
       All-from_recursion (λ (one : Row). IsCopied before after pairs rows one.0 one.1.1) (zip (treated list) rows)
       (together (λ (one : Row). IsTold before one.0) (λ (one : Row). Comes pairs rows items outs one.0 one.1.1)
       (λ (one : Row). IsCopied before after pairs rows one.0 one.1.1) (zip (treated list) rows)
-      (λ one told come. is_copied before after pairs rows one.0 list items outs are acted told.0 told.1 one.1.1 come)
+      (λ one told come. is_copied before after pairs rows one.0 list items outs are acted told.0 told.1 told.2 one.1.1 come)
       (firsts (IsTold before) (treated list) rows
-      (told_treated before list (recursion_from_All (λ (e : Entry). IfSome e.stat (λ stat. option_map stat_of (get before e.path) ≡ Some stat)) list
-      fits.told))) come);
+      (told_treated before list (recursion_from_All (TellsStat before) list fits.told) (recursion_from_All (TellsText before) list fits.targets))) come);
 }

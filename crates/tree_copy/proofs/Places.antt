@@ -1,17 +1,17 @@
--- An empty file that is made at a path, in place of none or of a file.
-use Rattle.std.proofs.Common.{◌≡◌, inl, ℕ, Bool, true, false, cond, ◌||◌, List, [], Option, Some, None, IfSome, refl, ◌∙◌, sym, subst, is_some}
+-- A node that is made at a path, in place of none or of an old one of its kind.
+use Rattle.std.proofs.Common.{◌≡◌, inl, ℕ, Bool, true, false, cond, ◌||◌, List, Option, Some, None, IfSome, refl, ◌∙◌, sym, subst, is_some}
 use Rattle.std.specs.Prelude.{Result, Ok, Err, IfOk, IsTrue}
 use Rattle.std.proofs.lemmas.Bool.{false≢true}
 use Rattle.std.specs.FinMap.{get, insert, remove}
 use Rattle.path_text.specs.Path.{parent_of}
 use Rattle.path_text.specs.declared.errors.OutOfMemory.{OutOfMemory}
 use Rattle.outside.specs.Tree.{Files, Node, is_dir}
-use Rattle.outside.specs.Writes.{Area, Answers, SameBut, is_top, make_refusal, new_file, remove_file_refusal}
+use Rattle.outside.specs.Writes.{Area, Answers, SameBut, is_top, make_refusal, remove_file_refusal}
 use Rattle.outside.specs.declared.plots.WriteError.{WriteError}
 use Rattle.outside.specs.declared.plots.WriteError.TheVariants as write
 use Rattle.level_work.specs.declared.items.Fate.{Fate}
 use Rattle.level_work.specs.declared.items.Fate.TheVariants as fate
-use Rattle.tree_copy.specs.PrivateActs.{IsPlaced, IsReplaced, MadeEmpty, TellsFate}
+use Rattle.tree_copy.specs.PrivateActs.{IsPlaced, IsReplaced, MadeAnew, TellsFate}
 use Rattle.tree_copy.proofs.Makes.{told_all}
 use Rattle.tree_copy.proofs.Puts.{put_here, put_others, gone_here, gone_others, both_told, answered}
 
@@ -25,13 +25,13 @@ pub removed_only : (p : List ℕ) (t t' : Option Files) → IfSome t (λ files. 
 removed_only p t t' = answered (λ files. remove_file_refusal (get files p)) (λ files. remove files p) (Gone p) t t'
     (λ files r. record { others = gone_others p files; none = gone_here p files })
 
-pub replaced_done : (p : List ℕ) (area : Area) (t0 t1 t2 : Option Files) → is_some t1 ≡ is_some t0 → IfSome t0 (λ a. IfSome t1 (Gone p a)) →
-    IfSome t1 (λ b. (make_refusal area b p ≡ None) × (t2 ≡ Some (insert b p (new_file [])))) → IfSome t0 (λ a. IfSome t2 (IsReplaced p (Ok fate.Done) a))
-replaced_done p area t0 t1 t2 tells g m =
-    both_told (Gone p) (IsReplaced p (Ok fate.Done)) (IsReplaced p (Ok fate.Done)) t0 t1 t2 tells
+pub replaced_done : (n : Node) (p : List ℕ) (area : Area) (t0 t1 t2 : Option Files) → is_some t1 ≡ is_some t0 → IfSome t0 (λ a. IfSome t1 (Gone p a)) →
+    IfSome t1 (λ b. (make_refusal area b p ≡ None) × (t2 ≡ Some (insert b p n))) → IfSome t0 (λ a. IfSome t2 (IsReplaced n p (Ok fate.Done) a))
+replaced_done n p area t0 t1 t2 tells g m =
+    both_told (Gone p) (IsReplaced n p (Ok fate.Done)) (IsReplaced n p (Ok fate.Done)) t0 t1 t2 tells
     (λ a b c u v. record { others = λ q off. v.others q off ∙ u.others q off; answers = v.answers }) g
-    (answered (λ b. make_refusal area b p) (λ b. insert b p (new_file [])) (IsReplaced p (Ok fate.Done)) t1 t2
-    (λ b r. record { others = put_others p _ b; answers = put_here p _ b }) m)
+    (answered (λ b. make_refusal area b p) (λ b. insert b p n) (IsReplaced n p (Ok fate.Done)) t1 t2
+    (λ b r. record { others = put_others p n b; answers = put_here p n b }) m)
 
 -- the second of both calls was refused, where nothing is in the way of it any more
 record Lost (path : List ℕ) (result : Result Fate OutOfMemory) (between after : Files) : Type 0 where
@@ -46,43 +46,44 @@ not_refused area p b x top none e = by (get b p) (is_top area p) (is_dir (get b 
     by None false d none top e = cc
     by (Some n) t d none top e = cc
 
-refused : (p : List ℕ) (area : Area) (x : WriteError) (r : Result Fate OutOfMemory) (b : Files) (t2 : Option Files) → is_top area p ≡ true → get b p ≡ None →
-    TellsFate x r → Answers p (make_refusal area b p) b (insert b p (new_file [])) (Err x) t2 → IfSome t2 (Lost p r b)
-refused p area write.Failed r b None top none f a = tt
-refused p area write.Failed r b (Some c) top none f a = record { others = a; answers = by r f }
+refused : (n : Node) (p : List ℕ) (area : Area) (x : WriteError) (r : Result Fate OutOfMemory) (b : Files) (t2 : Option Files) → is_top area p ≡ true → get b p ≡ None →
+    TellsFate x r → Answers p (make_refusal area b p) b (insert b p n) (Err x) t2 → IfSome t2 (Lost p r b)
+refused n p area write.Failed r b None top none f a = tt
+refused n p area write.Failed r b (Some c) top none f a = record { others = a; answers = by r f }
   where
     by : (r : Result Fate OutOfMemory) → TellsFate write.Failed r → IfOk r (λ f. f ≡ fate.Failed)
     by (Ok f) h = h.0
     by (Err e) h = tt
-refused p area write.OutOfMemory r b t2 top none f a = subst (λ o. IfSome o (Lost p r b)) (sym a) (record { others = λ q off. refl; answers = by r f })
+refused n p area write.OutOfMemory r b t2 top none f a = subst (λ o. IfSome o (Lost p r b)) (sym a) (record { others = λ q off. refl; answers = by r f })
   where
     by : (r : Result Fate OutOfMemory) → TellsFate write.OutOfMemory r → IfOk r (λ f. f ≡ fate.Failed)
     by (Ok f) h = absurd (h.1 refl)
     by (Err e) h = tt
-refused p area write.Exists r b t2 top none f a = absurd (not_refused area p b write.Exists top none a.0)
-refused p area write.NoParent r b t2 top none f a = absurd (not_refused area p b write.NoParent top none a.0)
-refused p area write.WrongKind r b t2 top none f a = absurd (not_refused area p b write.WrongKind top none a.0)
-refused p area write.NotEmpty r b t2 top none f a = absurd (not_refused area p b write.NotEmpty top none a.0)
-refused p area write.Absent r b t2 top none f a = absurd (not_refused area p b write.Absent top none a.0)
+refused n p area write.Exists r b t2 top none f a = absurd (not_refused area p b write.Exists top none a.0)
+refused n p area write.NoParent r b t2 top none f a = absurd (not_refused area p b write.NoParent top none a.0)
+refused n p area write.WrongKind r b t2 top none f a = absurd (not_refused area p b write.WrongKind top none a.0)
+refused n p area write.NotEmpty r b t2 top none f a = absurd (not_refused area p b write.NotEmpty top none a.0)
+refused n p area write.Absent r b t2 top none f a = absurd (not_refused area p b write.Absent top none a.0)
 
-pub replaced_lost : (p : List ℕ) (area : Area) (x : WriteError) (r : Result Fate OutOfMemory) (t0 t1 t2 : Option Files) → is_some t1 ≡ is_some t0 →
+pub replaced_lost : (n : Node) (p : List ℕ) (area : Area) (x : WriteError) (r : Result Fate OutOfMemory) (t0 t1 t2 : Option Files) → is_some t1 ≡ is_some t0 →
     IsTrue (is_top area p) → TellsFate x r → IfSome t0 (λ a. IfSome t1 (Gone p a)) →
-    IfSome t1 (λ b. Answers p (make_refusal area b p) b (insert b p (new_file [])) (Err x) t2) → IfSome t0 (λ a. IfSome t2 (IsReplaced p r a))
-replaced_lost p area x r None t1 t2 tells top f g m = tt
-replaced_lost p area x r (Some a) None t2 tells top f g m = absurd (false≢true tells)
-replaced_lost p area x r (Some a) (Some b) t2 tells top f g m = by t2 (refused p area x r b t2 top g.none f m)
+    IfSome t1 (λ b. Answers p (make_refusal area b p) b (insert b p n) (Err x) t2) → IfSome t0 (λ a. IfSome t2 (IsReplaced n p r a))
+replaced_lost n p area x r None t1 t2 tells top f g m = tt
+replaced_lost n p area x r (Some a) None t2 tells top f g m = absurd (false≢true tells)
+replaced_lost n p area x r (Some a) (Some b) t2 tells top f g m = by t2 (refused n p area x r b t2 top g.none f m)
   where
-    fate_by : (r : Result Fate OutOfMemory) (c : Files) → IfOk r (λ f. f ≡ fate.Failed) → IfOk r (λ f. MadeEmpty p f a c)
-    fate_by (Ok f) c e = subst (λ f. MadeEmpty p f a c) (sym e) tt
+    fate_by : (r : Result Fate OutOfMemory) (c : Files) → IfOk r (λ f. f ≡ fate.Failed) → IfOk r (λ f. MadeAnew n p f a c)
+    fate_by (Ok f) c e = subst (λ f. MadeAnew n p f a c) (sym e) tt
     fate_by (Err e) c h = tt
 
-    by : (t : Option Files) → IfSome t (Lost p r b) → IfSome t (IsReplaced p r a)
+    by : (t : Option Files) → IfSome t (Lost p r b) → IfSome t (IsReplaced n p r a)
     by None l = tt
     by (Some c) l = record { others = λ q off. l.others q off ∙ g.others q off; answers = fate_by r c l.answers }
 
-pub placed_new : (told : Option Files) (p : List ℕ) (files : Files) → get files p ≡ None → IsPlaced told p (Ok fate.Done) files (insert files p (new_file []))
-placed_new told p files none = record {
-  others = put_others p _ files;
-  answers = told_all told _ (λ seen. (inl none, put_here p _ files));
-  empty = λ e. put_here p _ files;
+pub placed_new : (n : Node) (is_old : Option Node → Bool) (told : Option Files) (p : List ℕ) (files : Files) → get files p ≡ None →
+    IsPlaced n is_old told p (Ok fate.Done) files (insert files p n)
+placed_new n is_old told p files none = record {
+  others = put_others p n files;
+  answers = told_all told _ (λ seen. (inl none, put_here p n files));
+  there = λ e. put_here p n files;
 }

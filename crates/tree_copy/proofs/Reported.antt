@@ -24,7 +24,7 @@ use Rattle.level_work.specs.declared.items.Order.TheVariants as order
 use Rattle.tree_copy.specs.declared.pairs.Pair.{Pair}
 use Rattle.tree_copy.specs.Copying.{AreEarly, CanCopy, Copied, FitsTree, SameButTargets, bytes_copied, is_done, treated}
 use Rattle.tree_copy.specs.PrivateDeeds.{CopyOne}
-use Rattle.tree_copy.specs.PrivateSettling.{IsPair, any_odd, bytes_of, fates_of, fitting, gain, has_room, is_copied_kind, items_of, placed_of}
+use Rattle.tree_copy.specs.PrivateSettling.{IsPair, any_odd, bytes_of, fates_of, fitting, gain, has_room, is_other, items_of, placed_of}
 use Rattle.tree_copy.specs.PrivateSettling.{rest_of, settled_by}
 use Rattle.tree_copy.proofs.Comes.{Comes, Row, all_come, are_early, are_marks, items_are, items_by, rows_by}
 use Rattle.tree_copy.proofs.Copies.{copied, others}
@@ -179,16 +179,16 @@ failed_fewer [] es outs = omega arith
 failed_fewer (m ∷ marks) [] outs = omega arith
 failed_fewer (true ∷ marks) (e ∷ es) [] =
     let h = failed_fewer marks es [] in
-    let n = failed_by (is_copied_kind e) fate.Skipped in
-    omega (arith, h, n, sum_by-cons (λ (x : Fate). cond (is_failed x) 1 0) (settled_by (is_copied_kind e) fate.Skipped) (fates_of marks es []))
+    let n = failed_by (is_other e) fate.Skipped in
+    omega (arith, h, n, sum_by-cons (λ (x : Fate). cond (is_failed x) 1 0) (settled_by (is_other e) fate.Skipped) (fates_of marks es []))
 failed_fewer (true ∷ marks) (e ∷ es) (g ∷ outs) =
     let h = failed_fewer marks es outs in
-    let n = failed_by (is_copied_kind e) g in
+    let n = failed_by (is_other e) g in
     omega (
       arith,
       h,
       n,
-      sum_by-cons (λ (x : Fate). cond (is_failed x) 1 0) (settled_by (is_copied_kind e) g) (fates_of marks es outs),
+      sum_by-cons (λ (x : Fate). cond (is_failed x) 1 0) (settled_by (is_other e) g) (fates_of marks es outs),
       sum_by-cons
           (λ (x : Fate). cond (is_failed x) 1 0) g outs,
     )

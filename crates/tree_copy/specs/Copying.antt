@@ -1,6 +1,6 @@
 -- What a copy comes to: the fate of each entry, and what stands at its target then. Our own, after cp and mpiFileUtils' dcp.
-use Rattle.std.specs.Prelude.{⊤, ◌≡◌, ◌⊎◌, ℕ, Bool, true, false, not, ◌&&◌, ◌||◌, List, [], ◌∷◌, ◌++◌, if◌then◌else◌, length, map, nat_eq, nat_lt}
-use Rattle.std.specs.Prelude.{Option, Some, None, is_some, IfSome, All}
+use Rattle.std.specs.Prelude.{⊤, ◌≡◌, ◌⊎◌, ℕ, Bool, true, false, not, ◌&&◌, List, [], ◌∷◌, ◌++◌, if◌then◌else◌, length, map, nat_eq, nat_lt}
+use Rattle.std.specs.Prelude.{Option, Some, None, is_some, is_none, IfSome, All}
 use Rattle.std.specs.List.{list_any, filter, sum_by, zip}
 use Rattle.std.specs.List.Sorted.{IsStrictlySortedBy}
 use Rattle.std.specs.Option.{option_map}
@@ -9,7 +9,7 @@ use Rattle.std.specs.Cmp.Lexicographic.{pointwise}
 use Rattle.path_text.specs.Graft.{grafted, below_of}
 use Rattle.path_text.specs.Order.{path_cmp, is_within}
 use Rattle.path_text.specs.Path.{parent_of}
-use Rattle.outside.specs.Tree.{Files, Node, Body, dir, file, is_dir, kind_of, content, stat_of}
+use Rattle.outside.specs.Tree.{Files, Node, Body, dir, file, is_dir, kind_of, content, link_at, stat_of}
 use Rattle.outside.specs.declared.trees.Kind.{Kind}
 use Rattle.outside.specs.declared.trees.Kind.TheVariants as kind
 use Rattle.outside.specs.declared.trees.Stat.{Stat}
@@ -59,8 +59,8 @@ abbrev pub early : List Pair → List (List ℕ × Fate) → Entry → Option Fa
 early pairs rows e =
     if nat_lt 4095 (length (target_of pairs e.path)) then Some fate.TooLong
     else if parent_failed pairs rows (target_of pairs e.path) then Some fate.ParentFailed
-    else if is_of kind.Dir e.stat || is_of kind.File e.stat then None
-    else Some fate.Skipped
+    else if is_of kind.Other e.stat then Some fate.Skipped
+    else None
 
 -- what stands there is of another kind than the entry
 abbrev pub clashes : Option Stat → Option Node → Bool
@@ -71,32 +71,37 @@ abbrev pub or_else : Option Fate → Fate → Fate
 or_else None f = f
 or_else (Some g) f = g
 
+-- a link whose text no answer told
+abbrev pub is_untold : Entry → Bool
+is_untold e = is_of kind.Link e.stat && is_none e.target
+
 -- the fate that an entry has where no answer fails: the first that applies
 abbrev pub due : Files → List Pair → List (List ℕ × Fate) → Entry → Fate
 due before pairs rows e =
-    or_else (early pairs rows e) (if clashes e.stat (get before (target_of pairs e.path)) then fate.Conflict else fate.Done)
+    or_else (early pairs rows e)
+        (if clashes e.stat (get before (target_of pairs e.path)) then fate.Conflict else if is_untold e then fate.Changed else fate.Done)
 
 -- fates in whose place `Failed` may stand
 abbrev pub may_fail : Fate → Bool
 may_fail fate.Done = true
 may_fail fate.Conflict = true
+may_fail fate.Changed = true
 may_fail fate.Failed = false
 may_fail fate.Skipped = false
 may_fail fate.ParentFailed = false
-may_fail fate.Changed = false
 may_fail fate.NotEmpty = false
 may_fail fate.TooLong = false
 
 abbrev pub body_of : Option Node → Option Body
 body_of node = option_map (λ n. n.body) node
 
--- what stands at the target of an entry that was copied: the directory that was there, or else an empty one; or a file with the bytes of
--- the source. Nothing is said of its time
+-- what stands at the target of an entry that was copied: the directory that was there, or else an empty one; a file with the bytes of
+-- the source; or a link with its text. Nothing is said of its time
 abbrev pub IsCopyOf : Kind → (source target after : Option Node) → Type 0
 IsCopyOf kind.Dir source None after = body_of after ≡ Some (dir 0)
 IsCopyOf kind.Dir source (Some node) after = after ≡ Some node
 IsCopyOf kind.File source target after = body_of after ≡ Some (file (content source))
-IsCopyOf kind.Link source target after = ⊥
+IsCopyOf kind.Link source target after = (is_some (link_at source) ≡ true) × (link_at after ≡ link_at source)
 IsCopyOf kind.Other source target after = ⊥
 
 -- what stands at a target then, by the fate of its entry. Of one that failed nothing is said
@@ -107,7 +112,7 @@ IsLeft before after e target fate.Conflict = get after target ≡ get before tar
 IsLeft before after e target fate.Skipped = get after target ≡ get before target
 IsLeft before after e target fate.ParentFailed = get after target ≡ get before target
 IsLeft before after e target fate.TooLong = get after target ≡ get before target
-IsLeft before after e target fate.Changed = ⊥
+IsLeft before after e target fate.Changed = get after target ≡ get before target
 IsLeft before after e target fate.NotEmpty = ⊥
 
 -- an entry with its fate, between the map before the copy and the one after it
@@ -132,9 +137,9 @@ is_tried fate.ParentFailed = false
 is_tried fate.NotEmpty = false
 is_tried fate.TooLong = false
 
--- what is so of an entry's fate over all files
+-- what is so of an entry's fate over all files: no link is made whose text is not known
 abbrev pub IsEarly : List Pair → List (List ℕ × Fate) → Entry → Fate → Type 0
-IsEarly pairs rows e f = (early pairs rows e ≡ Some f) ⊎ ((early pairs rows e ≡ None) × (is_tried f ≡ true))
+IsEarly pairs rows e f = (early pairs rows e ≡ Some f) ⊎ ((early pairs rows e ≡ None) × (is_tried f ≡ true) × ((is_untold e && is_done f) ≡ false))
 
 abbrev pub AreEarly : List Entry → List Pair → List (List ℕ × Fate) → Type 0
 AreEarly list pairs rows = All (λ one. IsEarly pairs rows one.0 one.1.1) (zip (treated list) rows)
@@ -155,5 +160,6 @@ pub record CanCopy (list : List Entry) (pairs : List Pair) : Type 0 where
 -- the entries tell what stands in the tree, and each target stands in a directory, or in the target of an entry
 pub record FitsTree (list : List Entry) (pairs : List Pair) (before : Files) : Type 0 where
   pub told : All (λ e. IfSome e.stat (λ stat. option_map stat_of (get before e.path) ≡ Some stat)) list
+  pub targets : All (λ e. IfSome e.target (λ text. link_at (get before e.path) ≡ Some text)) list
   pub stand : All (λ e. is_target pairs list (parent_of (target_of pairs e.path)) ≡ false
       → is_dir (get before (parent_of (target_of pairs e.path))) ≡ true) (treated list)

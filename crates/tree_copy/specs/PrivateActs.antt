@@ -1,9 +1,9 @@
 -- What the steps of a copy at one path answer and leave. Only the contracts of this crate's own parts cite it.
-use Rattle.std.specs.Prelude.{⊤, ◌≡◌, ◌≢◌, ◌⊎◌, ℕ, ◌<◌, Bool, true, false, List, [], length, if◌then◌else◌, Option}
+use Rattle.std.specs.Prelude.{⊤, ◌≡◌, ◌≢◌, ◌⊎◌, ℕ, ◌<◌, Bool, true, false, List, length, if◌then◌else◌, Option}
 use Rattle.std.specs.Prelude.{Some, None, is_some, IfOk, IfSome, Result, Ok}
 use Rattle.std.specs.FinMap.{get}
 use Rattle.path_text.specs.declared.errors.OutOfMemory.{OutOfMemory}
-use Rattle.outside.specs.Tree.{Files, is_dir, is_file, content}
+use Rattle.outside.specs.Tree.{Files, Node, is_dir, content}
 use Rattle.outside.specs.Writes.{SameBut, new_file}
 use Rattle.outside.specs.declared.plots.WriteError.{WriteError}
 use Rattle.outside.specs.declared.plots.WriteError.TheVariants as write
@@ -14,7 +14,7 @@ use Rattle.flat_list.specs.Entries.{is_kind}
 use Rattle.level_work.specs.Acts.{Deed, IsDone}
 use Rattle.level_work.specs.declared.items.Fate.{Fate}
 use Rattle.level_work.specs.declared.items.Fate.TheVariants as fate
-use Rattle.tree_copy.specs.PrivateDeeds.{Differ, Holds, MakeDir}
+use Rattle.tree_copy.specs.PrivateDeeds.{Differ, Holds, MakeDir, is_link}
 
 -- a deed by the tree that a reader tells; where it tells none, nothing is said
 abbrev pub ByReader : (Files → Deed) → Option Files → Deed
@@ -52,37 +52,49 @@ abbrev pub look_fate : Kind → Option Stat → Fate
 look_fate wanted None = fate.Changed
 look_fate wanted (Some stat) = if is_kind wanted stat.kind then fate.Done else fate.Conflict
 
--- what stood at the path is gone, and an empty file is there
-abbrev pub MadeEmpty : List ℕ → Fate → Files → Files → Type 0
-MadeEmpty path fate.Done before after = get after path ≡ Some (new_file [])
-MadeEmpty path fate.Changed before after = is_dir (get before path) ≡ true
-MadeEmpty path fate.Failed before after = ⊤
-MadeEmpty path fate.Conflict before after = ⊥
-MadeEmpty path fate.NotEmpty before after = ⊥
-MadeEmpty path fate.Skipped before after = ⊥
-MadeEmpty path fate.ParentFailed before after = ⊥
-MadeEmpty path fate.TooLong before after = ⊥
+-- what stood at the path is gone, and this node is there
+abbrev pub MadeAnew : Node → List ℕ → Fate → Files → Files → Type 0
+MadeAnew node path fate.Done before after = get after path ≡ Some node
+MadeAnew node path fate.Changed before after = is_dir (get before path) ≡ true
+MadeAnew node path fate.Failed before after = ⊤
+MadeAnew node path fate.Conflict before after = ⊥
+MadeAnew node path fate.NotEmpty before after = ⊥
+MadeAnew node path fate.Skipped before after = ⊥
+MadeAnew node path fate.ParentFailed before after = ⊥
+MadeAnew node path fate.TooLong before after = ⊥
 
-pub record IsReplaced (path : List ℕ) (result : Result Fate OutOfMemory) (before after : Files) : Type 0 where
+pub record IsReplaced (node : Node) (path : List ℕ) (result : Result Fate OutOfMemory) (before after : Files) : Type 0 where
   pub others : SameBut path before after
-  pub answers : IfOk result (λ f. MadeEmpty path f before after)
+  pub answers : IfOk result (λ f. MadeAnew node path f before after)
 
--- an empty file is at the path, in place of none or of a file
-abbrev pub Placed : Files → List ℕ → Fate → Files → Files → Type 0
-Placed seen path fate.Done before after = ((get before path ≡ None) ⊎ (is_file (get seen path) ≡ true)) × (get after path ≡ Some (new_file []))
-Placed seen path fate.Conflict before after =
-    (is_some (get before path) ≡ true) × (is_some (get seen path) ≡ true) × (is_file (get seen path) ≡ false) × (after ≡ before)
-Placed seen path fate.Changed before after = Differ seen path before
-Placed seen path fate.Failed before after = ⊤
-Placed seen path fate.NotEmpty before after = ⊥
-Placed seen path fate.Skipped before after = ⊥
-Placed seen path fate.ParentFailed before after = ⊥
-Placed seen path fate.TooLong before after = ⊥
+-- this node is at the path, in place of none or of an old one of its kind
+abbrev pub Placed : Node → (is_old : Option Node → Bool) → Files → List ℕ → Fate → Files → Files → Type 0
+Placed node is_old seen path fate.Done before after = ((get before path ≡ None) ⊎ (is_old (get seen path) ≡ true)) × (get after path ≡ Some node)
+Placed node is_old seen path fate.Conflict before after =
+    (is_some (get before path) ≡ true) × (is_some (get seen path) ≡ true) × (is_old (get seen path) ≡ false) × (after ≡ before)
+Placed node is_old seen path fate.Changed before after = Differ is_old seen path before
+Placed node is_old seen path fate.Failed before after = ⊤
+Placed node is_old seen path fate.NotEmpty before after = ⊥
+Placed node is_old seen path fate.Skipped before after = ⊥
+Placed node is_old seen path fate.ParentFailed before after = ⊥
+Placed node is_old seen path fate.TooLong before after = ⊥
 
-pub record IsPlaced (told : Option Files) (path : List ℕ) (result : Result Fate OutOfMemory) (before after : Files) : Type 0 where
+pub record IsPlaced (node : Node) (is_old : Option Node → Bool) (told : Option Files) (path : List ℕ) (result : Result Fate OutOfMemory)
+    (before after : Files) : Type 0 where
   pub others : SameBut path before after
-  pub answers : IfOk result (λ f. IfSome told (λ seen. Placed seen path f before after))
-  pub empty : result ≡ Ok fate.Done → get after path ≡ Some (new_file [])
+  pub answers : IfOk result (λ f. IfSome told (λ seen. Placed node is_old seen path f before after))
+  pub there : result ≡ Ok fate.Done → get after path ≡ Some node
+
+-- a look told whether something is in the way of a link that is not made
+abbrev pub Spared : Files → List ℕ → Fate → Type 0
+Spared seen path fate.Conflict = (is_some (get seen path) ≡ true) × (is_link (get seen path) ≡ false)
+Spared seen path fate.Changed = (get seen path ≡ None) ⊎ (is_link (get seen path) ≡ true)
+Spared seen path fate.Failed = ⊤
+Spared seen path fate.Done = ⊥
+Spared seen path fate.NotEmpty = ⊥
+Spared seen path fate.Skipped = ⊥
+Spared seen path fate.ParentFailed = ⊥
+Spared seen path fate.TooLong = ⊥
 
 -- the bytes of the source were put into the file, or the source has too few
 abbrev pub Filled : Files → (source path : List ℕ) → ℕ → Fate → Files → Type 0

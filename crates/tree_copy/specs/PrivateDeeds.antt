@@ -1,8 +1,8 @@
 -- What a copy does at one target. Only the contracts of this crate's own parts cite it.
-use Rattle.std.specs.Prelude.{⊤, ◌≡◌, ◌⊎◌, ℕ, ◌<◌, ◌≤◌, true, false, List, length, take, Option, Some, None, is_some}
+use Rattle.std.specs.Prelude.{⊤, ◌≡◌, ◌⊎◌, ℕ, ◌<◌, ◌≤◌, Bool, true, false, List, length, take, Option, Some, None, is_some}
 use Rattle.std.specs.FinMap.{get, insert}
-use Rattle.outside.specs.Tree.{Files, is_dir, is_file, content}
-use Rattle.outside.specs.Writes.{empty_dir, new_file}
+use Rattle.outside.specs.Tree.{Files, Node, is_dir, is_file, content, link_at}
+use Rattle.outside.specs.Writes.{empty_dir, new_file, new_link}
 use Rattle.outside.specs.declared.trees.Kind.{Kind}
 use Rattle.outside.specs.declared.trees.Kind.TheVariants as kind
 use Rattle.outside.specs.declared.trees.Stat.{Stat}
@@ -29,10 +29,14 @@ pub record Holds (seen : Files) (source path : List ℕ) (size : ℕ) (now : Fil
   pub inside : size ≤ length (content (get seen source))
   pub has : get now path ≡ Some (new_file (take size (content (get seen source))))
 
--- what the reader and the part tell of the path contradicts each other
-abbrev pub Differ : Files → List ℕ → Files → Type 0
-Differ seen path before =
-    (is_some (get before path) ≡ true) × ((get seen path ≡ None) ⊎ ((is_dir (get before path) ≡ true) × (is_file (get seen path) ≡ true)))
+abbrev pub is_link : Option Node → Bool
+is_link node = is_some (link_at node)
+
+-- what the reader and the part tell of the path contradicts each other: for the one a node is there, and for the other none; or for
+-- the one a directory, and for the other what is to be made anew
+abbrev pub Differ : (Option Node → Bool) → Files → List ℕ → Files → Type 0
+Differ is_old seen path before =
+    (is_some (get before path) ≡ true) × ((get seen path ≡ None) ⊎ ((is_dir (get before path) ≡ true) × (is_old (get seen path) ≡ true)))
 
 -- a file is made anew, with as many bytes of the source as the entry tells
 abbrev pub MakeFile : Files → Deed
@@ -40,14 +44,45 @@ MakeFile seen path entry fate.Done before after =
     ((get before path ≡ None) ⊎ (is_file (get seen path) ≡ true)) × Holds seen entry.path path (size_by entry.stat) after
 MakeFile seen path entry fate.Conflict before after =
     (is_some (get before path) ≡ true) × (is_some (get seen path) ≡ true) × (is_file (get seen path) ≡ false) × (after ≡ before)
-MakeFile seen path entry fate.Changed before after = (length (content (get seen entry.path)) < size_by entry.stat) ⊎ Differ seen path before
+MakeFile seen path entry fate.Changed before after = (length (content (get seen entry.path)) < size_by entry.stat) ⊎ Differ is_file seen path before
 MakeFile seen path entry fate.Failed before after = ⊤
 MakeFile seen path entry fate.NotEmpty before after = ⊥
 MakeFile seen path entry fate.Skipped before after = ⊥
 MakeFile seen path entry fate.ParentFailed before after = ⊥
 MakeFile seen path entry fate.TooLong before after = ⊥
 
--- what is neither is not copied
+-- a link is made anew, with this text
+abbrev pub MakeLink : List ℕ → Files → Deed
+MakeLink text seen path entry fate.Done before after =
+    ((get before path ≡ None) ⊎ (is_link (get seen path) ≡ true)) × (get after path ≡ Some (new_link text))
+MakeLink text seen path entry fate.Conflict before after =
+    (is_some (get before path) ≡ true) × (is_some (get seen path) ≡ true) × (is_link (get seen path) ≡ false) × (after ≡ before)
+MakeLink text seen path entry fate.Changed before after = Differ is_link seen path before
+MakeLink text seen path entry fate.Failed before after = ⊤
+MakeLink text seen path entry fate.NotEmpty before after = ⊥
+MakeLink text seen path entry fate.Skipped before after = ⊥
+MakeLink text seen path entry fate.ParentFailed before after = ⊥
+MakeLink text seen path entry fate.TooLong before after = ⊥
+
+-- a link whose text is not known is not made. What is of another kind is in its way
+abbrev pub LeaveLink : Files → Deed
+LeaveLink seen path entry fate.Conflict before after = (is_some (get seen path) ≡ true) × (is_link (get seen path) ≡ false) × (after ≡ before)
+LeaveLink seen path entry fate.Changed before after = ((get seen path ≡ None) ⊎ (is_link (get seen path) ≡ true)) × (after ≡ before)
+LeaveLink seen path entry fate.Failed before after = ⊤
+LeaveLink seen path entry fate.Done before after = ⊥
+LeaveLink seen path entry fate.NotEmpty before after = ⊥
+LeaveLink seen path entry fate.Skipped before after = ⊥
+LeaveLink seen path entry fate.ParentFailed before after = ⊥
+LeaveLink seen path entry fate.TooLong before after = ⊥
+
+abbrev pub LinkBy : Option (List ℕ) → Files → Deed
+LinkBy None seen = LeaveLink seen
+LinkBy (Some text) seen = MakeLink text seen
+
+abbrev pub CopyLink : Files → Deed
+CopyLink seen path entry f before after = LinkBy entry.target seen path entry f before after
+
+-- what is no directory, file or link is not copied
 abbrev pub PassOver : Deed
 PassOver path entry fate.Skipped before after = after ≡ before
 PassOver path entry fate.Done before after = ⊥
@@ -61,7 +96,7 @@ PassOver path entry fate.TooLong before after = ⊥
 abbrev pub CopyKind : Kind → Files → Deed
 CopyKind kind.Dir seen = MakeDir seen
 CopyKind kind.File seen = MakeFile seen
-CopyKind kind.Link seen = PassOver
+CopyKind kind.Link seen = CopyLink seen
 CopyKind kind.Other seen = PassOver
 
 abbrev pub CopyTold : Option Stat → Files → Deed

@@ -1,5 +1,5 @@
 -- How entries become items of work at their targets, and fates of items those of entries. Only the contracts of this crate's own parts cite it.
-use Rattle.std.specs.Prelude.{◌≡◌, ℕ, ◌+◌, Bool, true, false, not, ◌&&◌, ◌||◌, List, [], ◌∷◌, length, map, if◌then◌else◌, nat_le, None}
+use Rattle.std.specs.Prelude.{◌≡◌, ℕ, ◌+◌, Bool, true, false, ◌&&◌, ◌||◌, List, [], ◌∷◌, length, map, if◌then◌else◌, nat_le, None}
 use Rattle.std.specs.List.{filter}
 use Rattle.path_text.specs.Path.{refusal}
 use Rattle.outside.specs.declared.trees.Kind.TheVariants as kind
@@ -9,7 +9,7 @@ use Rattle.level_work.specs.declared.items.Item.{Item}
 use Rattle.level_work.specs.declared.items.Fate.{Fate}
 use Rattle.level_work.specs.declared.items.Fate.TheVariants as fate
 use Rattle.tree_copy.specs.declared.pairs.Pair.{Pair}
-use Rattle.tree_copy.specs.Copying.{is_done, target_of, treated}
+use Rattle.tree_copy.specs.Copying.{is_done, is_untold, target_of, treated}
 
 -- source and target are paths
 pub record IsPair (pair : Pair) : Type 0 where
@@ -31,34 +31,35 @@ placed_of pairs list = filter (has_room pairs) (treated list)
 abbrev pub items_of : List Pair → List Entry → List Item
 items_of pairs list = map (item_of pairs) (placed_of pairs list)
 
-abbrev pub is_copied_kind : Entry → Bool
-is_copied_kind e = is_of kind.Dir e.stat || is_of kind.File e.stat
+-- what is no directory, file or link is not copied
+abbrev pub is_other : Entry → Bool
+is_other e = is_of kind.Other e.stat
 
--- the fate of an entry by that of its item: a link is passed over, and fates that no copy has mean that something changed
+-- the fate of an entry by that of its item: an other is passed over, and fates that no copy has mean that something changed
 abbrev pub settled_by : Bool → Fate → Fate
-settled_by true fate.Done = fate.Done
-settled_by true fate.Failed = fate.Failed
-settled_by true fate.Conflict = fate.Conflict
-settled_by true fate.Skipped = fate.Changed
-settled_by true fate.ParentFailed = fate.ParentFailed
-settled_by true fate.Changed = fate.Changed
-settled_by true fate.NotEmpty = fate.Changed
-settled_by true fate.TooLong = fate.Changed
-settled_by false fate.Done = fate.Skipped
-settled_by false fate.Failed = fate.Skipped
-settled_by false fate.Conflict = fate.Skipped
-settled_by false fate.Skipped = fate.Skipped
+settled_by false fate.Done = fate.Done
+settled_by false fate.Failed = fate.Failed
+settled_by false fate.Conflict = fate.Conflict
+settled_by false fate.Skipped = fate.Changed
 settled_by false fate.ParentFailed = fate.ParentFailed
-settled_by false fate.Changed = fate.Skipped
-settled_by false fate.NotEmpty = fate.Skipped
-settled_by false fate.TooLong = fate.Skipped
+settled_by false fate.Changed = fate.Changed
+settled_by false fate.NotEmpty = fate.Changed
+settled_by false fate.TooLong = fate.Changed
+settled_by true fate.Done = fate.Skipped
+settled_by true fate.Failed = fate.Skipped
+settled_by true fate.Conflict = fate.Skipped
+settled_by true fate.Skipped = fate.Skipped
+settled_by true fate.ParentFailed = fate.ParentFailed
+settled_by true fate.Changed = fate.Skipped
+settled_by true fate.NotEmpty = fate.Skipped
+settled_by true fate.TooLong = fate.Skipped
 
 abbrev pub settled : Entry → Fate → Fate
-settled e f = settled_by (is_copied_kind e) f
+settled e f = settled_by (is_other e) f
 
--- a link that is said to be copied, which no copy says
+-- an other, or a link whose text is not known, that is said to be copied, which no copy says
 abbrev pub is_odd : Entry → Fate → Bool
-is_odd e f = is_done f && not (is_copied_kind e)
+is_odd e f = is_done f && (is_other e || is_untold e)
 
 -- the first fate, and where none is left one that is never read
 abbrev pub first_of : List Fate → Fate

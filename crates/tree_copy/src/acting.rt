@@ -2,6 +2,7 @@
 ghost use Rattle.std.specs.Prelude.{◌≡◌, ◌<◌, length, IfOk};
 
 use crate::filling::file_made;
+use crate::linking::link_made;
 use crate::making::dir_made;
 use flat_list::Entry;
 use level_work::{Act, Fate};
@@ -12,7 +13,8 @@ use std::alloc::Global;
 // How many bytes of a file are read at once.
 const PIECE: usize = 65536;
 
-// Copies what an entry tells to a path: a directory is made, and a file with the bytes that its reader reads.
+// Copies what an entry tells to a path: a directory is made, a file with the bytes that its reader reads, and a link with the text
+// that the entry tells.
 #[derive(Drop)]
 pub(crate) struct Copier<R> {
     pub(crate) reader: R,
@@ -69,7 +71,7 @@ impl<P: Plot, R: Tree> Act<P> for Copier<R> {
         match stat.kind {
             Kind::Dir => dir_made(alloc, &mut self.reader, part, path),
             Kind::File => file_made(alloc, &mut self.reader, &mut self.buffer, part, path, entry),
-            Kind::Link => Ok(Fate::Skipped),
+            Kind::Link => link_made(alloc, &mut self.reader, part, path, entry),
             Kind::Other => Ok(Fate::Skipped),
         }
     }

@@ -2,6 +2,7 @@
 ghost use Rattle.std.specs.Prelude.{◌≡◌, ◌≢◌, ◌⊎◌, ◌≤◌, ◌<◌, [], Some, true, length, IsTrue, IfOk, IfSome, is_some};
 ghost use Rattle.std.specs.FinMap.{get};
 ghost use Rattle.outside.specs.Count.{RoseBy};
+ghost use Rattle.outside.specs.Tree.{is_file};
 ghost use Rattle.outside.specs.Writes.{is_top, is_open, new_file, SameBut};
 ghost use Rattle.flat_list.specs.Entries.{size_by};
 ghost use Rattle.level_work.specs.Acts.{IsDone};
@@ -76,7 +77,7 @@ fn placed<P: Plot, R: Tree>(
     requires open { IsTrue (is_open (P.area part.old) path.now) }
     requires buffer { 0 < length buffer.old }
     ensures len { length buffer.new ≡ length buffer.old }
-    ensures told { IfSome (P.tree part.old) (λ before. IfSome (P.tree part.new) (IsPlaced (R.tree reader.old) path.now result before)) }
+    ensures told { IfSome (P.tree part.old) (λ before. IfSome (P.tree part.new) (IsPlaced (new_file []) is_file (R.tree reader.old) path.now result before)) }
     ensures named { IfOk result (λ fate. fate ≢ Fate.ParentFailed) }
     ensures same { R.tree reader.new ≡ R.tree reader.old }
     ensures tells { is_some (P.tree part.new) ≡ is_some (P.tree part.old) }
@@ -112,7 +113,7 @@ fn placed_over<P: Plot, R: Tree>(
     requires taken { IfSome (P.tree part.old) (λ before. is_some (get before path.now) ≡ true) }
     requires buffer { 0 < length buffer.old }
     ensures len { length buffer.new ≡ length buffer.old }
-    ensures told { IfSome (P.tree part.old) (λ before. IfSome (P.tree part.new) (IsPlaced (R.tree reader.old) path.now result before)) }
+    ensures told { IfSome (P.tree part.old) (λ before. IfSome (P.tree part.new) (IsPlaced (new_file []) is_file (R.tree reader.old) path.now result before)) }
     ensures named { IfOk result (λ fate. fate ≢ Fate.ParentFailed) }
     ensures same { R.tree reader.new ≡ R.tree reader.old }
     ensures tells { is_some (P.tree part.new) ≡ is_some (P.tree part.old) }
@@ -137,7 +138,7 @@ fn replaced<P: Plot>(alloc: Global, part: &mut P, path: &Path) -> Result<Fate, O
     requires top { IsTrue (is_top (P.area part.old) path.now) }
     requires open { IsTrue (is_open (P.area part.old) path.now) }
     requires taken { IfSome (P.tree part.old) (λ before. is_some (get before path.now) ≡ true) }
-    ensures told { IfSome (P.tree part.old) (λ before. IfSome (P.tree part.new) (IsReplaced path.now result before)) }
+    ensures told { IfSome (P.tree part.old) (λ before. IfSome (P.tree part.new) (IsReplaced (new_file []) path.now result before)) }
     ensures named { IfOk result (λ fate. fate ≢ Fate.ParentFailed) }
     ensures tells { is_some (P.tree part.new) ≡ is_some (P.tree part.old) }
     ensures area { P.area part.new ≡ P.area part.old }

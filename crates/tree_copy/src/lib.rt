@@ -16,24 +16,26 @@
 //! ```
 //!
 //! A directory is made, or the one that is there is kept. A file is made anew, in place of a file that is there, and filled with as
-//! many bytes as its entry tells, in pieces of 64 KiB; it is opened once to be read and once to be written. What is made where
-//! nothing stood costs no look. What is of another kind than its source is a `Conflict`, and stays. Links and other nodes are
+//! many bytes as its entry tells, in pieces of 64 KiB; it is opened once to be read and once to be written. A link is made anew, in
+//! place of a link that is there, with the text that its entry tells as it is; where no text is told, it is `Changed`. What is made
+//! where nothing stood costs no look. What is of another kind than its source is a `Conflict`, and stays. Other nodes are
 //! `Skipped`. What stands under an entry that did not come to `Done` is not tried, and told `ParentFailed`.
 //!
 //! # Parts
 //!
 //! `placing` has the targets of sources, and `pairs` what they are. `targets` makes an item of each entry at its target; `working`
 //! hires actors, as many as there are threads, has them work and takes their readers back; `settling` puts the fates beside the entries and counts;
-//! `copying` is all of that. `acting` is the act at one target: `making` makes directories, and `filling` files. `reports` has
-//! what a copy answers, and `laws` what the pairs of a place are like.
+//! `copying` is all of that. `acting` is the act at one target: `making` makes directories, `filling` files, and `linking` links.
+//! `reports` has what a copy answers, and `laws` what the pairs of a place are like.
 //!
 //! # What is proved
 //!
 //! [`place`] answers what `specs/Placing` says of what the looks told, over files that tell no tree too. Where the files tell their
 //! tree, [`copy`] meets the relation of `specs/Copying`: each entry has the first fate that applies, `Failed` alone may stand in
-//! place of `Done` and `Conflict`; a copied file has exactly the bytes of its source; and every path that is no target is as before,
-//! also after want of memory. Over all files each entry whose target is too long, whose parent was not copied, or that is
-//! no file and no directory is told so, and no other. Failed entries are no more than the files counted.
+//! place of `Done`, `Conflict` and `Changed`; a copied file has exactly the bytes of its source, and a copied link exactly its text;
+//! and every path that is no target is as before, also after want of memory. Over all files each entry whose target is too long,
+//! whose parent was not copied, or that is no directory, file or link is told so, and no other; and no link is told to be copied
+//! whose text is not known. Failed entries are no more than the files counted.
 //!
 //! Not claimed: what stands at the target of an entry that failed, or at any target after want of memory; that files are read in
 //! pieces; times of what is made; that threads ran side by side.
@@ -43,6 +45,7 @@ mod acting;
 mod copying;
 mod filling;
 mod laws;
+mod linking;
 mod making;
 mod pairs;
 mod placing;

@@ -4,8 +4,8 @@ ghost use Rattle.std.specs.List.{count_by, zip};
 ghost use Rattle.std.specs.Vec.Iter.{into_iter_items, into_iter_len};
 ghost use Rattle.flat_list.specs.Entries.{is_of};
 ghost use Rattle.flat_list.specs.Spelling.{paths};
-ghost use Rattle.tree_copy.specs.Copying.{is_done, treated};
-ghost use Rattle.tree_copy.specs.PrivateSettling.{any_odd, bytes_of, fates_of, fitting, gain, is_copied_kind, is_odd, settled, settled_by};
+ghost use Rattle.tree_copy.specs.Copying.{is_done, is_untold, treated};
+ghost use Rattle.tree_copy.specs.PrivateSettling.{any_odd, bytes_of, fates_of, fitting, gain, is_odd, is_other, settled, settled_by};
 
 use crate::reports::CopyReport;
 use flat_list::{Entry, FlatList};
@@ -99,8 +99,8 @@ fn place_after(place: usize, fit: bool) -> usize
     if fit { place + 1 } else { place }
 }
 
-// The fate of an entry, whose item is the one at the place if it has one. No act says that it copied a link. If one did, the
-// entries under it would have been tried, and their fates could not be told: no report is made then.
+// The fate of an entry, whose item is the one at the place if it has one. No act says that it copied what is no directory, file
+// or link, or a link whose text is not known. If one did, the fates of all entries could not be told: no report is made then.
 fn fate_of(entry: &Entry, fit: bool, outcome: &Outcome, place: usize) -> Result<Fate, OutOfMemory>
     requires { fit ≡ true → place < length outcome.now }
     ensures fits { IfOk result (λ fate. fit ≡ true → (f : _) → slice_get outcome.now place ≡ Some f → fate ≡ settled entry.now f) }
@@ -114,14 +114,26 @@ fn fate_of(entry: &Entry, fit: bool, outcome: &Outcome, place: usize) -> Result<
     if is_odd(entry, fate) {
         return Err(OutOfMemory);
     }
-    Ok(settled_by(is_copied_kind(entry), fate))
+    Ok(settled_by(is_other(entry), fate))
 }
 
-fn is_copied_kind(entry: &Entry) -> bool
-    ensures { result ≡ is_copied_kind entry.now }
+fn is_other(entry: &Entry) -> bool
+    ensures { result ≡ is_other entry.now }
+{
+    is_of(Kind::Other, entry)
+}
+
+fn is_untold(entry: &Entry) -> bool
+    ensures { result ≡ is_untold entry.now }
+{
+    is_of(Kind::Link, entry) && entry.target.is_none()
+}
+
+fn is_of(kind: Kind, entry: &Entry) -> bool
+    ensures { result ≡ is_of kind entry.now.stat }
 {
     match &entry.stat {
-        Some(stat) => stat.kind == Kind::Dir || stat.kind == Kind::File,
+        Some(stat) => kind == stat.kind,
         None => false,
     }
 }
@@ -129,7 +141,7 @@ fn is_copied_kind(entry: &Entry) -> bool
 fn is_odd(entry: &Entry, fate: Fate) -> bool
     ensures { result ≡ is_odd entry.now fate }
 {
-    is_done(fate) && !is_copied_kind(entry)
+    is_done(fate) && (is_other(entry) || is_untold(entry))
 }
 
 fn is_done(fate: Fate) -> bool
@@ -147,16 +159,16 @@ fn is_done(fate: Fate) -> bool
     }
 }
 
-fn settled_by(copied: bool, fate: Fate) -> Fate
-    ensures { result ≡ settled_by copied fate }
+fn settled_by(other: bool, fate: Fate) -> Fate
+    ensures { result ≡ settled_by other fate }
 {
-    match (copied, fate) {
+    match (other, fate) {
         (_, Fate::ParentFailed) => Fate::ParentFailed,
-        (true, Fate::Done) => Fate::Done,
-        (true, Fate::Failed) => Fate::Failed,
-        (true, Fate::Conflict) => Fate::Conflict,
-        (true, _) => Fate::Changed,
-        (false, _) => Fate::Skipped,
+        (true, _) => Fate::Skipped,
+        (false, Fate::Done) => Fate::Done,
+        (false, Fate::Failed) => Fate::Failed,
+        (false, Fate::Conflict) => Fate::Conflict,
+        (false, _) => Fate::Changed,
     }
 }
 

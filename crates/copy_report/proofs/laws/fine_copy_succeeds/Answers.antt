@@ -7,6 +7,7 @@ returns c = copy_succeeds (record {
   stops = c.fine_walks_stop_for_memory.ensures;
   order = c.nothing_to_order.ensures;
   apart = c.placed_are_apart.ensures;
+  are_told = c.entries_are_told.ensures;
   unique = c.roots_are_unique.ensures;
   fine = c.walk_without_faults_is_fine.ensures;
 })

@@ -1,0 +1,96 @@
+//! The system of a test, but for one call on links.
+use std::alloc::Allocator;
+use std::fs::{File, Files, Metadata, OpenOptions};
+use std::io;
+use std::io::ErrorKind;
+use std::path::PathBuf;
+use std::random::RandomSource;
+
+/// A call that a copy of links needs.
+#[derive(Clone, Copy, PartialEq, Eq, Debug, Drop)]
+pub enum LinkCall {
+    Read,
+    Make,
+    Remove,
+}
+
+/// The files of the system, where each call of one kind answers this error.
+#[derive(Clone, Copy, Drop)]
+pub struct Grudging {
+    pub host: HostRuntime,
+    pub call: LinkCall,
+    pub error: ErrorKind,
+}
+
+impl Grudging {
+    fn ask(&self, call: LinkCall) -> io::Result<()> {
+        if self.call == call {
+            Err(io::Error::from(self.error))
+        } else {
+            Ok(())
+        }
+    }
+}
+
+impl Files for Grudging {
+    type File = File;
+
+    type Dir = <HostRuntime as Files>::Dir;
+
+    fn open_file(&self, how: &OpenOptions, path: &str) -> io::Result<File> {
+        self.host.open_file(how, path)
+    }
+
+    fn open_dir(&self, path: &str) -> io::Result<Self::Dir> {
+        self.host.open_dir(path)
+    }
+
+    fn metadata(&self, path: &str) -> io::Result<Metadata> {
+        self.host.metadata(path)
+    }
+
+    fn symlink_metadata(&self, path: &str) -> io::Result<Metadata> {
+        self.host.symlink_metadata(path)
+    }
+
+    fn copy(&self, from: &str, to: &str) -> io::Result<u64> {
+        self.host.copy(from, to)
+    }
+
+    fn rename(&self, from: &str, to: &str) -> io::Result<()> {
+        self.host.rename(from, to)
+    }
+
+    fn remove_file(&self, path: &str) -> io::Result<()> {
+        self.ask(LinkCall::Remove)?;
+        self.host.remove_file(path)
+    }
+
+    fn create_dir(&self, path: &str) -> io::Result<()> {
+        self.host.create_dir(path)
+    }
+
+    fn remove_dir(&self, path: &str) -> io::Result<()> {
+        self.host.remove_dir(path)
+    }
+
+    fn remove_dir_all<B: Allocator>(&self, alloc: B, path: &str) -> io::Result<()> {
+        self.host.remove_dir_all(alloc, path)
+    }
+
+    fn read_link<B: Allocator>(&self, alloc: B, path: &str) -> io::Result<PathBuf<B>> {
+        self.ask(LinkCall::Read)?;
+        self.host.read_link(alloc, path)
+    }
+
+    fn symlink(&self, original: &str, link: &str) -> io::Result<()> {
+        self.ask(LinkCall::Make)?;
+        self.host.symlink(original, link)
+    }
+}
+
+impl RandomSource for Grudging {
+    fn fill_bytes(&self, bytes: &mut [u8]) -> io::Result<()> {
+        self.host.fill_bytes(bytes)
+    }
+}
