@@ -1,24 +1,26 @@
 //! Runs whose ranks are spread over threads.
-ghost use Rattle.std.specs.Prelude.{◌≡◌, []};
+ghost use Rattle.std.specs.Prelude.{◌≡◌, ◌≤◌, [], length, All, IfOk};
 
 use circle_run::{Job, Options, Split, begin};
 use path_text::{OutOfMemory, Path};
 use rank_queue::Batch;
 use std::alloc::Global;
-use std::sync::Arc;
-use std::sync::atomic::AtomicBool;
+use std::sync::atomic::AtomicU64;
 use std::sync::atomic::Ordering::SeqCst;
+use std::sync::{Arc, Wait};
 use std::test::Fail;
+use std::thread;
+use std::thread::Threads;
 
-// How often a job looks at the other's flag before it gives up.
-const MOST_LOOKS: u64 = 10_000_000;
+// How often a job looks whether the others came before it gives up. It yields after each look, since they may have no processor yet.
+const MOST_LOOKS: u64 = 1_000_000;
 
-// Sets its own flag at each string, waits for the other's, and notes whether it came.
+// Says at each string that it came, waits for so many to come, and notes whether they did.
 #[derive(Drop)]
 struct Meeting {
     alloc: Global,
-    own: Arc<AtomicBool, Global>,
-    other: Arc<AtomicBool, Global>,
+    came: Arc<AtomicU64, Global>,
+    all: u64,
     met: bool,
     steps: Vec<(Path, Vec<Path>)>,
 }
@@ -40,66 +42,85 @@ impl Job for Meeting {
         _waiting: u64,
         _fresh: &mut Batch,
     ) -> Result<(), OutOfMemory> {
-        self.own.store(true, SeqCst);
-        self.met = comes(&self.other);
+        self.came.fetch_add(1, SeqCst);
+        self.met = come(&self.came, self.all);
         self.steps.push((item.copy()?, Vec::new(self.alloc)))?;
         Ok(())
     }
 }
 
-// Whether the flag is set before the looks are used up.
-fn comes(flag: &AtomicBool) -> bool {
+// Whether so many come before the looks are used up.
+fn come(came: &AtomicU64, all: u64) -> bool {
     for _ in 0..MOST_LOOKS {
-        if flag.load(SeqCst) {
+        if came.load(SeqCst) >= all {
             return true;
         }
+        thread::yield_now();
     }
     false
 }
 
-// A body on one thread never passes this: each of two jobs waits for the other.
-#[test]
-fn two_hosts_meet(rt: HostRuntime) -> Result<(), Fail> {
+// Whether each of so many hosts, with one rank and one string each, waited for all others, and all came.
+fn meet<R: Threads + Wait + Sync + AllocGlobal>(rt: &R, hosts: u32) -> Result<bool, Fail>
+    requires { (1 ≤ hosts) × (hosts ≤ 64) }
+{
     let alloc = rt.alloc();
-    let zero = Arc::new(alloc, AtomicBool::new(false))?;
-    let one = Arc::new(alloc, AtomicBool::new(false))?;
-    let mut jobs = Vec::with_capacity(alloc, 2)?;
-    jobs.push(new_meeting(alloc, Arc::try_clone(&zero)?, Arc::try_clone(&one)?))?;
-    jobs.push(new_meeting(alloc, one, zero))?;
+    let came = Arc::new(alloc, AtomicU64::new(0))?;
+    let jobs = meetings(alloc, &came, hosts)?;
     let mut starts = Vec::new(alloc);
-    starts.push(Path::parse(alloc, "/a")?)?;
-    starts.push(Path::parse(alloc, "/b")?)?;
+    for number in 0..hosts {
+        let text = format!(in alloc; "/{number}")?;
+        starts.push(Path::parse(alloc, &text)?)?;
+    }
     let options = Options {
-        ranks: 2,
-        hosts: 2,
+        ranks: hosts,
+        hosts,
         split: Split::Equal,
         seed: 0,
         width: 2,
         trace: false,
         stop_after: None,
     };
-    let finished = begin(&rt, alloc, &options, starts, jobs)?;
-    assert_eq!(rt; finished.jobs.len(), 2);
-    for job in &finished.jobs {
-        assert!(rt; job.met);
-        assert_eq!(rt; job.steps.len(), 1);
+    let finished = begin(rt, alloc, &options, starts, jobs)?;
+    Ok(
+        finished
+            .jobs
+            .iter()
+            .all(|job| job.met && job.steps.len() == 1),
+    )
+}
+
+fn meetings(
+    alloc: Global,
+    came: &Arc<AtomicU64, Global>,
+    count: u32,
+) -> Result<Vec<Meeting>, OutOfMemory>
+    ensures count { IfOk result (λ jobs. length jobs.items ≡ count) }
+    ensures unused { IfOk result (λ jobs. All (λ m. m.steps.items ≡ []) jobs.items) }
+{
+    let mut jobs = Vec::new(alloc);
+    while jobs.len() < count as usize {
+        jobs.push(Meeting {
+            alloc,
+            came: Arc::try_clone(came)?,
+            all: count as u64,
+            met: false,
+            steps: Vec::new(alloc),
+        })?;
     }
+    Ok(jobs)
+}
+
+// A body on one thread never passes this: each of two jobs waits for the other.
+#[test]
+fn two_hosts_meet(rt: HostRuntime) -> Result<(), Fail> {
+    assert!(rt; meet(&rt, 2)?);
     Ok(())
 }
 
-fn new_meeting(
-    alloc: Global,
-    own: Arc<AtomicBool, Global>,
-    other: Arc<AtomicBool, Global>,
-) -> Meeting
-    ensures { result.steps.items ≡ [] }
-{
-    let steps = Vec::new(alloc);
-    Meeting {
-        alloc,
-        own,
-        other,
-        met: false,
-        steps,
-    }
+// And one on two threads never passes this: each of four jobs waits for the other three.
+#[test]
+fn four_hosts_meet(rt: HostRuntime) -> Result<(), Fail> {
+    assert!(rt; meet(&rt, 4)?);
+    Ok(())
 }
