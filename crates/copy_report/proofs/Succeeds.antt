@@ -1,9 +1,9 @@
 -- When dcp succeeds.
 use Rattle.std.proofs.Common.{◌≡◌, ⊎_elim, ℕ, zero, suc, ◌<◌, ◌≤◌, true, false, List, [], ◌∷◌, ◌++◌, length, Option, Some, None, IfSome}
-use Rattle.std.proofs.Common.{Result, Ok, Err, refl, ap, ◌∙◌, sym, subst, arith}
+use Rattle.std.proofs.Common.{◌&&◌, get_or, Result, Ok, Err, refl, ap, ◌∙◌, sym, subst, arith}
 use Rattle.std.proofs.lemmas.Bool.{false≢true}
 use Rattle.std.proofs.lemmas.List.Elements.{All-filter, recursion_from_All}
-use Rattle.std.specs.Prelude.{◌&&◌, get_or, is_none, is_some}
+use Rattle.std.specs.Prelude.{is_none, is_some}
 use Rattle.std.specs.FinMap.{get}
 use Rattle.std.specs.List.{All, flat_map, sum_by, zip}
 use Rattle.path_text.specs.Path.{parent_of}
@@ -106,7 +106,7 @@ node_known None p = refl
 node_known (Some n) p = body_known n.body
 
 all_known : EntriesAreTold → (files : Files) (starts : List (List ℕ)) → All (λ e. is_untold e ≡ false) (flat_map (walk files all_told) starts)
-all_known law files starts k d l =
+all_known law files starts = λ k d l.
     let e = get_or (flat_map (walk files all_told) starts) k d in
     ap is_untold (law.of_all files all_told starts k d l).own ∙ node_known (get files e.path) e.path
 
