@@ -84,7 +84,10 @@ fn links_are_copied_with_their_texts(rt: HostRuntime) {
         same(&rt, &run.status, &Status::Named);
         let want = "copied 8 items 10 bytes 3 failed 2\n";
         so(&rt, run.out.text() == want.as_bytes(), "the numbers");
-        let lines = [("conflict", "from/over_dir"), ("conflict", "from/over_file")];
+        let lines = [
+            ("conflict", "from/over_dir"),
+            ("conflict", "from/over_file"),
+        ];
         let want = named(rt, &room, &lines).expect(&rt, "memory");
         so(&rt, run.notes.text() == want.as_bytes(), "the notes");
         so(&rt, all_lead(&room), ranks);
@@ -103,11 +106,31 @@ fn a_refused_call_leaves_the_old_link(rt: HostRuntime) {
         ("to/from/k", Node::Link("old")),
     ];
     for (call, error, out, word) in [
-        (LinkCall::Make, ErrorKind::StorageFull, "copied 1 items 2", "failed copy"),
-        (LinkCall::Remove, ErrorKind::PermissionDenied, "copied 1 items 2", "failed copy"),
-        (LinkCall::Read, ErrorKind::PermissionDenied, "copied 1 items 1", "failed stat"),
+        (
+            LinkCall::Make,
+            ErrorKind::StorageFull,
+            "copied 1 items 2",
+            "failed copy",
+        ),
+        (
+            LinkCall::Remove,
+            ErrorKind::PermissionDenied,
+            "copied 1 items 2",
+            "failed copy",
+        ),
+        (
+            LinkCall::Read,
+            ErrorKind::PermissionDenied,
+            "copied 1 items 1",
+            "failed stat",
+        ),
         // No link stands there any more, as the system says.
-        (LinkCall::Read, ErrorKind::InvalidInput, "copied 1 items 2", "changed"),
+        (
+            LinkCall::Read,
+            ErrorKind::InvalidInput,
+            "copied 1 items 2",
+            "changed",
+        ),
     ] {
         let room = Room::with(rt, &nodes).expect(&rt, "a room");
         let system = Grudging {
