@@ -409,7 +409,7 @@ impl Tree for ShiftingReader {
 }
 
 impl Plot for Shifting {
-    ghost use Rattle.std.specs.Prelude.{None};
+    ghost use Rattle.std.specs.Prelude.{[], None};
     ghost use Rattle.outside.specs.Writes.{all_but};
 
     ghost tree = { λ _. None };
