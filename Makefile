@@ -1,7 +1,7 @@
 # make             proves and builds the program, if it is missing or old
 # make install     installs program, man pages, completions, scripts and documents under PREFIX (default /usr/local)
 # make uninstall   removes them again
-# make packages    makes a Debian package and an archive of the built program in dist/, with checksums
+# make packages    makes a Debian package and an archive of the built program in dist/, with checksums; contrib/try_package.sh tries the package
 # make check       the gate: every proof, must-fail edit, test and program
 # make pages       makes the man pages, the completions and docs/TOOLS.md from contrib/tools.txt
 # make check-docs  checks them, each link, and, if the program is built, each command of the documents

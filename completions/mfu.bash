@@ -13,7 +13,7 @@ _mfu() {
         prev=${COMP_WORDS[COMP_CWORD-2]}
     fi
     case ${COMP_WORDS[1]}:$prev in
-        help:help) words='dwalk dfind dcmp dcp drm dtest' ;;
+        help:help) words='dwalk dfind dcmp dcp drm dtest globs expressions messages statuses permissions' ;;
         dwalk:--sort) words='path name size mtime kind -path -name -size -mtime -kind' ;;
         dwalk:--output) _mfu_paths; return ;;
         dwalk:--input) _mfu_paths; return ;;

@@ -15,6 +15,7 @@ complete -c mfu -n '__fish_seen_subcommand_from help' -a dcmp -d 'compare two di
 complete -c mfu -n '__fish_seen_subcommand_from help' -a dcp -d 'copy directory trees'
 complete -c mfu -n '__fish_seen_subcommand_from help' -a drm -d 'delete directory trees, or the entries that match tests'
 complete -c mfu -n '__fish_seen_subcommand_from help' -a dtest -d 'walk a made-up tree in memory'
+complete -c mfu -n '__fish_seen_subcommand_from help' -a 'globs expressions messages statuses permissions'
 complete -c mfu -n '__fish_seen_subcommand_from dwalk' -l help -d 'show the help of this tool'
 complete -c mfu -n '__fish_seen_subcommand_from dwalk' -F
 complete -c mfu -n '__fish_seen_subcommand_from dwalk' -l sort -x -a 'path name size mtime kind -path -name -size -mtime -kind' -d 'sort by this field; -FIELD reverses'

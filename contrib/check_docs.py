@@ -9,6 +9,7 @@
 - docs/PROMISES.md names each must-fail edit, and each definition, function and edit that it names is in the crates.
 - Each link in a Markdown file leads to a file and a heading that exist.
 - The texts for users have none of the words that the house style (CONTRIBUTING.md) replaces.
+- If the program is built, a run on a terminal shows a line that it erases, and a hint after a refusal; a run whose standard error is a file or a pipe has neither.
 - If the program is built, each command in README.md, docs/TOOLS.md, docs/RECIPES.md, docs/LISTS.md and docs/CHECKPOINTS.md that begins with `$ ` prints the
   lines below it. A line `...` matches any lines.
 
@@ -16,6 +17,7 @@ A check that needs a missing tool is skipped, and a line says so. The exit statu
 """
 import glob
 import os
+import pty
 import re
 import shutil
 import subprocess
@@ -26,7 +28,8 @@ import make_pages
 
 TOP = make_pages.TOP
 TRIED = ["README.md", "docs/TOOLS.md", "docs/RECIPES.md", "docs/LISTS.md", "docs/CHECKPOINTS.md"]
-PLAIN = [*TRIED, "CHANGELOG.md", "docs/COMING_FROM.md", "docs/PERFORMANCE.md", "docs/GATE.md", "contrib/tools.txt", "crates/mfu/src/help.rt"]
+PLAIN = [*TRIED, "CHANGELOG.md", "docs/COMING_FROM.md", "docs/PERFORMANCE.md", "docs/GATE.md", "docs/README.md", "bench/FIGURES.md", "contrib/tools.txt",
+         "crates/mfu/src/help.rt", "crates/mfu/src/topics.rt", "crates/mfu/src/hints.rt"]
 COINED = (r"what stands\b|what meets\b|\b(?:is|are) told\b|drawn by lot|\bwanting\b|\brobbed\b|begun anew|wrong bod(?:y|ies) that the gate|"
           r"(?<!there )\b(?:is|are) no [a-z]+|\bin front of\b|\w \.\.(?![./])")
 OPTION = r"(?<![\w-])--?[a-z][a-z-]*"
@@ -65,9 +68,9 @@ def options_are_read(table):
         said(f"the option {name} stands in {'contrib/tools.txt' if name in ours else 'tool_words/specs/Table.antt'} alone")
 
 
-def helps_of():
-    """The texts of the help, each by the name of its constant."""
-    texts = re.findall(r'^const ([A-Z]+): &str = "((?:[^"\\]|\\.)*)";', text_of("crates/mfu/src/help.rt"), re.M)
+def helps_of(part="help"):
+    """The texts of the help, or of its topics, each by the name of its constant."""
+    texts = re.findall(r'^const ([A-Z]+): &str = "((?:[^"\\]|\\.)*)";', text_of(f"crates/mfu/src/{part}.rt"), re.M)
     return {name: text.replace("\\\\", "\\") for name, text in texts if name != "VERSION"}
 
 
@@ -98,6 +101,12 @@ def options_are_in_help(table):
     for tool in table.tools:
         for name in sorted(names(table, tool) - every):
             said(f"the help says nothing of {name}")
+    for name, text in helps_of("topics").items():
+        if name.lower() not in make_pages.HELPS or f"mfu help {name.lower()}" not in " ".join(helps["TOOLS"].split()):
+            said(f"mfu help does not name the topic {name.lower()}, or contrib/make_pages.py does not")
+        for line in text.split("\n"):
+            if len(line) > 80:
+                said(f"a line of the help {name} has more than 80 columns: {line}")
     for number in re.findall(r"^  ([0-9])  ", helps["TOOLS"], re.M):
         if f"\n| {number} |" not in text_of("README.md"):
             said(f"README.md says nothing of status {number}")
@@ -237,6 +246,83 @@ def commands_print():
         run(["sh", "-c", "rm -rf /tmp/site /tmp/site.*"])
 
 
+def on_terminal(words):
+    """The status of a command, its output, and all that it writes to a terminal as its standard error."""
+    ours, its = pty.openpty()
+    with tempfile.TemporaryFile() as out:
+        child = subprocess.Popen(words, stdout=out, stderr=its, stdin=subprocess.DEVNULL)
+        os.close(its)
+        shown = b""
+        while True:
+            try:
+                part = os.read(ours, 65536)
+            except OSError:
+                part = b""
+            if not part:
+                break
+            shown += part
+        os.close(ours)
+        status = child.wait()
+        out.seek(0)
+        return status, out.read(), shown.replace(b"\r\n", b"\n")
+
+
+def in_pipe(words):
+    done = subprocess.run(words, capture_output=True)
+    return done.returncode, done.stdout, done.stderr
+
+
+def in_file(words):
+    with tempfile.TemporaryFile() as err:
+        done = subprocess.run(words, stdout=subprocess.PIPE, stderr=err)
+        err.seek(0)
+        return done.returncode, done.stdout, err.read()
+
+
+def lines_are_on_terminals_alone(program):
+    """Two large sparse files are compared, which takes about a second and no disk."""
+    with tempfile.TemporaryDirectory() as work:
+        sides = [os.path.join(work, side) for side in ("source", "dest")]
+        for side in sides:
+            os.mkdir(side)
+            with open(os.path.join(side, "large"), "wb") as file:
+                file.truncate(6 << 30)
+        words = [program, "dcmp", *sides]
+        status, out, shown = on_terminal(words)
+        # What is shown is lines that begin at the margin, each over the one before, and then blanks over the last.
+        if not re.fullmatch(rb"(\rmfu: looked at \d+ paths, compared \d+ files \([\d,]+ MB\))+\r +\r", shown):
+            said(f"on a terminal dcmp shows {shown[-200:]!r}")
+        for name, got in (("a pipe", in_pipe(words)), ("a file", in_file(words))):
+            if got != (status, out, b""):
+                said(f"dcmp to {name} prints something else than on a terminal: {got[2][-200:]!r}")
+
+
+def hints_are_on_terminals_alone(program):
+    words, line = [program, "dwalk", "."], b"refused word 1 bad value\n"
+    hint = b'mfu: word 1, ".": paths must be absolute; see mfu help dwalk\n'
+    for name, got, want in (("a terminal", on_terminal(words), line + hint), ("a pipe", in_pipe(words), line), ("a file", in_file(words), line)):
+        if got != (2, b"", want):
+            said(f"a refusal to {name} prints {got!r}")
+    for words in (["dwalk", "/x", "--help"], ["dwalk", "-h", "--", "/x"]):
+        status, out, err = in_pipe([program, *words])
+        if status or err or not out.startswith(b"usage: mfu dwalk"):
+            said(f"mfu {' '.join(words)} does not print the help")
+    if in_pipe([program, "drm", "--name", "--help", "/proc/none"])[2] != b"gone /proc/none\n":
+        said("the value --help of an option prints the help")
+    for topic in make_pages.HELPS:
+        if in_pipe([program, "help", topic])[:1] + in_pipe([program, "help", topic])[2:] != (0, b""):
+            said(f"mfu help {topic} prints nothing")
+
+
+def terminals_are_told_apart():
+    program = os.path.join(TOP, "crates/mfu/out/mfu")
+    if os.path.exists(program):
+        lines_are_on_terminals_alone(program)
+        hints_are_on_terminals_alone(program)
+    else:
+        print("skipped: the program is not built, so it was not tried on a terminal")
+
+
 def main():
     sys.dont_write_bytecode = True
     if make_pages.main(["--check"]):
@@ -251,6 +337,7 @@ def main():
     promises_name_what_is_there()
     links_lead()
     words_are_plain()
+    terminals_are_told_apart()
     commands_print()
     print(f"documents: {len(wrong)} wrong")
     return 1 if wrong else 0

@@ -10,6 +10,7 @@ import textwrap
 
 TOP = os.path.dirname(os.path.dirname(os.path.realpath(__file__)))
 MADE = "contrib/make_pages.py from contrib/tools.txt"
+HELPS = ["globs", "expressions", "messages", "statuses", "permissions"]
 
 
 class Block:
@@ -137,7 +138,10 @@ def man_topic(topic):
     lines = []
     for name, text in topic.fields:
         word, _, means = text.partition(": ")
-        lines += [".PP", prose(text)] if name == "say" else [".TP", "\\fB" + roff(word) + "\\fR", prose(means)]
+        if name == "say":
+            lines += [".PP", prose(text)]
+        elif name == "term":
+            lines += [".TP", "\\fB" + roff(word) + "\\fR", prose(means)]
     return lines
 
 
@@ -182,13 +186,14 @@ def tool_page(table, tool):
 def main_page(table):
     body = [".SH SYNOPSIS", "\\fBmfu\\fR \\fITOOL\\fR \\fIWORD\\fR...", ".PP", "\\fBmfu\\fR \\fITOOL\\fR \\fB\\-\\-help\\fR"]
     body += [".PP", "\\fBmfu \\-\\-help\\fR | \\fB\\-\\-version\\fR", ".SH DESCRIPTION"]
-    body += ["\\fB\\-h\\fR, \\fBhelp\\fR and \\fBhelp\\fR \\fITOOL\\fR do the same as \\fB\\-\\-help\\fR, and \\fB\\-V\\fR the same as \\fB\\-\\-version\\fR. They",
-             "must be the whole command line.", ".PP", "The first word is one of these tools:"]
+    body += ["\\fB\\-h\\fR, \\fBhelp\\fR and \\fBhelp\\fR \\fITOOL\\fR do the same as \\fB\\-\\-help\\fR, and \\fB\\-V\\fR the same as \\fB\\-\\-version\\fR.",
+             "\\fB\\-\\-version\\fR must be the whole command line.", ".PP", "The first word is one of these tools:"]
     for tool in table.tools:
         body += [".TP", f"\\fB{tool.name}\\fR", f"{roff(tool.one('does'))}; see \\fBmfu\\-{tool.name}\\fR(1)"]
     for topic in table.of("topic"):
         body += [f".SH {topic.name.upper()}"] + man_topic(topic)
     body += [".SH EXIT STATUS"] + man_terms(table.meanings("status"))
+    body += [".SH ENVIRONMENT", ".TP", "\\fBMFU_ERRORS\\fR", "the file to which a line is appended for each call that failed; see FOLLOWING A RUN"]
     body += [".SH FILES", ".TP", "\\fIPREFIX\\fR/share/mfu", "the scripts; in the sources contrib/"]
     body += [".TP", "\\fIPREFIX\\fR/share/doc/mfu", "the documents: README.md, and docs/ with RECIPES.md, LISTS.md and others"]
     others = ", ".join(f"\\fBmfu\\-{tool.name}\\fR(1)" for tool in table.tools)
@@ -212,7 +217,7 @@ _mfu() {{
         prev=${{COMP_WORDS[COMP_CWORD-2]}}
     fi
     case ${{COMP_WORDS[1]}}:$prev in
-        help:help) words='{tools}' ;;
+        help:help) words='{tools} {helps}' ;;
 {cases}
         *) return ;;
     esac
@@ -249,7 +254,7 @@ def bash_word(table, tool):
 def bash_completion(table):
     cases = [line for tool in table.tools for option in table.options(tool) for line in bash_value(tool, option)]
     cases += [line for tool in table.tools for line in bash_word(table, tool)]
-    return BASH.format(made=MADE, tools=" ".join(tool.name for tool in table.tools), cases="\n".join(cases))
+    return BASH.format(made=MADE, tools=" ".join(tool.name for tool in table.tools), helps=" ".join(HELPS), cases="\n".join(cases))
 
 
 def quoted(text):
@@ -285,7 +290,7 @@ _mfu() {{
     shift words
     (( CURRENT-- ))
     case $tool in
-        help) (( CURRENT == 2 )) && _describe -t tools tool tools ;;
+        help) (( CURRENT == 2 )) && {{ tools+=({helps}); _describe -t tools 'tool or topic' tools; }} ;;
 {cases}
     esac
 }}
@@ -305,7 +310,7 @@ def zsh_case(table, tool):
 def zsh_completion(table):
     tools = [f"        {quoted(tool.name + ':' + tool.one('does'))}" for tool in table.tools]
     cases = [line for tool in table.tools for line in zsh_case(table, tool)]
-    return ZSH.format(made=MADE, tools="\n".join(tools), cases="\n".join(cases))
+    return ZSH.format(made=MADE, tools="\n".join(tools), helps=" ".join(HELPS), cases="\n".join(cases))
 
 
 def fish_line(when, rest):
@@ -331,6 +336,7 @@ def fish_completion(table):
     lines += [fish_line(first, "-a help -d 'show help, or the help of a tool'"), fish_line(first, "-l help -d 'show help'")]
     lines += [fish_line(first, "-l version -d 'show the version'")]
     lines += [fish_line("__fish_seen_subcommand_from help", f"-a {tool.name} -d {quoted(tool.one('does'))}") for tool in table.tools]
+    lines.append(fish_line("__fish_seen_subcommand_from help", f"-a {quoted(' '.join(HELPS))}"))
     for tool in table.tools:
         when = f"__fish_seen_subcommand_from {tool.name}"
         lines.append(fish_line(when, "-l help -d 'show the help of this tool'"))
@@ -370,8 +376,8 @@ def topic_part(topic):
     for name, text in topic.fields:
         if name == "say":
             out += spread([text])
-        elif terms:
-            out += rows(("WHY", "Means"), [(f"`{word}`", means) for word, means in terms])
+        elif name == "term" and terms:
+            out += rows((topic.one("head") or "Word", "Means"), [(f"`{word}`", means) for word, means in terms])
             terms = []
     return out
 

@@ -2,7 +2,7 @@
 use crate::shared::{same, so};
 use outside::{Ground, ListError, Listing, Tree};
 use path_text::Path;
-use real_disk::{RealGround, seconds};
+use real_disk::{RealGround, Watch, seconds};
 use std::alloc::Allocator;
 use std::fs::{File, Files, Metadata, OpenOptions};
 use std::io;
@@ -98,6 +98,12 @@ impl Files for Odd {
 impl RandomSource for Odd {
     fn fill_bytes(&self, _bytes: &mut [u8]) -> io::Result<()> {
         refused()
+    }
+}
+
+impl Watch for Odd {
+    fn apart(&self) -> Odd {
+        *self
     }
 }
 

@@ -1,4 +1,5 @@
 //! The system of a test, but for one call on links.
+use real_disk::Watch;
 use std::alloc::Allocator;
 use std::fs::{File, Files, Metadata, OpenOptions};
 use std::io;
@@ -29,6 +30,12 @@ impl Grudging {
         } else {
             Ok(())
         }
+    }
+}
+
+impl Watch for Grudging {
+    fn apart(&self) -> Grudging {
+        *self
     }
 }
 

@@ -6,11 +6,15 @@
 #![tactic(auto)]
 
 #[cfg(test)]
+mod causes;
+#[cfg(test)]
 mod fakes;
 #[cfg(test)]
 mod grudges;
 #[cfg(test)]
 mod links;
+#[cfg(test)]
+mod lives;
 #[cfg(test)]
 mod looks;
 #[cfg(test)]
@@ -19,6 +23,8 @@ mod names;
 mod rooms;
 #[cfg(test)]
 mod runs;
+#[cfg(test)]
+mod screens;
 #[cfg(test)]
 mod shared;
 #[cfg(test)]

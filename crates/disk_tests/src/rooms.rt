@@ -2,6 +2,7 @@
 use outside::Ground;
 use path_text::{OutOfMemory, Path};
 use real_disk::{RealGround, RealReader};
+use std::fs::{File, OpenOptions};
 use std::io::ErrorKind;
 use std::os::unix::fs::symlink;
 use std::time::{SystemTime, UNIX_EPOCH};
@@ -71,6 +72,14 @@ impl Room {
             Node::File(bytes) => fs::write(&self.host, path.text(), bytes),
             Node::Link(to) => symlink(&self.host, to, path.text()),
         }
+    }
+
+    /// A file there, open to append to it, and made where none is.
+    pub fn appended(&self, names: &str) -> io::Result<File> {
+        let mut how = OpenOptions::new();
+        how.append(true);
+        how.create(true);
+        how.open(&self.host, self.at(names)?.text())
     }
 
     /// Removes a file.

@@ -7,8 +7,8 @@ use real_disk::RealReader;
 use std::os::unix::fs::symlink;
 use std::{fs, io};
 
-// A directory that is looked at, and another one with the same names.
-const NODES: [(&str, Node<'static>); 9] = [
+/// A directory that is looked at, and another one with the same names.
+pub const NODES: [(&str, Node<'static>); 9] = [
     ("top", Node::Dir),
     ("top/a", Node::Dir),
     ("top/a/empty", Node::Dir),
@@ -20,8 +20,8 @@ const NODES: [(&str, Node<'static>); 9] = [
     ("out/link", Node::Link("other")),
 ];
 
-// Puts a link to the other directory in the place of the one that was looked at.
-fn swap(host: HostRuntime, room: &Room) -> io::Result<()> {
+/// Puts a link to the other directory in the place of the one that was looked at.
+pub fn swap(host: HostRuntime, room: &Room) -> io::Result<()> {
     let own = room.at("top/a")?;
     fs::rename(&host, own.text(), room.at("top/aside")?.text())?;
     symlink(&host, room.at("out")?.text(), own.text())

@@ -4,31 +4,38 @@ ghost use Rattle.outside.specs.Tree.{is_root};
 
 use outside::{Ground, LinkText, LoadError, Plot, SaveError, WriteError, load, save};
 use path_text::{OutOfMemory, Path};
-use real_disk::{RealGround, RealReader};
+use real_disk::{RealGround, RealReader, Watch};
 use std::alloc::Global;
+use std::fs::Files;
 use std::marker::Model;
+use std::os::fd::AsRawFd;
+use std::os::unix::fs::FileExt;
+use std::random::RandomSource;
 
 // More is not written by a test.
 const MOST: u64 = 1_000_000;
 
 /// A call that writes, with the place and the bytes of a write.
 #[derive(Clone, Copy, Debug, Drop)]
-pub enum Act {
+pub enum Act<'a> {
     MakeDir,
     MakeFile,
-    MakeLink(&'static str),
-    Write(u64, &'static [u8]),
+    MakeLink(&'a str),
+    Write(u64, &'a [u8]),
     RemoveFile,
     RemoveDir,
 }
 
 /// The files of the system, of which no part is lent, so that they may be written at each path but `/`.
 #[derive(Drop)]
-pub struct WholeDisk {
-    files: RealGround<HostRuntime>,
+pub struct DiskOver<R: Files> {
+    files: RealGround<R>,
 }
 
-impl Model for WholeDisk {
+/// Those of the system that nobody watches.
+pub type WholeDisk = DiskOver<HostRuntime>;
+
+impl<R: Files> Model for DiskOver<R> {
     ghost use Rattle.std.specs.Prelude.{◌≡◌, ℕ, []};
 
     ghost Value = { ℕ };
@@ -38,16 +45,26 @@ impl Model for WholeDisk {
     ghost invariant = { λ whole. (whole.files.lent ≡ []) × (whole.files.cut ≡ []) };
 }
 
-impl WholeDisk {
+impl DiskOver<HostRuntime> {
     /// They have not failed yet.
-    pub fn make(rt: HostRuntime) -> WholeDisk {
-        WholeDisk {
-            files: RealGround::make(rt.alloc(), rt),
+    pub fn make(rt: HostRuntime) -> DiskOver<HostRuntime> {
+        DiskOver::over(rt.alloc(), rt)
+    }
+}
+
+impl<R: Files + RandomSource + Watch + Copy> DiskOver<R>
+where
+    R::File: FileExt + AsRawFd,
+{
+    /// Those of a system, which have not failed yet.
+    pub fn over(alloc: Global, system: R) -> DiskOver<R> {
+        DiskOver {
+            files: RealGround::make(alloc, system),
         }
     }
 
     /// Does a call that writes. `/` is refused as `Failed`, and so is what a test does not write.
-    pub fn act(&mut self, alloc: Global, act: Act, path: &Path) -> Result<(), WriteError> {
+    pub fn act(&mut self, alloc: Global, act: Act<'_>, path: &Path) -> Result<(), WriteError> {
         if is_root(path) {
             return Err(WriteError::Failed);
         }
@@ -81,12 +98,12 @@ impl WholeDisk {
     }
 
     /// A reader of the files as they are now.
-    pub fn reader(&mut self, alloc: Global) -> Result<RealReader<HostRuntime>, OutOfMemory> {
+    pub fn reader(&mut self, alloc: Global) -> Result<RealReader<R>, OutOfMemory> {
         self.files.reader(alloc)
     }
 
     /// Takes a reader back.
-    pub fn take_reader(&mut self, reader: RealReader<HostRuntime>) {
+    pub fn take_reader(&mut self, reader: RealReader<R>) {
         self.files.take_reader(reader);
     }
 

@@ -16,7 +16,7 @@ const NODES: [(&str, Node<'static>); 7] = [
 ];
 
 /// A call, the names of what it is about, and its answer.
-type Row<'a> = (Act, &'a str, Result<(), WriteError>);
+type Row<'a> = (Act<'a>, &'a str, Result<(), WriteError>);
 
 // Does the calls one after another, and tells which is not answered as wanted.
 fn first_wrong(host: HostRuntime, room: &Room, rows: &[Row<'_>]) -> Option<usize> {

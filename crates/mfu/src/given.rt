@@ -1,10 +1,11 @@
-//! What the program is given: its words.
+//! What the program is given: its words, and where it keeps the failures of calls.
 ghost use Rattle.std.specs.Prelude.{◌≡◌, ◌⊎◌, IfErr};
 
 use mfu_top::Status;
-use std::env;
-use std::io::ErrorKind;
+use std::fs::{File, Files, OpenOptions};
+use std::io::{ErrorKind, Write};
 use std::rt::Env;
+use std::{env, io};
 
 /// The words behind the program's own name, or how the program ends where one is no text or no memory is found.
 pub fn words<R: Env + AllocGlobal>(rt: &R) -> Result<Vec<String>, Status>
@@ -17,4 +18,34 @@ pub fn words<R: Env + AllocGlobal>(rt: &R) -> Result<Vec<String>, Status>
     };
     let _name = words.next();
     words.collect(rt.alloc()).map_err(|_| Status::Memory)
+}
+
+/// The file that the variable `MFU_ERRORS` names, open to append to it, if there is such a variable and it is not empty. Where it
+/// can't be opened, a line on standard error says so, and failures are not kept.
+pub fn errors_file<R, W>(rt: &R, mut notes: W) -> Option<File>
+where
+    R: Env + AllocGlobal + Files<File = File>,
+    W: Write + Drop,
+{
+    let Ok(name) = env::var(rt, "MFU_ERRORS") else {
+        return None;
+    };
+    if name.as_str().is_empty() {
+        return None;
+    }
+    match to_append(rt, name.as_str()) {
+        Ok(file) => Some(file),
+        Err(_) => {
+            // A stream that can't be written fails where the run writes to it.
+            let _ = notes.write(b"mfu: the file of MFU_ERRORS cannot be opened\n".as_slice());
+            None
+        }
+    }
+}
+
+fn to_append<R: Files>(rt: &R, name: &str) -> io::Result<R::File> {
+    let mut how = OpenOptions::new();
+    how.append(true);
+    how.create(true);
+    how.open(rt, name)
 }

@@ -1,4 +1,5 @@
 //! The help and the version, which the program prints by itself.
+use crate::topics::topic;
 use mfu_top::Status;
 use outside::put_all;
 use real_disk::RealSink;
@@ -33,6 +34,12 @@ Exit status:
   6  stopped by --stop-after; standard error says how far it came
   7  a list file or checkpoint is damaged; standard error names the line
   8  a list file could not be read or written; standard error says why
+
+More help: mfu help globs, mfu help expressions, mfu help messages, mfu help
+statuses, mfu help permissions
+
+On a terminal a line shows how far a run is. MFU_ERRORS=FILE in the environment
+appends a line to FILE for each system call that failed, with its cause.
 ";
 
 const DWALK: &str = "usage: mfu dwalk [OPTION]... PATH...
@@ -245,9 +252,9 @@ Messages on standard error, besides those of dwalk about the sources:
 const DRM: &str = "usage: mfu drm [OPTION]... [TEST]... PATH...
 
 Deletes every entry of each tree that passes all tests; without tests, the whole
-tree, PATH included. There is no question before and no way back. Prints each
-chosen entry as dwalk does, then how many were deleted. Crosses mount points.
-Paths are absolute, and / is refused.
+tree, PATH included. It does not ask first, and deleted entries cannot be
+restored. Prints each chosen entry as dwalk does, then how many were deleted.
+Crosses mount points. Paths are absolute, and / is refused.
 
   --dryrun       delete nothing; print the chosen entries
   --name GLOB    the name matches; the other tests are those of dfind
@@ -302,7 +309,7 @@ A path of --newer is absolute, and is looked at in the made-up tree. --split,
 --seed, --width, --trace and --progress are as for dwalk.
 ";
 
-/// The text that the words ask for, if they are `--help`, `-h` or `help`, a tool and `--help` or `-h`, `help` and a tool,
+/// The text that the words ask for, if they are `--help`, `-h` or `help`, a tool and `--help` or `-h`, `help` and a tool or a topic,
 /// `--version` or `-V`, and no more.
 pub fn asked(words: &[String]) -> Option<&'static str> {
     match words {
@@ -314,8 +321,31 @@ pub fn asked(words: &[String]) -> Option<&'static str> {
         [tool, word] if word.as_str() == "--help" || word.as_str() == "-h" => {
             help_of(tool.as_str())
         }
-        [word, tool] if word.as_str() == "help" => help_of(tool.as_str()),
+        [word, name] if word.as_str() == "help" => match help_of(name.as_str()) {
+            Some(text) => Some(text),
+            None => topic(name.as_str()),
+        },
         _ => None,
+    }
+}
+
+/// The text for words that are refused and ask for help all the same: `--help` or `-h` is one of them, before any `--`. It is
+/// that of the tool, if the first word names one.
+pub fn asked_among(words: &[String]) -> Option<&'static str> {
+    for word in words {
+        match word.as_str() {
+            "--" => return None,
+            "--help" | "-h" => return Some(page_of(words)),
+            _ => {}
+        }
+    }
+    None
+}
+
+fn page_of(words: &[String]) -> &'static str {
+    match words.first() {
+        Some(tool) => help_of(tool.as_str()).unwrap_or(TOOLS),
+        None => TOOLS,
     }
 }
 
@@ -342,11 +372,12 @@ pub fn print<W: Write + Drop>(out: W, text: &str) -> Status {
 #[cfg(test)]
 mod tests {
     use super::*;
+    use std::alloc::Global;
     use std::test::Fail;
 
     #[test]
     fn help_is_the_whole_command_line(rt: HostRuntime) -> Result<(), Fail> {
-        let cases: [(&[&str], Option<&str>); 22] = [
+        let cases: [(&[&str], Option<&str>); 29] = [
             (&["--help"], Some("usage: mfu TOOL")),
             (&["-h"], Some("usage: mfu TOOL")),
             (&["help"], Some("usage: mfu TOOL")),
@@ -369,18 +400,55 @@ mod tests {
             (&["dwalk"], None),
             (&["--help", "dwalk"], None),
             (&["dwalk", "/t", "--help"], None),
+            (&["help", "globs"], Some("Globs")),
+            (&["help", "expressions"], Some("Expressions")),
+            (&["help", "messages"], Some("Messages")),
+            (&["help", "statuses"], Some("Exit statuses")),
+            (&["help", "permissions"], Some("The permissions")),
+            (&["globs", "--help"], None),
+            (&["help", "globs", "statuses"], None),
         ];
         for (line, want) in cases {
-            let mut words = Vec::new(rt.alloc());
-            for word in line {
-                words.push(String::from_str(rt.alloc(), word)?)?;
-            }
-            let told = asked(&words);
+            let told = asked(&words_of(rt.alloc(), line)?);
             assert_eq!(rt; told.is_some(), want.is_some(), "{line:?}");
             if let (Some(told), Some(want)) = (told, want) {
                 assert!(rt; told.starts_with(want), "{line:?}");
             }
         }
         Ok(())
+    }
+
+    #[test]
+    fn help_is_anywhere_before_the_end_of_options(rt: HostRuntime) -> Result<(), Fail> {
+        let cases: [(&[&str], Option<&str>); 9] = [
+            (&["dwalk", "/t", "--help"], Some("usage: mfu dwalk")),
+            (&["dcp", "-h", "/t"], Some("usage: mfu dcp")),
+            (&["--help", "drm"], Some("usage: mfu TOOL")),
+            (&["dnone", "-h"], Some("usage: mfu TOOL")),
+            (
+                &["drm", "--name", "x", "-h", "--", "/t"],
+                Some("usage: mfu drm"),
+            ),
+            (&["drm", "--", "--help"], None),
+            (&["drm", "--", "/t", "-h"], None),
+            (&["dwalk", "--helping"], None),
+            (&[], None),
+        ];
+        for (line, want) in cases {
+            let told = asked_among(&words_of(rt.alloc(), line)?);
+            assert_eq!(rt; told.is_some(), want.is_some(), "{line:?}");
+            if let (Some(told), Some(want)) = (told, want) {
+                assert!(rt; told.starts_with(want), "{line:?}");
+            }
+        }
+        Ok(())
+    }
+
+    fn words_of(alloc: Global, line: &[&str]) -> Result<Vec<String>, Fail> {
+        let mut words = Vec::new(alloc);
+        for word in line {
+            words.push(String::from_str(alloc, word)?)?;
+        }
+        Ok(words)
     }
 }

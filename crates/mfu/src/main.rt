@@ -4,20 +4,29 @@
 //! with the status that this answers. A word that is no text ends it with status 2, and want of memory for the words with
 //! status 3.
 //!
-//! - `given` has the words.
-//! - `help` has what the program says of itself, which is printed where nothing else is asked for.
+//! - `given` has the words, and the file in which failures are kept.
+//! - `help` has what the program says of itself, and `topics` the parts of that which several tools share. They are printed where nothing
+//!   else is asked for, and for words that are refused and have `--help` among them.
+//! - `hints` has the line that follows the refusal of words.
 //!
-//! The files, the streams and the time of the system are those of the crate `real_disk`.
+//! The files, the streams and the time of the system are those of the crate `real_disk`. Only where standard error is a terminal, a line
+//! shows how far the run is, and a hint follows a refusal: every other reader gets the text of the run alone.
 #![tactic(auto)]
 
 mod given;
 mod help;
+mod hints;
+mod topics;
 
-use mfu_top::run;
-use real_disk::{RealGround, RealSink, seconds};
+use mfu_top::{Status, run};
+use outside::put_all;
+use real_disk::{AfterLive, Live, RealGround, RealSink, Watched, seconds};
+use std::alloc::Global;
 use std::fs::File;
+use std::io::{IsTerminal, Write};
 use std::os::fd::{AsRawFd, IntoRawFd};
 use std::process::ExitCode;
+use tool_words::{WordsError, read_words};
 
 fn main(rt: HostRuntime) -> ExitCode {
     take_closed_streams(&rt);
@@ -25,12 +34,20 @@ fn main(rt: HostRuntime) -> ExitCode {
         Ok(words) => words,
         Err(status) => return ExitCode::from(status.number()),
     };
-    if let Some(text) = help::asked(&words) {
+    if let Some(text) = help_for(rt.alloc(), &words) {
         return ExitCode::from(help::print(rt.stdout(), text).number());
     }
-    let mut files = RealGround::make(rt.alloc(), rt);
-    let mut out = RealSink::make(rt.stdout());
-    let mut notes = RealSink::make(rt.stderr());
+    let errors = given::errors_file(&rt, rt.stderr());
+    let is_shown = rt.stderr().is_terminal();
+    let live = if is_shown {
+        Live::make(rt.alloc(), rt, rt.stderr(), tool_of(&words)).ok()
+    } else {
+        None
+    };
+    let system = Watched::make(rt.alloc(), rt, live.as_ref(), errors.as_ref());
+    let mut files = RealGround::make(rt.alloc(), system);
+    let mut out = RealSink::make(AfterLive::make(live.as_ref(), rt.stdout()));
+    let mut notes = RealSink::make(AfterLive::make(live.as_ref(), rt.stderr()));
     let now = seconds(&rt);
     let status = run(
         &rt,
@@ -41,7 +58,50 @@ fn main(rt: HostRuntime) -> ExitCode {
         &mut notes,
         now,
     );
+    if let Some(live) = &live {
+        live.end();
+    }
+    if is_shown && status == Status::Words {
+        print_hint(rt.alloc(), &words, rt.stderr());
+    }
     ExitCode::from(status.number())
+}
+
+fn tool_of(words: &[String]) -> &str {
+    match words.first() {
+        Some(tool) => tool.as_str(),
+        None => "",
+    }
+}
+
+// The help that the words ask for, alone or among words that are refused.
+fn help_for(alloc: Global, words: &[String]) -> Option<&'static str> {
+    if let Some(text) = help::asked(words) {
+        return Some(text);
+    }
+    let text = help::asked_among(words)?;
+    match read_words(alloc, words) {
+        Err(WordsError::OutOfMemory) => None,
+        Err(_) => Some(text),
+        Ok(_) => None,
+    }
+}
+
+// Says which rule is broken, where words were refused. A hint that can't be made or written is left out.
+fn print_hint<W: Write + Drop>(alloc: Global, words: &[String], to: W) {
+    let mut to = RealSink::make(to);
+    match read_words(alloc, words) {
+        Ok(_) => {
+            let _ = put_all(&mut to, hints::COPY.as_bytes());
+        }
+        Err(why) => {
+            if let Some(refusal) = why.refusal() {
+                if let Ok(line) = hints::hint(alloc, words, refusal) {
+                    let _ = put_all(&mut to, line.as_bytes());
+                }
+            }
+        }
+    }
 }
 
 // Takes the numbers of standard streams that are closed, as long as the program runs: else the next file that it opens would get

@@ -1,99 +1,195 @@
-//! What the system's errors mean as answers of the traits. Whatever stands in no line here is a fault.
-ghost use Rattle.std.specs.Prelude.{◌≡◌, IfErr, IsTrue};
+//! What the system's errors mean as answers of the traits. Whatever stands in no line here is a fault, and who watches hears of it.
+ghost use Rattle.std.specs.Prelude.{◌≡◌, ℕ, Ok, IfErr, IsTrue};
 ghost use Rattle.outside.specs.Writes.{may_make, may_change, may_empty};
 
-use outside::{LinkError, ReadError, WriteError};
+use crate::watch::{Call, Watch};
+use outside::{LinkError, LinkText, LinkTextError, ReadError, WriteError};
+use path_text::Path;
+use std::alloc::Global;
 use std::io;
 use std::io::ErrorKind;
+use std::path::PathBuf;
 
 /// Whether nothing stands at the path of a call: no name there, or no directory over it.
 pub fn is_absent(kind: ErrorKind) -> bool {
     kind == ErrorKind::NotFound || kind == ErrorKind::NotADirectory
 }
 
+// A call that failed.
+fn fault<R: Watch>(watch: &R, call: Call, path: &Path, cause: &io::Error) -> WriteError
+    ensures { result ≡ WriteError.Failed }
+{
+    watch.failed(call, path, cause);
+    WriteError::Failed
+}
+
 /// What a call answers that made a node.
-pub fn made<T>(told: io::Result<T>) -> Result<T, WriteError>
-where
-    T: Drop,
+pub fn made<R: Watch>(
+    watch: &R,
+    call: Call,
+    path: &Path,
+    told: io::Result<()>,
+) -> Result<(), WriteError>
     ensures { IfErr result (λ e. IsTrue (may_make e)) }
 {
     match told {
-        Ok(made) => Ok(made),
+        Ok(()) => {
+            watch.did(call, 1);
+            Ok(())
+        }
         Err(e) => Err(match e.kind() {
             ErrorKind::AlreadyExists => WriteError::Exists,
             ErrorKind::NotFound => WriteError::NoParent,
             ErrorKind::NotADirectory => WriteError::NoParent,
-            _ => WriteError::Failed,
+            _ => fault(watch, call, path, &e),
         }),
     }
 }
 
 /// What a call answers that changed or removed what is no directory.
-pub fn changed<T>(told: io::Result<T>) -> Result<T, WriteError>
+pub fn changed<R: Watch, T>(
+    watch: &R,
+    call: Call,
+    path: &Path,
+    told: io::Result<T>,
+) -> Result<T, WriteError>
 where
     T: Drop,
     ensures { IfErr result (λ e. IsTrue (may_change e)) }
 {
     match told {
-        Ok(changed) => Ok(changed),
+        Ok(changed) => {
+            watch.did(call, 1);
+            Ok(changed)
+        }
         Err(e) => Err(match e.kind() {
             ErrorKind::NotFound => WriteError::Absent,
             ErrorKind::NotADirectory => WriteError::Absent,
             ErrorKind::IsADirectory => WriteError::WrongKind,
-            _ => WriteError::Failed,
+            _ => fault(watch, call, path, &e),
         }),
     }
 }
 
 /// What a call answers that removed a directory. Where a directory is missing, the path itself may be none or one over it.
-pub fn emptied(told: io::Result<()>) -> Result<(), WriteError>
+pub fn emptied<R: Watch>(watch: &R, path: &Path, told: io::Result<()>) -> Result<(), WriteError>
     ensures { IfErr result (λ e. IsTrue (may_empty e)) }
 {
     match told {
-        Ok(()) => Ok(()),
+        Ok(()) => {
+            watch.did(Call::RemoveDir, 1);
+            Ok(())
+        }
         Err(e) => Err(match e.kind() {
             ErrorKind::NotFound => WriteError::Absent,
             ErrorKind::NotADirectory => WriteError::WrongKind,
             ErrorKind::DirectoryNotEmpty => WriteError::NotEmpty,
             ErrorKind::AlreadyExists => WriteError::NotEmpty,
-            _ => WriteError::Failed,
+            _ => fault(watch, Call::RemoveDir, path, &e),
         }),
     }
 }
 
 /// What a call answers that wrote so many bytes. Fewer are a fault.
-pub fn wrote(told: io::Result<usize>, len: usize) -> Result<(), WriteError>
+pub fn wrote<R: Watch>(
+    watch: &R,
+    path: &Path,
+    told: io::Result<usize>,
+    len: usize,
+) -> Result<(), WriteError>
     ensures { IfErr result (λ e. IsTrue (may_change e)) }
 {
     match told {
-        Ok(n) if n == len => Ok(()),
-        _ => Err(WriteError::Failed),
+        Ok(n) if n == len => {
+            watch.did(Call::Write, n as u64);
+            Ok(())
+        }
+        Ok(_) => {
+            let short = io::Error::from(ErrorKind::WriteZero);
+            Err(fault(watch, Call::Write, path, &short))
+        }
+        Err(e) => Err(fault(watch, Call::Write, path, &e)),
     }
 }
 
-/// Why the text of a link was not read. Where something else stands at the path, the system says that the call makes no sense.
-pub fn unread(kind: ErrorKind) -> LinkError {
-    match kind {
+/// The text of a link, as the system told it.
+pub fn text_of<R: Watch>(
+    watch: &R,
+    alloc: Global,
+    path: &Path,
+    told: io::Result<PathBuf>,
+) -> Result<LinkText, LinkError> {
+    let told = match told {
+        Ok(text) => LinkText::parse(alloc, text.as_str()),
+        Err(e) => return Err(unread(watch, path, &e)),
+    };
+    match told {
+        Ok(text) => {
+            watch.did(Call::ReadLink, 1);
+            Ok(text)
+        }
+        Err(LinkTextError::OutOfMemory) => Err(LinkError::OutOfMemory),
+        Err(_) => {
+            let no_text = io::Error::from(ErrorKind::InvalidData);
+            watch.failed(Call::ReadLink, path, &no_text);
+            Err(LinkError::Failed)
+        }
+    }
+}
+
+// Why the text of a link was not read. Where something else stands at the path, the system says that the call makes no sense.
+fn unread<R: Watch>(watch: &R, path: &Path, cause: &io::Error) -> LinkError {
+    match cause.kind() {
         ErrorKind::NotFound => LinkError::NotLink,
         ErrorKind::NotADirectory => LinkError::NotLink,
         ErrorKind::InvalidInput => LinkError::NotLink,
         ErrorKind::OutOfMemory => LinkError::OutOfMemory,
-        _ => LinkError::Failed,
+        _ => {
+            watch.failed(Call::ReadLink, path, cause);
+            LinkError::Failed
+        }
     }
 }
 
 /// What a call answers that opened a file to read it. What is no file is refused as a directory is.
-pub fn opened<T>(told: io::Result<T>) -> Result<T, ReadError>
+pub fn opened<R: Watch, T>(watch: &R, path: &Path, told: io::Result<T>) -> Result<T, ReadError>
 where
     T: Drop,
 {
     match told {
-        Ok(opened) => Ok(opened),
+        Ok(opened) => {
+            watch.did(Call::Open, 1);
+            Ok(opened)
+        }
         Err(e) => Err(match e.kind() {
             ErrorKind::NotFound => ReadError::NotFile,
             ErrorKind::NotADirectory => ReadError::NotFile,
             ErrorKind::IsADirectory => ReadError::NotFile,
-            _ => ReadError::Failed,
+            _ => {
+                watch.failed(Call::Open, path, &e);
+                ReadError::Failed
+            }
         }),
+    }
+}
+
+/// What a read answers.
+pub fn was_read<R: Watch>(
+    watch: &R,
+    path: &Path,
+    told: io::Result<usize>,
+) -> Result<usize, ReadError>
+    ensures same { (n : ℕ) → result ≡ Ok n → told ≡ Ok n }
+    ensures refused { IfErr result (λ e. e ≡ ReadError.Failed) }
+{
+    match told {
+        Ok(n) => {
+            watch.did(Call::Read, n as u64);
+            Ok(n)
+        }
+        Err(e) => {
+            watch.failed(Call::Read, path, &e);
+            Err(ReadError::Failed)
+        }
     }
 }

@@ -3,13 +3,12 @@ ghost use Rattle.std.specs.Prelude.{◌≡◌, ◌≢◌, ◌≤◌, ℕ, pos, n
 ghost use Rattle.outside.specs.Count.{RoseBy};
 ghost use Rattle.outside.specs.Tree.{AreNames};
 
-use crate::answers::{is_absent, opened, unread};
+use crate::answers::{is_absent, opened, text_of, was_read};
 use crate::handles::{Handle, to_read};
 use crate::names::FoundNames;
-use crate::parents::Parents;
-use outside::{
-    Failed, Kind, LinkError, LinkText, LinkTextError, ListError, Listing, ReadError, Stat, Tree,
-};
+use crate::parents::{Parents, another};
+use crate::watch::{Call, Watch};
+use outside::{Failed, Kind, LinkError, LinkText, ListError, Listing, ReadError, Stat, Tree};
 use path_text::{OutOfMemory, Path};
 use std::alloc::Global;
 use std::fs::{Files, Metadata};
@@ -82,7 +81,7 @@ impl<R: Files> RealReader<R> {
     }
 }
 
-impl<R: Files> RealReader<R>
+impl<R: Files + Watch> RealReader<R>
 where
     R::File: FileExt + AsRawFd,
 {
@@ -109,10 +108,13 @@ where
         ensures untouched { IsErrOf result ReadError.NotFile → into.new ≡ into.old }
     {
         if let Some(file) = self.open_file(path) {
-            return file.read_at(into, at).map_err(|_| ReadError::Failed);
+            let told = file.read_at(into, at);
+            return was_read(&self.system, path, told);
         }
-        let file = opened(self.opened(path))?;
-        let n = file.read_at(into, at).map_err(|_| ReadError::Failed)?;
+        let told = self.opened(path);
+        let file = opened(&self.system, path, told)?;
+        let told = file.read_at(into, at);
+        let n = was_read(&self.system, path, told)?;
         self.before = self.last.take();
         self.last = Handle::keep(path, file);
         Ok(n)
@@ -145,7 +147,7 @@ where
     }
 }
 
-impl<R: Files> Tree for RealReader<R>
+impl<R: Files + Watch> Tree for RealReader<R>
 where
     R::File: FileExt + AsRawFd,
 {
@@ -165,8 +167,14 @@ where
         self.before = None;
         self.parents.leave(path);
         match self.look(path) {
-            Ok(stat) => Ok(stat),
-            Err(_) => Err(self.fault()),
+            Ok(stat) => {
+                self.system.did(Call::Stat, 1);
+                Ok(stat)
+            }
+            Err(e) => {
+                self.system.failed(Call::Stat, path, &e);
+                Err(self.fault())
+            }
         }
     }
 
@@ -175,6 +183,7 @@ where
         let told = listing_of(&self.system, alloc, path, self.buffer.as_mut_slice());
         match told {
             Ok(_) if !self.parents.is_child(&self.system, path) => {
+                self.system.failed(Call::List, path, &another());
                 self.fault();
                 Err(ListError::Failed)
             }
@@ -202,26 +211,14 @@ where
 
     /// The text is that of the link itself. One that is no text of a link, as one that is not UTF-8, is a fault.
     fn read_link(&mut self, alloc: Global, path: &Path) -> Result<LinkText, LinkError> {
-        match text_of(alloc, self.text_at(alloc, path)) {
+        let told = self.text_at(alloc, path);
+        match text_of(&self.system, alloc, path, told) {
             Err(LinkError::Failed) => {
                 self.fault();
                 Err(LinkError::Failed)
             }
             told => told,
         }
-    }
-}
-
-// The text of a link, as the system told it.
-fn text_of(alloc: Global, told: io::Result<PathBuf>) -> Result<LinkText, LinkError> {
-    let text = match told {
-        Ok(text) => text,
-        Err(e) => return Err(unread(e.kind())),
-    };
-    match LinkText::parse(alloc, text.as_str()) {
-        Ok(text) => Ok(text),
-        Err(LinkTextError::OutOfMemory) => Err(LinkError::OutOfMemory),
-        Err(_) => Err(LinkError::Failed),
     }
 }
 
@@ -263,7 +260,7 @@ fn kind_of(data: &Metadata) -> Kind {
 }
 
 // The names in the directory at the path, read through the buffer. The directory is opened once.
-fn listing_of<R: Files>(
+fn listing_of<R: Files + Watch>(
     system: &R,
     alloc: Global,
     path: &Path,
@@ -274,14 +271,16 @@ fn listing_of<R: Files>(
     let mut folder = match system.open_dir(path.text()) {
         Ok(folder) => folder,
         Err(e) if is_absent(e.kind()) => return Err(ListError::NotDir),
-        Err(_) => return Err(ListError::Failed),
+        Err(e) => return Err(unlisted(system, path, &e)),
     };
     let mut found = FoundNames::make(alloc);
     for _ in 0..u64::MAX {
-        let Ok(n) = folder.read(buffer) else {
-            return Err(ListError::Failed);
+        let n = match folder.read(buffer) {
+            Ok(n) => n,
+            Err(e) => return Err(unlisted(system, path, &e)),
         };
         if n == 0 {
+            system.did(Call::List, 1);
             return found.listing(path).map_err(|_| ListError::OutOfMemory);
         }
         if found.add_piece(&buffer[..n]).is_err() {
@@ -289,4 +288,10 @@ fn listing_of<R: Files>(
         }
     }
     Err(ListError::Failed)
+}
+
+// A directory whose names the system did not tell.
+fn unlisted<R: Watch>(watch: &R, path: &Path, cause: &io::Error) -> ListError {
+    watch.failed(Call::List, path, cause);
+    ListError::Failed
 }

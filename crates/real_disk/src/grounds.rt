@@ -9,6 +9,7 @@ ghost use Rattle.real_disk.specs.Spans.{count_of, piece_of, untold};
 use crate::disk::RealReader;
 use crate::parents::Parents;
 use crate::spans::{Cuttings, RealSpan, faults_of, spans_of};
+use crate::watch::Watch;
 use crate::writers::RealWriter;
 use outside::{Ground, Lent, LinkText, Plot, SpanError, Tops, Tree, Wide, WriteError};
 use path_text::{OutOfMemory, Path};
@@ -73,7 +74,7 @@ where
     }
 }
 
-impl<R: Files + Copy> Plot for RealGround<R>
+impl<R: Files + Watch + Copy> Plot for RealGround<R>
 where
     R::File: FileExt + AsRawFd,
 {
@@ -128,7 +129,7 @@ where
     }
 }
 
-impl<R: Files + Copy> Plot for RealPart<R>
+impl<R: Files + Watch + Copy> Plot for RealPart<R>
 where
     R::File: FileExt + AsRawFd,
 {
@@ -183,7 +184,7 @@ where
     }
 }
 
-impl<R: Files + Copy> Ground for RealGround<R>
+impl<R: Files + Watch + Copy> Ground for RealGround<R>
 where
     R::File: FileExt + AsRawFd,
 {
@@ -216,7 +217,7 @@ where
     }
 }
 
-impl<R: Files + Copy> Wide for RealGround<R>
+impl<R: Files + Watch + Copy> Wide for RealGround<R>
 where
     R::File: FileExt + AsRawFd,
 {

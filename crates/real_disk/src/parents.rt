@@ -333,7 +333,7 @@ fn is_within(path: &str, top: &str) -> bool {
     }
 }
 
-// Another directory stands where a known one should.
-fn another() -> io::Error {
+/// Another directory stands where a known one should.
+pub fn another() -> io::Error {
     io::Error::from(ErrorKind::StaleNetworkFileHandle)
 }

@@ -6,6 +6,7 @@ ghost use Rattle.outside.specs.Writes.{Cut};
 ghost use Rattle.outside.specs.Spans.{Piece, are_cuts, ascends_above, cuts_at, pieces, pieces_from, without_cut};
 ghost use Rattle.real_disk.specs.Spans.{blank, count_of, piece_of, untold};
 
+use crate::watch::Watch;
 use crate::writers::RealWriter;
 use outside::{Span, SpanError};
 use path_text::{OutOfMemory, Path};
@@ -41,7 +42,7 @@ impl<R: Files> RealSpan<R> {
     }
 }
 
-impl<R: Files + Copy> Span for RealSpan<R>
+impl<R: Files + Watch + Copy> Span for RealSpan<R>
 where
     R::File: FileExt + AsRawFd,
 {
@@ -62,7 +63,7 @@ where
 }
 
 /// A span for each two neighbouring cuts, each with a writer that knows what this one does.
-pub fn spans_of<R: Files + Copy>(
+pub fn spans_of<R: Files + Watch + Copy>(
     alloc: Global,
     writer: &mut RealWriter<R>,
     path: &Path,
@@ -79,7 +80,7 @@ pub fn spans_of<R: Files + Copy>(
 }
 
 // A span from each place on to the next, the first place being this one.
-fn spans_behind<R: Files + Copy>(
+fn spans_behind<R: Files + Watch + Copy>(
     alloc: Global,
     writer: &mut RealWriter<R>,
     path: &Path,
@@ -99,7 +100,7 @@ fn spans_behind<R: Files + Copy>(
     Ok(spans)
 }
 
-fn span_at<R: Files + Copy>(
+fn span_at<R: Files + Watch + Copy>(
     writer: &mut RealWriter<R>,
     path: &Path,
     start: u64,

@@ -6,6 +6,7 @@ ghost use Rattle.outside.specs.Writes.{may_make, may_change, may_empty};
 use crate::answers::{changed, emptied, is_absent, made, wrote};
 use crate::handles::{Handle, to_make, to_write};
 use crate::parents::Parents;
+use crate::watch::{Call, Watch};
 use outside::{LinkText, SpanError, WriteError};
 use path_text::{OutOfMemory, Path};
 use std::fs::Files;
@@ -87,10 +88,10 @@ impl<R: Files> RealWriter<R> {
     }
 }
 
-impl<R: Files + Copy> RealWriter<R> {
-    /// The system that it writes to.
+impl<R: Files + Watch + Copy> RealWriter<R> {
+    /// The system that it writes to, for another that asks it.
     pub fn system(&self) -> R {
-        self.system
+        self.system.apart()
     }
 
     /// What it has come to know of directories.
@@ -100,7 +101,7 @@ impl<R: Files + Copy> RealWriter<R> {
     }
 }
 
-impl<R: Files> RealWriter<R>
+impl<R: Files + Watch> RealWriter<R>
 where
     R::File: FileExt + AsRawFd,
 {
@@ -110,7 +111,8 @@ where
         ensures count { RoseBy 0 self.old self.new }
         ensures cause { IsErrOf result WriteError.Failed → RoseBy 1 self.old self.new }
     {
-        let told = made(self.dir_made(path));
+        let told = self.dir_made(path);
+        let told = made(&self.system, Call::MakeDir, path, told);
         self.counted(told)
     }
 
@@ -120,7 +122,8 @@ where
         ensures count { RoseBy 0 self.old self.new }
         ensures cause { IsErrOf result WriteError.Failed → RoseBy 1 self.old self.new }
     {
-        let told = made(self.file_made(path));
+        let told = self.file_made(path);
+        let told = made(&self.system, Call::MakeFile, path, told);
         self.counted(told)
     }
 
@@ -130,7 +133,8 @@ where
         ensures count { RoseBy 0 self.old self.new }
         ensures cause { IsErrOf result WriteError.Failed → RoseBy 1 self.old self.new }
     {
-        let told = made(self.link_made(path, text));
+        let told = self.link_made(path, text);
+        let told = made(&self.system, Call::MakeLink, path, told);
         self.counted(told)
     }
 
@@ -172,7 +176,8 @@ where
         ensures cause { IsErrOf result WriteError.Failed → RoseBy 1 self.old self.new }
     {
         self.written = None;
-        let told = changed(self.file_removed(path));
+        let told = self.file_removed(path);
+        let told = changed(&self.system, Call::RemoveFile, path, told);
         self.counted(told)
     }
 
@@ -182,13 +187,14 @@ where
         ensures count { RoseBy 0 self.old self.new }
         ensures cause { IsErrOf result WriteError.Failed → RoseBy 1 self.old self.new }
     {
-        let told = emptied(self.dir_removed(path));
+        let told = self.dir_removed(path);
+        let told = emptied(&self.system, path, told);
         self.counted(told)
     }
 }
 
 // The same as the system tells it, each in the directory over the path.
-impl<R: Files> RealWriter<R>
+impl<R: Files + Watch> RealWriter<R>
 where
     R::File: FileExt + AsRawFd,
 {
@@ -301,11 +307,14 @@ where
     {
         if let Some(handle) = &self.written {
             if let Some(file) = handle.of(path) {
-                return wrote(file.write_at(bytes, at), bytes.len());
+                let told = file.write_at(bytes, at);
+                return wrote(&self.system, path, told, bytes.len());
             }
         }
-        let file = changed(self.file_opened(path))?;
-        wrote(file.write_at(bytes, at), bytes.len())?;
+        let told = self.file_opened(path);
+        let file = changed(&self.system, Call::Open, path, told)?;
+        let told = file.write_at(bytes, at);
+        wrote(&self.system, path, told, bytes.len())?;
         self.written = Handle::keep(path, file);
         Ok(())
     }

@@ -1,0 +1,197 @@
+//! The line that shows on a terminal how far a run is.
+use crate::rooms::{Node, Room};
+use crate::screens::{Hand, Screen};
+use crate::shared::{bytes, same, so, texts};
+use crate::walks::walked;
+use crate::whole_disk::{Act, DiskOver};
+use mfu_top::{Status, run};
+use outside::{Ground, MemSink, Tree};
+use real_disk::{AfterLive, Call, Live, RealGround, Watch, Watched};
+use std::fs;
+use std::io::{Write, writer};
+use std::process::Abort;
+
+const AMPLE: u64 = 10_000_000;
+
+// So many bytes are written at a time.
+const PIECE: &[u8] = &[7; 65536];
+
+// The screen of a room.
+fn screen_in(rt: &impl Abort, room: &Room) -> Screen {
+    Screen(room.appended("screen").expect(rt, "a screen"))
+}
+
+#[test]
+fn a_line_comes_each_half_second_and_is_erased(rt: HostRuntime) {
+    let room = Room::with(rt, &[]).expect(&rt, "a room");
+    let (hand, screen) = (Hand::with(0), screen_in(&rt, &room));
+    let live = Live::make(rt.alloc(), &hand, &screen, "dwalk").expect(&rt, "a line");
+    let system = Watched::make(rt.alloc(), rt, Some(&live), None);
+    let mut files = RealGround::make(rt.alloc(), system);
+    let mut reader = files.reader(rt.alloc()).expect(&rt, "memory");
+    for (time, looks, text) in [
+        (499, 1024u32, ""),
+        (500, 64, "\rmfu: looked at 1,088 paths"),
+        (999, 64, "\rmfu: looked at 1,088 paths"),
+        (
+            1000,
+            64,
+            "\rmfu: looked at 1,088 paths\rmfu: looked at 1,216 paths",
+        ),
+    ] {
+        hand.put(time);
+        for _ in 0..looks {
+            so(&rt, reader.stat(room.top()).is_ok(), "a look");
+        }
+        so(&rt, room.holds("screen", text.as_bytes()), text);
+    }
+    let erased =
+        "\rmfu: looked at 1,088 paths\rmfu: looked at 1,216 paths\r                          \r";
+    hand.put(9000);
+    live.end();
+    live.end();
+    for _ in 0..256u32 {
+        so(&rt, reader.stat(room.top()).is_ok(), "a look");
+    }
+    so(&rt, room.holds("screen", erased.as_bytes()), "erased once");
+    room.remove().expect(&rt, "an empty room");
+}
+
+#[test]
+fn a_tool_shows_its_own_numbers(rt: HostRuntime) {
+    for (tool, text) in [
+        ("dwalk", "\rmfu: looked at 3 paths"),
+        ("dcp", "\rmfu: looked at 3 paths, copied 2 files (5 MB)"),
+        ("drm", "\rmfu: looked at 3 paths, removed 1,000,005"),
+        ("dcmp", "\rmfu: looked at 3 paths, compared 3 files (3 MB)"),
+    ] {
+        let room = Room::with(rt, &[]).expect(&rt, "a room");
+        let (hand, screen) = (Hand::with(0), screen_in(&rt, &room));
+        let live = Live::make(rt.alloc(), &hand, &screen, tool).expect(&rt, "a line");
+        let system = Watched::make(rt.alloc(), rt, Some(&live), None);
+        for (call, count) in [
+            (Call::Stat, 3),
+            (Call::MakeFile, 2),
+            (Call::Write, 6_000_000),
+            (Call::RemoveFile, 4),
+            (Call::RemoveDir, 1_000_001),
+            (Call::Open, 7),
+            (Call::Read, 4_000_000),
+        ] {
+            system.did(call, count);
+        }
+        hand.put(500);
+        system.did(Call::List, 64);
+        so(&rt, room.holds("screen", text.as_bytes()), tool);
+        room.remove().expect(&rt, "an empty room");
+    }
+}
+
+#[test]
+fn readers_beside_each_other_add_up(rt: HostRuntime) {
+    let room = Room::with(rt, &[]).expect(&rt, "a room");
+    let (hand, screen) = (Hand::with(0), screen_in(&rt, &room));
+    let live = Live::make(rt.alloc(), &hand, &screen, "dwalk").expect(&rt, "a line");
+    let system = Watched::make(rt.alloc(), rt, Some(&live), None);
+    for _ in 0..200u32 {
+        system.apart().did(Call::Stat, 1);
+    }
+    hand.put(700);
+    system.did(Call::List, 64);
+    let text = b"\rmfu: looked at 200 paths".as_slice();
+    so(&rt, room.holds("screen", text), "the sum");
+    room.remove().expect(&rt, "an empty room");
+}
+
+#[test]
+fn calls_to_the_disk_are_counted(rt: HostRuntime) {
+    let big = bytes(&rt, 2_200_000);
+    let nodes = [("big", Node::File(&big)), ("file", Node::File(b"text"))];
+    let room = Room::with(rt, &nodes).expect(&rt, "a room");
+    let (hand, screen) = (Hand::with(0), screen_in(&rt, &room));
+    let live = Live::make(rt.alloc(), &hand, &screen, "dsync").expect(&rt, "a line");
+    let system = Watched::make(rt.alloc(), rt, Some(&live), None);
+    let mut disk = DiskOver::over(rt.alloc(), system);
+    let mut reader = disk.reader(rt.alloc()).expect(&rt, "memory");
+    let mut buffer = bytes(&rt, 2_200_000);
+    for names in ["big", "file"] {
+        let path = room.at(names).expect(&rt, "a path");
+        so(&rt, reader.stat(&path).is_ok(), names);
+        let told = reader.read(&path, 0, buffer.as_mut_slice());
+        so(&rt, told.is_ok(), names);
+    }
+    // The calls that answer no are not counted.
+    for (act, names) in [
+        (Act::MakeDir, "new"),
+        (Act::MakeDir, "new"),
+        (Act::MakeFile, "new/file"),
+        (Act::MakeFile, "new/file"),
+        (Act::Write(0, PIECE), "new/file"),
+        (Act::Write(65_536, PIECE), "new/file"),
+        (Act::RemoveDir, "new"),
+        (Act::RemoveFile, "new/file"),
+        (Act::RemoveFile, "new/file"),
+        (Act::RemoveDir, "new"),
+    ] {
+        let path = room.at(names).expect(&rt, "a path");
+        let _ = disk.act(rt.alloc(), act, &path);
+    }
+    for _ in 0..15u32 {
+        system.did(Call::Write, 65_536);
+    }
+    hand.put(500);
+    system.did(Call::List, 64);
+    let text =
+        "\rmfu: looked at 2 paths, compared 1 files (2 MB), copied 1 files (1 MB), removed 2";
+    so(&rt, room.holds("screen", text.as_bytes()), "the numbers");
+    room.remove().expect(&rt, "an empty room");
+}
+
+#[test]
+fn the_output_follows_the_erased_line(rt: HostRuntime) {
+    let room = Room::with(rt, &[]).expect(&rt, "a room");
+    let (hand, screen) = (Hand::with(0), screen_in(&rt, &room));
+    let live = Live::make(rt.alloc(), &hand, &screen, "dwalk").expect(&rt, "a line");
+    let system = Watched::make(rt.alloc(), rt, Some(&live), None);
+    hand.put(500);
+    system.did(Call::Stat, 64);
+    let mut stream = AfterLive::make(Some(&live), writer(&screen));
+    for text in [b"one\n".as_slice(), b"two\n".as_slice()] {
+        same(&rt, &stream.write(text).ok(), &Some(text.len()));
+    }
+    let text = "\rmfu: looked at 64 paths\r                       \rone\ntwo\n";
+    so(&rt, room.holds("screen", text.as_bytes()), "the text");
+    room.remove().expect(&rt, "an empty room");
+}
+
+// Each look at the clock finds that a line is due, so lines come as fast as they can.
+#[test]
+fn a_run_on_a_terminal_prints_the_same(rt: HostRuntime) {
+    let place = Room::with(rt, &[]).expect(&rt, "a room");
+    let room = Room::with(rt, &[("one", Node::Dir)]).expect(&rt, "a room");
+    for k in 0..300u32 {
+        let names = format!(in rt.alloc(); "one/{k}").expect(&rt, "memory");
+        let put = room.put(names.as_str(), Node::File(b"x"));
+        put.expect(&rt, "a file");
+    }
+    let want = walked(rt, room.top()).expect(&rt, "a walk");
+    let (hand, screen) = (Hand::with(1000), screen_in(&rt, &place));
+    let live = Live::make(rt.alloc(), &hand, &screen, "dwalk").expect(&rt, "a line");
+    let system = Watched::make(rt.alloc(), rt, Some(&live), None);
+    let mut files = RealGround::make(rt.alloc(), system);
+    let mut out = MemSink::limited(rt.alloc(), AMPLE).expect(&rt, "memory");
+    let mut notes = MemSink::limited(rt.alloc(), AMPLE).expect(&rt, "memory");
+    let words = texts(&rt, &["dwalk", "--hosts", "3", room.top().text()]);
+    let status = run(&rt, rt.alloc(), &words, &mut files, &mut out, &mut notes, 0);
+    so(&rt, status == Status::Done, "the status");
+    so(&rt, out.text() == want.as_bytes(), "the text");
+    so(&rt, notes.text().is_empty(), "no notes");
+    let shown = fs::read(&rt, place.at("screen").expect(&rt, "a path").text());
+    let shown = shown.expect(&rt, "a screen");
+    let is_begun = shown
+        .as_slice()
+        .starts_with(b"\rmfu: looked at ".as_slice());
+    so(&rt, is_begun, "lines");
+    place.remove().expect(&rt, "an empty room");
+    room.remove().expect(&rt, "an empty room");
+}
