@@ -79,7 +79,7 @@ is_untold e = is_of kind.Link e.stat && is_none e.target
 abbrev pub due : Files → List Pair → List (List ℕ × Fate) → Entry → Fate
 due before pairs rows e =
     or_else (early pairs rows e)
-        (if clashes e.stat (get before (target_of pairs e.path)) then fate.Conflict else if is_untold e then fate.Changed else fate.Done)
+    (if clashes e.stat (get before (target_of pairs e.path)) then fate.Conflict else if is_untold e then fate.Changed else fate.Done)
 
 -- fates in whose place `Failed` may stand
 abbrev pub may_fail : Fate → Bool
