@@ -16,6 +16,7 @@ use Rattle.circle_run.specs.Ready.{Bounded}
 use Rattle.circle_run.specs.declared.outcomes.Share.{Share}
 use Rattle.circle_run.specs.declared.settings.Options.{Options}
 use Rattle.circle_run.specs.declared.ranks.Rank.{Rank}
+use Rattle.circle_run.proofs.Asked.{true_not_false}
 use Rattle.circle_run.proofs.Stepped.{counted_then}
 
 pub if_some : (s : Option ℕ) (P : ℕ → Type 0) → ((k : ℕ) → s ≡ Some k → P k) → IfSome s P
@@ -144,3 +145,12 @@ module _ {J S T P Q : Type 0} (log : J → Log) (plain : J → Q) (shows : S →
         halts = halts;
         stops = stops;
       }
+
+  -- a rank that had not handled all that it may, and told nobody to halt, may have done so by what it did
+  pub has_all_after : (A : List Move → Type 0) (r : Rank J S T) (p : P) (r' : Rank J S T) (p' : P) → r'.options ≡ r.options
+      → Went log plain shows tells seats A r p r' p' → Bounded log shows r → IfSome r.options.stop_after (λ k. k ≤ 2 ^ 64 - 1)
+      → is_due r.options.stop_after r.book.share.handled ≡ false → (shows r'.seat).halted ≡ (shows r.seat).halted → r'.stopped ≡ false
+      → is_due r'.options.stop_after r'.book.share.handled ≡ true → r'.options.stop_after ≡ Some (length (log r'.job))
+  has_all_after A r p r' p' options w b few early same going all =
+      has_all log shows r' (bounded A r p r' p' options w b (λ halted. absurd (not_halted log shows r b few early (sym same ∙ halted)))
+      (λ stopped. absurd (true_not_false r'.stopped stopped going))) all

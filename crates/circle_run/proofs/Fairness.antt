@@ -12,12 +12,12 @@ use Rattle.ring_core.specs.Step.{after}
 use Rattle.ring_core.specs.Run.{after_all}
 use Rattle.post_board.specs.Shown.{Strings}
 use Rattle.post_board.specs.Told.{Mail, vacant, asked, full, empty, Told, place}
-use Rattle.post_board.specs.Deeds.{withdraw, halt, stop}
+use Rattle.post_board.specs.Deeds.{Late, halt}
 use Rattle.circle_run.specs.Moves.{Move, handled, served, did, noted, Side, events_of, Does}
 use Rattle.circle_run.specs.Stages.{RankSide, Stage, rank_side, side, Plays, events_of_all, begun}
 use Rattle.circle_run.specs.Worlds.{desk_of}
 use Rattle.circle_run.specs.Waiting.{NothingWaitsAtEnd}
-use Rattle.circle_run.specs.Fair.{handles, ComesBefore, is_asking, LetsOthers, IsFair, is_handling, HandlesLast, moves_in, is_waiting, PlaysTurns}
+use Rattle.circle_run.specs.Fair.{handles, ComesBefore, is_asking, LetsOthers, IsFair, HandlesLast, moves_in, is_waiting, PlaysTurns}
 use Rattle.circle_run.specs.Fair.{moves_of_turns, TurnsArePlayed, RoundsAreFair}
 use Rattle.circle_run.specs.declared.settings.Options.{Options}
 use Rattle.circle_run.proofs.Stopping.{moves_halt, quiet, never_late}
@@ -107,25 +107,17 @@ asking_is_waiting (asked r) = refl
 asking_is_waiting (full r b) = refl
 asking_is_waiting (empty r) = refl
 
--- a move that handles no string
-calm_handles : (me : ℕ) (m : Move) → is_handling m ≡ false → NoHandle (events_of me m)
-calm_handles me (handled path kids) calm = cc
-calm_handles me (served answers) calm = answers_handle me answers
-calm_handles me (did d) calm = (deed_handles me d, tt)
-calm_handles me (noted (withdraw from)) calm = ((λ r. refl), tt)
-calm_handles me (noted halt) calm = tt
-calm_handles me (noted stop) calm = tt
-
 module _ (at_end : NothingWaitsAtEnd) (o : Options) (starts : Strings) (some : 0 < o.ranks) (endless : o.stop_after ≡ None) where
   abbrev later_events : ℕ → List (List Move) → List Event
   later_events k turns = events_of_all (moves_of_turns o.ranks (suc k) turns)
 
-  -- the last move of a turn, with the turns after it
-  last_is_fair : (turns : List (List Move)) (past : List (ℕ × Move)) (k : ℕ) (w : Seen) (from to : Stage) (m : Move) (x : RankSide) (t : Told)
-      → Reached o starts past w from → Does o (k % o.ranks) m (side (rank_side from (k % o.ranks)) from.told) (side x t)
+  -- a string is handled, as the last but for a halt, with the turns after it
+  handled_is_fair : (turns : List (List Move)) (past : List (ℕ × Move)) (k : ℕ) (w : Seen) (from to : Stage) (path : List ℕ) (kids : Strings) (x : RankSide)
+      (t : Told) → Reached o starts past w from → Does o (k % o.ranks) (handled path kids) (side (rank_side from (k % o.ranks)) from.told) (side x t)
       → PlaysTurns o (suc k) turns (record { ranks = set from.ranks (k % o.ranks) x; told = t }) to
-      → IsFair (after_all w (events_of (k % o.ranks) m)) (later_events k turns) → IsFair w (events_of (k % o.ranks) m ++ later_events k turns)
-  last_is_fair turns past k w from to (handled path kids) x t reached does rest fair =
+      → IsFair (after_all w (events_of (k % o.ranks) (handled path kids))) (later_events k turns)
+      → IsFair w (events_of (k % o.ranks) (handled path kids) ++ later_events k turns)
+  handled_is_fair turns past k w from to path kids x t reached does rest fair =
       let a : ℕ = k % o.ranks in
       let mid : Stage = record { ranks = set from.ranks a x; told = t } in
       let same : t ≡ from.told = some_is t from.told (ap (λ (z : Side). z.told) does.after) in
@@ -138,13 +130,12 @@ module _ (at_end : NothingWaitsAtEnd) (o : Options) (starts : Strings) (some : 0
             (owed at_end o starts endless turns (past ++ (a, handled path kids) ∷ []) (suc k) mid to a s turn.wait plays rest turn.own turn.other)),
         fair,
       )
-  last_is_fair turns past k w from to (served answers) x t reached does rest fair =
-      IsFair-append (events_of (k % o.ranks) (served answers)) (later_events k turns) w (answers_handle (k % o.ranks) answers) fair
-  last_is_fair turns past k w from to (noted late) x t reached does rest fair =
-      absurd (never_late o (k % o.ranks) late (rank_side from (k % o.ranks)) x from.told t endless
-      (quiet o from endless (moves_halt o starts past from reached.plays)) does)
-  last_is_fair turns past k w from to (did d) x t reached does rest fair =
-      IsFair-append (events_of (k % o.ranks) (did d)) (later_events k turns) w (deed_handles (k % o.ranks) d, tt) fair
+
+  -- in a run that stops after no number nobody notes anything
+  no_note : (past : List (ℕ × Move)) (w : Seen) (from : Stage) (me : ℕ) (late : Late) (x : RankSide) (t : Told) → Reached o starts past w from
+      → Does o me (noted late) (side (rank_side from me) from.told) (side x t) → ⊥
+  no_note past w from me late x t reached does =
+      never_late o me late (rank_side from me) x from.told t endless (quiet o from endless (moves_halt o starts past from reached.plays)) does
 
   -- the moves of a turn, with the turns after it
   turn_is_fair : (turns : List (List Move)) (k : ℕ) (mid to : Stage) → PlaysTurns o (suc k) turns mid to
@@ -153,19 +144,36 @@ module _ (at_end : NothingWaitsAtEnd) (o : Options) (starts : Strings) (some : 0
       → Plays o (moves_in (k % o.ranks) turn) from mid
       → IsFair w (events_of_all (moves_in (k % o.ranks) turn ++ moves_of_turns o.ranks (suc k) turns))
   turn_is_fair turns k mid to rest later [] past w from last reached same = later past w (subst (Reached o starts past w) (sym same) reached)
-  turn_is_fair turns k mid to rest later (m ∷ []) past w from last reached (x, t, does, same) =
+  turn_is_fair turns k mid to rest later (handled path kids ∷ []) past w from last reached (x, t, does, same) =
       let a : ℕ = k % o.ranks in
+      let m : Move = handled path kids in
       let after_it : Stage = record { ranks = set from.ranks a x; told = t } in
       let reached' : Reached o starts (past ++ (a, m) ∷ []) (after_all w (events_of a m)) after_it = step o starts past w from (a, m) x t reached does in
-      last_is_fair turns past k w from to m x t reached does (subst (λ (z : Stage). PlaysTurns o (suc k) turns z to) same rest)
+      handled_is_fair turns past k w from to path kids x t reached does (subst (λ (z : Stage). PlaysTurns o (suc k) turns z to) same rest)
       (later (past ++ (a, m) ∷ []) (after_all w (events_of a m))
       (subst (Reached o starts (past ++ (a, m) ∷ []) (after_all w (events_of a m))) (sym same) reached'))
-  turn_is_fair turns k mid to rest later (m ∷ (next ∷ turn)) past w from (calm, last) reached (x, t, does, plays) =
+  turn_is_fair turns k mid to rest later (handled path kids ∷ (next ∷ turn)) past w from (inl none, last) reached plays =
+      absurd (let l : length (next ∷ turn) ≡ 0 = ap length none in omega arith)
+  turn_is_fair turns k mid to rest later (handled path kids ∷ (next ∷ turn)) past w from (inr halts, last) reached (x, t, does, plays) =
       let a : ℕ = k % o.ranks in
       let after_it : Stage = record { ranks = set from.ranks a x; told = t } in
-      IsFair-append (events_of a m) (events_of_all (moves_in a (next ∷ turn) ++ moves_of_turns o.ranks (suc k) turns)) w (calm_handles a m calm)
-      (turn_is_fair turns k mid to rest later (next ∷ turn) (past ++ (a, m) ∷ []) (after_all w (events_of a m)) after_it last
+      let (y, u, late, same) = subst (λ (ms : List Move). Plays o (moves_in a ms) after_it mid) halts plays in
+      absurd (no_note (past ++ (a, handled path kids) ∷ []) (after_all w (events_of a (handled path kids))) after_it a halt y u
+      (step o starts past w from (a, handled path kids) x t reached does) late)
+  turn_is_fair turns k mid to rest later (served answers ∷ turn) past w from (follows, last) reached (x, t, does, plays) =
+      let a : ℕ = k % o.ranks in
+      let m : Move = served answers in
+      IsFair-append (events_of a m) (events_of_all (moves_in a turn ++ moves_of_turns o.ranks (suc k) turns)) w (answers_handle a answers)
+      (turn_is_fair turns k mid to rest later turn (past ++ (a, m) ∷ []) (after_all w (events_of a m)) (record { ranks = set from.ranks a x; told = t }) last
       (step o starts past w from (a, m) x t reached does) plays)
+  turn_is_fair turns k mid to rest later (did d ∷ turn) past w from (follows, last) reached (x, t, does, plays) =
+      let a : ℕ = k % o.ranks in
+      let m : Move = did d in
+      IsFair-append (events_of a m) (events_of_all (moves_in a turn ++ moves_of_turns o.ranks (suc k) turns)) w (deed_handles a d, tt)
+      (turn_is_fair turns k mid to rest later turn (past ++ (a, m) ∷ []) (after_all w (events_of a m)) (record { ranks = set from.ranks a x; told = t }) last
+      (step o starts past w from (a, m) x t reached does) plays)
+  turn_is_fair turns k mid to rest later (noted late ∷ turn) past w from last reached (x, t, does, plays) =
+      absurd (no_note past w from (k % o.ranks) late x t reached does)
 
   turns_are_fair : (turns : List (List Move)) (past : List (ℕ × Move)) (k : ℕ) (w : Seen) (from to : Stage) → Reached o starts past w from
       → PlaysTurns o k turns from to

@@ -27,6 +27,7 @@ use Rattle.circle_run.specs.Fair.{PlaysTurns, moves_of_turns, RoundsAreFair, IsF
 use Rattle.circle_run.specs.Books.{counted}
 use Rattle.circle_run.specs.Progress.{KeptOf, KeptAll}
 use Rattle.circle_run.specs.Hosts.{events_by, NoneLost, AreAll, Same, AllEnded, rank_of, stage_of, Ran, KeptInOrder}
+use Rattle.circle_run.specs.ByRank.{Played}
 use Rattle.circle_run.specs.Traced.{IsTraced, share_in, IsProgress}
 use Rattle.circle_run.specs.Private.Outcomes.{IsOutcome, IsRun}
 use Rattle.circle_run.specs.declared.outcomes.Share.{Share}
@@ -289,6 +290,29 @@ module _ {J S T P Q D : Type 0} (log : J → Log) (plain : J → D) (shows : S �
             (progressed o ranks p q total f.sums.items x.last.all x.some x.last.done x.last.found x.answer x.total_is x.sums_are);
       }
 
+  abbrev left_of : Finished J → List Strings
+  left_of f = map (λ (l : Vec (List ℕ) _). l.items) f.left.items
+
+  -- what each rank has left and did
+  played : (o : Options) (starts : Strings) (jobs : List J) (ranks0 ranks : List (Rank J S T)) (p0 p : P) (q0 q : Q) (total : ℕ) (f : Finished J)
+      → Ending o starts jobs ranks0 ranks p0 p q0 q total f → Played o starts (map log f.jobs.items) (left_of f) f.shares.items
+  played o starts jobs ranks0 ranks p0 p q0 q total f x =
+      let moves : List (ℕ × Move) = moves_of_turns o.ranks 0 x.ran.turns in
+      let last : Stage = stage_of log tells ranks x.ran.told in
+      let c : Course o starts ranks moves x.ran.told = course o starts jobs ranks0 ranks p0 p q0 q total f x in
+      let logs_of : RankSide → Log = λ r. r.log in
+      let strings_of : RankSide → Strings = λ r. r.queue in
+      let side_of : Rank J S T → RankSide = rank_of log tells in
+      record {
+        moves = moves;
+        last = last;
+        plays = c.plays;
+        mailboxes = x.mailboxes x.ran.told x.ran.after;
+        logs_are = ap (map log) x.jobs_are ∙ map-map log job_of ranks ∙ sym (map-map logs_of side_of ranks);
+        left_are = x.left_are ∙ sym (map-map strings_of side_of ranks);
+        counts = x.shares_are ∙ map_is share_of (share_in (events_of_all moves)) ranks o.ranks x.last.all.count c.shares.told;
+      }
+
   -- a run that stops after no number, as its events tell it
   run : (o : Options) (starts : Strings) (jobs : List J) (ranks0 ranks : List (Rank J S T)) (p0 p : P) (q0 q : Q) (total : ℕ) (f : Finished J)
       → Ending o starts jobs ranks0 ranks p0 p q0 q total f → o.stop_after ≡ None → IsRun log o starts f
@@ -329,9 +353,13 @@ module _ {J S T P Q D : Type 0} (log : J → Log) (plain : J → D) (shows : S �
       }
 
   pub closed : (o : Options) (starts : Strings) (jobs : List J) (ranks0 ranks : List (Rank J S T)) (p0 p : P) (q0 q : Q) (total : ℕ) (f : Finished J)
-      → Ending o starts jobs ranks0 ranks p0 p q0 q total f → IsOutcome log plain o starts jobs f × (o.stop_after ≡ None → IsRun log o starts f)
-  closed o starts jobs ranks0 ranks p0 p q0 q total f x =
-      (outcome o starts jobs ranks0 ranks p0 p q0 q total f x, run o starts jobs ranks0 ranks p0 p q0 q total f x)
+      → Ending o starts jobs ranks0 ranks p0 p q0 q total f
+      → IsOutcome log plain o starts jobs f × (o.stop_after ≡ None → IsRun log o starts f) × Played o starts (map log f.jobs.items) (left_of f) f.shares.items
+  closed o starts jobs ranks0 ranks p0 p q0 q total f x = (
+    outcome o starts jobs ranks0 ranks p0 p q0 q total f x,
+    run o starts jobs ranks0 ranks p0 p q0 q total f x,
+    played o starts jobs ranks0 ranks p0 p q0 q total f x,
+  )
 
   -- the seats may be gathered
   pub seats_done : (o : Options) (ranks : List (Rank J S T)) (p : P) (q : Q) (all_seats : List S) → AreAll o ranks

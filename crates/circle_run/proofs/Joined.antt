@@ -36,7 +36,7 @@ module _ {J S T P Q D : Type 0} (log : J → Log) (plain : J → D) (shows : S �
           over = ran.ended k d h;
         });
         alone = λ none k d h. (let b : k < length before = omega arith in
-            subst (λ (x : Rank J S T). Alone log shows x (get_or after k d)) (sym (at k d b)) (ran.alone none k d b));
+            subst (λ (x : Rank J S T). Alone log shows x (get_or after k d)) (sym (at k d b)) (ran.alone k d b (none k d h)));
       }
 
   pub done_numbers : (p : P) (q : Q) (before after : List (Rank J S T)) → HostRan log plain shows seats sums_shows sums_seats p q before after

@@ -1,5 +1,5 @@
 -- A rank's moves over a board that tells nothing.
-use Rattle.std.proofs.Common.{◌≡◌, ℕ, ◌<◌, refl, sym, subst, ap, ◌∙◌, arith, List, [], ◌∷◌, ◌++◌, map, length, length-set, set, get_or, Option, None}
+use Rattle.std.proofs.Common.{◌≡◌, ℕ, ◌<◌, false, refl, sym, subst, ap, ◌∙◌, arith, List, [], ◌∷◌, ◌++◌, map, length, length-set, set, get_or, Option, None}
 use Rattle.std.proofs.lemmas.List.{get_or_read, get_or_default}
 use Rattle.std.specs.List.{flat_map}
 use Rattle.std.proofs.lemmas.List.Concat.{flat_map-append}
@@ -11,7 +11,7 @@ use Rattle.circle_run.specs.Balance.{Log}
 use Rattle.circle_run.specs.Moves.{Move, handled, served, did, noted, Side, answer_of, TellsAll, Does, events_of}
 use Rattle.circle_run.specs.Books.{counted}
 use Rattle.circle_run.specs.Ranks.{DoesAll, side}
-use Rattle.circle_run.specs.Hosts.{Same, Turning, lone_side, Alone, AllAlone}
+use Rattle.circle_run.specs.Hosts.{Same, Turning, Took, lone_side, Alone, AllAlone}
 use Rattle.circle_run.specs.declared.settings.Options.{Options}
 use Rattle.circle_run.specs.declared.outcomes.Share.{Share}
 use Rattle.circle_run.specs.declared.ranks.Rank.{Rank}
@@ -42,7 +42,7 @@ module _ {J S T P D : Type 0} (log : J → Log) (plain : J → D) (shows : S →
   lone_is : (r : Rank J S T) (p : P) → tells p ≡ None → side log plain shows tells seats r p ≡ lone_side log shows r
   lone_is r p e = λ i. record { queue = r.queue; log = log r.job; draws = r.draws; batches = (shows r.seat).batches; told = e i }
 
-  pub untold_after : (r r' : Rank J S T) (p p' : P) → Turning log plain shows tells seats r p r' p' → tells p ≡ None → tells p' ≡ None
+  untold_after : (r r' : Rank J S T) (p p' : P) → Turning log plain shows tells seats r p r' p' → tells p ≡ None → tells p' ≡ None
   untold_after r r' p p' w e = told_still r.options r.me w.turn (side log plain shows tells seats r p) (side log plain shows tells seats r' p') w.does e
 
   alone_more : (r0 r r' : Rank J S T) (p p' : P) → r.me ≡ r0.me → r.options ≡ r0.options → Alone log shows r0 r
@@ -68,21 +68,23 @@ module _ {J S T P D : Type 0} (log : J → Log) (plain : J → D) (shows : S →
       }
 
   pub alone_first : (ranks : List (Rank J S T)) → AllAlone log shows ranks ranks
-  alone_first ranks k d h = record { moves = []; does = refl; share = refl }
+  alone_first ranks k d h found = record { moves = []; does = refl; share = refl }
 
   pub alone_step : (ranks0 ranks : List (Rank J S T)) (p p' : P) (k : ℕ) (r r' : Rank J S T) → k < length ranks → r ≡ get_or ranks k r
-      → Same plain ranks0 ranks → Turning log plain shows tells seats r p r' p' →
+      → Same plain ranks0 ranks → Took log plain shows tells seats r p r' p' →
       (tells p ≡ None) × AllAlone log shows ranks0 ranks → (tells p' ≡ None) × AllAlone log shows ranks0 (set ranks k r')
-  alone_step ranks0 ranks p p' k r r' inside is same w (e, all) = (
-    untold_after r r' p p' w e,
+  alone_step ranks0 ranks p p' k r r' inside is same took (e, all) = (
+    ap tells (took.still e) ∙ e,
     λ j d h.
         let n = same.count in
         let long = length-set ranks k r' in
         let was : get_or ranks k d ≡ r = sym (get_or_read ranks k r inside is d) in
-        let here : Alone log shows (get_or ranks0 k d) r = subst (λ (x : Rank J S T). Alone log shows (get_or ranks0 k d) x) was (all k d (omega arith)) in
+        let here : r.book.lost ≡ false
+        → Alone log shows (get_or ranks0 k d) r = subst (λ (x : Rank J S T). x.book.lost ≡ false → Alone log shows (get_or ranks0 k d) x) was (all k d (omega arith)) in
         let me : r.me ≡ (get_or ranks0 k d).me = ap (λ (x : Rank J S T). x.me) (sym was) ∙ same.me k d (omega arith) in
         let options : r.options ≡ (get_or ranks0 k d).options = ap (λ (x : Rank J S T). x.options) (sym was) ∙ same.options k d (omega arith) in
-        each-set (λ (i : ℕ) (x : Rank J S T). Alone log shows (get_or ranks0 i d) x) ranks k r' (alone_more (get_or ranks0 k d) r r' p p' me options here w e)
-        (λ i d' b ne. subst (λ (x : Rank J S T). Alone log shows (get_or ranks0 i d) x) (get_or_default ranks i d d' b)
+        each-set (λ (i : ℕ) (x : Rank J S T). x.book.lost ≡ false → Alone log shows (get_or ranks0 i d) x) ranks k r'
+        (λ found. (let w = took.went found in alone_more (get_or ranks0 k d) r r' p p' me options (here w.had) w e))
+        (λ i d' b ne. subst (λ (x : Rank J S T). x.book.lost ≡ false → Alone log shows (get_or ranks0 i d) x) (get_or_default ranks i d d' b)
         (all i d (omega arith))) j d (omega (arith, long)),
   )

@@ -12,7 +12,7 @@ use Rattle.circle_run.specs.Ranks.{DoesAll, side}
 use Rattle.circle_run.specs.Private.Steps.{Came}
 use Rattle.circle_run.specs.Ready.{Ready, SumsReady, Turned}
 use Rattle.circle_run.specs.Turns.{IsTurn}
-use Rattle.circle_run.specs.Choices.{is_done}
+use Rattle.circle_run.specs.Choices.{is_due, is_done}
 use Rattle.circle_run.specs.Private.Steps.{turn_of, tallied}
 use Rattle.circle_run.specs.Private.Steps.{Works}
 use Rattle.circle_run.specs.declared.steps.Did.{Did}
@@ -142,7 +142,9 @@ module _ {J S T P D : Type 0} (log : J → Log) (heard : J → Option (List ℕ)
                     (subst (λ (b : Bool). IsTurn b (turn_of done) w.moves) (sym live) w.are.kind);
                 chosen = λ going.
                     chooses_as log heard plain shows tells seats r p r1 (record r2 { queue = queue }) w.moves s
-                    (ap (λ (x : Rank J S T). x.ended) same) j w.are.chosen;
+                    (ap (λ (x : Rank J S T). x.ended) same) j
+                    (ap (λ (x : Rank J S T). is_due x.options.stop_after r2.book.share.handled) same
+                    ∙ ap (λ (b : Book). is_due r1.options.stop_after b.share.handled) book) w.are.chosen;
               };
               does = subst (DoesAll r.options r.me w.moves (side log plain shows tells seats r p)) (sym sides) w.does;
               kept = ap (λ (b : Book). b.events.items) book ∙ w.kept;

@@ -1,4 +1,4 @@
--- What a turn of a rank is: moves of which the last alone may handle a string, with an event save where the rank waits or has seen the end.
+-- What a turn of a rank is: moves of which the last but for a halt may handle a string, with an event save where the rank waits or has seen the end.
 use Rattle.std.proofs.Common.{◌≡◌, ◌≢◌, ℕ, ◌⊎◌, inl, inr, ⊎_elim, ◌||◌, refl, sym, subst, ap, ◌∙◌, arith, Bool, true, false, cond, List}
 use Rattle.std.proofs.Common.{[], ◌∷◌, ◌++◌, map, length}
 use Rattle.std.proofs.Common.{length-append, append-nil, Option, Some, None}
@@ -11,12 +11,12 @@ use Rattle.post_board.specs.Told.{Told, place, is_stopped}
 use Rattle.post_board.specs.Deeds.{event_of, halt, TellsLate}
 use Rattle.post_board.specs.Calls.{AgreesIfTold}
 use Rattle.circle_run.specs.Balance.{Log}
-use Rattle.circle_run.specs.Moves.{Move, served, noted, Side, answer_of, events_of}
-use Rattle.circle_run.specs.Fair.{HandlesLast, is_waiting}
+use Rattle.circle_run.specs.Moves.{Move, served, did, noted, Side, answer_of, events_of}
+use Rattle.circle_run.specs.Fair.{MayFollow, HandlesLast, is_waiting}
 use Rattle.circle_run.specs.Ranks.{DoesAll, side, Knows}
 use Rattle.circle_run.specs.Ready.{Turned}
 use Rattle.circle_run.specs.Turns.{IsAct, Worked, MayHalt, Waits, IsTurn}
-use Rattle.circle_run.specs.Choices.{is_done}
+use Rattle.circle_run.specs.Choices.{is_done, halt_if}
 use Rattle.circle_run.specs.Hosts.{MayIdleIfTold, Took}
 use Rattle.circle_run.specs.declared.steps.Did.TheVariants.{Handled, Acted, Waited, Stopped}
 use Rattle.circle_run.specs.declared.settings.Options.{Options}
@@ -46,25 +46,31 @@ acted_some me moves (inr (inr (answers, some, e))) none =
     absurd (omega (arith, l, length-append (map f answers) [], length-map answers f))
 
 worked_some : (me : ℕ) (moves : List Move) → Worked Handled moves ⊎ MayHalt (Worked Acted) moves → flat_map (events_of me) moves ≡ [] → ⊥
-worked_some me moves (inl (answers, path, kids, e)) none =
-    some_event (map (λ x. event_of me (answer_of x)) answers) [] (Handle me path (length kids)) (ap (flat_map (events_of me)) (sym e) ∙ none)
+worked_some me moves (inl (answers, path, kids, due, e)) none =
+    some_event (map (λ x. event_of me (answer_of x)) answers) (flat_map (events_of me) (halt_if due)) (Handle me path (length kids)) (ap (flat_map (events_of me)) (sym e) ∙ none)
 worked_some me moves (inr (inl w)) none = acted_some me moves w none
 worked_some me moves (inr (inr (rest, w, e))) none = acted_some me rest w (ap (flat_map (events_of me)) (sym e) ∙ none)
 
+act_follows : (move : Move) → IsAct move → MayFollow move []
+act_follows move (inl (deed, e)) = subst (λ (m : Move). MayFollow m []) (sym e) tt
+act_follows move (inr (from, e)) = subst (λ (m : Move). MayFollow m []) (sym e) tt
+
 -- of moves that handle none the last alone may, whatever stands before them
 acted_last : (moves : List Move) → Worked Acted moves → HandlesLast moves × HandlesLast (noted halt ∷ moves)
-acted_last moves (inl e) = (subst HandlesLast (sym e) tt, subst (λ (m : List Move). HandlesLast (noted halt ∷ m)) (sym e) (refl, tt))
-acted_last moves (inr (inl (answers, move, act, e))) =
-    (subst HandlesLast (sym e) (refl, tt), subst (λ (m : List Move). HandlesLast (noted halt ∷ m)) (sym e) (refl, (refl, tt)))
+acted_last moves (inl e) = (subst HandlesLast (sym e) (tt, tt), subst (λ (m : List Move). HandlesLast (noted halt ∷ m)) (sym e) (tt, (tt, tt)))
+acted_last moves (inr (inl (answers, move, act, e))) = (
+  subst HandlesLast (sym e) (tt, (act_follows move act, tt)),
+  subst (λ (m : List Move). HandlesLast (noted halt ∷ m)) (sym e) (tt, (tt, (act_follows move act, tt))),
+)
 acted_last moves (inr (inr (answers, some, e))) =
-    (subst HandlesLast (sym e) tt, subst (λ (m : List Move). HandlesLast (noted halt ∷ m)) (sym e) (refl, tt))
+    (subst HandlesLast (sym e) (tt, tt), subst (λ (m : List Move). HandlesLast (noted halt ∷ m)) (sym e) (tt, (tt, tt)))
 
 waited_last : (moves : List Move) → Worked Waited moves → HandlesLast moves × HandlesLast (noted halt ∷ moves)
-waited_last moves e = (subst HandlesLast (sym e) tt, subst (λ (m : List Move). HandlesLast (noted halt ∷ m)) (sym e) (refl, tt))
+waited_last moves e = (subst HandlesLast (sym e) (tt, tt), subst (λ (m : List Move). HandlesLast (noted halt ∷ m)) (sym e) (tt, (tt, tt)))
 
 stopped_last : (moves : List Move) → Worked Stopped moves → HandlesLast moves × HandlesLast (noted halt ∷ moves)
 stopped_last moves (answers, e) =
-    (subst HandlesLast (sym e) (refl, tt), subst (λ (m : List Move). HandlesLast (noted halt ∷ m)) (sym e) (refl, (refl, tt)))
+    (subst HandlesLast (sym e) (tt, (tt, tt)), subst (λ (m : List Move). HandlesLast (noted halt ∷ m)) (sym e) (tt, (tt, (tt, tt))))
 
 halt_last : (P : List Move → Type 0) (moves : List Move) → ((rest : List Move) → P rest → HandlesLast rest × HandlesLast (noted halt ∷ rest))
     → MayHalt P moves → HandlesLast moves
@@ -73,7 +79,8 @@ halt_last P moves last (inr (rest, w, e)) = subst HandlesLast (sym e) (last rest
 
 turn_last : (before : Bool) (turn : Turn) (moves : List Move) → IsTurn before turn moves → HandlesLast moves
 turn_last true turn moves is = subst HandlesLast (sym is) tt
-turn_last false TurnWent moves (inl (answers, path, kids, e)) = subst HandlesLast (sym e) (refl, tt)
+turn_last false TurnWent moves (inl (answers, path, kids, true, e)) = subst HandlesLast (sym e) (tt, (inr refl, (tt, tt)))
+turn_last false TurnWent moves (inl (answers, path, kids, false, e)) = subst HandlesLast (sym e) (tt, (inl refl, tt))
 turn_last false TurnWent moves (inr w) = halt_last (Worked Acted) moves acted_last w
 turn_last false TurnWaited moves w = halt_last (Worked Waited) moves waited_last w
 turn_last false TurnStopped moves w = halt_last (Worked Stopped) moves stopped_last w

@@ -13,7 +13,9 @@ use Rattle.post_board.specs.BoardSeats.{unused}
 use Rattle.sum_tree.specs.Shown.{SumShown, AllFinished}
 use Rattle.sum_tree.specs.Plain.{fresh as fresh_sums}
 use Rattle.circle_run.specs.Balance.{Log, Balanced}
-use Rattle.circle_run.specs.Moves.{Move, Side}
+use Rattle.circle_run.specs.Moves.{Move, Side, events_of}
+use Rattle.circle_run.specs.Books.{counted}
+use Rattle.circle_run.specs.ByRank.{nothing_done, RankPlayed, PlayedApart}
 use Rattle.circle_run.specs.Stages.{dealt_to}
 use Rattle.circle_run.specs.Ranks.{DoesAll}
 use Rattle.circle_run.specs.Hosts.{NoneLost, Alone, lone_side}
@@ -111,6 +113,7 @@ module _ {J S T P Q D : Type 0} (log : J → Log) (plain : J → D) (shows : S �
           told = None;
         }) (lone_side log shows r)
     share : r.book.share ≡ capped (length (flat_map handled_in moves)) (length (flat_map given_in moves)) (length (flat_map taken_in moves))
+    counts : r.book.share ≡ counted (flat_map (events_of k) moves) nothing_done
 
   own : (o : Options) (starts : Strings) (whole final : List (Rank J S T)) (p : P) (q : Q)
       → Starting log shows seats sums_shows sums_seats o starts whole p q
@@ -131,6 +134,27 @@ module _ {J S T P Q D : Type 0} (log : J → Log) (plain : J → D) (shows : S �
         moves = a.moves;
         does = subst (λ (s : Side). DoesAll o k a.moves s (lone_side log shows r)) (first.sides k r inside) three;
         share = a.share ∙ share_alone r0.options r0.me a.moves (lone_side log shows r0) (lone_side log shows r) r0.book.share one (first.unshared k r inside);
+        counts = a.share ∙ ap (λ (m : ℕ). counted (flat_map (events_of m) a.moves) r0.book.share) (first.place k r inside)
+            ∙ ap (counted (flat_map (events_of k) a.moves)) (first.unshared k r inside);
+      }
+
+  rank_played : (o : Options) (starts : Strings) (whole final : List (Rank J S T)) (p : P) (q : Q) (kept : S → Batches)
+      → ((s : S) → (shows s).batches ≡ Some (kept s))
+      → Starting log shows seats sums_shows sums_seats o starts whole p q → Ending log plain shows seats sums_shows sums_seats whole final p q
+      → (k : ℕ) (d : Rank J S T) → k < length final → let r = get_or final k d in
+      RankPlayed o k (dealt_to o.ranks starts k) (log r.job) r.queue (kept r.seat) r.book.share
+  rank_played o starts whole final p q kept keeps first last k d h =
+      let x = own o starts whole final p q first last k d h in
+      record {
+        ran = record {
+          moves = x.moves;
+          last = lone_side log shows (get_or final k d);
+          does = x.does;
+          queued = refl;
+          logged = refl;
+          kept = keeps (get_or final k d).seat;
+        };
+        counts = x.counts;
       }
 
   rank_ran : (o : Options) (starts : Strings) (whole final : List (Rank J S T)) (p : P) (q : Q) (kept : S → Batches)
@@ -138,16 +162,7 @@ module _ {J S T P Q D : Type 0} (log : J → Log) (plain : J → D) (shows : S �
       → Starting log shows seats sums_shows sums_seats o starts whole p q → Ending log plain shows seats sums_shows sums_seats whole final p q
       → (k : ℕ) (d : Rank J S T) → k < length final → let r = get_or final k d in
       RankRan o k (dealt_to o.ranks starts k) (log r.job) r.queue (kept r.seat)
-  rank_ran o starts whole final p q kept keeps first last k d h =
-      let x = own o starts whole final p q first last k d h in
-      record {
-        moves = x.moves;
-        last = lone_side log shows (get_or final k d);
-        does = x.does;
-        queued = refl;
-        logged = refl;
-        kept = keeps (get_or final k d).seat;
-      }
+  rank_ran o starts whole final p q kept keeps first last k d h = (rank_played o starts whole final p q kept keeps first last k d h).ran
 
   -- what a rank handled is its log, and what it gave and took are its seat's batches
   rank_share : (o : Options) (starts : Strings) (whole final : List (Rank J S T)) (p : P) (q : Q) (kept : S → Batches)
@@ -205,6 +220,35 @@ module _ {J S T P Q D : Type 0} (log : J → Log) (plain : J → D) (shows : S �
             (subst (λ (x : Option Batches). Even (shows (get_or all_seats i d.seat)).batches i x j) (is j hj) e));
       }
 
+  -- and what each did
+  all_played : (o : Options) (starts : Strings) (whole final : List (Rank J S T)) (p : P) (q : Q) (kept : S → Batches) (all_seats : List S)
+      → ((s : S) → (shows s).batches ≡ Some (kept s)) → 0 < o.ranks
+      → Starting log shows seats sums_shows sums_seats o starts whole p q → Ending log plain shows seats sums_shows sums_seats whole final p q
+      → all_seats ≡ map (λ (r : Rank J S T). r.seat) final → AllEven shows (seats p) all_seats
+      → PlayedApart o starts (map (λ (r : Rank J S T). log r.job) final) (map (λ (r : Rank J S T). r.queue) final) (map (λ (r : Rank J S T). r.book.share) final)
+  all_played o starts whole final p q kept all_seats keeps some first last seats_are even =
+      let bs : List Batches = map (λ (r : Rank J S T). kept r.seat) final in
+      let queues : List Strings = map (λ (r : Rank J S T). r.queue) final in
+      let shares : List Share = map (λ (r : Rank J S T). r.book.share) final in
+      let long : length final ≡ o.ranks = last.count ∙ first.count in
+      record {
+        batches = bs;
+        all = all_ran o starts whole final p q kept all_seats keeps some first last seats_are even;
+        as_many = length-map final (λ (r : Rank J S T). r.book.share) ∙ long;
+        each = λ k l left b s h. (let d : Rank J S T = some_of final (omega (arith, long, some)) in
+            let g : k < length final = omega (arith, h, long) in
+            let r : Rank J S T = get_or final k d in
+            subst (λ (x : Log). RankPlayed o k (dealt_to o.ranks starts k) x (get_or queues k left) (get_or bs k b) (get_or shares k s))
+            (sym (get_or-map (λ (r : Rank J S T). log r.job) final k d l g))
+            (subst (λ (x : Strings). RankPlayed o k (dealt_to o.ranks starts k) (log r.job) x (get_or bs k b) (get_or shares k s))
+            (sym (get_or-map (λ (r : Rank J S T). r.queue) final k d left g))
+            (subst (λ (x : Batches). RankPlayed o k (dealt_to o.ranks starts k) (log r.job) r.queue x (get_or shares k s))
+            (sym (get_or-map (λ (r : Rank J S T). kept r.seat) final k d b g))
+            (subst (λ (x : Share). RankPlayed o k (dealt_to o.ranks starts k) (log r.job) r.queue (kept r.seat) x)
+            (sym (get_or-map (λ (r : Rank J S T). r.book.share) final k d s g))
+            (rank_played o starts whole final p q kept keeps first last k d g)))));
+      }
+
   -- what is known of a run over several threads once its ranks were taken apart
   pub record Closing (o : Options) (starts : Strings) (jobs : List J) (whole final : List (Rank J S T)) (p : P) (q : Q) (kept : S → Batches)
       (all_seats : List S) (total : ℕ)
@@ -224,7 +268,6 @@ module _ {J S T P Q D : Type 0} (log : J → Log) (plain : J → D) (shows : S �
     pub left_are : map (λ (l : Vec (List ℕ) _). l.items) f.left.items ≡ map (λ (r : Rank J S T). r.queue) final
     pub shares_are : f.shares.items ≡ map (λ (r : Rank J S T). r.book.share) final
     pub sums_are : f.sums.items ≡ flat_map (λ (r : Rank J S T). r.book.sums.items) final
-    pub events_are : f.events.items ≡ []
     pub answer : (d : Rank J S T) → (sums_shows (get_or final 0 d).sums_seat).answer ≡ Some total
     pub total_is : total ≡ sum_by (λ (r : Rank J S T). (sums_shows r.sums_seat).count) final
 
@@ -237,10 +280,10 @@ module _ {J S T P Q D : Type 0} (log : J → Log) (plain : J → D) (shows : S �
   abbrev share_of : Rank J S T → Share
   share_of r = r.book.share
 
-  pub outcome : (o : Options) (starts : Strings) (jobs : List J) (whole final : List (Rank J S T)) (p : P) (q : Q) (kept : S → Batches)
+  outcome : (o : Options) (starts : Strings) (jobs : List J) (whole final : List (Rank J S T)) (p : P) (q : Q) (kept : S → Batches)
       (all_seats : List S) (total : ℕ) (f : Finished J)
-      → Closing o starts jobs whole final p q kept all_seats total f → IsOutcome log plain o starts jobs f
-  outcome o starts jobs whole final p q kept all_seats total f x =
+      → Closing o starts jobs whole final p q kept all_seats total f → f.events.items ≡ [] → IsOutcome log plain o starts jobs f
+  outcome o starts jobs whole final p q kept all_seats total f x untold =
       let logs : List Log = map (λ (r : Rank J S T). log r.job) final in
       let queues : List Strings = map (λ (r : Rank J S T). r.queue) final in
       let bs : List Batches = map (λ (r : Rank J S T). kept r.seat) final in
@@ -282,7 +325,7 @@ module _ {J S T P Q D : Type 0} (log : J → Log) (plain : J → D) (shows : S �
       ∙ ap (λ (n : ℕ). min n cap) (sum_same (λ (r : Rank J S T). count r.book.share) (λ (r : Rank J S T). min (of (kept r.seat)) cap) final each)
       ∙ capped_sum (λ (r : Rank J S T). of (kept r.seat)) cap final
       ∙ ap (λ (n : ℕ). min n cap) (sym (sum_by-map of (λ (r : Rank J S T). kept r.seat) final)) in
-      let counted : length f.left.items ≡ length final = sym (length-map f.left.items (λ (l : Vec (List ℕ) _). l.items))
+      let listed : length f.left.items ≡ length final = sym (length-map f.left.items (λ (l : Vec (List ℕ) _). l.items))
       ∙ ap length x.left_are ∙ length-map final queue_of in
       let as_many : length final ≡ length jobs = x.last.count ∙ sym (length-map whole job_of) ∙ ap length x.given_jobs in
       record {
@@ -299,7 +342,7 @@ module _ {J S T P Q D : Type 0} (log : J → Log) (plain : J → D) (shows : S �
             ∙ ap (λ (m : ℕ). facts_of (get_or whole m r)) (x.last.place k d' h)
             ∙ ap facts_of (get_or_default whole k r d' (omega (arith, c, h)))))
             ∙ sym (map-map plain job_of whole) ∙ ap (map plain) x.given_jobs;
-        lists = counted ∙ as_many;
+        lists = listed ∙ as_many;
         handled = ap (map (λ (y : Share). y.handled)) x.shares_are ∙ map-map (λ (y : Share). y.handled) share_of final
             ∙ map_same (λ (r : Rank J S T). r.book.share.handled) (λ (r : Rank J S T). most r.job) final final refl
             (λ k d d' h. ap (λ (y : Share). y.handled) (shared k d h) ∙ ap (λ (r : Rank J S T). most r.job) (get_or_default final k d d' h))
@@ -307,11 +350,32 @@ module _ {J S T P Q D : Type 0} (log : J → Log) (plain : J → D) (shows : S �
         moved = total_of given gave (λ k d h. ap given (shared k d h))
             ∙ ap (λ (n : ℕ). min n cap) (evened o starts logs queues bs (let n = x.some in omega arith) ran one)
             ∙ sym (total_of taken took (λ k d h. ap taken (shared k d h)));
-        untraced = λ off. x.events_are;
+        untraced = λ off. untold;
         progress = subst (λ (ns : List ℕ). IsProgress ns f.sums.items) (sym (ap (map many) x.jobs_are ∙ map-map many job_of final))
             (progressed log plain shows (λ (b : P). None) seats sums_shows sums_seats o final p q total f.sums.items
             end.all x.some end.done x.found x.answer x.total_is x.sums_are);
       }
+
+  -- what each rank has left and did
+  apart : (o : Options) (starts : Strings) (jobs : List J) (whole final : List (Rank J S T)) (p : P) (q : Q) (kept : S → Batches)
+      (all_seats : List S) (total : ℕ) (f : Finished J)
+      → Closing o starts jobs whole final p q kept all_seats total f
+      → PlayedApart o starts (map log f.jobs.items) (map (λ (l : Vec (List ℕ) _). l.items) f.left.items) f.shares.items
+  apart o starts jobs whole final p q kept all_seats total f x =
+      let logs : map log f.jobs.items ≡ map (λ (r : Rank J S T). log r.job) final = ap (map log) x.jobs_are ∙ map-map log job_of final in
+      subst (λ (l : List Log). PlayedApart o starts l (map (λ (l : Vec (List ℕ) _). l.items) f.left.items) f.shares.items) (sym logs)
+      (subst (λ (l : List Strings). PlayedApart o starts (map (λ (r : Rank J S T). log r.job) final) l f.shares.items) (sym x.left_are)
+      (subst (λ (l : List Share). PlayedApart o starts (map (λ (r : Rank J S T). log r.job) final) (map (λ (r : Rank J S T). r.queue) final) l)
+      (sym x.shares_are)
+      (all_played o starts whole final p q kept all_seats x.keeps (let n = x.some in omega arith) x.first x.last x.seats_are x.even)))
+
+  pub closed : (o : Options) (starts : Strings) (jobs : List J) (whole final : List (Rank J S T)) (p : P) (q : Q) (kept : S → Batches)
+      (all_seats : List S) (total : ℕ) (f : Finished J)
+      → Closing o starts jobs whole final p q kept all_seats total f
+      → (f.events.items ≡ [] → IsOutcome log plain o starts jobs f)
+      × PlayedApart o starts (map log f.jobs.items) (map (λ (l : Vec (List ℕ) _). l.items) f.left.items) f.shares.items
+  closed o starts jobs whole final p q kept all_seats total f x =
+      (outcome o starts jobs whole final p q kept all_seats total f x, apart o starts jobs whole final p q kept all_seats total f x)
 
   -- the seats may be gathered
   pub may_gather : (o : Options) (starts : Strings) (whole final : List (Rank J S T)) (p : P) (q : Q) (all_seats : List S) (all_sums : List T) → 1 ≤ o.ranks

@@ -1,5 +1,5 @@
 -- What a rank does that is to halt.
-use Rattle.std.proofs.Common.{◌≡◌, ◌≢◌, ℕ, refl, sym, subst, ap, ◌∙◌, Bool, true, false, List, map, Option, Some, None}
+use Rattle.std.proofs.Common.{◌≡◌, ◌≢◌, ℕ, ◌⊎◌, inl, inr, refl, sym, subst, ap, ◌∙◌, Bool, true, false, List, map, Option, Some, None}
 use Rattle.std.specs.Prelude.{is_some, not}
 use Rattle.post_board.specs.Shown.{Shown}
 use Rattle.post_board.specs.Told.{Told}
@@ -28,6 +28,17 @@ gives_none s gives is refuses none = (let f : false ≡ true = sym (ap is_some n
 pub halt_told : (me : ℕ) (a b : Option Told) → TellsLate me halt a b → IsHalted b
 halt_told me None b tells = subst IsHalted (sym tells) tt
 halt_told me (Some t) b tells = subst IsHalted (sym tells.1) refl
+
+-- all are to halt, whether they were told now or before
+pub halted_now : (first : Bool) (a b : Option Told) → (first ≡ true → IsHalted b) → (first ≡ false → b ≡ a) → (first ≡ false → IsHalted a) → IsHalted b
+halted_now true a b told still before = told refl
+halted_now false a b told still before = subst IsHalted (sym (still refl)) (before refl)
+
+-- a rank that winds up told all to halt, or knows that one did
+pub knows_now : (first : Bool) (s s1 s2 : Shown) → (first ≡ true → s1.halted ≡ true) → (first ≡ false → s1 ≡ s) → (first ≡ false → s.knows_halt ≡ true)
+    → s2.halted ≡ s1.halted → s2.knows_halt ≡ s1.knows_halt → (s2.halted ≡ true) ⊎ (s2.knows_halt ≡ true)
+knows_now true s s1 s2 told still before halted knows = inl (halted ∙ told refl)
+knows_now false s s1 s2 told still before halted knows = inr (knows ∙ ap (λ (x : Shown). x.knows_halt) (still refl) ∙ before refl)
 
 module _ {J S T P Q : Type 0} (log : J → Log) (plain : J → Q) (shows : S → Shown) (tells : P → Option Told) (seats : P → S → Type 0) where
   -- a service leaves the halt

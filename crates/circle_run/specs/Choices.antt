@@ -2,7 +2,7 @@
 -- That a rank works on its own strings and asks another once it has none is from LaFon, Misra and Bringhurst, On Distributed File Tree Walk
 -- of Parallel File Systems (SC 2012); that only an idle rank moves the token is EWD840's. The order of these, and that a rank was refused
 -- once before it moves the token, are our own.
-use Rattle.std.specs.Prelude.{◌≡◌, ◌≢◌, ℕ, zero, suc, ◌-◌, ◌==◌, ◌||◌, ◌⊎◌, nat_le, Bool, true, false, if◌then◌else◌, All, List, length, [], ◌∷◌, ◌++◌}
+use Rattle.std.specs.Prelude.{◌≡◌, ◌≢◌, ℕ, zero, suc, ◌-◌, ◌==◌, ◌||◌, ◌&&◌, not, ◌⊎◌, nat_le, Bool, true, false, if◌then◌else◌, All, List, length, [], ◌∷◌, ◌++◌}
 use Rattle.std.specs.Prelude.{Option, Some, None}
 use Rattle.std.specs.List.{flat_map}
 use Rattle.std.specs.Option.{option_map}
@@ -102,13 +102,23 @@ abbrev pub heard_after : Choice → ℕ → Option (List ℕ) → Option (List �
 heard_after to_handle waiting heard = option_map (λ numbers. numbers ++ waiting ∷ []) heard
 heard_after _ waiting heard = heard
 
--- a service of all that ask, and then the first that applies
-pub record Goes (n me : ℕ) (x : Standing) (held' : Option Colour) (heard heard' : Option (List ℕ)) (moves : List Move) : Type 0 where
+-- whether a rank tells all to halt once it has done this: by handling a string it came to all that it may handle
+abbrev pub halts_after : Choice → Bool → Bool
+halts_after to_handle due = due
+halts_after _ due = false
+
+-- all are told to halt, or nothing is done
+abbrev pub halt_if : Bool → List Move
+halt_if true = noted halt ∷ []
+halt_if false = []
+
+-- a service of all that ask, and then the first that applies. Afterwards the rank has handled all that it may, or has not
+pub record Goes (n me : ℕ) (x : Standing) (due' : Bool) (held' : Option Colour) (heard heard' : Option (List ℕ)) (moves : List Move) : Type 0 where
   pub answers : List (ℕ × Strings)
   pub next : List Move
-  pub are : moves ≡ served answers ∷ next
   -- what waits after the service
   pub left : Strings
+  pub are : moves ≡ served answers ∷ next ++ halt_if (halts_after (choice n (record x { queue = left })) due')
   pub oldest : x.queue ≡ flat_map (λ a. a.1) answers ++ left
   pub chosen : Chosen me (choice n (record x { queue = left })) next
   pub held_is : held' ≡ held_after (choice n (record x { queue = left })) x.ring
@@ -123,21 +133,16 @@ abbrev pub is_halt : Ring → Bool
 is_halt HeardHalted = true
 is_halt _ = false
 
--- a rank that has handled all that it may tells all to halt
-abbrev pub first_of : Bool → List Move
-first_of true = noted halt ∷ []
-first_of false = []
-
 -- what a rank does last that is to halt: where it asked, it looks for the answer; else it stops
 abbrev pub Closes : ℕ → Option ℕ → List Move → Type 0
 Closes me (Some victim) moves = Chosen me (to_look victim) moves
 Closes me None moves = moves ≡ noted stop ∷ []
 
--- what a rank does that is to halt: a service in which it gives nothing, and its last. What comes is queued
-pub record WindsUp (o : Options) (me : ℕ) (due : Bool) (asked : Option ℕ) (heard heard' : Option (List ℕ)) (moves : List Move) : Type 0 where
+-- what a rank does that is to halt: a service in which it gives nothing, and its last. It may have to tell all first. What comes is queued
+pub record WindsUp (o : Options) (me : ℕ) (first : Bool) (asked : Option ℕ) (heard heard' : Option (List ℕ)) (moves : List Move) : Type 0 where
   pub answers : List (ℕ × Strings)
   pub next : List Move
-  pub are : moves ≡ first_of due ++ served answers ∷ next
+  pub are : moves ≡ halt_if first ++ served answers ∷ next
   pub refuses : o.stop_after ≢ None → All (λ a. a.1 ≡ []) answers
   pub closes : Closes me asked next
   pub heard_is : heard' ≡ heard
@@ -154,6 +159,10 @@ module _ {J S T : Type 0} where
   abbrev pub is_to_halt : Ring → Rank J S T → Bool
   is_to_halt ring r = has_done_all r || is_halt ring
 
+  -- it has handled all that it may and reads of no halt: it may handle no string at all
+  abbrev pub tells_first : Ring → Rank J S T → Bool
+  tells_first ring r = has_done_all r && not (is_halt ring)
+
   -- it does nothing more at the board: it has seen the end, or has stopped
   abbrev pub is_done : Rank J S T → Bool
   is_done r = r.ended || r.stopped
@@ -166,6 +175,6 @@ module _ {J S T P : Type 0} (heard : J → Option (List ℕ)) (shows : S → Sho
     pub is : IsRing r.me (tells p) ring
     pub over : ring ≡ HeardOver → (moves ≡ did see_over ∷ []) × (r'.ended ≡ true) × (heard r'.job ≡ heard r.job)
     pub goes : ring ≢ HeardOver → is_to_halt ring r ≡ false
-        → Goes r.options.ranks r.me (standing ring r) (shows r'.seat).here (heard r.job) (heard r'.job) moves
+        → Goes r.options.ranks r.me (standing ring r) (has_done_all r') (shows r'.seat).here (heard r.job) (heard r'.job) moves
     pub winds : ring ≢ HeardOver → is_to_halt ring r ≡ true
-        → WindsUp r.options r.me (has_done_all r) r.asked (heard r.job) (heard r'.job) moves
+        → WindsUp r.options r.me (tells_first ring r) r.asked (heard r.job) (heard r'.job) moves

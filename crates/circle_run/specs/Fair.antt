@@ -8,7 +8,8 @@ use Rattle.ring_core.specs.World.{Seen, rank_of, started}
 use Rattle.ring_core.specs.Step.{asks, after}
 use Rattle.post_board.specs.Shown.{Strings}
 use Rattle.post_board.specs.Told.{Mail, asked, Told, place, is_stopped}
-use Rattle.circle_run.specs.Moves.{Move, handled}
+use Rattle.post_board.specs.Deeds.{halt}
+use Rattle.circle_run.specs.Moves.{Move, handled, served, did, noted}
 use Rattle.circle_run.specs.Stages.{Stage, Plays, events_of_all, begun}
 use Rattle.circle_run.specs.declared.settings.Options.{Options}
 
@@ -65,15 +66,17 @@ abbrev pub MovesAnswerFirst : Type 0
 MovesAnswerFirst = (o : Options) (starts : Strings) (moves : List (ℕ × Move)) (stage : Stage)
     → o.stop_after ≡ None → Plays o moves (begun o starts) stage → AnswersFirst (started o.ranks (length starts)) (events_of_all moves)
 
-abbrev pub is_handling : Move → Bool
-is_handling (handled path kids) = true
-is_handling _ = false
+-- what may follow a move in the turn of its rank: after a string that it handled it tells all to halt, or does nothing more
+abbrev pub MayFollow : Move → List Move → Type 0
+MayFollow (handled path kids) moves = (moves ≡ []) ⊎ (moves ≡ noted halt ∷ [])
+MayFollow (served answers) moves = Unit {0}
+MayFollow (did deed) moves = Unit {0}
+MayFollow (noted late) moves = Unit {0}
 
--- a turn, the moves of a rank one after the other, of which the last alone may handle a string
+-- a turn, the moves of a rank one after the other, of which at most one handles a string, as the last but for a halt
 abbrev pub HandlesLast : List Move → Type 0
 HandlesLast [] = Unit {0}
-HandlesLast (move ∷ []) = Unit {0}
-HandlesLast (move ∷ moves) = (is_handling move ≡ false) × HandlesLast moves
+HandlesLast (move ∷ moves) = MayFollow move moves × HandlesLast moves
 
 abbrev pub moves_in : ℕ → List Move → List (ℕ × Move)
 moves_in r turn = map (λ move. (r, move)) turn

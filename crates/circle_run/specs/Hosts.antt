@@ -129,5 +129,7 @@ module _ {J S T : Type 0} (log : J → Log) (shows : S → Shown) where
     pub does : DoesAll r.options r.me moves (lone_side r) (lone_side r')
     pub share : r'.book.share ≡ counted (flat_map (events_of r.me) moves) r.book.share
 
+  -- and so each that found no memory wanting
   abbrev pub AllAlone : List (Rank J S T) → List (Rank J S T) → Type 0
-  AllAlone ranks ranks' = (k : ℕ) (d : Rank J S T) → k < length ranks → Alone (slice_index_or ranks k d) (slice_index_or ranks' k d)
+  AllAlone ranks ranks' = (k : ℕ) (d : Rank J S T) → k < length ranks → (slice_index_or ranks' k d).book.lost ≡ false
+      → Alone (slice_index_or ranks k d) (slice_index_or ranks' k d)

@@ -17,4 +17,5 @@ pub mod Hosts
 pub mod Traced
 pub mod Stops
 pub mod Apart
+pub mod ByRank
 pub mod Private

@@ -6,6 +6,7 @@ use Rattle.post_board.specs.Deeds.{Deed, see_over, withdraw, halt, stop}
 use Rattle.sum_tree.specs.Shown.{SumShown}
 use Rattle.sum_tree.specs.Told.{SumTold, words_below}
 use Rattle.circle_run.specs.Moves.{Move, handled, served, did, noted}
+use Rattle.circle_run.specs.Choices.{halt_if}
 use Rattle.circle_run.specs.declared.steps.Did.{Did}
 use Rattle.circle_run.specs.declared.steps.Did.TheVariants.{Handled, Acted, Waited, Stopped}
 use Rattle.circle_run.specs.declared.ranks.Turn.{Turn}
@@ -24,10 +25,11 @@ AddsUp s t = s.word ≡ s.count + words_below t s.number
 abbrev pub IsAct : Move → Type 0
 IsAct move = ((deed : Deed) × (move ≡ did deed)) ⊎ ((from : ℕ) × (move ≡ noted (withdraw from)))
 
--- a service and then a string handled; that it saw the end, or a service and then what it did, or a service of some; or nothing, and nobody
+-- a service and then a string handled, after which the rank may tell all to halt; that it saw the end, or a service and then what it did, or a service of some; or nothing, and nobody
 -- asked; or a service and then the stop
 abbrev pub Worked : Did → List Move → Type 0
-Worked Handled moves = (answers : List (ℕ × Strings)) × (path : List ℕ) × (kids : Strings) × (moves ≡ served answers ∷ handled path kids ∷ [])
+Worked Handled moves =
+    (answers : List (ℕ × Strings)) × (path : List ℕ) × (kids : Strings) × (due : Bool) × (moves ≡ served answers ∷ handled path kids ∷ halt_if due)
 Worked Acted moves =
     (moves ≡ did see_over ∷ [])
     ⊎ (((answers : List (ℕ × Strings)) × (move : Move) × IsAct move × (moves ≡ served answers ∷ move ∷ []))

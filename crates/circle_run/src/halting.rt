@@ -1,9 +1,9 @@
 //! What a rank does that is to halt.
-ghost use Rattle.std.specs.Prelude.{◌≡◌, ◌≢◌, ◌-◌, ◌^◌, ◌≤◌, ◌⊎◌, ◌||◌, length, true, false, Some, None, IfSome};
+ghost use Rattle.std.specs.Prelude.{◌≡◌, ◌≢◌, ◌-◌, ◌^◌, ◌≤◌, ◌⊎◌, ◌||◌, ◌&&◌, not, length, true, false, Some, None, IfSome};
 ghost use Rattle.circle_run.specs.Choices.{has_done_all, is_halt};
 ghost use Rattle.circle_run.specs.Moves.{IsHalted};
 ghost use Rattle.circle_run.specs.Ranks.{Knows, ServesNone};
-ghost use Rattle.circle_run.specs.Private.Steps.{Came, Halts, Ends, WoundUp};
+ghost use Rattle.circle_run.specs.Private.Steps.{Came, Halts, Ends, WoundUp, halts_by};
 ghost use Rattle.circle_run.specs.Turns.{Waits};
 ghost use Rattle.circle_run.specs.declared.steps.Did.TheVariants.{Handled as DidHandle, Waited as DidWait, Stopped as DidStop};
 
@@ -25,26 +25,26 @@ impl<J: Job, S, T> RankState<J, S, T> {
         }
     }
 
-    /// Refuses all that ask. Then it looks for the answer to its open request, or stops where it has none. A rank that has handled
-    /// all that it may tells all to halt first.
-    pub(crate) fn wind_up<P: Post<Seat = S>>(&mut self, post: &mut P, due: bool) -> Did
+    /// Refuses all that ask. Then it looks for the answer to its open request, or stops where it has none. A rank that reads of no
+    /// halt tells all to halt first.
+    pub(crate) fn wind_up<P: Post<Seat = S>>(&mut self, post: &mut P, first: bool) -> Did
         requires seat { P.seats post.old self.old.seat }
         requires knows { Knows P.shows self.old }
         requires none { ServesNone P.shows self.old }
         requires live { self.old.ended ≡ false }
         requires going { self.old.stopped ≡ false }
-        requires due { due ≡ true → self.old.book.lost ≡ false → self.old.options.stop_after ≡ Some (length (J.log self.old.job)) }
-        requires halted { due ≡ false → IsHalted (P.tells post.old) × ((P.shows self.old.seat).knows_halt ≡ true) }
-        ensures came { Came J.log J.plain P.shows P.tells P.seats (WoundUp result self.old.options self.old.me due self.old.asked) self.old post.old self.new post.new }
+        requires due { first ≡ true → self.old.book.lost ≡ false → self.old.options.stop_after ≡ Some (length (J.log self.old.job)) }
+        requires halted { first ≡ false → IsHalted (P.tells post.old) × ((P.shows self.old.seat).knows_halt ≡ true) }
+        ensures came { Came J.log J.plain P.shows P.tells P.seats (WoundUp result self.old.options self.old.me first self.old.asked) self.old post.old self.new post.new }
         ensures job { self.new.job ≡ self.old.job }
         ensures waits { result ≡ DidWait → Waits self.new.me (P.tells post.new) }
         ensures other { result ≢ DidHandle }
         ensures stopped { result ≡ DidStop → self.new.stopped ≡ true }
         ensures goes { result ≢ DidStop → self.new.stopped ≡ false }
-        ensures halts { due ≡ false → (P.shows self.new.seat).halted ≡ (P.shows self.old.seat).halted }
+        ensures halts { first ≡ false → (P.shows self.new.seat).halted ≡ (P.shows self.old.seat).halted }
         ensures knows_halt { ((P.shows self.new.seat).halted ≡ true) ⊎ ((P.shows self.new.seat).knows_halt ≡ true) }
     {
-        self.tell_halt(post, due);
+        self.tell_halt(post, first);
         let gives = self.options.stop_after.is_none();
         let some = self.serve(post, gives);
         let did = self.close(post);
@@ -52,19 +52,21 @@ impl<J: Job, S, T> RankState<J, S, T> {
     }
 
     /// Tells all to halt, where that is due.
-    fn tell_halt<P: Post<Seat = S>>(&mut self, post: &mut P, due: bool)
+    pub(crate) fn tell_halt<P: Post<Seat = S>>(&mut self, post: &mut P, due: bool)
         requires seat { P.seats post.old self.old.seat }
         requires knows { Knows P.shows self.old }
         requires none { ServesNone P.shows self.old }
-        requires live { self.old.ended ≡ false }
+        requires live { due ≡ true → self.old.ended ≡ false }
         requires going { self.old.stopped ≡ false }
         requires due { due ≡ true → self.old.book.lost ≡ false → self.old.options.stop_after ≡ Some (length (J.log self.old.job)) }
-        requires halted { due ≡ false → IsHalted (P.tells post.old) × ((P.shows self.old.seat).knows_halt ≡ true) }
         ensures came { Came J.log J.plain P.shows P.tells P.seats (Halts due) self.old post.old self.new post.new }
         ensures same { self.new ≡ record self.old { seat = self.new.seat } }
-        ensures told { IsHalted (P.tells post.new) }
-        ensures halts { due ≡ false → (P.shows self.new.seat).halted ≡ (P.shows self.old.seat).halted }
-        ensures knows_halt { ((P.shows self.new.seat).halted ≡ true) ⊎ ((P.shows self.new.seat).knows_halt ≡ true) }
+        ensures here { (P.shows self.new.seat).here ≡ (P.shows self.old.seat).here }
+        ensures told { due ≡ true → IsHalted (P.tells post.new) }
+        ensures halted { due ≡ true → (P.shows self.new.seat).halted ≡ true }
+        ensures all { due ≡ true → self.new.book.lost ≡ false → self.new.options.stop_after ≡ Some (length (J.log self.new.job)) }
+        ensures seat { due ≡ false → self.new.seat ≡ self.old.seat }
+        ensures still { due ≡ false → post.new ≡ post.old }
     {
         if due {
             post.halt(&mut self.seat);
@@ -94,6 +96,23 @@ impl<J: Job, S, T> RankState<J, S, T> {
         post.stop(&mut self.seat);
         self.stopped = true;
         Did::Stopped
+    }
+}
+
+/// Whether a rank tells all to halt that has handled all that it may, or that reads this of the ring, and is to halt.
+pub(crate) fn tells_first(due: bool, ring: Ring) -> bool
+    ensures { result ≡ (due && not (is_halt ring)) }
+{
+    due && !matches!(ring, Ring::Halted)
+}
+
+/// Whether a rank tells all to halt that did this, and has then handled all that it may or has not.
+pub(crate) fn halts_by(did: Did, due: bool) -> bool
+    ensures { result ≡ halts_by did due }
+{
+    match did {
+        Did::Handled => due,
+        _ => false,
     }
 }
 

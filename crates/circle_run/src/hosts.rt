@@ -4,6 +4,7 @@ ghost use Rattle.post_board.specs.Told.{Told};
 ghost use Rattle.circle_run.specs.Hosts.{IsAscending, NoneLost, NoneWrote, AreAll, Same, Placed, AllReady, AllEnded, Took, Ran, KeptByEach, KeptInOrder, AllAlone};
 ghost use Rattle.circle_run.specs.declared.settings.Options.{Options};
 
+use crate::idle::Idle;
 use crate::jobs::Job;
 use crate::ranks::{Rank, Turn};
 use path_text::OutOfMemory;
@@ -11,7 +12,6 @@ use post_board::Post;
 use ring_core::Event;
 use std::marker::Model;
 use std::sync::Wait;
-use std::thread;
 use sum_tree::Sums;
 
 /// Ranks that have their turns on one thread, in rounds and in ascending order. A contract sees it as their list.
@@ -56,11 +56,12 @@ impl<J: Job, S, T> Host<J, S, T> {
         ensures still { P.tells post.old ≡ None → post.new ≡ post.old }
         ensures sums_still { Q.tells sums.old ≡ None → sums.new ≡ sums.old }
 
-        // Over a board that tells nothing, where none was refused memory: each made moves of its own.
-        ensures alone { P.tells post.old ≡ None → NoneLost result.items → (P.tells post.new ≡ None) × AllAlone J.log P.shows self result.items }
+        // Over a board that tells nothing: each that was not refused memory made moves of its own, whatever became of the others.
+        ensures alone { P.tells post.old ≡ None → (P.tells post.new ≡ None) × AllAlone J.log P.shows self result.items }
     {
         let Host { mut ranks } = self;
         let mut done = unset();
+        let mut idle = Idle::make();
         for _ in rt.forever() {
             for k in 0..ranks.len() {
                 ranks[k].step(&mut done[k], post, sums);
@@ -68,7 +69,7 @@ impl<J: Job, S, T> Host<J, S, T> {
             if are_set(&done[..ranks.len()]) {
                 return ranks;
             }
-            rest_if_idle(&ranks);
+            idle.rest(rt, &ranks);
         }
         unreachable!()
     }
@@ -148,16 +149,6 @@ impl<J: Job, S, T> Rank<J, S, T> {
         events.append(&mut self.state.book.events)?;
         Ok(())
     }
-}
-
-// Leaves the processor to other threads where no rank has a string.
-fn rest_if_idle<J, S, T>(ranks: &[Rank<J, S, T>]) {
-    for rank in ranks {
-        if rank.state.queue.len() > 0 {
-            return;
-        }
-    }
-    thread::yield_now();
 }
 
 // Flags of as many ranks as there may be, none of which is set.

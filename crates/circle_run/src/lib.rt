@@ -75,7 +75,8 @@
 //! balance follows from what the seats say when they come together ([`hosts_are_balanced`]). What [`begin`] says of a whole run
 //! and its events is asked for one host. The ranks of a host whose thread was refused run with those of host 0. All memory that
 //! starting and joining take is taken before the first start, and nothing is left early until host 0 is done: the other ranks
-//! would wait for its ranks for ever. A host whose ranks have no string yields its processor after a round. A run stops in the
+//! would wait for its ranks for ever. A host whose ranks have no string yields its processor after a
+//! round, and sleeps where that goes on, up to a millisecond after each. A run stops in the
 //! same way on one host and on several: each seat that knows that all are to halt knows it of one that told all so.
 //!
 //! `specs/Balance.antt` has the definitions of a balance, `specs/Moves.antt` those of a rank's moves, `specs/Choices.antt` which
@@ -90,6 +91,7 @@ mod books;
 mod errors;
 mod halting;
 mod hosts;
+mod idle;
 mod jobs;
 mod laws;
 mod lots;

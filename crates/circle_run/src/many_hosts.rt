@@ -5,6 +5,7 @@ ghost use Rattle.post_board.specs.Fresh.{AllFresh};
 ghost use Rattle.post_board.specs.BoardSeats.{IsSeat as IsBoardSeat, shown_by as board_shown, unused};
 ghost use Rattle.sum_tree.specs.Shown.{AllFinished};
 ghost use Rattle.sum_tree.specs.TreeSeats.{AllFresh as AllFreshSums, IsSeat as IsSumSeat, shown_by as sum_shown};
+ghost use Rattle.circle_run.specs.ByRank.{PlayedApart};
 ghost use Rattle.circle_run.specs.Hosts.{NoneLost};
 ghost use Rattle.circle_run.specs.Private.Outcomes.{IsOutcome};
 ghost use Rattle.circle_run.specs.Private.Parting.{Starting, MaySpread, AllJoined};
@@ -41,7 +42,8 @@ pub(crate) fn run_spread<R: Threads + Wait + Sync, J: Job + Send + Drop>(
     requires width { (2 ≤ options.now.width) × (options.now.width ≤ 64) }
     requires jobs { length jobs.items ≡ options.now.ranks }
     requires unused { All (λ job. J.log job ≡ []) jobs.items }
-    ensures { IfOk result (λ f. IsOutcome J.log J.plain options.now starts.items jobs.items f) }
+    ensures outcome { IfOk result (λ f. IsOutcome J.log J.plain options.now starts.items jobs.items f) }
+    ensures apart { IfOk result (λ f. PlayedApart options.now starts.items (map J.log f.jobs.items) (map (λ l. l.items) f.left.items) f.shares.items) }
 {
     hosts_are_balanced();
     let (board, seats) = Board::make(alloc, options.ranks)?;

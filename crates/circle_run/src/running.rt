@@ -6,6 +6,7 @@ ghost use Rattle.sum_tree.specs.Plain.{fresh};
 ghost use Rattle.circle_run.specs.Balance.{Balanced};
 ghost use Rattle.circle_run.specs.Left.{all_left};
 ghost use Rattle.circle_run.specs.Traced.{IsTraced, WasRun, share_in, IsProgress};
+ghost use Rattle.circle_run.specs.ByRank.{Played, PlayedApart};
 ghost use Rattle.circle_run.specs.Private.Outcomes.{IsOutcome, IsRun};
 
 use crate::errors::CircleError;
@@ -53,6 +54,10 @@ pub fn begin<R: Threads + Wait + Sync, J: Job + Send + Drop>(
     ensures shares { IfOk result (λ f. map (λ s. s.handled) f.shares.items ≡ map (λ job. min (length (J.log job)) (2 ^ 64 - 1)) f.jobs.items) }
     ensures moved { IfOk result (λ f. min (sum_by (λ s. s.given) f.shares.items) (2 ^ 128 - 1) ≡ min (sum_by (λ s. s.taken) f.shares.items) (2 ^ 128 - 1)) }
 
+    // On one host moves of all were played, on several each rank made moves of its own: they leave this, and each did so much by them.
+    ensures played { IfOk result (λ f. options.now.hosts ≡ 1 → Played options.now starts.items (map J.log f.jobs.items) (map (λ l. l.items) f.left.items) f.shares.items) }
+    ensures apart { IfOk result (λ f. 1 < options.now.hosts → PlayedApart options.now starts.items (map J.log f.jobs.items) (map (λ l. l.items) f.left.items) f.shares.items) }
+
     // With a trace: the events are those of a whole run, and the shares are what they say. Without one none is kept.
     ensures traced { IfOk result (λ f. options.now.trace ≡ true → IsTraced options.now starts.items (map J.log f.jobs.items) f.events.items) }
     ensures untraced { IfOk result (λ f. options.now.trace ≡ false → f.events.items ≡ []) }
@@ -91,6 +96,7 @@ fn run_whole<R: Wait, J: Job + Drop, S: Drop, T: Drop, P: Post<Seat = S>, Q: Sum
     requires sums_shown { map Q.shows sums_seats.items ≡ map (fresh options.now.ranks options.now.width) (range_with_len 0 options.now.ranks) }
     requires sums_seats { (k : ℕ) (d : T) → k < options.now.ranks → Q.seats sums.old (slice_index_or sums_seats.items k d) }
     ensures outcome { IfOk result (λ f. IsOutcome J.log J.plain options.now starts.items jobs.items f) }
+    ensures played { IfOk result (λ f. Played options.now starts.items (map J.log f.jobs.items) (map (λ l. l.items) f.left.items) f.shares.items) }
     ensures run { IfOk result (λ f. options.now.stop_after ≡ None → IsRun J.log options.now starts.items f) }
 {
     nothing_waits_at_end();

@@ -214,6 +214,7 @@ impl<J: Job, S, T> RankState<J, S, T> {
         ensures handled { result ≡ DidHandle → self.new.book.lost ≡ false → length (J.log self.new.job) ≡ length (J.log self.old.job) + 1 }
         ensures other { result ≢ DidHandle → J.log self.new.job ≡ J.log self.old.job }
         ensures goes { (result ≢ DidStop) × (self.new.stopped ≡ false) }
+        ensures live { result ≡ DidHandle → self.new.ended ≡ false }
         ensures halted { (P.shows self.new.seat).halted ≡ (P.shows self.old.seat).halted }
     {
         if self.queue.len() > 0 {

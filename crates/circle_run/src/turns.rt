@@ -14,7 +14,7 @@ ghost use Rattle.circle_run.specs.declared.steps.Did.TheVariants.{Handled as Did
 ghost use Rattle.circle_run.specs.declared.ranks.Turn.TheVariants.{Went as TurnWent, Waited as TurnWaited, Stopped as TurnStopped, Ended as TurnEnded};
 
 use crate::books::Book;
-use crate::halting::is_to_halt;
+use crate::halting::{halts_by, is_to_halt, tells_first};
 use crate::jobs::Job;
 use crate::outcomes::Share;
 use crate::ranks::{Rank, RankState, Turn};
@@ -167,11 +167,14 @@ impl<J: Job, S, T> RankState<J, S, T> {
         }
         let halts = is_to_halt(due, ring);
         if halts {
-            return self.wind_up(post, due);
+            return self.wind_up(post, tells_first(due, ring));
         }
         let some = self.serve(post, true);
         settle(&mut self.queue, &self.book, self.alloc);
         let did = self.go_on(post, ring);
+        let all = self.has_done_all();
+        let last = halts_by(did, all);
+        self.tell_halt(post, last);
         in_all(some, did)
     }
 

@@ -35,7 +35,7 @@ module _ {J S T P Q D : Type 0} (log : J → Log) (plain : J → D) (shows : S �
   pub record HostRan (p : P) (q : Q) (before after : List (Rank J S T)) : Type 0 where
     pub ended : AllEnded log shows seats sums_shows sums_seats after p q
     pub same : Same plain before after
-    pub alone : NoneLost after → AllAlone log shows before after
+    pub alone : AllAlone log shows before after
 
   -- what a thread gives back: its ranks as they have ended, or as they were
   abbrev pub Gives : P → Q → List (Rank J S T) → Back J S T → Type 0

@@ -8,7 +8,7 @@ use Rattle.post_board.specs.declared.answers.Ring.{Ring}
 use Rattle.post_board.specs.declared.answers.Ring.TheVariants.{Over}
 use Rattle.circle_run.specs.Balance.{Log}
 use Rattle.circle_run.specs.Moves.{Move, handled, served, did, noted}
-use Rattle.circle_run.specs.Choices.{Choice, Chosen, first_of, Closes, Chooses}
+use Rattle.circle_run.specs.Choices.{Choice, Chosen, halt_if, Closes, Chooses}
 use Rattle.circle_run.specs.declared.settings.Options.{Options}
 use Rattle.circle_run.specs.Ranks.{Knows, ServesNone, Went}
 use Rattle.circle_run.specs.Turns.{IsAct, IsTurn}
@@ -41,7 +41,14 @@ pub record Served (gives some : Bool) (moves : List Move) : Type 0 where
 
 -- all were told to halt, or nothing was done
 abbrev pub Halts : Bool → List Move → Type 0
-Halts due moves = moves ≡ first_of due
+Halts due moves = moves ≡ halt_if due
+
+-- a rank tells all to halt where it handled a string and has then handled all that it may
+abbrev pub halts_by : Did → Bool → Bool
+halts_by Handled due = due
+halts_by Acted due = false
+halts_by Waited due = false
+halts_by Stopped due = false
 
 -- what a rank did in all, where some asked it or none
 abbrev pub with_service : Bool → Did → Did
@@ -75,11 +82,11 @@ pub record Ends (done : Did) (me : ℕ) (asked : Option ℕ) (moves : List Move)
   pub closes : Closes me asked moves
 
 -- all that a rank does that is to halt
-pub record WoundUp (done : Did) (o : Options) (me : ℕ) (due : Bool) (asked : Option ℕ) (moves : List Move) : Type 0 where
+pub record WoundUp (done : Did) (o : Options) (me : ℕ) (first : Bool) (asked : Option ℕ) (moves : List Move) : Type 0 where
   pub kind : IsTurn false (turn_of done) moves
   pub answers : List (ℕ × Strings)
   pub next : List Move
-  pub are : moves ≡ first_of due ++ served answers ∷ next
+  pub are : moves ≡ halt_if first ++ served answers ∷ next
   pub refuses : o.stop_after ≢ None → All (λ a. a.1 ≡ []) answers
   pub closes : Closes me asked next
 

@@ -22,7 +22,7 @@ returns-clause-ran g c =
     c.make.result c.run.result.items) q
     (subst (λ x. HostRan g.J.Job.log g.J.Job.plain g.P.Post.shows g.P.Post.seats g.Q.Sums.shows g.Q.Sums.seats x c.run.new.sums
     c.make.result c.run.result.items) p
-    record { ended = r.ended; same = r.same; alone = λ none. (r.alone c.requires.untold none).1 }))
+    record { ended = r.ended; same = r.same; alone = (r.alone c.requires.untold).1 }))
 
 pub returns-clause-still : goal.returns-clause-still
 returns-clause-still g c = (c.run.ensures.still c.requires.untold, c.run.ensures.sums_still c.requires.sums_untold)

@@ -9,7 +9,7 @@ use Rattle.circle_run.specs.Private.Parting.{Starting}
 use Rattle.circle_run.proofs.Maps.{sum_by-map}
 use Rattle.circle_run.proofs.Places.{once_whole}
 use Rattle.circle_run.proofs.Final.{ending}
-use Rattle.circle_run.proofs.Whole.{whole_host, may_gather, outcome}
+use Rattle.circle_run.proofs.Whole.{whole_host, may_gather, closed}
 use Rattle.circle_run.proofs.many_hosts.run_spread.Goals as goal
 
 pub spread-requires-clause-ranks : goal.spread-requires-clause-ranks
@@ -74,7 +74,7 @@ returns g c =
     joined.done c.in_order-ranks.ensures.same c.in_order-ranks.ensures.order found joined.numbers in
     let parts = c.in_ok-parts.ensures in
     let some = c.requires.ranks.0 in
-    outcome g.J.Job.log g.J.Job.plain board_shown IsBoardSeat sum_shown IsSumSeat o c.args.starts.items c.args.jobs.items
+    let left = closed g.J.Job.log g.J.Job.plain board_shown IsBoardSeat sum_shown IsSumSeat o c.args.starts.items c.args.jobs.items
     c.of-whole.result.value.items final b t
     (λ s. record { given = s.seat.me.0.own.given; taken = s.seat.me.0.own.taken }) c.in_ok-parts.parts.seats.items c.gather_all.result _
     (record {
@@ -92,7 +92,6 @@ returns g c =
       left_are = parts.left;
       shares_are = parts.shares;
       sums_are = parts.numbers;
-      events_are = search rules;
       answer = λ d. ap (λ x. (sum_shown x).answer)
           (sym (ap (λ xs. get_or xs 0 d.sums_seat) parts.sums_seats
           ∙ get_or-map (λ r. r.sums_seat) final 0 d d.sums_seat (let m = last.count ∙ first.count in omega (arith, m, some))))
@@ -100,3 +99,5 @@ returns g c =
       total_is = c.gather_all.ensures.sum ∙ ap (λ xs. sum_by (λ x. (sum_shown x).count) xs) parts.sums_seats
           ∙ sum_by-map (λ x. (sum_shown x).count) (λ r. r.sums_seat) final;
     })
+    in
+    record { outcome = left.0 (search rules); apart = left.1 }

@@ -113,4 +113,4 @@ returns g c =
           ∙ sum_by-map (λ x. (g.Q.Sums.shows x).count) (λ r. r.sums_seat) ranks;
     })
     in
-    record { outcome = left.0; run = left.1 }
+    record { outcome = left.0; run = left.1; played = left.2 }

@@ -21,7 +21,7 @@ loop-init g c = rw (c.self.view_is) (record {
       (each_first g.J.Job.log g.J.Job.plain g.P.Post.shows g.P.Post.tells g.P.Post.seats o c.args.self);
   still = λ e. refl;
   sums_still = λ e. refl;
-  alone = λ e none. (e, alone_first g.J.Job.log g.J.Job.plain g.P.Post.shows g.P.Post.tells g.P.Post.seats c.args.self);
+  alone = λ e. (e, alone_first g.J.Job.log g.J.Job.plain g.P.Post.shows g.P.Post.tells g.P.Post.seats c.args.self);
 })
 
 pub loop-k-init : goal.loop-k-init
@@ -68,11 +68,8 @@ loop-k-preserved g c =
           (i.ran before o t all told);
       still = still_then g.P.Post.tells c.args.post.now c.loop-k.post c.step.new.post i.still took.still;
       sums_still = still_then g.Q.Sums.tells c.args.sums.now c.loop-k.sums c.step.new.sums i.sums_still c.step.ensures.sums_still;
-      alone = λ e none.
-          let before = lost_before c.loop-k.ranks.items c.loop-k.k c.index_mut.result.now c.step.new.self inside was took.lost none in
-          let w = took.went (lost_here c.loop-k.ranks.items c.loop-k.k c.step.new.self inside none) in
-          alone_step g.J.Job.log g.J.Job.plain g.P.Post.shows g.P.Post.tells g.P.Post.seats c.args.self c.loop-k.ranks.items
-          c.loop-k.post c.step.new.post c.loop-k.k c.index_mut.result.now c.step.new.self inside was i.same w (i.alone e before);
+      alone = λ e. alone_step g.J.Job.log g.J.Job.plain g.P.Post.shows g.P.Post.tells g.P.Post.seats c.args.self c.loop-k.ranks.items
+          c.loop-k.post c.step.new.post c.loop-k.k c.index_mut.result.now c.step.new.self inside was i.same took (i.alone e);
     }
 
 pub loop-preserved : goal.loop-preserved

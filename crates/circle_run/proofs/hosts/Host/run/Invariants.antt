@@ -16,7 +16,7 @@ invariant-loop-k g l = record {
       (KeptByEach o l.fn.self l.ranks.items) o t l.fn.self l.ranks.items l.post l.k;
   still : g.P.Post.tells l.fn.post ≡ None → l.post ≡ l.fn.post;
   sums_still : g.Q.Sums.tells l.fn.sums ≡ None → l.sums ≡ l.fn.sums;
-  alone : g.P.Post.tells l.fn.post ≡ None → NoneLost l.ranks.items → (g.P.Post.tells l.post ≡ None)
+  alone : g.P.Post.tells l.fn.post ≡ None → (g.P.Post.tells l.post ≡ None)
       × AllAlone g.J.Job.log g.P.Post.shows l.fn.self l.ranks.items;
 }
 
@@ -32,6 +32,6 @@ invariant-loop g l = record {
       (KeptByEach o l.fn.self l.ranks.items) o t l.fn.self l.ranks.items l.post 0;
   still : g.P.Post.tells l.fn.post ≡ None → l.post ≡ l.fn.post;
   sums_still : g.Q.Sums.tells l.fn.sums ≡ None → l.sums ≡ l.fn.sums;
-  alone : g.P.Post.tells l.fn.post ≡ None → NoneLost l.ranks.items → (g.P.Post.tells l.post ≡ None)
+  alone : g.P.Post.tells l.fn.post ≡ None → (g.P.Post.tells l.post ≡ None)
       × AllAlone g.J.Job.log g.P.Post.shows l.fn.self l.ranks.items;
 }
