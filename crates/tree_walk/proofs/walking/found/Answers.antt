@@ -64,6 +64,12 @@ returns-clause-cut g c =
     (cut_found g.G.Reader.Tree.tree g.G.Reader.Tree.count told c.in_ok-finished.finished.jobs.items c.in_ok-found.found (all_left left.items) starts
     (count c.args.ground.now) (count c.made.new.ground) (count c.opened.new.ground) (run g c) c.made.ensures.count c.in_ok-logs.ensures.counted)
 
+pub returns-clause-lists : goal.returns-clause-lists
+returns-clause-lists g c =
+    let left = c.in_ok-finished.finished.left in
+    of_cut (λ done lists. length lists.items ≡ c.args.options.now.ranks) c.split-list.result.1 c.split-list.result.0 c.in_ok-found.found left
+    c.split-list.ensures.found c.split-list.ensures.cut (c.in_ok-finished.ensures.lists ∙ c.in_ok-jobs.ensures.number)
+
 pub returns-clause-reached : goal.returns-clause-reached
 returns-clause-reached g c =
     let stop = c.args.options.now.stop_after in
