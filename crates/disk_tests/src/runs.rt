@@ -5,7 +5,7 @@ use crate::walks::walked;
 use mfu_top::{Status, run};
 use outside::MemSink;
 use path_text::Path;
-use real_disk::{RealGround, seconds};
+use real_disk::{RealGround, Watch, seconds};
 use std::fs::{File, Files};
 use std::io::ErrorKind;
 use std::process::Abort;
@@ -30,7 +30,7 @@ pub struct Run {
 pub fn ran<T, F>(rt: &T, system: F, words: &[&str]) -> Run
 where
     T: Abort + AllocGlobal + Clock + Threads + Wait + Sync,
-    F: Files<File = File> + RandomSource + Copy + Send,
+    F: Files<File = File> + RandomSource + Watch + Copy + Send,
 {
     let alloc = rt.alloc();
     let given = texts(rt, words);
