@@ -164,103 +164,103 @@ mod tests {
     use tool_words::read_words;
 
     // Command lines that are refused, and the hint about each.
-    const LINES: [(&[&str], &str); 26] = [
-        (&[], "mfu: a tool is missing; see mfu help\n"),
+    const LINES: [(&str, &str); 26] = [
+        ("", "mfu: a tool is missing; see mfu help\n"),
         (
-            &["dwolk", "/t"],
+            "dwolk /t",
             "mfu: word 0, \"dwolk\": this is not a tool; see mfu help\n",
         ),
         (
-            &["dwalk", "."],
+            "dwalk .",
             "mfu: word 1, \".\": paths must be absolute; see mfu help dwalk\n",
         ),
         (
-            &["dwalk", "/t", "/a/../b"],
+            "dwalk /t /a/../b",
             "mfu: word 2, \"/a/../b\": a path must not contain '.', '..' or an empty name; see mfu help dwalk\n",
         ),
         (
-            &["drm", "//"],
+            "drm //",
             "mfu: word 1, \"//\": drm does not delete /; see mfu help drm\n",
         ),
         (
-            &["dfind", "--nime", "x", "/t"],
+            "dfind --nime x /t",
             "mfu: word 1, \"--nime\": the tool has no such option; see mfu help dfind\n",
         ),
         (
-            &["dwalk", "/t", "--sort"],
+            "dwalk /t --sort",
             "mfu: word 2, \"--sort\": this option needs a value; see mfu help dwalk\n",
         ),
-        (&["dwalk"], "mfu: a path is missing; see mfu help dwalk\n"),
+        ("dwalk", "mfu: a path is missing; see mfu help dwalk\n"),
         (
-            &["dcmp", "/a"],
+            "dcmp /a",
             "mfu: give two paths, SOURCE and DEST; see mfu help dcmp\n",
         ),
         (
-            &["dcp", "/a"],
+            "dcp /a",
             "mfu: give two paths or more, SOURCE... DEST; see mfu help dcp\n",
         ),
         (
-            &["dtest"],
+            "dtest",
             "mfu: the number of nodes is missing; see mfu help dtest\n",
         ),
         (
-            &["dtest", "0"],
+            "dtest 0",
             "mfu: word 1, \"0\": the number of nodes must be 1 to 1,000,000; see mfu help dtest\n",
         ),
         (
-            &["dtest", "1", "2"],
+            "dtest 1 2",
             "mfu: word 2, \"2\": give one number of nodes; see mfu help dtest\n",
         ),
         (
-            &["dcmp", "/a", "/b", "/c"],
+            "dcmp /a /b /c",
             "mfu: word 3, \"/c\": give two paths, SOURCE and DEST; see mfu help dcmp\n",
         ),
         (
-            &["dwalk", "--input", "/l", "/t"],
+            "dwalk --input /l /t",
             "mfu: word 3, \"/t\": give no path with --input or --restart; see mfu help dwalk\n",
         ),
         (
-            &["dwalk", "--ranks", "65", "/t"],
+            "dwalk --ranks 65 /t",
             "mfu: word 2, \"65\": the number must be 1 to 64; see mfu help dwalk\n",
         ),
         (
-            &["dwalk", "--width=1", "/t"],
+            "dwalk --width=1 /t",
             "mfu: word 1, \"--width=1\": the number must be 2 to 64; see mfu help dwalk\n",
         ),
         (
-            &["dwalk", "--progress=1", "/t"],
+            "dwalk --progress=1 /t",
             "mfu: word 1, \"--progress=1\": this option takes no value; see mfu help dwalk\n",
         ),
         (
-            &["dwalk", "--progress", "t"],
+            "dwalk --progress t",
             "mfu: word 2, \"t\": paths must be absolute; see mfu help dwalk\n",
         ),
         (
-            &["dfind", "--size", "2x", "/t"],
+            "dfind --size 2x /t",
             "mfu: word 2, \"2x\": the bound must be N, +N or -N, and B, k, M or G may follow; see mfu help dfind\n",
         ),
         (
-            &["dcmp", "-o", "EXIST=ONLY_SRC:l", "/a", "/b"],
+            "dcmp -o EXIST=ONLY_SRC:l /a /b",
             "mfu: word 2, \"EXIST=ONLY_SRC:l\": the value must be EXPR:FILE, with an absolute path; see mfu help expressions\n",
         ),
         (
-            &["dwalk", "--sort=size", "--sort=name", "/t"],
+            "dwalk --sort=size --sort=name /t",
             "mfu: word 2, \"--sort=name\": this option was given before; see mfu help dwalk\n",
         ),
         (
-            &["dwalk", "--hosts", "2", "--trace", "/t"],
+            "dwalk --hosts 2 --trace /t",
             "mfu: word 3, \"--trace\": --trace needs one thread, and cannot be combined with --stop-after; see mfu help dwalk\n",
         ),
         (
-            &["dwalk", "--lists", "/l", "/t"],
+            "dwalk --lists /l /t",
             "mfu: word 1, \"--lists\": --lists needs --stop-after or --restart; see mfu help dwalk\n",
         ),
         (
-            &["dwalk", "--restart"],
+            "dwalk --restart",
             "mfu: word 1, \"--restart\": this option needs --lists, and cannot be combined with --input; see mfu help dwalk\n",
         ),
         (
-            &["dwalk", "a\nb"],
+            "dwalk a\nb",
             "mfu: word 1, \"a\\nb\": paths must be absolute; see mfu help dwalk\n",
         ),
     ];
@@ -269,14 +269,16 @@ mod tests {
     fn a_hint_says_the_rule_that_is_broken(rt: HostRuntime) -> Result<(), Fail> {
         for (line, want) in LINES {
             let mut words = Vec::new(rt.alloc());
-            for word in line {
-                words.push(String::from_str(rt.alloc(), word)?)?;
+            for word in line.split(' ') {
+                if !word.is_empty() {
+                    words.push(String::from_str(rt.alloc(), word)?)?;
+                }
             }
             let refusal = match read_words(rt.alloc(), &words) {
                 Ok(_) => None,
                 Err(why) => why.refusal(),
             };
-            assert!(rt; refusal.is_some(), "{line:?}");
+            assert!(rt; refusal.is_some(), "{line}");
             if let Some(refusal) = refusal {
                 let told = hint(rt.alloc(), &words, refusal)?;
                 assert_eq!(rt; told.as_str(), want);
