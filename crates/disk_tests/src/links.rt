@@ -1,7 +1,7 @@
 //! Copies of links over the real disk.
 use crate::grudges::{Grudging, LinkCall};
 use crate::rooms::{Node, Room};
-use crate::runs::{Run, ran};
+use crate::runs::{Run, ran, ran_refused};
 use crate::shared::{same, so};
 use mfu_top::Status;
 use std::io;
@@ -142,7 +142,7 @@ fn a_refused_call_leaves_the_old_link(rt: HostRuntime) {
             room.at("from").expect(&rt, "a path"),
             room.at("to").expect(&rt, "a path"),
         );
-        let run = ran(&rt, system, &["dcp", from.text(), to.text()]);
+        let run = ran_refused(&rt, system, &["dcp", from.text(), to.text()]);
         same(&rt, &run.status, &Status::Named);
         let want = format!(in rt.alloc(); "{out} bytes 0 failed 1\n").expect(&rt, "memory");
         so(&rt, run.out.text() == want.as_bytes(), out);

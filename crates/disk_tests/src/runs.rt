@@ -1,15 +1,14 @@
 //! Whole runs of the program over the real disk.
+use crate::grudges::Grudging;
 use crate::rooms::{Node, Room};
 use crate::shared::{bytes, long, so, texts};
 use crate::walks::walked;
 use mfu_top::{Status, run};
 use outside::MemSink;
 use path_text::Path;
-use real_disk::{RealGround, Watch, seconds};
-use std::fs::{File, Files};
+use real_disk::{RealGround, seconds};
 use std::io::ErrorKind;
 use std::process::Abort;
-use std::random::RandomSource;
 use std::rt::Clock;
 use std::sync::Wait;
 use std::thread::Threads;
@@ -26,11 +25,25 @@ pub struct Run {
     pub notes: MemSink,
 }
 
-/// Runs these words over the files of a system.
-pub fn ran<T, F>(rt: &T, system: F, words: &[&str]) -> Run
+/// Runs these words over the files of the system.
+pub fn ran<T>(rt: &T, system: HostRuntime, words: &[&str]) -> Run
 where
     T: Abort + AllocGlobal + Clock + Threads + Wait + Sync,
-    F: Files<File = File> + RandomSource + Watch + Copy + Send,
+{
+    let alloc = rt.alloc();
+    let given = texts(rt, words);
+    let mut out = MemSink::limited(alloc, AMPLE).expect(rt, "memory");
+    let mut notes = MemSink::limited(alloc, AMPLE).expect(rt, "memory");
+    let mut files = RealGround::make(alloc, system);
+    let now = seconds(rt);
+    let status = run(rt, alloc, &given, &mut files, &mut out, &mut notes, now);
+    Run { status, out, notes }
+}
+
+/// Runs these words over the files of a system that refuses a call.
+pub fn ran_refused<T>(rt: &T, system: Grudging, words: &[&str]) -> Run
+where
+    T: Abort + AllocGlobal + Clock + Threads + Wait + Sync,
 {
     let alloc = rt.alloc();
     let given = texts(rt, words);
