@@ -34,7 +34,7 @@ root_meets root dest r h =
 -- ---- pairs that are due
 
 -- no source overlaps a target
-across : (xs ys : List (List ℕ)) → overlap (xs ++ ys) ≡ false → list_any (λ x. list_any (meets x) ys) xs ≡ false
+pub across : (xs ys : List (List ℕ)) → overlap (xs ++ ys) ≡ false → list_any (λ x. list_any (meets x) ys) xs ≡ false
 across xs ys e = (or_parts _ _ (or_parts _ _ (sym (overlap_append xs ys) ∙ e)).1).0
 
 root_off : (dest : List ℕ) (sources : List (List ℕ)) → refusal dest ≡ None → overlap (sources ++ map (target_in true dest) sources) ≡ false →

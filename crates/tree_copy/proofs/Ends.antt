@@ -20,8 +20,7 @@ use Rattle.path_text.proofs.Within.{same_or_under, some_bytes, tops_are_nested, 
 use Rattle.outside.specs.Tree.{is_root}
 use Rattle.tree_copy.specs.declared.pairs.Pair.{Pair}
 use Rattle.tree_copy.specs.Copying.{ends_of, target_of}
-use Rattle.tree_copy.specs.Placing.{overlap}
-use Rattle.tree_copy.specs.PrivateSettling.{IsPair}
+use Rattle.tree_copy.specs.Placing.{IsPair, overlap}
 
 -- tests
 
@@ -116,14 +115,14 @@ targets_alone : (pairs : List Pair) → overlap (ends_of pairs) ≡ false → Al
 targets_alone [] h = tt
 targets_alone (pair ∷ pairs) h = let a = first_apart pair pairs h in (a.targets, targets_alone pairs a.rest)
 
-own_apart : (pairs : List Pair) → overlap (ends_of pairs) ≡ false → (k : ℕ) (pair : Pair) → slice_get pairs k ≡ Some pair →
+pub own_apart : (pairs : List Pair) → overlap (ends_of pairs) ≡ false → (k : ℕ) (pair : Pair) → slice_get pairs k ≡ Some pair →
     meets pair.source pair.target ≡ false
 own_apart [] h zero pair e = cc
 own_apart [] h (suc k) pair e = cc
 own_apart (p ∷ pairs) h zero pair e = subst (λ q. meets q.source q.target ≡ false) (same_some p pair e) (first_apart p pairs h).own
 own_apart (p ∷ pairs) h (suc k) pair e = own_apart pairs (first_apart p pairs h).rest k pair e
 
-met : (f : Pair → List ℕ) (x : List ℕ) (pairs : List Pair) (k : ℕ) (p : Pair) → slice_get pairs k ≡ Some p → meets x (f p) ≡ true →
+pub met : (f : Pair → List ℕ) (x : List ℕ) (pairs : List Pair) (k : ℕ) (p : Pair) → slice_get pairs k ≡ Some p → meets x (f p) ≡ true →
     list_any (meets x) (map f pairs) ≡ true
 met f x [] zero p e m = cc
 met f x [] (suc k) p e m = cc
@@ -244,7 +243,7 @@ module _ (pairs : List Pair) (f : Fine pairs) where
   rest_valid : (x : List ℕ) (g : Goes pairs x) → refusal x ≡ None → refusal (below_of x g.pair.source) ≡ None
   rest_valid x g v = below_made x g.pair.source (below_of x g.pair.source) refl v g.within
 
-  in_top : (x : List ℕ) (g : Goes pairs x) → refusal x ≡ None → is_within (target_of pairs x) g.pair.target ≡ true
+  pub in_top : (x : List ℕ) (g : Goes pairs x) → refusal x ≡ None → is_within (target_of pairs x) g.pair.target ≡ true
   in_top x g v = subst (λ t. is_within t g.pair.target ≡ true) (sym g.is) (below_undoes_graft.within g.pair.target (below_of x g.pair.source)
       (rest_valid x g v))
 

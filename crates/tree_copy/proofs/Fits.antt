@@ -31,7 +31,8 @@ use Rattle.level_work.specs.declared.items.Order.TheVariants as order
 use Rattle.tree_copy.specs.declared.pairs.Pair.{Pair}
 use Rattle.tree_copy.specs.Copying.{CanCopy, FitsTree, is_target, target_of, treated}
 use Rattle.tree_copy.specs.PrivateDeeds.{CopyKind, CopyOne, CopyTold, MakeDir}
-use Rattle.tree_copy.specs.PrivateSettling.{IsPair, has_room, item_of, items_of, placed_of}
+use Rattle.tree_copy.specs.Placing.{IsPair}
+use Rattle.tree_copy.specs.PrivateSettling.{has_room, item_of, items_of, placed_of}
 use Rattle.tree_copy.proofs.Ends.{Fine, Goes, all_at, both_off, goes, no_root, one_path, same_some, under_kept}
 
 -- what is known of the entries and of the pairs

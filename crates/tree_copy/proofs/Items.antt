@@ -11,7 +11,8 @@ use Rattle.level_work.specs.declared.items.Item.{Item}
 use Rattle.tree_copy.specs.declared.pairs.Pair.{Pair}
 use Rattle.tree_copy.specs.Copying.{ends_of, target_of, treated}
 use Rattle.tree_copy.specs.Placing.{overlap}
-use Rattle.tree_copy.specs.PrivateSettling.{IsPair, has_room, item_of, items_of}
+use Rattle.tree_copy.specs.Placing.{IsPair}
+use Rattle.tree_copy.specs.PrivateSettling.{has_room, item_of, items_of}
 use Rattle.tree_copy.proofs.Ends.{Fine, all_at, target_by}
 
 -- the item of an entry that has one

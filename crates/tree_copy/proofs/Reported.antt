@@ -23,8 +23,9 @@ use Rattle.level_work.specs.declared.items.Fate.TheVariants as fate
 use Rattle.level_work.specs.declared.items.Order.TheVariants as order
 use Rattle.tree_copy.specs.declared.pairs.Pair.{Pair}
 use Rattle.tree_copy.specs.Copying.{AreEarly, CanCopy, Copied, FitsTree, SameButTargets, bytes_copied, is_done, treated}
+use Rattle.tree_copy.specs.Placing.{IsPair}
 use Rattle.tree_copy.specs.PrivateDeeds.{CopyOne}
-use Rattle.tree_copy.specs.PrivateSettling.{IsPair, any_odd, bytes_of, fates_of, fitting, gain, has_room, is_other, items_of, placed_of}
+use Rattle.tree_copy.specs.PrivateSettling.{any_odd, bytes_of, fates_of, fitting, gain, has_room, is_other, items_of, placed_of}
 use Rattle.tree_copy.specs.PrivateSettling.{rest_of, settled_by}
 use Rattle.tree_copy.proofs.Comes.{Comes, Row, all_come, are_early, are_marks, items_are, items_by, rows_by}
 use Rattle.tree_copy.proofs.Copies.{copied, others}

@@ -19,6 +19,7 @@ use Rattle.std.proofs.Common.{
   ◌∷◌,
   ◌++◌,
   length,
+  map,
   drop,
   Some,
   refl,
@@ -38,15 +39,37 @@ use Rattle.std.proofs.Common.{
 use Rattle.std.proofs.lemmas.Bool.{false≢true}
 use Rattle.std.proofs.lemmas.Bool.Decides.{nat_tests}
 use Rattle.std.specs.Prelude.{nat_lt}
-use Rattle.std.proofs.lemmas.List.{length-map}
+use Rattle.std.proofs.lemmas.List.{length-map, map-append}
 use Rattle.std.proofs.lemmas.List.Sums.{sum_by-cons}
-use Rattle.std.specs.List.{count_by}
+use Rattle.std.specs.List.{count_by, zip}
 use Rattle.flat_list.specs.declared.entries.Entry.{Entry}
 use Rattle.flat_list.specs.Spelling.{paths}
 use Rattle.level_work.specs.declared.items.Fate.{Fate}
 use Rattle.level_work.specs.declared.items.Fate.TheVariants as fate
 use Rattle.tree_copy.specs.Copying.{is_done, treated}
 use Rattle.tree_copy.specs.PrivateSettling.{any_odd, bytes_of, fates_of, fitting, gain, is_odd, rest_of, settled}
+
+-- ---- the paths and the fates of rows
+
+abbrev Row : Type 0
+Row = List ℕ × Fate
+
+abbrev pub firsts : List Row → List (List ℕ)
+firsts rows = map (λ row. row.0) rows
+
+abbrev pub seconds : List Row → List Fate
+seconds rows = map (λ row. row.1) rows
+
+pub both_parts : (rows : List Row) → rows ≡ zip (firsts rows) (seconds rows)
+both_parts [] = refl
+both_parts (row ∷ rows) = ap (λ rest. row ∷ rest) (both_parts rows)
+
+-- with one row more
+pub row_more : (rows now : List Row) (p : List ℕ) (f : Fate) → now ≡ rows ++ (p, f) ∷ [] →
+    (firsts now ≡ firsts rows ++ p ∷ []) × (seconds now ≡ seconds rows ++ f ∷ [])
+row_more rows now p f is = (ap firsts is ∙ map-append (λ (r : Row). r.0) rows ((p, f) ∷ []), ap seconds is ∙ map-append (λ (r : Row). r.1) rows ((p, f) ∷ []))
+
+-- ---- the tally
 
 -- what was told of the entries `all`, whose rest is `rest`, with as much of the marks and fates as is left
 pub record Tallied (all : List Entry) (fits : List Bool) (outs : List Fate) (rest : List Entry) (marks : List Bool) (left : List Fate)

@@ -1,4 +1,5 @@
 pub mod Copying
+pub mod Laws
 pub mod Looking
 pub mod Placing
 pub mod PrivateActs

@@ -36,6 +36,11 @@ ends_in in_dir dest sources = if has_targets in_dir dest sources then sources ++
 abbrev pub pairs_in : Bool → List ℕ → List (List ℕ) → List Pair
 pairs_in in_dir dest sources = map (λ source. record { source = source; target = target_in in_dir dest source }) sources
 
+-- source and target are paths
+pub record IsPair (pair : Pair) : Type 0 where
+  pub source : refusal pair.source ≡ None
+  pub target : refusal pair.target ≡ None
+
 -- where the sources go, or why they can't: `in_dir` says that the destination is a directory, and `over_dir` that its parent is one
 abbrev pub placed : (in_dir over_dir : Bool) → List ℕ → List (List ℕ) → Result (List Pair) PlaceError
 placed in_dir over_dir dest sources =

@@ -1,7 +1,6 @@
 -- How entries become items of work at their targets, and fates of items those of entries. Only the contracts of this crate's own parts cite it.
-use Rattle.std.specs.Prelude.{◌≡◌, ℕ, ◌+◌, Bool, true, false, ◌&&◌, ◌||◌, List, [], ◌∷◌, length, map, if◌then◌else◌, nat_le, None}
+use Rattle.std.specs.Prelude.{ℕ, ◌+◌, Bool, true, false, ◌&&◌, ◌||◌, List, [], ◌∷◌, length, map, if◌then◌else◌, nat_le}
 use Rattle.std.specs.List.{filter}
-use Rattle.path_text.specs.Path.{refusal}
 use Rattle.outside.specs.declared.trees.Kind.TheVariants as kind
 use Rattle.flat_list.specs.declared.entries.Entry.{Entry}
 use Rattle.flat_list.specs.Entries.{is_of, bytes_by}
@@ -10,11 +9,6 @@ use Rattle.level_work.specs.declared.items.Fate.{Fate}
 use Rattle.level_work.specs.declared.items.Fate.TheVariants as fate
 use Rattle.tree_copy.specs.declared.pairs.Pair.{Pair}
 use Rattle.tree_copy.specs.Copying.{is_done, is_untold, target_of, treated}
-
--- source and target are paths
-pub record IsPair (pair : Pair) : Type 0 where
-  pub source : refusal pair.source ≡ None
-  pub target : refusal pair.target ≡ None
 
 -- the target is no longer than a path may be
 abbrev pub has_room : List Pair → Entry → Bool

@@ -26,7 +26,7 @@
 //! `placing` has the targets of sources, and `pairs` what they are. `targets` makes an item of each entry at its target; `working`
 //! hires actors, as many as there are threads, has them work and takes their readers back; `settling` puts the fates beside the entries and counts;
 //! `copying` is all of that. `acting` is the act at one target: `making` makes directories, `filling` files, and `linking` links.
-//! `reports` has what a copy answers, and `laws` what the pairs of a place are like.
+//! `reports` has what a copy answers, and `laws` what pairs and their targets are like, and when all is copied.
 //!
 //! # What is proved
 //!
@@ -55,7 +55,7 @@ mod targets;
 mod working;
 
 pub use copying::copy;
-pub use laws::placed_are_apart;
+pub use laws::{fine_entries_are_copied, placed_are_apart, targets_are_apart, targets_are_long};
 pub use pairs::{Pair, PlaceError};
 pub use placing::place;
 pub use reports::CopyReport;

@@ -10,22 +10,18 @@ use std::marker::Model;
 /// `Done`; and how many bytes the copied files have.
 #[derive(Debug, Drop)]
 pub struct CopyReport {
-    pub(crate) paths: Vec<Path>,
-    pub(crate) fates: Vec<Fate>,
+    pub(crate) rows: Vec<(Path, Fate)>,
     pub(crate) copied: u64,
     pub(crate) bytes: u128,
 }
 
 impl Model for CopyReport {
-    ghost use Rattle.std.specs.Prelude.{◌≡◌, ℕ, List, length, map};
-    ghost use Rattle.std.specs.List.{zip};
+    ghost use Rattle.std.specs.Prelude.{ℕ, List};
     ghost use Rattle.level_work.specs.declared.items.Fate.{Fate};
 
     ghost Value = { List (List ℕ × Fate) × ℕ × ℕ };
 
-    ghost view = { λ r. (zip r.paths.items r.fates.items, r.copied, r.bytes) };
-
-    ghost invariant = { λ r. length r.fates.items ≡ length r.paths.items };
+    ghost view = { λ r. (r.rows.items, r.copied, r.bytes) };
 }
 
 impl CopyReport {
@@ -33,7 +29,7 @@ impl CopyReport {
     pub fn len(&self) -> usize
         ensures { result ≡ length self.now.0 }
     {
-        self.paths.len()
+        self.rows.len()
     }
 
     /// The path of the entry at a place.
@@ -41,7 +37,7 @@ impl CopyReport {
         requires { k < length self.now.0 }
         ensures { option_map (λ row. row.0) (slice_get self.now.0 k) ≡ Some result.now }
     {
-        &self.paths[k]
+        &self.rows[k].0
     }
 
     /// The fate of the entry at a place.
@@ -49,7 +45,15 @@ impl CopyReport {
         requires { k < length self.now.0 }
         ensures { option_map (λ row. row.1) (slice_get self.now.0 k) ≡ Some result }
     {
-        self.fates[k]
+        self.rows[k].1
+    }
+
+    /// The paths of the entries with their fates, in path order. They are moved.
+    pub fn into_rows(self) -> Vec<(Path, Fate)>
+        ensures { result.items ≡ self.0 }
+    {
+        let CopyReport { rows, .. } = self;
+        rows
     }
 
     /// How many entries came to `Done`.

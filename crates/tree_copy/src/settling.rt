@@ -15,11 +15,10 @@ use path_text::{OutOfMemory, Path};
 use std::alloc::Global;
 use std::vec::IntoIter;
 
-// What is known of the entries that were passed.
+// What is known of the entries that were passed: their paths with their fates, and the numbers of a report.
 #[derive(Drop)]
 struct Tally {
-    paths: Vec<Path>,
-    fates: Vec<Fate>,
+    rows: Vec<(Path, Fate)>,
     copied: u64,
     bytes: u128,
 }
@@ -42,8 +41,7 @@ pub(crate) fn settle(
     ensures bytes { IfOk result (λ report. report.2 ≡ bytes_of (treated list.now) (fates_of fits.now (treated list.now) outcome.now)) }
 {
     let mut tally = Tally {
-        paths: Vec::with_capacity(alloc, fits.len())?,
-        fates: Vec::with_capacity(alloc, fits.len())?,
+        rows: Vec::with_capacity(alloc, fits.len())?,
         copied: 0,
         bytes: 0,
     };
@@ -55,15 +53,14 @@ pub(crate) fn settle(
         if entry.stat.is_none() {
             continue;
         }
-        let fit = fits[tally.fates.len()];
+        let fit = fits[tally.rows.len()];
         let fate = fate_of(entry, fit, outcome, place)?;
         place = place_after(place, fit);
         let path = path_of(entry, fit, &mut items)?;
         note(&mut tally, path, entry, fate)?;
     }
     Ok(CopyReport {
-        paths: tally.paths,
-        fates: tally.fates,
+        rows: tally.rows,
         copied: tally.copied,
         bytes: tally.bytes,
     })
@@ -176,14 +173,12 @@ fn settled_by(other: bool, fate: Fate) -> Fate
 fn note(tally: &mut Tally, path: Path, entry: &Entry, fate: Fate) -> Result<(), OutOfMemory>
     requires copied { tally.old.copied < 18446744073709551615 }
     requires bytes { tally.old.bytes + 18446744073709551615 < 340282366920938463463374607431768211456 }
-    ensures paths { OnOk result (tally.new.paths.items ≡ tally.old.paths.items ++ path ∷ []) }
-    ensures fates { OnOk result (tally.new.fates.items ≡ tally.old.fates.items ++ fate ∷ []) }
+    ensures rows { OnOk result (tally.new.rows.items ≡ tally.old.rows.items ++ (path, fate) ∷ []) }
     ensures copied { OnOk result (tally.new.copied ≡ (if is_done fate then tally.old.copied + 1 else tally.old.copied)) }
     ensures bytes { OnOk result (tally.new.bytes ≡ tally.old.bytes + gain entry.now fate) }
     ensures small { OnOk result (gain entry.now fate ≤ 18446744073709551615) }
 {
-    tally.paths.push(path)?;
-    tally.fates.push(fate)?;
+    tally.rows.push((path, fate))?;
     tally.copied = one_more(tally.copied, fate);
     tally.bytes += gain(entry, fate) as u128;
     Ok(())

@@ -5,8 +5,8 @@ ghost use Rattle.path_text.specs.Graft.{below_of, grafted};
 ghost use Rattle.path_text.specs.Order.{is_within};
 ghost use Rattle.path_text.specs.Path.{refusal};
 ghost use Rattle.tree_copy.specs.Copying.{CanCopy, ends_of, target_of, treated};
-ghost use Rattle.tree_copy.specs.Placing.{overlap};
-ghost use Rattle.tree_copy.specs.PrivateSettling.{IsPair, has_room, item_of, items_of};
+ghost use Rattle.tree_copy.specs.Placing.{IsPair, overlap};
+ghost use Rattle.tree_copy.specs.PrivateSettling.{has_room, item_of, items_of};
 
 use crate::pairs::Pair;
 use flat_list::{Entry, FlatList};

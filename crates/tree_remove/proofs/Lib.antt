@@ -6,3 +6,4 @@ pub mod Names
 pub mod Removal
 pub mod Removes
 pub mod Rows
+pub mod Whole

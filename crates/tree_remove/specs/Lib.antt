@@ -1,2 +1,3 @@
+pub mod Laws
 pub mod PrivateDeeds
 pub mod Removing

@@ -6,6 +6,7 @@
 //!
 //! - `removals` has the call, and `reports` what it answers.
 //! - `unlinking` has the act at one path, and `items` the entries as items.
+//! - `laws` has when all that was chosen goes.
 //!
 //! A directory goes where it is empty once all that was chosen under it is gone; else its fate is `NotEmpty`. Nothing that was not
 //! chosen is removed to empty it. `Failed` is the fate of a path whose removal failed, and `Changed` that of one where something
@@ -21,9 +22,11 @@
 #![tactic(auto)]
 
 mod items;
+mod laws;
 mod removals;
 mod reports;
 mod unlinking;
 
+pub use laws::whole_choices_go;
 pub use removals::remove;
 pub use reports::RemoveReport;

@@ -1,6 +1,6 @@
 //! The removal of chosen paths.
 ghost use Rattle.std.specs.Prelude.{◌≡◌, ◌≤◌, [], length, map, IfOk, IfSome, is_some};
-ghost use Rattle.std.specs.List.{count_by};
+ghost use Rattle.std.specs.List.{count_by, zip};
 ghost use Rattle.outside.specs.Count.{RoseBy};
 ghost use Rattle.outside.specs.Writes.{nothing_lent};
 ghost use Rattle.flat_list.specs.Spelling.{paths};
@@ -11,9 +11,9 @@ use crate::items::items_of;
 use crate::reports::RemoveReport;
 use crate::unlinking::Remove;
 use flat_list::FlatList;
-use level_work::{Order, on_levels};
+use level_work::{Fate, Item, Order, Outcome, on_levels};
 use outside::{Ground, Plot, nodes_are_under_directories};
-use path_text::OutOfMemory;
+use path_text::{OutOfMemory, Path};
 use std::alloc::Global;
 use std::thread::Threads;
 
@@ -52,7 +52,32 @@ where
     let order = Order::BottomUp;
     let fates = on_levels(rt, alloc, &items, order, ground, &mut removers, hosts)?;
     let _faults = ground.faults();
-    Ok(RemoveReport { items, fates })
+    let rows = rows_of(alloc, items, &fates)?;
+    Ok(RemoveReport { rows })
+}
+
+// The paths of the items, which are moved, with their fates.
+fn rows_of(
+    alloc: Global,
+    items: Vec<Item>,
+    fates: &Outcome,
+) -> Result<Vec<(Path, Fate)>, OutOfMemory>
+    requires { length fates.now ≡ length items.items }
+    ensures { IfOk result (λ rows. rows.items ≡ zip (map (λ x. x.path) items.items) fates.now) }
+{
+    let mut rows = Vec::with_capacity(alloc, items.len())?;
+    for item in items {
+        let fate = fates.fate(rows.len());
+        rows.push((path_of(item), fate))?;
+    }
+    Ok(rows)
+}
+
+fn path_of(item: Item) -> Path
+    ensures { result ≡ item.path }
+{
+    let Item { path, .. } = item;
+    path
 }
 
 // So many actors.

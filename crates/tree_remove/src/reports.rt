@@ -1,30 +1,28 @@
 //! What became of chosen paths.
 ghost use Rattle.std.specs.Prelude.{◌≡◌, ◌+◌, ◌<◌, length, Some, slice_get, if◌then◌else◌};
 ghost use Rattle.tree_remove.specs.Removing.{is_done};
+ghost use Rattle.std.specs.List.{count_by};
 ghost use Rattle.std.specs.Option.{option_map};
 
-use level_work::{Fate, Item, Outcome};
+use level_work::Fate;
 use path_text::Path;
 use std::marker::Model;
 
 /// What became of chosen paths, seen as the paths with their fates, in path order, and how many of them are gone.
 #[derive(Debug, Drop)]
 pub struct RemoveReport {
-    pub(crate) items: Vec<Item>,
-    pub(crate) fates: Outcome,
+    pub(crate) rows: Vec<(Path, Fate)>,
 }
 
 impl Model for RemoveReport {
-    ghost use Rattle.std.specs.Prelude.{◌≡◌, ℕ, List, length, map};
-    ghost use Rattle.std.specs.List.{zip, count_by};
+    ghost use Rattle.std.specs.Prelude.{ℕ, List};
+    ghost use Rattle.std.specs.List.{count_by};
     ghost use Rattle.level_work.specs.declared.items.Fate.{Fate};
     ghost use Rattle.tree_remove.specs.Removing.{is_done};
 
     ghost Value = { List (List ℕ × Fate) × ℕ };
 
-    ghost view = { λ r. (zip (map (λ x. x.path) r.items.items) r.fates, count_by is_done r.fates) };
-
-    ghost invariant = { λ r. length r.fates ≡ length r.items.items };
+    ghost view = { λ r. (r.rows.items, count_by (λ row. is_done row.1) r.rows.items) };
 }
 
 impl RemoveReport {
@@ -32,7 +30,7 @@ impl RemoveReport {
     pub fn len(&self) -> usize
         ensures { result ≡ length self.now.0 }
     {
-        self.items.len()
+        self.rows.len()
     }
 
     /// The path at a place.
@@ -40,7 +38,7 @@ impl RemoveReport {
         requires { k < length self.now.0 }
         ensures { option_map (λ row. row.0) (slice_get self.now.0 k) ≡ Some result.now }
     {
-        &self.items[k].path
+        &self.rows[k].0
     }
 
     /// The fate of the path at a place.
@@ -48,19 +46,34 @@ impl RemoveReport {
         requires { k < length self.now.0 }
         ensures { option_map (λ row. row.1) (slice_get self.now.0 k) ≡ Some result }
     {
-        self.fates.fate(k)
+        self.rows[k].1
+    }
+
+    /// The paths with their fates, in path order. They are moved.
+    pub fn into_rows(self) -> Vec<(Path, Fate)>
+        ensures { result.items ≡ self.0 }
+    {
+        let RemoveReport { rows } = self;
+        rows
     }
 
     /// How many of the paths are gone.
     pub fn removed(&self) -> u64
         ensures { result ≡ self.now.1 }
     {
-        let mut gone = 0;
-        for k in 0..self.items.len() {
-            gone = with_fate(gone, self.fates.fate(k));
-        }
-        gone
+        number_gone(&self.rows)
     }
+}
+
+// How many of the paths are gone.
+fn number_gone(rows: &[(Path, Fate)]) -> u64
+    ensures { result ≡ count_by (λ row. is_done row.1) rows.now }
+{
+    let mut gone = 0;
+    for row in rows {
+        gone = with_fate(gone, row.1);
+    }
+    gone
 }
 
 // How many are gone with one of this fate.

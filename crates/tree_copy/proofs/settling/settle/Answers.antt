@@ -9,7 +9,11 @@ use Rattle.tree_copy.specs.PrivateSettling.{fitting}
 use Rattle.tree_copy.proofs.Tallies.{
   Tallied,
   at_end,
+  both_parts,
   fate_left,
+  firsts,
+  row_more,
+  seconds,
   IsFate,
   IsNoted,
   few_more,
@@ -36,7 +40,7 @@ loop-cursor-preserved-then-is_none c =
       so_far = skipped (treated c.args.list.now) c.args.fits.now c.args.outcome.now (drop c.advance.new.self.1 c.args.list.now)
           (drop c.loop-cursor.cursor.1 c.args.list.now) c.entry-entry.result.now
           _ _ _ _ _ _ next (c.is_none.ensures ∙ ap not c.if-is_none.true) c.loop-cursor.invariant.so_far;
-      left = left_skipped (drop (length c.loop-cursor.tally.fates.items) c.args.fits.now) (drop c.loop-cursor.cursor.1 c.args.list.now)
+      left = left_skipped (drop (length c.loop-cursor.tally.rows.items) c.args.fits.now) (drop c.loop-cursor.cursor.1 c.args.list.now)
           (drop c.advance.new.self.1 c.args.list.now) c.entry-entry.result.now _ next (c.is_none.ensures ∙ ap not c.if-is_none.true)
           c.loop-cursor.invariant.left;
       left_len = c.loop-cursor.invariant.left_len;
@@ -51,7 +55,7 @@ bounds-fits-len c =
     (drop c.loop-cursor.cursor.1 c.args.list.now) c.entry-entry.result.now
     _ _ _ _ _ _ next (c.is_none.ensures ∙ ap not c.if-is_none.false) c.loop-cursor.invariant.so_far
     in
-    omega (arith, here, c.len.ensures, c.loop-cursor.tally.fates.ok.0)
+    omega (arith, here, c.len.ensures, c.loop-cursor.tally.rows.ok.0)
 
 pub fate_of-requires : goal.fate_of-requires
 fate_of-requires c = λ on.
@@ -59,10 +63,10 @@ fate_of-requires c = λ on.
     let next = next_of c.args.list.now c.advance.new.self.0 c.loop-cursor.cursor.1 c.advance.new.self.1 c.entry-entry.result.now
     (at.0 ∙ c.loop-cursor.invariant.of_list) c.entry-entry.ensures.at at.1 in
     let list = treated c.args.list.now in
-    let len : c.len.result ≡ length c.loop-cursor.tally.fates.items = omega (arith, c.len.ensures, c.loop-cursor.tally.fates.ok.0) in
+    let len : c.len.result ≡ length c.loop-cursor.tally.rows.items = omega (arith, c.len.ensures, c.loop-cursor.tally.rows.ok.0) in
     let before = subst (λ n. Tallied list c.args.fits.now c.args.outcome.now (treated (drop c.loop-cursor.cursor.1 c.args.list.now))
     (drop n c.args.fits.now) (drop c.loop-cursor.place c.args.outcome.now)
-    c.loop-cursor.tally.paths.items c.loop-cursor.tally.fates.items c.loop-cursor.tally.copied c.loop-cursor.tally.bytes) (sym len)
+    (firsts c.loop-cursor.tally.rows.items) (seconds c.loop-cursor.tally.rows.items) c.loop-cursor.tally.copied c.loop-cursor.tally.bytes) (sym len)
     c.loop-cursor.invariant.so_far in
     let some = c.is_none.ensures ∙ ap not c.if-is_none.false in
     let here = has_mark list c.args.fits.now c.args.outcome.now (drop c.advance.new.self.1 c.args.list.now) (drop c.loop-cursor.cursor.1 c.args.list.now)
@@ -77,10 +81,10 @@ path_of-requires c = λ on.
     let next = next_of c.args.list.now c.advance.new.self.0 c.loop-cursor.cursor.1 c.advance.new.self.1 c.entry-entry.result.now
     (at.0 ∙ c.loop-cursor.invariant.of_list) c.entry-entry.ensures.at at.1 in
     let list = treated c.args.list.now in
-    let len : c.len.result ≡ length c.loop-cursor.tally.fates.items = omega (arith, c.len.ensures, c.loop-cursor.tally.fates.ok.0) in
+    let len : c.len.result ≡ length c.loop-cursor.tally.rows.items = omega (arith, c.len.ensures, c.loop-cursor.tally.rows.ok.0) in
     let before = subst (λ n. Tallied list c.args.fits.now c.args.outcome.now (treated (drop c.loop-cursor.cursor.1 c.args.list.now))
     (drop n c.args.fits.now) (drop c.loop-cursor.place c.args.outcome.now)
-    c.loop-cursor.tally.paths.items c.loop-cursor.tally.fates.items c.loop-cursor.tally.copied c.loop-cursor.tally.bytes) (sym len)
+    (firsts c.loop-cursor.tally.rows.items) (seconds c.loop-cursor.tally.rows.items) c.loop-cursor.tally.copied c.loop-cursor.tally.bytes) (sym len)
     c.loop-cursor.invariant.so_far in
     let some = c.is_none.ensures ∙ ap not c.if-is_none.false in
     let here = has_mark list c.args.fits.now c.args.outcome.now (drop c.advance.new.self.1 c.args.list.now) (drop c.loop-cursor.cursor.1 c.args.list.now)
@@ -105,10 +109,10 @@ loop-cursor-preserved c =
     let next = next_of c.args.list.now c.advance.new.self.0 c.loop-cursor.cursor.1 c.advance.new.self.1 c.entry-entry.result.now
     (at.0 ∙ c.loop-cursor.invariant.of_list) c.entry-entry.ensures.at at.1 in
     let list = treated c.args.list.now in
-    let len : c.len.result ≡ length c.loop-cursor.tally.fates.items = omega (arith, c.len.ensures, c.loop-cursor.tally.fates.ok.0) in
+    let len : c.len.result ≡ length c.loop-cursor.tally.rows.items = omega (arith, c.len.ensures, c.loop-cursor.tally.rows.ok.0) in
     let before = subst (λ n. Tallied list c.args.fits.now c.args.outcome.now (treated (drop c.loop-cursor.cursor.1 c.args.list.now))
     (drop n c.args.fits.now) (drop c.loop-cursor.place c.args.outcome.now)
-    c.loop-cursor.tally.paths.items c.loop-cursor.tally.fates.items c.loop-cursor.tally.copied c.loop-cursor.tally.bytes) (sym len)
+    (firsts c.loop-cursor.tally.rows.items) (seconds c.loop-cursor.tally.rows.items) c.loop-cursor.tally.copied c.loop-cursor.tally.bytes) (sym len)
     c.loop-cursor.invariant.so_far in
     let some = c.is_none.ensures ∙ ap not c.if-is_none.false in
     let here = has_mark list c.args.fits.now c.args.outcome.now (drop c.advance.new.self.1 c.args.list.now) (drop c.loop-cursor.cursor.1 c.args.list.now)
@@ -118,18 +122,18 @@ loop-cursor-preserved c =
     let mark = slice_get-get_or c.args.fits.now c.len.result false here in
     let left = c.loop-cursor.invariant.left ∙ ap (λ n. fitting (drop n c.args.fits.now) (paths (treated (drop c.loop-cursor.cursor.1 c.args.list.now))))
     (sym len) in
-    let one : length c.note.new.tally.fates.items ≡ c.len.result + 1 =
-    omega (arith, len, ap length c.in_ok-note.ensures.fates, length-append c.loop-cursor.tally.fates.items (c.in_ok-fate.fate ∷ [])) in
-    let lead = path_step c.args.fits.now c.len.result (length c.note.new.tally.fates.items) (get_or c.args.fits.now c.len.result false)
+    let one : length c.note.new.tally.rows.items ≡ c.len.result + 1 =
+    omega (arith, len, ap length c.in_ok-note.ensures.rows, length-append c.loop-cursor.tally.rows.items ((c.in_ok-path.path, c.in_ok-fate.fate) ∷ [])) in
+    let lead = path_step c.args.fits.now c.len.result (length c.note.new.tally.rows.items) (get_or c.args.fits.now c.len.result false)
     (drop c.loop-cursor.cursor.1 c.args.list.now) (drop c.advance.new.self.1 c.args.list.now) c.entry-entry.result.now c.in_ok-path.path
     (map (λ x. x.entry.path) (into_iter_items c.loop-cursor.items)) (map (λ x. x.entry.path) (into_iter_items c.path_of.new.items)) next some mark one left
     c.in_ok-path.ensures.taken c.in_ok-path.ensures.copied (λ off. ap (map (λ x. x.entry.path)) (c.in_ok-path.ensures.kept off))
     in
-    let noted : IsNoted c.entry-entry.result.now c.in_ok-fate.fate c.loop-cursor.tally.paths.items c.loop-cursor.tally.fates.items
+    let noted : IsNoted c.entry-entry.result.now c.in_ok-fate.fate (firsts c.loop-cursor.tally.rows.items) (seconds c.loop-cursor.tally.rows.items)
     c.loop-cursor.tally.copied c.loop-cursor.tally.bytes
-    c.note.new.tally.paths.items c.note.new.tally.fates.items c.note.new.tally.copied c.note.new.tally.bytes = record {
-      told_is = c.in_ok-note.ensures.paths ∙ ap (λ p. c.loop-cursor.tally.paths.items ++ p ∷ []) lead.0;
-      fates_is = c.in_ok-note.ensures.fates;
+    (firsts c.note.new.tally.rows.items) (seconds c.note.new.tally.rows.items) c.note.new.tally.copied c.note.new.tally.bytes = record {
+      told_is = (row_more _ _ _ _ c.in_ok-note.ensures.rows).0 ∙ ap (λ p. firsts c.loop-cursor.tally.rows.items ++ p ∷ []) lead.0;
+      fates_is = (row_more _ _ _ _ c.in_ok-note.ensures.rows).1;
       copied_is = c.in_ok-note.ensures.copied;
       bytes_is = c.in_ok-note.ensures.bytes;
       gain_small = c.in_ok-note.ensures.small;
@@ -143,26 +147,22 @@ loop-cursor-preserved c =
       of_list = at.0 ∙ c.loop-cursor.invariant.of_list;
       inside = omega (arith, c.in_ok-advance.ensures.inside, ap length (at.0 ∙ c.loop-cursor.invariant.of_list));
       behind = few_more (get_or c.args.fits.now c.len.result false) c.loop-cursor.place c.place_after-place.result c.len.result
-          (length c.note.new.tally.fates.items) c.place_after-place.ensures one
+          (length c.note.new.tally.rows.items) c.place_after-place.ensures one
           (omega (arith, len, c.loop-cursor.invariant.behind));
       so_far = passed list c.args.fits.now c.args.outcome.now (drop c.advance.new.self.1 c.args.list.now) (drop c.loop-cursor.cursor.1 c.args.list.now)
           c.entry-entry.result.now
-          c.len.result (length c.note.new.tally.fates.items) c.loop-cursor.place c.place_after-place.result (get_or c.args.fits.now c.len.result false)
+          c.len.result (length c.note.new.tally.rows.items) c.loop-cursor.place c.place_after-place.result (get_or c.args.fits.now c.len.result false)
           c.in_ok-fate.fate _ _ _ _ _ _ _ _
           next some mark known c.place_after-place.ensures one noted before;
       left = lead.1;
       left_len = c.in_ok-path.ensures.len c.loop-cursor.invariant.left_len;
     }
 
-pub invariant_of-result : goal.invariant_of-result
-invariant_of-result c = (at_end c.args.list.now c.args.fits.now c.args.outcome.now c.loop-cursor.cursor c.in_ok-advance.field-0 _ _ _ _ _ _
-    c.requires.fits c.loop-cursor.invariant.of_list c.in_ok-advance.ensures.answer c.if-branch.false c.loop-cursor.invariant.so_far).len
-
 pub returns-clause-rows : goal.returns-clause-rows
 returns-clause-rows c =
     let end = at_end c.args.list.now c.args.fits.now c.args.outcome.now c.loop-cursor.cursor c.in_ok-advance.field-0 _ _ _ _ _ _
     c.requires.fits c.loop-cursor.invariant.of_list c.in_ok-advance.ensures.answer c.if-branch.false c.loop-cursor.invariant.so_far in
-    λ i. zip (end.paths_are i) (end.fates_are i)
+    both_parts _ ∙ (λ i. zip (end.paths_are i) (end.fates_are i))
 
 pub returns-clause-even : goal.returns-clause-even
 returns-clause-even c = (at_end c.args.list.now c.args.fits.now c.args.outcome.now c.loop-cursor.cursor c.in_ok-advance.field-0 _ _ _ _ _ _

@@ -3,7 +3,7 @@ use Rattle.std.specs.Vec.Iter.{into_iter_items, into_iter_len}
 use Rattle.flat_list.specs.Spelling.{paths}
 use Rattle.tree_copy.specs.Copying.{treated}
 use Rattle.tree_copy.specs.PrivateSettling.{fitting}
-use Rattle.tree_copy.proofs.Tallies.{Tallied}
+use Rattle.tree_copy.proofs.Tallies.{Tallied, firsts, seconds}
 use Rattle.tree_copy.proofs.settling.settle.Given as goal
 
 -- the tally of the entries that were passed
@@ -11,10 +11,10 @@ abbrev pub invariant-loop-cursor : goal.invariant-loop-cursor
 invariant-loop-cursor l = record {
   of_list : l.cursor.0 ≡ l.list;
   inside : l.cursor.1 ≤ length l.list;
-  behind : l.place ≤ length l.tally.fates.items;
-  so_far : Tallied (treated l.list) l.fits l.outcome (treated (drop l.cursor.1 l.list)) (drop (length l.tally.fates.items) l.fits) (drop l.place l.outcome)
-      l.tally.paths.items l.tally.fates.items l.tally.copied l.tally.bytes;
-  left : map (λ x. x.entry.path) (into_iter_items l.items) ≡ fitting (drop (length l.tally.fates.items) l.fits) (paths (treated (drop l.cursor.1 l.list)));
+  behind : l.place ≤ length l.tally.rows.items;
+  so_far : Tallied (treated l.list) l.fits l.outcome (treated (drop l.cursor.1 l.list)) (drop (length l.tally.rows.items) l.fits) (drop l.place l.outcome)
+      (firsts l.tally.rows.items) (seconds l.tally.rows.items) l.tally.copied l.tally.bytes;
+  left : map (λ x. x.entry.path) (into_iter_items l.items) ≡ fitting (drop (length l.tally.rows.items) l.fits) (paths (treated (drop l.cursor.1 l.list)));
   left_len : into_iter_len l.items ≡ length (into_iter_items l.items);
 }
 
