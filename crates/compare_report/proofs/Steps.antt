@@ -10,10 +10,11 @@ use Rattle.tree_cmp.specs.Sides.{side}
 use Rattle.tool_words.specs.declared.commands.Want.{Want}
 use Rattle.tool_words.specs.Asked.{CompareAsked}
 use Rattle.run_report.specs.Sides.{Side, side_of}
+use Rattle.run_entries.specs.declared.both.Sides.{Sides}
 use Rattle.run_entries.specs.declared.saving.Output.{Output}
+use Rattle.run_entries.specs.Both.{WalksBoth}
 use Rattle.run_entries.specs.Saving.{SameButAll, SameButOutputs}
-use Rattle.compare_report.specs.declared.walking.Sides.{Sides}
-use Rattle.compare_report.specs.Comparing.{WalksBoth, Compares}
+use Rattle.compare_report.specs.Comparing.{Compares}
 use Rattle.compare_report.specs.Outputs.{AreOutputs}
 
 -- both sides were walked, and then compared

@@ -20,25 +20,17 @@ use Rattle.run_report.specs.declared.stops.Stop.{Stop}
 use Rattle.run_report.specs.declared.stops.Stop.TheVariants as stop
 use Rattle.run_report.specs.Sides.{Side, side_of}
 use Rattle.run_entries.specs.declared.saving.Output.{Output}
-use Rattle.run_entries.specs.Entries.{Walked}
+use Rattle.run_entries.specs.Both.{WalksBoth, StopsWalking}
 use Rattle.run_entries.specs.Fine.{IsFineSide}
 use Rattle.run_entries.specs.Naming.{failures_of}
 use Rattle.run_entries.specs.Saving.{Saved, SameButOutputs}
-use Rattle.run_entries.specs.Stopping.{StopsListing, StopsSaving}
+use Rattle.run_entries.specs.Stopping.{StopsSaving}
 use Rattle.compare_report.specs.declared.comparing.CompareTask.{CompareTask}
 use Rattle.compare_report.specs.Outputs.{AreOutputs}
 
 -- what a task asks for
 abbrev pub compare_asked : CompareTask → CompareAsked
 compare_asked task = record { common = task.common; left = task.left; right = task.right; wants = task.wants.items }
-
--- the source was walked by itself, and then the destination. Neither walk is longer than a list may be
-pub record WalksBoth (left_top right_top : List ℕ) (left right : List Entry) (before after : Side) : Type 0 where
-  pub between : ℕ
-  pub source : Walked (left_top ∷ []) left before (side_of before.tree between)
-  pub destination : Walked (right_top ∷ []) right (side_of before.tree between) after
-  pub few_left : length left ≤ 4194304
-  pub few_right : length right ≤ 4194304
 
 -- and then they were compared, over the same files, which counted each read that failed
 pub record Compares (asked : CompareAsked) (left right : List Entry) (found : Findings) (before after : Side) : Type 0 where
@@ -74,20 +66,6 @@ pub record ReportsCompare (asked : CompareAsked) (before after : Side) (report :
   pub prints : report.out ≡ rows_text found.rows (length notes)
   pub tells : report.notes ≡ note_lines notes
   pub counts : report.failed ≡ length notes
-
--- the destination was not walked to its end, though the source was before
-pub record StopsAfterSource (left_top right_top : List ℕ) (before after : Side) (why : Stop) : Type 0 where
-  pub left : List Entry
-  pub between : ℕ
-  pub source : Walked (left_top ∷ []) left before (side_of before.tree between)
-  pub few : length left ≤ 4194304
-  pub later : between ≤ after.count
-  pub stops : StopsListing (roots (right_top ∷ [])) (side_of before.tree between) after why
-
--- one of the two walks did not come to its end
-abbrev pub StopsWalking : (left_top right_top : List ℕ) → Side → Side → Stop → Type 0
-StopsWalking left_top right_top before after why =
-    StopsListing (roots (left_top ∷ [])) before after why ⊎ StopsAfterSource left_top right_top before after why
 
 -- not all that is wanted was saved, though all was walked and compared before
 pub record StopsAfterComparing (asked : CompareAsked) (before after : Side) (why : Stop) : Type 0 where

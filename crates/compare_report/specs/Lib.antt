@@ -2,4 +2,3 @@ pub mod Comparing
 pub mod Laws
 pub mod Outputs
 pub mod PrivatePicks
-pub mod PrivateSides

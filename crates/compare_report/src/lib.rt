@@ -3,7 +3,7 @@
 //! [`report_of_compare`] does what dcmp is asked for, which is a [`CompareTask`]: it walks the source and then the destination, each
 //! by itself, compares the two lists, saves the entries of the rows that are wanted, and makes the texts.
 //!
-//! - `comparing` has that; `walking` has the two walks, and `reading` the comparison of their lists.
+//! - `comparing` has that, and `reading` the comparison of the lists of the two walks.
 //! - `selecting` has what is saved of the rows, by `picking`, which picks entries of a list by their paths in one pass.
 //! - `naming` has what is named, and `printing` the texts.
 //! - `laws` has when it succeeds.
@@ -22,7 +22,6 @@ mod picking;
 mod printing;
 mod reading;
 mod selecting;
-mod walking;
 
 pub use comparing::{CompareTask, report_of_compare};
 pub use laws::fine_compare_succeeds;

@@ -3,9 +3,8 @@ ghost use Rattle.std.specs.Prelude.{◌≡◌, ◌++◌, OnOk, IfOk};
 ghost use Rattle.tool_text.specs.NoteOrder.{AreInOrder};
 ghost use Rattle.compare_report.specs.Comparing.{missed_notes, compare_failures};
 
-use crate::walking::Sides;
 use path_text::OutOfMemory;
-use run_entries::name_entries;
+use run_entries::{Sides, name_entries};
 use std::alloc::Global;
 use tool_text::{Note, Why, in_order};
 use tree_cmp::{Compared, Missed};

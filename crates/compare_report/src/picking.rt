@@ -9,9 +9,9 @@ ghost use Rattle.tree_cmp.specs.Sides.{side, IsSide};
 ghost use Rattle.compare_report.specs.Outputs.{picks, IsJoined};
 ghost use Rattle.compare_report.specs.PrivatePicks.{picks_but, IsPassed};
 
-use crate::walking::Sides;
 use flat_list::{Entry, FlatList};
 use path_text::{OutOfMemory, Path, below_keeps_order};
+use run_entries::Sides;
 use std::alloc::Global;
 use std::cmp::Ordering;
 

@@ -3,11 +3,11 @@ ghost use Rattle.std.specs.Prelude.{◌≡◌, ◌≤◌, length, IfOk};
 ghost use Rattle.outside.specs.Count.{RoseBy};
 ghost use Rattle.tree_cmp.specs.Rows.{IsComparison};
 ghost use Rattle.tree_cmp.specs.Sides.{side};
-ghost use Rattle.compare_report.specs.PrivateSides.{AreSides};
+ghost use Rattle.run_entries.specs.Both.{AreSides};
 
-use crate::walking::Sides;
 use outside::Ground;
 use path_text::OutOfMemory;
+use run_entries::Sides;
 use std::alloc::Global;
 use std::thread::Threads;
 use tree_cmp::{CmpError, Compared, compare_files};

@@ -9,10 +9,9 @@ ghost use Rattle.tree_cmp.specs.Sides.{side, IsSide};
 ghost use Rattle.compare_report.specs.Outputs.{is_given, given_paths, IsSelected, AreOutputs};
 
 use crate::picking::joined;
-use crate::walking::Sides;
 use flat_list::FlatList;
 use path_text::{OutOfMemory, Path};
-use run_entries::Output;
+use run_entries::{Output, Sides};
 use std::alloc::Global;
 use tool_words::Want;
 use tree_cmp::{Compared, Exist, Expr, Row};

@@ -55,20 +55,6 @@ none_under a b (x ∷ xs) off i j u =
     ∙ subst (λ y. is_within a y ≡ true) same within))
     (λ other. none_under a b xs n.1 later other u) j) i
 
-pub in_back : (x : List ℕ) (xs ys : List (List ℕ)) → In x ys → In x (xs ++ ys)
-in_back x [] ys i = i
-in_back x (z ∷ xs) ys i = inr (in_back x xs ys i)
-
--- and of two parts of them none is within one of the other part
-pub none_within : (a b : List ℕ) (xs ys : List (List ℕ)) → overlap (xs ++ ys) ≡ false → In a xs → In b ys → is_within a b ≡ false
-none_within a b [] ys off i j = absurd i
-none_within a b (x ∷ xs) ys off i j =
-    let n = or_parts (list_any (λ other. is_within x other || is_within other x) (xs ++ ys)) (overlap (xs ++ ys)) off in
-    ⊎_elim
-    (λ is. subst (λ y. is_within y b ≡ false) (sym is)
-    (or_parts (is_within x b) (is_within b x) (one_off (λ other. is_within x other || is_within other x) b (xs ++ ys) (in_back b xs ys j) n.0)).0)
-    (λ later. none_within a b xs ys n.1 later j) i
-
 -- ---- where a path goes
 
 -- the path is a source, and goes to its target

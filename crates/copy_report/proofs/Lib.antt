@@ -1,8 +1,6 @@
 pub mod Apart
-pub mod Fated
 pub mod Inside
 pub mod Listed
-pub mod Named
 pub mod Placed
 pub mod Ready
 pub mod Steps

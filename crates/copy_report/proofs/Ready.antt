@@ -3,31 +3,32 @@ use Rattle.std.proofs.Common.{◌≡◌, ◌⊎◌, inl, inr, ⊎_elim, ℕ, ◌
 use Rattle.std.proofs.Common.{IfSome, refl, ap, ◌∙◌, sym, subst, arith}
 use Rattle.std.proofs.lemmas.Bool.{false≢true}
 use Rattle.std.proofs.lemmas.List.Elements.{All-filter, All-from_recursion, recursion_from_All}
-use Rattle.std.specs.Prelude.{is_some}
+use Rattle.std.specs.Prelude.{is_some, nat_eq, ◌||◌}
 use Rattle.std.specs.FinMap.{get}
 use Rattle.std.specs.List.{All, AllByRecursion, Contains, flat_map, list_any}
 use Rattle.std.specs.List.Sorted.{IsStrictlySortedBy}
 use Rattle.std.specs.Option.{option_map}
+use Rattle.std.specs.Cmp.Lexicographic.{pointwise}
 use Rattle.path_text.specs.Order.{path_cmp, is_within}
 use Rattle.path_text.specs.Path.{refusal, parent_of}
-use Rattle.outside.specs.Tree.{Files, Node, IsTree, is_dir, link_at, stat_of, NodesHavePaths}
+use Rattle.outside.specs.Tree.{Files, Node, IsTree, is_dir, link_at, stat_of}
 use Rattle.outside.specs.declared.trees.Stat.{Stat}
 use Rattle.flat_list.specs.declared.entries.Entry.{Entry}
 use Rattle.flat_list.specs.declared.entries.Mark.{Mark}
 use Rattle.flat_list.specs.declared.entries.Mark.TheVariants as mark
 use Rattle.flat_list.specs.Spelling.{paths}
 use Rattle.tree_copy.specs.Copying.{CanCopy, FitsTree, ends_of, is_target, target_of}
-use Rattle.tree_copy.specs.Placing.{overlap}
+use Rattle.tree_copy.specs.Placing.{IsPair, overlap}
 use Rattle.tree_copy.specs.declared.pairs.Pair.{Pair}
 use Rattle.tree_walk.specs.Roots.{is_in_some}
-use Rattle.tree_walk.specs.Told.{EntriesAreTold, IsTold, stat_by, target_by}
+use Rattle.tree_walk.specs.Told.{EntriesAreTold, EntriesHaveParents, IsTold, has_dir, stat_by, target_by}
 use Rattle.tree_walk.specs.Walk.{answers_in, walk}
 use Rattle.run_report.specs.Sides.{Side}
 use Rattle.run_entries.specs.Entries.{Walked}
-use Rattle.copy_report.specs.PrivateSteps.{ArePlaced, HasPaths}
+use Rattle.copy_report.specs.PrivateSteps.{ArePlaced}
 use Rattle.copy_report.proofs.Apart.{In, in_list, in_front, none_under, AreValid, goes}
 use Rattle.copy_report.proofs.Inside.{root_of, within_source}
-use Rattle.copy_report.proofs.Listed.{Has, has_target, come}
+use Rattle.copy_report.proofs.Listed.{comes, has_target}
 
 weaker : {X : Type 0} (P Q : X → Type 0) → ((x : X) → P x → Q x) → (xs : List X) → AllByRecursion P xs → AllByRecursion Q xs
 weaker P Q t [] h = h
@@ -71,7 +72,7 @@ sourced pairs roots r (e ∷ es) valid h =
       sourced pairs roots r es valid.1 h.1,
     )
 
-pub can_copy : (pairs : List Pair) (roots : List (List ℕ)) (list : List Entry) → AreReady pairs roots → All (λ e. refusal e.path ≡ None) list →
+can_copy : (pairs : List Pair) (roots : List (List ℕ)) (list : List Entry) → AreReady pairs roots → All (λ e. refusal e.path ≡ None) list →
     All (λ e. is_in_some roots e.path ≡ true) list → IsStrictlySortedBy path_cmp (paths list) → CanCopy list pairs
 can_copy pairs roots list r valid within ascend = record {
   ascend = ascend;
@@ -126,19 +127,19 @@ module _ (files : Files) (pairs : List Pair) (roots : List (List ℕ)) (r : AreR
       (λ pair i. in_front pair.source (sources_of pairs) (map (λ p. p.target) pairs) i) pairs
       (own_sources pairs))
 
-  one : (e : Entry) → refusal e.path ≡ None → IsSourced pairs e → In e.path roots ⊎ Has list (parent_of e.path) → StandsIn files pairs list e
-  one e v s comes off =
+  one : (e : Entry) → refusal e.path ≡ None → IsSourced pairs e → In e.path roots ⊎ (has_dir list (parent_of e.path) ≡ true) → StandsIn files pairs list e
+  one e v s stands off =
       ⊎_elim
       (λ f. ap (λ q. is_dir (get files (parent_of q))) f.goes ∙ f.holds.0)
       (λ d. ⊎_elim
       (λ i. absurd (none_under e.path d.pair.source (ends_of pairs) r.apart
       (in_front e.path (sources_of pairs) (map (λ p. p.target) pairs) (in_sources pairs roots r.among e.path i)) d.holds.1 d.under))
       (λ has. absurd (false≢true (sym off ∙ ap (is_target pairs list) d.goes ∙ has_target pairs list (parent_of e.path) has)))
-      comes)
+      stands)
       (goes (Stands files pairs) pairs e.path v r.valid ends s)
 
   all : (es : List Entry) → AllByRecursion (λ e. refusal e.path ≡ None) es → AllByRecursion (IsSourced pairs) es →
-      AllByRecursion (λ e. In e.path roots ⊎ Has list (parent_of e.path)) es → AllByRecursion (StandsIn files pairs list) es
+      AllByRecursion (λ e. In e.path roots ⊎ (has_dir list (parent_of e.path) ≡ true)) es → AllByRecursion (StandsIn files pairs list) es
   all [] v s c = tt
   all (e ∷ es) v s c = (one e v.0 s.0 c.0, all es v.1 s.1 c.1)
 
@@ -146,7 +147,7 @@ no_walks : (files : Files) (es : List Entry) (roots : List (List ℕ)) → es �
 no_walks files es [] is e = is
 no_walks files es (r ∷ rs) is e = absurd (omega (arith, e))
 
-pub fits_tree : NodesHavePaths → EntriesAreTold → (files : Files) (pairs : List Pair) (roots : List (List ℕ)) (list : List Entry) → AreReady pairs roots →
+fits_tree : EntriesHaveParents → EntriesAreTold → (files : Files) (pairs : List Pair) (roots : List (List ℕ)) (list : List Entry) → AreReady pairs roots →
     CanCopy list pairs →
     All (λ e. refusal e.path ≡ None) list → All (λ pair. is_dir (get files (parent_of pair.target)) ≡ true) pairs →
     list ≡ flat_map (walk files (answers_in list)) roots →
@@ -160,23 +161,26 @@ fits_tree law told files pairs roots list r can valid stand is tree = record {
     tells : All (IsTold files (answers_in list)) list
     tells = subst (All (IsTold files (answers_in list))) (sym is) (told.of_all files (answers_in list) roots)
 
-    comes : (rs : List (List ℕ)) → rs ≡ roots → AllByRecursion (λ e. In e.path roots ⊎ Has list (parent_of e.path)) list
-    comes [] e = subst (AllByRecursion (λ e. In e.path roots ⊎ Has list (parent_of e.path))) (sym (no_walks files list roots is (ap length (sym e)))) tt
-    comes (x ∷ rs) e =
-        let some : 0 < length roots = omega (arith, ap length e) in
-        subst (λ es. AllByRecursion (λ e. In e.path roots ⊎ Has es (parent_of e.path)) es) (sym is) (come law files (answers_in list) (tree some) roots)
+    parents : (rs : List (List ℕ)) → rs ≡ roots → AllByRecursion (λ e. In e.path roots ⊎ (has_dir list (parent_of e.path) ≡ true)) list
+    parents [] e =
+        subst (AllByRecursion (λ e. In e.path roots ⊎ (has_dir list (parent_of e.path) ≡ true))) (sym (no_walks files list roots is (ap length (sym e)))) tt
+    parents (x ∷ rs) e =
+        let HasParent : List Entry → Entry → Type 0 = λ es e. (list_any (pointwise nat_eq e.path) roots || has_dir es (parent_of e.path)) ≡ true in
+        let all = subst (λ es. All (HasParent es) es) (sym is) (law files (answers_in list) roots (tree (omega (arith, ap length e)))) in
+        weaker (HasParent list) (λ e. In e.path roots ⊎ (has_dir list (parent_of e.path) ≡ true)) (λ e h. comes roots list e.path (parent_of e.path) h) list
+        (recursion_from_All (HasParent list) list all)
 
     every : AllByRecursion (StandsIn files pairs list) list
     every =
         all files pairs roots r list (recursion_from_All (λ pair. is_dir (get files (parent_of pair.target)) ≡ true) pairs stand) list
-        (recursion_from_All (λ (e : Entry). refusal e.path ≡ None) list valid) (recursion_from_All (IsSourced pairs) list can.in_source) (comes roots refl)
+        (recursion_from_All (λ (e : Entry). refusal e.path ≡ None) list valid) (recursion_from_All (IsSourced pairs) list can.in_source) (parents roots refl)
 
 -- ---- what a walk of placed sources gives
 
 ready_by : (given : List (List ℕ)) (pairs : List Pair) (list : List Entry) (before after : Side) → ArePlaced given before.tree pairs →
     (w : Walked given list before after) → AreReady pairs w.roots
 ready_by given pairs list before after p w = record {
-  valid = weaker HasPaths AreValid (λ pair h. (h.source, h.target)) pairs (recursion_from_All HasPaths pairs p.valid);
+  valid = weaker IsPair AreValid (λ pair h. (h.source, h.target)) pairs (recursion_from_All IsPair pairs p.valid);
   apart = p.apart;
   among = subst (λ ss. All (Contains ss) w.roots) (sym p.sources) w.are.among;
 }
@@ -186,7 +190,7 @@ pub walk_can : (given : List (List ℕ)) (pairs : List Pair) (list : List Entry)
     All (λ e. refusal e.path ≡ None) list → IsStrictlySortedBy path_cmp (paths list) → CanCopy list pairs
 walk_can given pairs list before after p w valid ascend = can_copy pairs w.roots list (ready_by given pairs list before after p w) valid w.within ascend
 
-pub walk_fits : NodesHavePaths → EntriesAreTold → (given : List (List ℕ)) (pairs : List Pair) (list : List Entry) (before after : Side) →
+pub walk_fits : EntriesHaveParents → EntriesAreTold → (given : List (List ℕ)) (pairs : List Pair) (list : List Entry) (before after : Side) →
     ArePlaced given before.tree pairs →
     Walked given list before after → All (λ e. refusal e.path ≡ None) list → IsStrictlySortedBy path_cmp (paths list) → IfSome before.tree (FitsTree list pairs)
 walk_fits law told given pairs list before after p w valid ascend = by before.tree p.stand w.told w.valid

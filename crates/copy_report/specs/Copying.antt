@@ -1,24 +1,19 @@
 -- What dcp does: what it reports, why it stops, what it may have changed, and when nothing stands against it. After mpiFileUtils' dcp; the texts are our own.
 use Rattle.std.specs.Prelude.{◌≡◌, ◌⊎◌, ℕ, ◌≤◌, false, List, [], ◌∷◌, ◌++◌, length, map, codes, All, Ok, IfSome, is_some}
 use Rattle.std.specs.Fmt.{decimal}
-use Rattle.std.specs.FinMap.{get}
 use Rattle.std.specs.List.{flat_map, count_by}
 use Rattle.path_text.specs.Path.{parent_of}
 use Rattle.outside.specs.Count.{RoseBy}
-use Rattle.outside.specs.Tree.{Files}
-use Rattle.outside.specs.declared.trees.Kind.TheVariants as kind
 use Rattle.flat_list.specs.declared.entries.Entry.{Entry}
-use Rattle.flat_list.specs.Entries.{is_of}
 use Rattle.flat_list.specs.Spelling.{paths}
 use Rattle.level_work.specs.Counts.{is_failed}
 use Rattle.level_work.specs.declared.items.Fate.{Fate}
-use Rattle.level_work.specs.declared.items.Fate.TheVariants as fate
-use Rattle.tree_copy.specs.Copying.{AreEarly, Copied, SameButTargets, bytes_copied, clashes, is_done, target_of, treated}
+use Rattle.tree_copy.specs.Copying.{AreEarly, Copied, SameButTargets, bytes_copied, is_done, treated}
+use Rattle.tree_copy.specs.Laws.{IsFineEntry}
 use Rattle.tree_copy.specs.Placing.{placed_over}
 use Rattle.tree_copy.specs.declared.pairs.Pair.{Pair}
 use Rattle.tree_walk.specs.Walk.{walk, all_told}
 use Rattle.tool_text.specs.declared.noting.Note.{Note}
-use Rattle.tool_text.specs.declared.noting.Why.{Why}
 use Rattle.tool_text.specs.declared.noting.Why.TheVariants as why
 use Rattle.tool_text.specs.Notes.{note_lines}
 use Rattle.tool_text.specs.NoteOrder.{AreInOrder}
@@ -28,7 +23,7 @@ use Rattle.run_report.specs.declared.stops.Stop.{Stop}
 use Rattle.run_report.specs.declared.stops.Stop.TheVariants as stop
 use Rattle.run_report.specs.Sides.{Side, side_of}
 use Rattle.run_entries.specs.Fine.{IsFineSide}
-use Rattle.run_entries.specs.Naming.{listing_notes}
+use Rattle.run_entries.specs.Naming.{copy_notes, listing_notes}
 use Rattle.run_entries.specs.Stopping.{StopsListing}
 use Rattle.copy_report.specs.declared.copying.CopyTask.{CopyTask}
 use Rattle.copy_report.specs.Placing.{Places, Surveys, IsNowhere}
@@ -42,26 +37,9 @@ abbrev pub copied_line : (copied items bytes failed : ℕ) → List ℕ
 copied_line copied items bytes failed =
     codes "copied " ++ decimal copied ++ codes " items " ++ decimal items ++ codes " bytes " ++ decimal bytes ++ codes " failed " ++ decimal failed ++ 10 ∷ []
 
--- why an entry is named. A copy never finds a directory that is not empty
-abbrev pub fate_whys : Fate → List Why
-fate_whys fate.Done = []
-fate_whys fate.Failed = why.FailedCopy ∷ []
-fate_whys fate.Conflict = why.Conflict ∷ []
-fate_whys fate.Skipped = why.Skipped ∷ []
-fate_whys fate.ParentFailed = why.Parent ∷ []
-fate_whys fate.TooLong = why.LongTarget ∷ []
-fate_whys fate.Changed = why.Changed ∷ []
-fate_whys fate.NotEmpty = why.Changed ∷ []
-
-abbrev pub row_notes : List ℕ × Fate → List Note
-row_notes row = map (λ w. record { path = row.0; why = w; dest = false }) (fate_whys row.1)
-
-abbrev pub fate_notes : List (List ℕ × Fate) → List Note
-fate_notes rows = flat_map row_notes rows
-
 -- all that is to be named: the entries of the walk, and what became of the copies
 abbrev pub copy_failures : List Entry → List (List ℕ × Fate) → List Note
-copy_failures entries rows = listing_notes (record { entries = entries; dest = false }) ++ fate_notes rows
+copy_failures entries rows = listing_notes (record { entries = entries; dest = false }) ++ copy_notes rows
 
 -- it copied the entries, and no answer that failed is left uncounted
 pub record Copies (pairs : List Pair) (entries : List Entry) (rows : List (List ℕ × Fate)) (before after : Side) : Type 0 where
@@ -126,12 +104,6 @@ pub record LeavesAllOthers (asked : CopyAsked) (before after : Side) : Type 0 wh
 -- what it may have changed: nothing, or the targets alone. This holds whatever it answers
 abbrev pub LeavesCopy : CopyAsked → Side → Side → Type 0
 LeavesCopy asked before after = (after.tree ≡ before.tree) ⊎ LeavesAllOthers asked before after
-
--- an entry that can be copied: no other, whose target is not too long, and where nothing of another kind stands
-pub record IsFineEntry (files : Files) (pairs : List Pair) (e : Entry) : Type 0 where
-  pub kind : is_of kind.Other e.stat ≡ false
-  pub short : length (target_of pairs e.path) ≤ 4095
-  pub free : clashes e.stat (get files (target_of pairs e.path)) ≡ false
 
 -- when nothing stands against it: the side is fine, the sources go somewhere, and each entry of the walk can be copied
 pub record FineCopy (asked : CopyAsked) (before after : Side) : Type 0 where

@@ -1,4 +1,4 @@
-//! The copy of what was walked, and its report.
+//! The copy of what was walked, and the texts of it.
 ghost use Rattle.std.specs.Prelude.{◌≡◌, [], All, IfOk, IfErr, IfSome, is_some};
 ghost use Rattle.outside.specs.Count.{RoseBy};
 ghost use Rattle.outside.specs.Writes.{nothing_lent};
@@ -7,17 +7,21 @@ ghost use Rattle.std.specs.List.{count_by};
 ghost use Rattle.tool_words.specs.Limits.{CommonWithin};
 ghost use Rattle.run_report.specs.Sides.{side_of};
 ghost use Rattle.copy_report.specs.Copying.{Copies};
+ghost use Rattle.copy_report.specs.PrivateSteps.{TellsCopies};
 
+use crate::naming::failures;
+use crate::printing::copy_report;
 use flat_list::FlatList;
 use outside::Ground;
 use path_text::OutOfMemory;
+use run_report::Report;
 use std::alloc::Global;
 use std::thread::Threads;
 use tool_words::Common;
 use tree_copy::{CopyReport, Pair, copy};
 
-/// Copies the entries to their targets, by as many ranks and hosts as are asked for.
-pub(crate) fn copy_entries<T: Threads + Sync, G: Ground>(
+// Copies the entries to their targets, by as many ranks and hosts as are asked for.
+fn copy_entries<T: Threads + Sync, G: Ground>(
     rt: &T,
     alloc: Global,
     common: &Common,
@@ -41,4 +45,35 @@ where
     ensures count { RoseBy 0 (G.count files.old) (G.count files.new) }
 {
     copy(rt, alloc, list, pairs, files, common.ranks, common.hosts)
+}
+
+/// Copies the entries to their targets, and makes the texts. Whatever it answers, every path that is no target is as before.
+pub(crate) fn copy_and_tell<T: Threads + Sync, G: Ground>(
+    rt: &T,
+    alloc: Global,
+    common: &Common,
+    list: &FlatList,
+    pairs: &[Pair],
+    files: &mut G,
+) -> Result<Report, OutOfMemory>
+where
+    G::Reader: Send,
+    G::Part: Send,
+    requires within { CommonWithin common.now }
+    requires lent { G.area files.old ≡ nothing_lent }
+    requires can { CanCopy list.now pairs.now }
+    requires fits { IfSome (G.tree files.old) (FitsTree list.now pairs.now) }
+    ensures told { IfOk result (TellsCopies pairs.now list.now (side_of (G.tree files.old) (G.count files.old)) (side_of (G.tree files.new) (G.count files.new))) }
+    ensures rest { IfSome (G.tree files.old) (λ before. IfSome (G.tree files.new) (SameButTargets pairs.now list.now before)) }
+    ensures tells { is_some (G.tree files.new) ≡ is_some (G.tree files.old) }
+    ensures lent { G.area files.new ≡ nothing_lent }
+    ensures count { RoseBy 0 (G.count files.old) (G.count files.new) }
+{
+    let copied = copy_entries(rt, alloc, common, list, pairs, files)?;
+    let done = copied.copied();
+    let bytes = copied.bytes();
+    let rows = copied.into_rows();
+    let notes = failures(alloc, list, &rows)?;
+    let report = copy_report(alloc, &rows, done, bytes, &notes)?;
+    Ok(report)
 }

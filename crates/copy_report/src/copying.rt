@@ -6,10 +6,9 @@ ghost use Rattle.tool_words.specs.Limits.{WithinCopy};
 ghost use Rattle.run_report.specs.Sides.{side_of};
 ghost use Rattle.copy_report.specs.Copying.{copy_asked, ReportsCopy, StopsCopy, LeavesCopy};
 
-use crate::acting::copy_entries;
-use crate::naming::failures;
+use crate::acting::copy_and_tell;
 use crate::placing::place_targets;
-use crate::printing::{copy_report, failed_report};
+use crate::printing::failed_report;
 use crate::walking::walk_sources;
 use outside::Ground;
 use path_text::Path;
@@ -62,8 +61,6 @@ where
         Err(PlaceError::OutOfMemory) => return Err(Stop::OutOfMemory),
     };
     let list = walk_sources(rt, alloc, &common, sources, &pairs, files)?;
-    let copied = copy_entries(rt, alloc, &common, &list, &pairs, files)?;
-    let notes = failures(alloc, &list, &copied)?;
-    let report = copy_report(alloc, &copied, &notes)?;
+    let report = copy_and_tell(rt, alloc, &common, &list, &pairs, files)?;
     Ok(report)
 }

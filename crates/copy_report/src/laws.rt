@@ -1,20 +1,25 @@
 //! Laws, each the contract of a function that does nothing.
 ghost use Rattle.copy_report.specs.Laws.{FineCopySucceeds};
 
-use run_entries::{fine_walks_name_nothing, fine_walks_stop_for_memory};
+use run_entries::{
+    done_names_nothing, fine_walks_are_whole, fine_walks_name_nothing, fine_walks_stop_for_memory,
+    still_counts,
+};
 use tool_text::nothing_to_order;
-use tree_copy::placed_are_apart;
-use tree_walk::{entries_are_told, roots_are_unique, walk_without_faults_is_fine};
+use tree_copy::{fine_entries_are_copied, targets_are_long};
+use tree_walk::entries_are_told;
 
 /// Where nothing stands against dcp, it names nothing, and stops for want of memory alone.
 pub fn fine_copy_succeeds()
     ensures { FineCopySucceeds }
 {
+    done_names_nothing();
     entries_are_told();
+    fine_entries_are_copied();
+    fine_walks_are_whole();
     fine_walks_name_nothing();
     fine_walks_stop_for_memory();
     nothing_to_order();
-    placed_are_apart();
-    roots_are_unique();
-    walk_without_faults_is_fine();
+    still_counts();
+    targets_are_long();
 }

@@ -1,9 +1,10 @@
 //! The look at the destination.
 ghost use Rattle.std.specs.Prelude.{◌≡◌, ◌≤◌, All, length, Ok, IfOk, IfErr};
 ghost use Rattle.outside.specs.Count.{RoseBy};
+ghost use Rattle.tree_copy.specs.Placing.{IsPair};
 ghost use Rattle.run_report.specs.Sides.{side_of};
 ghost use Rattle.copy_report.specs.Placing.{Places};
-ghost use Rattle.copy_report.specs.PrivateSteps.{ArePlaced, HasPaths, StopsPlacing};
+ghost use Rattle.copy_report.specs.PrivateSteps.{ArePlaced, StopsPlacing};
 
 use outside::Ground;
 use path_text::Path;
@@ -39,7 +40,7 @@ pub(crate) fn place_targets<G: Ground>(
 
 // Each source and each target is a path.
 fn see_ends(pairs: &[Pair])
-    ensures { All HasPaths pairs.now }
+    ensures { All IsPair pairs.now }
 {
     for pair in pairs {
         let _ = pair.source.text();

@@ -3,24 +3,26 @@ ghost use Rattle.std.specs.Prelude.{◌≡◌, ◌∷◌, [], false, length, IfO
 ghost use Rattle.tool_text.specs.Notes.{note_lines};
 ghost use Rattle.copy_report.specs.Copying.{copied_line};
 
+use level_work::Fate;
 use path_text::{OutOfMemory, Path};
 use run_report::Report;
 use std::alloc::Global;
 use tool_text::{Note, Text, Why, put_line, put_notes};
-use tree_copy::CopyReport;
 
-/// The report of a copy: the line of its numbers, and a line for each note.
+/// The report of a copy, of which so many rows are done and so many bytes were copied: the line of its numbers, and a line for each
+/// note.
 pub(crate) fn copy_report(
     alloc: Global,
-    copied: &CopyReport,
+    rows: &[(Path, Fate)],
+    copied: u64,
+    bytes: u128,
     named: &[Note],
 ) -> Result<Report, OutOfMemory>
-    ensures out { IfOk result (λ report. report.out ≡ copied_line copied.now.1 (length copied.now.0) copied.now.2 (length named.now)) }
+    ensures out { IfOk result (λ report. report.out ≡ copied_line copied (length rows.now) bytes (length named.now)) }
     ensures notes { IfOk result (λ report. report.notes ≡ note_lines named.now) }
     ensures failed { IfOk result (λ report. report.failed ≡ length named.now) }
 {
-    let items = copied.len() as u64;
-    report_of(alloc, copied.copied(), items, copied.bytes(), named)
+    report_of(alloc, copied, rows.len() as u64, bytes, named)
 }
 
 /// The report where the look at this path failed, and so nothing was copied.

@@ -1,6 +1,5 @@
 //! The walk of the sources.
-ghost use Rattle.std.specs.Prelude.{◌≡◌, ◌≤◌, All, length, OnOk, IfOk, IfErr, IfSome, None};
-ghost use Rattle.path_text.specs.Path.{refusal};
+ghost use Rattle.std.specs.Prelude.{◌≡◌, ◌≤◌, length, IfOk, IfErr, IfSome};
 ghost use Rattle.outside.specs.Count.{RoseBy};
 ghost use Rattle.tree_copy.specs.Copying.{CanCopy, FitsTree};
 ghost use Rattle.tool_words.specs.Asked.{roots};
@@ -11,16 +10,16 @@ ghost use Rattle.run_entries.specs.Stopping.{StopsListing};
 ghost use Rattle.copy_report.specs.PrivateSteps.{ArePlaced};
 
 use flat_list::FlatList;
-use outside::{Ground, nodes_have_paths};
-use path_text::{OutOfMemory, Path};
-use run_entries::{Entries, walk_side};
+use outside::Ground;
+use path_text::Path;
+use run_entries::{Entries, see_paths, walk_side};
 use run_report::Stop;
 use std::alloc::Global;
 use std::sync::Wait;
 use std::thread::Threads;
 use tool_words::Common;
 use tree_copy::Pair;
-use tree_walk::entries_are_told;
+use tree_walk::{entries_are_told, entries_have_parents};
 
 /// Walks the sources, which are placed: entries that can be copied to their targets.
 pub(crate) fn walk_sources<T: Threads + Wait + Sync, G: Ground>(
@@ -45,19 +44,8 @@ where
     ensures count { RoseBy 0 (G.count files.old) (G.count files.new) }
 {
     entries_are_told();
-    nodes_have_paths();
+    entries_have_parents();
     let Entries { list, .. } = walk_side(rt, alloc, common, sources, files)?;
     see_paths(&list)?;
     Ok(list)
-}
-
-// Each path of a list is a path, which the list does not tell of itself.
-fn see_paths(list: &FlatList) -> Result<(), OutOfMemory>
-    ensures { OnOk result (All (λ e. refusal e.path ≡ None) list.now) }
-{
-    let mut cursor = list.cursor()?;
-    while cursor.advance()? {
-        let _ = cursor.entry().path.text();
-    }
-    Ok(())
 }

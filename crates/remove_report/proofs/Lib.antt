@@ -1,4 +1,3 @@
 pub mod Found
-pub mod Named
 pub mod Steps
 pub mod Succeeds

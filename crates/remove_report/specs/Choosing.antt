@@ -1,15 +1,13 @@
 -- What drm chooses and what it does with that. The tool is mpiFileUtils'; the relation is our own.
-use Rattle.std.specs.Prelude.{◌≡◌, ℕ, ◌≤◌, Bool, true, false, List, [], map, Some, IfSome, is_some, nat_eq}
-use Rattle.std.specs.FinMap.{get}
-use Rattle.std.specs.List.{list_any, count_by}
-use Rattle.std.specs.Cmp.Lexicographic.{pointwise}
-use Rattle.path_text.specs.Order.{is_under}
+use Rattle.std.specs.Prelude.{◌≡◌, ℕ, ◌≤◌, Bool, true, false, List, [], map, Some, IfSome, is_some}
+use Rattle.std.specs.List.{count_by}
 use Rattle.outside.specs.Count.{RoseBy}
 use Rattle.outside.specs.Tree.{Files}
 use Rattle.flat_list.specs.declared.entries.Entry.{Entry}
 use Rattle.flat_list.specs.Spelling.{paths}
 use Rattle.level_work.specs.Counts.{is_failed}
 use Rattle.level_work.specs.declared.items.Fate.{Fate}
+use Rattle.tree_remove.specs.Laws.{AreWhole}
 use Rattle.tree_remove.specs.Removing.{Removed, SameButChosen}
 use Rattle.tool_text.specs.declared.noting.Note.{Note}
 use Rattle.tool_words.specs.Asked.{RemoveAsked, roots}
@@ -51,6 +49,4 @@ pub record LeavesAllOthers (asked : RemoveAsked) (now : ℕ) (before after : Sid
 
 -- where a path is chosen, all that is under it is
 abbrev pub ChoosesWhole : Files → List Entry → Type 0
-ChoosesWhole files chosen =
-    (p q : List ℕ) → list_any (pointwise nat_eq p) (paths chosen) ≡ true → is_under q p ≡ true → is_some (get files q) ≡ true →
-    list_any (pointwise nat_eq q) (paths chosen) ≡ true
+ChoosesWhole files chosen = AreWhole files (paths chosen)

@@ -1,8 +1,25 @@
--- What is left of an act that may not have been done. Only the contracts of this crate's own parts cite it.
-use Rattle.std.specs.Prelude.{ℕ, List, [], Option, Some, None}
+-- What is told of a removal. Only the contracts of this crate's own parts cite it.
+use Rattle.std.specs.Prelude.{◌≡◌, ℕ, Bool, List, ◌++◌, length}
+use Rattle.std.specs.List.{count_by}
+use Rattle.flat_list.specs.declared.entries.Entry.{Entry}
 use Rattle.level_work.specs.declared.items.Fate.{Fate}
+use Rattle.tree_remove.specs.Removing.{is_done}
+use Rattle.tool_text.specs.Lines.{lines_of}
+use Rattle.tool_text.specs.declared.noting.Note.{Note}
+use Rattle.tool_text.specs.Notes.{note_lines}
+use Rattle.tool_text.specs.NoteOrder.{AreInOrder}
+use Rattle.run_report.specs.declared.reports.Report.{Report}
+use Rattle.run_report.specs.Sides.{Side}
+use Rattle.run_entries.specs.Naming.{removal_notes}
+use Rattle.remove_report.specs.Choosing.{Acts}
+use Rattle.remove_report.specs.Removing.{removed_line}
 
--- the rows of a report, if there is one
-abbrev pub rows_in : Option (List (List ℕ × Fate) × ℕ) → List (List ℕ × Fate)
-rows_in None = []
-rows_in (Some report) = report.0
+-- what became of what was chosen, and the two texts; `named` are the notes of what failed before
+pub record TellsRemovals (dryrun : Bool) (chosen : List Entry) (named : List Note) (before after : Side) (report : Report) : Type 0 where
+  pub rows : List (List ℕ × Fate)
+  pub acts : Acts dryrun chosen rows before after
+  pub notes : List Note
+  pub names : AreInOrder (named ++ removal_notes rows) notes
+  pub prints : report.out ≡ lines_of chosen ++ removed_line (count_by (λ row. is_done row.1) rows) (length chosen) (length notes)
+  pub tells : report.notes ≡ note_lines notes
+  pub counts : report.failed ≡ length notes

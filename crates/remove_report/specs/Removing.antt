@@ -1,16 +1,13 @@
 -- What drm does: what it reports, why it stops, what it may have changed, and when nothing stands against it. The tool is mpiFileUtils';
 -- the texts, notes and statuses are our own.
-use Rattle.std.specs.Prelude.{◌≡◌, ◌⊎◌, ℕ, Bool, true, false, List, [], ◌∷◌, ◌++◌, length, map, codes, Some}
+use Rattle.std.specs.Prelude.{◌≡◌, ◌⊎◌, ℕ, Bool, true, false, List, [], ◌∷◌, ◌++◌, length, codes, Some}
 use Rattle.std.specs.Fmt.{decimal}
-use Rattle.std.specs.List.{flat_map, count_by}
+use Rattle.std.specs.List.{count_by}
 use Rattle.flat_list.specs.declared.entries.Entry.{Entry}
 use Rattle.level_work.specs.declared.items.Fate.{Fate}
-use Rattle.level_work.specs.declared.items.Fate.TheVariants as fate
 use Rattle.tree_remove.specs.Removing.{is_done}
 use Rattle.tool_text.specs.Lines.{lines_of}
 use Rattle.tool_text.specs.declared.noting.Note.{Note}
-use Rattle.tool_text.specs.declared.noting.Why.{Why}
-use Rattle.tool_text.specs.declared.noting.Why.TheVariants as why
 use Rattle.tool_text.specs.Notes.{note_lines}
 use Rattle.tool_text.specs.NoteOrder.{AreInOrder}
 use Rattle.tool_words.specs.Asked.{RemoveAsked, roots, choice_in}
@@ -19,6 +16,7 @@ use Rattle.run_report.specs.declared.stops.Stop.{Stop}
 use Rattle.run_report.specs.declared.stops.Stop.TheVariants as stop
 use Rattle.run_report.specs.Sides.{Side, side_of}
 use Rattle.run_entries.specs.Fine.{IsFineSide, AreThere}
+use Rattle.run_entries.specs.Naming.{removal_notes}
 use Rattle.run_entries.specs.Stopping.{StopsAfterLooks}
 use Rattle.remove_report.specs.declared.removing.RemoveTask.{RemoveTask}
 use Rattle.remove_report.specs.Choosing.{Chooses, Acts, LeavesAllOthers, ChoosesWhole}
@@ -32,23 +30,6 @@ abbrev pub removed_line : ℕ → ℕ → ℕ → List ℕ
 removed_line removed chosen failed =
     codes "removed " ++ decimal removed ++ codes " of " ++ decimal chosen ++ codes " failed " ++ decimal failed ++ 10 ∷ []
 
--- why a chosen path is named. A removal has no other fates than the first four
-abbrev pub fate_whys : Fate → List Why
-fate_whys fate.Done = []
-fate_whys fate.Failed = why.FailedRemove ∷ []
-fate_whys fate.NotEmpty = why.NotEmpty ∷ []
-fate_whys fate.Changed = why.Changed ∷ []
-fate_whys fate.Conflict = why.Changed ∷ []
-fate_whys fate.Skipped = why.Changed ∷ []
-fate_whys fate.ParentFailed = why.Changed ∷ []
-fate_whys fate.TooLong = why.Changed ∷ []
-
-abbrev pub row_notes : List ℕ × Fate → List Note
-row_notes row = map (λ w. record { path = row.0; why = w; dest = false }) (fate_whys row.1)
-
-abbrev pub fate_notes : List (List ℕ × Fate) → List Note
-fate_notes rows = flat_map row_notes rows
-
 -- what it reports: what it chose, what became of that, and the two texts of it: a line for each chosen entry and the line of the numbers,
 -- and the notes, of the walk and of the removals
 pub record ReportsRemove (asked : RemoveAsked) (now : ℕ) (before after : Side) (report : Report) : Type 0 where
@@ -59,7 +40,7 @@ pub record ReportsRemove (asked : RemoveAsked) (now : ℕ) (before after : Side)
   pub rows : List (List ℕ × Fate)
   pub acts : Acts asked.dryrun chosen rows (side_of before.tree found) after
   pub notes : List Note
-  pub names : AreInOrder (named ++ fate_notes rows) notes
+  pub names : AreInOrder (named ++ removal_notes rows) notes
   pub prints : report.out ≡ lines_of chosen ++ removed_line (count_by (λ row. is_done row.1) rows) (length chosen) (length notes)
   pub tells : report.notes ≡ note_lines notes
   pub counts : report.failed ≡ length notes

@@ -1,4 +1,4 @@
-//! The removal, where it is asked for.
+//! The removal, where it is asked for, and the texts of it.
 ghost use Rattle.std.specs.Prelude.{◌≡◌, ◌≤◌, [], true, IfOk, IfSome, is_some};
 ghost use Rattle.outside.specs.Count.{RoseBy};
 ghost use Rattle.outside.specs.Writes.{nothing_lent};
@@ -8,33 +8,75 @@ ghost use Rattle.tree_remove.specs.Removing.{AreChosen, AreThere, SameButChosen,
 ghost use Rattle.tool_words.specs.Limits.{CommonWithin};
 ghost use Rattle.run_report.specs.Sides.{side_of};
 ghost use Rattle.remove_report.specs.Choosing.{Acts};
-ghost use Rattle.remove_report.specs.PrivateActs.{rows_in};
+ghost use Rattle.remove_report.specs.PrivateActs.{TellsRemovals};
 
+use crate::naming::failures;
+use crate::printing::remove_report;
 use flat_list::FlatList;
+use level_work::Fate;
 use outside::Ground;
-use path_text::OutOfMemory;
+use path_text::{OutOfMemory, Path};
+use run_report::Report;
 use std::alloc::Global;
 use std::thread::Threads;
+use tool_text::Note;
 use tool_words::Common;
-use tree_remove::{RemoveReport, remove};
+use tree_remove::remove;
 
-/// Removes what is chosen, by as many ranks and hosts as are asked for; or nothing.
-pub(crate) fn remove_unless<T: Threads + Sync, G: Ground>(
+// What became of chosen paths, and how many of them are gone.
+#[derive(Drop)]
+struct Removal {
+    rows: Vec<(Path, Fate)>,
+    removed: u64,
+}
+
+/// Removes what is chosen unless nothing is to be removed, and makes the texts; `named` has what failed before. Whatever it
+/// answers, every path that was not chosen is as before.
+pub(crate) fn remove_and_tell<T: Threads + Sync, G: Ground>(
     rt: &T,
     alloc: Global,
     dryrun: bool,
     common: &Common,
     chosen: &FlatList,
+    named: Vec<Note>,
     files: &mut G,
-) -> Result<Option<RemoveReport>, OutOfMemory>
+) -> Result<Report, OutOfMemory>
 where
     G::Part: Send,
     requires within { CommonWithin common.now }
     requires lent { G.area files.old ≡ nothing_lent }
     requires chosen { AreChosen chosen.now }
     requires there { IfSome (G.tree files.old) (AreThere chosen.now) }
-    ensures acts { IfOk result (λ report. Acts dryrun chosen.now (rows_in report) (side_of (G.tree files.old) (G.count files.old)) (side_of (G.tree files.new) (G.count files.new))) }
-    ensures gone { IfOk result (λ report. IfSome report (λ r. r.1 ≡ count_by (λ row. is_done row.1) r.0)) }
+    ensures told { IfOk result (TellsRemovals dryrun chosen.now named.items (side_of (G.tree files.old) (G.count files.old)) (side_of (G.tree files.new) (G.count files.new))) }
+    ensures rest { IfSome (G.tree files.old) (λ before. IfSome (G.tree files.new) (SameButChosen (paths chosen.now) before)) }
+    ensures dry { dryrun ≡ true → G.tree files.new ≡ G.tree files.old }
+    ensures tells { is_some (G.tree files.new) ≡ is_some (G.tree files.old) }
+    ensures lent { G.area files.new ≡ nothing_lent }
+    ensures count { RoseBy 0 (G.count files.old) (G.count files.new) }
+{
+    let acted = remove_unless(rt, alloc, dryrun, common, chosen, files)?;
+    let notes = failures(named, &acted.rows)?;
+    let report = remove_report(alloc, chosen, acted.removed, &notes)?;
+    Ok(report)
+}
+
+// Removes what is chosen, by as many ranks and hosts as are asked for; or nothing.
+fn remove_unless<T: Threads + Sync, G: Ground>(
+    rt: &T,
+    alloc: Global,
+    dryrun: bool,
+    common: &Common,
+    chosen: &FlatList,
+    files: &mut G,
+) -> Result<Removal, OutOfMemory>
+where
+    G::Part: Send,
+    requires within { CommonWithin common.now }
+    requires lent { G.area files.old ≡ nothing_lent }
+    requires chosen { AreChosen chosen.now }
+    requires there { IfSome (G.tree files.old) (AreThere chosen.now) }
+    ensures acts { IfOk result (λ acted. Acts dryrun chosen.now acted.rows.items (side_of (G.tree files.old) (G.count files.old)) (side_of (G.tree files.new) (G.count files.new))) }
+    ensures gone { IfOk result (λ acted. acted.removed ≡ count_by (λ row. is_done row.1) acted.rows.items) }
     ensures rest { IfSome (G.tree files.old) (λ before. IfSome (G.tree files.new) (SameButChosen (paths chosen.now) before)) }
     ensures dry { dryrun ≡ true → G.tree files.new ≡ G.tree files.old }
     ensures tells { is_some (G.tree files.new) ≡ is_some (G.tree files.old) }
@@ -44,8 +86,13 @@ where
     // The count of faults is a number of 64 bits.
     let _faults = files.faults();
     if dryrun {
-        return Ok(None);
+        return Ok(Removal {
+            rows: Vec::new(alloc),
+            removed: 0,
+        });
     }
     let report = remove(rt, alloc, chosen, files, common.ranks, common.hosts)?;
-    Ok(Some(report))
+    let removed = report.removed();
+    let rows = report.into_rows();
+    Ok(Removal { rows, removed })
 }

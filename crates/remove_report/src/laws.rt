@@ -1,17 +1,24 @@
 //! Laws, each the contract of a function that does nothing.
 ghost use Rattle.remove_report.specs.Laws.{FineRemoveSucceeds};
 
-use run_entries::{fine_finds_name_nothing, fine_finds_stop_for_memory, fine_walks_name_nothing};
+use run_entries::{
+    done_names_nothing, fine_finds_name_nothing, fine_finds_stop_for_memory,
+    fine_walks_name_nothing, still_counts,
+};
 use tool_text::nothing_to_order;
+use tree_remove::whole_choices_go;
 use tree_walk::entries_are_told;
 
 /// Where nothing stands against drm, it names nothing, and stops for want of memory alone.
 pub fn fine_remove_succeeds()
     ensures { FineRemoveSucceeds }
 {
+    done_names_nothing();
+    entries_are_told();
     fine_finds_name_nothing();
     fine_finds_stop_for_memory();
     fine_walks_name_nothing();
     nothing_to_order();
-    entries_are_told();
+    still_counts();
+    whole_choices_go();
 }

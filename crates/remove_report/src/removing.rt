@@ -1,18 +1,13 @@
 //! What drm does.
-ghost use Rattle.std.specs.Prelude.{◌≡◌, [], IfOk, IfErr, IfSome};
-ghost use Rattle.std.specs.List.{count_by};
+ghost use Rattle.std.specs.Prelude.{◌≡◌, IfOk, IfErr};
 ghost use Rattle.outside.specs.Count.{RoseBy};
 ghost use Rattle.outside.specs.Writes.{nothing_lent};
-ghost use Rattle.tree_remove.specs.Removing.{is_done};
 ghost use Rattle.tool_words.specs.Limits.{WithinRemove};
 ghost use Rattle.run_report.specs.Sides.{side_of};
-ghost use Rattle.remove_report.specs.PrivateActs.{rows_in};
 ghost use Rattle.remove_report.specs.Removing.{remove_asked, ReportsRemove, StopsRemove, LeavesRemove};
 
-use crate::acting::remove_unless;
+use crate::acting::remove_and_tell;
 use crate::choosing::find_lower;
-use crate::naming::failures;
-use crate::printing::remove_report;
 use outside::Ground;
 use path_text::Path;
 use run_entries::Findings;
@@ -21,7 +16,6 @@ use std::alloc::Global;
 use std::sync::Wait;
 use std::thread::Threads;
 use tool_words::{Common, Tests};
-use tree_remove::RemoveReport;
 
 /// What drm is asked for.
 #[derive(Debug, Drop)]
@@ -63,19 +57,6 @@ where
     } = task;
     let found = find_lower(rt, alloc, &common, roots, tests, now, files)?;
     let Findings { chosen, notes, .. } = found;
-    let acted = remove_unless(rt, alloc, dryrun, &common, &chosen, files)?;
-    let notes = failures(notes, &acted)?;
-    let report = remove_report(alloc, &chosen, removed_in(&acted), &notes)?;
+    let report = remove_and_tell(rt, alloc, dryrun, &common, &chosen, notes, files)?;
     Ok(report)
-}
-
-// How many paths are gone.
-fn removed_in(report: &Option<RemoveReport>) -> u64
-    requires { IfSome report.now (λ r. r.1 ≡ count_by (λ row. is_done row.1) r.0) }
-    ensures { result ≡ count_by (λ row. is_done row.1) (rows_in report.now) }
-{
-    match report {
-        Some(report) => report.removed(),
-        None => 0,
-    }
 }

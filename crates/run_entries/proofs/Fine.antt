@@ -41,7 +41,7 @@ use Rattle.run_entries.specs.Saving.{Saved}
 use Rattle.run_entries.specs.Entries.{Walked, Listed}
 use Rattle.run_entries.specs.Stopping.{IsTooMuch, IsDamagedList, IsAbsent, StopsListing, StopsAt}
 use Rattle.run_entries.specs.Fine.{IsFineWalk, IsFineList, IsFineStart, FineFindsNameNothing, FineFindsStopForMemory, FineWalksNameNothing}
-use Rattle.run_entries.specs.Fine.{FineWalksStopForMemory, FinePlacesStopForMemory}
+use Rattle.run_entries.specs.Fine.{FineWalksAreWhole, FineWalksStopForMemory, FinePlacesStopForMemory}
 
 -- ---- counts
 
@@ -222,6 +222,9 @@ stops_for_memory laws exact start choice before after reason valid f stops =
 pub walks_name_nothing : Laws → FineWalksNameNothing
 walks_name_nothing laws given entries dest before after valid f w =
     (whole given f.files entries before after laws valid f.told w f.fine f.stood).unnamed dest f.fine.near
+
+pub walks_are_whole : Laws → FineWalksAreWhole
+walks_are_whole laws given entries before after valid f w = (whole given f.files entries before after laws valid f.told w f.fine f.stood).same
 
 pub walks_stop_for_memory : Laws → RefusesExactly → FineWalksStopForMemory
 walks_stop_for_memory laws exact given before after reason valid f stops =

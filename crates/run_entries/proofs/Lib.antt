@@ -1,5 +1,7 @@
 pub mod Chosen
+pub mod Done
 pub mod Fine
 pub mod Found
 pub mod Saved
+pub mod Sided
 pub mod Told

@@ -3,11 +3,13 @@ use Rattle.std.specs.Prelude.{◌≡◌, ℕ, ◌≤◌, List, [], length, Optio
 use Rattle.std.specs.FinMap.{get}
 use Rattle.std.specs.List.{flat_map}
 use Rattle.outside.specs.Tree.{Files}
-use Rattle.outside.specs.Count.{StoodStill}
+use Rattle.outside.specs.Count.{RoseBy, StoodStill}
 use Rattle.outside.specs.Whole.{HoldsFile, can_save}
 use Rattle.flat_list.specs.declared.entries.Entry.{Entry}
 use Rattle.flat_list.specs.declared.entries.Mark.TheVariants as mark
 use Rattle.flat_list.specs.Spelling.{Spells}
+use Rattle.level_work.specs.declared.items.Fate.{Fate}
+use Rattle.level_work.specs.declared.items.Fate.TheVariants as fate
 use Rattle.tool_text.specs.declared.noting.Note.{Note}
 use Rattle.tool_words.specs.declared.commands.Common.{Common}
 use Rattle.tool_words.specs.Limits.{Valid, paths_in}
@@ -20,7 +22,7 @@ use Rattle.run_report.specs.Sides.{Side}
 use Rattle.run_entries.specs.declared.accounts.Account.{Account}
 use Rattle.run_entries.specs.declared.saving.Output.{Output}
 use Rattle.run_entries.specs.Choosing.{newer_in}
-use Rattle.run_entries.specs.Naming.{listing_notes}
+use Rattle.run_entries.specs.Naming.{copy_notes, listing_notes, removal_notes}
 use Rattle.run_entries.specs.Entries.{Walked, Finds}
 use Rattle.run_entries.specs.Stopping.{StopsListing, StopsFinding, StopsSaving}
 
@@ -77,6 +79,12 @@ FineWalksNameNothing =
     (given : List (List ℕ)) (entries : List Entry) (dest : Bool) (before after : Side) → All Valid given → IsFineSide (roots given) before after →
     Walked given entries before after → listing_notes (record { entries = entries; dest = dest }) ≡ []
 
+-- it is the walk in which nothing fails
+abbrev pub FineWalksAreWhole : Type 0
+FineWalksAreWhole =
+    (given : List (List ℕ)) (entries : List Entry) (before after : Side) → All Valid given → (fine : IsFineSide (roots given) before after) →
+    Walked given entries before after → entries ≡ flat_map (walk fine.files all_told) fine.fine.roots
+
 -- and only want of memory stops such a walk
 abbrev pub FineWalksStopForMemory : Type 0
 FineWalksStopForMemory =
@@ -89,3 +97,13 @@ FinePlacesStopForMemory =
     (outputs : List Output) (files : Files) (before after : Side) (why : Stop) → before.tree ≡ Some files
     → All (λ output. can_save files output.path ≡ true) outputs →
     StoodStill before.count after.count → StopsSaving outputs before after why → why ≡ stop.OutOfMemory
+
+-- paths whose copies or removals are done name nothing
+pub record DoneNamesNothing : Type 0 where
+  pub copies : (rows : List (List ℕ × Fate)) → All (λ row. row.1 ≡ fate.Done) rows → copy_notes rows ≡ []
+  pub removals : (rows : List (List ℕ × Fate)) → All (λ row. row.1 ≡ fate.Done) rows → removal_notes rows ≡ []
+
+-- over a count that stood still nothing failed, and it stood still in each part
+pub record StillCounts : Type 0 where
+  pub none : (k old new : ℕ) → RoseBy k old new → StoodStill old new → k ≡ 0
+  pub between : (old from until new : ℕ) → old ≤ from → from ≤ until → until ≤ new → StoodStill old new → StoodStill from until

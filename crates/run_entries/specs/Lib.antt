@@ -1,3 +1,4 @@
+pub mod Both
 pub mod Choosing
 pub mod Entries
 pub mod Fine

@@ -3,11 +3,12 @@ ghost use Rattle.std.specs.Prelude.{◌≡◌, ◌++◌, OnOk, IfOk};
 ghost use Rattle.std.specs.Option.{option_to_list};
 ghost use Rattle.std.specs.List.{flat_map};
 ghost use Rattle.tool_text.specs.NoteOrder.{AreInOrder};
-ghost use Rattle.run_entries.specs.Naming.{look_whys, look_notes, listing_notes, failures_in};
+ghost use Rattle.run_entries.specs.Naming.{copy_notes, copy_whys, failures_in, listing_notes, look_notes, look_whys, notes_by, removal_notes, removal_whys};
 
 use flat_list::FlatList;
+use level_work::Fate;
 use path_looks::{Look, Seen};
-use path_text::OutOfMemory;
+use path_text::{OutOfMemory, Path};
 use std::alloc::Global;
 use tool_text::{Note, Why, in_order, notes_of};
 
@@ -36,23 +37,44 @@ pub fn name_entries(
     Ok(())
 }
 
-fn add_looks(notes: &mut Vec<Note>, looks: &[Look]) -> Result<(), OutOfMemory>
-    ensures { OnOk result (notes.new.items ≡ notes.old.items ++ flat_map look_notes looks.now) }
+/// Adds the notes of entries that were copied, by their fates. The notes of a run are put in order at last.
+pub fn name_copies(notes: &mut Vec<Note>, rows: &[(Path, Fate)]) -> Result<(), OutOfMemory>
+    ensures { OnOk result (notes.new.items ≡ notes.old.items ++ copy_notes rows.now) }
 {
-    for look in looks {
-        add_look(notes, look)?;
+    for row in rows {
+        add_note(notes, &row.0, copy_why(row.1))?;
     }
     Ok(())
 }
 
-fn add_look(notes: &mut Vec<Note>, look: &Look) -> Result<(), OutOfMemory>
-    ensures { OnOk result (notes.new.items ≡ notes.old.items ++ look_notes look.now) }
+/// Adds the notes of paths that were removed, by their fates. The notes of a run are put in order at last.
+pub fn name_removals(notes: &mut Vec<Note>, rows: &[(Path, Fate)]) -> Result<(), OutOfMemory>
+    ensures { OnOk result (notes.new.items ≡ notes.old.items ++ removal_notes rows.now) }
 {
-    let Some(why) = why_named(look.seen) else {
+    for row in rows {
+        add_note(notes, &row.0, removal_why(row.1))?;
+    }
+    Ok(())
+}
+
+fn add_looks(notes: &mut Vec<Note>, looks: &[Look]) -> Result<(), OutOfMemory>
+    ensures { OnOk result (notes.new.items ≡ notes.old.items ++ flat_map look_notes looks.now) }
+{
+    for look in looks {
+        add_note(notes, &look.path, why_named(look.seen))?;
+    }
+    Ok(())
+}
+
+// Adds the note of this path, if there is a reason to name it.
+fn add_note(notes: &mut Vec<Note>, path: &Path, why: Option<Why>) -> Result<(), OutOfMemory>
+    ensures { OnOk result (notes.new.items ≡ notes.old.items ++ notes_by path.now (option_to_list why)) }
+{
+    let Some(why) = why else {
         return Ok(());
     };
     notes.push(Note {
-        path: look.path.copy()?,
+        path: path.copy()?,
         why,
         dest: false,
     })?;
@@ -66,5 +88,34 @@ fn why_named(seen: Seen) -> Option<Why>
         Seen::At(_) => None,
         Seen::Absent => Some(Why::Gone),
         Seen::Failed => Some(Why::FailedNewer),
+    }
+}
+
+// Why an entry that was to be copied is named, if it is.
+fn copy_why(fate: Fate) -> Option<Why>
+    ensures { option_to_list result ≡ copy_whys fate }
+{
+    match fate {
+        Fate::Done => None,
+        Fate::Failed => Some(Why::FailedCopy),
+        Fate::Conflict => Some(Why::Conflict),
+        Fate::Skipped => Some(Why::Skipped),
+        Fate::ParentFailed => Some(Why::Parent),
+        Fate::TooLong => Some(Why::LongTarget),
+        Fate::Changed | Fate::NotEmpty => Some(Why::Changed),
+    }
+}
+
+// Why a path that was to be removed is named, if it is.
+fn removal_why(fate: Fate) -> Option<Why>
+    ensures { option_to_list result ≡ removal_whys fate }
+{
+    match fate {
+        Fate::Done => None,
+        Fate::Failed => Some(Why::FailedRemove),
+        Fate::NotEmpty => Some(Why::NotEmpty),
+        Fate::Changed | Fate::Conflict | Fate::Skipped | Fate::ParentFailed | Fate::TooLong => Some(
+            Why::Changed,
+        ),
     }
 }

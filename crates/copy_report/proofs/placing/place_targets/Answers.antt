@@ -1,9 +1,8 @@
 use Rattle.std.proofs.Common.{rules, ◌≡◌, ◌<◌, ◌^◌, Ok, IfSome, subst}
 use Rattle.std.specs.List.{All}
 use Rattle.outside.specs.Count.{capped}
-use Rattle.tree_copy.specs.Placing.{IsWhy, placed_over}
+use Rattle.tree_copy.specs.Placing.{IsPair, IsWhy, placed_over}
 use Rattle.run_report.specs.Sides.{side_of}
-use Rattle.copy_report.specs.PrivateSteps.{HasPaths}
 use Rattle.copy_report.proofs.Placed.{places, are_placed, stops_placing, taken_back}
 use Rattle.copy_report.proofs.placing.place_targets.Goals as goal
 
@@ -48,4 +47,4 @@ returns-clause-placed g c =
     let here = subst (λ t. IfSome t (λ files. placed_over files dest sources ≡ Ok pairs)) c.in_ok-reader.ensures.told told.told in
     let all = places sources dest (tree c.args.files.now) (Ok pairs) told.ended.in_dir told.ended.over_dir told.ended.is_due here in
     are_placed c.placed_are_apart.ensures sources dest (tree c.args.files.now) pairs c.text.ensures.valid all told.sources
-    (subst (All HasPaths) c.deref.ensures.value c.see_ends.ensures)
+    (subst (All IsPair) c.deref.ensures.value c.see_ends.ensures)

@@ -1,8 +1,8 @@
 use Rattle.std.proofs.Common.{take}
 use Rattle.std.specs.List.{All}
-use Rattle.copy_report.specs.PrivateSteps.{HasPaths}
+use Rattle.tree_copy.specs.Placing.{IsPair}
 use Rattle.copy_report.proofs.placing.see_ends.Given as goal
 
 -- the pairs that were seen
 abbrev pub invariant-loop-pair : goal.invariant-loop-pair
-invariant-loop-pair l = All HasPaths (take l.pair-index l.pairs)
+invariant-loop-pair l = All IsPair (take l.pair-index l.pairs)

@@ -18,6 +18,6 @@ returns-clause-fits g c =
     let before = side_of (tree c.args.files.now) (count c.args.files.now) in
     let after = side_of (tree c.walk_side.new.files) (count c.walk_side.new.files) in
     let told = c.in_ok-list.ensures in
-    walk_fits c.nodes_have_paths.ensures c.entries_are_told.ensures c.args.sources.items c.args.pairs.now c.in_ok-list.field-0.list before after
+    walk_fits c.entries_have_parents.ensures c.entries_are_told.ensures c.args.sources.items c.args.pairs.now c.in_ok-list.field-0.list before after
     c.requires.placed told.walked
     c.in_ok-see_paths.ensures told.ascend

@@ -8,4 +8,7 @@ returns c = remove_succeeds (record {
   walks = c.fine_walks_name_nothing.ensures;
   order = c.nothing_to_order.ensures;
   told = c.entries_are_told.ensures;
+  go = c.whole_choices_go.ensures;
+  done = c.done_names_nothing.ensures;
+  still = c.still_counts.ensures;
 })

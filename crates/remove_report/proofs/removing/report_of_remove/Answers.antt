@@ -1,10 +1,7 @@
-use Rattle.std.proofs.Common.{rules, ◌∙◌, ◌++◌, ap, length, subst}
-use Rattle.tool_text.specs.Lines.{lines_of}
-use Rattle.tool_text.specs.Notes.{note_lines}
+use Rattle.std.proofs.Common.{rules, subst}
 use Rattle.run_report.specs.Sides.{side_of}
 use Rattle.remove_report.specs.Choosing.{Acts}
-use Rattle.remove_report.specs.PrivateActs.{rows_in}
-use Rattle.remove_report.specs.Removing.{remove_asked, removed_line}
+use Rattle.remove_report.specs.Removing.{remove_asked}
 use Rattle.remove_report.proofs.Steps.{chooses_by, stops_finding, leaves_all, leaves_others}
 use Rattle.remove_report.proofs.removing.report_of_remove.Goals as goal
 
@@ -15,24 +12,22 @@ returns-clause-reports g c =
     let asked = remove_asked c.args.task in
     let found = c.in_ok-found.found in
     let told = c.in_ok-found.ensures in
+    let texts = c.in_ok-report.ensures.told in
     let before = side_of (tree c.args.files.now) (count c.args.files.now) in
     let between = side_of (tree c.find_lower.new.files) (count c.find_lower.new.files) in
-    let after = side_of (tree c.remove_unless.new.files) (count c.remove_unless.new.files) in
-    let rows = rows_in c.in_ok-acted.acted in
-    let notes = c.in_ok-notes.notes.items in
-    let texts = c.in_ok-report.ensures in
+    let after = side_of (tree c.remove_and_tell.new.files) (count c.remove_and_tell.new.files) in
     record {
       chosen = found.chosen;
       named = found.notes.items;
       found = between.count;
       chooses = chooses_by asked c.args.now before between found.chosen found.notes.items found.account told.same told.finds;
-      rows = rows;
-      acts = subst (λ t. Acts asked.dryrun found.chosen rows (side_of t between.count) after) told.same c.in_ok-acted.ensures.acts;
-      notes = notes;
-      names = c.in_ok-notes.ensures;
-      prints = texts.out ∙ (λ i. lines_of found.chosen ++ removed_line (c.removed_in.ensures i) (length found.chosen) (length (c.deref.ensures.value i)));
-      tells = texts.notes ∙ ap note_lines c.deref.ensures.value;
-      counts = texts.failed ∙ ap length c.deref.ensures.value;
+      rows = texts.rows;
+      acts = subst (λ t. Acts asked.dryrun found.chosen texts.rows (side_of t between.count) after) told.same texts.acts;
+      notes = texts.notes;
+      names = texts.names;
+      prints = texts.prints;
+      tells = texts.tells;
+      counts = texts.counts;
     }
 
 pub returns-in_err-found-clause-stops : goal.returns-in_err-found-clause-stops
@@ -51,34 +46,6 @@ returns-in_err-found-clause-leaves g c =
     let after = side_of (tree c.find_lower.new.files) (count c.find_lower.new.files) in
     leaves_all (remove_asked c.args.task) c.args.now before after c.find_lower.ensures.same
 
-pub returns-in_err-acted-clause-leaves : goal.returns-in_err-acted-clause-leaves
-returns-in_err-acted-clause-leaves g c =
-    let tree = g.G.Plot.tree in
-    let count = g.G.Plot.count in
-    let asked = remove_asked c.args.task in
-    let found = c.in_ok-found.found in
-    let told = c.in_ok-found.ensures in
-    let acted = c.remove_unless.ensures in
-    let before = side_of (tree c.args.files.now) (count c.args.files.now) in
-    let between = side_of (tree c.find_lower.new.files) (count c.find_lower.new.files) in
-    let after = side_of (tree c.remove_unless.new.files) (count c.remove_unless.new.files) in
-    let chooses = chooses_by asked c.args.now before between found.chosen found.notes.items found.account told.same told.finds in
-    leaves_others asked c.args.now before between after found.chosen found.notes.items told.same chooses acted.dry acted.tells acted.rest
-
-pub returns-in_err-notes-clause-leaves : goal.returns-in_err-notes-clause-leaves
-returns-in_err-notes-clause-leaves g c =
-    let tree = g.G.Plot.tree in
-    let count = g.G.Plot.count in
-    let asked = remove_asked c.args.task in
-    let found = c.in_ok-found.found in
-    let told = c.in_ok-found.ensures in
-    let acted = c.remove_unless.ensures in
-    let before = side_of (tree c.args.files.now) (count c.args.files.now) in
-    let between = side_of (tree c.find_lower.new.files) (count c.find_lower.new.files) in
-    let after = side_of (tree c.remove_unless.new.files) (count c.remove_unless.new.files) in
-    let chooses = chooses_by asked c.args.now before between found.chosen found.notes.items found.account told.same told.finds in
-    leaves_others asked c.args.now before between after found.chosen found.notes.items told.same chooses acted.dry acted.tells acted.rest
-
 pub returns-in_err-report-clause-leaves : goal.returns-in_err-report-clause-leaves
 returns-in_err-report-clause-leaves g c =
     let tree = g.G.Plot.tree in
@@ -86,10 +53,10 @@ returns-in_err-report-clause-leaves g c =
     let asked = remove_asked c.args.task in
     let found = c.in_ok-found.found in
     let told = c.in_ok-found.ensures in
-    let acted = c.remove_unless.ensures in
+    let acted = c.remove_and_tell.ensures in
     let before = side_of (tree c.args.files.now) (count c.args.files.now) in
     let between = side_of (tree c.find_lower.new.files) (count c.find_lower.new.files) in
-    let after = side_of (tree c.remove_unless.new.files) (count c.remove_unless.new.files) in
+    let after = side_of (tree c.remove_and_tell.new.files) (count c.remove_and_tell.new.files) in
     let chooses = chooses_by asked c.args.now before between found.chosen found.notes.items found.account told.same told.finds in
     leaves_others asked c.args.now before between after found.chosen found.notes.items told.same chooses acted.dry acted.tells acted.rest
 
@@ -100,9 +67,9 @@ returns-clause-leaves g c =
     let asked = remove_asked c.args.task in
     let found = c.in_ok-found.found in
     let told = c.in_ok-found.ensures in
-    let acted = c.remove_unless.ensures in
+    let acted = c.remove_and_tell.ensures in
     let before = side_of (tree c.args.files.now) (count c.args.files.now) in
     let between = side_of (tree c.find_lower.new.files) (count c.find_lower.new.files) in
-    let after = side_of (tree c.remove_unless.new.files) (count c.remove_unless.new.files) in
+    let after = side_of (tree c.remove_and_tell.new.files) (count c.remove_and_tell.new.files) in
     let chooses = chooses_by asked c.args.now before between found.chosen found.notes.items found.account told.same told.finds in
     leaves_others asked c.args.now before between after found.chosen found.notes.items told.same chooses acted.dry acted.tells acted.rest

@@ -1,8 +1,8 @@
 use Rattle.std.proofs.Common.{◌∷◌, [], subst}
 use Rattle.run_report.specs.Sides.{side_of}
 use Rattle.run_entries.specs.Entries.{Walked}
-use Rattle.compare_report.proofs.Sided.{is_side, stats_told}
-use Rattle.compare_report.proofs.walking.walk_one.Goals as goal
+use Rattle.run_entries.proofs.Sided.{is_side, stats_told}
+use Rattle.run_entries.proofs.both.walk_one.Goals as goal
 
 pub returns-clause-side : goal.returns-clause-side
 returns-clause-side g c =

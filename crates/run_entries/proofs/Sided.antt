@@ -1,13 +1,15 @@
 -- What a walk of one path lists is a side, and has the stats that the tree tells.
-use Rattle.std.proofs.Common.{◌≡◌, ℕ, true, List, [], ◌∷◌, Option, Some, None, IfSome, sym, subst}
+use Rattle.std.proofs.Common.{◌≡◌, ℕ, ◌<◌, zero, suc, Bool, true, false, ◌||◌, List, [], ◌∷◌, Option, Some, None, IfSome, refl, ap, ◌∙◌, sym, subst, arith}
 use Rattle.std.specs.Prelude.{IsTrue}
 use Rattle.std.specs.List.{All, AllByRecursion, Contains, flat_map}
 use Rattle.std.specs.List.Sorted.{IsStrictlySortedBy}
 use Rattle.std.specs.FinMap.{get}
 use Rattle.std.specs.Option.{option_map}
 use Rattle.std.proofs.Math.ListN.{get_or}
+use Rattle.std.proofs.lemmas.Bool.{false≢true}
 use Rattle.std.proofs.lemmas.List.Elements.{recursion_from_All, All-from_recursion}
 use Rattle.path_text.specs.Path.{refusal}
+use Rattle.path_text.proofs.Fronts.{fronts_within}
 use Rattle.path_text.specs.Order.{path_cmp, is_within}
 use Rattle.outside.specs.Tree.{Files, Node, stat_of}
 use Rattle.outside.specs.declared.trees.Stat.{Stat}
@@ -15,21 +17,36 @@ use Rattle.flat_list.specs.declared.entries.Entry.{Entry}
 use Rattle.flat_list.specs.declared.entries.Mark.{Mark}
 use Rattle.flat_list.specs.declared.entries.Mark.TheVariants as mark
 use Rattle.flat_list.specs.Spelling.{paths}
-use Rattle.tree_walk.specs.Roots.{is_in_some}
+use Rattle.tree_walk.specs.Roots.{is_in, is_in_some}
 use Rattle.tree_walk.specs.Told.{stat_by, IsTold, EntriesAreTold}
 use Rattle.tree_walk.specs.Walk.{walk, answers_in}
 use Rattle.tree_cmp.specs.Readers.{StatsTold}
 use Rattle.tree_cmp.specs.Sides.{side, IsSide}
 use Rattle.run_report.specs.Sides.{Side}
 use Rattle.run_entries.specs.Entries.{Walked}
-use Rattle.compare_report.proofs.Inside.{within_by_in, all_in}
+
+-- ---- what is in a root of one path is in that path
+
+-- one root is the path that was given
+first_one : (top root : List ℕ) (k : ℕ) → k < 1 → get_or (top ∷ []) k root ≡ root → top ≡ root
+first_one top root zero l e = e
+first_one top root (suc k) l e = absurd (omega (arith, l))
+
+all_in : (roots : List (List ℕ)) (top x : List ℕ) → AllByRecursion (Contains (top ∷ [])) roots → is_in_some roots x ≡ true → is_in x top ≡ true
+all_in [] top x h e = absurd (false≢true e)
+all_in (root ∷ roots) top x h e = elim (is_in x root) as (λ b. is_in x root ≡ b → (b || is_in_some roots x) ≡ true → is_in x top ≡ true) [
+  | true ↦ λ here e. ap (is_in x) (first_one top root h.0.0 h.0.1 h.0.2) ∙ here
+  | false ↦ λ off e. all_in roots top x h.1 e
+] refl e
+
+-- ---- a side
 
 entries_within : (roots : List (List ℕ)) (top : List ℕ) (es : List Entry) → refusal top ≡ None → AllByRecursion (Contains (top ∷ [])) roots →
     AllByRecursion (λ e. refusal e.path ≡ None) es → AllByRecursion (λ e. is_in_some roots e.path ≡ true) es →
     AllByRecursion (λ e. IsTrue (is_within e.path top)) es
 entries_within roots top [] v among valid h = tt
 entries_within roots top (e ∷ es) v among valid h =
-    (within_by_in e.path top valid.0 v (all_in roots top e.path among h.0), entries_within roots top es v among valid.1 h.1)
+    (fronts_within e.path top valid.0 v (all_in roots top e.path among h.0), entries_within roots top es v among valid.1 h.1)
 
 pub is_side : (top : List ℕ) (es : List Entry) (before after : Side) → refusal top ≡ None → Walked (top ∷ []) es before after →
     All (λ e. refusal e.path ≡ None) es →

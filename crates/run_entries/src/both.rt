@@ -1,4 +1,4 @@
-//! The two walks of a comparison.
+//! The walks of a source and of a destination, each by itself.
 ghost use Rattle.std.specs.Prelude.{◌≡◌, ◌≤◌, ◌∷◌, [], All, length, OnOk, IfOk, IfErr, IfSome, None, true};
 ghost use Rattle.path_text.specs.Path.{refusal};
 ghost use Rattle.outside.specs.Count.{RoseBy};
@@ -8,15 +8,15 @@ ghost use Rattle.tree_cmp.specs.Sides.{side, IsSide};
 ghost use Rattle.tool_words.specs.Asked.{roots};
 ghost use Rattle.tool_words.specs.Limits.{CommonWithin};
 ghost use Rattle.run_report.specs.Sides.{side_of};
+ghost use Rattle.run_entries.specs.Both.{AreSides, StopsWalking, WalksBoth};
 ghost use Rattle.run_entries.specs.Entries.{Walked};
 ghost use Rattle.run_entries.specs.Stopping.{StopsListing};
-ghost use Rattle.compare_report.specs.Comparing.{WalksBoth, StopsWalking};
-ghost use Rattle.compare_report.specs.PrivateSides.{AreSides};
 
+use crate::accounts::Entries;
+use crate::starting::walk_side;
 use flat_list::FlatList;
 use outside::Ground;
 use path_text::{OutOfMemory, Path};
-use run_entries::{Entries, walk_side};
 use run_report::Stop;
 use std::alloc::Global;
 use std::sync::Wait;
@@ -24,17 +24,21 @@ use std::thread::Threads;
 use tool_words::Common;
 use tree_walk::entries_are_told;
 
-// The lists of both sides, and the paths that they were walked from.
+/// The lists of both sides, and the paths that they were walked from.
 #[derive(Drop)]
-pub(crate) struct Sides {
-    pub(crate) left: FlatList,
-    pub(crate) left_top: Path,
-    pub(crate) right: FlatList,
-    pub(crate) right_top: Path,
+pub struct Sides {
+    /// The entries of the source.
+    pub left: FlatList,
+    /// The source.
+    pub left_top: Path,
+    /// The entries of the destination.
+    pub right: FlatList,
+    /// The destination.
+    pub right_top: Path,
 }
 
 /// Walks the source, and then the destination.
-pub(crate) fn walk_sides<T: Threads + Wait + Sync, G: Ground>(
+pub fn walk_sides<T: Threads + Wait + Sync, G: Ground>(
     rt: &T,
     alloc: Global,
     common: &Common,
@@ -104,8 +108,8 @@ fn one_path(alloc: Global, path: &Path) -> Result<Vec<Path>, OutOfMemory>
     Ok(paths)
 }
 
-// Each path of a list is a path, which the list does not tell of itself.
-fn see_paths(list: &FlatList) -> Result<(), OutOfMemory>
+/// Sees each path of a list, so that it is known to be a path, which the list does not tell of itself.
+pub fn see_paths(list: &FlatList) -> Result<(), OutOfMemory>
     ensures { OnOk result (All (λ e. refusal e.path ≡ None) list.now) }
 {
     let mut cursor = list.cursor()?;

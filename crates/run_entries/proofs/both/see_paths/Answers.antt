@@ -2,7 +2,7 @@ use Rattle.std.proofs.Common.{rules, ◌≡◌, ◌∙◌, ◌+◌, ◌-◌, ◌
 use Rattle.std.proofs.lemmas.List.Elements.{All-append, All-cons, All-nil}
 use Rattle.flat_list.specs.declared.entries.Entry.{Entry}
 use Rattle.path_text.specs.Path.{refusal}
-use Rattle.copy_report.proofs.walking.see_paths.Goals as goal
+use Rattle.run_entries.proofs.both.see_paths.Goals as goal
 
 pub loop-cursor-preserved : goal.loop-cursor-preserved
 loop-cursor-preserved c =

@@ -1,7 +1,7 @@
 use Rattle.std.proofs.Common.{◌≡◌, ◌-◌, ◌≤◌, None, length, take}
 use Rattle.std.specs.List.{All}
 use Rattle.path_text.specs.Path.{refusal}
-use Rattle.copy_report.proofs.walking.see_paths.Given as goal
+use Rattle.run_entries.proofs.both.see_paths.Given as goal
 
 -- the paths of the entries that were passed
 abbrev pub invariant-loop-cursor : goal.invariant-loop-cursor

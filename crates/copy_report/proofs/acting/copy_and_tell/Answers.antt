@@ -1,0 +1,35 @@
+use Rattle.std.proofs.Common.{◌≡◌, ◌∙◌, ◌∷◌, ap, length, subst, sym}
+use Rattle.std.specs.List.{count_by}
+use Rattle.tool_text.specs.NoteOrder.{AreInOrder}
+use Rattle.tool_text.specs.Notes.{note_lines}
+use Rattle.tree_copy.specs.Copying.{bytes_copied, is_done}
+use Rattle.run_report.specs.Sides.{side_of}
+use Rattle.copy_report.specs.Copying.{copied_line, copy_failures}
+use Rattle.copy_report.proofs.Steps.{items_are}
+use Rattle.copy_report.proofs.acting.copy_and_tell.Goals as goal
+
+pub returns-clause-told : goal.returns-clause-told
+returns-clause-told g c =
+    let tree = g.G.Plot.tree in
+    let count = g.G.Plot.count in
+    let pairs = c.args.pairs.now in
+    let list = c.args.list.now in
+    let before = side_of (tree c.args.files.now) (count c.args.files.now) in
+    let after = side_of (tree c.copy_entries.new.files) (count c.copy_entries.new.files) in
+    let acted = c.in_ok-copied.ensures in
+    let rows = c.in_ok-copied.copied.0 in
+    let notes = c.in_ok-notes.notes.items in
+    let texts = c.in_ok-report.ensures in
+    let named = c.deref.ensures.value ∙ c.into_rows-rows.ensures in
+    let printed = c.deref-2.ensures.value ∙ c.into_rows-rows.ensures in
+    record {
+      rows = rows;
+      copies = acted.copies;
+      notes = notes;
+      names = subst (λ rs. AreInOrder (copy_failures list rs) notes) named c.in_ok-notes.ensures;
+      prints = texts.out ∙ (λ i. copied_line ((c.copied-done.ensures ∙ acted.copied) i)
+          ((ap length printed ∙ items_are pairs list rows before after acted.copies) i) ((c.bytes-bytes.ensures ∙ acted.bytes) i)
+          (length (c.deref-3.ensures.value i)));
+      tells = texts.notes ∙ ap note_lines c.deref-3.ensures.value;
+      counts = texts.failed ∙ ap length c.deref-3.ensures.value;
+    }

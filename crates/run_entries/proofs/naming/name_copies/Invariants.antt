@@ -1,0 +1,6 @@
+use Rattle.std.proofs.Common.{◌≡◌, ◌++◌, take}
+use Rattle.run_entries.specs.Naming.{copy_notes}
+use Rattle.run_entries.proofs.naming.name_copies.Given as goal
+
+abbrev pub invariant-loop-row : goal.invariant-loop-row
+invariant-loop-row l = l.notes.items ≡ l.fn.notes.items ++ copy_notes (take l.row-index l.rows)
