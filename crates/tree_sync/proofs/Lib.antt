@@ -1,0 +1,17 @@
+mod After
+mod Alike
+mod Apart
+mod Both
+mod Contents
+mod Cursor
+mod Equal
+mod Fits
+mod Kept
+mod Lawful
+mod Members
+mod Named
+mod Passed
+mod Placed
+mod Planned
+mod Sided
+mod Steps

@@ -1,0 +1,39 @@
+use Rattle.std.proofs.Common.{◌≡◌, ◌∙◌, [], ap, cond, filter, map, refl, subst, sym}
+use Rattle.std.specs.List.Sorted.{IsStrictlySortedBy}
+use Rattle.path_text.specs.Order.{path_cmp}
+use Rattle.path_text.proofs.Moved.{below_keeps_order}
+use Rattle.tree_cmp.specs.Sides.{side}
+use Rattle.tree_sync.specs.PrivateSteps.{is_chosen_off, masks_of}
+use Rattle.tree_sync.proofs.Kept.{masks_ascend}
+use Rattle.tree_sync.proofs.Planned.{full_plan}
+use Rattle.tree_sync.proofs.Steps.{reads_show}
+use Rattle.tree_sync.proofs.planning.make_plan.Goals as goal
+
+pub returns-then-not-branch-clause-causes : goal.returns-then-not-branch-clause-causes
+returns-then-not-branch-clause-causes g c =
+    reads_show g.G.Reader.Tree.gives c.in_ok-found.found c.in_ok-failed.failed.items c.in_ok-changed.changed.items
+    (c.in_ok-failed.ensures ∙ ap (map (λ m. m.path)) c.failed.ensures) (c.in_ok-changed.ensures ∙ ap (map (λ m. m.path)) c.changed.ensures)
+    c.in_ok-found.ensures.causes
+
+pub chosen-requires-clause-masks : goal.chosen-requires-clause-masks
+chosen-requires-clause-masks g c =
+    let l = side c.args.pair.now.source c.args.source.now in
+    let are : c.deref.result.now ≡ masks_of l = c.deref.ensures.value ∙ c.in_ok-kept.ensures.masks in
+    subst (IsStrictlySortedBy path_cmp) (sym are) (masks_ascend below_keeps_order l c.requires.left)
+
+pub returns-clause-plan : goal.returns-clause-plan
+returns-clause-plan g c =
+    let r = side c.args.pair.now.target c.args.dest.now in
+    full_plan c.args.pair.now c.args.source.now c.args.dest.now c.args.delete (g.G.Plot.tree c.args.files.now) c.in_ok-found.found
+    c.in_ok-found.ensures.found _ (record {
+      failed = c.in_ok-failed.ensures ∙ ap (map (λ m. m.path)) c.failed.ensures;
+      changed = c.in_ok-changed.ensures ∙ ap (map (λ m. m.path)) c.changed.ensures;
+    }) (sym c.if-not-branch.false ∙ c.in_ok-is_there.ensures) c.in_ok-kept.field-0 c.in_ok-kept.ensures refl refl
+    (c.in_ok-chosen.ensures ∙ ap (λ masks. cond c.args.delete (filter (is_chosen_off masks r c.in_ok-found.found.rows) c.args.dest.now) [])
+    c.deref.ensures.value)
+
+pub returns-clause-causes : goal.returns-clause-causes
+returns-clause-causes g c =
+    reads_show g.G.Reader.Tree.gives c.in_ok-found.found c.in_ok-failed.failed.items c.in_ok-changed.changed.items
+    (c.in_ok-failed.ensures ∙ ap (map (λ m. m.path)) c.failed.ensures) (c.in_ok-changed.ensures ∙ ap (map (λ m. m.path)) c.changed.ensures)
+    c.in_ok-found.ensures.causes
