@@ -12,13 +12,13 @@ const VERSION: &str = "mfu 0.1.0\n";
 
 const TOOLS: &str = "usage: mfu TOOL WORD...
 
-Lists, searches, compares, copies and deletes directory trees. Paths are
-absolute.
+Lists, searches, compares, copies, syncs and deletes trees. Paths are absolute.
 
   dwalk PATH...       list trees, in path order
   dfind PATH...       list the entries that pass tests (name, size, age, ...)
   dcmp SOURCE DEST    compare two trees, contents included
   dcp SOURCE... DEST  copy trees
+  dsync SOURCE DEST   make DEST equal to SOURCE
   drm PATH...         delete trees, or the entries that pass tests
   dtest N             walk a made-up tree of N nodes in memory
 
@@ -28,7 +28,7 @@ absolute.
 Exit status:
   0  success
   1  finished; standard error names what could not be read, copied or deleted
-  2  command line or dcp's destination refused; standard error says why
+  2  command line, or DEST of dcp or dsync, refused; standard error says why
   3  out of memory                4  output could not be written; no message
   5  more than 4,194,304 entries
   6  stopped by --stop-after; standard error says how far it came
@@ -249,6 +249,68 @@ Messages on standard error, besides those of dwalk about the sources:
                                 copied
 ";
 
+const DSYNC: &str = "usage: mfu dsync [OPTION]... SOURCE DEST
+
+Makes DEST equal to SOURCE: copies the entries that are missing or different,
+and keeps those that are equal. With --delete also deletes everything in DEST
+that SOURCE does not have. Does not ask first. Prints how many entries were
+copied, deleted and kept, and the number of messages. Paths are absolute.
+
+  --delete       delete what only DEST has, mounted file systems included
+  --hosts N      run in N threads, 1 to 64 (default 1)
+  --ranks N      divide the work among N ranks, 1 to 64 (default 4)
+
+  mfu dcmp /a /b             shows how /b differs from /a
+  mfu dsync /a /b            copies to /b; entries that only /b has stay
+  mfu dsync --delete /a /b   deletes those entries, too
+
+Exit status:
+  0  success
+  1  finished; standard error names what could not be read, copied or deleted
+  2  command line refused; or refused overlap: one of the paths is equal to or
+     below the other; or refused no directory: the parent of DEST is not a
+     directory. Nothing was changed
+  3  out of memory; DEST may have been changed
+  4  output could not be written; the work was done
+  5  too many entries; nothing was changed
+
+The contents of SOURCE go to DEST itself, not into a directory below it. DEST
+need not exist, but its parent directory must. An entry is kept if DEST has a
+directory for a directory, a file with the same bytes, or a link with the same
+text. Any other entry is copied as by dcp: a file or a link is deleted and made
+anew. An entry of another kind is deleted first with --delete; without it, it
+stays, with a message. Before a first --delete look at what dcmp prints.
+
+Files are equal by their bytes; all files of equal size are read. Permissions,
+owners and times are neither compared nor copied: set umask 077 first to keep a
+copy private. Holes are written as zeros.
+
+Sockets, pipes and devices of SOURCE are skipped, with a message. In DEST
+everything at and below such a path stays. So does everything below a directory
+that on either side could not be listed or has paths over 4,095 bytes, and each
+name that is not valid UTF-8. If SOURCE cannot be looked at, nothing is changed.
+
+An interrupted run prints nothing: run it again. After a run with status 0 a
+second one copies and deletes nothing. If other users can change the trees, run
+dsync as their owner, not as root.
+
+--split, --seed and --width are as for dwalk, and do not change what is done.
+
+Messages on standard error, besides those of dwalk about both sides:
+  failed read P                 the file P could not be read; it is not kept
+  failed copy P                 P could not be copied; its target may be missing
+                                or incomplete
+  conflict P                    something of another kind is at the target of P
+  skipped P                     P is a socket, a pipe or a device
+  parent P                      the directory above P was not copied
+  long target P                 the target of P is over 4,095 bytes
+  failed remove P               P could not be deleted
+  not empty P                   P is a directory with something left in it
+  changed P                     P or its target changed during the run
+  failed stat P                 also if P is the parent of DEST; then nothing is
+                                changed
+";
+
 const DRM: &str = "usage: mfu drm [OPTION]... [TEST]... PATH...
 
 Deletes every entry of each tree that passes all tests; without tests, the whole
@@ -355,6 +417,7 @@ fn help_of(tool: &str) -> Option<&'static str> {
         "dfind" => Some(DFIND),
         "dcmp" => Some(DCMP),
         "dcp" => Some(DCP),
+        "dsync" => Some(DSYNC),
         "drm" => Some(DRM),
         "dtest" => Some(DTEST),
         _ => None,
@@ -377,7 +440,7 @@ mod tests {
 
     #[test]
     fn help_is_the_whole_command_line(rt: HostRuntime) -> Result<(), Fail> {
-        let cases: [(&[&str], Option<&str>); 29] = [
+        let cases: [(&[&str], Option<&str>); 30] = [
             (&["--help"], Some("usage: mfu TOOL")),
             (&["-h"], Some("usage: mfu TOOL")),
             (&["help"], Some("usage: mfu TOOL")),
@@ -389,6 +452,7 @@ mod tests {
             (&["dfind", "--help"], Some("usage: mfu dfind")),
             (&["dcmp", "--help"], Some("usage: mfu dcmp")),
             (&["dcp", "--help"], Some("usage: mfu dcp")),
+            (&["dsync", "--help"], Some("usage: mfu dsync")),
             (&["drm", "--help"], Some("usage: mfu drm")),
             (&["dtest", "--help"], Some("usage: mfu dtest")),
             (&["dnone", "--help"], None),

@@ -1,7 +1,7 @@
 //! The line that the program adds on a terminal after words that it refused: which rule is broken, and where to read.
 use path_text::OutOfMemory;
 use std::alloc::Global;
-use tool_words::{Cause, Refusal};
+use tool_words::{Cause, Command, Refusal};
 
 const TOO_LONG: usize = 4096;
 
@@ -19,8 +19,13 @@ pub fn hint(alloc: Global, words: &[String], refusal: Refusal) -> Result<String,
     })
 }
 
-/// The line about a copy that was refused since its sources can't go to its destination.
-pub const COPY: &str = "mfu: the sources cannot go to DEST; see mfu help dcp\n";
+/// The line about a command that was refused though its words were not: its sources can't go to its destination.
+pub fn placing(command: &Command) -> &'static str {
+    match command {
+        Command::Sync { .. } => "mfu: DEST cannot be made equal to SOURCE; see mfu help dsync\n",
+        _ => "mfu: the sources cannot go to DEST; see mfu help dcp\n",
+    }
+}
 
 // What follows `mfu help` for the page that has the rule.
 fn page_of(words: &[String], refusal: Refusal) -> &'static str {
@@ -32,6 +37,7 @@ fn page_of(words: &[String], refusal: Refusal) -> &'static str {
         "dfind" => " dfind",
         "dcmp" => " dcmp",
         "dcp" => " dcp",
+        "dsync" => " dsync",
         "drm" => " drm",
         "dtest" => " dtest",
         _ => "",
@@ -62,7 +68,7 @@ fn text_at(words: &[String], k: usize) -> &str {
 fn missing_in(tool: &str) -> &'static str {
     match tool {
         "dtest" => "the number of nodes is missing",
-        "dcmp" => "give two paths, SOURCE and DEST",
+        "dcmp" | "dsync" => "give two paths, SOURCE and DEST",
         "dcp" => "give two paths or more, SOURCE... DEST",
         _ => "a path is missing",
     }
@@ -71,7 +77,7 @@ fn missing_in(tool: &str) -> &'static str {
 fn surplus_in(tool: &str) -> &'static str {
     match tool {
         "dtest" => "give one number of nodes",
-        "dcmp" => "give two paths, SOURCE and DEST",
+        "dcmp" | "dsync" => "give two paths, SOURCE and DEST",
         _ => "give no path with --input or --restart",
     }
 }
@@ -164,7 +170,7 @@ mod tests {
     use tool_words::read_words;
 
     // Command lines that are refused, and the hint about each.
-    const LINES: [(&str, &str); 26] = [
+    const LINES: [(&str, &str); 29] = [
         ("", "mfu: a tool is missing; see mfu help\n"),
         (
             "dwolk /t",
@@ -198,6 +204,18 @@ mod tests {
         (
             "dcp /a",
             "mfu: give two paths or more, SOURCE... DEST; see mfu help dcp\n",
+        ),
+        (
+            "dsync --delete /a",
+            "mfu: give two paths, SOURCE and DEST; see mfu help dsync\n",
+        ),
+        (
+            "dsync /a /b /c",
+            "mfu: word 3, \"/c\": give two paths, SOURCE and DEST; see mfu help dsync\n",
+        ),
+        (
+            "dsync --delete=all /a /b",
+            "mfu: word 1, \"--delete=all\": this option takes no value; see mfu help dsync\n",
         ),
         (
             "dtest",

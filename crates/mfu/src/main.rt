@@ -91,8 +91,8 @@ fn help_for(alloc: Global, words: &[String]) -> Option<&'static str> {
 fn print_hint<W: Write + Drop>(alloc: Global, words: &[String], to: W) {
     let mut to = RealSink::make(to);
     match read_words(alloc, words) {
-        Ok(_) => {
-            let _ = put_all(&mut to, hints::COPY.as_bytes());
+        Ok(command) => {
+            let _ = put_all(&mut to, hints::placing(&command).as_bytes());
         }
         Err(why) => {
             if let Some(refusal) = why.refusal() {

@@ -59,7 +59,7 @@ system's name of the error, the call and the path, as in EACCES list /a/b.
   changed P        something replaced, shortened or removed P during the run
   not empty P      something in P was not chosen, or could not be deleted
   conflict P       another kind of entry is at the target of P
-  skipped P        P is a link or a special file, which dcp does not copy
+  skipped P        P is a socket, a pipe or a device, which is never copied
   parent P         a message names the directory above P
   long target P    the target of P would be over 4,095 bytes
   unnamed P K      K names in P are not valid UTF-8
@@ -68,7 +68,7 @@ system's name of the error, the call and the path, as in EACCES list /a/b.
 
 Runs that end without a report:
   refused word K   the command line; words count from 0, the tool
-  refused ...      dcp: where the sources would go
+  refused ...      dcp, dsync: the paths, or the parent of DEST
   out of memory    the list did not fit
   too many entries more than 4,194,304; walk parts of the tree
   stopped ...      --stop-after; the checkpoint is saved
@@ -81,11 +81,12 @@ const STATUSES: &str = "Exit statuses:
   0  Success. dcmp: also if the trees differ.
   1  Finished, but standard error names paths that could not be read, copied or
      deleted. mfu help messages says where to look.
-  2  The command line was refused, or dcp's destination was. Nothing was done.
-  3  Out of memory. dcp and drm may have changed some entries.
+  2  The command line was refused, or the destination of dcp or dsync was.
+     Nothing was done.
+  3  Out of memory. dcp, dsync and drm may have changed some entries.
   4  Standard output or standard error could not be written, for example on a
-     full disk or after | head. There is no message. dcp and drm have finished
-     their work; only the report is incomplete.
+     full disk or after | head. mfu prints no message. dcp, dsync and drm have
+     finished their work; only the report is incomplete.
   5  More than 4,194,304 entries. Nothing was copied or deleted.
   6  The walk stopped because of --stop-after, and its checkpoint is saved.
   7  A list file or a checkpoint is damaged; standard error names the line.
@@ -105,19 +106,20 @@ const PERMISSIONS: &str = "The permissions that mfu needs, as any program does:
   to make an entry       write and search (wx) on its directory
   to delete an entry     wx on its directory; where that is sticky, as /tmp,
                          you must own the entry or the directory
-  to write into a file   dcp makes a new one, so wx on its directory
+  to write into a file   dcp and dsync make a new one: wx on its directory
 
 A failure is a message, and the run goes on: failed list, failed stat, failed
 read, failed copy, failed remove. Set MFU_ERRORS=FILE to see the system's
 reason: EACCES and EPERM are permissions, EROFS a file system that is read-only.
 
-dcp copies no permissions, owners or times. New files get 0666 and directories
-0777, less the umask, also where a private file is replaced. For a private copy:
+dcp and dsync copy no permissions, owners or times. New files get 0666 and
+directories 0777, less the umask, also where a private file is replaced. For a
+private copy:
 
   umask 077; mfu dcp /a /b; rsync -a --size-only /a/ /b/
 
 As root every directory can be read and deleted. If other users can change the
-tree, run drm and dcp as its owner instead.
+tree, run drm, dcp and dsync as its owner instead.
 ";
 
 /// The text of a topic.

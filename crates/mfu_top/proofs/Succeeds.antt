@@ -1,11 +1,12 @@
 -- When a run succeeds, a line a tool.
 use Rattle.std.proofs.Common.{inl, ℕ}
-use Rattle.tool_words.specs.Asked.{Asked, list, stage, compare, copy, remove, test}
+use Rattle.tool_words.specs.Asked.{Asked, list, stage, compare, copy, sync, remove, test}
 use Rattle.compare_report.specs.Laws.{FineCompareSucceeds}
 use Rattle.copy_report.specs.Laws.{FineCopySucceeds}
 use Rattle.list_report.specs.Laws.{FineListSucceeds, FineTestSucceeds}
 use Rattle.remove_report.specs.Laws.{FineRemoveSucceeds}
 use Rattle.stage_report.specs.Laws.{FineStageSucceeds}
+use Rattle.sync_report.specs.Laws.{FineSyncSucceeds}
 use Rattle.run_report.specs.Sides.{Side}
 use Rattle.run_report.specs.Stops.{Succeeds}
 use Rattle.mfu_top.specs.Run.{Reports, Stops, RunSucceeds, FineRunsSucceed}
@@ -16,6 +17,7 @@ pub record Rooms : Type 0 where
   pub stages : FineStageSucceeds
   pub compares : FineCompareSucceeds
   pub copies : FineCopySucceeds
+  pub syncs : FineSyncSucceeds
   pub removes : FineRemoveSucceeds
   pub tests : FineTestSucceeds
 
@@ -30,6 +32,7 @@ succeeds rooms (stage asked) now before after within fine =
     let s = rooms.stages asked before after within fine in record { names_nothing = s.names_nothing; ends_in_time = s.stops_in_time }
 succeeds rooms (compare asked) now before after within fine = in_time (compare asked) now before after (rooms.compares asked before after within fine)
 succeeds rooms (copy asked) now before after within fine = in_time (copy asked) now before after (rooms.copies asked before after within fine)
+succeeds rooms (sync asked) now before after within fine = in_time (sync asked) now before after (rooms.syncs asked before after within fine)
 succeeds rooms (remove asked) now before after within fine = in_time (remove asked) now before after (rooms.removes asked now before after within fine)
 succeeds rooms (test asked) now before after within fine =
     let s = rooms.tests asked now within fine in

@@ -1,7 +1,7 @@
 -- What a run does, a line a tool. Each word stands in the tool's own room.
 use Rattle.std.specs.Prelude.{◌≡◌, ◌⊎◌, ℕ, Bool, true, false, is_some}
 use Rattle.tool_words.specs.Limits.{Within}
-use Rattle.tool_words.specs.Asked.{Asked, list, stage, compare, copy, remove, test}
+use Rattle.tool_words.specs.Asked.{Asked, list, stage, compare, copy, sync, remove, test}
 use Rattle.run_report.specs.declared.reports.Report.{Report}
 use Rattle.run_report.specs.declared.statuses.Status.{Status}
 use Rattle.run_report.specs.declared.statuses.Status.TheVariants as status
@@ -14,6 +14,7 @@ use Rattle.list_report.specs.Lists.{ReportsList, StopsList, LeavesList, FineList
 use Rattle.list_report.specs.Tests.{ReportsTest, StopsTest, LeavesTest, FineTest}
 use Rattle.remove_report.specs.Removing.{ReportsRemove, StopsRemove, LeavesRemove, FineRemove}
 use Rattle.stage_report.specs.Stages.{ReportsStage, StopsStage, LeavesStage, FineStage}
+use Rattle.sync_report.specs.Syncing.{ReportsSync, StopsSync, LeavesSync, FineSync}
 
 -- what it reports that ends with status 0, 1 or 4, of the side before and the side after it
 abbrev pub Reports : Asked → ℕ → Side → Side → Report → Type 0
@@ -21,6 +22,7 @@ Reports (list asked) now before after report = ReportsList asked now before afte
 Reports (stage asked) now before after report = ReportsStage asked before after report
 Reports (compare asked) now before after report = ReportsCompare asked before after report
 Reports (copy asked) now before after report = ReportsCopy asked before after report
+Reports (sync asked) now before after report = ReportsSync asked before after report
 Reports (remove asked) now before after report = ReportsRemove asked now before after report
 Reports (test asked) now before after report = ReportsTest asked now report
 
@@ -30,6 +32,7 @@ Stops (list asked) before after why = StopsList asked before after why
 Stops (stage asked) before after why = StopsStage asked before after why
 Stops (compare asked) before after why = StopsCompare asked before after why
 Stops (copy asked) before after why = StopsCopy asked before after why
+Stops (sync asked) before after why = StopsSync asked before after why
 Stops (remove asked) before after why = StopsRemove asked before after why
 Stops (test asked) before after why = StopsTest why
 
@@ -39,6 +42,7 @@ Leaves (list asked) now before after = LeavesList asked before.tree after.tree
 Leaves (stage asked) now before after = LeavesStage asked before.tree after.tree
 Leaves (compare asked) now before after = LeavesCompare asked before.tree after.tree
 Leaves (copy asked) now before after = LeavesCopy asked before after
+Leaves (sync asked) now before after = LeavesSync asked before.tree after.tree
 Leaves (remove asked) now before after = LeavesRemove asked now before after
 Leaves (test asked) now before after = LeavesTest before.tree after.tree
 
@@ -48,6 +52,7 @@ is_apart (list asked) = false
 is_apart (stage asked) = false
 is_apart (compare asked) = false
 is_apart (copy asked) = false
+is_apart (sync asked) = false
 is_apart (remove asked) = false
 is_apart (test asked) = true
 
@@ -57,6 +62,7 @@ Fine (list asked) now before after = FineList asked before after
 Fine (stage asked) now before after = FineStage asked before after
 Fine (compare asked) now before after = FineCompare asked before after
 Fine (copy asked) now before after = FineCopy asked before after
+Fine (sync asked) now before after = FineSync asked before after
 Fine (remove asked) now before after = FineRemove asked now before after
 Fine (test asked) now before after = FineTest asked
 
@@ -66,6 +72,7 @@ may_stop (list asked) = false
 may_stop (stage asked) = is_some asked.stop_after
 may_stop (compare asked) = false
 may_stop (copy asked) = false
+may_stop (sync asked) = false
 may_stop (remove asked) = false
 may_stop (test asked) = false
 

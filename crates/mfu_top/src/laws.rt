@@ -6,6 +6,7 @@ use copy_report::fine_copy_succeeds;
 use list_report::{fine_list_succeeds, fine_test_succeeds};
 use remove_report::fine_remove_succeeds;
 use stage_report::fine_stages_succeed;
+use sync_report::fine_sync_succeeds;
 
 /// Where nothing stands against a run, it names nothing, and stops for want of memory alone, or with a checkpoint where its words say so.
 pub fn fine_runs_succeed()
@@ -15,6 +16,7 @@ pub fn fine_runs_succeed()
     fine_stages_succeed();
     fine_compare_succeeds();
     fine_copy_succeeds();
+    fine_sync_succeeds();
     fine_remove_succeeds();
     fine_test_succeeds();
 }

@@ -17,6 +17,7 @@ use run_report::{Report, Stop};
 use std::alloc::Global;
 use std::sync::Wait;
 use std::thread::Threads;
+use sync_report::{SyncTask, report_of_sync};
 use tool_words::Command;
 
 /// Does what is asked for, and makes the texts.
@@ -94,6 +95,20 @@ where
                 dest,
             };
             report_of_copy(rt, alloc, task, files)
+        }
+        Command::Sync {
+            common,
+            source,
+            dest,
+            delete,
+        } => {
+            let task = SyncTask {
+                common,
+                source,
+                dest,
+                delete,
+            };
+            report_of_sync(rt, alloc, task, files)
         }
         Command::Remove {
             common,

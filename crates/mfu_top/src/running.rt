@@ -24,8 +24,8 @@ use std::sync::Wait;
 use std::thread::Threads;
 use tool_words::{Command, WordsError, read_words, words_ask_within_limits};
 
-/// Does all that the program does, in this order: reads the words; places the targets of a copy; looks at the paths of
-/// `--newer`; reads a list or a checkpoint, or walks; writes a checkpoint where the walk was cut, and else copies it, removes what is chosen of it, or writes it to a file, where that is asked for;
+/// Does all that the program does, in this order: reads the words; places the targets of a copy or a sync; looks at the paths of
+/// `--newer`; reads a list or a checkpoint, or walks; writes a checkpoint where the walk was cut, and else copies it, syncs by it, removes what is chosen of it, or writes it to a file, where that is asked for;
 /// writes `out`, and then `notes`. All memory is taken before the first byte goes to `out`. `now` is in seconds since 1970. The status's number is the program's exit status.
 pub fn run<T: Threads + Wait + Sync, G: Ground + Send, O: Sink, E: Sink>(
     rt: &T,

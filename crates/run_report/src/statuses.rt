@@ -7,7 +7,7 @@ pub enum Status {
     Done,
     /// All was done, and the notes name what could not be looked at.
     Named,
-    /// The words were refused, or the destination of a copy was.
+    /// The words were refused, or the destination of dcp or dsync was.
     Words,
     /// No memory was found.
     Memory,

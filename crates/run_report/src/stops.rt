@@ -17,7 +17,7 @@ pub enum Trouble {
 pub enum Stop {
     /// No memory was found.
     OutOfMemory,
-    /// Of the sources and the targets of a copy two are equal, or one stands under another.
+    /// Of the sources and the targets of dcp or dsync two are equal, or one stands under another.
     Overlap,
     /// A copy of several sources is to go to what is no directory; or no directory is there to hold a target, or its path would be
     /// too long.

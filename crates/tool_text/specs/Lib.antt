@@ -3,3 +3,4 @@ pub mod Notes
 pub mod Runs
 pub mod NoteOrder
 pub mod Rows
+pub mod Synced

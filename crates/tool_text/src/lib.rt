@@ -9,6 +9,7 @@
 //! - [`in_order`] puts notes from several places into one order, each once: in path order, of one path those of a destination
 //!   last, and then in the order of [`Why`].
 //! - [`put_rows`] appends what is told of a comparison: for each row the signs of its four fields and its path, and their counts.
+//! - [`put_synced`] appends the line of what dsync copied, removed and kept, which are [`SyncCounts`].
 //! - [`put_trace`], [`put_shares`] and [`put_progress`] append what is told of a run: a line for each of its events, for what
 //!   each rank did, and for each count as it rose.
 //! - [`put_line`] appends a line of another kind, and [`put_path_line`] one that names a path.
@@ -22,7 +23,8 @@
 //! Proved: each call appends exactly the text of its definition, and one that is refused for want of memory leaves the text as
 //! it was. Laws say that the notes of a list in path order stand in their order ([`notes_stand_in_order`]), and that notes have
 //! one order ([`order_is_unique`]), which is empty for no notes alone ([`nothing_to_order`]). Definitions stand in `specs/`:
-//! `Lines` (entries and the summary), `Rows` (a comparison), `Notes`, `NoteOrder`, `Runs`.
+//! `Lines` (entries and the summary), `Rows` (a comparison), `Synced` (dsync), `Notes`, `NoteOrder`,
+//! `Runs`.
 #![tactic(auto)]
 
 mod comparing;
@@ -33,12 +35,14 @@ mod noting;
 mod numbers;
 mod ordering;
 mod running;
+mod syncing;
 mod texts;
 
 pub use laws::{notes_stand_in_order, nothing_to_order, order_is_unique};
 pub use noting::{Note, Why, notes_of};
 pub use ordering::in_order;
+pub use syncing::SyncCounts;
 pub use texts::{
     Text, put_line, put_list, put_notes, put_path_line, put_progress, put_rows, put_shares,
-    put_summary, put_trace,
+    put_summary, put_synced, put_trace,
 };

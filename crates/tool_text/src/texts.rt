@@ -5,12 +5,14 @@ ghost use Rattle.tool_text.specs.Lines.{lines_of, summary_line};
 ghost use Rattle.tool_text.specs.Notes.{note_lines};
 ghost use Rattle.tool_text.specs.Rows.{rows_text};
 ghost use Rattle.tool_text.specs.Runs.{trace_lines, share_lines, progress_lines};
+ghost use Rattle.tool_text.specs.Synced.{synced_line};
 
 use crate::comparing::add_rows;
 use crate::drafts::Draft;
 use crate::listing::{add_list, add_summary};
 use crate::noting::{Note, add_notes};
 use crate::running::{add_progress, add_shares, add_trace};
+use crate::syncing::{SyncCounts, add_synced};
 use circle_run::Share;
 use flat_list::{FlatList, Summary};
 use path_text::{OutOfMemory, Path};
@@ -93,6 +95,15 @@ pub fn put_rows(text: &mut Text, rows: &Compared, failed: u64) -> Result<(), Out
     ensures err { OnErr result (text.new ≡ text.old) }
 {
     let put = add_rows(&mut text.draft, rows, failed);
+    text.draft.end(put)
+}
+
+/// Appends the line of what dsync did. A refusal leaves the text.
+pub fn put_synced(text: &mut Text, counts: &SyncCounts) -> Result<(), OutOfMemory>
+    ensures ok { OnOk result (text.new ≡ text.old ++ synced_line counts.now) }
+    ensures err { OnErr result (text.new ≡ text.old) }
+{
+    let put = add_synced(&mut text.draft, counts);
     text.draft.end(put)
 }
 

@@ -253,6 +253,7 @@ set_fine (option.Test name) text s f = mapped Fine _ (test_in name text) (λ tes
 set_fine option.Newer text s f = mapped Fine _ (path_in text) (λ path e. with_newer s path f (the_path text path e))
 set_fine option.Want text s f = mapped Fine _ (want_in text) (λ want e. with_want s want f (the_want text want e))
 set_fine option.Dryrun text s f = tt
+set_fine option.Delete text s f = tt
 set_fine option.StopAfter text s f =
     mapped Fine _ (number_in 1 (2 ^ 63 - 1) text) (λ n e. with_stop s n f (number_within 1 (2 ^ 63 - 1) text n e))
 set_fine option.Lists text s f = mapped Fine _ (path_in text) (λ path e. with_lists s path f (the_path text path e))
@@ -263,6 +264,7 @@ raise_fine option.Trace s f = with_common s _ f (same_limits s.common _ f.common
 raise_fine option.Shares s f = with_common s _ f (same_limits s.common _ f.common refl refl refl refl)
 raise_fine option.Progress s f = with_common s _ f (same_limits s.common _ f.common refl refl refl refl)
 raise_fine option.Dryrun s f = f
+raise_fine option.Delete s f = f
 raise_fine option.Restart s f = f
 raise_fine _ s f = tt
 
@@ -286,6 +288,7 @@ set_leaves (option.Test name) text s = mapped (SameTrace s) _ (test_in name text
 set_leaves option.Newer text s = mapped (SameTrace s) _ (path_in text) (λ path e. refl)
 set_leaves option.Want text s = mapped (SameTrace s) _ (want_in text) (λ want e. refl)
 set_leaves option.Dryrun text s = tt
+set_leaves option.Delete text s = tt
 set_leaves option.StopAfter text s = mapped (SameTrace s) _ (number_in 1 (2 ^ 63 - 1) text) (λ n e. refl)
 set_leaves option.Lists text s = mapped (SameTrace s) _ (path_in text) (λ path e. refl)
 set_leaves option.Restart text s = tt
@@ -325,6 +328,7 @@ raise_stands option.Trace place options s h = λ t. now_stands options place
 raise_stands option.Shares place options s h = still_stands options _ s h
 raise_stands option.Progress place options s h = still_stands options _ s h
 raise_stands option.Dryrun place options s h = still_stands options _ s h
+raise_stands option.Delete place options s h = still_stands options _ s h
 raise_stands option.Restart place options s h = still_stands options _ s h
 raise_stands _ place options s h = tt
 
@@ -370,6 +374,7 @@ plain_fine tool.Walk given place word f = path_fine given place (path_in word) f
 plain_fine tool.Find given place word f = path_fine given place (path_in word) f (path_valid word)
 plain_fine tool.Cmp given place word f = path_fine given place (path_in word) f (path_valid word)
 plain_fine tool.Copy given place word f = path_fine given place (path_in word) f (path_valid word)
+plain_fine tool.Sync given place word f = path_fine given place (path_in word) f (path_valid word)
 plain_fine tool.Remove given place word f = lower_fine given place (lower_path_in word) f (path_lower word)
 plain_fine tool.Test given place word f = number_fine given place (number_in 1 1000000 word) f (number_fits word)
 
@@ -619,6 +624,10 @@ asked_fine wanting tool.Copy given f free common =
     both EndsWithin Within (sources_by wanting given.paths) _
     (sources_fine wanting given.paths f.paths)
     (λ ends e. record { common = common; sources = e.sources; dest = e.dest; some = e.some })
+asked_fine wanting tool.Sync given f free common =
+    both SidesWithin Within (sides_by wanting given.paths given.places) _
+    (sides_fine wanting given.paths given.places f.paths)
+    (λ sides v. record { common = common; source = v.0; dest = v.1 })
 asked_fine wanting tool.Remove given f free common =
     both (All Lower) Within (targets_by wanting given.lower) _
     (targets_fine wanting given.lower f.lower)

@@ -58,6 +58,14 @@ pub record CopyAsked : Type 0 where
   pub sources : List (List ℕ)
   pub dest : List ℕ
 
+-- what dsync is asked for: how each of the two walks is to go, the source, the destination that is to be made equal to it, and whether
+-- entries that the destination alone has are to be removed
+pub record SyncAsked : Type 0 where
+  pub common : Common
+  pub source : List ℕ
+  pub dest : List ℕ
+  pub delete : Bool
+
 -- what drm is asked for: how the walk is to go, the paths from which it goes, what is chosen of it, and whether nothing is to be removed
 pub record RemoveAsked : Type 0 where
   pub common : Common
@@ -70,6 +78,7 @@ pub data Asked : Type 0 where
   stage : StageAsked → Asked
   compare : CompareAsked → Asked
   copy : CopyAsked → Asked
+  sync : SyncAsked → Asked
   remove : RemoveAsked → Asked
   test : TestAsked → Asked
 
@@ -111,5 +120,6 @@ asked_by (command.Find common start tests sort output) =
     list (record { common = common; start = start_in start; chosen = Some (choice_in tests); sort = sort; output = output })
 asked_by (command.Cmp common left right wants) = compare (record { common = common; left = left; right = right; wants = wants.items })
 asked_by (command.Copy common sources dest) = copy (record { common = common; sources = sources.items; dest = dest })
+asked_by (command.Sync common source dest delete) = sync (record { common = common; source = source; dest = dest; delete = delete })
 asked_by (command.Remove common paths tests dryrun) = remove (record { common = common; roots = paths.items; choice = choice_in tests; dryrun = dryrun })
 asked_by (command.Test common nodes tests) = test (record { common = common; nodes = nodes; choice = choice_in tests })

@@ -2,8 +2,8 @@
 use Rattle.std.specs.Prelude.{◌≡◌, ◌≢◌, ℕ, ◌<◌, ◌≤◌, ◌^◌, List, [], ◌∷◌, length, All, Ok, None, IfSome, true, false}
 use Rattle.path_text.specs.Path.{refusal}
 use Rattle.tool_words.specs.declared.commands.Common.{Common}
-use Rattle.tool_words.specs.Asked.{Origin, roots, input, Choice, ListAsked, StageAsked, CompareAsked, CopyAsked, RemoveAsked, TestAsked, Asked, list, stage}
-use Rattle.tool_words.specs.Asked.{compare, copy, remove, test}
+use Rattle.tool_words.specs.Asked.{Origin, roots, input, Choice, ListAsked, StageAsked, CompareAsked, CopyAsked, SyncAsked, RemoveAsked, TestAsked}
+use Rattle.tool_words.specs.Asked.{Asked, list, stage, compare, copy, sync, remove, test}
 use Rattle.tool_words.specs.Words.{reading}
 
 abbrev pub Valid : List ℕ → Type 0
@@ -56,6 +56,11 @@ pub record WithinCopy (asked : CopyAsked) : Type 0 where
   pub dest : Valid asked.dest
   pub some : 1 ≤ length asked.sources
 
+pub record WithinSync (asked : SyncAsked) : Type 0 where
+  pub common : CommonWithin asked.common
+  pub source : Valid asked.source
+  pub dest : Valid asked.dest
+
 -- nothing is removed at `/`
 pub record WithinRemove (asked : RemoveAsked) : Type 0 where
   pub common : CommonWithin asked.common
@@ -73,6 +78,7 @@ Within (list asked) = WithinList asked
 Within (stage asked) = WithinStage asked
 Within (compare asked) = WithinCompare asked
 Within (copy asked) = WithinCopy asked
+Within (sync asked) = WithinSync asked
 Within (remove asked) = WithinRemove asked
 Within (test asked) = WithinTest asked
 

@@ -1,5 +1,5 @@
 -- The tools and their options: how each option is written, and what its value sets. Names of options are those of mpiFileUtils' dwalk,
--- dfind, dcmp, dcp and drm and of libcircle, as far as these have them.
+-- dfind, dcmp, dcp, dsync and drm and of libcircle, as far as these have them.
 use Rattle.std.specs.Prelude.{ℕ, ◌-◌, ◌^◌, Bool, true, List, [], ◌∷◌, ◌++◌, false, if◌then◌else◌, codes, find, Option, Some, None}
 use Rattle.std.specs.List.{flat_map}
 use Rattle.std.specs.Option.{option_map}
@@ -23,6 +23,7 @@ tool_named text =
     else if is (codes "dfind") text then Some tool.Find
     else if is (codes "dcmp") text then Some tool.Cmp
     else if is (codes "dcp") text then Some tool.Copy
+    else if is (codes "dsync") text then Some tool.Sync
     else if is (codes "drm") text then Some tool.Remove
     else if is (codes "dtest") text then Some tool.Test
     else None
@@ -49,13 +50,14 @@ text_of (option.Test name.Minutes) = codes "--mmin"
 text_of option.Newer = codes "--newer"
 text_of option.Want = codes "-o"
 text_of option.Dryrun = codes "--dryrun"
+text_of option.Delete = codes "--delete"
 text_of option.StopAfter = codes "--stop-after"
 text_of option.Lists = codes "--lists"
 text_of option.Restart = codes "--restart"
 
 -- the options of a group: how a walk is to go; what is told of it; where a list comes from, in which order it is printed, and where it is
--- saved; the tests; what is saved of a comparison; whether something is removed; and after how much a walk stops, where its lists are, and
--- whether it goes on from those of an earlier one
+-- saved; the tests; what is saved of a comparison; whether entries of the destination alone are removed; whether nothing is removed; and after
+-- how much a walk stops, where its lists are, and whether it goes on from those of an earlier one
 abbrev pub options_in : Group → List OptionName
 options_in group.Common = option.Ranks ∷ option.Hosts ∷ option.Split ∷ option.Seed ∷ option.Width ∷ []
 options_in group.Telling = option.Trace ∷ option.Shares ∷ option.Progress ∷ []
@@ -64,6 +66,7 @@ options_in group.Testing =
     option.Test name.Name ∷ option.Test name.Path ∷ option.Test name.Kind ∷ option.Test name.Size ∷ option.Test name.Days ∷ option.Test name.Minutes
     ∷ option.Newer ∷ []
 options_in group.Comparing = option.Want ∷ []
+options_in group.Deleting = option.Delete ∷ []
 options_in group.Removing = option.Dryrun ∷ []
 options_in group.Stopping = option.StopAfter ∷ option.Lists ∷ option.Restart ∷ []
 
@@ -73,6 +76,7 @@ groups_of tool.Walk = group.Common ∷ group.Telling ∷ group.Listing ∷ group
 groups_of tool.Find = group.Common ∷ group.Telling ∷ group.Listing ∷ group.Testing ∷ []
 groups_of tool.Cmp = group.Common ∷ group.Comparing ∷ []
 groups_of tool.Copy = group.Common ∷ []
+groups_of tool.Sync = group.Common ∷ group.Deleting ∷ []
 groups_of tool.Remove = group.Common ∷ group.Testing ∷ group.Removing ∷ []
 groups_of tool.Test = group.Common ∷ group.Telling ∷ group.Testing ∷ []
 
@@ -88,7 +92,8 @@ abbrev pub standard : Common
 standard = record { ranks = 4; hosts = 1; split = Equal; seed = 0; width = 64; trace = false; shares = false; progress = false }
 
 -- what options set: how a walk is to go, the order, the files, the tests, the paths of `--newer`, what is saved of a comparison, whether
--- nothing is to be removed, after how many paths of one rank a walk stops, the folder of its lists, and whether it goes on from them
+-- nothing is to be removed, whether entries of the destination alone are to be removed, after how many paths of one rank a walk stops, the
+-- folder of its lists, and whether it goes on from them
 pub record Set : Type 0 where
   pub common : Common
   pub sort : Option (Field × Bool)
@@ -98,6 +103,7 @@ pub record Set : Type 0 where
   pub newer : List (List ℕ)
   pub wants : List Want
   pub dryrun : Bool
+  pub delete : Bool
   pub stop_after : Option ℕ
   pub lists : Option (List ℕ)
   pub restart : Bool
@@ -112,6 +118,7 @@ unset = record {
   newer = [];
   wants = [];
   dryrun = false;
+  delete = false;
   stop_after = None;
   lists = None;
   restart = false;
@@ -141,6 +148,7 @@ set (option.Test name) text s = option_map (λ test. record s { tests = s.tests 
 set option.Newer text s = option_map (λ path. record s { newer = s.newer ++ path ∷ [] }) (path_in text)
 set option.Want text s = option_map (λ want. record s { wants = s.wants ++ want ∷ [] }) (want_in text)
 set option.Dryrun text s = None
+set option.Delete text s = None
 set option.StopAfter text s = option_map (λ n. record s { stop_after = Some n }) (number_in 1 (2 ^ 63 - 1) text)
 set option.Lists text s = option_map (λ path. record s { lists = Some path }) (path_in text)
 set option.Restart text s = None
@@ -151,5 +159,6 @@ raise option.Trace s = Some (record s { common = record s.common { trace = true 
 raise option.Shares s = Some (record s { common = record s.common { shares = true } })
 raise option.Progress s = Some (record s { common = record s.common { progress = true } })
 raise option.Dryrun s = Some (record s { dryrun = true })
+raise option.Delete s = Some (record s { delete = true })
 raise option.Restart s = Some (record s { restart = true })
 raise _ s = None

@@ -11,7 +11,7 @@ use Rattle.tool_words.specs.declared.tables.Tool.{Tool}
 use Rattle.tool_words.specs.declared.tables.Tool.TheVariants as tool
 use Rattle.tool_words.specs.declared.turns.Turn.{Turn}
 use Rattle.tool_words.specs.declared.turns.Turn.TheVariants as turn
-use Rattle.tool_words.specs.Asked.{Origin, roots, input, Choice, Asked, list, walk_by, compare, copy, remove, test}
+use Rattle.tool_words.specs.Asked.{Origin, roots, input, Choice, Asked, list, walk_by, compare, copy, sync, remove, test}
 use Rattle.tool_words.specs.Clashes.{clash_in}
 use Rattle.tool_words.specs.Refusals.{refuse}
 use Rattle.tool_words.specs.Table.{tool_named, text_of, option_named, Set, unset, adds_up, set, raise}
@@ -76,6 +76,7 @@ with_plain tool.Walk given place word = with_path given place (path_in word)
 with_plain tool.Find given place word = with_path given place (path_in word)
 with_plain tool.Cmp given place word = with_path given place (path_in word)
 with_plain tool.Copy given place word = with_path given place (path_in word)
+with_plain tool.Sync given place word = with_path given place (path_in word)
 with_plain tool.Remove given place word = with_lower given place (lower_path_in word)
 with_plain tool.Test given place word = with_number given place (number_in 1 1000000 word)
 
@@ -188,6 +189,9 @@ compare_of s left right = compare (record { common = s.common; left = left; righ
 abbrev pub copy_of : Set → List (List ℕ) → List ℕ → Asked
 copy_of s sources dest = copy (record { common = s.common; sources = sources; dest = dest })
 
+abbrev pub sync_of : Set → List ℕ → List ℕ → Asked
+sync_of s source dest = sync (record { common = s.common; source = source; dest = dest; delete = s.delete })
+
 abbrev pub remove_of : Set → List (List ℕ) → Asked
 remove_of s paths = remove (record { common = s.common; roots = paths; choice = choice_of s; dryrun = s.dryrun })
 
@@ -201,6 +205,7 @@ asked_of wanting tool.Walk given =
 asked_of wanting tool.Find given = and_then (start_by wanting given.settings.input given.paths given.places) (λ start. Ok (find_of given.settings start))
 asked_of wanting tool.Cmp given = and_then (sides_by wanting given.paths given.places) (λ sides. Ok (compare_of given.settings sides.0 sides.1))
 asked_of wanting tool.Copy given = and_then (sources_by wanting given.paths) (λ ends. Ok (copy_of given.settings ends.0 ends.1))
+asked_of wanting tool.Sync given = and_then (sides_by wanting given.paths given.places) (λ sides. Ok (sync_of given.settings sides.0 sides.1))
 asked_of wanting tool.Remove given = and_then (targets_by wanting given.lower) (λ paths. Ok (remove_of given.settings paths))
 asked_of wanting tool.Test given = and_then (nodes_by wanting given.numbers given.places) (λ nodes. Ok (test_of given.settings nodes))
 

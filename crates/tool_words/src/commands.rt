@@ -127,6 +127,17 @@ pub enum Command {
         /// Where it is copied to.
         dest: Path,
     },
+    /// The making of a destination equal to a source.
+    Sync {
+        /// How each of the two walks is to go.
+        common: Common,
+        /// The source.
+        source: Path,
+        /// The destination.
+        dest: Path,
+        /// Whether entries that the destination alone has are to be removed.
+        delete: bool,
+    },
     /// The removal of what is chosen.
     Remove {
         /// How the walk is to go.

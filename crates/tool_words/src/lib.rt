@@ -1,17 +1,18 @@
 //! The words of a command line: what they ask for, or which of them is refused.
 //!
 //! [`read_words`] reads the words behind the program's name, of which word 0 names a tool, and gives a [`Command`]. There are
-//! six tools:
+//! seven tools:
 //!
 //! - `dwalk` lists what stands below paths, one or more, or reads the list from a file; or it stops on the way, or goes on from
 //!   where an earlier one stopped, and has no path then.
 //! - `dfind` does the same, and keeps what meets all tests.
 //! - `dcmp` compares what stands below two paths, a source and a destination.
 //! - `dcp` copies what stands below paths, one or more, to the destination, which is one more path and the last.
+//! - `dsync` makes the second of two paths equal to the first.
 //! - `drm` removes what stands below paths, one or more and none of them `/`, and meets all tests.
 //! - `dtest` walks a made-up tree, and sums up what meets all tests. It takes one number, of nodes, 1 to 1,000,000.
 //!
-//! Each takes options. These are of all six:
+//! Each takes options. These are of all seven:
 //!
 //! | Option | Value | Without it |
 //! |---|---|---|
@@ -54,7 +55,8 @@
 //! A bound is `N`, `+N` or `-N`: equal to N, greater, or less.
 //!
 //! `dcmp` has `-o`, whose value is an expression on the rows of the comparison and the path of a file, divided by the first `:`.
-//! `drm` has the flag `--dryrun`, with which nothing is removed.
+//! `dsync` has the flag `--delete`, with which it also removes the entries that the destination alone has. `drm` has the flag
+//! `--dryrun`, with which nothing is removed.
 //!
 //! A value stands behind the first `=` or is the next word, whatever that is. Tests and `-o` add up, also where an option says
 //! two of them; every other option is given once. A number has 1 to 40 decimal digits, the first of which may be 0. A path may have
@@ -69,6 +71,7 @@
 //! dfind --input /l --newer /stamp       // of the list in `/l` what changed after `/stamp`
 //! dcmp -o EXIST=ONLY_SRC:/l /p /q        // compares `/q` to `/p`, and saves what `/p` alone has
 //! dcp /p /q /r                          // copies `/p` and `/q` to `/r`
+//! dsync --delete /p /q                  // makes `/q` equal to `/p`, and removes what is in `/q` alone
 //! drm --dryrun --name core.* /t          // names what it would remove of `/t`
 //! dtest --type d 100000                 // the directories of a tree of 100,000 nodes
 //! dwalk --x /t                          // UnknownOption(1)
@@ -85,6 +88,9 @@
 //! dtest 10 20                           // TooManyPaths(2)
 //! dcmp /p                               // NoPath(2)
 //! dcp /p                                // NoPath(2)
+//! dsync /p /q /r                        // TooManyPaths(3)
+//! dsync --delete /p --delete            // Clash(3)
+//! dsync --delete=x /p /q                // BadValue(1)
 //! dcmp /p -o FOO=DIFFER:/r /q           // BadValue(3)
 //! drm /t /                              // BadValue(2)
 //! dwalk --                              // NoPath(2)
@@ -105,9 +111,10 @@
 //!
 //! A tool, a group of options and an option are each one line of a table in `specs/Table.antt` (how it is written, which
 //! options the tool takes, what a value sets), and one arm in `tables` and in `settings`. Options that may not stand together
-//! are a line each of `specs/Clashes.antt`, and a method of `lines`. `specs/Value.antt` and `values` say which texts are
-//! values, `specs/Words.antt` and `lines` how words are read one by one, and `specs/Asked.antt` what a command asks for. What a
-//! test's value says is `find_tests`', and what an expression says `tree_cmp`'s.
+//! are a line each of `specs/Clashes.antt`, and a method of `clashes`. `specs/Value.antt` and `values` say which texts are
+//! values, and `specs/Words.antt` and `lines` how words are read one by one. `specs/Asked.antt` says what a command asks for,
+//! and `asking` makes it, by a method a tool. What a test's value says is `find_tests`', and what an expression says
+//! `tree_cmp`'s.
 //!
 //! # What is proved
 //!
@@ -116,6 +123,8 @@
 //! the command keeps. What words ask for is within the limits that a run takes ([`words_ask_within_limits`]).
 #![tactic(auto)]
 
+mod asking;
+mod clashes;
 mod commands;
 mod errors;
 mod laws;

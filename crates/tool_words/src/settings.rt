@@ -27,6 +27,7 @@ pub(crate) struct Settings {
     pub(crate) newer: Vec<Path>,
     pub(crate) wants: Vec<Want>,
     pub(crate) dryrun: bool,
+    pub(crate) delete: bool,
     pub(crate) stop_after: Option<u64>,
     pub(crate) lists: Option<Path>,
     pub(crate) restart: bool,
@@ -37,7 +38,7 @@ impl Model for Settings {
 
     ghost Value = { Set };
 
-    ghost view = { λ s. record { common = s.common; sort = s.sort; input = s.input; output = s.output; tests = s.tests.items; newer = s.newer.items; wants = s.wants.items; dryrun = s.dryrun; stop_after = s.stop_after; lists = s.lists; restart = s.restart } };
+    ghost view = { λ s. record { common = s.common; sort = s.sort; input = s.input; output = s.output; tests = s.tests.items; newer = s.newer.items; wants = s.wants.items; dryrun = s.dryrun; delete = s.delete; stop_after = s.stop_after; lists = s.lists; restart = s.restart } };
 }
 
 impl Settings {
@@ -54,6 +55,7 @@ impl Settings {
             newer: Vec::new(alloc),
             wants: Vec::new(alloc),
             dryrun: false,
+            delete: false,
             stop_after: None,
             lists: None,
             restart: false,
@@ -79,7 +81,7 @@ impl Settings {
             OptionName::Seed => self.common.seed = number_in(0, u64::MAX, text).ok_or(bad)?,
             OptionName::Width => self.common.width = small_number_in(2, 64, text).ok_or(bad)?,
             OptionName::Trace | OptionName::Shares | OptionName::Progress => return Err(bad),
-            OptionName::Dryrun | OptionName::Restart => return Err(bad),
+            OptionName::Dryrun | OptionName::Delete | OptionName::Restart => return Err(bad),
             OptionName::Sort => self.sort = Some(order_in(text).ok_or(bad)?),
             OptionName::Input => self.input = Some(path_in(alloc, text, place)?),
             OptionName::Output => self.output = Some(path_in(alloc, text, place)?),
@@ -104,6 +106,7 @@ impl Settings {
             OptionName::Shares => self.common.shares = true,
             OptionName::Progress => self.common.progress = true,
             OptionName::Dryrun => self.dryrun = true,
+            OptionName::Delete => self.delete = true,
             OptionName::Restart => self.restart = true,
             _ => return false,
         }

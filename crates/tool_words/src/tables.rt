@@ -16,6 +16,8 @@ pub(crate) enum Tool {
     Cmp,
     /// `dcp`
     Copy,
+    /// `dsync`
+    Sync,
     /// `drm`
     Remove,
     /// `dtest`
@@ -32,6 +34,7 @@ impl Tool {
             "dfind" => Some(Tool::Find),
             "dcmp" => Some(Tool::Cmp),
             "dcp" => Some(Tool::Copy),
+            "dsync" => Some(Tool::Sync),
             "drm" => Some(Tool::Remove),
             "dtest" => Some(Tool::Test),
             _ => None,
@@ -56,6 +59,7 @@ impl Tool {
             ],
             Tool::Cmp => &[Group::Common, Group::Comparing],
             Tool::Copy => &[Group::Common],
+            Tool::Sync => &[Group::Common, Group::Deleting],
             Tool::Remove => &[Group::Common, Group::Testing, Group::Removing],
             Tool::Test => &[Group::Common, Group::Telling, Group::Testing],
         }
@@ -94,7 +98,9 @@ pub(crate) enum Group {
     Testing,
     /// What is saved of a comparison.
     Comparing,
-    /// Whether something is removed.
+    /// Whether entries of the destination alone are removed.
+    Deleting,
+    /// Whether nothing is removed.
     Removing,
     /// After how much a walk stops, where its lists are, and whether it goes on from those of an earlier one.
     Stopping,
@@ -124,6 +130,7 @@ impl Group {
                 OptionName::Newer,
             ],
             Group::Comparing => &[OptionName::Want],
+            Group::Deleting => &[OptionName::Delete],
             Group::Removing => &[OptionName::Dryrun],
             Group::Stopping => &[
                 OptionName::StopAfter,
@@ -159,6 +166,7 @@ pub(crate) enum OptionName {
     Newer,
     Want,
     Dryrun,
+    Delete,
     StopAfter,
     Lists,
     Restart,
@@ -191,6 +199,7 @@ impl OptionName {
             OptionName::Newer => "--newer",
             OptionName::Want => "-o",
             OptionName::Dryrun => "--dryrun",
+            OptionName::Delete => "--delete",
             OptionName::StopAfter => "--stop-after",
             OptionName::Lists => "--lists",
             OptionName::Restart => "--restart",

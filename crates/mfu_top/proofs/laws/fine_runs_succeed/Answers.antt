@@ -7,6 +7,7 @@ returns c = succeeds (record {
   stages = c.fine_stages_succeed.ensures;
   compares = c.fine_compare_succeeds.ensures;
   copies = c.fine_copy_succeeds.ensures;
+  syncs = c.fine_sync_succeeds.ensures;
   removes = c.fine_remove_succeeds.ensures;
   tests = c.fine_test_succeeds.ensures;
 })

@@ -1,0 +1,134 @@
+-- What the walks of a pair that was placed give: lists that can be synced.
+use Rattle.std.proofs.Common.{◌≡◌, ℕ, true, false, cond, List, [], ◌∷◌, length, Option, Some, None, IfSome, refl, ap, ◌∙◌, subst, arith}
+use Rattle.std.proofs.Common.{append-nil}
+use Rattle.std.proofs.lemmas.List.Elements.{All-from_recursion}
+use Rattle.std.proofs.lemmas.List.Sums.{sum_by-cons}
+use Rattle.std.specs.Prelude.{Bool, ◌≤◌, is_none, is_some}
+use Rattle.std.proofs.lemmas.Bool.{false≢true}
+use Rattle.std.specs.FinMap.{get}
+use Rattle.std.specs.List.{Contains, flat_map}
+use Rattle.std.specs.List.Sorted.{IsStrictlySortedBy}
+use Rattle.path_text.specs.Path.{refusal}
+use Rattle.outside.specs.Tree.{Files, IsTree, Node, NodesHavePaths}
+use Rattle.flat_list.specs.declared.entries.Entry.{Entry}
+use Rattle.tree_cmp.specs.Sides.{IsSide, side}
+use Rattle.tree_copy.specs.declared.pairs.Pair.{Pair}
+use Rattle.tree_walk.proofs.Inside.{in_itself}
+use Rattle.tree_walk.specs.Roots.{IsRoots, RootsAreUnique, is_in, is_in_some}
+use Rattle.tree_walk.specs.Told.{EntriesAreTold, EntriesHaveParents}
+use Rattle.tree_walk.specs.Walk.{WalkListsAll, answers_in, walk}
+use Rattle.run_report.specs.Sides.{Side, side_of}
+use Rattle.run_entries.specs.Both.{AreSides, WalksBoth}
+use Rattle.run_entries.specs.Entries.{Walked}
+use Rattle.run_entries.specs.declared.both.Sides.{Sides}
+use Rattle.tree_sync.specs.Syncing.{CanSync, FitsSync}
+use Rattle.sync_report.specs.PrivateSteps.{AreWhole, IsPlaced, IsReady}
+use Rattle.sync_report.proofs.Below.{apart, not_root}
+use Rattle.sync_report.proofs.Lists.{or_left}
+use Rattle.sync_report.proofs.Walked.{IsWalk, all_tell, are_told, have_parents, whole}
+
+-- ---- a path is the root of itself
+
+at_most_one : (b : Bool) → cond b 1 0 ≤ 1
+at_most_one true = omega arith
+at_most_one false = omega arith
+
+pub own_root : (top : List ℕ) → IsRoots (top ∷ []) (top ∷ [])
+unfolding IsStrictlySortedBy
+own_root top = record {
+  among = All-from_recursion (Contains (top ∷ [])) (top ∷ []) ((0, omega arith, refl), tt);
+  ascend = (tt, tt);
+  apart = λ x. omega (arith, sum_by-cons (λ r. cond (is_in x r) 1 0) top [], at_most_one (is_in x top));
+  cover = All-from_recursion (λ path. is_in_some (top ∷ []) path ≡ true) (top ∷ []) (or_left (is_in top top) false (in_itself top), tt);
+}
+
+-- ---- what was walked is a walk
+
+pub record Laws : Type 0 where
+  pub tells : EntriesAreTold
+  pub parents : EntriesHaveParents
+  pub lists : WalkListsAll
+  pub unique : RootsAreUnique
+  pub paths : NodesHavePaths
+
+pub one_root : RootsAreUnique → (top : List ℕ) (list : List Entry) (before after : Side) → refusal top ≡ None →
+    (w : Walked (top ∷ []) list before after) → w.roots ≡ top ∷ []
+one_root unique top list before after v w =
+    unique (top ∷ []) w.roots (top ∷ []) (All-from_recursion (λ path. refusal path ≡ None) (top ∷ []) (v, tt)) w.are (own_root top)
+
+pub from_top : RootsAreUnique → (top : List ℕ) (list : List Entry) (files : Files) (n : ℕ) (after : Side) → refusal top ≡ None →
+    Walked (top ∷ []) list (side_of (Some files) n) after → (list ≡ walk files (answers_in list) top) × IsTree files
+from_top unique top list files n after v w =
+    let same = one_root unique top list (side_of (Some files) n) after v w in (
+      w.told ∙ ap (flat_map (walk files (answers_in list))) same ∙ append-nil (walk files (answers_in list) top),
+      w.valid (omega (arith, ap length same)),
+    )
+
+not_none : (o : Option Node) → is_some o ≡ true → is_none o ≡ false
+not_none None e = absurd (false≢true e)
+not_none (Some n) e = refl
+
+-- ---- both of them
+
+module _ (laws : Laws) (pair : Pair) (sides : Sides) where
+  -- both lists are walks of one tree
+  record AreBoth (files : Files) : Type 0 where
+    source : IsWalk files (answers_in sides.left) pair.source sides.left
+    dest : IsWalk files (answers_in sides.right) pair.target sides.right
+
+  walks : (tree : Option Files) (n : ℕ) (after : Side) → IsPlaced pair tree → CanSync pair sides.left sides.right →
+      WalksBoth pair.source pair.target sides.left sides.right (side_of tree n) after → IfSome tree AreBoth
+  walks None n after p can w = tt
+  walks (Some files) n after p can w =
+      let off = apart pair.source pair.target p.apart in
+      let source = from_top laws.unique pair.source sides.left files n (side_of (Some files) w.between) p.from w.source in
+      let dest = from_top laws.unique pair.target sides.right files w.between after p.to w.destination in
+      record {
+        source = record {
+          tree = source.1;
+          valid = p.from;
+          low = not_root pair.target pair.source p.to off.second;
+          is = source.0;
+          is_side = can.left;
+        };
+        dest = record { tree = dest.1; valid = p.to; low = not_root pair.source pair.target p.from off.first; is = dest.0; is_side = can.right };
+      }
+
+  fits : (tree : Option Files) → IsPlaced pair tree → IfSome tree AreBoth → IfSome tree (FitsSync pair sides.left sides.right)
+  fits None p w = tt
+  fits (Some files) p w = record {
+    left = are_told files (answers_in sides.left) sides.left (all_tell laws.tells files (answers_in sides.left) pair.source sides.left w.source);
+    right = are_told files (answers_in sides.right) sides.right (all_tell laws.tells files (answers_in sides.right) pair.target sides.right w.dest);
+    parents = have_parents laws.parents files (answers_in sides.left) pair.source sides.left w.source;
+    stand = p.stand;
+  }
+
+  are_whole : (tree : Option Files) → IfSome tree AreBoth → IfSome tree (AreWhole pair sides.left sides.right)
+  are_whole None w = tt
+  are_whole (Some files) w =
+      let paths_are = λ (q : List ℕ) (some : is_some (get files q) ≡ true). laws.paths files q w.source.tree (not_none (get files q) some) in
+      record {
+        tree = w.source.tree;
+        left = whole laws.tells laws.lists files pair.source sides.left w.source paths_are;
+        right = whole laws.tells laws.lists files pair.target sides.right w.dest paths_are;
+      }
+
+  pub ready : (tree : Option Files) (n : ℕ) (after : Side) → IsPlaced pair tree → AreSides tree sides →
+      (sides.left_top ≡ pair.source) × (sides.right_top ≡ pair.target) →
+      WalksBoth pair.source pair.target sides.left sides.right (side_of tree n) after → IsReady pair sides.left sides.right tree
+  ready tree n after p are tops w =
+      let can : CanSync pair sides.left sides.right = record {
+        left = subst (λ t. IsSide (side t sides.left)) tops.0 are.left;
+        right = subst (λ t. IsSide (side t sides.right)) tops.1 are.right;
+        apart = p.apart;
+      } in
+      let both = walks tree n after p can w in
+      record {
+        from = p.from;
+        to = p.to;
+        can = can;
+        fits = fits tree p both;
+        whole = are_whole tree both;
+        source_shaped = are.left_shaped;
+        dest_shaped = are.right_shaped;
+      }

@@ -1,0 +1,24 @@
+use Rattle.std.proofs.Common.{rules, ◌≡◌, ◌<◌, ◌^◌, IfErr, IfSome, subst}
+use Rattle.outside.specs.Count.{capped}
+use Rattle.tree_sync.specs.Placing.{IsSyncWhy, sync_placed_over}
+use Rattle.run_report.specs.Sides.{side_of}
+use Rattle.sync_report.proofs.Placed.{stops_placing, taken_back}
+use Rattle.sync_report.proofs.placing.place_pair.Goals as goal
+
+pub returns-clause-stopped : goal.returns-clause-stopped
+returns-clause-stopped g c =
+    let tree = g.G.Plot.tree in
+    let count = g.G.Plot.count in
+    let seen = g.G.Reader.Tree.count in
+    let pair = c.args.pair.now in
+    let made = c.in_ok-reader in
+    let told = c.sync_place-placed in
+    let before = side_of (tree c.args.files.now) (count c.args.files.now) in
+    let after = side_of (tree c.take_reader.new.self) (count c.take_reader.new.self) in
+    let below : count c.args.files.now < 2 ^ 64 = search rules in
+    let is = subst (λ n. count c.take_reader.new.self ≡ capped n (seen told.new.reader)) made.ensures.count c.take_reader.ensures.count in
+    let why = subst (λ t. IfErr told.result (λ e. IfSome t (λ files. IsSyncWhy (sync_placed_over files pair.source pair.target) e))) made.ensures.told
+    told.ensures.why in
+    stops_placing g.G.Reader.Tree.gives pair before after (seen made.reader) (seen told.new.reader) made.reader told.new.reader told.result why
+    told.ensures.stopped told.ensures.counted
+    (taken_back (count c.args.files.now) (count c.take_reader.new.self) (seen made.reader) (seen told.new.reader) below made.ensures.zero is)

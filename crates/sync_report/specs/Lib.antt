@@ -1,0 +1,4 @@
+pub mod Laws
+pub mod Placing
+pub mod PrivateSteps
+pub mod Syncing

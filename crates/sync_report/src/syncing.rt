@@ -1,0 +1,76 @@
+//! What dsync does.
+ghost use Rattle.std.specs.Prelude.{◌≡◌, [], IfOk, IfErr};
+ghost use Rattle.outside.specs.Count.{RoseBy};
+ghost use Rattle.outside.specs.Writes.{nothing_lent};
+ghost use Rattle.tool_words.specs.Limits.{WithinSync};
+ghost use Rattle.run_report.specs.Sides.{side_of};
+ghost use Rattle.sync_report.specs.Syncing.{sync_asked, ReportsSync, StopsSync, LeavesSync};
+
+use crate::acting::sync_sides;
+use crate::naming::failures;
+use crate::placing::place_pair;
+use crate::printing::{failed_report, sync_report};
+use crate::walking::walk_pair;
+use outside::Ground;
+use path_text::Path;
+use run_report::{Report, Stop};
+use std::alloc::Global;
+use std::sync::Wait;
+use std::thread::Threads;
+use tool_words::Common;
+use tree_copy::{Pair, PlaceError};
+
+/// What dsync is asked for.
+#[derive(Debug, Drop)]
+pub struct SyncTask {
+    /// How each of the two walks is to go, and by how many ranks and hosts entries are copied and removed.
+    pub common: Common,
+    /// What the destination is to be equal to.
+    pub source: Path,
+    /// What is made equal to it.
+    pub dest: Path,
+    /// Whether what the source has not is removed.
+    pub delete: bool,
+}
+
+/// Looks whether there is a place for the destination, walks both sides, makes them equal, and makes the texts.
+pub fn report_of_sync<T: Threads + Wait + Sync, G: Ground>(
+    rt: &T,
+    alloc: Global,
+    task: SyncTask,
+    files: &mut G,
+) -> Result<Report, Stop>
+where
+    G::Reader: Send,
+    G::Part: Send,
+    requires lent { G.area files.old ≡ nothing_lent }
+    requires within { WithinSync (sync_asked task) }
+    ensures reports { IfOk result (ReportsSync (sync_asked task) (side_of (G.tree files.old) (G.count files.old)) (side_of (G.tree files.new) (G.count files.new))) }
+    ensures stops { IfErr result (StopsSync (sync_asked task) (side_of (G.tree files.old) (G.count files.old)) (side_of (G.tree files.new) (G.count files.new))) }
+    ensures leaves { LeavesSync (sync_asked task) (G.tree files.old) (G.tree files.new) }
+    ensures lent { G.area files.new ≡ nothing_lent }
+    ensures count { RoseBy 0 (G.count files.old) (G.count files.new) }
+{
+    let SyncTask {
+        common,
+        source,
+        dest,
+        delete,
+    } = task;
+    let pair = Pair {
+        source,
+        target: dest,
+    };
+    match place_pair(alloc, &pair, files) {
+        Ok(()) => {}
+        Err(PlaceError::Failed(path)) => return Ok(failed_report(alloc, path)?),
+        Err(PlaceError::Overlap) => return Err(Stop::Overlap),
+        Err(PlaceError::NoDest) => return Err(Stop::NoDirectory),
+        Err(PlaceError::OutOfMemory) => return Err(Stop::OutOfMemory),
+    }
+    let sides = walk_pair(rt, alloc, &common, &pair, files)?;
+    let synced = sync_sides(rt, alloc, &common, &pair, &sides, delete, files)?;
+    let notes = failures(alloc, &pair, &sides, &synced)?;
+    let report = sync_report(alloc, &synced, &notes)?;
+    Ok(report)
+}

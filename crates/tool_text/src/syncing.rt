@@ -1,0 +1,32 @@
+//! The line of what dsync did.
+ghost use Rattle.std.specs.Prelude.{◌≡◌, ◌++◌, ◌∷◌, [], OnOk};
+ghost use Rattle.tool_text.specs.Synced.{synced_line};
+
+use crate::drafts::Draft;
+use crate::listing::put_count;
+use path_text::OutOfMemory;
+
+/// How many entries dsync copied, removed and kept, and how many failures it notes.
+#[derive(Clone, Copy, Debug, Drop, PartialEq, Eq)]
+pub struct SyncCounts {
+    /// Entries of the source that were copied to the destination.
+    pub copied: u64,
+    /// Entries of the destination that were removed.
+    pub removed: u64,
+    /// Entries of the source that the destination had already.
+    pub kept: u64,
+    /// Failure notes of the run.
+    pub failed: u64,
+}
+
+/// Adds the line of what dsync did.
+pub(crate) fn add_synced(draft: &mut Draft, counts: &SyncCounts) -> Result<(), OutOfMemory>
+    ensures ok { OnOk result (draft.new.1 ≡ draft.old.1 ++ synced_line counts.now) }
+    ensures stands { draft.new.0 ≡ draft.old.0 }
+{
+    put_count(draft, "synced ", counts.copied)?;
+    put_count(draft, " removed ", counts.removed)?;
+    put_count(draft, " kept ", counts.kept)?;
+    put_count(draft, " failed ", counts.failed)?;
+    draft.push(b'\n')
+}
