@@ -59,11 +59,12 @@ fn tell_command(alloc: Global, command: &Command, told: &mut String) -> Result<(
             tell_sort(alloc, *sort, told)?;
             tell_file(alloc, "output", output, told)
         }
-        _ => tell_other(alloc, command, told),
+        _ => tell_pair(alloc, command, told),
     }
 }
 
-fn tell_other(alloc: Global, command: &Command, told: &mut String) -> Result<(), Trouble> {
+// Tells a command that has a source and a destination.
+fn tell_pair(alloc: Global, command: &Command, told: &mut String) -> Result<(), Trouble> {
     match command {
         Command::Cmp {
             common,
@@ -87,6 +88,24 @@ fn tell_other(alloc: Global, command: &Command, told: &mut String) -> Result<(),
             tell_paths(alloc, "source", sources, told)?;
             tell_path(alloc, "dest", dest, told)
         }
+        Command::Sync {
+            common,
+            source,
+            dest,
+            delete,
+        } => {
+            put(told, "sync")?;
+            tell_common(alloc, common, told)?;
+            tell_path(alloc, "source", source, told)?;
+            tell_path(alloc, "dest", dest, told)?;
+            tell_flag("delete", *delete, told)
+        }
+        _ => tell_other(alloc, command, told),
+    }
+}
+
+fn tell_other(alloc: Global, command: &Command, told: &mut String) -> Result<(), Trouble> {
+    match command {
         Command::Remove {
             common,
             roots,
