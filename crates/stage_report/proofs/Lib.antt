@@ -10,3 +10,4 @@ pub mod Succeeds
 pub mod Walked
 pub mod Leaves
 pub mod Staged
+pub mod Stopped

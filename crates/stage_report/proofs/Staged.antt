@@ -15,9 +15,9 @@ use Rattle.run_report.specs.Sides.{Side, side_of}
 use Rattle.run_entries.specs.declared.accounts.Account.{Account}
 use Rattle.run_entries.specs.Entries.{InOrder, notes_text}
 use Rattle.run_entries.specs.Naming.{failures_in}
-use Rattle.run_entries.specs.Saving.{Saved, output_of}
+use Rattle.run_entries.specs.Saving.{Saved, output_of, SameButAll}
 use Rattle.run_entries.specs.Stopping.{StopsSaving}
-use Rattle.checkpoints.specs.Kept.{IsKept}
+use Rattle.checkpoints.specs.Kept.{IsKept, checkpoint_paths}
 use Rattle.checkpoints.specs.Stopping.{StopsReading, StopsWriting}
 use Rattle.list_report.specs.Lists.{summary_text}
 use Rattle.stage_report.specs.declared.walking.Stage.{Stage}
@@ -99,9 +99,10 @@ not_kept asked before after tree found handled w list left why is few later betw
 pub kept : (asked : StageAsked) (before after : Side) (tree : Option Files) (found handled : ℕ) (w : Walking asked before tree found) (list : List Entry)
     (left : List (List (List ℕ))) (why : Stop) →
     IsCutOff asked.stop_after asked.common tree w.begun.done w.begun.starts w.begun.count found handled list left → length list ≤ max_entries →
-    found ≤ after.count → IfSome after.tree (IsKept asked.lists list left) → why ≡ stop.Stopped handled (length (all_of left)) →
-    StopsStage asked before after why
-kept asked before after tree found handled w list left why is few later holds named =
+    found ≤ after.count → IfSome after.tree (IsKept asked.lists list left) →
+    IfSome before.tree (λ files. IfSome after.tree (SameButAll (checkpoint_paths asked.lists asked.common.ranks) files)) →
+    why ≡ stop.Stopped handled (length (all_of left)) → StopsStage asked before after why
+kept asked before after tree found handled w list left why is few later holds rest named =
     inr (inr (inr (inr (inr (record {
       begun = w.begun;
       found = found;
@@ -112,6 +113,7 @@ kept asked before after tree found handled w list left why is few later holds na
       few = few;
       later = later;
       kept = holds;
+      rest = rest;
       named = named;
     })))))
 

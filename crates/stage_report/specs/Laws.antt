@@ -40,6 +40,11 @@ CheckpointsAreCuts = (asked : StageAsked) (before after : Side) (why : Stop) (fi
     WithinStage asked → IsTree files → before.tree ≡ Some files → after.tree ≡ Some new → SameBelow starts files new →
     BeginsWalk asked.starts asked.lists files starts → IsStopped asked before after why → HoldsCut asked.lists starts new
 
+-- a stage is told as stopped for one reason alone: its walk was cut, its checkpoint was kept, and every other path is as before
+abbrev pub StoppedStagesAreKept : Type 0
+StoppedStagesAreKept = (asked : StageAsked) (before after : Side) (handled left : ℕ) →
+    StopsStage asked before after (stop.Stopped handled left) → IsStopped asked before after (stop.Stopped handled left)
+
 -- a stage that goes on from a cut of a walk and ends prints what a dwalk prints that nothing stopped, where no answer failed in any of them
 abbrev pub StagesPrintTheWalk : Type 0
 StagesPrintTheWalk = (asked : StageAsked) (before after : Side) (report : Report) (files : Files) (listed : ListAsked) (now : ℕ) (first last : Side)

@@ -28,7 +28,7 @@ use Rattle.run_entries.specs.declared.accounts.Account.{Account}
 use Rattle.run_entries.specs.Entries.{InOrder, notes_text}
 use Rattle.run_entries.specs.Fine.{IsFineWalk}
 use Rattle.run_entries.specs.Naming.{failures_in}
-use Rattle.run_entries.specs.Saving.{Saved, output_of, SameButOutputs}
+use Rattle.run_entries.specs.Saving.{Saved, output_of, SameButAll, SameButOutputs}
 use Rattle.run_entries.specs.Stopping.{StopsSaving}
 use Rattle.run_entries.specs.Tells.{IsAccount}
 use Rattle.checkpoints.specs.Kept.{IsKept, IsCheckpoint, checkpoint_paths}
@@ -186,6 +186,8 @@ pub record IsStopped (asked : StageAsked) (before after : Side) (why : Stop) : T
   pub few : length list ≤ max_entries
   pub later : found ≤ after.count
   pub kept : IfSome after.tree (IsKept asked.lists list left)
+  -- and nothing else was, the file of the list neither
+  pub rest : IfSome before.tree (λ files. IfSome after.tree (SameButAll (checkpoint_paths asked.lists asked.common.ranks) files))
   pub named : why ≡ stop.Stopped handled (length (all_of left))
 
 -- for want of memory, or for the first of these that comes

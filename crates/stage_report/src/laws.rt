@@ -1,5 +1,5 @@
 //! Laws, each the contract of a function that does nothing but recall the laws that it rests on.
-ghost use Rattle.stage_report.specs.Laws.{CheckpointsAreCuts, FineStageSucceeds, StagesPrintTheWalk};
+ghost use Rattle.stage_report.specs.Laws.{CheckpointsAreCuts, FineStageSucceeds, StagesPrintTheWalk, StoppedStagesAreKept};
 
 use checkpoints::{checkpoints_are_one, fine_reads_stop_for_memory, fine_writes_stop_for_memory};
 use cut_laws::{cuts_are_local, restart_finds_the_walk, sorts_are_unique};
@@ -16,6 +16,11 @@ pub fn checkpoints_are_cuts()
     cut_goes_on();
     roots_are_unique();
 }
+
+/// A stage that is told as stopped kept its checkpoint, and changed no other path: the file of `--output` is as before.
+pub fn stopped_stages_are_kept()
+    ensures { StoppedStagesAreKept }
+{}
 
 /// A stage that goes on from a cut of a walk and ends prints what a dwalk prints that nothing stopped, where no answer failed.
 pub fn stages_print_the_walk()

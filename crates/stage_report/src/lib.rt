@@ -11,7 +11,8 @@
 //! Proved: a stage answers what its four definitions say, which are in `specs/Stages`: what it reports, why it stops, what it may have
 //! changed, and when nothing stands against it. Laws, in `specs/Laws`, say that a checkpoint is a cut of the recursive walk
 //! ([`checkpoints_are_cuts`]); that a stage which goes on from a cut and ends prints what one walk prints that nothing stopped
-//! ([`stages_print_the_walk`]); and that a stage against which nothing stands names nothing, and stops for want of memory alone or
+//! ([`stages_print_the_walk`]); that a stage which is told as stopped kept its checkpoint, and left every other path as before
+//! ([`stopped_stages_are_kept`]); and that a stage against which nothing stands names nothing, and stops for want of memory alone or
 //! because it was to stop ([`fine_stages_succeed`]).
 #![tactic(auto)]
 
@@ -22,5 +23,7 @@ mod laws;
 mod stages;
 mod walking;
 
-pub use laws::{checkpoints_are_cuts, fine_stages_succeed, stages_print_the_walk};
+pub use laws::{
+    checkpoints_are_cuts, fine_stages_succeed, stages_print_the_walk, stopped_stages_are_kept,
+};
 pub use stages::{StageTask, report_of_stage};

@@ -218,7 +218,10 @@ returns-clause-stops g c =
     let is = subst (Comes asked before tree found w) c.in-Cut.is c.in_ok-list.ensures.stage in
     let few = subst (λ s. length (list_in s) ≤ max_entries) c.in-Cut.is c.in_ok-list.ensures.few in
     let here = c.in_ok-keep-in-Cut.ensures in
+    let ranks = ap length c.deref.ensures.value ∙ sym (length-map strings (λ strings. strings.items)) ∙ is.ranks in
     kept asked before after tree found c.in-Cut.handled w list (map (λ strings. strings.items) strings) c.in_ok-keep-in-Cut.field-0 is few
     c.keep.ensures.count.kept
     (subst (λ left. IfSome after.tree (IsKept dir list (map (λ strings. strings.items) left))) c.deref.ensures.value here.kept)
+    (subst (λ n. IfSome before.tree (λ files. IfSome after.tree (SameButAll (checkpoint_paths dir n) files))) ranks
+    (subst (λ t. IfSome t (λ files. IfSome after.tree (SameButAll (checkpoint_paths dir (length c.deref.result.now)) files))) same c.keep.ensures.rest))
     (here.named ∙ ap (λ left. stop.Stopped c.in-Cut.handled (length (all_of (map (λ strings. strings.items) left)))) c.deref.ensures.value)
