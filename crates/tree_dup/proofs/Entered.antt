@@ -1,0 +1,301 @@
+-- One more entry of a list: a candidate is hashed, or it is missed.
+use Rattle.std.proofs.Common.{◌≡◌, ℕ, zero, suc, ◌+◌, ◌<◌, ◌≤◌, Bool, true, false, not, ◌&&◌, ◌==◌, List, [], ◌∷◌, ◌++◌, length, map, take}
+use Rattle.std.proofs.Common.{Option, Some, None, Result, Ok, Err}
+use Rattle.std.proofs.Common.{IfSome, All, refl, sym, ap, subst, ◌∙◌, arith, eqb, count_by, nat_eq, IfOk, IfErr, if◌then◌else◌, nat_lt, slice_get}
+use Rattle.std.proofs.Common.{length-append, ◌-◌, min}
+use Rattle.std.specs.FinMap.{get}
+use Rattle.std.specs.Cmp.{first_so}
+use Rattle.std.specs.Cmp.Lexicographic.{pointwise}
+use Rattle.std.specs.Option.{option_map}
+use Rattle.std.proofs.lemmas.Bool.{false≢true, eq-eqb, ne_eqb, ltb-false}
+use Rattle.std.proofs.lemmas.Bool.Decides.{nat_tests}
+use Rattle.std.proofs.lemmas.List.{map-append, take_all}
+use Rattle.std.proofs.lemmas.List.Elements.{All-nil, All-push}
+use Rattle.std.proofs.lemmas.List.Folds.{list_any_at}
+use Rattle.std.proofs.lemmas.List.Sums.{sum_by_more}
+use Rattle.std.proofs.lemmas.Option.{slice_get_within, get_or_from_slice_get}
+use Rattle.sha2.specs.Sha256.{sha256}
+use Rattle.outside.specs.Asked.{Asks}
+use Rattle.outside.specs.Count.{RoseBy}
+use Rattle.outside.specs.Tree.{Files, Node, Body, content, stat_of, kind_of, size_of, is_file_body, bytes_of}
+use Rattle.outside.specs.declared.trees.Kind.TheVariants as kind
+use Rattle.outside.specs.declared.trees.Stat.{Stat}
+use Rattle.flat_list.specs.declared.entries.Entry.{Entry}
+use Rattle.flat_list.specs.Entries.{is_kind, is_of, size_by}
+use Rattle.tree_cmp.specs.Readers.{StatsTold, ShowsFailure, ShowsChange}
+use Rattle.tree_dup.specs.Told.{Grouping}
+use Rattle.tree_dup.specs.Grouping.{has, is_candidate, is_read, is_sized, HaveCauses}
+use Rattle.tree_dup.specs.declared.filling.Missing.{Missing}
+use Rattle.tree_dup.specs.declared.filling.Missing.TheVariants.{Failed, Changed}
+use Rattle.tree_dup.specs.declared.runs.File.{File}
+use Rattle.tree_dup.specs.declared.runs.Standing.TheVariants.{Alike}
+use Rattle.tree_dup.specs.Private.Dealing.{with_missed}
+use Rattle.tree_dup.specs.Private.Hashing.{with_hashed, with_unhashed}
+use Rattle.tree_dup.specs.Private.Piles.{times}
+use Rattle.tree_dup.specs.Private.Reading.{IsFileOf, ShowsMissing}
+use Rattle.tree_dup.specs.Private.Running.{IsThere, KeepsUp, paths_of, still}
+use Rattle.tree_dup.specs.Private.Sifting.{AreHashed, IsHashed, candidates_in}
+use Rattle.std.specs.HashMap.{HashMap}
+use Rattle.std.specs.declared.hash.FoldHasher.{FoldHasher}
+use Rattle.std.specs.declared.hash.BuildHasherDefault.{BuildHasherDefault}
+use Rattle.tree_dup.specs.Private.Sizes.{candidate_size, file_size, AreCounts}
+use Rattle.tree_dup.proofs.Piled.{one_if, times-cons, times-append, path_itself}
+use Rattle.tree_dup.proofs.Parted.{if_told, if_any, if_both}
+use Rattle.tree_dup.proofs.Sifted.{path_of, both_true}
+
+-- ---- a file of its size
+
+file_body : (b : Body) → is_kind kind.File (kind_of b) ≡ true → (is_file_body b ≡ true) × (length (bytes_of b) ≡ size_of b)
+file_body (Body.dir far) e = absurd (false≢true e)
+file_body (Body.file bytes) e = (refl, refl)
+file_body (Body.link text) e = absurd (false≢true e)
+file_body Body.other e = absurd (false≢true e)
+
+file_of : (node : Option Node) (s : Stat) → option_map stat_of node ≡ Some s → is_kind kind.File s.kind ≡ true → IsFileOf node s.size
+file_of None s e h = absurd cc
+file_of (Some n) s e h =
+    let same : stat_of n ≡ s = cc in
+    let f = file_body n.body (subst (λ (t : Stat). is_kind kind.File t.kind ≡ true) (sym same) h) in
+    record { is_file = f.0; size = f.1 ∙ ap (λ (t : Stat). t.size) same }
+
+entry_there : (files : Files) (path : List ℕ) (stat : Option Stat) → is_of kind.File stat ≡ true →
+    IfSome stat (λ s. option_map stat_of (get files path) ≡ Some s) → IsFileOf (get files path) (size_by stat)
+entry_there files path None e h = absurd (false≢true e)
+entry_there files path (Some s) e h = file_of (get files path) s h e
+
+-- ---- a candidate
+
+candidate_if : (b : Bool) (n size : ℕ) → (if b then Some n else None) ≡ Some size → (b ≡ true) × (n ≡ size)
+candidate_if true n size e = (refl, cc)
+candidate_if false n size e = absurd cc
+
+none_if : (b : Bool) (n : ℕ) → (if b then Some n else None) ≡ None → b ≡ false
+none_if true n e = absurd cc
+none_if false n e = refl
+
+module _ (list : List Entry) (at : ℕ) (e : Entry) (there : slice_get list at ≡ Some e) where
+  here : (test : Entry → Bool) → test e ≡ true → has test list e.path ≡ true
+  here test passes =
+      list_any_at (λ (x : Entry). pointwise nat_eq e.path x.path && test x) list at e (slice_get_within list at e there)
+      (subst (λ (x : Entry). (pointwise nat_eq e.path x.path && test x) ≡ true) (sym (get_or_from_slice_get list at e e there))
+      (both_true (pointwise nat_eq e.path e.path) (test e) (path_itself e.path) passes))
+
+  more : (p : List ℕ) → candidates_in list (take (at + 1) list) p ≡ candidates_in list (take at list) p + one_if (pointwise eqb p e.path && is_candidate list e)
+  more p =
+      sum_by_more (λ (x : Entry). one_if (pointwise eqb p x.path && is_candidate list x)) list at e (slice_get_within list at e there)
+      ∙ ap (λ (x : Entry). candidates_in list (take at list) p + one_if (pointwise eqb p x.path && is_candidate list x))
+      (get_or_from_slice_get list at e e there)
+
+  if_true : (a b : Bool) → b ≡ true → one_if (a && b) ≡ one_if a
+  if_true true true h = refl
+  if_true true false h = absurd (false≢true h)
+  if_true false b h = refl
+
+  if_false : (a b : Bool) → b ≡ false → one_if (a && b) ≡ 0
+  if_false true true h = absurd (false≢true (sym h))
+  if_false true false h = refl
+  if_false false b h = refl
+
+  -- no candidate
+  pub passed_by : (tree : Option Files) (files : List File) (found : Grouping) → candidate_size list e ≡ None → AreHashed tree list at files found →
+      AreHashed tree list (at + 1) files found
+  passed_by tree files found none h = record {
+    hashed = h.hashed;
+    missed = h.missed;
+    none = h.none;
+    all = λ p. omega (arith, h.all p, more p, if_false (pointwise eqb p e.path) (is_candidate list e) (none_if (is_candidate list e) (size_by e.stat) none));
+  }
+
+  module _ (tree : Option Files) (size : ℕ) (is : candidate_size list e ≡ Some size) (told : IfSome tree (λ files. StatsTold files list)) where
+    is_one : (is_candidate list e ≡ true) × (size_by e.stat ≡ size)
+    is_one = candidate_if (is_candidate list e) (size_by e.stat) size is
+
+    is_file : is_of kind.File e.stat ≡ true
+    is_file = first_so (is_of kind.File e.stat) (nat_lt 1 (count_by (is_sized (size_by e.stat)) list)) is_one.0
+
+    there_of : IfSome tree (λ files. IsFileOf (get files e.path) size)
+    there_of = if_told tree (λ files. StatsTold files list) (λ files. IsFileOf (get files e.path) size)
+        (λ files stats.
+        subst (IsFileOf (get files e.path)) is_one.1 (entry_there files e.path e.stat is_file
+        (subst (λ (x : Entry). IfSome x.stat (λ s. option_map stat_of (get files x.path) ≡ Some s)) (get_or_from_slice_get list at e e there)
+        (stats at e (slice_get_within list at e there))))) told
+
+    not_zero : (n : ℕ) → 0 < n → not (n == 0) ≡ true
+    not_zero n l = ap not (ne_eqb n 0 (λ e. omega (arith, e)))
+
+    read : 0 < size → has (is_read list) list e.path ≡ true
+    read l = here (is_read list) (both_true (is_candidate list e) (not (size_by e.stat == 0)) is_one.0 (not_zero (size_by e.stat) (omega (arith, is_one.1))))
+
+    counts : (p : List ℕ) → candidates_in list (take (at + 1) list) p ≡ candidates_in list (take at list) p + one_if (pointwise eqb p e.path)
+    counts p = more p ∙ ap (λ n. candidates_in list (take at list) p + n) (if_true (pointwise eqb p e.path) (is_candidate list e) is_one.0)
+
+    pub entered : (outcome : Result (List ℕ) Missing) (files files' : List File) (found found' : Grouping) → files' ≡ with_hashed outcome e.path size files →
+        found' ≡ with_unhashed outcome e.path found → (size ≡ 0 → IfErr outcome (λ why. ⊥)) →
+        IfOk outcome (λ digest. IfSome tree (λ t. IsFileOf (get t e.path) size → digest ≡ sha256 (content (get t e.path)))) →
+        (outcome ≡ Err Changed → IfSome tree (λ t. IsFileOf (get t e.path) size → ⊥)) →
+        AreHashed tree list at files found → AreHashed tree list (at + 1) files' found'
+    entered (Ok digest) files files' found found' f g empty ok changed h =
+        let new : File = record { path = e.path; size = size; digest = digest; standing = Alike } in
+        let hashed : IsHashed tree list new = record {
+          sized = here (is_sized size) (both_true (is_of kind.File e.stat) (size_by e.stat == size) is_file (eq-eqb (size_by e.stat) size is_one.1));
+          read = read;
+          there = if_told tree (λ t. IsFileOf (get t e.path) size) (λ t. IsThere t new) (λ t k. record { is_file = k.is_file; size = k.size }) there_of;
+          digest = if_both tree (λ t. IsFileOf (get t e.path) size) (λ t. IsFileOf (get t e.path) size → digest ≡ sha256 (content (get t e.path)))
+              (λ t. digest ≡ sha256 (content (get t e.path))) (λ t k d. d k) there_of ok;
+        } in
+        subst (λ fs. AreHashed tree list (at + 1) fs found') (sym f)
+        (subst (AreHashed tree list (at + 1) (files ++ new ∷ [])) (sym g)
+        (record {
+          hashed = All-push (IsHashed tree list) files new h.hashed hashed;
+          missed = h.missed;
+          none = h.none;
+          all = λ p. omega (
+            arith,
+            h.all p,
+            counts p,
+            ap (times p) (map-append path_of files (new ∷ [])),
+            times-append p (paths_of files) (e.path ∷ []),
+            times-cons p e.path [],
+          );
+        }))
+    entered (Err why) files files' found found' f g empty ok changed h =
+        subst (λ fs. AreHashed tree list (at + 1) fs found') (sym f)
+        (subst (AreHashed tree list (at + 1) files) (sym g) (by why
+        (λ s. if_both tree (λ t. IsFileOf (get t e.path) size) (λ t. IsFileOf (get t e.path) size → ⊥) (λ t. ⊥) (λ t k d. d k) there_of (changed (ap Err s)))
+        (not_empty size empty)))
+      where
+        not_empty : (n : ℕ) → (n ≡ 0 → ⊥) → 0 < n
+        not_empty zero f = absurd (f refl)
+        not_empty (suc n) f = omega arith
+
+        by : (w : Missing) → (w ≡ Changed → IfSome tree (λ t. ⊥)) → 0 < size → AreHashed tree list (at + 1) files (with_missed w e.path found)
+        by Failed never some = record {
+          hashed = h.hashed;
+          missed = record {
+            failed = All-push (λ p. has (is_read list) list p ≡ true) found.failed e.path h.missed.failed (read some);
+            changed = h.missed.changed;
+            unchanged = h.missed.unchanged;
+          };
+          none = h.none;
+          all = λ p. omega (arith, h.all p, counts p, times-append p found.failed (e.path ∷ []), times-cons p e.path []);
+        }
+        by Changed never some = record {
+          hashed = h.hashed;
+          missed = record {
+            failed = h.missed.failed;
+            changed = All-push (λ p. has (is_read list) list p ≡ true) found.changed e.path h.missed.changed (read some);
+            unchanged = if_told tree (λ t. ⊥) (λ t. found.changed ++ e.path ∷ [] ≡ []) (λ t n. absurd n) (never refl);
+          };
+          none = h.none;
+          all = λ p. omega (arith, h.all p, counts p, times-append p found.changed (e.path ∷ []), times-cons p e.path []);
+        }
+
+-- ---- what else is so
+
+pub alike_entered : (outcome : Result (List ℕ) Missing) (path : List ℕ) (size : ℕ) (files : List File) → map still files ≡ files →
+    map still (with_hashed outcome path size files) ≡ with_hashed outcome path size files
+alike_entered (Ok digest) path size files e =
+    let new : File = record { path = path; size = size; digest = digest; standing = Alike } in
+    map-append still files (new ∷ []) ∙ ap (λ fs. fs ++ new ∷ []) e
+alike_entered (Err why) path size files e = e
+
+pub causes_entered : {S : Type 0} (gives : Asks S) (outcome : Result (List ℕ) Missing) (path : List ℕ) (found : Grouping) →
+    IfErr outcome (ShowsMissing gives path) → HaveCauses gives found → HaveCauses gives (with_unhashed outcome path found)
+causes_entered gives (Ok digest) path found shows h = h
+causes_entered gives (Err Failed) path found shows h =
+    record { failed = All-push (ShowsFailure gives) found.failed path h.failed shows; changed = h.changed }
+causes_entered gives (Err Changed) path found shows h =
+    record { failed = h.failed; changed = All-push (ShowsChange gives) found.changed path h.changed shows }
+
+pub counted_entered : (outcome : Result (List ℕ) Missing) (path : List ℕ) (found : Grouping) (old new : ℕ) → RoseBy 0 old new →
+    (outcome ≡ Err Failed → RoseBy 1 old new) → KeepsUp (length found.failed) (length (with_unhashed outcome path found).failed) old new
+counted_entered (Ok digest) path found old new z one = record { kept = z.kept; told = omega arith; rose = λ h. omega (arith, z.kept) }
+counted_entered (Err Failed) path found old new z one =
+    let r = one refl in
+    let n = length-append found.failed (path ∷ []) in
+    record { kept = z.kept; told = omega (arith, n); rose = λ h. omega (arith, n, r.rose) }
+counted_entered (Err Changed) path found old new z one = record { kept = z.kept; told = omega arith; rose = λ h. omega (arith, z.kept) }
+
+-- ---- the entry that a cursor passed
+
+pub entry_at : (list : List Entry) (cursor cursor' : List Entry × ℕ) (e : Entry) (more : Bool) → cursor.0 ≡ list → more ≡ true →
+    cursor' ≡ (cursor.0, if more then cursor.1 + 1 else cursor.1) → slice_get cursor'.0 (cursor'.1 - 1) ≡ Some e →
+    (slice_get list cursor.1 ≡ Some e) × (cursor'.0 ≡ list) × (cursor'.1 ≡ cursor.1 + 1)
+entry_at list cursor cursor' e b same so moved there =
+    let first : cursor'.0 ≡ list = ap (λ (p : List Entry × ℕ). p.0) moved ∙ same in
+    let second : cursor'.1 ≡ cursor.1 + 1 =
+    ap (λ (p : List Entry × ℕ). p.1) moved ∙ ap (λ (b : Bool). if b then cursor.1 + 1 else cursor.1) so in
+    let place : cursor'.1 - 1 ≡ cursor.1 = omega (arith, second) in
+    ((λ i. slice_get (sym first i) (sym place i)) ∙ there, first, second)
+
+-- ---- the sizes that were counted
+
+is_counted : (list : List Entry) (at size n : ℕ) (e : Entry) → slice_get list at ≡ Some e → n ≡ count_by (is_sized size) (take at list) →
+    n + one_if (is_sized size e) ≡ count_by (is_sized size) (take (at + 1) list)
+is_counted list at size n e there is =
+    ap (λ m. m + one_if (is_sized size e)) is
+    ∙ sym (sum_by_more (λ (x : Entry). one_if (is_sized size x)) list at e (slice_get_within list at e there)
+    ∙ ap (λ (x : Entry). count_by (is_sized size) (take at list) + one_if (is_sized size x)) (get_or_from_slice_get list at e e there))
+
+pub counted_more : (list : List Entry) (at size old new : ℕ) (e : Entry) → slice_get list at ≡ Some e →
+    old ≡ min (count_by (is_sized size) (take at list)) 255 →
+    new ≡ (if is_sized size e then min (old + 1) 255 else old) → new ≡ min (count_by (is_sized size) (take (at + 1) list)) 255
+counted_more list at size old new e there was is =
+    by (is_sized size e) is (is_counted list at size (count_by (is_sized size) (take at list)) e there refl)
+  where
+    by : (b : Bool) → new ≡ (if b then min (old + 1) 255 else old) →
+        count_by (is_sized size) (take at list) + one_if b ≡ count_by (is_sized size) (take (at + 1) list) →
+        new ≡ min (count_by (is_sized size) (take (at + 1) list)) 255
+    by true f g = omega (arith, was, f, g)
+    by false f g = omega (arith, was, f, g)
+
+-- an entry that is no file, and a file of a size
+pub no_size : (e : Entry) (size : ℕ) → file_size e ≡ None → is_sized size e ≡ false
+no_size e size none = ap (λ (b : Bool). b && (size_by e.stat == size)) (none_if (is_of kind.File e.stat) (size_by e.stat) none)
+
+pub one_size : (e : Entry) (size n : ℕ) → file_size e ≡ Some n → is_sized size e ≡ (n == size)
+one_size e size n is =
+    let both = candidate_if (is_of kind.File e.stat) (size_by e.stat) n is in
+    λ i. both.0 i && (both.1 i == size)
+
+-- a size that more than one file has
+pub is_shared : (list : List Entry) (e : Entry) (n : ℕ) → n ≡ min (count_by (is_sized (size_by e.stat)) list) 255 →
+    nat_lt 1 n ≡ nat_lt 1 (count_by (is_sized (size_by e.stat)) list)
+is_shared list e n is = grind (arith, nat_tests)
+
+pub entry_last : (list : List Entry) (cursor : List Entry × ℕ) (more : Bool) → cursor.0 ≡ list → cursor.1 ≤ length list →
+    more ≡ nat_lt cursor.1 (length cursor.0) →
+    more ≡ false → cursor.1 ≡ length list
+entry_last list cursor b same inside is none =
+    let end : length list ≤ cursor.1 = subst (λ (l : List Entry). length l ≤ cursor.1) same (ltb-false cursor.1 (length cursor.0) (sym is ∙ none)) in
+    omega arith
+
+pub hashed_as : (told now : Option Files) (list : List Entry) (at : ℕ) (files files' : List File) (found found' : Grouping) → now ≡ told →
+    (IfSome now (λ t. StatsTold t list) → AreHashed now list at files found → AreHashed now list (at + 1) files' found') →
+    IfSome told (λ t. StatsTold t list) → AreHashed told list at files found → AreHashed told list (at + 1) files' found'
+hashed_as told now list at files files' found found' e =
+    subst (λ o. (IfSome now (λ t. StatsTold t list) → AreHashed now list at files found → AreHashed now list (at + 1) files' found') →
+    IfSome o (λ t. StatsTold t list) → AreHashed o list at files found → AreHashed o list (at + 1) files' found') e (λ h. h)
+
+-- nothing is hashed yet
+pub none_hashed : (tree : Option Files) (list : List Entry) (at : ℕ) (found : Grouping) → at ≡ 0 → found.groups ≡ [] → found.failed ≡ [] → found.changed ≡ [] →
+    AreHashed tree list at [] found
+none_hashed tree list at found begun groups failed changed = record {
+  hashed = All-nil (IsHashed tree list);
+  missed = record {
+    failed = subst (All (λ p. has (is_read list) list p ≡ true)) (sym failed) (All-nil (λ p. has (is_read list) list p ≡ true));
+    changed = subst (All (λ p. has (is_read list) list p ≡ true)) (sym changed) (All-nil (λ p. has (is_read list) list p ≡ true));
+    unchanged = if_any tree (λ t. found.changed ≡ []) (λ t. changed);
+  };
+  none = groups;
+  all = λ p. omega (arith, ap (times p) failed, ap (times p) changed, ap (λ n. candidates_in list (take n list) p) begun);
+}
+
+pub first_hashed : (tree : Option Files) (list : List Entry) (at : ℕ) (files : List File) (found : Grouping) → files ≡ [] → at ≡ 0 → found.groups ≡ [] →
+    found.failed ≡ [] → found.changed ≡ [] → AreHashed tree list at files found
+first_hashed tree list at files found none begun groups failed changed =
+    subst (λ fs. AreHashed tree list at fs found) (sym none) (none_hashed tree list at found begun groups failed changed)
+
+pub counts_all : (list : List Entry) (at : ℕ) (counts : HashMap ℕ ℕ (BuildHasherDefault FoldHasher)) → at ≡ length list → AreCounts (take at list) counts →
+    AreCounts list counts
+counts_all list at counts e = subst (λ part. AreCounts part counts) (ap (λ n. take n list) e ∙ take_all (length list) list (omega arith))

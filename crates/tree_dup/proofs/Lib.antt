@@ -1,0 +1,17 @@
+mod Classes
+mod Dealt
+mod Done
+mod Entered
+mod Fed
+mod Filled
+mod Firsts
+mod Gone
+mod Grouped
+mod Kept
+mod Parted
+mod Piled
+mod Ran
+mod Shown
+mod Sifted
+mod Stood
+mod Strict

@@ -1,0 +1,153 @@
+-- The last files of one size and one digest.
+use Rattle.std.proofs.Common.{◌≡◌, ℕ, zero, suc, ◌+◌, ◌-◌, ◌<◌, ◌≤◌, Bool, true, false, ◌==◌, List, [], ◌∷◌, length, map, take, drop, get_or}
+use Rattle.std.proofs.Common.{All, IsSorted, refl, sym, ap, ◌∙◌, arith, subst, is_lt, nat_eq, nat_cmp, Ordering, Less, Equal, Greater, length-drop}
+use Rattle.std.specs.Cmp.{first_so, second_so}
+use Rattle.std.specs.Cmp.Lexicographic.{pointwise, slice_cmp, bytes_decides}
+use Rattle.std.specs.FinMap.{slice_cmp-IsAntisymmetric, nat_cmp-IsAntisymmetric}
+use Rattle.std.specs.Ordering.{ordering_reverse}
+use Rattle.std.proofs.lemmas.Bool.{false≢true, eqb-true, eq-eqb}
+use Rattle.std.proofs.lemmas.Cmp.{nat_list_cmp_total}
+use Rattle.std.proofs.lemmas.List.{get_or_default, get_or-drop, get_or-take}
+use Rattle.std.proofs.lemmas.List.Sorted.{ranks_by, sorted_far}
+use Rattle.tree_dup.specs.declared.runs.File.{File}
+use Rattle.tree_dup.specs.Private.Running.{HasContent, IsRun, IsLastRun, content_cmp, same_content, still}
+use Rattle.tree_dup.proofs.Sifted.{both_true}
+
+-- content by which files are in order
+abbrev pub key : File → List ℕ
+key f = f.size ∷ f.digest
+
+same_key : (a b : File) → same_content a b ≡ true → key a ≡ key b
+same_key a b e =
+    let sizes : a.size ≡ b.size = eqb-true a.size b.size (first_so (a.size == b.size) (pointwise nat_eq a.digest b.digest) e) in
+    let digests : a.digest ≡ b.digest = (bytes_decides a.digest b.digest).0 (second_so (a.size == b.size) (pointwise nat_eq a.digest b.digest) e) in
+    λ i. sizes i ∷ digests i
+
+key_same : (a b : File) → key a ≡ key b → same_content a b ≡ true
+key_same a b e =
+    let sizes : a.size ≡ b.size = cc in
+    let digests : a.digest ≡ b.digest = cc in
+    both_true (a.size == b.size) (pointwise nat_eq a.digest b.digest) (eq-eqb a.size b.size sizes) ((bytes_decides a.digest b.digest).1 digests)
+
+ties : (o p : Ordering) → o ≡ ordering_reverse p → is_lt o ≡ false → is_lt p ≡ false → o ≡ Equal
+ties Less p r e f = absurd (false≢true (sym e))
+ties Equal p r e f = refl
+ties Greater Less r e f = absurd (false≢true (sym f))
+ties Greater Equal r e f = cc
+ties Greater Greater r e f = cc
+
+-- files of which neither comes before the other are of one content
+level : (a b : File) → is_lt (content_cmp a b) ≡ false → is_lt (content_cmp b a) ≡ false → key a ≡ key b
+level a b e f =
+    slice_cmp-IsAntisymmetric nat_cmp-IsAntisymmetric (key a) (key b)
+    (ties (content_cmp a b) (content_cmp b a) (nat_list_cmp_total.antisymm (key a) (key b)) e f)
+
+abbrev pub AreFrom : List File → ℕ → ℕ → Type 0
+AreFrom files start last = (k : ℕ) (d : File) → start ≤ k → k < length files → same_content (get_or files k d) (get_or files last d) ≡ true
+
+pub only_last : (files : List File) (last : ℕ) → length files ≡ last + 1 → AreFrom files last last
+only_last files last e k d l m =
+    key_same (get_or files k d) (get_or files last d) (ap (λ i. key (get_or files i d)) (let i : k ≡ last = omega arith in i))
+
+pub one_more : (files : List File) (start last : ℕ) (x y : File) → start < length files → last < length files → x ≡ get_or files start x →
+    y ≡ get_or files last y →
+    same_content x y ≡ true → AreFrom files (start + 1) last → AreFrom files start last
+one_more files start last x y l m e f same h k d n inside = by (k - start) refl
+  where
+    by : (j : ℕ) → k - start ≡ j → same_content (get_or files k d) (get_or files last d) ≡ true
+    by zero z =
+        let at : k ≡ start = omega (arith, z) in
+        let a : get_or files k d ≡ x = ap (λ i. get_or files i d) at ∙ get_or_default files start d x l ∙ sym e in
+        let b : get_or files last d ≡ y = get_or_default files last d y m ∙ sym f in
+        (λ i. same_content (a i) (b i)) ∙ same
+    by (suc j) z = h k d (omega (arith, z)) inside
+
+pub last_run : (files : List File) (start last : ℕ) (x y : File) → IsSorted content_cmp files → length files ≡ last + 1 → start ≤ last →
+    AreFrom files start last →
+    (0 < start → (x ≡ get_or files (start - 1) x) × (y ≡ get_or files last y) × (same_content x y ≡ false)) → IsLastRun files start
+last_run files start last x y up e l h stop = record {
+  inside = omega arith;
+  run = record {
+    size = (get_or files last y).size;
+    digest = (get_or files last y).digest;
+    all = λ k d m.
+        let here : same_content (get_or files (start + k) y) (get_or files last y) ≡ true =
+        h (start + k) y (omega arith) (omega (arith, m, length-drop start files)) in
+        let same : key (get_or files (start + k) y) ≡ key (get_or files last y) = same_key (get_or files (start + k) y) (get_or files last y) here in
+        let at : get_or (drop start files) k d ≡ get_or files (start + k) y =
+        get_or-drop start files k d ∙ get_or_default files (start + k) d y (omega (arith, m, length-drop start files)) in
+        subst (HasContent (get_or files last y).size (get_or files last y).digest) (sym at) (record { of_size = cc; of_digest = cc });
+  };
+  others = λ j k d m n inside. by j k d m n inside (same_content (get_or files j d) (get_or files k d)) refl;
+}
+  where
+    far : (i j : ℕ) (d : File) → i ≤ j → j < length files → is_lt (content_cmp (get_or files j d) (get_or files i d)) ≡ false
+    far = sorted_far (λ a b. is_lt (content_cmp a b)) (ranks_by nat_list_cmp_total key) files up
+
+    by : (j k : ℕ) (d : File) → j < start → start ≤ k → k < length files → (b : Bool) → same_content (get_or files j d) (get_or files k d) ≡ b →
+        same_content (get_or files j d) (get_or files k d) ≡ false
+    by j k d m n inside false z = z
+    by j k d m n inside true z =
+        let s = stop (omega arith) in
+        let before = get_or files (start - 1) d in
+        let one : key (get_or files j d) ≡ key (get_or files last d) =
+        same_key (get_or files j d) (get_or files k d) z ∙ same_key (get_or files k d) (get_or files last d) (h k d n inside) in
+        let up_to : is_lt (content_cmp before (get_or files j d)) ≡ false = far j (start - 1) d (omega arith) (omega arith) in
+        let from : is_lt (content_cmp (get_or files last d) before) ≡ false = far (start - 1) last d (omega arith) (omega arith) in
+        let from' : is_lt (content_cmp (get_or files j d) before) ≡ false =
+        ap (λ (c : List ℕ). is_lt (slice_cmp nat_cmp c (key before))) one ∙ from in
+        let same : key before ≡ key (get_or files last d) = level before (get_or files j d) up_to from' ∙ one in
+        let x_is : get_or files (start - 1) d ≡ x = get_or_default files (start - 1) d x (omega arith) ∙ sym s.0 in
+        let y_is : get_or files last d ≡ y = get_or_default files last d y (omega arith) ∙ sym s.1 in
+        absurd (false≢true (sym s.2 ∙ (λ i. same_content (sym x_is i) (sym y_is i)) ∙ key_same before (get_or files last d) same))
+
+-- ---- what is left in front
+
+pub sorted_take : (files : List File) (n : ℕ) → IsSorted content_cmp files → IsSorted content_cmp (take n files)
+sorted_take files n up k d l m =
+    let a : k + 1 < n = in_front files n (k + 1) m in
+    (λ i. is_lt (content_cmp (get_or-take n files (k + 1) d a i) (get_or-take n files k d (omega arith) i))) ∙ up k d l (in_all files n (k + 1) m)
+  where
+    in_front : (xs : List File) (n k : ℕ) → k < length (take n xs) → k < n
+    in_front xs zero k l = absurd (omega arith)
+    in_front [] (suc n) k l = absurd (omega arith)
+    in_front (x ∷ xs) (suc n) zero l = omega arith
+    in_front (x ∷ xs) (suc n) (suc k) l = (let r = in_front xs n k (omega arith) in omega arith)
+
+    in_all : (xs : List File) (n k : ℕ) → k < length (take n xs) → k < length xs
+    in_all xs zero k l = absurd (omega arith)
+    in_all [] (suc n) k l = absurd (omega arith)
+    in_all (x ∷ xs) (suc n) zero l = omega arith
+    in_all (x ∷ xs) (suc n) (suc k) l = (let r = in_all xs n k (omega arith) in omega arith)
+
+pub still_take : (n : ℕ) (files : List File) → map still files ≡ files → map still (take n files) ≡ take n files
+still_take n files e = map-take_by n files ∙ ap (take n) e
+  where
+    map-take_by : (n : ℕ) (xs : List File) → map still (take n xs) ≡ take n (map still xs)
+    map-take_by zero xs = refl
+    map-take_by (suc n) [] = refl
+    map-take_by (suc n) (x ∷ xs) = ap (λ r. still x ∷ r) (map-take_by n xs)
+
+pub still_drop : (n : ℕ) (files : List File) → map still files ≡ files → map still (drop n files) ≡ drop n files
+still_drop n files e = map-drop_by n files ∙ ap (drop n) e
+  where
+    map-drop_by : (n : ℕ) (xs : List File) → map still (drop n xs) ≡ drop n (map still xs)
+    map-drop_by zero xs = refl
+    map-drop_by (suc n) [] = refl
+    map-drop_by (suc n) (x ∷ xs) = map-drop_by n xs
+
+-- a run is of the size and the digest of any of its files
+pub run_of : (run : List File) (k : ℕ) (x : File) → k < length run → x ≡ get_or run k x → IsRun run → All (HasContent x.size x.digest) run
+run_of run k x l e r j d m =
+    let a = r.all k x l in
+    let b = r.all j d m in
+    let sizes : x.size ≡ r.size = ap (λ (f : File). f.size) e ∙ a.of_size in
+    let digests : x.digest ≡ r.digest = ap (λ (f : File). f.digest) e ∙ a.of_digest in
+    record { of_size = b.of_size ∙ sym sizes; of_digest = b.of_digest ∙ sym digests }
+
+-- all files are of one content
+pub last_run_whole : (files : List File) (start : ℕ) → 0 < length files → IsSorted content_cmp files → start ≡ 0 → AreFrom files start (length files - 1) →
+    IsLastRun files start
+last_run_whole [] start some up begun h = absurd (omega arith)
+last_run_whole (f ∷ files) start some up begun h =
+    last_run (f ∷ files) start (length (f ∷ files) - 1) f f up (omega arith) (omega arith) h (λ later. absurd (omega arith))

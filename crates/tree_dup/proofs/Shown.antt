@@ -1,0 +1,23 @@
+-- The answer of a read for which bytes are missed.
+use Rattle.std.proofs.Common.{◌≡◌, ℕ, List, Ok, Err, subst, inl, inr}
+use Rattle.outside.specs.Asked.{Asks}
+use Rattle.outside.specs.Asked as asked
+use Rattle.outside.specs.declared.trees.ReadError.{ReadError}
+use Rattle.outside.specs.declared.trees.ReadError.TheVariants as read
+use Rattle.tree_dup.specs.declared.filling.Missing.TheVariants.{Changed}
+use Rattle.tree_dup.specs.Private.Reading.{missing, ShowsMissing}
+
+module _ {S : Type 0} (gives : Asks S) where
+  -- a read was refused
+  pub refused : (path : List ℕ) (at : ℕ) (why : ReadError) (before after : S) → gives before (asked.read path at (Err why)) after
+      → ShowsMissing gives path (missing why)
+  refused path at read.Failed before after g = record { at = at; after = after; read = record { before = before; given = g } }
+  refused path at read.NotFile before after g = record { at = at; after = after; read = inr (record { before = before; given = g }) }
+
+  -- a read gave no byte
+  pub ended : (path : List ℕ) (at n : ℕ) (before after : S) → n ≡ 0 → gives before (asked.read path at (Ok n)) after → ShowsMissing gives path Changed
+  ended path at n before after e g = record {
+    at = at;
+    after = after;
+    read = inl (record { before = before; given = subst (λ k. gives before (asked.read path at (Ok k)) after) e g });
+  }

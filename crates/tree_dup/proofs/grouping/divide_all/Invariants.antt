@@ -1,0 +1,23 @@
+use Rattle.std.proofs.Common.{◌≡◌, List, [], ◌∷◌, length, map, IsSorted}
+use Rattle.flat_list.specs.declared.entries.Entry.{Entry}
+use Rattle.tree_dup.specs.Grouping.{HaveCauses}
+use Rattle.tree_dup.specs.Private.Running.{HasRoom, KeepsUp, content_cmp, still}
+use Rattle.tree_dup.specs.Private.Sifting.{AreSifted}
+use Rattle.tree_dup.proofs.grouping.divide_all.Given as goal
+
+abbrev pub invariant-loop-alloc : goal.invariant-loop-alloc
+invariant-loop-alloc g l =
+    let reader = g.R.Tree in
+    record {
+      sorted : IsSorted content_cmp l.files.items;
+      alike : map still l.files.items ≡ l.files.items;
+      sifted : (list : List Entry) → AreSifted (reader.tree l.fn.reader) list (l.fn.files.items ∷ []) l.fn.found →
+          AreSifted (reader.tree l.fn.reader) list (l.files.items ∷ []) l.found;
+      counted : KeepsUp (length l.fn.found.failed) (length l.found.failed) (reader.count l.fn.reader) (reader.count l.reader);
+      causes : HaveCauses reader.gives l.fn.found → HaveCauses reader.gives l.found;
+      same : reader.tree l.reader ≡ reader.tree l.fn.reader;
+      room : HasRoom l.desk;
+    }
+
+abbrev pub decreases-loop-alloc : goal.decreases-loop-alloc
+decreases-loop-alloc g l = length l.files.items

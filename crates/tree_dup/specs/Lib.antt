@@ -1,0 +1,4 @@
+pub mod Grouping
+pub mod Private
+pub mod Shown
+pub mod Told

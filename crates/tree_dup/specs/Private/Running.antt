@@ -1,0 +1,162 @@
+-- Runs of files, and what reading the files of a run comes to. Our own.
+-- Only clauses of this crate's own functions cite this file.
+use Rattle.std.specs.Prelude.{◌≡◌, ◌≢◌, ℕ, ◌+◌, ◌-◌, ◌^◌, ◌<◌, ◌≤◌, Bool, true, false, ◌&&◌, ◌==◌, List, length, take, drop, map, Option, All, nat_eq}
+use Rattle.std.specs.Prelude.{slice_index_or, if◌then◌else◌}
+use Rattle.std.specs.List.{sum_by}
+use Rattle.std.specs.FinMap.{get}
+use Rattle.std.specs.Cmp.Lexicographic.{pointwise, slice_cmp}
+use Rattle.std.specs.Ordering.{nat_cmp, ordering_then}
+use Rattle.std.specs.declared.cmp.Ordering.{Ordering}
+use Rattle.outside.specs.Asked.{Asks}
+use Rattle.outside.specs.Tree.{Files, content}
+use Rattle.tree_dup.specs.declared.filling.Missing.TheVariants as m
+use Rattle.tree_dup.specs.declared.runs.Standing.{Standing}
+use Rattle.tree_dup.specs.declared.runs.Standing.TheVariants as s
+use Rattle.tree_dup.specs.declared.runs.File.{File}
+use Rattle.tree_dup.specs.declared.comparing.Desk.{Desk}
+use Rattle.tree_dup.specs.Private.Reading.{IsFileOf, ShowsMissing}
+
+-- ---- files by their content
+
+abbrev pub content_cmp : File → File → Ordering
+content_cmp a b = ordering_then (nat_cmp a.size b.size) (slice_cmp nat_cmp a.digest b.digest)
+
+abbrev pub same_content : File → File → Bool
+same_content a b = a.size == b.size && pointwise nat_eq a.digest b.digest
+
+-- a file of this size and this digest
+pub record HasContent (size : ℕ) (digest : List ℕ) (f : File) : Type 0 where
+  pub of_size : f.size ≡ size
+  pub of_digest : f.digest ≡ digest
+
+-- files of one size and one digest
+pub record IsRun (files : List File) : Type 0 where
+  pub size : ℕ
+  pub digest : List ℕ
+  pub all : All (HasContent size digest) files
+
+-- from this place on the files are of the size and the digest of the last one, and none before is
+pub record IsLastRun (files : List File) (start : ℕ) : Type 0 where
+  pub inside : start < length files
+  pub run : IsRun (drop start files)
+  pub others : (j k : ℕ) (d : File) → j < start → start ≤ k → k < length files → same_content (slice_index_or files j d) (slice_index_or files k d) ≡ false
+
+-- ---- standings
+
+abbrev pub standing_alike : Standing → Bool
+standing_alike s.Alike = true
+standing_alike s.Other = false
+standing_alike (s.Missed why) = false
+
+abbrev pub standing_other : Standing → Bool
+standing_other s.Alike = false
+standing_other s.Other = true
+standing_other (s.Missed why) = false
+
+abbrev pub standing_failed : Standing → Bool
+standing_failed s.Alike = false
+standing_failed s.Other = false
+standing_failed (s.Missed m.Failed) = true
+standing_failed (s.Missed m.Changed) = false
+
+abbrev pub standing_changed : Standing → Bool
+standing_changed s.Alike = false
+standing_changed s.Other = false
+standing_changed (s.Missed m.Failed) = false
+standing_changed (s.Missed m.Changed) = true
+
+abbrev pub is_alike : File → Bool
+is_alike f = standing_alike f.standing
+
+abbrev pub is_other : File → Bool
+is_other f = standing_other f.standing
+
+abbrev pub is_failed : File → Bool
+is_failed f = standing_failed f.standing
+
+abbrev pub is_changed : File → Bool
+is_changed f = standing_changed f.standing
+
+-- a file as it is before its run is read
+abbrev pub still : File → File
+still f = record f { standing = s.Alike }
+
+abbrev pub paths_of : List File → List (List ℕ)
+paths_of files = map (λ f. f.path) files
+
+-- how many faults a standing was counted for
+abbrev pub failures_of : Standing → ℕ
+failures_of standing = if standing_failed standing then 1 else 0
+
+abbrev pub failures : List File → ℕ
+failures files = sum_by (λ f. failures_of f.standing) files
+
+-- a file that was missed was asked for, and answered so
+abbrev pub StandingShows : {S : Type 0} → Asks S → List ℕ → Standing → Type 0
+StandingShows gives path s.Alike = Unit {0}
+StandingShows gives path s.Other = Unit {0}
+StandingShows gives path (s.Missed why) = ShowsMissing gives path why
+
+abbrev pub Shows : {S : Type 0} → Asks S → File → Type 0
+Shows gives f = StandingShows gives f.path f.standing
+
+-- the count went from old to new while the faults told went from before to after, or stands at its end
+pub record KeepsUp (before after old new : ℕ) : Type 0 where
+  pub kept : old ≤ new
+  pub told : before ≤ after
+  pub rose : new < 2 ^ 64 - 1 → old + after ≤ new + before
+
+-- ---- what is read of a run
+
+-- two buffers of one length that is not 0
+pub record HasRoom (d : Desk) : Type 0 where
+  pub some : 0 < length d.ours.items
+  pub as_long : length d.theirs.items ≡ length d.ours.items
+
+module _ {R : Type 0} (tree : R → Option Files) (count : R → ℕ) (gives : Asks R) where
+  -- a reader read of one file of a run
+  pub record Moved (r r' : R) (f f' : File) : Type 0 where
+    pub same : tree r' ≡ tree r
+    pub file : still f' ≡ still f
+    pub counted : KeepsUp (failures_of f.standing) (failures_of f'.standing) (count r) (count r')
+    pub shows : Shows gives f → Shows gives f'
+    -- only files that are alike still are read
+    pub idle : is_alike f ≡ false → f' ≡ f
+
+  -- a reader read of the files of a run
+  pub record Went (r r' : R) (run run' : List File) : Type 0 where
+    pub same : tree r' ≡ tree r
+    pub files : map still run' ≡ map still run
+    pub counted : KeepsUp (failures run) (failures run') (count r) (count r')
+    pub shows : All (Shows gives) run → All (Shows gives) run'
+    pub idle : (k : ℕ) (d : File) → k < length run → is_alike (slice_index_or run k d) ≡ false → slice_index_or run' k d ≡ slice_index_or run k d
+
+-- the tree has a file of its size
+abbrev pub IsThere : Files → File → Type 0
+IsThere tree f = IsFileOf (get tree f.path) f.size
+
+-- how bytes that are as long stand to those of the lead
+abbrev pub Stands : Standing → List ℕ → List ℕ → Type 0
+Stands s.Alike bytes lead = bytes ≡ lead
+Stands s.Other bytes lead = bytes ≢ lead
+Stands (s.Missed m.Failed) bytes lead = Unit {0}
+Stands (s.Missed m.Changed) bytes lead = ⊥
+
+-- so do the first bytes of a file to those of the lead
+abbrev pub StandsAt : Files → ℕ → List ℕ → File → Type 0
+StandsAt tree at lead f = Stands f.standing (take at (content (get tree f.path))) lead
+
+-- and all of them
+abbrev pub StandsTo : Files → List ℕ → File → Type 0
+StandsTo tree lead f = Stands f.standing (content (get tree f.path)) lead
+
+-- the files of a run are divided by their first bytes
+pub record AreDivided (tree : Files) (at : ℕ) (files : List File) : Type 0 where
+  pub lead : List ℕ
+  pub long : length lead ≡ at
+  pub each : All (StandsAt tree at lead) files
+
+-- the files of a run are divided by their bytes
+pub record AreSettled (tree : Files) (files : List File) : Type 0 where
+  pub lead : List ℕ
+  pub each : All (StandsTo tree lead) files
