@@ -28,7 +28,7 @@ ESCAPED = re.compile(rb"\\x([0-9A-F]{2})")
 
 
 def make(top):
-    """Makes the trees that the tools run over: `t`, an almost equal `u`, a folder `d` to copy into, and a list file `l`."""
+    """Makes the trees that the tools run over: `t`, a similar `u`, a folder `d` to copy into, and a list file `l`."""
     for name in ("t", "u"):
         for folder in ("", "/a", "/a/deep", "/b", "/empty"):
             os.makedirs(f"{top}/{name}{folder}")
@@ -37,6 +37,11 @@ def make(top):
                 with open(f"{top}/{name}{folder}/f{number}", "wb") as file:
                     file.write(bytes([number]) * (70000 * number + 10))
     os.symlink("f0", f"{top}/t/a/l")
+    os.symlink("f0", f"{top}/t/b/l")
+    os.symlink("f1", f"{top}/u/b/l")
+    os.makedirs(f"{top}/u/old/deep")
+    with open(f"{top}/u/old/f", "wb") as file:
+        file.write(b"old")
     with open(f"{top}/u/b/f2", "r+b") as file:
         file.write(b"other")
     os.mkdir(f"{top}/d")
@@ -56,6 +61,7 @@ def tools(top):
         "dfind": ["dfind", "--name", "f*", "--newer", f"{top}/l", f"{top}/t"],
         "dcmp": ["dcmp", "-o", f"EXIST=COMMON:{top}/o", f"{top}/t", f"{top}/u"],
         "dcp": ["dcp", f"{top}/t", f"{top}/d"],
+        "dsync": ["dsync", "--delete", f"{top}/t", f"{top}/u"],
         "drm": ["drm", f"{top}/t"],
     }
 
@@ -120,7 +126,13 @@ def is_near(one, other):
     return one == other or one.startswith(other + "/") or other.startswith(one + "/")
 
 
-def wrong_in(tool, top, call, path, plain, now):
+def source_of(tool, top, path):
+    """The path of the source whose target this is, or the path itself."""
+    target = {"dcp": f"{top}/d/t", "dsync": f"{top}/u"}.get(tool)
+    return f"{top}/t{path[len(target):]}" if target and (path == target or path.startswith(f"{target}/")) else path
+
+
+def wrong_in(tool, top, path, plain, now):
     """What is wrong with a run in which the call at the path failed, beside the undisturbed one, or None."""
     (status, out, notes), before = plain
     (new_status, new_out, new_notes), after = now
@@ -138,10 +150,11 @@ def wrong_in(tool, top, call, path, plain, now):
     named = [path_of(note) for note in new_notes if note not in notes]
     if not named:
         return "nothing is named"
-    source = path.replace(f"{top}/d/t", f"{top}/t", 1)
-    if not any(is_near(source, one) or is_near(os.path.dirname(source), one) for one in named):
+    near = {*named, *(source_of(tool, top, one) for one in named)}
+    source = source_of(tool, top, path)
+    if not any(is_near(source, one) or is_near(os.path.dirname(source), one) for one in near):
         return f"named are {named}"
-    off = lambda one: any(is_near(of, other) for of in (one, one.replace(f"{top}/d/t", f"{top}/t", 1)) for other in named)
+    off = lambda one: any(is_near(path, other) for path in (one, source_of(tool, top, one)) for other in near)
     differ = [one for one in {**before, **after} if before.get(one) != after.get(one) and not off(one) and one != f"{top}/o"]
     return f"on the disk differ {differ}" if differ else None
 
@@ -166,7 +179,7 @@ def main():
                 for error in ERRORS:
                     fresh()
                     now = run(program, words, work, f"{call}:error={error}:when={number}"), state(top)
-                    fault = wrong_in(tool, top, call, path.replace(work + "/out", top + "/out").replace(work + "/notes", top + "/notes"), plain, now)
+                    fault = wrong_in(tool, top, path.replace(work + "/out", top + "/out").replace(work + "/notes", top + "/notes"), plain, now)
                     tried += 1
                     by_status[now[0][0]] = by_status.get(now[0][0], 0) + 1
                     if fault:

@@ -3,7 +3,7 @@
 
 usage: races.py [PROGRAM [RUNS]]
 
-RUNS runs (500 by default) of dwalk, dcmp, dcp and drm in turn, each over a fresh tree, while two other processes take directories of
+RUNS runs (500 by default) of dwalk, dcmp, dcp, dsync and drm in turn, each over a fresh tree, while two other processes take directories of
 it away, put links to a directory with the same names in their places, and take that back, as fast as they can. The trees and the
 swapping belong to an ordinary user, who may not write outside, so whatever changes there was changed by the program. If root runs
 this, half of the runs are root's, and the user may not read the directory outside; in the other half a second user runs the program,
@@ -11,7 +11,7 @@ who owns that directory and may write in the trees. If an ordinary user runs thi
 swapped directly below the tops alone, so that no swap goes through a link. After each run the script looks at:
 
 - the directory outside: no path of it is gone or new, and no byte of it is another one;
-- dcp: no byte of a file outside stands in what was copied;
+- dcp and dsync: no byte of a file outside stands in what was copied;
 - the status: 0 or 1, and 1 where there is a note.
 
 The last line counts the runs, how often a directory was seen swapped, and what was wrong.
@@ -27,7 +27,7 @@ import time
 
 NOBODY, SWAPPER = 65534, 65533
 OWN, OTHER = b"own bytes\n", b"bytes from outside\n"
-TOOLS = ("dwalk", "dcmp", "dcp", "drm")
+TOOLS = ("dwalk", "dcmp", "dcp", "dsync", "drm")
 
 
 def fill(top, content):
@@ -113,6 +113,7 @@ def words(tool, work):
         "dwalk": ["dwalk", f"{work}/t"],
         "dcmp": ["dcmp", f"{work}/t", f"{work}/u"],
         "dcp": ["dcp", f"{work}/t", f"{work}/d"],
+        "dsync": ["dsync", "--delete", f"{work}/t", f"{work}/u"],
         "drm": ["drm", f"{work}/t"],
     }[tool]
 
@@ -121,7 +122,7 @@ def one_run(program, tool, work, user, swapper, seed):
     """Runs a tool beside the swapping, and answers what was wrong."""
     outside = f"{work}/outside/top"
     before = state(outside)
-    tops = [f"{work}/t"] + ([f"{work}/d/t"] if tool == "dcp" else []) + ([f"{work}/u"] if tool == "dcmp" else [])
+    tops = [f"{work}/t"] + ([f"{work}/d/t"] if tool == "dcp" else []) + ([f"{work}/u"] if tool in ("dcmp", "dsync") else [])
     children = [start_swapping(tops, outside, f"{work}/aside", seed * 2 + k, swapper) for k in (0, 1)]
     time.sleep(0.003)
     try:
@@ -135,8 +136,9 @@ def one_run(program, tool, work, user, swapper, seed):
     for path in sorted(set(before) | set(after)):
         if before.get(path, b"") != after.get(path, b""):
             wrong.append(f"outside: {path}")
-    if tool == "dcp":
-        wrong += [f"copied from outside: {path}" for path, held in state(f"{work}/d").items() if held == OTHER]
+    made = {"dcp": f"{work}/d", "dsync": f"{work}/u"}.get(tool)
+    if made:
+        wrong += [f"copied from outside: {path}" for path, held in state(made).items() if held == OTHER]
     if done.returncode not in (0, 1) or (done.returncode == 1) != bool(done.stderr):
         wrong.append(f"status {done.returncode} with {len(done.stderr.splitlines())} notes")
     return wrong, len(done.stderr.splitlines())
@@ -159,7 +161,7 @@ def main():
         os.makedirs(f"{work}/aside")
         os.makedirs(f"{work}/d")
         fill(f"{work}/t", OWN)
-        fill(f"{work}/u", OWN)
+        fill(f"{work}/u", b"old" if tool == "dsync" else OWN)
         fill(f"{work}/outside/top", OTHER)
         if root:
             owned = [work] + [os.path.join(folder, name) for folder, folders, files in os.walk(work) for name in (*folders, *files)]

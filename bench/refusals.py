@@ -76,7 +76,8 @@ def run(program, words, shim, work, refused, counts=False):
 
 def may_change(tool, top, path):
     """Whether the path may be otherwise after want of memory."""
-    return path == f"{top}/o" or (tool == "dcp" and path.startswith(f"{top}/d/t")) or (tool == "drm" and (path == f"{top}/t" or path.startswith(f"{top}/t/")))
+    changed = {"dcp": f"{top}/d/t", "dsync": f"{top}/u", "drm": f"{top}/t"}.get(tool)
+    return path == f"{top}/o" or changed is not None and (path == changed or path.startswith(f"{changed}/"))
 
 
 def wrong_in(tool, top, plain, now, first, is_gathering):
