@@ -3,7 +3,7 @@ _mfu() {
     local cur=${COMP_WORDS[COMP_CWORD]} prev=${COMP_WORDS[COMP_CWORD-1]} words
     COMPREPLY=()
     if [ "$COMP_CWORD" -eq 1 ]; then
-        mapfile -t COMPREPLY < <(compgen -W 'dwalk dfind dcmp dcp drm dtest help --help --version' -- "$cur")
+        mapfile -t COMPREPLY < <(compgen -W 'dwalk dfind dcmp dcp dsync drm dtest help --help --version' -- "$cur")
         return
     fi
     # A `=` between an option and its value is a word of its own.
@@ -13,7 +13,7 @@ _mfu() {
         prev=${COMP_WORDS[COMP_CWORD-2]}
     fi
     case ${COMP_WORDS[1]}:$prev in
-        help:help) words='dwalk dfind dcmp dcp drm dtest globs expressions messages statuses permissions' ;;
+        help:help) words='dwalk dfind dcmp dcp dsync drm dtest globs expressions messages statuses permissions' ;;
         dwalk:--sort) words='path name size mtime kind -path -name -size -mtime -kind' ;;
         dwalk:--output) _mfu_paths; return ;;
         dwalk:--input) _mfu_paths; return ;;
@@ -50,6 +50,11 @@ _mfu() {
         dcp:--split) words='equal random' ;;
         dcp:--seed) return ;;
         dcp:--width) return ;;
+        dsync:--ranks) return ;;
+        dsync:--hosts) return ;;
+        dsync:--split) words='equal random' ;;
+        dsync:--seed) return ;;
+        dsync:--width) return ;;
         drm:--name) return ;;
         drm:--path) return ;;
         drm:--type) words='f d l o' ;;
@@ -86,6 +91,9 @@ _mfu() {
         dcp:*)
             if [[ $cur != -* ]]; then _mfu_paths; return; fi
             words='--ranks --hosts --split --seed --width --help' ;;
+        dsync:*)
+            if [[ $cur != -* ]]; then _mfu_paths; return; fi
+            words='--delete --ranks --hosts --split --seed --width --help' ;;
         drm:*)
             if [[ $cur != -* ]]; then _mfu_paths; return; fi
             words='--dryrun --name --path --type --size --mtime --mmin --newer --ranks --hosts --split --seed --width --help' ;;

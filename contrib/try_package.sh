@@ -21,9 +21,10 @@ is dfind "$(mfu dfind --input /tmp/site.list --type d | wc -l)" 5
 is dcp "$(mfu dcp --hosts 4 /tmp/site/logs /tmp/site.copy)" 'copied 4 items 4 bytes 3820 failed 0'
 is dcmp "$(mfu dcmp /tmp/site/logs /tmp/site.copy | tail -n 1)" \
     'rows 4 only_src 0 only_dest 0 common 4 differ_type 0 differ_size 0 differ_content 0 failed 0'
-is drm "$(mfu drm /tmp/site.copy | tail -n 1)" 'removed 4 of 4 failed 0'
+is dsync "$(mfu dsync --delete --hosts 4 /tmp/site/notes /tmp/site.copy)" 'synced 2 removed 3 kept 1 failed 0'
+is drm "$(mfu drm /tmp/site.copy | tail -n 1)" 'removed 3 of 3 failed 0'
 is dtest "$(mfu dtest 1000)" 'items 1000 dirs 125 files 875 links 0 others 0 bytes 43838 failed 0'
-for tool in dwalk dfind dcmp dcp drm dtest; do
+for tool in dwalk dfind dcmp dcp dsync drm dtest; do
     mfu help $tool >/dev/null
     [ -f /usr/share/man/man1/mfu-$tool.1.gz ]
 done
