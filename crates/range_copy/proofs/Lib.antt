@@ -1,2 +1,10 @@
-mod Cover
-mod Multiples
+pub mod Cover
+pub mod Dealt
+pub mod Ended
+pub mod Fills
+pub mod Joined
+pub mod Loaded
+pub mod Made
+pub mod Multiples
+pub mod Rejoined
+pub mod Worked
