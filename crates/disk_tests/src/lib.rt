@@ -12,8 +12,6 @@ mod fakes;
 #[cfg(test)]
 mod grudges;
 #[cfg(test)]
-mod link_faults;
-#[cfg(test)]
 mod links;
 #[cfg(test)]
 mod lives;
