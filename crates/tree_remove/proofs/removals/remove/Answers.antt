@@ -27,7 +27,9 @@ pub returns-in_err-fates-clause-rest : goal.returns-in_err-fates-clause-rest
 returns-in_err-fates-clause-rest g c = rest_of c.args.chosen.now _ _ _ (c.deref.ensures.value ∙ c.in_ok-items.ensures.items) c.in_err-fates.ensures.rest
 
 pub returns-clause-paths : goal.returns-clause-paths
-returns-clause-paths g c = ap (map (λ row. row.0)) c.in_ok-rows.ensures ∙ row_paths c.args.chosen.now _ _ c.in_ok-items.ensures.items (c.in_ok-fates.ensures.len ∙ ap length c.deref.ensures.value)
+returns-clause-paths g c =
+    ap (map (λ row. row.0)) c.in_ok-rows.ensures
+    ∙ row_paths c.args.chosen.now _ _ c.in_ok-items.ensures.items (c.in_ok-fates.ensures.len ∙ ap length c.deref.ensures.value)
 
 pub rows_of-requires : goal.rows_of-requires
 rows_of-requires g c = c.in_ok-fates.ensures.len ∙ ap length c.deref.ensures.value
