@@ -19,6 +19,7 @@ pub mod MailboxLemmas
 pub mod HaltSteps
 pub mod MailboxSteps
 pub mod MomentLemmas
+pub mod Turned
 pub mod SeatSteps
 pub mod CallLemmas
 pub mod FindLemmas

@@ -62,6 +62,10 @@ pub record IsSeat (b : Board) (s : BoardSeat) : Type 0 where
   pub held : s.seat.me.1 ≡ map (λ r. (r, None)) s.held.items
   pub holds : (r : ℕ) → serves s.seat.me.0.own r ≡ true → Contains s.held.items r
 
+-- the seat has read no word yet
+abbrev pub IsUnread : BoardSeat → Type 0
+IsUnread s = s.seat.me.0.own.readings ≡ []
+
 -- the lists of a seat that gave nothing and took nothing
 abbrev pub unused : ℕ → Batches
 unused n = record { given = replicate n []; taken = replicate n [] }

@@ -12,5 +12,6 @@ pub mod BoardRule
 pub mod BoardMoments
 pub mod BoardSteps
 pub mod LateSteps
+pub mod BoardTurns
 pub mod BoardSeats
 pub mod BoardWork

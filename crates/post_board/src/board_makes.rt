@@ -1,8 +1,8 @@
 //! A board and its seats are made.
-ghost use Rattle.std.specs.Prelude.{◌≡◌, ◌+◌, ◌<◌, ◌≤◌, [], length, true, false, IfOk, Some};
+ghost use Rattle.std.specs.Prelude.{◌≡◌, ◌+◌, ◌<◌, ◌≤◌, [], length, true, false, All, IfOk, Some};
 ghost use Rattle.post_board.specs.Fresh.{AllFresh, fresh as fresh_shown};
 ghost use Rattle.post_board.specs.BoardRule.{fresh, dealing, opened};
-ghost use Rattle.post_board.specs.BoardSeats.{shown_by, IsSeat, unused};
+ghost use Rattle.post_board.specs.BoardSeats.{shown_by, IsSeat, IsUnread, unused};
 
 use crate::board_rules::Deal;
 use crate::board_views::View;
@@ -15,11 +15,13 @@ use std::alloc::Global;
 use std::collections::VecDeque;
 
 impl Board {
-    /// A board of `n` ranks and their seats, in ascending number. Each rank begins busy, and the token lies black at rank 0.
+    /// A board of `n` ranks and their seats, in ascending number. Each rank begins busy, the token lies black at rank 0, and no
+    /// seat has read a word.
     pub fn make(alloc: Global, n: u32) -> Result<(Board, Vec<BoardSeat>), OutOfMemory>
         requires one { 1 ≤ n }
         requires at_most_64 { n ≤ 64 }
         ensures seats { IfOk result (λ made. AllFresh shown_by (IsSeat made.0) n (Some (unused n)) made.1.items) }
+        ensures unread { IfOk result (λ made. All IsUnread made.1.items) }
     {
         let mut words = vec![in alloc; 0u64; n as usize + 3]?;
         words[0] = 2;
@@ -39,6 +41,7 @@ impl Board {
         requires table { first.table_id ≡ self.now.table.shared.table_id }
         requires view { first.me ≡ (opened self.now.n, []) }
         ensures seats { IfOk result (λ made. AllFresh shown_by (IsSeat self.now) self.now.n (Some (unused self.now.n)) made.items) }
+        ensures unread { IfOk result (λ made. All IsUnread made.items) }
     {
         let n = self.n;
         let mut seats = Vec::with_capacity(alloc, n as usize)?;
@@ -80,6 +83,7 @@ impl BoardSeat {
         requires inside { number < board.now.n }
         ensures seat { IfOk result (λ s. IsSeat board.now s) }
         ensures shown { IfOk result (λ s. shown_by s ≡ fresh_shown board.now.n number (Some (unused board.now.n))) }
+        ensures unread { IfOk result IsUnread }
     {
         let n = board.n;
         let held = VecDeque::with_capacity(alloc, n as usize)?;

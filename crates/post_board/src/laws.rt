@@ -9,6 +9,7 @@ ghost use Rattle.post_board.specs.Plain.{told_by, Seats};
 ghost use Rattle.post_board.specs.Reached.{Reached};
 ghost use Rattle.post_board.specs.BoardRule.{TableState, Rule, taken, given, token_in};
 ghost use Rattle.post_board.specs.BoardMoments.{told_at, on_way_at, NothingLeft};
+ghost use Rattle.post_board.specs.BoardTurns.{StepsAreDeeds, MailboxTurns, RingTurns, HaltTurns};
 ghost use Rattle.post_board.specs.LateSteps.{SetHaltKeeps, LoadHaltKeeps, StopKeeps, LoadStopsKeeps, WithdrawKeeps};
 ghost use Rattle.post_board.specs.declared.plain_boards.PlainBoard.{PlainBoard};
 ghost use Rattle.post_board.specs.declared.plain_seats.PlainSeat.{PlainSeat};
@@ -58,4 +59,12 @@ pub fn late_steps_keep_the_rule()
     ensures stop { StopKeeps }
     ensures load_stops { LoadStopsKeeps }
     ensures withdraw { WithdrawKeeps }
+{}
+
+/// Each step of a seat on a [`Board`](crate::Board) is one deed of its rank, or leaves the picture as it is. So the picture goes
+/// through the events of the crate `ring_core`, one after the other, whatever the threads do.
+pub fn board_steps_are_deeds()
+    ensures mailboxes { StepsAreDeeds MailboxTurns }
+    ensures ring { StepsAreDeeds RingTurns }
+    ensures halts { StepsAreDeeds HaltTurns }
 {}

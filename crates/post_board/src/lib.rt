@@ -51,7 +51,8 @@
 //! A slot is with the rank that serves its owner from the taking up until the answer, and with its owner while that takes the batch
 //! out. A rank looks for requests by a load of each mailbox, and takes one up by a compare_exchange where it read a request to
 //! itself. A board of words tells no picture, since it has none that stands still; its seats tell their readings and keep their
-//! batches. The rule keeps the steps of a halt and of stops too ([`late_steps_keep_the_rule`]): a look at the ring is followed by one at
+//! batches. Each step is one deed on the picture, or none ([`board_steps_are_deeds`]).
+//! The rule keeps the steps of a halt and of stops too ([`late_steps_keep_the_rule`]): a look at the ring is followed by one at
 //! the halt, unless it read the end, and a look at the own mailbox comes after one at the stops. Where the bit of the rank that was
 //! asked is set there, the mailbox is put to rest by a compare_exchange that expects the request; it fails where an answer lies there,
 //! which is then taken.
@@ -94,8 +95,8 @@ mod ring_words;
 pub use answers::{Answer, Gathered, Reading, Ring};
 pub use boards::{Board, BoardSeat};
 pub use laws::{
-    board_is_sound_at_every_moment, deeds_are_events, deeds_keep_sound, late_keeps_sound,
-    late_steps_keep_the_rule, told_is_sound, words_are_read_back,
+    board_is_sound_at_every_moment, board_steps_are_deeds, deeds_are_events, deeds_keep_sound,
+    late_keeps_sound, late_steps_keep_the_rule, told_is_sound, words_are_read_back,
 };
 pub use plain_boards::PlainBoard;
 pub use plain_seats::PlainSeat;

@@ -47,6 +47,10 @@ pub record IsSeat (t : SumTree) (s : SumSeat) : Type 0 where
   -- the word is no more than what was counted and read before
   pub low : s.seat.me.0.own.word ≤ s.seat.me.0.own.count + below s.seat.me.0.own
 
+-- the seat has read no word yet
+abbrev pub IsUnread : SumSeat → Type 0
+IsUnread s = s.seat.me.0.own.readings ≡ []
+
 -- the seats of all n ranks, in ascending number, as they are at first
 pub record AllFresh (t : SumTree) (n width : ℕ) (all : List SumSeat) : Type 0 where
   pub count : length all ≡ n

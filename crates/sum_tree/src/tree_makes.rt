@@ -1,9 +1,9 @@
 //! Sums and their seats are made.
-ghost use Rattle.std.specs.Prelude.{◌≡◌, ◌+◌, ◌<◌, ◌≤◌, [], length, true, IfOk, map, slice_index_or, ℕ};
+ghost use Rattle.std.specs.Prelude.{◌≡◌, ◌+◌, ◌<◌, ◌≤◌, [], length, true, All, IfOk, map, slice_index_or, ℕ};
 ghost use Rattle.std.specs.List.{range_with_len};
 ghost use Rattle.sum_tree.specs.Plain.{fresh as fresh_shown};
 ghost use Rattle.sum_tree.specs.TreeRule.{fresh, dealing, opened};
-ghost use Rattle.sum_tree.specs.TreeSeats.{shown_by, IsSeat, AllFresh};
+ghost use Rattle.sum_tree.specs.TreeSeats.{shown_by, IsSeat, IsUnread, AllFresh};
 
 use crate::sum_trees::{SumSeat, SumTree};
 use crate::tree_rules::Deal;
@@ -20,6 +20,7 @@ impl SumTree {
         requires two_wide { 2 ≤ width }
         requires at_most_64_wide { width ≤ 64 }
         ensures seats { IfOk result (λ made. AllFresh made.0 n width made.1.items) }
+        ensures unread { IfOk result (λ made. All IsUnread made.1.items) }
     {
         let words = vec![in alloc; 0u64; n as usize]?;
         let (table, first) = Table::of_words(alloc, &words, &(n as u64, width as u64))?;
@@ -38,6 +39,7 @@ impl SumTree {
         requires table { first.table_id ≡ self.now.table.shared.table_id }
         requires view { first.me ≡ (opened self.now.n self.now.width, []) }
         ensures seats { IfOk result (λ made. AllFresh self.now self.now.n self.now.width made.items) }
+        ensures unread { IfOk result (λ made. All IsUnread made.items) }
     {
         let n = self.n;
         let mut seats = Vec::with_capacity(alloc, n as usize)?;
@@ -67,6 +69,7 @@ impl SumSeat {
         requires inside { number < tree.now.n }
         ensures seat { IsSeat tree.now result }
         ensures shown { shown_by result ≡ fresh_shown tree.now.n tree.now.width number }
+        ensures unread { IsUnread result }
     {
         SumSeat {
             seat,

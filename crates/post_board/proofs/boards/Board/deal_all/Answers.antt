@@ -1,10 +1,12 @@
 use Rattle.std.proofs.Common.{◌≡◌, ℕ, ◌+◌, ◌∙◌, refl, sym, ap, subst, arith, List, [], ◌∷◌, ◌++◌, length, length-append, get_or, Some}
+use Rattle.std.specs.List.{All}
 use Rattle.std.proofs.lemmas.List.{get_or_append_left}
+use Rattle.std.proofs.lemmas.List.Elements.{All-nil, All-cons, All-append}
 use mathlib.Core.Logic.{dite}
 use native.Mathlib.Decide.{ℕ_discrete}
 use Rattle.post_board.specs.Fresh.{fresh as fresh_shown}
 use Rattle.post_board.specs.BoardSteps.{SeatState}
-use Rattle.post_board.specs.BoardSeats.{IsSeat, shown_by, unused}
+use Rattle.post_board.specs.BoardSeats.{IsSeat, IsUnread, shown_by, unused}
 use Rattle.post_board.specs.declared.boards.BoardSeat.{BoardSeat}
 use Rattle.post_board.proofs.GatherLemmas.{get_or-append_seam}
 use Rattle.post_board.proofs.boards.Board.deal_all.Goals as goal
@@ -35,4 +37,6 @@ loop-number-preserved c =
           (c.in_ok-fresh.ensures.seat, c.in_ok-fresh.ensures.shown ∙ ap (λ (j : ℕ). fresh_shown n j (Some (unused n))) (omega arith)))
           (λ ne. subst (λ (y : BoardSeat). IsSeat c.args.self.now y × (shown_by y ≡ fresh_shown n (k + 1) (Some (unused n))))
           (sym (get_or_append_left xs (x ∷ []) d k (omega arith))) (inv.each k d (omega arith))));
+      unread = subst (λ (ys : List BoardSeat). All IsUnread ys) (sym items)
+          (All-append IsUnread xs (x ∷ []) inv.unread (All-cons IsUnread x [] c.in_ok-fresh.ensures.unread (All-nil IsUnread)));
     }

@@ -1,7 +1,8 @@
 use Rattle.std.proofs.Common.{◌≡◌, ℕ, ◌+◌, ◌<◌, [], true, length, get_or, Some}
+use Rattle.std.specs.List.{All}
 use Rattle.post_board.specs.Fresh.{fresh as fresh_shown}
 use Rattle.post_board.specs.BoardRule.{fresh}
-use Rattle.post_board.specs.BoardSeats.{IsSeat, shown_by, unused}
+use Rattle.post_board.specs.BoardSeats.{IsSeat, IsUnread, shown_by, unused}
 use Rattle.post_board.specs.declared.boards.BoardSeat.{BoardSeat}
 use Rattle.post_board.proofs.boards.Board.deal_all.Given as goal
 
@@ -17,4 +18,5 @@ invariant-loop-number l = record {
   count : length l.seats.items + 1 ≡ l.number;
   each : (k : ℕ) (d : BoardSeat) → k < length l.seats.items → IsSeat l.self (get_or l.seats.items k d)
       × (shown_by (get_or l.seats.items k d) ≡ fresh_shown l.n (k + 1) (Some (unused l.n)));
+  unread : All IsUnread l.seats.items;
 }

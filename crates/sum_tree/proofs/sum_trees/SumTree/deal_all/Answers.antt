@@ -1,10 +1,12 @@
 use Rattle.std.proofs.Common.{◌≡◌, ℕ, ◌+◌, ◌∙◌, refl, sym, ap, subst, arith, List, [], ◌∷◌, ◌++◌, length, length-append, get_or}
+use Rattle.std.specs.List.{All}
 use Rattle.std.proofs.lemmas.List.{get_or_append_left}
+use Rattle.std.proofs.lemmas.List.Elements.{All-nil, All-cons, All-append}
 use mathlib.Core.Logic.{dite}
 use native.Mathlib.Decide.{ℕ_discrete}
 use Rattle.sum_tree.specs.Plain.{fresh as fresh_shown}
 use Rattle.sum_tree.specs.TreeSteps.{SeatState}
-use Rattle.sum_tree.specs.TreeSeats.{IsSeat, shown_by}
+use Rattle.sum_tree.specs.TreeSeats.{IsSeat, IsUnread, shown_by}
 use Rattle.sum_tree.specs.declared.sum_trees.SumSeat.{SumSeat}
 use Rattle.sum_tree.proofs.StartLemmas.{get_or-append_seam}
 use Rattle.sum_tree.proofs.sum_trees.SumTree.deal_all.Goals as goal
@@ -36,4 +38,6 @@ loop-number-preserved c =
           (c.fresh.ensures.seat, c.fresh.ensures.shown ∙ ap (λ (j : ℕ). fresh_shown n w j) (omega arith)))
           (λ ne. subst (λ (y : SumSeat). IsSeat c.args.self.now y × (shown_by y ≡ fresh_shown n w (k + 1)))
           (sym (get_or_append_left xs (x ∷ []) d k (omega arith))) (inv.each k d (omega arith))));
+      unread = subst (λ (ys : List SumSeat). All IsUnread ys) (sym items)
+          (All-append IsUnread xs (x ∷ []) inv.unread (All-cons IsUnread x [] c.fresh.ensures.unread (All-nil IsUnread)));
     }

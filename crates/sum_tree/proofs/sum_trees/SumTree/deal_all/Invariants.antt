@@ -1,7 +1,8 @@
 use Rattle.std.proofs.Common.{◌≡◌, ℕ, ◌+◌, ◌<◌, [], true, length, get_or}
+use Rattle.std.specs.List.{All}
 use Rattle.sum_tree.specs.Plain.{fresh as fresh_shown}
 use Rattle.sum_tree.specs.TreeRule.{fresh}
-use Rattle.sum_tree.specs.TreeSeats.{IsSeat, shown_by}
+use Rattle.sum_tree.specs.TreeSeats.{IsSeat, IsUnread, shown_by}
 use Rattle.sum_tree.specs.declared.sum_trees.SumSeat.{SumSeat}
 use Rattle.sum_tree.proofs.sum_trees.SumTree.deal_all.Given as goal
 
@@ -17,4 +18,5 @@ invariant-loop-number l = record {
   count : length l.seats.items + 1 ≡ l.number;
   each : (k : ℕ) (d : SumSeat) → k < length l.seats.items → IsSeat l.self (get_or l.seats.items k d)
       × (shown_by (get_or l.seats.items k d) ≡ fresh_shown l.n l.self.width (k + 1));
+  unread : All IsUnread l.seats.items;
 }
