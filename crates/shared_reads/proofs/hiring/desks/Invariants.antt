@@ -1,0 +1,12 @@
+use Rattle.std.proofs.Common.{◌-◌, ◌≤◌, length, All}
+use Rattle.shared_reads.specs.Desks.{HasRoom}
+use Rattle.shared_reads.proofs.hiring.desks.Given as goal
+
+abbrev pub invariant-loop-alloc : goal.invariant-loop-alloc
+invariant-loop-alloc l = record {
+  most : length l.desks.items ≤ l.number;
+  room : All HasRoom l.desks.items;
+}
+
+abbrev pub decreases-loop-alloc : goal.decreases-loop-alloc
+decreases-loop-alloc l = l.number - length l.desks.items

@@ -1,0 +1,4 @@
+pub mod Counts
+pub mod Desks
+pub mod Kept
+pub mod Private
