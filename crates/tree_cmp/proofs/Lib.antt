@@ -9,10 +9,7 @@ pub mod Filling
 pub mod Shown
 pub mod Pieces
 pub mod Sided
-pub mod Shared
 pub mod Placed
-pub mod Hired
 pub mod Parts
-pub mod Workers
 pub mod Finding
 pub mod Causes

@@ -1,10 +1,8 @@
--- What was found is put beside the rows.
-use Rattle.std.proofs.Common.{◌≡◌, ℕ, ◌+◌, ◌<◌, ◌≤◌, List, [], ◌∷◌, map, length, set, get_or, get_or-set_same, get_or-set_other, refl, sym, subst, ap}
-use Rattle.std.proofs.Common.{◌∙◌, arith, Option, Some, All}
-use Rattle.std.specs.List.{AllByRecursion}
+-- Outcomes are put beside the rows, from the last one on.
+use Rattle.std.proofs.Common.{◌≡◌, ℕ, ◌+◌, ◌-◌, ◌<◌, ◌≤◌, List, [], ◌∷◌, map, length, set, get_or, get_or-set_same, get_or-set_other, length-set, refl, sym, subst}
+use Rattle.std.proofs.Common.{ap, ◌∙◌, arith, zero, suc, Option, Some, None, IfSome, All}
 use Rattle.std.proofs.lemmas.List.Sums.{sum_by-set}
-use Rattle.std.proofs.lemmas.List.Elements.{All-set, All-from_recursion}
-use Rattle.std.proofs.lemmas.List.{get_or-map}
+use Rattle.std.proofs.lemmas.List.{get_or-map, get_or_default}
 use Rattle.std.proofs.Math.Seq.{map-set_same}
 use mathlib.Core.Logic.{dite}
 use native.Mathlib.Decide.{ℕ_discrete}
@@ -12,74 +10,60 @@ use Rattle.outside.specs.Asked.{Asks}
 use Rattle.outside.specs.Tree.{Files}
 use Rattle.tree_cmp.specs.declared.drafts.Draft.{Draft}
 use Rattle.tree_cmp.specs.declared.reading.Outcome.{Outcome}
-use Rattle.tree_cmp.specs.declared.sharing.Found.{Found}
-use Rattle.tree_cmp.specs.Private.Reading.{counts}
-use Rattle.tree_cmp.specs.Private.Sharing.{IsOf, IsSoFar, IsFound, unsettled, some_counts, blames, KeepsUp}
+use Rattle.tree_cmp.specs.Private.Sharing.{IsOf, IsOfRow, unsettled, some_counts, blames}
 
--- a row with what was found
-abbrev pub with_outcome : Outcome → Draft → Draft
-with_outcome o d = record d { outcome = Some o }
+-- ---- a row that was settled
 
-pub placed_unsettled : (drafts was : List Draft) (k : ℕ) (o : Outcome) (d : Draft) → map unsettled drafts ≡ map unsettled was
-    → map unsettled (set drafts k (with_outcome o (get_or drafts k d))) ≡ map unsettled was
-placed_unsettled drafts was k o d e = map-set_same unsettled drafts k (with_outcome o (get_or drafts k d)) d refl ∙ e
+pub set_unsettled : (drafts was : List Draft) (k : ℕ) (x y d : Draft) → map unsettled drafts ≡ was → unsettled x ≡ y → y ≡ get_or drafts k d
+    → map unsettled (set drafts k x) ≡ was
+set_unsettled drafts was k x y d e same at = map-set_same unsettled drafts k x d (ap unsettled (same ∙ at)) ∙ e
 
-pub placed_so_far : {S : Type 0} (gives : Asks S) (tree : Option Files) (left right : List ℕ) (drafts was : List Draft) (f : Found) (d : Draft) → f.place < length drafts
-    → map unsettled drafts ≡ map unsettled was →
-    IsFound gives tree left right (map unsettled was) f → All (IsSoFar gives tree left right) drafts
-    → All (IsSoFar gives tree left right) (set drafts f.place (with_outcome f.outcome (get_or drafts f.place d)))
-placed_so_far gives tree left right drafts was f d i e h so_far =
-    let own : IsOf gives tree left right (get_or drafts f.place d).row.path (get_or drafts f.place d).unread f.outcome =
-    subst (λ (q : Draft). IsOf gives tree left right q.row.path q.unread f.outcome)
-    ((λ j. get_or (sym e j) f.place (unsettled d)) ∙ get_or-map unsettled drafts f.place d (unsettled d) i)
-    (h.own (unsettled d)) in
-    All-set (IsSoFar gives tree left right) drafts f.place (with_outcome f.outcome (get_or drafts f.place d)) own so_far
-
-pub placed_counted : (drafts : List Draft) (k : ℕ) (o : Outcome) (d : Draft) → k < length drafts
-    → blames (set drafts k (with_outcome o (get_or drafts k d))) ≤ blames drafts + counts o
-placed_counted drafts k o d inside = omega (arith, sum_by-set (λ (d : Draft). some_counts d.outcome) drafts k (with_outcome o (get_or drafts k d)) d inside)
-
--- ---- a row that was read
-
-pub set_unsettled : (drafts was : List Draft) (k : ℕ) (x d : Draft) → map unsettled drafts ≡ map unsettled was
-    → unsettled x ≡ unsettled (get_or drafts k d) → map unsettled (set drafts k x) ≡ map unsettled was
-set_unsettled drafts was k x d e same = map-set_same unsettled drafts k x d same ∙ e
-
-pub set_settled : (P : Draft → Type 0) (drafts : List Draft) (k : ℕ) (x : Draft) → k < length drafts
-    → ((j : ℕ) (d : Draft) → j < k → P (get_or drafts j d)) → P x → (j : ℕ) (d : Draft) → j < k + 1 → P (get_or (set drafts k x) j d)
-set_settled P drafts k x inside before here j d h =
+pub set_settled : (P : Draft → Type 0) (drafts : List Draft) (k n : ℕ) (x : Draft) → n ≡ k + 1 → k < length drafts
+    → ((j : ℕ) (d : Draft) → n ≤ j → j < length drafts → P (get_or drafts j d)) → P x
+    → (j : ℕ) (d : Draft) → k ≤ j → j < length (set drafts k x) → P (get_or (set drafts k x) j d)
+set_settled P drafts k n x next inside before here j d h l =
     dite (ℕ_discrete j k)
     (λ e. subst P (sym (ap (λ i. get_or (set drafts k x) i d) e ∙ get_or-set_same drafts k x d inside)) here)
-    (λ ne. subst P (sym (get_or-set_other drafts k j x d ne)) (before j d (omega arith)))
+    (λ ne. subst P (sym (get_or-set_other drafts k j x d ne)) (before j d (behind j k n next h ne) (omega (arith, l, length-set drafts k x))))
+  where
+    behind : (j k n : ℕ) → n ≡ k + 1 → k ≤ j → (j ≡ k → ⊥) → n ≤ j
+    behind j k n e h ne = by (j - k) refl
+      where
+        by : (i : ℕ) → j - k ≡ i → n ≤ j
+        by zero z = absurd (ne (omega (arith, h, z)))
+        by (suc i) z = omega (arith, e, h, z)
 
-pub set_keeps_up : (was : ℕ) (drafts : List Draft) (k : ℕ) (x d : Draft) (old mid new : ℕ) → k < length drafts
-    → KeepsUp was (blames drafts) old mid → KeepsUp (some_counts (get_or drafts k d).outcome) (some_counts x.outcome) mid new
-    → KeepsUp was (blames (set drafts k x)) old new
-set_keeps_up was drafts k x d old mid new inside f g =
-    let sums = sum_by-set (λ (d : Draft). some_counts d.outcome) drafts k x d inside in
-    let a = f.kept in
-    let b = g.kept in
-    let t = f.told in
-    let u = g.told in
-    let r = f.rose in
-    let s = g.rose in
-    record { kept = omega arith; told = omega (arith, sums); rose = λ h. let r' = r (omega arith) in let s' = s h in omega (arith, sums) }
+pub set_counted : (drafts : List Draft) (k : ℕ) (x d : Draft) → k < length drafts → blames (set drafts k x) ≤ blames drafts + some_counts x.outcome
+set_counted drafts k x d inside = omega (arith, sum_by-set (λ (d : Draft). some_counts d.outcome) drafts k x d inside)
 
-pub as_of : (P : Option Files → Type 0) {t t' : Option Files} → t' ≡ t → P t' → P t
-as_of P e p = subst P e p
+-- ---- rows of which none was read
 
 blames-unsettled : (drafts : List Draft) → blames (map unsettled drafts) ≡ 0
 blames-unsettled [] = refl
 blames-unsettled (d ∷ drafts) = let h = blames-unsettled drafts in omega arith
 
--- rows of which none was read
 pub blames_none : (drafts : List Draft) → map unsettled drafts ≡ drafts → blames drafts ≡ 0
 blames_none drafts e = ap blames (sym e) ∙ blames-unsettled drafts
 
-pub nothing_so_far : {S : Type 0} (gives : Asks S) (tree : Option Files) (left right : List ℕ) (drafts : List Draft) → map unsettled drafts ≡ drafts → All (IsSoFar gives tree left right) drafts
-nothing_so_far gives tree left right drafts e =
-    subst (All (IsSoFar gives tree left right)) e (All-from_recursion (IsSoFar gives tree left right) (map unsettled drafts) (each drafts))
-  where
-    each : (drafts : List Draft) → AllByRecursion (IsSoFar gives tree left right) (map unsettled drafts)
-    each [] = tt
-    each (d ∷ drafts) = (tt, each drafts)
+-- the row at a place, where those in front are as they were
+pub unread_at : (drafts was : List Draft) (k : ℕ) (y : Draft) → map unsettled was ≡ was → k < length drafts → length was ≡ length drafts
+    → y ≡ get_or drafts k y → get_or drafts k y ≡ get_or was k y → unsettled y ≡ y
+unread_at drafts was k y e inside long at front =
+    let there : y ≡ get_or was k y = at ∙ front in
+    let still : get_or was k (unsettled y) ≡ unsettled (get_or was k y) = sym (ap (λ ds. get_or ds k (unsettled y)) e) ∙ get_or-map unsettled was k y (unsettled y) (omega arith) in
+    ap unsettled there ∙ sym still ∙ get_or_default was k (unsettled y) y (omega arith) ∙ sym there
+
+-- what was kept for a place is of its row
+pub kept_at : {S : Type 0} (gives : Asks S) (told now : Option Files) (left right : List ℕ) (drafts was : List Draft) (k : ℕ) (y : Draft) (o : Outcome)
+    → now ≡ told → y ≡ get_or drafts k y → get_or drafts k y ≡ get_or was k y → IsOfRow gives told left right was k o
+    → IsOf gives now left right y.row.path y.unread o
+kept_at gives told now left right drafts was k y o same at front h =
+    subst (λ t. IsOf gives t left right y.row.path y.unread o) (sym same)
+    (subst (λ (x : Draft). IsOf gives told left right x.row.path x.unread o) (sym (at ∙ front)) (h y))
+
+pub if_some : {X : Type 0} (o : Option X) (P Q : X → Type 0) → ((x : X) → P x → Q x) → IfSome o P → IfSome o Q
+if_some None P Q f h = tt
+if_some (Some x) P Q f h = f x h
+
+pub as_of : (P : Option Files → Type 0) {t t' : Option Files} → t' ≡ t → P t' → P t
+as_of P e p = subst P e p

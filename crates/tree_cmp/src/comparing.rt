@@ -3,18 +3,18 @@ ghost use Rattle.std.specs.Prelude.{◌≡◌, ◌<◌, ◌≤◌, length, map, 
 ghost use Rattle.tree_cmp.specs.Sides.{side, IsSide};
 ghost use Rattle.tree_cmp.specs.Rows.{IsComparison};
 ghost use Rattle.tree_cmp.specs.Readers.{first_told, Alike, HaveCauses, StatsTold, NoneFell, RoseTogether};
-ghost use Rattle.tree_cmp.specs.Private.Sharing.{IsIdle, IsSettled, unsettled, blames};
+ghost use Rattle.tree_cmp.specs.Private.Sharing.{IsSettled, unsettled, blames};
 
 use crate::compared::Compared;
 use crate::drafts::Draft;
 use crate::errors::CmpError;
-use crate::hiring::{desks, dismissed, hired};
 use crate::merging::drafts_of;
 use crate::settling::settle;
-use crate::sharing::{Work, Worker, work_all};
+use crate::sharing::Work;
 use flat_list::FlatList;
 use outside::Tree;
 use path_text::{Path, graft_undoes_below};
+use shared_reads::Desk;
 use std::alloc::Global;
 use std::thread::Threads;
 
@@ -71,49 +71,12 @@ fn read_all<W: Threads + Sync, R: Tree + Send + Drop>(
     ensures none_fell { NoneFell (map R.count readers.old.items) (map R.count readers.new.items) }
     ensures same { map R.tree readers.new.items ≡ map R.tree readers.old.items }
 {
-    let number = worker_count(hosts, readers.len(), drafts);
-    let desks = desks(alloc, number)?;
-    let mut workers = hired(alloc, readers, desks)?;
-    let settled = read_by(rt, &mut workers, drafts, left, right);
-    dismissed(workers, readers);
-    settled
-}
-
-// Lets workers read the files of all rows, each worker in a thread of its own, and puts what they found beside the rows.
-fn read_by<W: Threads + Sync, R: Tree + Send>(
-    rt: &W,
-    workers: &mut [Worker<R>],
-    drafts: &mut [Draft],
-    left: &Path,
-    right: &Path,
-) -> Result<(), CmpError>
-    requires unread { map unsettled drafts.old ≡ drafts.old }
-    requires some { 0 < length workers.old }
-    requires idle { All (λ w. IsIdle w.desk) workers.old }
-    requires alike { Alike (map (λ w. R.tree w.reader) workers.old) }
-    ensures unsettled { map unsettled drafts.new ≡ drafts.old }
-    ensures settled { OnOk result (All (IsSettled R.gives (first_told (map (λ w. R.tree w.reader) workers.old)) left.now right.now) drafts.new) }
-    ensures counted { RoseTogether (blames drafts.new) (map (λ w. R.count w.reader) workers.old) (map (λ w. R.count w.reader) workers.new) }
-    ensures none_fell { NoneFell (map (λ w. R.count w.reader) workers.old) (map (λ w. R.count w.reader) workers.new) }
-    ensures same { map (λ w. R.tree w.reader) workers.new ≡ map (λ w. R.tree w.reader) workers.old }
-{
-    let threads = workers.len();
+    let mut desk = Desk::make(alloc)?;
     let work = Work {
         drafts,
         left,
         right,
     };
-    work_all(rt, workers, &work, threads);
-    settle(workers, drafts, left, right)
-}
-
-// How many workers there are use for: no more than threads, than readers, and than rows whose files are to be read.
-fn worker_count(hosts: u32, readers: usize, drafts: &[Draft]) -> usize
-    requires hosts { 1 ≤ hosts }
-    requires readers { 1 ≤ readers }
-    ensures some { 1 ≤ result }
-    ensures enough { result ≤ readers }
-{
-    let unread = drafts.iter().filter(|draft| draft.unread.is_some()).count();
-    readers.min(hosts as usize).min(unread.max(1))
+    let kept = shared_reads::read_all(rt, alloc, &work, readers, hosts)?;
+    settle(drafts, left, right, kept, &mut readers[0], &mut desk)
 }

@@ -24,9 +24,9 @@
 //! # Parts
 //!
 //! `items` and `merging` go over the two lists once, and make a draft of each row; nothing is looked up by its path, and no text
-//! of a link is copied. `sharing` has the workers, each with a reader and two buffers of its own: a worker takes the next row that
-//! none has taken, by a shared count. `settling` puts what they found beside the rows, and reads what none of them could keep.
-//! `reading` compares two files, `hiring` makes workers of readers and gives the readers back, and `compared` makes the findings.
+//! of a link is copied. `sharing` lets workers read the files of rows, each with a reader and two buffers of its own
+//! (`shared_reads`): a worker takes the next row that none has taken, by a shared count. `settling` puts what they found beside the
+//! rows, and reads what none of them could keep. `reading` compares two files, and `compared` makes the findings.
 //! `lending` takes readers of files for all that, and gives them back.
 //!
 //! # What is proved
@@ -48,7 +48,6 @@ mod conditions;
 mod drafts;
 mod errors;
 mod expressions;
-mod hiring;
 mod items;
 mod laws;
 mod lending;

@@ -1,5 +1,5 @@
 //! The bytes of two files, compared piece by piece.
-ghost use Rattle.std.specs.Prelude.{◌≡◌, ℕ, ◌+◌, ◌^◌, ◌<◌, ◌≤◌, true, false, length, OnOk, IfOk, IfErr, IfSome, IsErrOf, min, ◌-◌};
+ghost use Rattle.std.specs.Prelude.{◌≡◌, ℕ, ◌+◌, ◌^◌, ◌<◌, ◌≤◌, true, false, length, OnOk, IfOk, IfErr, IfSome, IsErrOf};
 ghost use Rattle.std.specs.FinMap.{get};
 ghost use Rattle.outside.specs.Count.{RoseBy};
 ghost use Rattle.outside.specs.Tree.{is_file, content};
@@ -7,6 +7,7 @@ ghost use Rattle.tree_cmp.specs.Private.Reading.{Fills, IsShort, IsFileOf, Told,
 
 use outside::{ReadError, Tree};
 use path_text::Path;
+use shared_reads::piece;
 use std::mem;
 
 // Why the bytes of a file were not read.
@@ -141,18 +142,4 @@ fn same_piece<R: Tree>(
         return Outcome::Missed(true, missing);
     }
     Outcome::Same(*ours == *theirs)
-}
-
-// How many bytes are read next, where so many are left and a buffer has so much room.
-fn piece(left: u64, room: usize) -> usize
-    requires some { 0 < left }
-    requires room { 0 < room }
-    ensures is { result ≡ min left room }
-    ensures some { 0 < result }
-{
-    if left < room as u64 {
-        left as usize
-    } else {
-        room
-    }
 }

@@ -1,19 +1,13 @@
 -- Readers that share the rows whose files are to be read. Our own.
 -- Only clauses of this crate's own functions cite this file.
-use Rattle.std.specs.Prelude.{◌≡◌, ℕ, ◌+◌, ◌-◌, ◌^◌, ◌<◌, ◌≤◌, true, List, [], length, Option, Some, None, is_some, IfSome, All, slice_index_or, sum, false}
+use Rattle.std.specs.Prelude.{◌≡◌, ℕ, true, List, Option, Some, None, is_some, IfSome, slice_index_or}
 use Rattle.std.specs.List.{sum_by}
 use Rattle.std.specs.FinMap.{get}
 use Rattle.path_text.specs.Graft.{grafted}
 use Rattle.outside.specs.Asked.{Asks}
-use Rattle.outside.specs.Count.{RoseBy}
 use Rattle.outside.specs.Tree.{Files}
 use Rattle.tree_cmp.specs.declared.drafts.Draft.{Draft}
 use Rattle.tree_cmp.specs.declared.reading.Outcome.{Outcome}
-use Rattle.tree_cmp.specs.declared.sharing.Work.{Work}
-use Rattle.tree_cmp.specs.declared.sharing.Found.{Found}
-use Rattle.tree_cmp.specs.declared.sharing.Desk.{Desk}
-use Rattle.tree_cmp.specs.declared.sharing.Worker.{Worker}
-use Rattle.tree_cmp.specs.Readers.{is_at_end}
 use Rattle.tree_cmp.specs.Private.Reading.{IsFileOf, Told, Shows, counts}
 
 -- what reading the two files of a path below two tops comes to, over files that may tell their tree
@@ -49,45 +43,7 @@ some_counts (Some o) = counts o
 abbrev pub blames : List Draft → ℕ
 blames drafts = sum_by (λ d. some_counts d.outcome) drafts
 
--- the count went from old to new while the faults told went from before to after, or stands at its end
-pub record KeepsUp (before after old new : ℕ) : Type 0 where
-  pub kept : old ≤ new
-  pub told : before ≤ after
-  pub rose : new < 2 ^ 64 - 1 → old + after ≤ new + before
-
--- ---- desks and workers
-
--- two buffers of one length that is not 0
-pub record HasRoom (d : Desk) : Type 0 where
-  pub some : 0 < length d.ours.items
-  pub as_long : length d.theirs.items ≡ length d.ours.items
-
--- a desk at which nothing was found yet
-pub record IsIdle (d : Desk) : Type 0 where
-  pub none : d.found.items ≡ []
-  pub room : HasRoom d
-
--- what was found is of one of the rows
-pub record IsFound {S : Type 0} (gives : Asks S) (tree : Option Files) (left right : List ℕ) (drafts : List Draft) (f : Found) : Type 0 where
-  pub inside : f.place < length drafts
-  pub own : (d : Draft) → IsOf gives tree left right (slice_index_or drafts f.place d).row.path (slice_index_or drafts f.place d).unread f.outcome
-
--- how many faults were counted for what was found
-abbrev pub all_counts : List Found → ℕ
-all_counts found = sum_by (λ f. counts f.outcome) found
-
-module _ {R : Type 0} (tree : R → Option Files) (count : R → ℕ) (gives : Asks R) where
-  -- what a worker comes to
-  pub record IsWorked (work : Work) (w w' : Worker R) : Type 0 where
-    pub found : All (IsFound gives (tree w.reader) work.left.now work.right.now work.drafts.now) w'.desk.found.items
-    pub same : tree w'.reader ≡ tree w.reader
-    pub counted : RoseBy (all_counts w'.desk.found.items) (count w.reader) (count w'.reader)
-    pub room : HasRoom w'.desk
-
--- how many faults were counted for what workers found
-abbrev pub told_by : {R : Type 0} → List (Worker R) → ℕ
-told_by workers = sum_by (λ w. all_counts w.desk.found.items) workers
-
--- the same of several counts together
-abbrev pub KeepUp : ℕ → ℕ → List ℕ → List ℕ → Type 0
-KeepUp before after old new = is_at_end new ≡ false → sum old + after ≤ sum new + before
+-- an outcome is of the row at a place
+abbrev pub IsOfRow : {S : Type 0} → Asks S → Option Files → List ℕ → List ℕ → List Draft → ℕ → Outcome → Type 0
+IsOfRow gives tree left right drafts place o =
+    (d : Draft) → IsOf gives tree left right (slice_index_or drafts place d).row.path (slice_index_or drafts place d).unread o

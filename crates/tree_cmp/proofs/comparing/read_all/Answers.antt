@@ -1,131 +1,66 @@
-use Rattle.std.proofs.Common.{arith, ◌≡◌, ◌<◌, ◌++◌, length, take, drop, map, subst, sym, ap, ◌∙◌, List, All}
-use Rattle.std.specs.Prelude.{reverse, OnOk}
-use Rattle.tree_cmp.specs.declared.sharing.Worker.{Worker}
-use Rattle.tree_cmp.specs.Readers.{first_told, NoneFell, RoseTogether}
-use Rattle.tree_cmp.specs.Private.Sharing.{blames, IsSettled}
-use Rattle.tree_cmp.proofs.Hired.{readers_of, written}
-use Rattle.tree_cmp.proofs.Workers.{all_told, first_is, alike, same_trees, none_fell, all_rose}
-use Rattle.tree_cmp.proofs.Counts.{NoneFell-same, RoseTogether-none}
+use Rattle.std.proofs.Common.{◌≡◌, ◌<◌, ◌≤◌, List, length, map, get_or, ap, sym, subst, ◌∙◌, All}
+use Rattle.std.specs.Prelude.{OnOk}
+use Rattle.shared_reads.specs.Counts.{KeepsUp}
+use Rattle.shared_reads.specs.Kept.{Holds, held}
+use Rattle.shared_reads.proofs.Counted.{fell_same, then_fell, then_rose, rose_none, first_same, still_some}
+use Rattle.tree_cmp.specs.declared.drafts.Draft.{Draft}
+use Rattle.tree_cmp.specs.Readers.{first_told}
+use Rattle.tree_cmp.specs.Private.Reading.{counts}
+use Rattle.tree_cmp.specs.Private.Sharing.{IsOfRow, IsSettled, blames}
+use Rattle.tree_cmp.proofs.Counted.{all_tell, first_tree}
+use Rattle.tree_cmp.proofs.Counts.{RoseTogether-none}
 use Rattle.tree_cmp.proofs.Placed.{blames_none}
 use Rattle.tree_cmp.proofs.comparing.read_all.Goals as goal
 
-pub returns-in_err-desks-clause-counted : goal.returns-in_err-desks-clause-counted
-returns-in_err-desks-clause-counted g c =
+pub returns-in_err-desk-clause-counted : goal.returns-in_err-desk-clause-counted
+returns-in_err-desk-clause-counted g c =
     RoseTogether-none (blames c.args.drafts.now.items) (map g.R.Tree.count c.args.readers.now.items)
     (blames_none c.args.drafts.now.items c.requires.unread)
 
-pub returns-in_err-desks-clause-none_fell : goal.returns-in_err-desks-clause-none_fell
-returns-in_err-desks-clause-none_fell g c = NoneFell-same (map g.R.Tree.count c.args.readers.now.items)
+pub returns-in_err-desk-clause-none_fell : goal.returns-in_err-desk-clause-none_fell
+returns-in_err-desk-clause-none_fell g c = fell_same (map g.R.Tree.count c.args.readers.now.items)
 
-pub returns-in_err-workers-clause-counted : goal.returns-in_err-workers-clause-counted
-returns-in_err-workers-clause-counted g c =
-    subst (λ rs. RoseTogether (blames c.args.drafts.now.items) (map g.R.Tree.count c.args.readers.now.items) (map g.R.Tree.count rs))
-    (sym c.in_err-workers.ensures.err)
-    (RoseTogether-none (blames c.args.drafts.now.items) (map g.R.Tree.count c.args.readers.now.items) (blames_none c.args.drafts.now.items c.requires.unread))
+pub returns-in_err-kept-clause-counted : goal.returns-in_err-kept-clause-counted
+returns-in_err-kept-clause-counted g c =
+    rose_none (blames c.args.drafts.now.items) (map g.R.Tree.count c.args.readers.now.items) (map g.R.Tree.count c.read_all.new.readers.items)
+    (blames_none c.args.drafts.now.items c.requires.unread) c.in_err-kept.ensures.none_fell
 
-pub returns-in_err-workers-clause-none_fell : goal.returns-in_err-workers-clause-none_fell
-returns-in_err-workers-clause-none_fell g c =
-    subst (λ rs. NoneFell (map g.R.Tree.count c.args.readers.now.items) (map g.R.Tree.count rs)) (sym c.in_err-workers.ensures.err)
-    (NoneFell-same (map g.R.Tree.count c.args.readers.now.items))
+pub settle-requires-clause-told : goal.settle-requires-clause-told
+settle-requires-clause-told g c =
+    let tree = g.R.Tree.tree in
+    let readers = c.args.readers.now.items in
+    let others = c.read_all.new.readers.items in
+    let e = c.in_ok-kept.ensures in
+    let told = first_told (map tree readers) in
+    let some : 0 < length others = still_some tree readers others e.same c.requires.some in
+    let first : tree c.index_mut.result.now ≡ told =
+    ap tree c.index_mut.ensures.value ∙ first_tree tree others c.index_mut.result.now some ∙ ap first_told e.same in
+    subst (λ (ds : List Draft). Holds (IsOfRow g.R.Tree.gives (tree c.index_mut.result.now) c.args.left.now c.args.right.now ds) c.in_ok-kept.kept)
+    c.deref.ensures.value
+    (subst (λ t. Holds (IsOfRow g.R.Tree.gives t c.args.left.now c.args.right.now c.deref.result.now) c.in_ok-kept.kept) (sym first)
+    (e.told told (all_tell tree readers c.requires.alike)))
 
-pub read_by-settled-requires-clause-alike : goal.read_by-settled-requires-clause-alike
-read_by-settled-requires-clause-alike g c = λ κs h.
-    let left = c.hired.new.readers.items in
-    let slice : List (Worker g.row.R.Denot) = c.deref_mut.result.now in
-    let lent : left ++ reverse (readers_of slice) ≡ c.args.readers.now.items =
-    ap (λ (ws : List (Worker g.row.R.Denot)). left ++ reverse (readers_of ws)) c.deref_mut.ensures.value
-    ∙ c.in_ok-workers.ensures.readers in
-    let told = first_told (map g.R.Tree.tree c.args.readers.now.items) in
-    let own : All (λ (w : Worker g.row.R.Denot). g.R.Tree.tree w.reader ≡ told) slice =
-    all_told g.R.Tree.tree g.R.Tree.count g.R.Tree.gives told left slice c.args.readers.now.items lent c.requires.alike in
-    let some : 0 < length slice =
-    omega (
-      arith,
-      ap length c.deref_mut.ensures.value,
-      c.in_ok-workers.ensures.number,
-      c.in_ok-desks.ensures.number,
-      c.worker_count-number.ensures.some,
-    ) in
-    alike g.R.Tree.tree g.R.Tree.count g.R.Tree.gives told slice some own
-
-pub returns-clause-settled : goal.returns-clause-settled
-returns-clause-settled g c =
-    let left = c.hired.new.readers.items in
-    let slice : List (Worker g.row.R.Denot) = c.deref_mut.result.now in
-    let lent : left ++ reverse (readers_of slice) ≡ c.args.readers.now.items =
-    ap (λ (ws : List (Worker g.row.R.Denot)). left ++ reverse (readers_of ws)) c.deref_mut.ensures.value
-    ∙ c.in_ok-workers.ensures.readers in
-    let told = first_told (map g.R.Tree.tree c.args.readers.now.items) in
-    let own : All (λ (w : Worker g.row.R.Denot). g.R.Tree.tree w.reader ≡ told) slice =
-    all_told g.R.Tree.tree g.R.Tree.count g.R.Tree.gives told left slice c.args.readers.now.items lent c.requires.alike in
-    let some : 0 < length slice =
-    omega (
-      arith,
-      ap length c.deref_mut.ensures.value,
-      c.in_ok-workers.ensures.number,
-      c.in_ok-desks.ensures.number,
-      c.worker_count-number.ensures.some,
-    ) in
-    let rows : take c.args.drafts.now.len
-    (c.read_by-settled.new.drafts ++ drop (length c.read_by-settled.new.drafts) c.args.drafts.now.items)
-    ≡ c.read_by-settled.new.drafts =
-    written c.args.drafts.now.len c.read_by-settled.new.drafts c.args.drafts.now.items
-    (omega (arith, c.read_by-settled.auto.drafts, c.deref_mut-2.ensures.len))
-    (omega (arith, ap length c.deref_mut-2.ensures.value, c.deref_mut-2.ensures.len)) in
-    subst (λ ds. OnOk c.read_by-settled.result (All (IsSettled g.R.Tree.gives told c.args.left.now c.args.right.now) ds)) (sym rows)
-    (subst (λ t. OnOk c.read_by-settled.result (All (IsSettled g.R.Tree.gives t c.args.left.now c.args.right.now) c.read_by-settled.new.drafts))
-    (first_is g.R.Tree.tree g.R.Tree.count g.R.Tree.gives told slice some own) c.read_by-settled.ensures.settled)
-
-pub returns-clause-counted : goal.returns-clause-counted
-returns-clause-counted g c =
-    let left = c.hired.new.readers.items in
-    let slice : List (Worker g.row.R.Denot) = c.deref_mut.result.now in
-    let lent : left ++ reverse (readers_of slice) ≡ c.args.readers.now.items =
-    ap (λ (ws : List (Worker g.row.R.Denot)). left ++ reverse (readers_of ws)) c.deref_mut.ensures.value
-    ∙ c.in_ok-workers.ensures.readers in
-    let new : List (Worker g.row.R.Denot) = c.read_by-settled.new.workers in
-    let back : c.dismissed.new.readers.items ≡ left ++ reverse (readers_of new) =
-    c.dismissed.ensures ∙ ap (λ (ws : List (Worker g.row.R.Denot)). left ++ reverse (readers_of ws))
-    (written c.in_ok-workers.workers.len new c.in_ok-workers.workers.items
-    (omega (arith, c.read_by-settled.auto.workers, c.deref_mut.ensures.len))
-    (omega (arith, ap length c.deref_mut.ensures.value, c.deref_mut.ensures.len))) in
-    let rows : take c.args.drafts.now.len
-    (c.read_by-settled.new.drafts ++ drop (length c.read_by-settled.new.drafts) c.args.drafts.now.items)
-    ≡ c.read_by-settled.new.drafts =
-    written c.args.drafts.now.len c.read_by-settled.new.drafts c.args.drafts.now.items
-    (omega (arith, c.read_by-settled.auto.drafts, c.deref_mut-2.ensures.len))
-    (omega (arith, ap length c.deref_mut-2.ensures.value, c.deref_mut-2.ensures.len)) in
-    subst (λ ds. RoseTogether (blames ds) (map g.R.Tree.count c.args.readers.now.items) (map g.R.Tree.count c.dismissed.new.readers.items)) (sym rows)
-    (all_rose g.R.Tree.tree g.R.Tree.count g.R.Tree.gives
-    (blames c.read_by-settled.new.drafts) left c.args.readers.now.items c.dismissed.new.readers.items slice new lent back
-    c.read_by-settled.ensures.counted)
-
-pub returns-clause-none_fell : goal.returns-clause-none_fell
-returns-clause-none_fell g c =
-    let left = c.hired.new.readers.items in
-    let slice : List (Worker g.row.R.Denot) = c.deref_mut.result.now in
-    let lent : left ++ reverse (readers_of slice) ≡ c.args.readers.now.items =
-    ap (λ (ws : List (Worker g.row.R.Denot)). left ++ reverse (readers_of ws)) c.deref_mut.ensures.value
-    ∙ c.in_ok-workers.ensures.readers in
-    let new : List (Worker g.row.R.Denot) = c.read_by-settled.new.workers in
-    let back : c.dismissed.new.readers.items ≡ left ++ reverse (readers_of new) =
-    c.dismissed.ensures ∙ ap (λ (ws : List (Worker g.row.R.Denot)). left ++ reverse (readers_of ws))
-    (written c.in_ok-workers.workers.len new c.in_ok-workers.workers.items
-    (omega (arith, c.read_by-settled.auto.workers, c.deref_mut.ensures.len))
-    (omega (arith, ap length c.deref_mut.ensures.value, c.deref_mut.ensures.len))) in
-    none_fell g.R.Tree.tree g.R.Tree.count g.R.Tree.gives left c.args.readers.now.items c.dismissed.new.readers.items slice new lent back c.read_by-settled.ensures.none_fell
-
-pub returns-clause-same : goal.returns-clause-same
-returns-clause-same g c =
-    let left = c.hired.new.readers.items in
-    let slice : List (Worker g.row.R.Denot) = c.deref_mut.result.now in
-    let lent : left ++ reverse (readers_of slice) ≡ c.args.readers.now.items =
-    ap (λ (ws : List (Worker g.row.R.Denot)). left ++ reverse (readers_of ws)) c.deref_mut.ensures.value
-    ∙ c.in_ok-workers.ensures.readers in
-    let new : List (Worker g.row.R.Denot) = c.read_by-settled.new.workers in
-    let back : c.dismissed.new.readers.items ≡ left ++ reverse (readers_of new) =
-    c.dismissed.ensures ∙ ap (λ (ws : List (Worker g.row.R.Denot)). left ++ reverse (readers_of ws))
-    (written c.in_ok-workers.workers.len new c.in_ok-workers.workers.items
-    (omega (arith, c.read_by-settled.auto.workers, c.deref_mut.ensures.len))
-    (omega (arith, ap length c.deref_mut.ensures.value, c.deref_mut.ensures.len))) in
-    same_trees g.R.Tree.tree g.R.Tree.count g.R.Tree.gives left c.args.readers.now.items c.dismissed.new.readers.items slice new lent back c.read_by-settled.ensures.same
+pub returns : goal.returns
+returns g c =
+    let tree = g.R.Tree.tree in
+    let count = g.R.Tree.count in
+    let readers = c.args.readers.now.items in
+    let others = c.read_all.new.readers.items in
+    let e = c.in_ok-kept.ensures in
+    let h = c.settle.ensures in
+    let x = c.index_mut.result.now in
+    let y = c.settle.new.reader in
+    let drafts = c.settle.new.drafts.items in
+    let told = first_told (map tree readers) in
+    let some : 0 < length others = still_some tree readers others e.same c.requires.some in
+    let value : x ≡ get_or others 0 x = c.index_mut.ensures.value in
+    let first : tree x ≡ told = ap tree value ∙ first_tree tree others x some ∙ ap first_told e.same in
+    let kept : count (get_or others 0 x) ≤ count y = subst (λ n. n ≤ count y) (ap count value) h.counted.kept in
+    record {
+      unsettled = h.unsettled;
+      settled = subst (λ t. OnOk c.settle.result (All (IsSettled g.R.Tree.gives t c.args.left.now c.args.right.now) drafts)) first h.settled;
+      counted = then_rose count readers others x y some e.none_fell kept (blames drafts) (held counts c.in_ok-kept.kept) e.counted
+          (subst (λ n. KeepsUp (held counts c.in_ok-kept.kept) (blames drafts) n (count y)) (ap count value) h.counted);
+      none_fell = then_fell count readers others x y some e.none_fell kept;
+      same = first_same tree others x y some (h.same ∙ ap tree value) ∙ e.same;
+    }

@@ -1,11 +1,27 @@
-use Rattle.std.proofs.Common.{◌≡◌, ◌≤◌, map, take, All}
-use Rattle.tree_cmp.specs.Readers.{first_told}
-use Rattle.tree_cmp.specs.Private.Sharing.{IsSoFar, unsettled, blames, told_by}
+use Rattle.std.proofs.Common.{◌≡◌, ℕ, ◌+◌, ◌<◌, ◌≤◌, map, length, get_or}
+use Rattle.shared_reads.specs.Counts.{KeepsUp}
+use Rattle.shared_reads.specs.Desks.{HasRoom}
+use Rattle.shared_reads.specs.Kept.{Holds, held}
+use Rattle.tree_cmp.specs.declared.drafts.Draft.{Draft}
+use Rattle.tree_cmp.specs.Private.Reading.{counts}
+use Rattle.tree_cmp.specs.Private.Sharing.{IsOfRow, IsSettled, unsettled, blames}
 use Rattle.tree_cmp.proofs.settling.settle.Given as goal
 
-abbrev pub invariant-loop-worker : goal.invariant-loop-worker
-invariant-loop-worker g l = record {
-  rows : map unsettled l.drafts ≡ map unsettled l.fn.drafts;
-  so_far : All (IsSoFar g.R.Tree.gives (first_told (map (λ w. g.R.Tree.tree w.reader) l.fn.workers)) l.left l.right) l.drafts;
-  counted : blames l.drafts ≤ told_by (take l.worker-index l.fn.workers);
-}
+abbrev pub invariant-loop-place : goal.invariant-loop-place
+invariant-loop-place g l =
+    let reader = g.R.Tree in
+    let tree = reader.tree l.fn.reader in
+    record {
+      as_many : length l.drafts.items ≡ length l.fn.drafts.items;
+      inside : l.place ≤ length l.drafts.items;
+      rows : map unsettled l.drafts.items ≡ l.fn.drafts.items;
+      front : (j : ℕ) (d : Draft) → j < l.place → get_or l.drafts.items j d ≡ get_or l.fn.drafts.items j d;
+      settled : (j : ℕ) (d : Draft) → l.place ≤ j → j < length l.drafts.items → IsSettled reader.gives tree l.left l.right (get_or l.drafts.items j d);
+      told : Holds (IsOfRow reader.gives tree l.left l.right l.fn.drafts.items) l.kept;
+      counted : KeepsUp (held counts l.fn.kept) (blames l.drafts.items + held counts l.kept) (reader.count l.fn.reader) (reader.count l.reader);
+      same : reader.tree l.reader ≡ tree;
+      room : HasRoom l.desk;
+    }
+
+abbrev pub decreases-loop-place : goal.decreases-loop-place
+decreases-loop-place g l = l.place
