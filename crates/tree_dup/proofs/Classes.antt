@@ -329,20 +329,19 @@ left_fewer run run' paths left found found' d e some front dealt =
         ap (λ (c : Bool). cond c (x ∷ filter is_other files) (filter is_other files)) f in
         omega (arith, ap length skip, length-filter is_other files, count_by-le-length is_other files)
 
-none_fails : (files : List File) → failures (map still files) ≡ 0
+pub none_fails : (files : List File) → failures (map still files) ≡ 0
 none_fails [] = refl
 none_fails (f ∷ files) =
     omega (arith, sum_by-cons (λ (x : File). failures_of x.standing) (still f) (map still files), none_fails files)
 
 -- the faults that were counted for a class are those of the files that failed
-pub class_counted : (run run' : List File) (paths : List (List ℕ)) (left : List File) (found found' : Grouping) (old new : ℕ) → map still run ≡ run →
-    AreDealt run' paths left found found' → KeepsUp (failures run) (failures run') old new → KeepsUp (length found.failed) (length found'.failed) old new
-class_counted run run' paths left found found' old new e d k =
-    let none : failures run ≡ 0 = ap failures (sym e) ∙ none_fails run in
+pub class_counted : (m : ℕ) (run' : List File) (paths : List (List ℕ)) (left : List File) (found found' : Grouping) (old new : ℕ) →
+    AreDealt run' paths left found found' → KeepsUp m (failures run') old new → KeepsUp (length found.failed + m) (length found'.failed) old new
+class_counted m run' paths left found found' old new d k =
     let more : length found'.failed ≡ length found.failed + failures run' =
     ap length d.failed ∙ length-append found.failed (paths_of (filter is_failed run'))
     ∙ ap (λ n. length found.failed + n) (length-map (filter is_failed run') path_of ∙ length-filter is_failed run') in
-    record { kept = k.kept; told = omega (arith, more); rose = λ h. (let r = k.rose h in omega (arith, r, none, more)) }
+    record { kept = k.kept; rose = λ h. (let r = k.rose h in omega (arith, r, more)) }
 
 failed_shows : {S : Type 0} (gives : Asks S) (path : List ℕ) (s : Standing) → standing_failed s ≡ true → StandingShows gives path s → ShowsFailure gives path
 failed_shows gives path Alike e h = absurd (false≢true e)
@@ -356,17 +355,15 @@ changed_shows gives path Other e h = absurd (false≢true e)
 changed_shows gives path (Missed Failed) e h = absurd (false≢true e)
 changed_shows gives path (Missed Changed) e h = h
 
-alike_shows : {S : Type 0} (gives : Asks S) (run : List File) → map still run ≡ run → All (Shows gives) run
+pub alike_shows : {S : Type 0} (gives : Asks S) (run : List File) → map still run ≡ run → All (Shows gives) run
 alike_shows gives run e k d l =
     let at : get_or run k d ≡ still (get_or run k d) =
     get_or_default run k d (still d) l ∙ sym (ap (λ (xs : List File). get_or xs k (still d)) e) ∙ get_or-map still run k d (still d) l in
     subst (Shows gives) (sym at) tt
 
-pub class_causes : {S : Type 0} (gives : Asks S) (run run' : List File) (paths : List (List ℕ)) (left : List File) (found found' : Grouping) →
-    map still run ≡ run →
-    (All (Shows gives) run → All (Shows gives) run') → AreDealt run' paths left found found' → HaveCauses gives found → HaveCauses gives found'
-class_causes gives run run' paths left found found' e shows d h =
-    let all = shows (alike_shows gives run e) in
+pub class_causes : {S : Type 0} (gives : Asks S) (run' : List File) (paths : List (List ℕ)) (left : List File) (found found' : Grouping) →
+    All (Shows gives) run' → AreDealt run' paths left found found' → HaveCauses gives found → HaveCauses gives found'
+class_causes gives run' paths left found found' all d h =
     record {
       failed = subst (All (ShowsFailure gives)) (sym d.failed) (All-append (ShowsFailure gives) found.failed (paths_of (filter is_failed run')) h.failed
           (All-map (ShowsFailure gives) path_of (filter is_failed run')
@@ -383,7 +380,7 @@ still_alike files e k d l =
     ap (λ (f : File). f.standing) (sym (sym (get_or-map still files k d (still d) l) ∙ ap (λ (xs : List File). get_or xs k (still d)) e
     ∙ get_or_default files k (still d) d l))
 
-alike_still : (files : List File) → All (λ f. f.standing ≡ Alike) files → map still files ≡ files
+pub alike_still : (files : List File) → All (λ f. f.standing ≡ Alike) files → map still files ≡ files
 alike_still [] h = refl
 alike_still (f ∷ files) h =
     λ i. record f { standing = sym (All-head (λ f. f.standing ≡ Alike) f files h) i } ∷ alike_still files (All-tail (λ f. f.standing ≡ Alike) f files h) i

@@ -36,7 +36,7 @@ first_fell f (z ∷ xs) x y h l = (l, NoneFell-same (map f xs))
 pub none_fell : {A : Type 0} (f : A → ℕ) (xs : List A) → NoneFell (map f xs) (map f xs)
 none_fell f xs = NoneFell-same (map f xs)
 
-below_end : (n : ℕ) (ns : List ℕ) → is_at_end (n ∷ ns) ≡ false → n < 2 ^ 64 - 1
+pub below_end : (n : ℕ) (ns : List ℕ) → is_at_end (n ∷ ns) ≡ false → n < 2 ^ 64 - 1
 below_end n ns e = leb-false (2 ^ 64 - 1) n (by (nat_le (2 ^ 64 - 1) n) e)
   where
     by : (b : Bool) → (b || is_at_end ns) ≡ false → b ≡ false

@@ -1,8 +1,8 @@
--- One more entry of a list: a candidate is hashed, or it is missed.
-use Rattle.std.proofs.Common.{◌≡◌, ℕ, zero, suc, ◌+◌, ◌<◌, ◌≤◌, Bool, true, false, not, ◌&&◌, ◌==◌, List, [], ◌∷◌, ◌++◌, length, map, take}
-use Rattle.std.proofs.Common.{Option, Some, None, Result, Ok, Err}
-use Rattle.std.proofs.Common.{IfSome, All, refl, sym, ap, subst, ◌∙◌, arith, eqb, count_by, nat_eq, IfOk, IfErr, if◌then◌else◌, nat_lt, slice_get}
-use Rattle.std.proofs.Common.{length-append, ◌-◌, min}
+-- One more entry of a list: it is a candidate or it is none.
+use Rattle.std.proofs.Common.{◌≡◌, ℕ, ◌+◌, ◌<◌, ◌≤◌, Bool, true, false, not, ◌&&◌, ◌==◌, List, [], ◌∷◌, ◌++◌, length, map, take}
+use Rattle.std.proofs.Common.{Option, Some, None}
+use Rattle.std.proofs.Common.{IfSome, refl, sym, ap, subst, ◌∙◌, arith, eqb, count_by, nat_eq, if◌then◌else◌, nat_lt, slice_get}
+use Rattle.std.proofs.Common.{◌-◌, min}
 use Rattle.std.specs.FinMap.{get}
 use Rattle.std.specs.Cmp.{first_so}
 use Rattle.std.specs.Cmp.Lexicographic.{pointwise}
@@ -14,33 +14,24 @@ use Rattle.std.proofs.lemmas.List.Elements.{All-nil, All-push}
 use Rattle.std.proofs.lemmas.List.Folds.{list_any_at}
 use Rattle.std.proofs.lemmas.List.Sums.{sum_by_more}
 use Rattle.std.proofs.lemmas.Option.{slice_get_within, get_or_from_slice_get}
-use Rattle.sha2.specs.Sha256.{sha256}
-use Rattle.outside.specs.Asked.{Asks}
-use Rattle.outside.specs.Count.{RoseBy}
-use Rattle.outside.specs.Tree.{Files, Node, Body, content, stat_of, kind_of, size_of, is_file_body, bytes_of}
+use Rattle.outside.specs.Tree.{Files, Node, Body, stat_of, kind_of, size_of, is_file_body, bytes_of}
 use Rattle.outside.specs.declared.trees.Kind.TheVariants as kind
 use Rattle.outside.specs.declared.trees.Stat.{Stat}
 use Rattle.flat_list.specs.declared.entries.Entry.{Entry}
 use Rattle.flat_list.specs.Entries.{is_kind, is_of, size_by}
-use Rattle.tree_cmp.specs.Readers.{StatsTold, ShowsFailure, ShowsChange}
-use Rattle.tree_dup.specs.Told.{Grouping}
-use Rattle.tree_dup.specs.Grouping.{has, is_candidate, is_read, is_sized, HaveCauses}
-use Rattle.tree_dup.specs.declared.filling.Missing.{Missing}
-use Rattle.tree_dup.specs.declared.filling.Missing.TheVariants.{Failed, Changed}
+use Rattle.tree_cmp.specs.Readers.{StatsTold}
+use Rattle.tree_dup.specs.Grouping.{has, is_candidate, is_read, is_sized}
 use Rattle.tree_dup.specs.declared.runs.File.{File}
-use Rattle.tree_dup.specs.declared.runs.Standing.TheVariants.{Alike}
-use Rattle.tree_dup.specs.Private.Dealing.{with_missed}
-use Rattle.tree_dup.specs.Private.Hashing.{with_hashed, with_unhashed}
 use Rattle.tree_dup.specs.Private.Piles.{times}
-use Rattle.tree_dup.specs.Private.Reading.{IsFileOf, ShowsMissing}
-use Rattle.tree_dup.specs.Private.Running.{IsThere, KeepsUp, paths_of, still}
-use Rattle.tree_dup.specs.Private.Sifting.{AreHashed, IsHashed, candidates_in}
+use Rattle.tree_dup.specs.Private.Reading.{IsFileOf}
+use Rattle.tree_dup.specs.Private.Running.{IsThere, paths_of, still}
+use Rattle.tree_dup.specs.Private.Sifting.{AreListed, IsListed, candidates_in}
 use Rattle.std.specs.HashMap.{HashMap}
 use Rattle.std.specs.declared.hash.FoldHasher.{FoldHasher}
 use Rattle.std.specs.declared.hash.BuildHasherDefault.{BuildHasherDefault}
 use Rattle.tree_dup.specs.Private.Sizes.{candidate_size, file_size, AreCounts}
 use Rattle.tree_dup.proofs.Piled.{one_if, times-cons, times-append, path_itself}
-use Rattle.tree_dup.proofs.Parted.{if_told, if_any, if_both}
+use Rattle.tree_dup.proofs.Parted.{if_told}
 use Rattle.tree_dup.proofs.Sifted.{path_of, both_true}
 
 -- ---- a file of its size
@@ -97,12 +88,9 @@ module _ (list : List Entry) (at : ℕ) (e : Entry) (there : slice_get list at �
   if_false false b h = refl
 
   -- no candidate
-  pub passed_by : (tree : Option Files) (files : List File) (found : Grouping) → candidate_size list e ≡ None → AreHashed tree list at files found →
-      AreHashed tree list (at + 1) files found
-  passed_by tree files found none h = record {
-    hashed = h.hashed;
-    missed = h.missed;
-    none = h.none;
+  pub passed_by : (tree : Option Files) (files : List File) → candidate_size list e ≡ None → AreListed tree list at files → AreListed tree list (at + 1) files
+  passed_by tree files none h = record {
+    listed = h.listed;
     all = λ p. omega (arith, h.all p, more p, if_false (pointwise eqb p e.path) (is_candidate list e) (none_if (is_candidate list e) (size_by e.stat) none));
   }
 
@@ -129,92 +117,36 @@ module _ (list : List Entry) (at : ℕ) (e : Entry) (there : slice_get list at �
     counts : (p : List ℕ) → candidates_in list (take (at + 1) list) p ≡ candidates_in list (take at list) p + one_if (pointwise eqb p e.path)
     counts p = more p ∙ ap (λ n. candidates_in list (take at list) p + n) (if_true (pointwise eqb p e.path) (is_candidate list e) is_one.0)
 
-    pub entered : (outcome : Result (List ℕ) Missing) (files files' : List File) (found found' : Grouping) → files' ≡ with_hashed outcome e.path size files →
-        found' ≡ with_unhashed outcome e.path found → (size ≡ 0 → IfErr outcome (λ why. ⊥)) →
-        IfOk outcome (λ digest. IfSome tree (λ t. IsFileOf (get t e.path) size → digest ≡ sha256 (content (get t e.path)))) →
-        (outcome ≡ Err Changed → IfSome tree (λ t. IsFileOf (get t e.path) size → ⊥)) →
-        AreHashed tree list at files found → AreHashed tree list (at + 1) files' found'
-    entered (Ok digest) files files' found found' f g empty ok changed h =
-        let new : File = record { path = e.path; size = size; digest = digest; standing = Alike } in
-        let hashed : IsHashed tree list new = record {
-          sized = here (is_sized size) (both_true (is_of kind.File e.stat) (size_by e.stat == size) is_file (eq-eqb (size_by e.stat) size is_one.1));
-          read = read;
-          there = if_told tree (λ t. IsFileOf (get t e.path) size) (λ t. IsThere t new) (λ t k. record { is_file = k.is_file; size = k.size }) there_of;
-          digest = if_both tree (λ t. IsFileOf (get t e.path) size) (λ t. IsFileOf (get t e.path) size → digest ≡ sha256 (content (get t e.path)))
-              (λ t. digest ≡ sha256 (content (get t e.path))) (λ t k d. d k) there_of ok;
+    pub entered : (files files' : List File) (f : File) → f.path ≡ e.path → f.size ≡ size → files' ≡ files ++ f ∷ [] →
+        AreListed tree list at files → AreListed tree list (at + 1) files'
+    entered files files' f at_path of_size added h =
+        let listed : IsListed tree list f = record {
+          sized = subst (λ n. has (is_sized n) list f.path ≡ true) (sym of_size)
+              (subst (λ p. has (is_sized size) list p ≡ true) (sym at_path)
+              (here (is_sized size) (both_true (is_of kind.File e.stat) (size_by e.stat == size) is_file (eq-eqb (size_by e.stat) size is_one.1))));
+          read = λ l. subst (λ p. has (is_read list) list p ≡ true) (sym at_path) (read (omega (arith, l, of_size)));
+          there = if_told tree (λ t. IsFileOf (get t e.path) size) (λ t. IsThere t f)
+              (λ t k. subst (λ n. IsFileOf (get t f.path) n) (sym of_size) (subst (λ p. IsFileOf (get t p) size) (sym at_path) k)) there_of;
         } in
-        subst (λ fs. AreHashed tree list (at + 1) fs found') (sym f)
-        (subst (AreHashed tree list (at + 1) (files ++ new ∷ [])) (sym g)
-        (record {
-          hashed = All-push (IsHashed tree list) files new h.hashed hashed;
-          missed = h.missed;
-          none = h.none;
+        subst (AreListed tree list (at + 1)) (sym added) (record {
+          listed = All-push (IsListed tree list) files f h.listed listed;
           all = λ p. omega (
             arith,
             h.all p,
             counts p,
-            ap (times p) (map-append path_of files (new ∷ [])),
-            times-append p (paths_of files) (e.path ∷ []),
-            times-cons p e.path [],
+            ap (times p) (map-append path_of files (f ∷ [])),
+            times-append p (paths_of files) (f.path ∷ []),
+            times-cons p f.path [],
+            ap (λ q. one_if (pointwise eqb p q)) at_path,
           );
-        }))
-    entered (Err why) files files' found found' f g empty ok changed h =
-        subst (λ fs. AreHashed tree list (at + 1) fs found') (sym f)
-        (subst (AreHashed tree list (at + 1) files) (sym g) (by why
-        (λ s. if_both tree (λ t. IsFileOf (get t e.path) size) (λ t. IsFileOf (get t e.path) size → ⊥) (λ t. ⊥) (λ t k d. d k) there_of (changed (ap Err s)))
-        (not_empty size empty)))
-      where
-        not_empty : (n : ℕ) → (n ≡ 0 → ⊥) → 0 < n
-        not_empty zero f = absurd (f refl)
-        not_empty (suc n) f = omega arith
+        })
 
-        by : (w : Missing) → (w ≡ Changed → IfSome tree (λ t. ⊥)) → 0 < size → AreHashed tree list (at + 1) files (with_missed w e.path found)
-        by Failed never some = record {
-          hashed = h.hashed;
-          missed = record {
-            failed = All-push (λ p. has (is_read list) list p ≡ true) found.failed e.path h.missed.failed (read some);
-            changed = h.missed.changed;
-            unchanged = h.missed.unchanged;
-          };
-          none = h.none;
-          all = λ p. omega (arith, h.all p, counts p, times-append p found.failed (e.path ∷ []), times-cons p e.path []);
-        }
-        by Changed never some = record {
-          hashed = h.hashed;
-          missed = record {
-            failed = h.missed.failed;
-            changed = All-push (λ p. has (is_read list) list p ≡ true) found.changed e.path h.missed.changed (read some);
-            unchanged = if_told tree (λ t. ⊥) (λ t. found.changed ++ e.path ∷ [] ≡ []) (λ t n. absurd n) (never refl);
-          };
-          none = h.none;
-          all = λ p. omega (arith, h.all p, counts p, times-append p found.changed (e.path ∷ []), times-cons p e.path []);
-        }
-
--- ---- what else is so
-
-pub alike_entered : (outcome : Result (List ℕ) Missing) (path : List ℕ) (size : ℕ) (files : List File) → map still files ≡ files →
-    map still (with_hashed outcome path size files) ≡ with_hashed outcome path size files
-alike_entered (Ok digest) path size files e =
-    let new : File = record { path = path; size = size; digest = digest; standing = Alike } in
-    map-append still files (new ∷ []) ∙ ap (λ fs. fs ++ new ∷ []) e
-alike_entered (Err why) path size files e = e
-
-pub causes_entered : {S : Type 0} (gives : Asks S) (outcome : Result (List ℕ) Missing) (path : List ℕ) (found : Grouping) →
-    IfErr outcome (ShowsMissing gives path) → HaveCauses gives found → HaveCauses gives (with_unhashed outcome path found)
-causes_entered gives (Ok digest) path found shows h = h
-causes_entered gives (Err Failed) path found shows h =
-    record { failed = All-push (ShowsFailure gives) found.failed path h.failed shows; changed = h.changed }
-causes_entered gives (Err Changed) path found shows h =
-    record { failed = h.failed; changed = All-push (ShowsChange gives) found.changed path h.changed shows }
-
-pub counted_entered : (outcome : Result (List ℕ) Missing) (path : List ℕ) (found : Grouping) (old new : ℕ) → RoseBy 0 old new →
-    (outcome ≡ Err Failed → RoseBy 1 old new) → KeepsUp (length found.failed) (length (with_unhashed outcome path found).failed) old new
-counted_entered (Ok digest) path found old new z one = record { kept = z.kept; told = omega arith; rose = λ h. omega (arith, z.kept) }
-counted_entered (Err Failed) path found old new z one =
-    let r = one refl in
-    let n = length-append found.failed (path ∷ []) in
-    record { kept = z.kept; told = omega (arith, n); rose = λ h. omega (arith, n, r.rose) }
-counted_entered (Err Changed) path found old new z one = record { kept = z.kept; told = omega arith; rose = λ h. omega (arith, z.kept) }
+-- no entry was passed yet
+pub first_listed : (tree : Option Files) (list : List Entry) (at : ℕ) (files : List File) → files ≡ [] → at ≡ 0 → AreListed tree list at files
+first_listed tree list at files none begun = subst (AreListed tree list at) (sym none) (record {
+  listed = All-nil (IsListed tree list);
+  all = λ p. omega (arith, ap (λ n. candidates_in list (take n list) p) begun);
+})
 
 -- ---- the entry that a cursor passed
 
@@ -270,32 +202,11 @@ entry_last list cursor b same inside is none =
     let end : length list ≤ cursor.1 = subst (λ (l : List Entry). length l ≤ cursor.1) same (ltb-false cursor.1 (length cursor.0) (sym is ∙ none)) in
     omega arith
 
-pub hashed_as : (told now : Option Files) (list : List Entry) (at : ℕ) (files files' : List File) (found found' : Grouping) → now ≡ told →
-    (IfSome now (λ t. StatsTold t list) → AreHashed now list at files found → AreHashed now list (at + 1) files' found') →
-    IfSome told (λ t. StatsTold t list) → AreHashed told list at files found → AreHashed told list (at + 1) files' found'
-hashed_as told now list at files files' found found' e =
-    subst (λ o. (IfSome now (λ t. StatsTold t list) → AreHashed now list at files found → AreHashed now list (at + 1) files' found') →
-    IfSome o (λ t. StatsTold t list) → AreHashed o list at files found → AreHashed o list (at + 1) files' found') e (λ h. h)
-
--- nothing is hashed yet
-pub none_hashed : (tree : Option Files) (list : List Entry) (at : ℕ) (found : Grouping) → at ≡ 0 → found.groups ≡ [] → found.failed ≡ [] → found.changed ≡ [] →
-    AreHashed tree list at [] found
-none_hashed tree list at found begun groups failed changed = record {
-  hashed = All-nil (IsHashed tree list);
-  missed = record {
-    failed = subst (All (λ p. has (is_read list) list p ≡ true)) (sym failed) (All-nil (λ p. has (is_read list) list p ≡ true));
-    changed = subst (All (λ p. has (is_read list) list p ≡ true)) (sym changed) (All-nil (λ p. has (is_read list) list p ≡ true));
-    unchanged = if_any tree (λ t. found.changed ≡ []) (λ t. changed);
-  };
-  none = groups;
-  all = λ p. omega (arith, ap (times p) failed, ap (times p) changed, ap (λ n. candidates_in list (take n list) p) begun);
-}
-
-pub first_hashed : (tree : Option Files) (list : List Entry) (at : ℕ) (files : List File) (found : Grouping) → files ≡ [] → at ≡ 0 → found.groups ≡ [] →
-    found.failed ≡ [] → found.changed ≡ [] → AreHashed tree list at files found
-first_hashed tree list at files found none begun groups failed changed =
-    subst (λ fs. AreHashed tree list at fs found) (sym none) (none_hashed tree list at found begun groups failed changed)
-
 pub counts_all : (list : List Entry) (at : ℕ) (counts : HashMap ℕ ℕ (BuildHasherDefault FoldHasher)) → at ≡ length list → AreCounts (take at list) counts →
     AreCounts list counts
 counts_all list at counts e = subst (λ part. AreCounts part counts) (ap (λ n. take n list) e ∙ take_all (length list) list (omega arith))
+
+-- one more file that is as it was before its run is read
+pub alike_more : (files files' : List File) (f : File) → files' ≡ files ++ f ∷ [] → still f ≡ f → map still files ≡ files → map still files' ≡ files'
+alike_more files files' f added is e =
+    ap (map still) added ∙ map-append still files (f ∷ []) ∙ (λ i. e i ++ is i ∷ []) ∙ sym added

@@ -20,25 +20,23 @@ use Rattle.tree_dup.specs.Private.Running.{KeepsUp, Moved, Went, Shows, Standing
 use Rattle.tree_dup.proofs.Classes.{same_length}
 
 pub keeps_still : (n c : ℕ) → KeepsUp n n c c
-keeps_still n c = record { kept = omega arith; told = omega arith; rose = λ h. omega arith }
+keeps_still n c = record { kept = omega arith; rose = λ h. omega arith }
 
 pub keeps_on : (a b c x y z : ℕ) → KeepsUp a b x y → KeepsUp b c y z → KeepsUp a c x z
 keeps_on a b c x y z f g =
     let k = f.kept in
     let l = g.kept in
-    let t = f.told in
-    let u = g.told in
     let r = f.rose in
     let s = g.rose in
-    record { kept = omega arith; told = omega arith; rose = λ h. let r' = r (omega arith) in let s' = s h in omega arith }
+    record { kept = omega arith; rose = λ h. let r' = r (omega arith) in let s' = s h in omega arith }
 
 -- a fault is counted where a read failed
 pub rose_keeps : (why : Missing) (old new : ℕ) → RoseBy 0 old new → (why ≡ Failed → RoseBy 1 old new) → KeepsUp 0 (failures_of (Missed why)) old new
-rose_keeps Failed old new z one = let a = one refl in record { kept = omega (arith, z.kept); told = omega arith; rose = λ h. omega (arith, a.rose) }
-rose_keeps Changed old new z one = record { kept = omega (arith, z.kept); told = omega arith; rose = λ h. omega (arith, z.kept) }
+rose_keeps Failed old new z one = let a = one refl in record { kept = omega (arith, z.kept); rose = λ h. omega (arith, a.rose) }
+rose_keeps Changed old new z one = record { kept = omega (arith, z.kept); rose = λ h. omega (arith, z.kept) }
 
 pub none_keeps : (n old new : ℕ) → RoseBy 0 old new → KeepsUp n n old new
-none_keeps n old new z = record { kept = omega (arith, z.kept); told = omega arith; rose = λ h. omega (arith, z.kept) }
+none_keeps n old new z = record { kept = omega (arith, z.kept); rose = λ h. omega (arith, z.kept) }
 
 alike_fails : (s : Standing) → standing_alike s ≡ true → failures_of s ≡ 0
 alike_fails Alike e = refl
@@ -51,11 +49,9 @@ set_keeps_up was files k x d old mid new inside f g =
     let sums = sum_by-set (λ (f : File). failures_of f.standing) files k x d inside in
     let a = f.kept in
     let b = g.kept in
-    let t = f.told in
-    let u = g.told in
     let r = f.rose in
     let s = g.rose in
-    record { kept = omega arith; told = omega (arith, sums); rose = λ h. let r' = r (omega arith) in let s' = s h in omega (arith, sums) }
+    record { kept = omega arith; rose = λ h. let r' = r (omega arith) in let s' = s h in omega (arith, sums) }
 
 module _ {R : Type 0} (tree : R → Option Files) (count : R → ℕ) (gives : Asks R) where
   pub went_nowhere : (r : R) (files : List File) → Went tree count gives r r files files

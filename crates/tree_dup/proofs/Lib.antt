@@ -1,12 +1,16 @@
 mod Classes
+mod Compared
+mod Counted
 mod Dealt
 mod Done
 mod Entered
 mod Fed
+pub mod Few
 mod Filled
 mod Firsts
 mod Gone
 mod Grouped
+mod Hashed
 mod Kept
 mod Parted
 mod Piled

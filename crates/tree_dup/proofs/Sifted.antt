@@ -5,7 +5,7 @@ use Rattle.std.proofs.Common.{IfSome, All, IsPermutation, refl, sym, ap, subst, 
 use Rattle.std.specs.FinMap.{get}
 use Rattle.std.specs.Cmp.Lexicographic.{pointwise, bytes_decides}
 use Rattle.std.proofs.lemmas.Bool.{false≢true, eq-eqb}
-use Rattle.std.proofs.lemmas.List.{get_or_default, get_or-drop, get_or-take, length-map, map-append, length-take-le, take-append-drop, take_all}
+use Rattle.std.proofs.lemmas.List.{get_or_default, get_or-drop, get_or-take, length-map, map-append, length-take-le, take-append-drop}
 use Rattle.std.proofs.lemmas.List.Elements.{All-nil, All-cons, All-head, All-tail, All-take, All-drop, All-map}
 use Rattle.std.proofs.lemmas.List.Sorted.{All-permutation, IsPermutation-map}
 use Rattle.sha2.specs.Sha256.{sha256}
@@ -25,13 +25,12 @@ path_of f = f.path
 -- ---- the candidates, once all are hashed and put in order
 
 pub sifted_first : (tree : Option Files) (list : List Entry) (files files' : List File) (found : Grouping) → IsPermutation files files' →
-    AreHashed tree list (length list) files found → AreSifted tree list (files' ∷ []) found
+    AreHashed tree list files found → AreSifted tree list (files' ∷ []) found
 sifted_first tree list files files' found moved h =
     let same : (p : List ℕ) → times p (paths_of files') ≡ times p (paths_of files) =
     λ p. times-permutation p (paths_of files) (paths_of files') (IsPermutation-map path_of files files' moved) in
-    let whole : take (length list) list ≡ list = take_all (length list) list (omega arith) in
     let all : (p : List ℕ) → times p (paths_of files') + misses found p ≡ candidates_in list list p =
-    λ p. ap (λ n. n + misses found p) (same p) ∙ h.all p ∙ ap (λ part. candidates_in list part p) whole in
+    λ p. ap (λ n. n + misses found p) (same p) ∙ h.all p in
     let parted : AreParted tree list (misses found) (piles_of found.groups ++ paths_of files' ∷ []) =
     parted_first tree list (misses found) (piles_of found.groups) (paths_of files') (ap piles_of h.none) all in
     record {

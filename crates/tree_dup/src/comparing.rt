@@ -4,35 +4,14 @@ ghost use Rattle.std.specs.FinMap.{get};
 ghost use Rattle.outside.specs.Tree.{content};
 ghost use Rattle.tree_dup.specs.Private.Reading.{IsFileOf};
 ghost use Rattle.tree_dup.specs.declared.runs.File.{File};
-ghost use Rattle.tree_dup.specs.Private.Running.{HasRoom, KeepsUp, Moved, Went, IsThere, Stands, StandsAt, StandingShows, AreDivided, AreSettled, failures_of, is_alike, is_other, still};
+ghost use Rattle.shared_reads.specs.Desks.{HasRoom};
+ghost use Rattle.tree_dup.specs.Private.Running.{KeepsUp, Moved, Went, IsThere, Stands, StandsAt, StandingShows, AreDivided, AreSettled, failures_of, is_alike, is_other, still};
 
-use crate::errors::DupError;
-use crate::filling::{fill, piece};
+use crate::filling::fill;
 use crate::runs::{File, Standing, is_alike};
 use outside::Tree;
 use path_text::Path;
-use std::alloc::Global;
-
-// How many bytes of a file are read at once.
-const PIECE: usize = 65536;
-
-// A buffer for the lead of a run, and one for the others.
-#[derive(Drop)]
-pub(crate) struct Desk {
-    pub(crate) ours: Vec<u8>,
-    pub(crate) theirs: Vec<u8>,
-}
-
-impl Desk {
-    pub(crate) fn make(alloc: Global) -> Result<Desk, DupError>
-        ensures { IfOk result HasRoom }
-    {
-        Ok(Desk {
-            ours: vec![in alloc; 0u8; PIECE]?,
-            theirs: vec![in alloc; 0u8; PIECE]?,
-        })
-    }
-}
+use shared_reads::{Desk, piece};
 
 // Compares the files of a run with each other.
 pub(crate) fn compare_run<R: Tree>(reader: &mut R, run: &mut Vec<File>, size: u64, desk: &mut Desk)

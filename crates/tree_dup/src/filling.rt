@@ -1,5 +1,5 @@
 //! The bytes of a file, read piece by piece.
-ghost use Rattle.std.specs.Prelude.{◌≡◌, ◌+◌, ◌^◌, ◌<◌, length, OnOk, IfErr, IfSome, IsErrOf, min};
+ghost use Rattle.std.specs.Prelude.{◌≡◌, ◌+◌, ◌^◌, ◌<◌, length, OnOk, IfErr, IfSome, IsErrOf};
 ghost use Rattle.std.specs.FinMap.{get};
 ghost use Rattle.outside.specs.Count.{RoseBy};
 ghost use Rattle.tree_dup.specs.Private.Reading.{Fills, IsShort, ShowsMissing};
@@ -55,18 +55,4 @@ pub(crate) fn fill<R: Tree>(
         done += n;
     }
     Ok(())
-}
-
-// How many bytes are read next, where so many are left and a buffer has so much room.
-pub(crate) fn piece(left: u64, room: usize) -> usize
-    requires some { 0 < left }
-    requires room { 0 < room }
-    ensures is { result ≡ min left room }
-    ensures some { 0 < result }
-{
-    if left < room as u64 {
-        left as usize
-    } else {
-        room
-    }
 }

@@ -1,31 +1,39 @@
 //! Files grouped by their content.
-ghost use Rattle.std.specs.Prelude.{◌≡◌, ℕ, List, [], ◌∷◌, ◌<◌, ◌≤◌, length, map, take, drop, IfOk, OnOk, IfSome, All};
+ghost use Rattle.std.specs.Prelude.{◌≡◌, false, ℕ, List, [], ◌∷◌, ◌+◌, ◌<◌, ◌≤◌, length, map, take, drop, Option, IfOk, OnOk, IfSome, All, slice_index_or};
 ghost use Rattle.std.specs.List.Sorted.{IsSorted, IsStrictlySortedBy};
 ghost use Rattle.path_text.specs.Order.{path_cmp};
 ghost use Rattle.outside.specs.Count.{RoseBy};
 ghost use Rattle.flat_list.specs.Spelling.{paths};
 ghost use Rattle.flat_list.specs.declared.entries.Entry.{Entry};
+ghost use Rattle.shared_reads.specs.Desks.{HasRoom};
+ghost use Rattle.shared_reads.specs.Kept.{Holds, held, faults_of};
 ghost use Rattle.tree_cmp.specs.Readers.{first_told, Alike, StatsTold, NoneFell, RoseTogether};
 ghost use Rattle.tree_dup.specs.Grouping.{IsGrouping, HaveCauses};
 ghost use Rattle.tree_dup.specs.declared.runs.File.{File};
-ghost use Rattle.tree_dup.specs.Private.Running.{HasRoom, IsRun, IsLastRun, KeepsUp, content_cmp, still};
-ghost use Rattle.tree_dup.specs.Private.Sifting.{AreSifted};
+ghost use Rattle.tree_dup.specs.declared.runs.Standing.{Standing};
+ghost use Rattle.tree_dup.specs.Private.Running.{IsRun, IsLastRun, IsThere, KeepsUp, KeepUp, Shows, AreSettled, StandFor, StandFrom, content_cmp, failures, faults_in, is_other, still};
+ghost use Rattle.tree_dup.specs.Private.Sifting.{AreListed, AreHashed, AreSifted};
 
-use crate::comparing::{Desk, compare_run};
+use crate::candidates::candidates;
+use crate::comparing::compare_run;
 use crate::dealing::deal;
 use crate::errors::DupError;
 use crate::groups::{Group, Groups};
-use crate::hashing::hashed;
-use crate::runs::{File, by_content, same_content};
+use crate::hashing::{Hashing, hash_all};
+use crate::runs::{File, Standing, by_content, same_content};
+use crate::sharing::{Runs, stand};
 use flat_list::FlatList;
 use outside::Tree;
+use shared_reads::{Desk, Kept, read_all};
 use std::alloc::Global;
 use std::thread::Threads;
 
 /// Groups the files of a list that share their size with another one by their bytes. Only they are read, and no empty file: each
 /// once for its digest, and where another one has its digest once more at most, beside the others. `hosts`, 1 to 64, is how many
-/// threads may read; one does, the calling one. All readers stay, also where memory was wanting. Beside the list it takes two
-/// buffers of 64 KiB, and for each file that it reads its path and 72 bytes, or twice that while they grow in number.
+/// threads read at most, each with a reader of its own: files in turn for their digests, and then files of one digest in turn,
+/// so that others go on beside a large one. All readers are there again afterwards, in their order, also where memory was wanting.
+/// Beside the list and the answer it takes for each file that it reads the text of its path and 120 bytes, and twice so much for
+/// the files that are being compared; and for each thread, and for the calling one, two buffers of 64 KiB.
 pub fn find_groups<W: Threads + Sync, R: Tree + Send + Drop>(
     rt: &W,
     alloc: Global,
@@ -44,33 +52,77 @@ pub fn find_groups<W: Threads + Sync, R: Tree + Send + Drop>(
     ensures none_fell { NoneFell (map R.count readers.old.items) (map R.count readers.new.items) }
     ensures same { map R.tree readers.new.items ≡ map R.tree readers.old.items }
 {
-    let (_, _) = (rt, hosts);
-    groups_by(alloc, list, &mut readers[0])
-}
-
-// The same by one reader.
-fn groups_by<R: Tree>(alloc: Global, list: &FlatList, reader: &mut R) -> Result<Groups, DupError>
-    requires ascend { IsStrictlySortedBy path_cmp (paths list.now) }
-    requires told { IfSome (R.tree reader.old) (λ files. StatsTold files list.now) }
-    ensures groups { IfOk result (IsGrouping (R.tree reader.old) list.now) }
-    ensures counted { IfOk result (λ found. RoseBy (length found.failed) (R.count reader.old) (R.count reader.new)) }
-    ensures causes { IfOk result (HaveCauses R.gives) }
-    ensures same { R.tree reader.new ≡ R.tree reader.old }
-    ensures count { RoseBy 0 (R.count reader.old) (R.count reader.new) }
-{
-    let mut desk = Desk::make(alloc)?;
     let mut found = Groups::new(alloc);
-    let mut files = hashed(alloc, list, reader, &mut desk.ours, &mut found)?;
+    let mut files = candidates(alloc, list)?;
+    hash_shared(rt, alloc, &mut files, readers, hosts, &mut found)?;
     files.sort_unstable_by(|a, b| by_content(a, b));
-    divide_all(alloc, files, reader, &mut desk, &mut found)?;
+    divide_shared(rt, alloc, files, readers, hosts, &mut found)?;
     found.sort();
     Ok(found)
 }
 
-// Divides all files, run by run.
+// Gives the candidates their digests. All readers read, and the first one reads what none of them could keep.
+fn hash_shared<W: Threads + Sync, R: Tree + Send + Drop>(
+    rt: &W,
+    alloc: Global,
+    files: &mut Vec<File>,
+    readers: &mut Vec<R>,
+    hosts: u32,
+    found: &mut Groups,
+) -> Result<(), DupError>
+    requires some { 0 < length readers.old.items }
+    requires trees { Alike (map R.tree readers.old.items) }
+    requires hosts { 1 ≤ hosts }
+    requires alike { map still files.old.items ≡ files.old.items }
+    requires no_groups { found.old.groups ≡ [] }
+    requires no_failed { found.old.failed ≡ [] }
+    requires no_changed { found.old.changed ≡ [] }
+    ensures hashed { OnOk result ((list : List Entry) → AreListed (first_told (map R.tree readers.old.items)) list (length list) files.old.items → AreHashed (first_told (map R.tree readers.old.items)) list files.new.items found.new) }
+    ensures alike { OnOk result (map still files.new.items ≡ files.new.items) }
+    ensures counted { OnOk result (RoseTogether (length found.new.failed) (map R.count readers.old.items) (map R.count readers.new.items)) }
+    ensures causes { OnOk result (HaveCauses R.gives found.new) }
+    ensures none_fell { NoneFell (map R.count readers.old.items) (map R.count readers.new.items) }
+    ensures same { map R.tree readers.new.items ≡ map R.tree readers.old.items }
+{
+    let mut desk = Desk::make(alloc)?;
+    let kept = read_all(rt, alloc, &Hashing { files }, readers, hosts)?;
+    hash_all(files, kept, &mut readers[0], &mut desk.ours, found)
+}
+
+// Divides all files, run by run. All readers compare, and the first one compares what none of them could keep.
+fn divide_shared<W: Threads + Sync, R: Tree + Send + Drop>(
+    rt: &W,
+    alloc: Global,
+    files: Vec<File>,
+    readers: &mut Vec<R>,
+    hosts: u32,
+    found: &mut Groups,
+) -> Result<(), DupError>
+    requires some { 0 < length readers.old.items }
+    requires trees { Alike (map R.tree readers.old.items) }
+    requires hosts { 1 ≤ hosts }
+    requires sorted { IsSorted content_cmp files.items }
+    requires alike { map still files.items ≡ files.items }
+    ensures sifted { OnOk result ((list : List Entry) → AreSifted (first_told (map R.tree readers.old.items)) list (files.items ∷ []) found.old → AreSifted (first_told (map R.tree readers.old.items)) list [] found.new) }
+    ensures counted { OnOk result (KeepUp (length found.old.failed) (length found.new.failed) (map R.count readers.old.items) (map R.count readers.new.items)) }
+    ensures causes { OnOk result (HaveCauses R.gives found.old → HaveCauses R.gives found.new) }
+    ensures none_fell { NoneFell (map R.count readers.old.items) (map R.count readers.new.items) }
+    ensures same { map R.tree readers.new.items ≡ map R.tree readers.old.items }
+{
+    let mut desk = Desk::make(alloc)?;
+    let runs = Runs {
+        alloc,
+        files: &files,
+    };
+    let kept = read_all(rt, alloc, &runs, readers, hosts)?;
+    divide_all(alloc, files, kept, &mut readers[0], &mut desk, found)
+}
+
+// Divides all files, run by run, by what workers kept, and else by the reader.
 fn divide_all<R: Tree>(
     alloc: Global,
     mut files: Vec<File>,
+    mut kept: Kept<Vec<Standing>>,
     reader: &mut R,
     desk: &mut Desk,
     found: &mut Groups,
@@ -78,8 +130,9 @@ fn divide_all<R: Tree>(
     requires room { HasRoom desk.old }
     requires sorted { IsSorted content_cmp files.items }
     requires alike { map still files.items ≡ files.items }
+    requires told { Holds (λ place standings. StandFrom (R.tree reader.old) R.gives files.items place standings.items) kept }
     ensures sifted { OnOk result ((list : List Entry) → AreSifted (R.tree reader.old) list (files.items ∷ []) found.old → AreSifted (R.tree reader.old) list [] found.new) }
-    ensures counted { OnOk result (KeepsUp (length found.old.failed) (length found.new.failed) (R.count reader.old) (R.count reader.new)) }
+    ensures counted { OnOk result (KeepsUp (length found.old.failed + held (λ standings. faults_in standings.items) kept) (length found.new.failed) (R.count reader.old) (R.count reader.new)) }
     ensures causes { OnOk result (HaveCauses R.gives found.old → HaveCauses R.gives found.new) }
     ensures same { R.tree reader.new ≡ R.tree reader.old }
     ensures count { RoseBy 0 (R.count reader.old) (R.count reader.new) }
@@ -87,7 +140,7 @@ fn divide_all<R: Tree>(
     while !files.is_empty() {
         let start = last_run(&files);
         let run = files.split_off(start)?;
-        divide(alloc, run, reader, desk, found)?;
+        divide(alloc, run, kept.take(start), reader, desk, found)?;
     }
     Ok(())
 }
@@ -109,10 +162,11 @@ fn last_run(files: &[File]) -> usize
     start
 }
 
-// Divides files of one size and one digest by their bytes.
+// Divides files of one size and one digest by their bytes, first by the standings that a worker found, if one did.
 fn divide<R: Tree>(
     alloc: Global,
     mut run: Vec<File>,
+    mut compared: Option<Vec<Standing>>,
     reader: &mut R,
     desk: &mut Desk,
     found: &mut Groups,
@@ -120,15 +174,16 @@ fn divide<R: Tree>(
     requires room { HasRoom desk.old }
     requires run { IsRun run.items }
     requires alike { map still run.items ≡ run.items }
+    requires told { IfSome compared (StandFor (R.tree reader.old) R.gives run.items) }
     ensures sifted { OnOk result ((list : List Entry) (others : List (List File)) → AreSifted (R.tree reader.old) list (run.items ∷ others) found.old → AreSifted (R.tree reader.old) list others found.new) }
-    ensures counted { OnOk result (KeepsUp (length found.old.failed) (length found.new.failed) (R.count reader.old) (R.count reader.new)) }
+    ensures counted { OnOk result (KeepsUp (length found.old.failed + faults_of (λ standings. faults_in standings.items) compared) (length found.new.failed) (R.count reader.old) (R.count reader.new)) }
     ensures causes { OnOk result (HaveCauses R.gives found.old → HaveCauses R.gives found.new) }
     ensures same { R.tree reader.new ≡ R.tree reader.old }
     ensures count { RoseBy 0 (R.count reader.old) (R.count reader.new) }
     ensures room { HasRoom desk.new }
 {
     while run.len() > 1 {
-        run = first_class(alloc, run, reader, desk, found)?;
+        run = first_class(alloc, run, compared.take(), reader, desk, found)?;
     }
     Ok(())
 }
@@ -137,6 +192,7 @@ fn divide<R: Tree>(
 fn first_class<R: Tree>(
     alloc: Global,
     mut run: Vec<File>,
+    compared: Option<Vec<Standing>>,
     reader: &mut R,
     desk: &mut Desk,
     found: &mut Groups,
@@ -145,11 +201,12 @@ fn first_class<R: Tree>(
     requires room { HasRoom desk.old }
     requires run { IsRun run.items }
     requires alike { map still run.items ≡ run.items }
+    requires told { IfSome compared (StandFor (R.tree reader.old) R.gives run.items) }
     ensures sifted { IfOk result (λ left. (list : List Entry) (others : List (List File)) → AreSifted (R.tree reader.old) list (run.items ∷ others) found.old → AreSifted (R.tree reader.old) list (left.items ∷ others) found.new) }
     ensures run { IfOk result (λ left. IsRun left.items) }
     ensures alike { IfOk result (λ left. map still left.items ≡ left.items) }
     ensures fewer { IfOk result (λ left. length left.items < length run.items) }
-    ensures counted { OnOk result (KeepsUp (length found.old.failed) (length found.new.failed) (R.count reader.old) (R.count reader.new)) }
+    ensures counted { OnOk result (KeepsUp (length found.old.failed + faults_of (λ standings. faults_in standings.items) compared) (length found.new.failed) (R.count reader.old) (R.count reader.new)) }
     ensures causes { OnOk result (HaveCauses R.gives found.old → HaveCauses R.gives found.new) }
     ensures same { R.tree reader.new ≡ R.tree reader.old }
     ensures count { RoseBy 0 (R.count reader.old) (R.count reader.new) }
@@ -158,7 +215,7 @@ fn first_class<R: Tree>(
     let first = &run[0];
     let size = first.size;
     let digest = first.digest;
-    compare_run(reader, &mut run, size, desk);
+    compare_first(reader, &mut run, size, compared, desk);
     let (mut paths, left) = deal(alloc, run, found)?;
     if paths.len() < 2 {
         return Ok(left);
@@ -170,4 +227,35 @@ fn first_class<R: Tree>(
         paths,
     })?;
     Ok(left)
+}
+
+// Compares the files of a run with each other, unless a worker did.
+fn compare_first<R: Tree>(
+    reader: &mut R,
+    run: &mut Vec<File>,
+    size: u64,
+    compared: Option<Vec<Standing>>,
+    desk: &mut Desk,
+)
+    requires room { HasRoom desk.old }
+    requires some { 0 < length run.old.items }
+    requires alike { map still run.old.items ≡ run.old.items }
+    requires sizes { All (λ f. f.size ≡ size) run.old.items }
+    requires told { IfSome compared (StandFor (R.tree reader.old) R.gives run.old.items) }
+    ensures same { R.tree reader.new ≡ R.tree reader.old }
+    ensures files { map still run.new.items ≡ map still run.old.items }
+    ensures counted { KeepsUp (faults_of (λ standings. faults_in standings.items) compared) (failures run.new.items) (R.count reader.old) (R.count reader.new) }
+    ensures shows { All (Shows R.gives) run.new.items }
+    ensures settled { IfSome (R.tree reader.old) (λ tree. All (IsThere tree) run.old.items → AreSettled tree run.new.items) }
+    ensures empty { size ≡ 0 → run.new.items ≡ run.old.items }
+    ensures front { (d : File) → is_other (slice_index_or run.new.items 0 d) ≡ false }
+    ensures room { HasRoom desk.new }
+{
+    if let Some(standings) = compared {
+        if standings.len() == run.len() {
+            stand(run, &standings);
+            return;
+        }
+    }
+    compare_run(reader, run, size, desk);
 }

@@ -1,105 +1,134 @@
-//! The candidates of a list: files that share their size with another one. Each is read for its digest, piece by piece.
-ghost use Rattle.std.specs.Prelude.{◌≡◌, ℕ, List, ◌++◌, ◌+◌, ◌^◌, ◌<◌, Some, [], take, drop, length, map, slice_get, OnOk, IfOk, IfErr, IfSome, IsErrOf, OnErr};
+//! Candidates are read for their digests, piece by piece.
+ghost use Rattle.std.specs.Prelude.{◌≡◌, ℕ, List, Result, ◌++◌, ◌+◌, ◌^◌, ◌<◌, [], take, drop, length, map, OnOk, IfOk, IfErr, IfSome, IsErrOf, OnErr, slice_index_or};
 ghost use Rattle.std.specs.FinMap.{get};
 ghost use Rattle.sha2.specs.Hashers.{Holds256};
 ghost use Rattle.sha2.specs.Sha256.{sha256};
 ghost use Rattle.outside.specs.Count.{RoseBy};
 ghost use Rattle.outside.specs.Tree.{content};
 ghost use Rattle.flat_list.specs.declared.entries.Entry.{Entry};
-ghost use Rattle.tree_cmp.specs.Readers.{StatsTold};
+ghost use Rattle.shared_reads.specs.Kept.{IsKept, Holds, AreCut, held};
 ghost use Rattle.tree_dup.specs.Grouping.{HaveCauses};
-ghost use Rattle.tree_dup.specs.Private.Hashing.{with_hashed, with_unhashed};
+ghost use Rattle.tree_dup.specs.declared.filling.Missing.{Missing};
+ghost use Rattle.tree_dup.specs.Private.Hashing.{IsDigest, AreDigests, WasPut, hash_faults};
 ghost use Rattle.tree_dup.specs.Private.Reading.{IsFileOf, IsShort, ShowsMissing};
 ghost use Rattle.tree_dup.specs.Private.Running.{KeepsUp, still};
-ghost use Rattle.tree_dup.specs.Private.Sifting.{AreHashed};
-ghost use Rattle.tree_dup.specs.Private.Sizes.{AreCounts};
+ghost use Rattle.tree_dup.specs.Private.Sifting.{AreListed, AreHashed};
 
 use crate::errors::DupError;
-use crate::filling::{Missing, fill, piece};
+use crate::filling::{Missing, fill};
 use crate::groups::Groups;
-use crate::runs::{File, Standing};
-use crate::sizes::{shared_size, size_counts};
-use flat_list::{Entry, FlatList};
+use crate::runs::File;
 use outside::Tree;
-use path_text::Path;
+use path_text::{OutOfMemory, Path};
 use sha2::{Digest, Sha256};
-use std::alloc::Global;
-use std::collections::HashMap;
+use shared_reads::{Desk, Job, Kept, piece};
 
-// The candidates with their digests, in path order. What was missed goes to the findings.
-pub(crate) fn hashed<R: Tree>(
-    alloc: Global,
-    list: &FlatList,
+// The digest of a candidate, or why it was not read.
+pub(crate) type Hash = Result<[u8; 32], Missing>;
+
+// Candidates that are to be read for their digests. Each has the place at which it stands.
+#[derive(Drop)]
+pub(crate) struct Hashing<'a> {
+    pub(crate) files: &'a [File],
+}
+
+impl<'a, R: Tree> Job<R, Hash> for Hashing<'a> {
+    ghost use Rattle.std.specs.Prelude.{length};
+    ghost use Rattle.tree_dup.specs.Private.Hashing.{AreDigests, hash_faults};
+
+    ghost places = { λ job. length job.files.now };
+
+    ghost told = { λ job tree place hash. AreDigests tree R.gives job.files.now place hash };
+
+    ghost faults = { hash_faults };
+
+    fn len(&self) -> usize {
+        self.files.len()
+    }
+
+    fn read(
+        &self,
+        place: usize,
+        reader: &mut R,
+        desk: &mut Desk,
+    ) -> Result<Option<Hash>, OutOfMemory> {
+        Ok(Some(hash_of(&self.files[place], reader, &mut desk.ours)))
+    }
+}
+
+// Gives each candidate its digest, by what workers kept, and else by the reader. What was missed leaves the candidates.
+pub(crate) fn hash_all<R: Tree>(
+    files: &mut Vec<File>,
+    mut kept: Kept<Hash>,
     reader: &mut R,
     buffer: &mut [u8],
     found: &mut Groups,
-) -> Result<Vec<File>, DupError>
+) -> Result<(), DupError>
     requires some { 0 < length buffer.old }
-    requires told { IfSome (R.tree reader.old) (λ files. StatsTold files list.now) }
+    requires alike { map still files.old.items ≡ files.old.items }
+    requires told { Holds (AreDigests (R.tree reader.old) R.gives files.old.items) kept }
     requires no_groups { found.old.groups ≡ [] }
     requires no_failed { found.old.failed ≡ [] }
     requires no_changed { found.old.changed ≡ [] }
-    ensures hashed { IfOk result (λ files. AreHashed (R.tree reader.old) list.now (length list.now) files.items found.new) }
-    ensures alike { IfOk result (λ files. map still files.items ≡ files.items) }
-    ensures counted { KeepsUp (length found.old.failed) (length found.new.failed) (R.count reader.old) (R.count reader.new) }
-    ensures causes { HaveCauses R.gives found.old → HaveCauses R.gives found.new }
+    ensures hashed { OnOk result ((list : List Entry) → AreListed (R.tree reader.old) list (length list) files.old.items → AreHashed (R.tree reader.old) list files.new.items found.new) }
+    ensures alike { OnOk result (map still files.new.items ≡ files.new.items) }
+    ensures counted { OnOk result (KeepsUp (held hash_faults kept) (length found.new.failed) (R.count reader.old) (R.count reader.new)) }
+    ensures causes { OnOk result (HaveCauses R.gives found.new) }
     ensures same { R.tree reader.new ≡ R.tree reader.old }
+    ensures count { RoseBy 0 (R.count reader.old) (R.count reader.new) }
 {
-    let counts = size_counts(alloc, list)?;
-    let mut files = Vec::new(alloc);
-    let mut cursor = list.cursor()?;
-    while cursor.advance()? {
-        hash_entry(reader, cursor.entry(), &counts, buffer, &mut files, found)?;
+    let mut place = files.len();
+    while place > 0 {
+        place -= 1;
+        let hash = kept_hash(&mut kept, place, &files[place], reader, buffer);
+        put(files, place, hash, found)?;
     }
-    Ok(files)
+    Ok(())
 }
 
-// Reads the file of an entry, if it is a candidate.
-fn hash_entry<R: Tree>(
+// The digest of a candidate that a worker kept, or else what the reader finds.
+fn kept_hash<R: Tree>(
+    kept: &mut Kept<Hash>,
+    place: usize,
+    file: &File,
     reader: &mut R,
-    entry: &Entry,
-    counts: &HashMap<u64, u8>,
     buffer: &mut [u8],
-    files: &mut Vec<File>,
-    found: &mut Groups,
-) -> Result<(), DupError>
+) -> Hash
     requires some { 0 < length buffer.old }
-    ensures on { OnOk result ((list : List Entry) (at : ℕ) → AreCounts list counts.now → slice_get list at ≡ Some entry.now → IfSome (R.tree reader.old) (λ files. StatsTold files list) → AreHashed (R.tree reader.old) list at files.old.items found.old → AreHashed (R.tree reader.old) list (at + 1) files.new.items found.new) }
-    ensures alike { map still files.old.items ≡ files.old.items → map still files.new.items ≡ files.new.items }
-    ensures counted { KeepsUp (length found.old.failed) (length found.new.failed) (R.count reader.old) (R.count reader.new) }
-    ensures causes { HaveCauses R.gives found.old → HaveCauses R.gives found.new }
+    requires told { (hash : Result (List ℕ) Missing) → IsKept place hash kept.old → IsDigest (R.tree reader.old) R.gives file.now hash }
+    ensures digest { IsDigest (R.tree reader.old) R.gives file.now result }
+    ensures cut { AreCut kept.old kept.new }
+    ensures counted { KeepsUp (held hash_faults kept.old) (hash_faults result + held hash_faults kept.new) (R.count reader.old) (R.count reader.new) }
     ensures same { R.tree reader.new ≡ R.tree reader.old }
 {
-    let Some(size) = shared_size(entry, counts) else {
-        return Ok(());
-    };
-    let outcome = digest_of(reader, &entry.path, size, buffer);
-    put(&entry.path, size, outcome, files, found)
+    match kept.take(place) {
+        Some(hash) => hash,
+        None => hash_of(file, reader, buffer),
+    }
 }
 
-// Puts a file with its digest to the others, or to those that were missed.
-fn put(
-    path: &Path,
-    size: u64,
-    outcome: Result<[u8; 32], Missing>,
-    files: &mut Vec<File>,
-    found: &mut Groups,
-) -> Result<(), DupError>
-    ensures files { OnOk result (files.new.items ≡ with_hashed outcome path.now size files.old.items) }
-    ensures found { OnOk result (found.new ≡ with_unhashed outcome path.now found.old) }
-    ensures files_err { OnErr result (files.new.items ≡ files.old.items) }
-    ensures found_err { OnErr result (found.new ≡ found.old) }
+// Puts the digest of a candidate beside it, or takes it out as missed. The last candidate comes into its place.
+fn put(files: &mut Vec<File>, place: usize, hash: Hash, found: &mut Groups) -> Result<(), DupError>
+    requires inside { place < length files.old.items }
+    ensures put { OnOk result (WasPut hash place files.old.items files.new.items found.old found.new) }
 {
-    let path = path.copy()?;
-    match outcome {
-        Ok(digest) => Ok(files.push(File {
-            path,
-            size,
-            digest,
-            standing: Standing::Alike,
-        })?),
-        Err(why) => found.miss(path, why),
+    match hash {
+        Ok(digest) => {
+            files[place].digest = digest;
+            Ok(())
+        }
+        Err(why) => found.miss(files.swap_remove(place).path, why),
     }
+}
+
+// What reading a candidate for its digest comes to.
+fn hash_of<R: Tree>(file: &File, reader: &mut R, buffer: &mut [u8]) -> Hash
+    requires some { 0 < length buffer.old }
+    ensures digest { IsDigest (R.tree reader.old) R.gives file.now result }
+    ensures same { R.tree reader.new ≡ R.tree reader.old }
+    ensures cause { RoseBy (hash_faults result) (R.count reader.old) (R.count reader.new) }
+{
+    digest_of(reader, &file.path, file.size, buffer)
 }
 
 // SHA-256 of the file of so many bytes at the path, by pieces of the length of the buffer.

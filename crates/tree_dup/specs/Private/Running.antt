@@ -1,7 +1,8 @@
 -- Runs of files, and what reading the files of a run comes to. Our own.
 -- Only clauses of this crate's own functions cite this file.
 use Rattle.std.specs.Prelude.{◌≡◌, ◌≢◌, ℕ, ◌+◌, ◌-◌, ◌^◌, ◌<◌, ◌≤◌, Bool, true, false, ◌&&◌, ◌==◌, List, length, take, drop, map, Option, All, nat_eq}
-use Rattle.std.specs.Prelude.{slice_index_or, if◌then◌else◌}
+use Rattle.std.specs.Prelude.{slice_index_or, if◌then◌else◌, IfSome, Vec, sum}
+use Rattle.std.specs.declared.alloc.Global.{Global}
 use Rattle.std.specs.List.{sum_by}
 use Rattle.std.specs.FinMap.{get}
 use Rattle.std.specs.Cmp.Lexicographic.{pointwise, slice_cmp}
@@ -9,11 +10,11 @@ use Rattle.std.specs.Ordering.{nat_cmp, ordering_then}
 use Rattle.std.specs.declared.cmp.Ordering.{Ordering}
 use Rattle.outside.specs.Asked.{Asks}
 use Rattle.outside.specs.Tree.{Files, content}
+use Rattle.tree_cmp.specs.Readers.{is_at_end}
 use Rattle.tree_dup.specs.declared.filling.Missing.TheVariants as m
 use Rattle.tree_dup.specs.declared.runs.Standing.{Standing}
 use Rattle.tree_dup.specs.declared.runs.Standing.TheVariants as s
 use Rattle.tree_dup.specs.declared.runs.File.{File}
-use Rattle.tree_dup.specs.declared.comparing.Desk.{Desk}
 use Rattle.tree_dup.specs.Private.Reading.{IsFileOf, ShowsMissing}
 
 -- ---- files by their content
@@ -100,18 +101,12 @@ StandingShows gives path (s.Missed why) = ShowsMissing gives path why
 abbrev pub Shows : {S : Type 0} → Asks S → File → Type 0
 Shows gives f = StandingShows gives f.path f.standing
 
--- the count went from old to new while the faults told went from before to after, or stands at its end
+-- the count went from old to new while the faults told went from before to after, or it stands at its end
 pub record KeepsUp (before after old new : ℕ) : Type 0 where
   pub kept : old ≤ new
-  pub told : before ≤ after
   pub rose : new < 2 ^ 64 - 1 → old + after ≤ new + before
 
 -- ---- what is read of a run
-
--- two buffers of one length that is not 0
-pub record HasRoom (d : Desk) : Type 0 where
-  pub some : 0 < length d.ours.items
-  pub as_long : length d.theirs.items ≡ length d.ours.items
 
 module _ {R : Type 0} (tree : R → Option Files) (count : R → ℕ) (gives : Asks R) where
   -- a reader read of one file of a run
@@ -160,3 +155,36 @@ pub record AreDivided (tree : Files) (at : ℕ) (files : List File) : Type 0 whe
 pub record AreSettled (tree : Files) (files : List File) : Type 0 where
   pub lead : List ℕ
   pub each : All (StandsTo tree lead) files
+
+-- ---- runs that workers compare
+
+abbrev pub standing_of : File → Standing
+standing_of f = f.standing
+
+-- how many failed reads some standings tell
+abbrev pub faults_in : List Standing → ℕ
+faults_in standings = sum_by failures_of standings
+
+-- a run was compared, and its files came to these standings
+pub record AreStandings {S : Type 0} (tree : Option Files) (gives : Asks S) (run : List File) (standings : List Standing) : Type 0 where
+  pub run' : List File
+  pub are : map standing_of run' ≡ standings
+  pub same : map still run' ≡ map still run
+  pub shows : All (Shows gives) run'
+  pub settled : IfSome tree (λ files. All (IsThere files) run → AreSettled files run')
+  pub empty : All (λ f. f.size ≡ 0) run → run' ≡ run
+  pub front : (d : File) → 0 < length run → is_other (slice_index_or run' 0 d) ≡ false
+
+-- the same of the run that begins at a place, and is as long as the standings
+abbrev pub StandFrom : {S : Type 0} → Option Files → Asks S → List File → ℕ → List Standing → Type 0
+StandFrom tree gives files place standings = AreStandings tree gives (map still (take (length standings) (drop place files))) standings
+
+-- the standings are those of the run, if they are as many
+abbrev pub StandFor : {S : Type 0} → Option Files → Asks S → List File → Vec Standing Global → Type 0
+StandFor tree gives run standings = length standings.items ≡ length run → AreStandings tree gives run standings.items
+
+-- ---- counts of several readers
+
+-- the counts rose from old to new while the faults told went from before to after, or one of them stands at its end
+abbrev pub KeepUp : ℕ → ℕ → List ℕ → List ℕ → Type 0
+KeepUp before after old new = is_at_end new ≡ false → sum old + after ≤ sum new + before

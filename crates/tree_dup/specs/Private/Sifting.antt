@@ -66,9 +66,20 @@ pub record AreSifted (tree : Option Files) (list : List Entry) (whole : List (Li
   pub once : (p : List ℕ) → times_in p (piles_of found.groups ++ map paths_of whole) + misses found p ≤ candidates_in list list p
   pub undivided : IfSome tree (IsUndivided list (misses found) (piles_of found.groups ++ map paths_of whole))
 
--- the candidates among the first entries of a list are hashed, or were missed
-pub record AreHashed (tree : Option Files) (list : List Entry) (at : ℕ) (files : List File) (found : Grouping) : Type 0 where
+-- what is known of a candidate before it is read
+pub record IsListed (tree : Option Files) (list : List Entry) (f : File) : Type 0 where
+  pub sized : has (is_sized f.size) list f.path ≡ true
+  pub read : 0 < f.size → has (is_read list) list f.path ≡ true
+  pub there : IfSome tree (λ files. IsThere files f)
+
+-- the candidates among the first entries of a list
+pub record AreListed (tree : Option Files) (list : List Entry) (at : ℕ) (files : List File) : Type 0 where
+  pub listed : All (IsListed tree list) files
+  pub all : (p : List ℕ) → times p (paths_of files) ≡ candidates_in list (take at list) p
+
+-- the candidates of a list are hashed, or were missed
+pub record AreHashed (tree : Option Files) (list : List Entry) (files : List File) (found : Grouping) : Type 0 where
   pub hashed : All (IsHashed tree list) files
   pub missed : AreMissed tree list found
   pub none : found.groups ≡ []
-  pub all : (p : List ℕ) → times p (paths_of files) + misses found p ≡ candidates_in list (take at list) p
+  pub all : (p : List ℕ) → times p (paths_of files) + misses found p ≡ candidates_in list list p

@@ -1,8 +1,10 @@
-use Rattle.std.proofs.Common.{◌≡◌, List, ◌∷◌, length, map}
+use Rattle.std.proofs.Common.{◌≡◌, ◌+◌, List, ◌∷◌, length, map, IfSome}
 use Rattle.flat_list.specs.declared.entries.Entry.{Entry}
 use Rattle.tree_dup.specs.Grouping.{HaveCauses}
 use Rattle.tree_dup.specs.declared.runs.File.{File}
-use Rattle.tree_dup.specs.Private.Running.{HasRoom, IsRun, KeepsUp, still}
+use Rattle.shared_reads.specs.Desks.{HasRoom}
+use Rattle.shared_reads.specs.Kept.{faults_of}
+use Rattle.tree_dup.specs.Private.Running.{StandFor, faults_in, IsRun, KeepsUp, still}
 use Rattle.tree_dup.specs.Private.Sifting.{AreSifted}
 use Rattle.tree_dup.proofs.grouping.divide.Given as goal
 
@@ -14,7 +16,9 @@ invariant-loop-alloc g l =
       alike : map still l.run.items ≡ l.run.items;
       sifted : (list : List Entry) (others : List (List File)) → AreSifted (reader.tree l.fn.reader) list (l.fn.run.items ∷ others) l.fn.found →
           AreSifted (reader.tree l.fn.reader) list (l.run.items ∷ others) l.found;
-      counted : KeepsUp (length l.fn.found.failed) (length l.found.failed) (reader.count l.fn.reader) (reader.count l.reader);
+      told : IfSome l.compared (StandFor (reader.tree l.fn.reader) reader.gives l.run.items);
+      counted : KeepsUp (length l.fn.found.failed + faults_of (λ standings. faults_in standings.items) l.fn.compared)
+          (length l.found.failed + faults_of (λ standings. faults_in standings.items) l.compared) (reader.count l.fn.reader) (reader.count l.reader);
       causes : HaveCauses reader.gives l.fn.found → HaveCauses reader.gives l.found;
       same : reader.tree l.reader ≡ reader.tree l.fn.reader;
       room : HasRoom l.desk;

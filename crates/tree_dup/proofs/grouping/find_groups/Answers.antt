@@ -1,37 +1,55 @@
-use Rattle.std.proofs.Common.{◌≤◌, ℕ, length, subst, ap, ◌∙◌, IfOk}
-use Rattle.outside.specs.Count.{RoseBy}
-use Rattle.tree_dup.specs.Grouping.{IsGrouping}
-use Rattle.tree_dup.proofs.Done.{first_tree, first_fell, first_reader, first_rose, first_same, if_ok}
+use Rattle.std.proofs.Common.{rules, length, map, ap, sym, subst, ◌∙◌}
+use Rattle.std.specs.Ordering.{is_lt}
+use Rattle.std.proofs.lemmas.Cmp.{nat_list_cmp_total}
+use Rattle.std.proofs.lemmas.List.Sorted.{ranks_by, answers_always, length_permutation}
+use Rattle.tree_cmp.specs.Readers.{first_told, RoseTogether}
+use Rattle.tree_dup.specs.declared.runs.File.{File}
+use Rattle.tree_dup.specs.Private.Running.{content_cmp}
+use Rattle.tree_dup.proofs.Classes.{alike_moved}
+use Rattle.tree_dup.proofs.Counted.{kept_on, fell_fell}
+use Rattle.tree_dup.proofs.Done.{none_fell}
+use Rattle.tree_dup.proofs.Grouped.{grouped, causes_moved}
+use Rattle.tree_dup.proofs.Ran.{key}
+use Rattle.tree_dup.proofs.Sifted.{sifted_first, sifted_as}
 use Rattle.tree_dup.proofs.grouping.find_groups.Goals as goal
 
-pub returns-clause-groups : goal.returns-clause-groups
-returns-clause-groups g c =
-    let readers = c.args.readers.now.items in
-    let reader = c.index_mut.result.now in
-    subst (λ t. IfOk c.groups_by.result (IsGrouping t c.args.list.now))
-    (ap g.R.Tree.tree c.index_mut.ensures.value ∙ first_tree g.R.Tree.tree readers reader c.requires.some) c.groups_by.ensures.groups
+pub returns-in_err-files-clause-none_fell : goal.returns-in_err-files-clause-none_fell
+returns-in_err-files-clause-none_fell g c = none_fell g.R.Tree.count c.args.readers.now.items
 
-pub returns-clause-counted : goal.returns-clause-counted
-returns-clause-counted g c =
-    let readers = c.args.readers.now.items in
-    let reader = c.index_mut.result.now in
-    let new = c.groups_by.new.reader in
-    if_ok c.groups_by.result _ _
-    (λ found r. first_rose g.R.Tree.count (length found.failed) readers reader new c.requires.some
-    (subst (λ (n : ℕ). RoseBy (length found.failed) n (g.R.Tree.count new)) (ap g.R.Tree.count c.index_mut.ensures.value) r))
-    c.groups_by.ensures.counted
+pub returns-in_err-divide_shared-clause-none_fell : goal.returns-in_err-divide_shared-clause-none_fell
+returns-in_err-divide_shared-clause-none_fell g c =
+    fell_fell (map g.R.Tree.count c.args.readers.now.items) (map g.R.Tree.count c.hash_shared.new.readers.items)
+    (map g.R.Tree.count c.divide_shared.new.readers.items) c.in_ok-hash_shared.ensures.none_fell c.in_err-divide_shared.ensures.none_fell
 
-pub returns-clause-none_fell : goal.returns-clause-none_fell
-returns-clause-none_fell g c =
-    let new = c.groups_by.new.reader in
-    first_fell g.R.Tree.count c.args.readers.now.items c.index_mut.result.now new c.requires.some
-    (subst (λ (n : ℕ). n ≤ g.R.Tree.count new) (ap g.R.Tree.count c.index_mut.ensures.value) c.groups_by.ensures.count.kept)
+pub divide_shared-requires-clause-sorted : goal.divide_shared-requires-clause-sorted
+divide_shared-requires-clause-sorted g c = λ κs within.
+    c.sort_unstable_by.ensures.sorted (λ (x y : File). is_lt (content_cmp x y)) (ranks_by nat_list_cmp_total key)
+    (answers_always _ _ _ (λ f a r f' k. search rules))
 
-pub returns-clause-same : goal.returns-clause-same
-returns-clause-same g c =
-    first_same g.R.Tree.tree c.args.readers.now.items c.index_mut.result.now c.groups_by.new.reader c.requires.some
-    (c.groups_by.ensures.same ∙ ap g.R.Tree.tree c.index_mut.ensures.value)
+pub divide_shared-requires-clause-alike : goal.divide_shared-requires-clause-alike
+divide_shared-requires-clause-alike g c = λ κs within.
+    alike_moved c.hash_shared.new.files.items c.sort_unstable_by.new.self.items c.sort_unstable_by.ensures.permutation c.in_ok-hash_shared.ensures.alike
 
-pub groups_by-requires-clause-told : goal.groups_by-requires-clause-told
-groups_by-requires-clause-told g c =
-    first_reader g.R.Tree.tree c.args.readers.now.items c.index_mut.result.now c.args.list.now c.requires.some c.index_mut.ensures.value c.requires.told
+pub returns : goal.returns
+returns g c =
+    let h = c.in_ok-hash_shared.ensures in
+    let d = c.in_ok-divide_shared.ensures in
+    let s = c.sort.ensures in
+    let list = c.args.list.now in
+    let told = first_told (map g.R.Tree.tree c.args.readers.now.items) in
+    let counts = map g.R.Tree.count in
+    record {
+      groups = grouped told list c.divide_shared.new.found c.sort.new.self c.requires.ascend
+          (sifted_as told _ list _ _ _ _ (ap first_told h.same) (d.sifted list)
+          (sifted_first told list c.hash_shared.new.files.items c.sort_unstable_by.new.self.items c.hash_shared.new.found
+          c.sort_unstable_by.ensures.permutation (h.hashed list (c.in_ok-files.ensures.listed told c.requires.told))))
+          s.groups s.failed s.changed s.by_first s.by_failed s.by_changed;
+      counted = subst (λ n. RoseTogether n (counts c.args.readers.now.items) (counts c.divide_shared.new.readers.items))
+          (sym (length_permutation c.divide_shared.new.found.failed c.sort.new.self.failed s.failed))
+          (kept_on (length c.divide_shared.new.found.failed) (counts c.args.readers.now.items) (counts c.hash_shared.new.readers.items)
+          (counts c.divide_shared.new.readers.items) (length c.hash_shared.new.found.failed) h.counted d.counted d.none_fell);
+      causes = causes_moved g.R.Tree.gives c.divide_shared.new.found c.sort.new.self s.failed s.changed (d.causes h.causes);
+      none_fell = fell_fell (counts c.args.readers.now.items) (counts c.hash_shared.new.readers.items) (counts c.divide_shared.new.readers.items)
+          h.none_fell d.none_fell;
+      same = d.same ∙ h.same;
+    }

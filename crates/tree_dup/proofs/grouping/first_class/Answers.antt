@@ -1,25 +1,26 @@
-use Rattle.std.proofs.Common.{arith, ◌≡◌, ◌++◌, ◌∷◌, [], length, refl, sym, ap, subst, All}
+use Rattle.std.proofs.Common.{arith, ◌≡◌, ◌+◌, ◌++◌, ◌∷◌, [], length, refl, sym, ap, subst, All}
 use Rattle.std.proofs.lemmas.List.Sorted.{IsPermutation-refl, length_permutation}
 use Rattle.tree_dup.specs.Grouping.{HaveCauses}
 use Rattle.tree_dup.specs.Told.{Told, Grouping}
-use Rattle.tree_dup.specs.Private.Running.{HasContent, KeepsUp, standing_other}
-use Rattle.tree_dup.proofs.Classes.{IsClass, left_alike, left_content, left_fewer, class_counted, class_causes, still_alike}
+use Rattle.shared_reads.specs.Kept.{faults_of}
+use Rattle.tree_dup.specs.Private.Running.{HasContent, KeepsUp, faults_in}
+use Rattle.tree_dup.proofs.Classes.{IsClass, left_alike, left_content, left_fewer, class_counted, class_causes}
 use Rattle.tree_dup.proofs.Done.{kept_rose}
 use Rattle.tree_dup.proofs.Kept.{class_left_out, class_kept}
 use Rattle.tree_dup.proofs.Ran.{run_of}
 use Rattle.tree_dup.proofs.grouping.first_class.Goals as goal
 
-pub compare_run-requires-clause-sizes : goal.compare_run-requires-clause-sizes
-compare_run-requires-clause-sizes g c = λ k d l.
+pub compare_first-requires-clause-sizes : goal.compare_first-requires-clause-sizes
+compare_first-requires-clause-sizes g c = λ k d l.
     (run_of c.args.run.items 0 c.index-first.result.now c.requires.some c.index-first.ensures c.requires.run k d l).of_size
 
 pub returns-then-len-lt2 : goal.returns-then-len-lt2
 returns-then-len-lt2 g c =
     let tree = g.R.Tree.tree c.args.reader.now in
-    let e = c.compare_run.ensures in
+    let e = c.compare_first.ensures in
     let first = c.index-first.result.now in
     let run = c.args.run.items in
-    let run' = c.compare_run.new.run.items in
+    let run' = c.compare_first.new.run.items in
     let paths = c.in_ok-paths.paths.items in
     let left = c.in_ok-paths.left.items in
     let found = c.args.found.now in
@@ -28,7 +29,7 @@ returns-then-len-lt2 g c =
     let made : IsClass tree first.size first.digest run run' paths left found found' = record {
       all = all;
       alike = c.requires.alike;
-      same = e.went.files;
+      same = e.files;
       empty = e.empty;
       settled = e.settled;
       dealt = c.in_ok-paths.ensures;
@@ -39,25 +40,25 @@ returns-then-len-lt2 g c =
       run = record {
         size = first.size;
         digest = first.digest;
-        all = left_content first.size first.digest run run' paths left found found' e.went.files all c.in_ok-paths.ensures;
+        all = left_content first.size first.digest run run' paths left found found' e.files all c.in_ok-paths.ensures;
       };
       alike = left_alike run' paths left found found' c.in_ok-paths.ensures;
-      fewer = left_fewer run run' paths left found found' first e.went.files c.requires.some
-          (e.front first c.requires.some (ap standing_other (still_alike run c.requires.alike 0 first c.requires.some))) c.in_ok-paths.ensures;
-      counted = class_counted run run' paths left found found' _ _ c.requires.alike c.in_ok-paths.ensures e.went.counted;
-      causes = class_causes g.R.Tree.gives run run' paths left found found' c.requires.alike e.went.shows c.in_ok-paths.ensures;
-      same = e.went.same;
-      count = kept_rose _ _ _ _ e.went.counted;
+      fewer = left_fewer run run' paths left found found' first e.files c.requires.some
+          (e.front first) c.in_ok-paths.ensures;
+      counted = class_counted _ run' paths left found found' _ _ c.in_ok-paths.ensures e.counted;
+      causes = class_causes g.R.Tree.gives run' paths left found found' e.shows c.in_ok-paths.ensures;
+      same = e.same;
+      count = kept_rose _ _ _ _ e.counted;
       room = e.room;
     }
 
 pub returns : goal.returns
 returns g c =
     let tree = g.R.Tree.tree c.args.reader.now in
-    let e = c.compare_run.ensures in
+    let e = c.compare_first.ensures in
     let first = c.index-first.result.now in
     let run = c.args.run.items in
-    let run' = c.compare_run.new.run.items in
+    let run' = c.compare_first.new.run.items in
     let paths = c.in_ok-paths.paths.items in
     let left = c.in_ok-paths.left.items in
     let found = c.args.found.now in
@@ -70,7 +71,7 @@ returns g c =
     let made : IsClass tree first.size first.digest run run' paths left found found' = record {
       all = all;
       alike = c.requires.alike;
-      same = e.went.files;
+      same = e.files;
       empty = e.empty;
       settled = e.settled;
       dealt = c.in_ok-paths.ensures;
@@ -81,18 +82,18 @@ returns g c =
       run = record {
         size = first.size;
         digest = first.digest;
-        all = left_content first.size first.digest run run' paths left found found' e.went.files all c.in_ok-paths.ensures;
+        all = left_content first.size first.digest run run' paths left found found' e.files all c.in_ok-paths.ensures;
       };
       alike = left_alike run' paths left found found' c.in_ok-paths.ensures;
-      fewer = left_fewer run run' paths left found found' first e.went.files c.requires.some
-          (e.front first c.requires.some (ap standing_other (still_alike run c.requires.alike 0 first c.requires.some))) c.in_ok-paths.ensures;
-      counted = subst (λ n. KeepsUp (length found.failed) n (g.R.Tree.count c.args.reader.now) (g.R.Tree.count c.compare_run.new.reader))
+      fewer = left_fewer run run' paths left found found' first e.files c.requires.some
+          (e.front first) c.in_ok-paths.ensures;
+      counted = subst (λ n. KeepsUp (length found.failed + faults_of (λ standings. faults_in standings.items) c.args.compared) n (g.R.Tree.count c.args.reader.now) (g.R.Tree.count c.compare_first.new.reader))
           (sym (ap (λ (f : Grouping). length f.failed) added))
-          (class_counted run run' paths left found found' _ _ c.requires.alike c.in_ok-paths.ensures e.went.counted);
+          (class_counted _ run' paths left found found' _ _ c.in_ok-paths.ensures e.counted);
       causes = λ h.
-          let k = class_causes g.R.Tree.gives run run' paths left found found' c.requires.alike e.went.shows c.in_ok-paths.ensures h in
+          let k = class_causes g.R.Tree.gives run' paths left found found' e.shows c.in_ok-paths.ensures h in
           subst (HaveCauses g.R.Tree.gives) (sym added) (record { failed = k.failed; changed = k.changed });
-      same = e.went.same;
-      count = kept_rose _ _ _ _ e.went.counted;
+      same = e.same;
+      count = kept_rose _ _ _ _ e.counted;
       room = e.room;
     }

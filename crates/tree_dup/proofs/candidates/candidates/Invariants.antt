@@ -1,0 +1,17 @@
+use Rattle.std.proofs.Common.{◌≡◌, ◌-◌, ◌≤◌, length, map, Option, IfSome}
+use Rattle.outside.specs.Tree.{Files}
+use Rattle.tree_cmp.specs.Readers.{StatsTold}
+use Rattle.tree_dup.specs.Private.Running.{still}
+use Rattle.tree_dup.specs.Private.Sifting.{AreListed}
+use Rattle.tree_dup.proofs.candidates.candidates.Given as goal
+
+abbrev pub invariant-loop-cursor : goal.invariant-loop-cursor
+invariant-loop-cursor l = record {
+  of_list : l.cursor.0 ≡ l.list;
+  inside : l.cursor.1 ≤ length l.list;
+  listed : (tree : Option Files) → IfSome tree (λ t. StatsTold t l.list) → AreListed tree l.list l.cursor.1 l.files.items;
+  alike : map still l.files.items ≡ l.files.items;
+}
+
+abbrev pub decreases-loop-cursor : goal.decreases-loop-cursor
+decreases-loop-cursor l = length l.list - l.cursor.1

@@ -1,0 +1,30 @@
+use Rattle.std.proofs.Common.{◌≡◌, ℕ, List, ◌+◌, ◌<◌, ◌≤◌, length, get_or, All}
+use Rattle.flat_list.specs.declared.entries.Entry.{Entry}
+use Rattle.shared_reads.specs.Kept.{Holds, held}
+use Rattle.tree_dup.specs.Grouping.{HaveCauses}
+use Rattle.tree_dup.specs.declared.runs.File.{File}
+use Rattle.tree_dup.specs.declared.runs.Standing.TheVariants.{Alike}
+use Rattle.tree_dup.specs.Private.Hashing.{AreDigests, hash_faults}
+use Rattle.tree_dup.specs.Private.Running.{KeepsUp}
+use Rattle.tree_dup.specs.Private.Sifting.{AreListed}
+use Rattle.tree_dup.proofs.Hashed.{AreHashedFrom}
+use Rattle.tree_dup.proofs.hashing.hash_all.Given as goal
+
+abbrev pub invariant-loop-place : goal.invariant-loop-place
+invariant-loop-place g l =
+    let reader = g.R.Tree in
+    let tree = reader.tree l.fn.reader in
+    record {
+      inside : l.place ≤ length l.files.items;
+      front : (j : ℕ) (d : File) → j < l.place → get_or l.files.items j d ≡ get_or l.fn.files.items j d;
+      told : Holds (AreDigests tree reader.gives l.fn.files.items) l.kept;
+      hashed : (list : List Entry) → AreListed tree list (length list) l.fn.files.items → AreHashedFrom tree list l.place l.files.items l.found;
+      alike : All (λ f. f.standing ≡ Alike) l.files.items;
+      counted : KeepsUp (held hash_faults l.fn.kept) (length l.found.failed + held hash_faults l.kept) (reader.count l.fn.reader) (reader.count l.reader);
+      causes : HaveCauses reader.gives l.found;
+      same : reader.tree l.reader ≡ tree;
+      room : length l.buffer ≡ length l.fn.buffer;
+    }
+
+abbrev pub decreases-loop-place : goal.decreases-loop-place
+decreases-loop-place g l = l.place
