@@ -1,2 +1,22 @@
-mod Cover
-mod Multiples
+pub mod Aside
+pub mod Composed
+pub mod Counted
+pub mod Cover
+pub mod Dealt
+pub mod Ended
+pub mod Fills
+pub mod Fitted
+pub mod Folded
+pub mod Joined
+pub mod Loaded
+pub mod Made
+pub mod Multiples
+pub mod Noted
+pub mod Outcomes
+pub mod Parted
+pub mod Passed
+pub mod Rejoined
+pub mod Rows
+pub mod Tried
+pub mod Widened
+pub mod Worked

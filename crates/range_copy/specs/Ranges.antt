@@ -1,5 +1,5 @@
 -- A file cut into consecutive ranges that cover it. Our own.
-use Rattle.std.specs.Prelude.{◌≡◌, ℕ, zero, suc, ◌+◌, ◌-◌, ◌*◌, ◌/◌, Bool, true, List, [], ◌∷◌, ◌++◌, length, take, drop, if◌then◌else◌, nat_lt}
+use Rattle.std.specs.Prelude.{◌≡◌, ℕ, zero, suc, ◌+◌, ◌-◌, ◌/◌, true, List, [], ◌∷◌, ◌++◌, length, take, drop, if◌then◌else◌, nat_lt}
 use Rattle.outside.specs.Spans.{are_cuts}
 
 -- how many bytes a range has: those of a piece, or as many as make 4,096 ranges of the file

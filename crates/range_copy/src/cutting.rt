@@ -4,7 +4,7 @@ ghost use Rattle.outside.specs.Spans.{are_cuts};
 ghost use Rattle.range_copy.specs.Ranges.{end_of, range_cuts, step_of};
 
 use path_text::OutOfMemory;
-use std::alloc::{AllocFailed, Global};
+use std::alloc::{AllocError, AllocFailed, Global};
 use thiserror::Error;
 
 /// Why no ranges are told, or nothing is copied.
@@ -22,6 +22,17 @@ impl<T: Drop> From<AllocFailed<T>> for RangeError {
     ghost from_gives = { λ _ e. e ≡ range.OutOfMemory };
 
     fn from(_: AllocFailed<T>) -> Self {
+        RangeError::OutOfMemory
+    }
+}
+
+impl From<AllocError> for RangeError {
+    ghost use Rattle.std.specs.Prelude.{◌≡◌};
+    ghost use Rattle.range_copy.specs.declared.cutting.RangeError.TheVariants as range;
+
+    ghost from_gives = { λ _ e. e ≡ range.OutOfMemory };
+
+    fn from(_: AllocError) -> Self {
         RangeError::OutOfMemory
     }
 }

@@ -1,0 +1,6 @@
+use Rattle.std.proofs.Common.{◌∙◌}
+use Rattle.level_work.proofs.Sets.{is_there}
+use Rattle.range_copy.proofs.failing.Paths.has.Goals as goal
+
+pub returns : goal.returns
+returns c = c.contains.ensures ∙ is_there c.args.self.now.set.keys c.args.path.now

@@ -1,0 +1,110 @@
+use Rattle.std.proofs.Common.{◌≡◌, ◌∙◌, ◌<◌, ap, cond, inl, refl, subst, sym, IfSome, None}
+use Rattle.path_text.specs.Path.{refusal}
+use Rattle.outside.specs.Count.{RoseBy}
+use Rattle.outside.specs.Writes.{SameBut}
+use Rattle.level_work.specs.Counts.{is_failed}
+use Rattle.level_work.specs.declared.items.Fate.TheVariants as fate
+use Rattle.tree_copy.specs.Copying.{IsCopied, IsEarly}
+use Rattle.range_copy.proofs.Tried.{cause_of, copied_there, early_long, exceeds_by, long_copied, lost_copied, lost_there, no_root_there, none_there, parent_there}
+use Rattle.range_copy.proofs.Tried.{same_target, source_there, too_long, tried_early, unchanged}
+use Rattle.range_copy.proofs.folding.copy_one.Goals as goal
+
+pub returns-in_default-clause-early : goal.returns-in_default-clause-early
+returns-in_default-clause-early g c rows are =
+    let none = sym c.in_ok-target.ensures.told ∙ c.in_default.is in
+    inl (early_long c.args.pairs.now rows c.args.failed.now.set.keys are c.args.piece c.args.entry.now c.requires.large
+    (too_long c.args.pairs.now c.args.entry.now.path none))
+
+pub returns-in_default-clause-told : goal.returns-in_default-clause-told
+returns-in_default-clause-told g c rows are =
+    let none = sym c.in_ok-target.ensures.told ∙ c.in_default.is in
+    let t = g.G.Plot.tree c.args.ground.now in
+    let early = early_long c.args.pairs.now rows c.args.failed.now.set.keys are c.args.piece c.args.entry.now c.requires.large
+    (too_long c.args.pairs.now c.args.entry.now.path none) in
+    unchanged (λ a b. IsCopied a b c.args.pairs.now rows c.args.entry.now fate.TooLong) t t refl
+    (λ a b same. long_copied c.args.pairs.now rows c.args.failed.now.set.keys are c.args.piece c.args.entry.now c.requires.large a b early same)
+
+pub returns-then-branch-clause-early : goal.returns-then-branch-clause-early
+returns-then-branch-clause-early g c rows are =
+    let is = sym c.in_ok-target.ensures.told ∙ c.in-Some.is in
+    let valid = subst (λ o. IfSome o (λ p. refusal p ≡ None)) c.in-Some.is c.in_ok-target.ensures.path in
+    inl (lost_there c.args.pairs.now c.args.failed.now.set.keys c.args.piece c.args.entry.now c.requires.large c.in-Some.target is valid c.requires.low rows are
+    (sym c.in_ok-has_parent_of.ensures ∙ c.if-branch.true))
+
+pub returns-then-branch-clause-told : goal.returns-then-branch-clause-told
+returns-then-branch-clause-told g c rows are =
+    let is = sym c.in_ok-target.ensures.told ∙ c.in-Some.is in
+    let valid = subst (λ o. IfSome o (λ p. refusal p ≡ None)) c.in-Some.is c.in_ok-target.ensures.path in
+    let t = g.G.Plot.tree c.args.ground.now in
+    let early = lost_there c.args.pairs.now c.args.failed.now.set.keys c.args.piece c.args.entry.now c.requires.large c.in-Some.target is valid c.requires.low
+    rows are (sym c.in_ok-has_parent_of.ensures ∙ c.if-branch.true) in
+    unchanged (λ a b. IsCopied a b c.args.pairs.now rows c.args.entry.now fate.ParentFailed) t t refl
+    (λ a b same. lost_copied c.args.pairs.now rows c.args.failed.now.set.keys are c.args.piece c.args.entry.now c.requires.large a b early same)
+
+pub copy_file-requires-clause-larger : goal.copy_file-requires-clause-larger
+copy_file-requires-clause-larger g c κs within =
+    subst (λ n. c.args.piece < n) (sym c.size_of-size.ensures) (exceeds_by c.args.piece c.args.entry.now c.requires.large)
+
+pub copy_file-requires-clause-root : goal.copy_file-requires-clause-root
+copy_file-requires-clause-root g c κs within =
+    let is = sym c.in_ok-target.ensures.told ∙ c.in-Some.is in
+    let valid = subst (λ o. IfSome o (λ p. refusal p ≡ None)) c.in-Some.is c.in_ok-target.ensures.path in
+    no_root_there c.args.pairs.now c.args.failed.now.set.keys c.args.piece c.args.entry.now c.requires.large c.in-Some.target is valid c.requires.low
+
+pub copy_file-requires-clause-source : goal.copy_file-requires-clause-source
+copy_file-requires-clause-source g c κs within =
+    let is = sym c.in_ok-target.ensures.told ∙ c.in-Some.is in
+    let valid = subst (λ o. IfSome o (λ p. refusal p ≡ None)) c.in-Some.is c.in_ok-target.ensures.path in
+    source_there c.args.pairs.now c.args.failed.now.set.keys c.args.piece c.args.entry.now c.requires.large c.in-Some.target is valid c.requires.low
+    c.size_of-size.result (g.G.Plot.tree c.args.ground.now) c.size_of-size.ensures c.requires.makes
+
+pub copy_file-requires-clause-stand : goal.copy_file-requires-clause-stand
+copy_file-requires-clause-stand g c κs within =
+    let is = sym c.in_ok-target.ensures.told ∙ c.in-Some.is in
+    let valid = subst (λ o. IfSome o (λ p. refusal p ≡ None)) c.in-Some.is c.in_ok-target.ensures.path in
+    parent_there c.args.pairs.now c.args.failed.now.set.keys c.args.piece c.args.entry.now c.requires.large c.in-Some.target is valid c.requires.low
+    (g.G.Plot.tree c.args.ground.now) (sym c.in_ok-has_parent_of.ensures ∙ c.if-branch.false) c.requires.makes
+
+pub returns-in_err-came-clause-others : goal.returns-in_err-came-clause-others
+returns-in_err-came-clause-others g c =
+    let is = sym c.in_ok-target.ensures.told ∙ c.in-Some.is in
+    let valid = subst (λ o. IfSome o (λ p. refusal p ≡ None)) c.in-Some.is c.in_ok-target.ensures.path in
+    let t = g.G.Plot.tree c.args.ground.now in
+    let t1 = g.G.Plot.tree c.copy_file.new.ground in
+    subst (λ p. IfSome t (λ before. IfSome t1 (SameBut p before)))
+    (same_target c.args.pairs.now c.args.failed.now.set.keys c.args.piece c.args.entry.now c.requires.large c.in-Some.target is valid c.requires.low)
+    c.in_err-came.ensures.others
+
+pub returns-clause-early : goal.returns-clause-early
+returns-clause-early g c rows are =
+    let is = sym c.in_ok-target.ensures.told ∙ c.in-Some.is in
+    let valid = subst (λ o. IfSome o (λ p. refusal p ≡ None)) c.in-Some.is c.in_ok-target.ensures.path in
+    let none = none_there c.args.pairs.now c.args.failed.now.set.keys c.args.piece c.args.entry.now c.requires.large c.in-Some.target is valid c.requires.low
+    rows are (sym c.in_ok-has_parent_of.ensures ∙ c.if-branch.false) in
+    subst (IsEarly c.args.pairs.now rows c.args.entry.now) (sym c.fate_of.ensures)
+    (tried_early c.args.pairs.now rows c.args.failed.now.set.keys are c.args.piece c.args.entry.now c.requires.large c.in_ok-came.came none)
+
+pub returns-clause-told : goal.returns-clause-told
+returns-clause-told g c rows are =
+    let is = sym c.in_ok-target.ensures.told ∙ c.in-Some.is in
+    let valid = subst (λ o. IfSome o (λ p. refusal p ≡ None)) c.in-Some.is c.in_ok-target.ensures.path in
+    let t = g.G.Plot.tree c.args.ground.now in
+    let t1 = g.G.Plot.tree c.copy_file.new.ground in
+    subst (λ f. IfSome t (λ before. IfSome t1 (λ after. IsCopied before after c.args.pairs.now rows c.args.entry.now f))) (sym c.fate_of.ensures)
+    (copied_there c.args.pairs.now c.args.failed.now.set.keys c.args.piece c.args.entry.now c.requires.large c.in-Some.target is valid c.requires.low rows are
+    t t1 c.in_ok-came.came (sym c.in_ok-has_parent_of.ensures ∙ c.if-branch.false) c.in_ok-came.ensures.told)
+
+pub returns-clause-cause : goal.returns-clause-cause
+returns-clause-cause g c =
+    subst (λ f. RoseBy (cond (is_failed f) 1 0) (g.G.Plot.count c.args.ground.now) (g.G.Plot.count c.copy_file.new.ground)) (sym c.fate_of.ensures)
+    (cause_of c.in_ok-came.came (g.G.Plot.count c.args.ground.now) (g.G.Plot.count c.copy_file.new.ground) c.in_ok-came.ensures.cause c.in_ok-came.ensures.count)
+
+pub returns-clause-others : goal.returns-clause-others
+returns-clause-others g c =
+    let is = sym c.in_ok-target.ensures.told ∙ c.in-Some.is in
+    let valid = subst (λ o. IfSome o (λ p. refusal p ≡ None)) c.in-Some.is c.in_ok-target.ensures.path in
+    let t = g.G.Plot.tree c.args.ground.now in
+    let t1 = g.G.Plot.tree c.copy_file.new.ground in
+    subst (λ p. IfSome t (λ before. IfSome t1 (SameBut p before)))
+    (same_target c.args.pairs.now c.args.failed.now.set.keys c.args.piece c.args.entry.now c.requires.large c.in-Some.target is valid c.requires.low)
+    c.in_ok-came.ensures.others

@@ -1,0 +1,60 @@
+use Rattle.std.proofs.Common.{◌≡◌, ◌∙◌, ◌-◌, ◌++◌, ◌∷◌, [], ap, arith, drop, length, None, subst, sym, take, All}
+use Rattle.std.proofs.lemmas.List.{take_all}
+use Rattle.std.proofs.lemmas.List.Elements.{All-append, All-cons, All-nil}
+use Rattle.path_text.specs.Path.{refusal}
+use Rattle.flat_list.specs.declared.entries.Entry.{Entry}
+use Rattle.flat_list.proofs.Turns.{no_more}
+use Rattle.tree_copy.proofs.Tallies.{moved_on, next_of}
+use Rattle.range_copy.specs.PrivateParts.{ArePartsOf, held_of}
+use Rattle.range_copy.proofs.Passed.{at_last, none_over, whole}
+use Rattle.range_copy.proofs.parting.apart.Goals as goal
+
+pub loop-cursor-preserved : goal.loop-cursor-preserved
+loop-cursor-preserved c =
+    let Valid : Entry → Type 0 = λ e. refusal e.path ≡ None in
+    let i = c.loop-cursor.invariant in
+    let list = c.args.list.now in
+    let e = c.entry.result.now in
+    let k = c.loop-cursor.cursor.1 in
+    let next = c.advance.new.self.1 in
+    let at = moved_on c.loop-cursor.cursor c.advance.new.self c.in_ok-advance.field-0 c.in_ok-advance.ensures.passed c.if-branch.true in
+    let same : c.advance.new.self.0 ≡ list = at.0 ∙ i.of_list in
+    let rest : drop k list ≡ e ∷ drop next list = next_of list c.advance.new.self.0 k next e same c.entry.ensures.at at.1 in
+    let back : next - 1 ≡ k = omega (arith, at.1) in
+    let last : take next list ≡ take k list ++ e ∷ [] = subst (λ xs. take next xs ≡ take (next - 1) xs ++ e ∷ []) same c.entry.ensures.last
+    ∙ ap (λ n. take n list ++ e ∷ []) back in
+    record {
+      of_list = same;
+      inside = omega (arith, c.in_ok-advance.ensures.inside, ap length same);
+      parts = c.in_ok-held.ensures.parts (drop next list) list
+          (subst (λ xs. ArePartsOf c.args.piece c.loop-cursor.parts (held_of c.loop-cursor.held ++ xs) list) rest i.parts);
+      held = c.in_ok-held.ensures.held;
+      valid = subst (All Valid) (sym last) (All-append Valid (take k list) (e ∷ []) i.valid (All-cons Valid e [] c.in_ok-held.ensures.path (All-nil Valid)));
+    }
+
+pub returns-clause-small : goal.returns-clause-small
+returns-clause-small c =
+    let i = c.loop-cursor.invariant in
+    let over = no_more c.args.list.now c.loop-cursor.cursor c.in_ok-advance.field-0 i.of_list c.in_ok-advance.ensures.answer c.if-branch.false in
+    (whole c.args.piece c.settle.new.parts c.args.list.now (c.in_ok-settle.ensures c.args.piece [] c.args.list.now i.held (none_over c.loop-cursor.held)
+    (at_last c.args.piece c.loop-cursor.parts c.loop-cursor.held c.loop-cursor.cursor.1 c.args.list.now over i.parts))).0
+
+pub returns-clause-large : goal.returns-clause-large
+returns-clause-large c =
+    let i = c.loop-cursor.invariant in
+    let over = no_more c.args.list.now c.loop-cursor.cursor c.in_ok-advance.field-0 i.of_list c.in_ok-advance.ensures.answer c.if-branch.false in
+    (whole c.args.piece c.settle.new.parts c.args.list.now (c.in_ok-settle.ensures c.args.piece [] c.args.list.now i.held (none_over c.loop-cursor.held)
+    (at_last c.args.piece c.loop-cursor.parts c.loop-cursor.held c.loop-cursor.cursor.1 c.args.list.now over i.parts))).1
+
+pub returns-clause-marks : goal.returns-clause-marks
+returns-clause-marks c =
+    let i = c.loop-cursor.invariant in
+    let over = no_more c.args.list.now c.loop-cursor.cursor c.in_ok-advance.field-0 i.of_list c.in_ok-advance.ensures.answer c.if-branch.false in
+    (whole c.args.piece c.settle.new.parts c.args.list.now (c.in_ok-settle.ensures c.args.piece [] c.args.list.now i.held (none_over c.loop-cursor.held)
+    (at_last c.args.piece c.loop-cursor.parts c.loop-cursor.held c.loop-cursor.cursor.1 c.args.list.now over i.parts))).2
+
+pub returns-clause-paths : goal.returns-clause-paths
+returns-clause-paths c =
+    let i = c.loop-cursor.invariant in
+    let over = no_more c.args.list.now c.loop-cursor.cursor c.in_ok-advance.field-0 i.of_list c.in_ok-advance.ensures.answer c.if-branch.false in
+    subst (All (λ (e : Entry). refusal e.path ≡ None)) (take_all c.loop-cursor.cursor.1 c.args.list.now over) i.valid

@@ -1,0 +1,7 @@
+use Rattle.std.proofs.Common.{◌≡◌, drop}
+use Rattle.range_copy.specs.PrivateTurns.{outcome_of}
+use Rattle.range_copy.proofs.spanning.outcome.Given as goal
+
+-- those so far have come to `Done`
+abbrev pub invariant-loop-one : goal.invariant-loop-one
+invariant-loop-one g l = outcome_of l.fillers ≡ outcome_of (drop l.one-index l.fillers)

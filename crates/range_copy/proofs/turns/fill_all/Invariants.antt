@@ -1,0 +1,19 @@
+use Rattle.std.proofs.Common.{◌+◌, ◌*◌, ◌<◌, ◌≤◌, ◌++◌, length}
+use Rattle.std.specs.Vec.{vec_capacity}
+use Rattle.range_copy.specs.PrivateFilling.{spans_left, spans_of}
+use Rattle.range_copy.specs.PrivateTurns.{AreBlamed, faults_of}
+use Rattle.range_copy.proofs.Worked.{Filling}
+use Rattle.range_copy.proofs.turns.fill_all.Given as goal
+
+-- the spans that were dealt so far are filled
+abbrev pub invariant-loop-fillers : goal.invariant-loop-fillers
+invariant-loop-fillers g l = record {
+  filling : Filling g.T.Tree.tree g.S.Span.piece g.S.Span.holds l.source l.total l.fn.fillers (spans_left l.fn.loads.items) l.fillers l.loads.items
+      l.done.items (l.done.items ++ spans_of l.fillers);
+  blamed : AreBlamed (faults_of g.T.Tree.count g.S.Span.count l.fillers (l.done.items ++ spans_of l.fillers)) l.fillers;
+  some : 0 < length l.fillers;
+  room : vec_capacity l.fn.done ≤ vec_capacity l.done;
+}
+
+abbrev pub decreases-loop-fillers : goal.decreases-loop-fillers
+decreases-loop-fillers g l = length (spans_of l.fillers) + 2 * length l.loads.items

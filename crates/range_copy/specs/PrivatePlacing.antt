@@ -1,0 +1,55 @@
+-- How an empty file comes to stand at a target. Only the contracts of this crate's own parts cite it.
+use Rattle.std.specs.Prelude.{⊤, ◌≡◌, ℕ, true, false, List, [], Option, Some, None, is_some, Result, Ok, Err, IfOk}
+use Rattle.std.specs.FinMap.{get}
+use Rattle.outside.specs.Tree.{Files, Node, is_file}
+use Rattle.outside.specs.Writes.{SameBut, new_file}
+use Rattle.outside.specs.declared.plots.WriteError.{WriteError}
+use Rattle.outside.specs.declared.plots.WriteError.TheVariants as write
+use Rattle.range_copy.specs.declared.came.Came.{Came}
+use Rattle.range_copy.specs.declared.came.Came.TheVariants as came
+use Rattle.range_copy.specs.declared.cutting.RangeError.{RangeError}
+use Rattle.range_copy.specs.declared.cutting.RangeError.TheVariants as range
+use Rattle.range_copy.specs.Large.{in_way}
+
+-- what a step means for the trees before and after it, by what it came to; no other path changes
+pub record Leaves (means : List ℕ → Came → Files → Files → Type 0) (path : List ℕ) (result : Result Came RangeError) (before after : Files) : Type 0 where
+  pub others : SameBut path before after
+  pub meant : IfOk result (λ c. means path c before after)
+
+-- an empty file was made where nothing was; `Conflict` says that something was there
+abbrev pub MadeAs : List ℕ → Came → Files → Files → Type 0
+MadeAs path came.Done before after = (get before path ≡ None) × (get after path ≡ Some (new_file []))
+MadeAs path came.Conflict before after = (is_some (get before path) ≡ true) × (after ≡ before)
+MadeAs path came.Failed before after = ⊤
+MadeAs path came.Changed before after = ⊥
+
+-- an empty file is there in place of a file
+abbrev pub ReplacedAs : List ℕ → Came → Files → Files → Type 0
+ReplacedAs path came.Done before after = get after path ≡ Some (new_file [])
+ReplacedAs path came.Conflict before after = ⊥
+ReplacedAs path came.Failed before after = ⊤
+ReplacedAs path came.Changed before after = ⊥
+
+-- an empty file is there in place of none or of a file
+abbrev pub PlacedAs : List ℕ → Came → Files → Files → Type 0
+PlacedAs path came.Done before after = (in_way (get before path) ≡ false) × (get after path ≡ Some (new_file []))
+PlacedAs path came.Conflict before after = (in_way (get before path) ≡ true) × (get after path ≡ get before path)
+PlacedAs path came.Failed before after = ⊤
+PlacedAs path came.Changed before after = ⊥
+
+-- a look told that a file is there, that something else is, or that nothing is
+abbrev pub LooksLike : Option Node → Came → Type 0
+LooksLike found came.Done = is_file found ≡ true
+LooksLike found came.Conflict = in_way found ≡ true
+LooksLike found came.Failed = ⊤
+LooksLike found came.Changed = found ≡ None
+
+-- what a refusal means
+abbrev pub refused_as : WriteError → Result Came RangeError
+refused_as write.Exists = Ok came.Conflict
+refused_as write.Failed = Ok came.Failed
+refused_as write.OutOfMemory = Err range.OutOfMemory
+refused_as write.NoParent = Ok came.Changed
+refused_as write.WrongKind = Ok came.Changed
+refused_as write.NotEmpty = Ok came.Changed
+refused_as write.Absent = Ok came.Changed

@@ -1,0 +1,124 @@
+//! The targets of entries that were not copied.
+ghost use Rattle.std.specs.Prelude.{◌≡◌, ◌||◌, ◌∷◌, ◌++◌, ℕ, List, [], Some, None, true, false, All, IfOk, IfSome, OnOk, if◌then◌else◌, length, nat_eq, nat_le};
+ghost use Rattle.std.specs.List.{list_any};
+ghost use Rattle.std.specs.Cmp.Lexicographic.{pointwise};
+ghost use Rattle.path_text.specs.Graft.{below_of, grafted};
+ghost use Rattle.path_text.specs.Order.{is_within};
+ghost use Rattle.path_text.specs.Path.{parent_of, refusal};
+ghost use Rattle.outside.specs.Tree.{is_root};
+ghost use Rattle.level_work.specs.declared.items.Fate.{Fate};
+ghost use Rattle.tree_copy.specs.Copying.{is_done};
+ghost use Rattle.range_copy.specs.PrivateLarge.{AreFailed, fitting_target, has_path};
+
+use crate::cutting::RangeError;
+use level_work::Fate;
+use path_text::{JoinError, Path};
+use std::alloc::Global;
+use std::collections::BTreeSet;
+use tree_copy::{CopyReport, Pair};
+
+// Some paths.
+#[derive(Drop)]
+pub(crate) struct Paths {
+    pub(crate) set: BTreeSet<Path>,
+}
+
+impl Paths {
+    // Whether the path over this one is among them. Where there are none no memory is taken.
+    pub(crate) fn has_parent_of(&self, path: &Path) -> Result<bool, RangeError>
+        requires { is_root path.now ≡ false }
+        ensures { IfOk result (λ has. has ≡ has_path self.now.set.keys (parent_of path.now)) }
+    {
+        if self.set.is_empty() {
+            return Ok(false);
+        }
+        let _ = path.text(); // tells that it is a path
+        let Some(parent) = path.parent()? else {
+            unreachable!()
+        };
+        Ok(self.has(&parent))
+    }
+
+    fn has(&self, path: &Path) -> bool
+        ensures { result ≡ has_path self.now.set.keys path.now }
+    {
+        self.set.contains(path)
+    }
+
+    // One more.
+    fn add(&mut self, path: Path) -> Result<(), RangeError>
+        ensures { OnOk result ((q : List ℕ) → has_path self.new.set.keys q ≡ (pointwise nat_eq q path || has_path self.old.set.keys q)) }
+    {
+        self.set.insert(path)?;
+        Ok(())
+    }
+}
+
+// The targets of the entries that did not come to `Done`, but for those that are too long.
+pub(crate) fn failed_targets(
+    alloc: Global,
+    report: &CopyReport,
+    pairs: &[Pair],
+) -> Result<Paths, RangeError>
+    requires { All (λ row. list_any (λ pair. is_within row.0 pair.source) pairs.now ≡ true) report.now.0 }
+    ensures { IfOk result (λ failed. AreFailed pairs.now report.now.0 failed.set.keys) }
+{
+    let mut failed = Paths {
+        set: BTreeSet::new(alloc),
+    };
+    for k in 0..report.len() {
+        note(&mut failed, report.path(k), report.fate(k), pairs)?;
+    }
+    Ok(failed)
+}
+
+// Notes the target of a path, if its entry did not come to `Done`.
+fn note(failed: &mut Paths, path: &Path, fate: Fate, pairs: &[Pair]) -> Result<(), RangeError>
+    requires { list_any (λ pair. is_within path.now pair.source) pairs.now ≡ true }
+    ensures { (rows : List (List ℕ × Fate)) → AreFailed pairs.now rows failed.old.set.keys → OnOk result (AreFailed pairs.now (rows ++ (path.now, fate) ∷ []) failed.new.set.keys) }
+{
+    if is_done(fate) {
+        return Ok(());
+    }
+    let Some(target) = target_of(path, pairs)? else {
+        return Ok(());
+    };
+    failed.add(target)
+}
+
+fn is_done(fate: Fate) -> bool
+    ensures { result ≡ is_done fate }
+{
+    fate == Fate::Done
+}
+
+// The target of a path within a source, if it is not too long.
+pub(crate) fn target_of(path: &Path, pairs: &[Pair]) -> Result<Option<Path>, RangeError>
+    requires { list_any (λ pair. is_within path.now pair.source) pairs.now ≡ true }
+    ensures told { IfOk result (λ target. target ≡ fitting_target pairs.now path.now) }
+    ensures path { IfOk result (λ target. IfSome target (λ p. refusal p ≡ None)) }
+{
+    for pair in pairs {
+        if path.is_within(&pair.source) {
+            return moved(path, pair);
+        }
+    }
+    unreachable!()
+}
+
+// Where the pair sends a path, unless that is too long.
+fn moved(path: &Path, pair: &Pair) -> Result<Option<Path>, RangeError>
+    requires { is_within path.now pair.now.source ≡ true }
+    ensures told { IfOk result (λ target. target ≡ (if nat_le (length (grafted pair.now.target (below_of path.now pair.now.source))) 4095 then Some (grafted pair.now.target (below_of path.now pair.now.source)) else None)) }
+    ensures path { IfOk result (λ target. IfSome target (λ p. refusal p ≡ None)) }
+{
+    let below = path.below(&pair.source)?;
+    match Path::graft(&pair.target, &below) {
+        Ok(target) => {
+            let _ = target.text(); // tells that it is a path
+            Ok(Some(target))
+        }
+        Err(JoinError::TooLong) => Ok(None),
+        Err(JoinError::OutOfMemory) => Err(RangeError::OutOfMemory),
+    }
+}
