@@ -126,6 +126,8 @@ pub enum Command {
         sources: Vec<Path>,
         /// Where it is copied to.
         dest: Path,
+        /// Above how many bytes a file is copied by ranges, which have at least so many each. None is without it.
+        range: Option<u64>,
     },
     /// The making of a destination equal to a source.
     Sync {
@@ -137,6 +139,13 @@ pub enum Command {
         dest: Path,
         /// Whether entries that the destination alone has are to be removed.
         delete: bool,
+    },
+    /// The groups of files of equal content.
+    Dup {
+        /// How the walk is to go.
+        common: Common,
+        /// Below which files are looked for: one path or more, which may be nested or stand twice.
+        roots: Vec<Path>,
     },
     /// The removal of what is chosen.
     Remove {

@@ -1,7 +1,7 @@
 //! The words of a command line: what they ask for, or which of them is refused.
 //!
 //! [`read_words`] reads the words behind the program's name, of which word 0 names a tool, and gives a [`Command`]. There are
-//! seven tools:
+//! eight tools:
 //!
 //! - `dwalk` lists what stands below paths, one or more, or reads the list from a file; or it stops on the way, or goes on from
 //!   where an earlier one stopped, and has no path then.
@@ -9,10 +9,11 @@
 //! - `dcmp` compares what stands below two paths, a source and a destination.
 //! - `dcp` copies what stands below paths, one or more, to the destination, which is one more path and the last.
 //! - `dsync` makes the second of two paths equal to the first.
+//! - `ddup` groups the files of equal content below paths, one or more.
 //! - `drm` removes what stands below paths, one or more and none of them `/`, and meets all tests.
 //! - `dtest` walks a made-up tree, and sums up what meets all tests. It takes one number, of nodes, 1 to 1,000,000.
 //!
-//! Each takes options. These are of all seven:
+//! Each takes options. These are of all eight:
 //!
 //! | Option | Value | Without it |
 //! |---|---|---|
@@ -55,8 +56,9 @@
 //! A bound is `N`, `+N` or `-N`: equal to N, greater, or less.
 //!
 //! `dcmp` has `-o`, whose value is an expression on the rows of the comparison and the path of a file, divided by the first `:`.
-//! `dsync` has the flag `--delete`, with which it also removes the entries that the destination alone has. `drm` has the flag
-//! `--dryrun`, with which nothing is removed.
+//! `dcp` has `--range`, whose value is a number of bytes, 1 to 2^63 - 1: a file that has more is copied by ranges. `dsync` has the
+//! flag `--delete`, with which it also removes the entries that the destination alone has. `drm` has the flag `--dryrun`, with
+//! which nothing is removed.
 //!
 //! A value stands behind the first `=` or is the next word, whatever that is. Tests and `-o` add up, also where an option says
 //! two of them; every other option is given once. A number has 1 to 40 decimal digits, the first of which may be 0. A path may have
@@ -71,7 +73,9 @@
 //! dfind --input /l --newer /stamp       // of the list in `/l` what changed after `/stamp`
 //! dcmp -o EXIST=ONLY_SRC:/l /p /q        // compares `/q` to `/p`, and saves what `/p` alone has
 //! dcp /p /q /r                          // copies `/p` and `/q` to `/r`
+//! dcp --range 1000000 /p /r              // copies by ranges each file of more than 1,000,000 bytes
 //! dsync --delete /p /q                  // makes `/q` equal to `/p`, and removes what is in `/q` alone
+//! ddup /p /q                             // groups the files of `/p` and `/q` by their content
 //! drm --dryrun --name core.* /t          // names what it would remove of `/t`
 //! dtest --type d 100000                 // the directories of a tree of 100,000 nodes
 //! dwalk --x /t                          // UnknownOption(1)
@@ -88,6 +92,9 @@
 //! dtest 10 20                           // TooManyPaths(2)
 //! dcmp /p                               // NoPath(2)
 //! dcp /p                                // NoPath(2)
+//! dcp --range 0 /p /r                   // BadValue(2)
+//! ddup --range 1 /p                     // UnknownOption(1)
+//! ddup                                  // NoPath(1)
 //! dsync /p /q /r                        // TooManyPaths(3)
 //! dsync --delete /p --delete            // Clash(3)
 //! dsync --delete=x /p /q                // BadValue(1)

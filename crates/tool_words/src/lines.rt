@@ -193,7 +193,7 @@ impl Line {
         ensures refused { IfErr result (λ e. Tells (with_plain tool self.old place word.now) e) }
     {
         match tool {
-            Tool::Walk | Tool::Find | Tool::Cmp | Tool::Copy | Tool::Sync => {
+            Tool::Walk | Tool::Find | Tool::Cmp | Tool::Copy | Tool::Sync | Tool::Dup => {
                 self.read_path(alloc, word, place)
             }
             Tool::Remove => self.read_lower(alloc, word, place),

@@ -13,8 +13,8 @@ use path_text::Path;
 use std::alloc::Global;
 use std::marker::Model;
 
-/// The most paths that one rank may handle before all stop.
-const MOST_STOP: u64 = 9_223_372_036_854_775_807;
+/// The most that a number of paths or of bytes may be.
+const MOST_COUNT: u64 = 9_223_372_036_854_775_807;
 
 /// What the options set, whatever the tool.
 #[derive(Debug, Drop)]
@@ -28,6 +28,7 @@ pub(crate) struct Settings {
     pub(crate) wants: Vec<Want>,
     pub(crate) dryrun: bool,
     pub(crate) delete: bool,
+    pub(crate) range: Option<u64>,
     pub(crate) stop_after: Option<u64>,
     pub(crate) lists: Option<Path>,
     pub(crate) restart: bool,
@@ -38,7 +39,7 @@ impl Model for Settings {
 
     ghost Value = { Set };
 
-    ghost view = { λ s. record { common = s.common; sort = s.sort; input = s.input; output = s.output; tests = s.tests.items; newer = s.newer.items; wants = s.wants.items; dryrun = s.dryrun; delete = s.delete; stop_after = s.stop_after; lists = s.lists; restart = s.restart } };
+    ghost view = { λ s. record { common = s.common; sort = s.sort; input = s.input; output = s.output; tests = s.tests.items; newer = s.newer.items; wants = s.wants.items; dryrun = s.dryrun; delete = s.delete; range = s.range; stop_after = s.stop_after; lists = s.lists; restart = s.restart } };
 }
 
 impl Settings {
@@ -56,6 +57,7 @@ impl Settings {
             wants: Vec::new(alloc),
             dryrun: false,
             delete: false,
+            range: None,
             stop_after: None,
             lists: None,
             restart: false,
@@ -88,8 +90,9 @@ impl Settings {
             OptionName::Test(name) => self.tests.push(test_in(alloc, name, text, place)?)?,
             OptionName::Newer => self.newer.push(path_in(alloc, text, place)?)?,
             OptionName::Want => self.wants.push(want_in(alloc, text, place)?)?,
+            OptionName::Range => self.range = Some(number_in(1, MOST_COUNT, text).ok_or(bad)?),
             OptionName::StopAfter => {
-                self.stop_after = Some(number_in(1, MOST_STOP, text).ok_or(bad)?)
+                self.stop_after = Some(number_in(1, MOST_COUNT, text).ok_or(bad)?)
             }
             OptionName::Lists => self.lists = Some(path_in(alloc, text, place)?),
         }

@@ -18,6 +18,8 @@ pub(crate) enum Tool {
     Copy,
     /// `dsync`
     Sync,
+    /// `ddup`
+    Dup,
     /// `drm`
     Remove,
     /// `dtest`
@@ -35,6 +37,7 @@ impl Tool {
             "dcmp" => Some(Tool::Cmp),
             "dcp" => Some(Tool::Copy),
             "dsync" => Some(Tool::Sync),
+            "ddup" => Some(Tool::Dup),
             "drm" => Some(Tool::Remove),
             "dtest" => Some(Tool::Test),
             _ => None,
@@ -58,8 +61,9 @@ impl Tool {
                 Group::Testing,
             ],
             Tool::Cmp => &[Group::Common, Group::Comparing],
-            Tool::Copy => &[Group::Common],
+            Tool::Copy => &[Group::Common, Group::Cutting],
             Tool::Sync => &[Group::Common, Group::Deleting],
+            Tool::Dup => &[Group::Common],
             Tool::Remove => &[Group::Common, Group::Testing, Group::Removing],
             Tool::Test => &[Group::Common, Group::Telling, Group::Testing],
         }
@@ -102,6 +106,8 @@ pub(crate) enum Group {
     Deleting,
     /// Whether nothing is removed.
     Removing,
+    /// Above how many bytes a file is copied by ranges.
+    Cutting,
     /// After how much a walk stops, where its lists are, and whether it goes on from those of an earlier one.
     Stopping,
 }
@@ -132,6 +138,7 @@ impl Group {
             Group::Comparing => &[OptionName::Want],
             Group::Deleting => &[OptionName::Delete],
             Group::Removing => &[OptionName::Dryrun],
+            Group::Cutting => &[OptionName::Range],
             Group::Stopping => &[
                 OptionName::StopAfter,
                 OptionName::Lists,
@@ -167,6 +174,7 @@ pub(crate) enum OptionName {
     Want,
     Dryrun,
     Delete,
+    Range,
     StopAfter,
     Lists,
     Restart,
@@ -200,6 +208,7 @@ impl OptionName {
             OptionName::Want => "-o",
             OptionName::Dryrun => "--dryrun",
             OptionName::Delete => "--delete",
+            OptionName::Range => "--range",
             OptionName::StopAfter => "--stop-after",
             OptionName::Lists => "--lists",
             OptionName::Restart => "--restart",
