@@ -9,6 +9,8 @@
 //! - [`in_order`] puts notes from several places into one order, each once: in path order, of one path those of a destination
 //!   last, and then in the order of [`Why`].
 //! - [`put_rows`] appends what is told of a comparison: for each row the signs of its four fields and its path, and their counts.
+//! - [`put_groups`] appends what is told of files of equal content: for each group its line and a line for each of its paths,
+//!   and their counts.
 //! - [`put_synced`] appends the line of what dsync copied, removed and kept, which are [`SyncCounts`].
 //! - [`put_trace`], [`put_shares`] and [`put_progress`] append what is told of a run: a line for each of its events, for what
 //!   each rank did, and for each count as it rose.
@@ -23,12 +25,13 @@
 //! Proved: each call appends exactly the text of its definition, and one that is refused for want of memory leaves the text as
 //! it was. Laws say that the notes of a list in path order stand in their order ([`notes_stand_in_order`]), and that notes have
 //! one order ([`order_is_unique`]), which is empty for no notes alone ([`nothing_to_order`]). Definitions stand in `specs/`:
-//! `Lines` (entries and the summary), `Rows` (a comparison), `Synced` (dsync), `Notes`, `NoteOrder`,
-//! `Runs`.
+//! `Lines` (entries and the summary), `Rows` (a comparison), `Groups` (files of equal content), `Synced` (dsync), `Notes`,
+//! `NoteOrder`, `Runs`.
 #![tactic(auto)]
 
 mod comparing;
 mod drafts;
+mod grouping;
 mod laws;
 mod listing;
 mod noting;
@@ -43,6 +46,6 @@ pub use noting::{Note, Why, notes_of};
 pub use ordering::in_order;
 pub use syncing::SyncCounts;
 pub use texts::{
-    Text, put_line, put_list, put_notes, put_path_line, put_progress, put_rows, put_shares,
-    put_summary, put_synced, put_trace,
+    Text, put_groups, put_line, put_list, put_notes, put_path_line, put_progress, put_rows,
+    put_shares, put_summary, put_synced, put_trace,
 };

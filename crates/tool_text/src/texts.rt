@@ -1,6 +1,8 @@
 //! Text, and the calls that add to it.
-ghost use Rattle.std.specs.Prelude.{◌≡◌, ◌==◌, ◌++◌, ◌∷◌, [], length, OnOk, OnErr};
+ghost use Rattle.std.specs.Prelude.{◌≡◌, ◌==◌, ◌<◌, ◌^◌, ◌++◌, ◌∷◌, [], length, OnOk, OnErr};
+ghost use Rattle.std.specs.List.{sum_by};
 ghost use Rattle.path_text.specs.Escape.{escape};
+ghost use Rattle.tool_text.specs.Groups.{file_count, groups_text};
 ghost use Rattle.tool_text.specs.Lines.{lines_of, summary_line};
 ghost use Rattle.tool_text.specs.Notes.{note_lines};
 ghost use Rattle.tool_text.specs.Rows.{rows_text};
@@ -9,6 +11,7 @@ ghost use Rattle.tool_text.specs.Synced.{synced_line};
 
 use crate::comparing::add_rows;
 use crate::drafts::Draft;
+use crate::grouping::add_groups;
 use crate::listing::{add_list, add_summary};
 use crate::noting::{Note, add_notes};
 use crate::running::{add_progress, add_shares, add_trace};
@@ -20,6 +23,7 @@ use ring_core::Event;
 use std::alloc::Global;
 use std::marker::Model;
 use tree_cmp::Compared;
+use tree_dup::Groups;
 
 /// Text to be printed, seen as its bytes.
 #[derive(Debug, Drop)]
@@ -95,6 +99,17 @@ pub fn put_rows(text: &mut Text, rows: &Compared, failed: u64) -> Result<(), Out
     ensures err { OnErr result (text.new ≡ text.old) }
 {
     let put = add_rows(&mut text.draft, rows, failed);
+    text.draft.end(put)
+}
+
+/// Appends a line for each group of files of equal content and each of its paths, and the line of their counts and of how many
+/// failures are noted. A refusal leaves the text.
+pub fn put_groups(text: &mut Text, groups: &Groups, failed: u64) -> Result<(), OutOfMemory>
+    requires few { sum_by file_count groups.now.groups < 2 ^ 64 }
+    ensures ok { OnOk result (text.new ≡ text.old ++ groups_text groups.now.groups failed) }
+    ensures err { OnErr result (text.new ≡ text.old) }
+{
+    let put = add_groups(&mut text.draft, groups, failed);
     text.draft.end(put)
 }
 
