@@ -7,7 +7,7 @@ use Rattle.circle_run.specs.declared.settings.Options.{Options}
 use Rattle.circle_run.specs.Traced.{share_in}
 use Rattle.tool_text.specs.Runs.{trace_lines, share_lines, progress_lines}
 use Rattle.tool_words.specs.declared.commands.Common.{Common}
-use Rattle.tree_walk.specs.Traced.{IsTracedWalk, IsProgressTo}
+use Rattle.tree_walk.specs.Traced.{IsTracedWalk, WasWalked, IsProgressTo}
 use Rattle.run_entries.specs.declared.accounts.Account.{Account}
 
 -- whether the events of a walk are kept: for `--trace`, and on one host for `--shares` too
@@ -28,6 +28,9 @@ options_of common = record {
 
 -- the account is that of a walk from these roots that found the entries, over files that may tell a tree
 pub record IsAccount (common : Common) (tree : Option Files) (roots : List (List ℕ)) (entries : List Entry) (account : Account) : Type 0 where
+  -- on one host, over all files, a whole run from the roots was made in which the ranks handle the paths of the entries, each once: the shares are its counts,
+  -- and events that are kept are its own
+  pub ran : common.hosts ≡ 1 → WasWalked tree (options_of common) roots entries account.shares.items account.events.items
   -- events that are kept are those of a run of the ranks from the roots, by the rules of the split and the seed, in which they handle the paths of the entries,
   -- each once
   pub traced : keeps_events common ≡ true → IfSome tree (λ files. IsTracedWalk files (options_of common) roots entries account.events.items)

@@ -1,6 +1,6 @@
 use Rattle.std.proofs.Common.{◌∙◌, ap, refl, subst, ◌≤◌, length, IfSome}
 use Rattle.tree_walk.specs.Cut.{found_in}
-use Rattle.tree_walk.specs.Traced.{IsTracedWalk, IsProgressTo}
+use Rattle.tree_walk.specs.Traced.{IsTracedWalk, WasWalked, IsProgressTo}
 use Rattle.run_entries.specs.Tells.{options_of}
 use Rattle.run_entries.proofs.starting.walk_roots.Goals as goal
 
@@ -15,6 +15,8 @@ returns-clause-account g c =
     let common = c.args.common.now in
     let keeps = c.keeps_events.ensures in
     record {
+      ran = λ one. subst (λ trace. WasWalked (g.G.Plot.tree c.args.files.now) (record (options_of common) { trace = trace }) c.args.roots.items report.list
+          report.shares.items report.events.items) keeps (told.ran one refl);
       traced = λ on. subst (λ trace. IfSome (g.G.Plot.tree c.args.files.now) (λ files.
           IsTracedWalk files (record (options_of common) { trace = trace }) c.args.roots.items report.list report.events.items))
           keeps (told.traced (keeps ∙ on));
