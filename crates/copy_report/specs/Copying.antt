@@ -30,7 +30,7 @@ use Rattle.copy_report.specs.Placing.{Places, Surveys, IsNowhere}
 
 -- what a task asks for
 abbrev pub copy_asked : CopyTask → CopyAsked
-copy_asked task = record { common = task.common; sources = task.sources.items; dest = task.dest }
+copy_asked task = record { common = task.common; sources = task.sources.items; dest = task.dest; range = task.range }
 
 -- the line of how many entries were copied, of how many; of the bytes of the copied files; and of how many notes there are
 abbrev pub copied_line : (copied items bytes failed : ℕ) → List ℕ

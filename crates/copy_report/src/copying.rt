@@ -10,7 +10,7 @@ use crate::acting::copy_and_tell;
 use crate::placing::place_targets;
 use crate::printing::failed_report;
 use crate::walking::walk_sources;
-use outside::Ground;
+use outside::Wide;
 use path_text::Path;
 use run_report::{Report, Stop};
 use std::alloc::Global;
@@ -28,10 +28,12 @@ pub struct CopyTask {
     pub sources: Vec<Path>,
     /// Where it is copied to: into the directory that is there, or, of one source, to this path.
     pub dest: Path,
+    /// Above how many bytes a file is copied by ranges, if any is.
+    pub range: Option<u64>,
 }
 
 /// Places the targets, walks the sources, copies what was found to its targets, and makes the texts.
-pub fn report_of_copy<T: Threads + Wait + Sync, G: Ground>(
+pub fn report_of_copy<T: Threads + Wait + Sync, G: Wide>(
     rt: &T,
     alloc: Global,
     task: CopyTask,
@@ -40,6 +42,7 @@ pub fn report_of_copy<T: Threads + Wait + Sync, G: Ground>(
 where
     G::Reader: Send,
     G::Part: Send,
+    G::Span: Send,
     requires lent { G.area files.old ≡ nothing_lent }
     requires within { WithinCopy (copy_asked task) }
     ensures reports { IfOk result (ReportsCopy (copy_asked task) (side_of (G.tree files.old) (G.count files.old)) (side_of (G.tree files.new) (G.count files.new))) }
@@ -52,6 +55,7 @@ where
         common,
         sources,
         dest,
+        range,
     } = task;
     let pairs = match place_targets(alloc, &sources, &dest, files) {
         Ok(pairs) => pairs,
@@ -61,6 +65,6 @@ where
         Err(PlaceError::OutOfMemory) => return Err(Stop::OutOfMemory),
     };
     let list = walk_sources(rt, alloc, &common, sources, &pairs, files)?;
-    let report = copy_and_tell(rt, alloc, &common, &list, &pairs, files)?;
+    let report = copy_and_tell(rt, alloc, &common, range, &list, &pairs, files)?;
     Ok(report)
 }

@@ -2,6 +2,7 @@
 //!
 //! [`report_of_copy`] does what dcp is asked for, which is a [`CopyTask`]: it places the targets of the sources at the destination,
 //! walks the sources, copies each entry to its target, from the top level down, and makes the texts.
+//! Where the task says above how many bytes, files are copied by ranges ([`range_copy`]); nothing that is told depends on that.
 //!
 //! - `copying` has that; `placing` has the look at the destination, `walking` the walk of the sources, and `acting` the copy.
 //! - `naming` has what is named, and `printing` the texts.
