@@ -3,6 +3,7 @@ ghost use Rattle.mfu_top.specs.Run.{FineRunsSucceed};
 
 use compare_report::fine_compare_succeeds;
 use copy_report::fine_copy_succeeds;
+use dup_report::fine_dup_succeeds;
 use list_report::{fine_list_succeeds, fine_test_succeeds};
 use remove_report::fine_remove_succeeds;
 use stage_report::fine_stages_succeed;
@@ -17,6 +18,7 @@ pub fn fine_runs_succeed()
     fine_compare_succeeds();
     fine_copy_succeeds();
     fine_sync_succeeds();
+    fine_dup_succeeds();
     fine_remove_succeeds();
     fine_test_succeeds();
 }

@@ -5,8 +5,8 @@
 //!
 //! - `running` has the call.
 //! - `reporting` has what it does for each tool, a line a tool: each has a room of its own, as [`list_report`] is that of dwalk,
-//!   dfind and dtest, [`compare_report`] that of dcmp, [`copy_report`] that of dcp, [`sync_report`] that of dsync, and
-//!   [`remove_report`] that of drm.
+//!   dfind and dtest, [`compare_report`] that of dcmp, [`copy_report`] that of dcp, [`sync_report`] that of dsync, [`dup_report`]
+//!   that of ddup, and [`remove_report`] that of drm.
 //! - `walks` tells a dwalk that lists from a walk in stages, whose room is [`stage_report`].
 //! - `laws` has when it succeeds.
 //!
@@ -17,10 +17,13 @@
 //! over it leaves the files alone. dcmp printed a row for each path that is to be shown of its two walks, with what the files
 //! tell of both, and each list that it saved spells the entries of the rows that were wanted. dcp copied each entry of the walk
 //! of its sources, or named why not: a file at its target has the bytes of the source then, a link its text, and every path but the targets is
-//! as before, whatever the status is. dsync kept what the destination had of the source, with `--delete` removed what the source has not,
+//! as before, whatever the status is; and so it is with `--range`, by which large files are copied in ranges. dsync kept what the
+//! destination had of the source, with `--delete` removed what the source has not,
 //! and copied the rest: a comparison of both afterwards shows no difference but at and under the paths of its notes, and every path
-//! that is neither the destination nor under it is as before, whatever the status is. drm chose as dfind does, and of the chosen paths alone some are gone: each goes or stays
-//! as its line and its note say, and whatever the status is, every other path is as before. A walk that stops leaves a
+//! that is neither the destination nor under it is as before, whatever the status is. ddup printed the groups of files of its walk whose
+//! bytes are equal: a file that it could not read is named and in no group, and the files are as before. drm chose as dfind does, and of
+//! the chosen paths alone some are gone: each goes or stays as its line and its note say, and whatever the status is, every other path
+//! is as before. A walk that stops leaves a
 //! checkpoint that is a cut of the recursive walk, and the stage that goes on from it and ends prints what one walk prints.
 //! Each other status but 3 comes by its cause; where nothing stands against a run and no sink fails, it ends with status 0, or
 //! with 3 for want of memory. All this holds for any number of ranks, split rule and seed. The trace is that of a run of these

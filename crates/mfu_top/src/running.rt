@@ -17,7 +17,7 @@ ghost use Rattle.mfu_top.specs.Run.{Reports, Stops, Leaves, is_apart, Fine, Ende
 
 use crate::laws::fine_runs_succeed;
 use crate::reporting::report_of;
-use outside::{Ground, Sink};
+use outside::{Sink, Wide};
 use run_report::{Status, end_refused, end_stopped};
 use std::alloc::Global;
 use std::sync::Wait;
@@ -25,9 +25,11 @@ use std::thread::Threads;
 use tool_words::{Command, WordsError, read_words, words_ask_within_limits};
 
 /// Does all that the program does, in this order: reads the words; places the targets of a copy or a sync; looks at the paths of
-/// `--newer`; reads a list or a checkpoint, or walks; writes a checkpoint where the walk was cut, and else copies it, syncs by it, removes what is chosen of it, or writes it to a file, where that is asked for;
-/// writes `out`, and then `notes`. All memory is taken before the first byte goes to `out`. `now` is in seconds since 1970. The status's number is the program's exit status.
-pub fn run<T: Threads + Wait + Sync, G: Ground + Send, O: Sink, E: Sink>(
+/// `--newer`; reads a list or a checkpoint, or walks; writes a checkpoint where the walk was cut, and else copies it, syncs by it, groups
+/// its files of equal content, removes what is chosen of it, or writes it to a file, where that is asked for; writes `out`, and then
+/// `notes`. All memory is taken before the first byte goes to `out`. `now` is in seconds since 1970. The status's number is the
+/// program's exit status.
+pub fn run<T: Threads + Wait + Sync, G: Wide + Send, O: Sink, E: Sink>(
     rt: &T,
     alloc: Global,
     words: &[String],
@@ -39,6 +41,7 @@ pub fn run<T: Threads + Wait + Sync, G: Ground + Send, O: Sink, E: Sink>(
 where
     G::Reader: Send,
     G::Part: Send,
+    G::Span: Send,
     // No part of the files is lent to anybody, and none is after the run.
     requires lent { G.area files.old ≡ nothing_lent }
     ensures lent { G.area files.new ≡ nothing_lent }
