@@ -96,7 +96,7 @@ where
             Err(e) => return Err(e),
         };
         if data.is_dir() {
-            self.parents.keep_first(path, &data)?;
+            self.parents.keep_first(&self.system, path, &data)?;
         }
         Ok(Some(stat_of(&data)))
     }

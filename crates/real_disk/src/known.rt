@@ -9,6 +9,12 @@ use std::os::unix::fs::MetadataExt;
 use std::sync::Arc;
 use std::{io, mem};
 
+// The bits of a mode by which group and others write.
+const OTHERS_WRITE: u32 = 0o022;
+
+// The bit of a directory in which nobody can rename or delete what others own.
+const STICKY: u32 = 0o1000;
+
 /// Which file or directory one is, whatever names lead to it.
 #[derive(Clone, Copy, Debug, Drop, PartialEq, Eq)]
 pub struct Identity {
@@ -26,6 +32,23 @@ impl Identity {
     }
 }
 
+/// Whether nobody but this user and root can write in a directory: one of the two owns it, and its mode lets neither group nor others
+/// write. Where it has an access list, the mode has the most that the list gives to groups and to other users.
+pub fn is_own(user: u32, data: &Metadata) -> bool {
+    has_owner(user, data) && data.mode() & OTHERS_WRITE == 0
+}
+
+/// Whether nobody but this user and root can put something else in the place of a name of theirs in a directory: it is their own, or it
+/// is theirs and sticky.
+pub fn keeps_own(user: u32, data: &Metadata) -> bool {
+    data.is_dir() && has_owner(user, data) && (is_own(user, data) || data.mode() & STICKY != 0)
+}
+
+fn has_owner(user: u32, data: &Metadata) -> bool {
+    let owner = data.uid();
+    owner == user || owner == 0
+}
+
 /// What is known of the directory at a path.
 #[derive(Clone, Copy, Debug, Drop, PartialEq, Eq)]
 pub enum Found {
@@ -41,6 +64,8 @@ pub enum Found {
 #[derive(Drop)]
 struct Looks {
     by_path: HashMap<u64, Identity>,
+    // Those in which others can write.
+    exposed: HashMap<u64, ()>,
     lost: bool,
 }
 
@@ -48,8 +73,22 @@ impl Looks {
     fn none(alloc: Global) -> Looks {
         Looks {
             by_path: HashMap::new(alloc),
+            exposed: HashMap::new(alloc),
             lost: false,
         }
+    }
+
+    fn is_empty(&self) -> bool {
+        self.by_path.is_empty() && self.exposed.is_empty() && !self.lost
+    }
+
+    // Whether others can write in some directory, as far as is known.
+    fn has_exposed(&self) -> bool {
+        self.lost || !self.exposed.is_empty()
+    }
+
+    fn is_exposed(&self, hash: u64) -> bool {
+        self.lost || (!self.exposed.is_empty() && self.exposed.contains_key(&hash))
     }
 }
 
@@ -98,9 +137,29 @@ impl Known {
         Ok(())
     }
 
+    /// Keeps that others can write in the directory at a path, for as long as the run lasts. Where no memory is found for that, they
+    /// are taken to write in each.
+    pub fn expose(&mut self, path: &str) {
+        let hash = self.hash(path);
+        if self.own.exposed.insert(hash, ()).is_err() {
+            self.own.lost = true;
+        }
+    }
+
+    /// Whether others can write in some directory, as far as is known.
+    pub fn has_exposed(&self) -> bool {
+        self.own.has_exposed() || self.before.iter().any(|looks| looks.has_exposed())
+    }
+
+    /// Whether others can write in the directory at a path, as far as is known.
+    pub fn is_exposed(&self, path: &str) -> bool {
+        let hash = self.hash(path);
+        self.own.is_exposed(hash) || self.before.iter().any(|looks| looks.is_exposed(hash))
+    }
+
     /// All that is known, for one that goes on by itself.
     pub fn share(&mut self) -> Result<Known, OutOfMemory> {
-        if !self.own.by_path.is_empty() || self.own.lost {
+        if !self.own.is_empty() {
             self.before.reserve(1)?;
             let own = mem::replace(&mut self.own, Looks::none(self.alloc));
             self.before.push(Arc::new(self.alloc, own)?)?;
@@ -121,14 +180,17 @@ impl Known {
     /// for one that nobody looked at.
     pub fn take(&mut self, other: Known) {
         let Known { own, .. } = other;
-        if self.own.by_path.is_empty() {
-            let lost = self.own.lost || own.lost;
+        if self.own.is_empty() {
             self.own = own;
-            self.own.lost = lost;
             return;
         }
         for (hash, identity) in &own.by_path {
             if self.own.by_path.insert(*hash, *identity).is_err() {
+                self.own.lost = true;
+            }
+        }
+        for hash in own.exposed.keys() {
+            if self.own.exposed.insert(*hash, ()).is_err() {
                 self.own.lost = true;
             }
         }

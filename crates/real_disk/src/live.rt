@@ -24,6 +24,7 @@ struct Shown {
     copied: bool,
     removed: bool,
     compared: bool,
+    read: bool,
 }
 
 impl Shown {
@@ -32,7 +33,8 @@ impl Shown {
         Shown {
             copied: tool == "dcp" || tool == "dsync",
             removed: tool == "drm" || tool == "dsync",
-            compared: tool == "dcmp" || tool == "dsync" || tool == "ddup",
+            compared: tool == "dcmp" || tool == "dsync",
+            read: tool == "ddup",
         }
     }
 }
@@ -125,6 +127,11 @@ impl<C: Clock, P: Print> Live<C, P> {
             put_number(&mut line, self.sum(Call::Open) / 2)?;
             line.push_str(" files")?;
             put_megabytes(&mut line, self.sum(Call::Read))?;
+        }
+        if self.shown.read {
+            line.push_str(", read ")?;
+            put_number(&mut line, self.sum(Call::Read) >> 20)?;
+            line.push_str(" MB")?;
         }
         if self.shown.copied {
             line.push_str(", copied ")?;

@@ -8,13 +8,19 @@
 //! directory above it, and so on up to the first that is not known. Then the system is asked of `/proc/self/fd/N/NAME`, where N is
 //! the open directory, whatever its path leads to meanwhile. Where the system has no such names, or does not open the directory,
 //! it is asked of the whole path, and the directory is compared before and after.
+//!
+//! **A private directory is not guarded so**: one in which nobody can write but the user who runs the program, and root, as in each one
+//! above it up to `/`, of which none is a link; but one above it may be sticky, as `/tmp` is. No other user can put something else in
+//! the place of anything in it, so the system is asked of the whole path, and nothing is compared. A directory that ever was exposed
+//! to others stays exposed for the run.
 use crate::answers::is_absent;
-use crate::known::{Found, Identity, Known};
+use crate::known::{Found, Identity, Known, is_own, keeps_own};
 use path_text::{MAX_PATH, OutOfMemory, Path};
 use std::alloc::Global;
 use std::fs::{File, Files, Metadata, OpenFile};
 use std::io::ErrorKind;
 use std::os::fd::AsRawFd;
+use std::os::unix::fs::MetadataExt;
 use std::{fs, io, mem};
 
 // A path by open directories that has more bytes begins anew at one that is opened for it.
@@ -39,11 +45,15 @@ pub struct Parents<F: Drop> {
     known: Known,
     // Whether the system has names for what is open.
     has_names: bool,
+    // Who runs the program, where the system tells.
+    user: Option<u32>,
     // The one of the path that was gone to, and the one before: files that are compared are read in turn.
     here: Option<Here<F>>,
     other: Option<Here<F>>,
     // The path of the last directory that was seen to stand where it should.
     seen: String,
+    // The path of the last one that was found private.
+    private: String,
     way: String,
 }
 
@@ -51,19 +61,25 @@ impl<F: OpenFile + AsRawFd + Drop> Parents<F> {
     /// No directory is known yet.
     pub fn make<R: Files<File = F>>(alloc: Global, system: &R, key: [u8; 16]) -> Parents<F> {
         let has_names = has_names(alloc, system).unwrap_or(false);
-        Parents::over(alloc, Known::make(alloc, key), has_names)
+        let user = match fs::metadata(system, "/proc/self") {
+            Ok(data) => Some(data.uid()),
+            Err(_) => None,
+        };
+        Parents::over(alloc, Known::make(alloc, key), has_names, user)
     }
 }
 
 impl<F: Drop> Parents<F> {
-    fn over(alloc: Global, known: Known, has_names: bool) -> Parents<F> {
+    fn over(alloc: Global, known: Known, has_names: bool, user: Option<u32>) -> Parents<F> {
         Parents {
             alloc,
             known,
             has_names,
+            user,
             here: None,
             other: None,
             seen: String::new(alloc),
+            private: String::new(alloc),
             way: String::new(alloc),
         }
     }
@@ -71,7 +87,7 @@ impl<F: Drop> Parents<F> {
     /// All that is known, for a reader or a part.
     pub fn share(&mut self) -> Result<Parents<F>, OutOfMemory> {
         let known = self.known.share()?;
-        Ok(Parents::over(self.alloc, known, self.has_names))
+        Ok(Parents::over(self.alloc, known, self.has_names, self.user))
     }
 
     /// Takes what a reader or a part has come to know.
@@ -80,24 +96,120 @@ impl<F: Drop> Parents<F> {
         self.here = None;
         self.other = None;
         self.seen.clear();
+        self.private.clear();
         self.known.take(known);
     }
 
     /// Keeps which directory is at a path, in place of any that was.
-    pub fn keep(&mut self, path: &Path, data: &Metadata) -> io::Result<()> {
+    pub fn keep<R: Files>(&mut self, system: &R, path: &Path, data: &Metadata) -> io::Result<()> {
+        self.keep_mode(system, plain(path), data);
         self.known.keep(plain(path), Identity::of(data))
     }
 
     /// Keeps which directory is at a path, unless one is known there: that stays the one in which things are done.
-    pub fn keep_first(&mut self, path: &Path, data: &Metadata) -> io::Result<()> {
+    pub fn keep_first<R: Files>(
+        &mut self,
+        system: &R,
+        path: &Path,
+        data: &Metadata,
+    ) -> io::Result<()> {
         match self.known.find(plain(path)) {
-            Found::Is(_) => Ok(()),
-            Found::Nothing | Found::Lost => self.keep(path, data),
+            Found::Is(_) => {
+                self.keep_mode(system, plain(path), data);
+                Ok(())
+            }
+            Found::Nothing | Found::Lost => self.keep(system, path, data),
         }
+    }
+
+    // Keeps that the directory at a path is exposed, where it is. Then no path is asked below it that was found private.
+    fn keep_mode<R: Files>(&mut self, system: &R, path: &str, data: &Metadata) {
+        let Some(user) = self.user else {
+            return;
+        };
+        if self.known.is_exposed(path) {
+            return;
+        }
+        if is_own(user, data) && self.is_under_own(system, path, user) {
+            return;
+        }
+        self.known.expose(path);
+        self.private.clear();
+        self.leave_below(path);
+    }
+
+    // Whether the directories above a path, from the first that is known or from `/`, keep what this user and root own, and are no links.
+    fn is_under_own<R: Files>(&self, system: &R, path: &str, user: u32) -> bool {
+        let mut rest = path;
+        for _ in 0..MAX_PATH {
+            let Some((above, _)) = rest.rsplit_once('/') else {
+                return true;
+            };
+            if let Found::Is(_) = self.known.find(above) {
+                return true;
+            }
+            let at = if above.is_empty() { "/" } else { above };
+            match fs::symlink_metadata(system, at) {
+                Ok(data) if keeps_own(user, &data) => {}
+                _ => return false,
+            }
+            rest = above;
+        }
+        false
+    }
+
+    // Closes the directories in which something was done last, where they are at a path or below it.
+    fn leave_below(&mut self, top: &str) {
+        if is_below(&self.here, top) {
+            self.here = None;
+        }
+        if is_below(&self.other, top) {
+            self.other = None;
+        }
+    }
+
+    // Whether the directory at a path is private: none is exposed, from it up.
+    fn is_private(&mut self, path: &str) -> bool {
+        if self.user.is_none() {
+            return false;
+        }
+        if !self.known.has_exposed() {
+            return true;
+        }
+        if self.has_exposed_from(path) {
+            return false;
+        }
+        self.private.clear();
+        // Without memory for the path the next one is looked up again.
+        if self.private.push_str(path).is_err() {
+            self.private.clear();
+        }
+        true
+    }
+
+    // Whether the directory at a path, or one above it, is exposed. Those above the last one that was found private are not.
+    fn has_exposed_from(&self, path: &str) -> bool {
+        let mut rest = path;
+        for _ in 0..MAX_PATH {
+            if self.known.is_exposed(rest) {
+                return true;
+            }
+            if is_within(self.private.as_str(), rest) {
+                return false;
+            }
+            let Some((above, _)) = rest.rsplit_once('/') else {
+                return false;
+            };
+            rest = above;
+        }
+        true
     }
 
     /// Closes the directories in which something was done last, unless the path stands in one of them.
     pub fn leave(&mut self, path: &Path) {
+        if self.here.is_none() && self.other.is_none() {
+            return;
+        }
         let above = around(path).0;
         if !is_at(&self.here, above) && !is_at(&self.other, above) {
             self.here = None;
@@ -110,9 +222,14 @@ impl<F: Drop> Parents<F> {
         self.way.as_str()
     }
 
-    /// Whether the directory at a path is the child of the one above it, where that one is known and the system tells of it.
+    /// Whether the directory at a path is the child of the one above it, where that one is known and the system tells of it. In a private
+    /// one nothing is asked.
     pub fn is_child<R: Files>(&mut self, system: &R, path: &Path) -> bool {
-        let due = match self.known.find(around(path).0) {
+        let above = around(path).0;
+        if self.is_private(above) {
+            return true;
+        }
+        let due = match self.known.find(above) {
             Found::Is(due) => due,
             Found::Nothing => return true,
             Found::Lost => return false,
@@ -187,6 +304,9 @@ impl<F: OpenFile + AsRawFd + Drop> Parents<F> {
     }
 
     fn entered<R: Files<File = F>>(&mut self, system: &R, path: &str) -> io::Result<Here<F>> {
+        if self.is_private(path) {
+            return self.by_path(path, None);
+        }
         match self.known.find(path) {
             Found::Is(due) => self.known_entered(system, path, due),
             Found::Nothing => self.by_path(path, None),
@@ -286,6 +406,14 @@ impl<F: OpenFile + AsRawFd + Drop> Parents<F> {
 fn is_at<F: Drop>(here: &Option<Here<F>>, path: &str) -> bool {
     match here {
         Some(here) => here.path.as_str() == path,
+        None => false,
+    }
+}
+
+// Whether this directory is at a path or below it.
+fn is_below<F: Drop>(here: &Option<Here<F>>, top: &str) -> bool {
+    match here {
+        Some(here) => is_within(here.path.as_str(), top),
         None => false,
     }
 }

@@ -222,7 +222,7 @@ where
     {
         let data = fs::symlink_metadata(&self.system, self.parents.way())?;
         if data.is_dir() {
-            self.parents.keep(path, &data)?;
+            self.parents.keep(&self.system, path, &data)?;
         }
         Ok(())
     }
