@@ -5,27 +5,34 @@
 //! status 3.
 //!
 //! - `given` has the words, and the file in which failures are kept.
-//! - `help` has what the program says of itself, and `topics` the parts of that which several tools share. They are printed where nothing
-//!   else is asked for, and for words that are refused and have `--help` among them.
+//! - `help` has what the program says of itself, `reading_pages` and `changing_pages` the help of each tool, and `topics` the parts of that
+//!   which several tools share. They are printed where nothing else is asked for, and for words that are refused and have `--help` among
+//!   them.
 //! - `hints` has the line that follows the refusal of words.
 //!
 //! The files, the streams and the time of the system are those of the crate `real_disk`. Only where standard error is a terminal, a line
 //! shows how far the run is, and a hint follows a refusal: every other reader gets the text of the run alone.
 #![tactic(auto)]
 
+mod changing_pages;
 mod given;
 mod help;
 mod hints;
+mod reading_pages;
 mod topics;
 
 use mfu_top::{Status, run};
-use outside::put_all;
-use real_disk::{AfterLive, Live, RealGround, RealSink, Watched, seconds};
+use outside::{Sink, put_all};
+use real_disk::{AfterLive, Live, RealGround, RealSink, Watch, Watched, seconds};
 use std::alloc::Global;
-use std::fs::File;
+use std::fs::{File, Files};
 use std::io::{IsTerminal, Write};
 use std::os::fd::{AsRawFd, IntoRawFd};
+use std::os::unix::fs::FileExt;
 use std::process::ExitCode;
+use std::random::RandomSource;
+use std::sync::Wait;
+use std::thread::Threads;
 use tool_words::{WordsError, read_words};
 
 fn main(rt: HostRuntime) -> ExitCode {
@@ -45,19 +52,10 @@ fn main(rt: HostRuntime) -> ExitCode {
         None
     };
     let system = Watched::make(rt.alloc(), rt, live.as_ref(), errors.as_ref());
-    let mut files = RealGround::make(rt.alloc(), system);
     let mut out = RealSink::make(AfterLive::make(live.as_ref(), rt.stdout()));
     let mut notes = RealSink::make(AfterLive::make(live.as_ref(), rt.stderr()));
     let now = seconds(&rt);
-    let status = run(
-        &rt,
-        rt.alloc(),
-        &words,
-        &mut files,
-        &mut out,
-        &mut notes,
-        now,
-    );
+    let status = run_over(&rt, rt.alloc(), &words, system, &mut out, &mut notes, now);
     if let Some(live) = &live {
         live.end();
     }
@@ -65,6 +63,28 @@ fn main(rt: HostRuntime) -> ExitCode {
         print_hint(rt.alloc(), &words, rt.stderr());
     }
     ExitCode::from(status.number())
+}
+
+// Runs over the files of a system, whichever it is.
+fn run_over<
+    T: Threads + Wait + Sync,
+    S: Files + Watch + RandomSource + Copy + Send,
+    O: Sink,
+    E: Sink,
+>(
+    rt: &T,
+    alloc: Global,
+    words: &[String],
+    system: S,
+    out: &mut O,
+    notes: &mut E,
+    now: u64,
+) -> Status
+where
+    S::File: FileExt + AsRawFd + Send,
+{
+    let mut files = RealGround::make(alloc, system);
+    run(rt, alloc, words, &mut files, out, notes, now)
 }
 
 fn tool_of(words: &[String]) -> &str {

@@ -78,7 +78,7 @@ Runs that end without a report:
 
 const STATUSES: &str = "Exit statuses:
 
-  0  Success. dcmp: also if the trees differ.
+  0  Success, also if dcmp finds differences or ddup finds equal files.
   1  Finished, but standard error names paths that could not be read, copied or
      deleted. mfu help messages says where to look.
   2  The command line was refused, or the destination of dcp or dsync was.
