@@ -2,7 +2,7 @@
 use crate::rooms::{Node, Room, parsed};
 use crate::screens::{Hand, Screen};
 use crate::shared::{long, same, so};
-use crate::swaps::{NODES, swap};
+use crate::swaps::{exposed_room, swap};
 use crate::whole_disk::{Act, DiskOver};
 use outside::Tree;
 use path_text::Path;
@@ -163,7 +163,7 @@ fn an_answer_that_is_no_fault_has_no_line(rt: HostRuntime) {
 
 #[test]
 fn a_directory_that_was_replaced_is_named(rt: HostRuntime) {
-    let room = Room::with(rt, &NODES).expect(&rt, "a room");
+    let room = exposed_room(rt).expect(&rt, "a room");
     let errors = room.appended("errors").expect(&rt, "a file");
     let mut disk = DiskOver::over(rt.alloc(), kept(rt, &errors));
     let mut reader = disk.reader(rt.alloc()).expect(&rt, "memory");

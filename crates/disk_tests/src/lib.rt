@@ -20,6 +20,8 @@ mod looks;
 #[cfg(test)]
 mod names;
 #[cfg(test)]
+mod private_dirs;
+#[cfg(test)]
 mod rooms;
 #[cfg(test)]
 mod runs;

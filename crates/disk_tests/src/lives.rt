@@ -64,6 +64,7 @@ fn a_tool_shows_its_own_numbers(rt: HostRuntime) {
         ("dcp", "\rmfu: looked at 3 paths, copied 2 files (5 MB)"),
         ("drm", "\rmfu: looked at 3 paths, removed 1,000,005"),
         ("dcmp", "\rmfu: looked at 3 paths, compared 3 files (3 MB)"),
+        ("ddup", "\rmfu: looked at 3 paths, read 3 MB"),
     ] {
         let room = Room::with(rt, &[]).expect(&rt, "a room");
         let (hand, screen) = (Hand::with(0), screen_in(&rt, &room));

@@ -2,9 +2,9 @@
 use outside::Ground;
 use path_text::{OutOfMemory, Path};
 use real_disk::{RealGround, RealReader};
-use std::fs::{File, OpenOptions};
+use std::fs::{File, OpenOptions, Permissions};
 use std::io::ErrorKind;
-use std::os::unix::fs::symlink;
+use std::os::unix::fs::{PermissionsExt, symlink};
 use std::time::{SystemTime, UNIX_EPOCH};
 use std::{env, fs, io};
 
@@ -40,7 +40,10 @@ impl Room {
         for k in 0..1000u32 {
             let text = format!(in host.alloc(); "{}/mfu_test_{seed}_{k}", above.as_str())?;
             match fs::create_dir(&host, text.as_str()) {
-                Ok(()) => return Room::at_text(host, text.as_str()),
+                Ok(()) => {
+                    fs::set_permissions(&host, text.as_str(), Permissions::from_mode(0o755))?;
+                    return Room::at_text(host, text.as_str());
+                }
                 Err(e) if e.kind() == ErrorKind::AlreadyExists => {}
                 Err(e) => return Err(e),
             }
@@ -72,6 +75,12 @@ impl Room {
             Node::File(bytes) => fs::write(&self.host, path.text(), bytes),
             Node::Link(to) => symlink(&self.host, to, path.text()),
         }
+    }
+
+    /// Gives what stands there a mode.
+    pub fn set_mode(&self, names: &str, mode: u32) -> io::Result<()> {
+        let path = self.at(names)?;
+        fs::set_permissions(&self.host, path.text(), Permissions::from_mode(mode))
     }
 
     /// A file there, open to append to it, and made where none is.

@@ -1,4 +1,5 @@
-//! A directory stays the one that was looked at: each test puts a link in the place of a directory between two calls.
+//! A directory stays the one that was looked at: each test puts a link in the place of a directory between two calls. Every user may
+//! write in the directories.
 use crate::rooms::{Node, Room};
 use crate::shared::{same, so};
 use crate::whole_disk::{Act, WholeDisk};
@@ -8,7 +9,7 @@ use std::os::unix::fs::symlink;
 use std::{fs, io};
 
 /// A directory that is looked at, and another one with the same names.
-pub const NODES: [(&str, Node<'static>); 9] = [
+const NODES: [(&str, Node<'static>); 9] = [
     ("top", Node::Dir),
     ("top/a", Node::Dir),
     ("top/a/empty", Node::Dir),
@@ -20,6 +21,20 @@ pub const NODES: [(&str, Node<'static>); 9] = [
     ("out/link", Node::Link("other")),
 ];
 
+/// A room with these, in which the directory over the one that is looked at, and that one, have these modes.
+pub fn room_with_modes(host: HostRuntime, top: u32, own: u32) -> io::Result<Room> {
+    let room = Room::with(host, &NODES)?;
+    room.set_mode("top", top)?;
+    room.set_mode("top/a", own)?;
+    room.set_mode("top/a/empty", 0o755)?;
+    Ok(room)
+}
+
+/// A room with these, where every user may write in the directory that is looked at, and in the one over it.
+pub fn exposed_room(host: HostRuntime) -> io::Result<Room> {
+    room_with_modes(host, 0o777, 0o777)
+}
+
 /// Puts a link to the other directory in the place of the one that was looked at.
 pub fn swap(host: HostRuntime, room: &Room) -> io::Result<()> {
     let own = room.at("top/a")?;
@@ -27,8 +42,8 @@ pub fn swap(host: HostRuntime, room: &Room) -> io::Result<()> {
     symlink(&host, room.at("out")?.text(), own.text())
 }
 
-// Whether nothing was made, written or removed in the other directory.
-fn is_as_before(host: HostRuntime, room: &Room) -> io::Result<bool> {
+/// Whether nothing was made, written or removed in the other directory.
+pub fn is_as_before(host: HostRuntime, room: &Room) -> io::Result<bool> {
     let mut names = 0u32;
     for entry in fs::read_dir(&host, room.at("out")?.text())? {
         let _ = entry?;
@@ -41,8 +56,8 @@ fn is_as_before(host: HostRuntime, room: &Room) -> io::Result<bool> {
     Ok(names == 3 && room.holds("out/file", b"other"))
 }
 
-// Looks at these as a walk does; whether each is a directory.
-fn are_listed(
+/// Looks at these as a walk does; whether each is a directory.
+pub fn are_listed(
     host: HostRuntime,
     reader: &mut RealReader<HostRuntime>,
     room: &Room,
@@ -59,8 +74,8 @@ fn are_listed(
     true
 }
 
-// The files of the system, which were looked at before the swap, and these names after it.
-fn looked_at(host: HostRuntime, room: &Room, after: &str) -> io::Result<WholeDisk> {
+/// The files of the system, which were looked at before the swap, and these names after it.
+pub fn looked_at(host: HostRuntime, room: &Room, after: &str) -> io::Result<WholeDisk> {
     let mut disk = WholeDisk::make(host);
     let Ok(mut reader) = disk.reader(host.alloc()) else {
         return Err(io::Error::from(io::ErrorKind::OutOfMemory));
@@ -86,7 +101,7 @@ fn nothing_is_written_in_another_directory(rt: HostRuntime) {
         // What is looked at by way of the link is not the child of the one above it.
         (Act::MakeFile, "top/a/empty/new"),
     ] {
-        let room = Room::with(rt, &NODES).expect(&rt, "a room");
+        let room = exposed_room(rt).expect(&rt, "a room");
         let mut disk = looked_at(rt, &room, "top/a/empty").expect(&rt, "looks");
         let path = room.at(names).expect(&rt, "a path");
         let told = disk.act(rt.alloc(), act, &path);
@@ -100,7 +115,7 @@ fn nothing_is_written_in_another_directory(rt: HostRuntime) {
 
 #[test]
 fn nothing_is_read_in_another_directory(rt: HostRuntime) {
-    let room = Room::with(rt, &NODES).expect(&rt, "a room");
+    let room = exposed_room(rt).expect(&rt, "a room");
     let mut disk = looked_at(rt, &room, "top/a/empty").expect(&rt, "looks");
     let mut reader = disk.reader(rt.alloc()).expect(&rt, "memory");
     let file = room.at("top/a/file").expect(&rt, "a path");
@@ -123,7 +138,7 @@ fn nothing_is_read_in_another_directory(rt: HostRuntime) {
 // All is done as before in a directory that was looked at and has moved, where its path still leads to it.
 #[test]
 fn the_same_directory_is_written(rt: HostRuntime) {
-    let room = Room::with(rt, &NODES).expect(&rt, "a room");
+    let room = exposed_room(rt).expect(&rt, "a room");
     let mut disk = looked_at(rt, &room, "top").expect(&rt, "looks");
     let own = room.at("top/a").expect(&rt, "a path");
     fs::remove_file(&rt, own.text()).expect(&rt, "no link");
