@@ -40,9 +40,7 @@ fn tell_command(alloc: Global, command: &Command, told: &mut String) -> Result<(
             tell_start(alloc, start, told)?;
             tell_sort(alloc, *sort, told)?;
             tell_file(alloc, "output", output, told)?;
-            if let Some(most) = stop_after {
-                put(told, &format!(in alloc; "stop after {most}")?)?;
-            }
+            tell_number(alloc, "stop after", *stop_after, told)?;
             tell_file(alloc, "lists", lists, told)
         }
         Command::Find {
@@ -82,12 +80,21 @@ fn tell_pair(alloc: Global, command: &Command, told: &mut String) -> Result<(), 
             common,
             sources,
             dest,
+            range,
         } => {
             put(told, "copy")?;
             tell_common(alloc, common, told)?;
             tell_paths(alloc, "source", sources, told)?;
-            tell_path(alloc, "dest", dest, told)
+            tell_path(alloc, "dest", dest, told)?;
+            tell_number(alloc, "range", *range, told)
         }
+        _ => tell_equal(alloc, command, told),
+    }
+}
+
+// Tells a command that makes equal, or looks for what is.
+fn tell_equal(alloc: Global, command: &Command, told: &mut String) -> Result<(), Trouble> {
+    match command {
         Command::Sync {
             common,
             source,
@@ -99,6 +106,11 @@ fn tell_pair(alloc: Global, command: &Command, told: &mut String) -> Result<(), 
             tell_path(alloc, "source", source, told)?;
             tell_path(alloc, "dest", dest, told)?;
             tell_flag("delete", *delete, told)
+        }
+        Command::Dup { common, roots } => {
+            put(told, "groups")?;
+            tell_common(alloc, common, told)?;
+            tell_paths(alloc, "root", roots, told)
         }
         _ => tell_other(alloc, command, told),
     }
@@ -189,6 +201,18 @@ fn tell_file(
 ) -> Result<(), Trouble> {
     match file {
         Some(path) => tell_path(alloc, name, path, told),
+        None => Ok(()),
+    }
+}
+
+fn tell_number(
+    alloc: Global,
+    name: &str,
+    number: Option<u64>,
+    told: &mut String,
+) -> Result<(), Trouble> {
+    match number {
+        Some(number) => put(told, &format!(in alloc; "{name} {number}")?),
         None => Ok(()),
     }
 }

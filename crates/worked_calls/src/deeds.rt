@@ -1,7 +1,7 @@
 //! The lines of a script, and what does them.
 use crate::held::Held;
 use crate::troubles::Trouble;
-use crate::{commands, events, lists, notes, paths, queues, tests};
+use crate::{commands, cuts, events, lists, notes, paths, queues, tests};
 use script_lines::{is_answer, is_remark, words_of};
 use std::alloc::{AllocError, Global};
 
@@ -53,6 +53,7 @@ enum Deed {
     Glob,
     Test,
     Expr,
+    Ranges,
     OfPaths(paths::Asked),
     OfQueues(queues::Asked),
     OfLists(lists::Asked),
@@ -60,13 +61,14 @@ enum Deed {
     OfEvents(events::Asked),
 }
 
-static DEEDS: [(&str, Deed); 52] = [
+static DEEDS: [(&str, Deed); 53] = [
     ("text", Deed::Text),
     ("words", Deed::Words),
     ("standard", Deed::Standard),
     ("glob", Deed::Glob),
     ("test", Deed::Test),
     ("expr", Deed::Expr),
+    ("ranges", Deed::Ranges),
     ("path", Deed::OfPaths(paths::Asked::Parse)),
     ("name", Deed::OfPaths(paths::Asked::Name)),
     ("join", Deed::OfPaths(paths::Asked::Join)),
@@ -138,6 +140,7 @@ fn do_deed(
         Deed::Glob => tests::tell_match(alloc, words, told)?,
         Deed::Test => tests::tell_test(alloc, words, told)?,
         Deed::Expr => tests::tell_expr(alloc, words, told)?,
+        Deed::Ranges => cuts::tell(alloc, words, told)?,
         Deed::OfPaths(asked) => paths::tell(alloc, asked, words, told)?,
         Deed::OfQueues(asked) => queues::tell(alloc, asked, held, words, told)?,
         Deed::OfLists(asked) => lists::tell(alloc, asked, held, words, told)?,

@@ -11,6 +11,7 @@
 //! | `glob PATTERN TEXT` | whether the text matches |
 //! | `test NAME VALUE` | the test that an option's value is, or why it is none |
 //! | `expr TEXT` | whether it is an expression about rows of a comparison, or why it is none |
+//! | `ranges SIZE PIECE` | where a file of so many bytes is cut in ranges by such a piece, and how many cuts that are |
 //! | `path TEXT` | the path, escaped, with its parent, base and level, or why the text is none |
 //! | `long TEXT COUNT` | how many bytes the path has that is `/` and so many times the text, or why that is none |
 //! | `name TEXT` | whether it is a name |
@@ -43,6 +44,7 @@
 #![tactic(auto)]
 
 mod commands;
+mod cuts;
 mod deeds;
 mod events;
 mod held;

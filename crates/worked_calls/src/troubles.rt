@@ -1,5 +1,6 @@
 //! Why a line is not done.
 use path_text::{OutOfMemory, PathError};
+use range_copy::RangeError;
 use std::alloc::{AllocError, AllocFailed};
 
 /// Why a line is not done.
@@ -48,6 +49,12 @@ impl From<OutOfMemory> for Trouble {
 impl From<PathError> for Trouble {
     fn from(_: PathError) -> Self {
         Trouble::Path
+    }
+}
+
+impl From<RangeError> for Trouble {
+    fn from(_: RangeError) -> Self {
+        Trouble::Memory
     }
 }
 
