@@ -3,7 +3,8 @@
 
 usage: faults.py [PROGRAM [TOOL ..]]
 
-Each tool runs over a small tree, once undisturbed under strace, which tells its calls. Then, for each kind of call and each error, it
+Each tool runs over a small tree, in which only the user can write, and then over one in which everybody can, so that its directories
+are guarded. It runs once undisturbed under strace, which tells its calls. Then, for each kind of call and each error, it
 runs over a fresh tree with the first, a middle and the last of these calls failing, by `strace -e inject`. Looked at is:
 
 - the status: 0, where the call was tried again and all is as undisturbed; else the one that the cause asks for: 1 where a path is
@@ -27,8 +28,11 @@ ERRORS = ["EIO", "ENOSPC", "EACCES", "EMFILE", "ENOMEM", "EINTR"]
 ESCAPED = re.compile(rb"\\x([0-9A-F]{2})")
 
 
-def make(top):
-    """Makes the trees that the tools run over: `t`, a similar `u`, a folder `d` to copy into, and a list file `l`."""
+def make(top, mode):
+    """Makes the trees that the tools run over: `t`, a similar `u`, a folder `d` to copy into, and a list file `l`.
+
+    Directories have the mode.
+    """
     for name in ("t", "u"):
         for folder in ("", "/a", "/a/deep", "/b", "/empty"):
             os.makedirs(f"{top}/{name}{folder}")
@@ -48,6 +52,7 @@ def make(top):
     with open(f"{top}/l", "w", encoding="ascii") as file:
         file.write("mfu list 1\nf 5 - ok 0 0 /x\nend 1\n")
     for folder, folders, files in os.walk(top):
+        os.chmod(folder, mode)
         for name in [*folders, *files]:
             os.utime(os.path.join(folder, name), (86400, 86400), follow_symlinks=False)
 
@@ -61,6 +66,8 @@ def tools(top):
         "dfind": ["dfind", "--name", "f*", "--newer", f"{top}/l", f"{top}/t"],
         "dcmp": ["dcmp", "-o", f"EXIST=COMMON:{top}/o", f"{top}/t", f"{top}/u"],
         "dcp": ["dcp", f"{top}/t", f"{top}/d"],
+        "dcp-range": ["dcp", "--range", "30000", "--ranks", "3", f"{top}/t", f"{top}/d"],
+        "ddup": ["ddup", f"{top}/t", f"{top}/u"],
         "dsync": ["dsync", "--delete", f"{top}/t", f"{top}/u"],
         "drm": ["drm", f"{top}/t"],
     }
@@ -95,7 +102,8 @@ def run(program, words, work, inject=None, log=None):
 def calls_in(log, top):
     """The numbers and paths of the calls of each kind that have to do with the tree or with the outputs.
 
-    A path in an open directory, as /proc/self/fd/N/NAME, counts as one below the path by which that was opened.
+    A path in an open directory, as /proc/self/fd/N/NAME, counts as one below the path by which that was opened; a look at the directory
+    over a directory counts as one at the latter.
     """
     counts, found, opened = dict.fromkeys(CALLS, 0), {name: [] for name in CALLS}, {}
     with open(log, encoding="utf-8", errors="replace") as lines:
@@ -111,7 +119,7 @@ def calls_in(log, top):
                 opened[made[1]] = made[2]
             path = re.search(rf"[\"<]({re.escape(top)}/[^\">]*)", told[2])
             if path:
-                found[told[1]].append((counts[told[1]], path[1]))
+                found[told[1]].append((counts[told[1]], re.sub(r"(/\.\.)+/?$", "", path[1])))
     return found
 
 
@@ -128,7 +136,7 @@ def is_near(one, other):
 
 def source_of(tool, top, path):
     """The path of the source whose target this is, or the path itself."""
-    target = {"dcp": f"{top}/d/t", "dsync": f"{top}/u"}.get(tool)
+    target = {"dcp": f"{top}/d/t", "dsync": f"{top}/u"}.get(tool.partition("-")[0])
     return f"{top}/t{path[len(target):]}" if target and (path == target or path.startswith(f"{target}/")) else path
 
 
@@ -167,9 +175,10 @@ def main():
     def fresh():
         shutil.rmtree(top, ignore_errors=True)
         os.mkdir(top)
-        make(top)
+        make(top, mode)
 
-    for tool, words in tools(top).items():
+    for mode, (tool, words) in ((mode, each) for mode in (0o755, 0o777) for each in tools(top).items()):
+        os.umask(0o777 - mode)
         if len(sys.argv) > 2 and tool not in sys.argv[2:]:
             continue
         fresh()
@@ -184,7 +193,7 @@ def main():
                     by_status[now[0][0]] = by_status.get(now[0][0], 0) + 1
                     if fault:
                         wrong += 1
-                        print(f"WRONG: {tool}: {call} {number} of {path[len(work):]} with {error}: {fault}")
+                        print(f"WRONG: {tool}, mode {mode:o}: {call} {number} of {path[len(work):]} with {error}: {fault}")
     shutil.rmtree(work)
     print("statuses:", " ".join(f"{status}: {count}" for status, count in sorted(by_status.items())))
     print(f"tries: {tried} wrong: {wrong}")

@@ -4,11 +4,18 @@
 usage: races.py [PROGRAM [RUNS]]
 
 RUNS runs (500 by default) of dwalk, dcmp, dcp, dsync and drm in turn, each over a fresh tree, while two other processes take directories of
-it away, put links to a directory with the same names in their places, and take that back, as fast as they can. The trees and the
-swapping belong to an ordinary user, who may not write outside, so whatever changes there was changed by the program. If root runs
-this, half of the runs are root's, and the user may not read the directory outside; in the other half a second user runs the program,
-who owns that directory and may write in the trees. If an ordinary user runs this, everything is that user's, and directories are
-swapped directly below the tops alone, so that no swap goes through a link. After each run the script looks at:
+it away, put links to a directory with the same names in their places, and take that back, as fast as they can. The swapping belongs
+to an ordinary user, who may not write outside, so whatever changes there was changed by the program. A directory is guarded if others
+can write in it, or it belongs to another user, so the trees are of these kinds, in turn, if root runs this:
+
+- root runs the program, and the trees belong to the user who swaps, with mode 0755: the owner alone makes them guarded;
+- root runs the program, and the trees belong to root, with mode 0777: the mode alone makes them guarded;
+- a second user runs the program, who owns the directory outside, and the trees belong to the one who swaps, with mode 0777;
+- root runs the program, and the trees belong to root, with mode 0755, in a directory of the user who swaps: the one over a path word
+  alone makes them guarded. Only the first path word is swapped.
+
+Root's directory outside is closed to the user. If an ordinary user runs this, everything is that user's, with mode 0777, and
+directories are swapped directly below the tops alone, so that no swap goes through a link. After each run the script looks at:
 
 - the directory outside: no path of it is gone or new, and no byte of it is another one;
 - dcp and dsync: no byte of a file outside stands in what was copied;
@@ -28,6 +35,7 @@ import time
 NOBODY, SWAPPER = 65534, 65533
 OWN, OTHER = b"own bytes\n", b"bytes from outside\n"
 TOOLS = ("dwalk", "dcmp", "dcp", "dsync", "drm")
+KINDS = ("root in a user's tree", "root in its own tree", "another user", "root in its own tree in a user's directory", "the user who swaps")
 
 
 def fill(top, content):
@@ -43,8 +51,10 @@ def fill(top, content):
 
 
 def state(top):
-    """The paths of a tree below its top, with the bytes of files and the texts of links."""
+    """The paths of a tree below its top, with the bytes of files and the texts of links. There are none if its top is a link itself."""
     found = {}
+    if os.path.islink(top):
+        return found
     for folder, folders, files in os.walk(top):
         for name in (*folders, *files):
             path = os.path.join(folder, name)
@@ -58,16 +68,18 @@ def state(top):
     return found
 
 
-def swap(tops, outside, aside, seed, below):
-    """Swaps directories of the trees for links to those outside, until it is ended."""
+def swap(tops, whole, outside, aside, seed, below):
+    """Swaps directories of the trees, and a whole tree, for links to those outside, until it is ended."""
     draw = random.Random(seed)
     number = 0
     while True:
-        name = draw.choice(below)
-        name = f"d{draw.randrange(4)}{name}"
-        path = f"{draw.choice(tops)}/{name}"
         number += 1
-        kept = f"{aside}/{seed}-{number}"
+        if tops and not (whole and draw.randrange(10) == 0):
+            name = f"/d{draw.randrange(4)}{draw.choice(below)}"
+            path, kept = f"{draw.choice(tops)}{name}", f"{aside}/{seed}-{number}"
+        else:
+            # It may belong to another user, who alone can move it to another directory.
+            name, path, kept = "", whole, f"{whole}-{seed}-{number}"
         try:
             if os.path.islink(path):
                 continue
@@ -75,7 +87,7 @@ def swap(tops, outside, aside, seed, below):
         except OSError:
             continue
         try:
-            os.symlink(f"{outside}/{name}", path)
+            os.symlink(f"{outside}{name}", path)
             for _ in range(draw.randrange(200)):
                 pass
             os.unlink(path)
@@ -87,9 +99,10 @@ def swap(tops, outside, aside, seed, below):
             pass
 
 
-def become(user):
-    """What a child process does to become the user."""
+def become(user, mask=0o022):
+    """What a child process does to become the user, with a mask of the modes that it gives."""
     def change():
+        os.umask(mask)
         if user is not None:
             os.setgroups([])
             os.setgid(user)
@@ -97,12 +110,12 @@ def become(user):
     return change
 
 
-def start_swapping(tops, outside, aside, seed, user):
+def start_swapping(tops, whole, outside, aside, seed, user):
     child = os.fork()
     if child == 0:
         become(user)()
         try:
-            swap(tops, outside, aside, seed, [""] if user is None else ["", "/e0", "/e1", "/e2"])
+            swap(tops, whole, outside, aside, seed, [""] if user is None else ["", "/e0", "/e1", "/e2"])
         finally:
             os._exit(0)
     return child
@@ -118,15 +131,33 @@ def words(tool, work):
     }[tool]
 
 
-def one_run(program, tool, work, user, swapper, seed):
+def own(work, kind):
+    """Gives the paths below the folder the owners and modes of a kind of run."""
+    for folder, folders, files in os.walk(work, topdown=False):
+        for path in (folder, *(os.path.join(folder, name) for name in files)):
+            outside = path.startswith(f"{work}/outside")
+            if kind == 2 and outside:
+                os.lchown(path, NOBODY, NOBODY)
+            elif kind in (0, 2) and not outside or path == f"{work}/aside" and kind == 1 or path == work and kind == 3:
+                os.lchown(path, SWAPPER, SWAPPER)
+            if not outside and not os.path.islink(path):
+                os.chmod(path, 0o755 if kind in (0, 3) else 0o777)
+    if kind in (0, 1, 3):
+        os.chmod(f"{work}/outside/top", 0o700)
+
+
+def one_run(program, tool, work, kind, user, mask, swapper, seed):
     """Runs a tool beside the swapping, and answers what was wrong."""
     outside = f"{work}/outside/top"
     before = state(outside)
     tops = [f"{work}/t"] + ([f"{work}/d/t"] if tool == "dcp" else []) + ([f"{work}/u"] if tool in ("dcmp", "dsync") else [])
-    children = [start_swapping(tops, outside, f"{work}/aside", seed * 2 + k, swapper) for k in (0, 1)]
+    whole = f"{work}/d/t" if tool == "dcp" and swapper is not None else None
+    if kind == 3:
+        tops, whole = [], f"{work}/t"
+    children = [start_swapping(tops, whole, outside, f"{work}/aside", seed * 2 + k, swapper) for k in (0, 1)]
     time.sleep(0.003)
     try:
-        done = subprocess.run([program, *words(tool, work)], capture_output=True, check=False, preexec_fn=become(user), timeout=60)
+        done = subprocess.run([program, *words(tool, work)], capture_output=True, check=False, preexec_fn=become(user, mask), timeout=60)
     finally:
         for child in children:
             os.kill(child, signal.SIGKILL)
@@ -155,7 +186,7 @@ def main():
     wrong = notes = 0
     for number in range(runs):
         tool = TOOLS[number % len(TOOLS)]
-        as_root = root and number // len(TOOLS) % 2 == 0
+        kind = number // len(TOOLS) % 4 if root else 4
         work = f"{base}/{number}"
         os.makedirs(f"{work}/outside")
         os.makedirs(f"{work}/aside")
@@ -163,22 +194,12 @@ def main():
         fill(f"{work}/t", OWN)
         fill(f"{work}/u", b"old" if tool == "dsync" else OWN)
         fill(f"{work}/outside/top", OTHER)
-        if root:
-            owned = [work] + [os.path.join(folder, name) for folder, folders, files in os.walk(work) for name in (*folders, *files)]
-            for path in owned:
-                if not path.startswith(f"{work}/outside"):
-                    os.lchown(path, SWAPPER, SWAPPER)
-                    if not as_root and not os.path.islink(path):
-                        os.chmod(path, 0o777)
-                elif not as_root:
-                    os.lchown(path, NOBODY, NOBODY)
-            if as_root:
-                os.chmod(f"{work}/outside/top", 0o700)
-        user = NOBODY if root and not as_root else None
-        found, noted = one_run(program, tool, work, user, SWAPPER if root else None, number)
+        own(work, kind)
+        user, mask = (NOBODY if kind == 2 else None), (0o022 if kind in (0, 3) else 0)
+        found, noted = one_run(program, tool, work, kind, user, mask, SWAPPER if root else None, number)
         notes += noted
         for text in found:
-            print(f"WRONG: {tool}, {'root' if as_root else 'user'}, run {number}: {text}")
+            print(f"WRONG: {tool}, {KINDS[kind]}, run {number}: {text}")
             wrong += 1
         shutil.rmtree(work)
     shutil.rmtree(base)
