@@ -2,7 +2,7 @@
 """Checks that the documents, the man pages and the completions agree with the program. usage: check_docs.py
 
 - The table contrib/tools.txt has the options that the program reads (tool_words/specs/Table.antt) and those of its help
-  (mfu/src/help.rt), and the files made from it are up to date.
+  (mfu/src/help.rt and the two files of pages), and the files made from it are up to date.
 - Each help begins with one screen, 24 lines of 80 columns, that has the call, every status of its tool, and that paths are absolute.
 - The man page of a tool has each of its options, and bash, zsh and fish offer it.
 - `man --warnings` prints nothing, and each shell reads its completion.
@@ -29,7 +29,8 @@ import make_pages
 TOP = make_pages.TOP
 TRIED = ["README.md", "docs/TOOLS.md", "docs/RECIPES.md", "docs/LISTS.md", "docs/CHECKPOINTS.md"]
 PLAIN = [*TRIED, "CHANGELOG.md", "docs/COMING_FROM.md", "docs/PERFORMANCE.md", "docs/GATE.md", "docs/README.md", "bench/FIGURES.md", "contrib/tools.txt",
-         "crates/mfu/src/help.rt", "crates/mfu/src/topics.rt", "crates/mfu/src/hints.rt"]
+         "crates/mfu/src/help.rt", "crates/mfu/src/reading_pages.rt", "crates/mfu/src/changing_pages.rt", "crates/mfu/src/topics.rt", "crates/mfu/src/hints.rt"]
+HELP = ["help", "reading_pages", "changing_pages"]
 COINED = (r"what stands\b|what meets\b|\b(?:is|are) told\b|drawn by lot|\bwanting\b|\brobbed\b|begun anew|wrong bod(?:y|ies) that the gate|"
           r"(?<!there )\b(?:is|are) no [a-z]+|\bin front of\b|\w \.\.(?![./])")
 OPTION = r"(?<![\w-])--?[a-z][a-z-]*"
@@ -68,9 +69,10 @@ def options_are_read(table):
         said(f"the option {name} stands in {'contrib/tools.txt' if name in ours else 'tool_words/specs/Table.antt'} alone")
 
 
-def helps_of(part="help"):
+def helps_of(parts=HELP):
     """The texts of the help, or of its topics, each by the name of its constant."""
-    texts = re.findall(r'^const ([A-Z]+): &str = "((?:[^"\\]|\\.)*)";', text_of(f"crates/mfu/src/{part}.rt"), re.M)
+    text = "".join(text_of(f"crates/mfu/src/{part}.rt") for part in parts)
+    texts = re.findall(r'^(?:pub\(crate\) )?const ([A-Z]+): &str = "((?:[^"\\]|\\.)*)";', text, re.M)
     return {name: text.replace("\\\\", "\\") for name, text in texts if name != "VERSION"}
 
 
@@ -101,7 +103,7 @@ def options_are_in_help(table):
     for tool in table.tools:
         for name in sorted(names(table, tool) - every):
             said(f"the help says nothing of {name}")
-    for name, text in helps_of("topics").items():
+    for name, text in helps_of(["topics"]).items():
         if name.lower() not in make_pages.HELPS or f"mfu help {name.lower()}" not in " ".join(helps["TOOLS"].split()):
             said(f"mfu help does not name the topic {name.lower()}, or contrib/make_pages.py does not")
         for line in text.split("\n"):
