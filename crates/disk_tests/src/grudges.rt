@@ -1,4 +1,4 @@
-//! The system of a test, but for one call on links.
+//! The system of a test, but for one call on links, at one name or at all.
 use real_disk::Watch;
 use std::alloc::Allocator;
 use std::fs::{File, Files, Metadata, OpenOptions};
@@ -12,20 +12,24 @@ use std::random::RandomSource;
 pub enum LinkCall {
     Read,
     Make,
+    // The same where nothing stands, as after an old link was removed.
+    MakeFree,
     Remove,
 }
 
-/// The files of the system, where each call of one kind answers this error.
+/// The files of the system, where each call of one kind answers this error at each path that has this end.
 #[derive(Clone, Copy, Drop)]
 pub struct Grudging {
     pub host: HostRuntime,
     pub call: LinkCall,
     pub error: ErrorKind,
+    // The disk may name the directory by a number, so that only the last name of a path is sure. All paths end with the empty text.
+    pub end: &'static str,
 }
 
 impl Grudging {
-    fn ask(&self, call: LinkCall) -> io::Result<()> {
-        if self.call == call {
+    fn ask(&self, call: LinkCall, path: &str) -> io::Result<()> {
+        if self.call == call && path.ends_with(self.end) {
             Err(io::Error::from(self.error))
         } else {
             Ok(())
@@ -69,7 +73,7 @@ impl Files for Grudging {
     }
 
     fn remove_file(&self, path: &str) -> io::Result<()> {
-        self.ask(LinkCall::Remove)?;
+        self.ask(LinkCall::Remove, path)?;
         self.host.remove_file(path)
     }
 
@@ -86,12 +90,15 @@ impl Files for Grudging {
     }
 
     fn read_link<B: Allocator>(&self, alloc: B, path: &str) -> io::Result<PathBuf<B>> {
-        self.ask(LinkCall::Read)?;
+        self.ask(LinkCall::Read, path)?;
         self.host.read_link(alloc, path)
     }
 
     fn symlink(&self, original: &str, link: &str) -> io::Result<()> {
-        self.ask(LinkCall::Make)?;
+        self.ask(LinkCall::Make, link)?;
+        if self.host.symlink_metadata(link).is_err() {
+            self.ask(LinkCall::MakeFree, link)?;
+        }
         self.host.symlink(original, link)
     }
 }

@@ -12,6 +12,8 @@ mod fakes;
 #[cfg(test)]
 mod grudges;
 #[cfg(test)]
+mod link_faults;
+#[cfg(test)]
 mod links;
 #[cfg(test)]
 mod lives;

@@ -25,19 +25,27 @@ pub struct Run {
     pub notes: MemSink,
 }
 
+// Runs words over the files of a system, which is one of the two below: a function over all systems can't say that its parts may go
+// to threads.
+macro_rules! run_over {
+    ($rt:ident, $system:ident, $words:ident) => {{
+        let alloc = $rt.alloc();
+        let given = texts($rt, $words);
+        let mut out = MemSink::limited(alloc, AMPLE).expect($rt, "memory");
+        let mut notes = MemSink::limited(alloc, AMPLE).expect($rt, "memory");
+        let mut files = RealGround::make(alloc, $system);
+        let now = seconds($rt);
+        let status = run($rt, alloc, &given, &mut files, &mut out, &mut notes, now);
+        Run { status, out, notes }
+    }};
+}
+
 /// Runs these words over the files of the system.
 pub fn ran<T>(rt: &T, system: HostRuntime, words: &[&str]) -> Run
 where
     T: Abort + AllocGlobal + Clock + Threads + Wait + Sync,
 {
-    let alloc = rt.alloc();
-    let given = texts(rt, words);
-    let mut out = MemSink::limited(alloc, AMPLE).expect(rt, "memory");
-    let mut notes = MemSink::limited(alloc, AMPLE).expect(rt, "memory");
-    let mut files = RealGround::make(alloc, system);
-    let now = seconds(rt);
-    let status = run(rt, alloc, &given, &mut files, &mut out, &mut notes, now);
-    Run { status, out, notes }
+    run_over!(rt, system, words)
 }
 
 /// Runs these words over the files of a system that refuses a call.
@@ -45,14 +53,7 @@ pub fn ran_refused<T>(rt: &T, system: Grudging, words: &[&str]) -> Run
 where
     T: Abort + AllocGlobal + Clock + Threads + Wait + Sync,
 {
-    let alloc = rt.alloc();
-    let given = texts(rt, words);
-    let mut out = MemSink::limited(alloc, AMPLE).expect(rt, "memory");
-    let mut notes = MemSink::limited(alloc, AMPLE).expect(rt, "memory");
-    let mut files = RealGround::make(alloc, system);
-    let now = seconds(rt);
-    let status = run(rt, alloc, &given, &mut files, &mut out, &mut notes, now);
-    Run { status, out, notes }
+    run_over!(rt, system, words)
 }
 
 // Whether a run over the files of the system with these words succeeds, prints just this text, and has no notes.

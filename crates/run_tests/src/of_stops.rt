@@ -183,3 +183,61 @@ fn many_stages_come_to_the_whole(rt: HostRuntime) -> Result<(), Fail> {
     assert!(rt; stages > 7);
     Ok(())
 }
+
+// How many nodes are in the folder of the checkpoint: itself, the list, and a file for each rank.
+fn nodes_of_checkpoint<T: Abort + Threads + Wait + Sync>(
+    rt: &T,
+    alloc: Global,
+    files: &mut WholeFiles,
+    nodes: u64,
+) -> Result<bool, Fail> {
+    let told = run_with(rt, alloc, files, &["dwalk", "/c"], (AMPLE, AMPLE))?;
+    let items = format!(in alloc; "\nitems {nodes} dirs 1 files ")?;
+    let text = String::from_utf8_lossy(alloc, told.1.text())?;
+    Ok(told.0 == Status::Done && text.contains(items.as_str()))
+}
+
+// Each rank leaves a file, up to 64 of them, whose strings any other number of ranks takes up.
+#[test]
+fn a_stop_of_many_ranks_goes_on_to_the_whole(rt: HostRuntime) -> Result<(), Fail> {
+    let alloc = rt.alloc();
+    let text = whole_text(&rt, alloc)?;
+    for (ranks, nodes, next) in [
+        ("8", 10, "64"),
+        ("33", 35, "1"),
+        ("64", 66, "9"),
+        ("64", 66, "64"),
+    ] {
+        let mut files = hundred(alloc)?;
+        let stop = [
+            "dwalk",
+            "--stop-after",
+            "1",
+            "--lists",
+            "/c",
+            "--ranks",
+            ranks,
+            "/n0",
+        ];
+        let told = run_with(&rt, alloc, &mut files, &stop, (AMPLE, AMPLE))?;
+        assert_eq!(rt; told.0, Status::Stopped, "{ranks}");
+        assert!(rt;
+            nodes_of_checkpoint(&rt, alloc, &mut files, nodes)?,
+            "{ranks}"
+        );
+        let go_on = [
+            "dwalk",
+            "--restart",
+            "--lists",
+            "/c",
+            "--ranks",
+            next,
+            "--hosts",
+            "4",
+        ];
+        let told = run_with(&rt, alloc, &mut files, &go_on, (AMPLE, AMPLE))?;
+        assert_eq!(rt; told.0, Status::Done, "{ranks}");
+        assert_eq!(rt; told.1.text(), text.as_slice(), "{ranks}");
+    }
+    Ok(())
+}

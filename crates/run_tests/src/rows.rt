@@ -10,7 +10,7 @@ use std::thread::Threads;
 
 pub const TIME: Option<u64> = Some(86400);
 
-const NOW: u64 = 259_200;
+pub const NOW: u64 = 259_200;
 
 pub const AMPLE: u64 = 1_000_000;
 
