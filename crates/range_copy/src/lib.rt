@@ -35,8 +35,8 @@
 //! are no more than the files counted. It rests on a law of copies (`proofs/Composed`): the entries of two parts whose targets stand
 //! apart, copied one part after the other, are copied as all of them are at once.
 //!
-//! Not claimed: what stands at the target of a file that failed; that a large file is copied by ranges at all, which a test on a
-//! failing lease shows; that threads ran side by side.
+//! Not claimed: what stands at the target of a file that failed; that a large file is copied by ranges at all; that threads ran side
+//! by side. No tool calls it yet, so no row tries it.
 #![tactic(auto)]
 
 mod came;
