@@ -109,7 +109,8 @@ bad_text : {r : Reader} {ranks : ℕ} {ps : List (List ℕ)} {rest text behind :
     path_from text ≡ None → text ≢ end_text (length ps) → IsDamaged r.bytes r.rank r.known (length ps + 2)
 bad_text {r} {ranks} {ps} {rest} {text} {behind} undoes reads none no_end =
     damaged_here undoes r ranks ps (lines_of rest) reads.stands (record {
-      item = λ p more is follows one. clash p (sym none ∙ ap path_from (text_is rest text behind (escape p) reads.first one) ∙ path_again undoes p is.valid is.utf8);
+      item = λ p more is follows one.
+          clash p (sym none ∙ ap path_from (text_is rest text behind (escape p) reads.first one) ∙ path_again undoes p is.valid is.utf8);
       end = λ one. no_end (text_is rest text behind (end_text (length ps)) reads.first one);
     })
   where

@@ -18,15 +18,15 @@ file_name rank = codes "circle" ++ (decimal rank ++ codes ".txt")
 abbrev pub file_path : List ℕ → ℕ → List ℕ
 file_path dir rank = joined dir (file_name rank)
 
--- it is no longer than a path may be
+-- this path is at most as long as a path may be
 abbrev pub Fits : List ℕ → ℕ → Type 0
 Fits dir rank = length (file_path dir rank) ≤ 4095
 
--- the first so many files' paths do
+-- the paths of the first k files fit
 abbrev pub AllFit : List ℕ → ℕ → Type 0
 AllFit dir k = (rank : ℕ) → rank < k → Fits dir rank
 
--- ---- what the files hold
+-- ---- the contents of the files
 
 -- the rank's file holds the rank's list
 pub record HoldsList (dir : List ℕ) (rank ranks : ℕ) (paths : List (List ℕ)) (files : Files) : Type 0 where
@@ -34,22 +34,22 @@ pub record HoldsList (dir : List ℕ) (rank ranks : ℕ) (paths : List (List ℕ
   pub file : HoldsFile bytes (get files (file_path dir rank))
   pub spells : Spells bytes rank ranks paths
 
--- the files of the first so many ranks hold their lists
+-- the files of the first k ranks hold their lists
 abbrev pub HoldFirst : ℕ → List ℕ → ℕ → List (List (List ℕ)) → Files → Type 0
 HoldFirst k dir ranks lists files = (rank : ℕ) → rank < k → HoldsList dir rank ranks (slice_index_or lists rank []) files
 
--- the files of all ranks do
+-- the files of all ranks hold their lists
 abbrev pub HoldLists : List ℕ → List (List (List ℕ)) → Files → Type 0
 HoldLists dir lists files = HoldFirst (length lists) dir (length lists) lists files
 
--- what is read is what was written: the files in a folder hold the lists of one checkpoint alone
+-- reading gives the lists that were written: the files in a folder hold the lists of one checkpoint alone
 abbrev pub ReadsBack : Type 0
 ReadsBack = (dir : List ℕ) (lists others : List (List (List ℕ))) (files : Files) → 0 < length lists → 0 < length others → HoldLists dir lists files →
     HoldLists dir others files → lists ≡ others
 
 -- ---- writing
 
--- every path but those of the files of so many ranks is as before
+-- every path but those of the ranks' files is as before
 abbrev pub SameButFiles : List ℕ → ℕ → Files → Files → Type 0
 SameButFiles dir ranks old new =
     (q : List ℕ) → ((rank : ℕ) → rank < ranks → pointwise nat_eq q (file_path dir rank) ≡ false) → get new q ≡ get old q
@@ -76,7 +76,7 @@ pub record FailedAt (dir : List ℕ) (rank : ℕ) (path : List ℕ) (before afte
   pub fits : Fits dir rank
   pub counted : RoseBy 1 before after
 
--- why the rank's list is not written, where the files told this tree; the counts are those before and after
+-- why the rank's list is not written, if the files told this tree; the counts are those before and after
 abbrev pub StopsWritingAt : List ℕ → ℕ → Option Files → ℕ → ℕ → ListsError → Type 0
 StopsWritingAt dir rank tree before after (error.Failed path) = FailedAt dir rank path before after
 StopsWritingAt dir rank tree before after error.OutOfMemory = Unit {0}
@@ -84,7 +84,7 @@ StopsWritingAt dir rank tree before after (error.Damaged path line) = ⊥
 StopsWritingAt dir rank tree before after (error.NoFile path) = ⊥
 StopsWritingAt dir rank tree before after (error.NoPlace path) = IsTooLong dir rank path ⊎ HasNoPlace dir rank tree path
 
--- why not all lists are written: one of them is not, and there is a place for those before it
+-- why not all lists are written: one of them is not written, and there is a place for those before it
 pub record StopsWriting (dir : List ℕ) (ranks : ℕ) (tree : Option Files) (before after : ℕ) (why : ListsError) : Type 0 where
   pub rank : ℕ
   pub within : rank < ranks
@@ -113,13 +113,13 @@ StopsReadingAt dir rank known tree before after (error.Damaged path line) = IsDa
 StopsReadingAt dir rank known tree before after (error.NoFile path) = IsTooLong dir rank path ⊎ IsAbsent dir rank tree path
 StopsReadingAt dir rank known tree before after (error.NoPlace path) = ⊥
 
--- the files before the rank's hold lists of a checkpoint of so many ranks. Before the first, their number is not known
+-- the files of the lower ranks hold lists of a checkpoint of this number of ranks. Before the first file, the number is not known
 abbrev pub Reached : List ℕ → ℕ → Option ℕ → Option Files → Type 0
 Reached dir rank None tree = rank ≡ 0
 Reached dir rank (Some ranks) tree =
     (0 < rank) × (rank < ranks) × AllFit dir rank × IfSome tree (λ files. (lists : List (List (List ℕ))) × HoldFirst rank dir ranks lists files)
 
--- why not all lists are read: one of them is not, and those before it are
+-- why not all lists are read: one of them is not read, and those before it are
 pub record StopsReading (dir : List ℕ) (tree : Option Files) (before after : ℕ) (why : ListsError) : Type 0 where
   pub rank : ℕ
   pub known : Option ℕ

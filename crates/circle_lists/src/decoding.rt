@@ -1,4 +1,4 @@
-//! The file of one rank, read. A line is compared with what would be written there, so no number is read.
+//! Reads the file of one rank. It compares each line with the text that the writer would write there, so it parses no number.
 ghost use Rattle.std.specs.Prelude.{◌≡◌, ◌≢◌, ◌+◌, ◌<◌, ◌≤◌, ◌^◌, ◌==◌, ℕ, List, length, true, false, Some, None, IfOk, IfErr, IfSome, IfNone, take, drop};
 ghost use Rattle.whole_lines.specs.Lines.{line, end_text};
 ghost use Rattle.whole_lines.specs.Words.{cut, ok_of, path_from};
@@ -13,7 +13,7 @@ use whole_lines::{cut_line, path_from};
 /// The most ranks that a checkpoint may have.
 const MAX_RANKS: u64 = 64;
 
-/// What the file of a rank tells: the number of ranks, and the rank's list.
+/// The contents of the file of a rank: the number of ranks, and the rank's list.
 #[derive(Drop)]
 pub(crate) struct RankList {
     pub(crate) ranks: u64,
@@ -23,9 +23,9 @@ pub(crate) struct RankList {
 /// Why a text is refused as the file of a rank.
 #[derive(Clone, Copy, Debug, Drop, PartialEq, Eq)]
 pub(crate) enum Refused {
-    /// The lines before this one begin some file of the rank, and with it they do not.
+    /// The lines before this one begin some file of the rank, and the lines up to this one do not.
     Damaged(u64),
-    /// No memory was found.
+    /// The call is out of memory.
     OutOfMemory,
 }
 
@@ -51,7 +51,7 @@ impl<T: Drop> From<AllocFailed<T>> for Refused {
     }
 }
 
-/// What the file of the rank tells; where the number of ranks is known already, it must tell that one.
+/// Reads the file of the rank. If the number of ranks is known already, the file must have that number.
 pub(crate) fn decode(
     alloc: Global,
     bytes: &[u8],
@@ -63,7 +63,7 @@ pub(crate) fn decode(
     ensures agrees { IfOk result (λ told. Agrees known told.ranks) }
     ensures refused { IfErr result (IsCause bytes.now rank known) }
 {
-    // That no other text tells the same path rests on this law.
+    // By this law no other text writes the same path.
     reading_undoes_writing();
     let Some((ranks, rest)) = behind_head(alloc, bytes, rank, known)? else {
         return Err(Refused::Damaged(1));
@@ -80,7 +80,7 @@ pub(crate) fn decode(
     Err(Refused::Damaged(paths.len() as u64 + 2))
 }
 
-// What the head tells, and what stands behind it.
+// The number of ranks in the head, and the text after the head.
 fn behind_head(
     alloc: Global,
     bytes: &[u8],
@@ -100,7 +100,7 @@ fn behind_head(
     }
 }
 
-// How many ranks the head of the rank's file tells.
+// The number of ranks in the head of the rank's file.
 fn ranks_in(
     alloc: Global,
     text: &[u8],
@@ -150,7 +150,7 @@ fn is_end(alloc: Global, text: &[u8], count: usize) -> Result<bool, OutOfMemory>
     Ok(text == end.as_slice())
 }
 
-// The list, if its end line is the text, and nothing stands behind it.
+// The list, if the text is that of its end line, and nothing follows it.
 fn ended(alloc: Global, told: RankList, text: &[u8], behind: &[u8]) -> Result<RankList, Refused>
     requires { length told.paths.items + 3 < 2 ^ 64 }
     ensures ok { IfOk result (λ same. Ends told.paths.items text.now behind.now × (same ≡ told)) }

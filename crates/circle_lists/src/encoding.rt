@@ -1,4 +1,4 @@
-//! The file of one rank, written.
+//! Writes the file of one rank.
 ghost use Rattle.std.specs.Prelude.{◌≡◌, ◌<◌, ◌++◌, ◌∷◌, [], ◌^◌, IfOk, OnOk};
 ghost use Rattle.std.specs.Fmt.{decimal};
 ghost use Rattle.path_text.specs.Escape.{escape};
@@ -9,7 +9,7 @@ use itoa::Buffer;
 use path_text::{OutOfMemory, Path, put_escaped};
 use std::alloc::Global;
 
-/// The file of a rank, whose list has these paths.
+/// The bytes of the file of a rank whose list has these paths.
 pub(crate) fn encode(
     alloc: Global,
     rank: u64,
@@ -30,7 +30,7 @@ pub(crate) fn encode(
     Ok(text)
 }
 
-/// Appends what the first line of a rank's file says.
+/// Appends the text of the first line of a rank's file.
 pub(crate) fn put_head(text: &mut Vec<u8>, rank: u64, ranks: u64) -> Result<(), OutOfMemory>
     ensures { OnOk result (text.new.items ≡ text.old.items ++ head_text rank ranks) }
 {
@@ -40,7 +40,7 @@ pub(crate) fn put_head(text: &mut Vec<u8>, rank: u64, ranks: u64) -> Result<(), 
     put_decimal(text, ranks)
 }
 
-/// Appends what the last line of the file of so many paths says.
+/// Appends the text of the last line of a file with this number of paths.
 pub(crate) fn put_end(text: &mut Vec<u8>, count: usize) -> Result<(), OutOfMemory>
     ensures text { OnOk result (text.new.items ≡ text.old.items ++ end_text count) }
     ensures small { count < 2 ^ 64 }
@@ -55,7 +55,7 @@ fn put_path(text: &mut Vec<u8>, path: &Path) -> Result<(), OutOfMemory>
 {
     put_escaped(text, path)?;
     text.push(b'\n')?;
-    // That a path is UTF-8 is told by its text alone.
+    // Only the contract of `text` says that a path is UTF-8.
     let _text = path.text();
     Ok(())
 }

@@ -6,20 +6,20 @@ use thiserror::Error;
 /// Why the lists of a checkpoint are not written or read.
 #[derive(Debug, Drop, PartialEq, Eq, Error)]
 pub enum ListsError {
-    /// The files failed at this path, and have counted it.
+    /// The files failed at this path, and have counted the fault.
     #[error("the files failed")]
     Failed(Path),
-    /// No memory was found.
+    /// The call is out of memory.
     #[error("out of memory")]
     OutOfMemory,
-    /// In this file the lines before this one begin the file of its rank, and with it they do not. Lines are counted from 1, and
-    /// behind the last line of a text stands its end. It comes from reading alone.
+    /// In this file the lines before this one begin a file of its rank, and the lines up to this one do not. Lines count from 1,
+    /// and the line after the last of a text is its end. Only reading gives this error.
     #[error("the file of a rank is damaged at line {1}")]
     Damaged(Path, u64),
-    /// No file is there to be read; or, with the folder's path, a file's path would be too long. It comes from reading alone.
+    /// No file is at this path; or, with the folder's path, a file's path would be too long. Only reading gives this error.
     #[error("the file of a rank is absent")]
     NoFile(Path),
-    /// No file can be written there; or, with the folder's path, a file's path would be too long. It comes from writing alone.
+    /// No file can be at this path; or, with the folder's path, a file's path would be too long. Only writing gives this error.
     #[error("the file of a rank has no place")]
     NoPlace(Path),
 }

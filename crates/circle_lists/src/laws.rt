@@ -1,11 +1,11 @@
-//! Laws of the files of a checkpoint, each the contract of a function that does nothing but recall the law that it rests on.
+//! The laws of the files of a checkpoint. Each law is the contract of a function that only calls the law that it needs.
 ghost use Rattle.circle_lists.specs.Spelling.{SpellsOne, DamagedOnce};
 ghost use Rattle.circle_lists.specs.Checkpoint.{ReadsBack};
 
 use path_text::reading_undoes_writing;
 
-/// A rank's list has one file, a file tells one list, of one rank among one number of ranks, and none is a proper prefix of
-/// another.
+/// A rank's list has one file. A file is that of one list, of one rank among one number of ranks. No file is a proper prefix
+/// of another.
 pub fn spelling_is_unique()
     ensures { SpellsOne }
 {
@@ -17,7 +17,7 @@ pub fn damage_is_exact()
     ensures { DamagedOnce }
 {}
 
-/// The files in a folder hold the lists of one checkpoint alone: what is read is what was written.
+/// The files in a folder hold the lists of one checkpoint alone, so reading gives the lists that were written.
 pub fn reading_undoes_saving()
     ensures { ReadsBack }
 {

@@ -6,7 +6,7 @@ ghost use Rattle.circle_lists.specs.Checkpoint.{file_name, file_path, Fits};
 use path_text::{JoinError, OutOfMemory, Path};
 use std::alloc::{AllocError, Global};
 
-/// The path of a rank's file in the folder, unless it would be too long.
+/// The path of a rank's file in the folder; `None` if it would be too long.
 #[tactic(auto, using(crate::proofs::Names::name_fine))]
 pub fn file_in(alloc: Global, dir: &Path, rank: u64) -> Result<Option<Path>, OutOfMemory>
     requires { rank < 64 }

@@ -1,4 +1,4 @@
-//! The lists of a checkpoint, read.
+//! Reads the lists of a checkpoint.
 ghost use Rattle.std.specs.Prelude.{◌≡◌, map, length, IfOk, IfErr, IfSome, OnOk, Some, None};
 ghost use Rattle.outside.specs.Count.{RoseBy};
 ghost use Rattle.circle_lists.specs.Spelling.{IsRank, Agrees};
@@ -12,8 +12,8 @@ use outside::{LoadError, Tree, load};
 use path_text::Path;
 use std::alloc::Global;
 
-/// The lists of all ranks, from the files of the folder. That of rank 0 tells how many ranks there are, and each file must name
-/// its own rank and the same number of ranks. More files in the folder are not looked at.
+/// Reads the lists of all ranks from the files of the folder. The file of rank 0 has the number of ranks. Each file must name
+/// its own rank and the same number of ranks. It does not read other files in the folder.
 pub fn read_lists<R: Tree>(
     alloc: Global,
     reader: &mut R,
@@ -37,7 +37,7 @@ pub fn read_lists<R: Tree>(
     Ok(lists)
 }
 
-// The list of one rank, from its file.
+// Reads the list of one rank from its file.
 fn read_list<R: Tree>(
     alloc: Global,
     reader: &mut R,

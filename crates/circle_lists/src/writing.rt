@@ -1,4 +1,4 @@
-//! The lists of a checkpoint, written.
+//! Writes the lists of a checkpoint.
 ghost use Rattle.std.specs.Prelude.{◌≡◌, ◌<◌, ◌≤◌, ℕ, [], map, length, OnOk, IfErr, IfSome, is_some};
 ghost use Rattle.outside.specs.Count.{RoseBy};
 ghost use Rattle.outside.specs.Writes.{nothing_lent, SameBut};
@@ -12,8 +12,8 @@ use outside::{Ground, SaveError, save};
 use path_text::Path;
 use std::alloc::Global;
 
-/// Writes the lists of all ranks into files of the folder, one for each rank, in the order of the ranks. The first that is
-/// not written ends that.
+/// Writes the lists of all ranks into files of the folder, one for each rank, in the order of the ranks. It stops at the first
+/// list that it cannot write.
 pub fn write_lists<G: Ground>(
     alloc: Global,
     ground: &mut G,
@@ -31,7 +31,7 @@ pub fn write_lists<G: Ground>(
     ensures lent { G.area ground.new ≡ nothing_lent }
     ensures count { RoseBy 0 (G.count ground.old) (G.count ground.new) }
 {
-    let _ = dir.text(); // tells that it is a path
+    let _ = dir.text(); // its contract says that it is a path
     let ranks = left.len() as u64;
     for rank in 0..left.len() {
         write_list(

@@ -1,4 +1,4 @@
--- Files in memory: the tree, what is planned to fail in it, and how often it has failed. Our own.
+-- Files in memory: the tree, the calls that are planned to fail in it, and how often it has failed. Our own.
 use Rattle.std.specs.Prelude.{◌≡◌, ℕ, ◌-◌, min, length, take, drop, true, false, Bool, ◌||◌, Result, Ok, Err, List, [], ◌∷◌, ◌++◌, Option, Some, None}
 use Rattle.std.specs.Prelude.{if◌then◌else◌, is_some, refl}
 use Rattle.std.specs.Coded.{Coded, code_by, coded×, coded_ℕ}
@@ -50,7 +50,7 @@ put_refusal files path =
     else if is_dir (get files (parent_of path)) then None
     else Some put.NoParent
 
--- the same of a part, of which the path may be a top: over a top a directory stands
+-- the same of a part, of which the path may be a top: the parent of a top is a directory
 abbrev pub put_refusal_at : Bool → Files → List ℕ → Option PutError
 put_refusal_at top files path =
     if is_some (get files path) then Some put.Exists
@@ -74,14 +74,14 @@ abbrev pub dir_far : Option Node → Option ℕ
 dir_far None = None
 dir_far (Some n) = body_far n.body
 
--- a buffer's front takes the file's bytes from a place on, as many as there are and as fit, and behind them it is as before
+-- a buffer takes the file's bytes from a place on, as many as are there and fit; after them it is as before
 pub record FillsFrom (node : Option Node) (at : ℕ) (old new : List ℕ) (n : ℕ) : Type 0 where
   pub is_file : is_file node ≡ true
   pub many : n ≡ min (length old) (length (content node) - at)
   pub whole : new ≡ take n (drop at (content node)) ++ drop n old
 
--- what a call that writes answers and leaves, where it is refused as `refusal` says, and else makes `after` of the files: it
--- fails exactly where that is planned, and counts that; else only want of memory may stand in place of an answer
+-- The answer of a call that writes, and the files after it: it is refused as `refusal` says, and else makes `after` of the files.
+-- It fails exactly if that is planned, and counts that. Else only out of memory may take the place of an answer.
 abbrev pub Acts : Call → List ℕ → Option WriteError → Files → Memory → Result (Unit {0}) WriteError → Memory → Type 0
 Acts call path refusal after before (Ok _) new = (is_planned call path before.planned ≡ false) × ((refusal ≡ None) × (new ≡ record before { files = after }))
 Acts call path refusal after before (Err write.Failed) new = (is_planned call path before.planned ≡ true) × (new ≡ answered true before)

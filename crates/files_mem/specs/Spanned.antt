@@ -1,4 +1,4 @@
--- Spans of files in memory, and what a ground keeps for them. Our own.
+-- Spans of files in memory, and the file that a ground keeps for them. Our own.
 use Rattle.std.specs.Prelude.{◌≡◌, ℕ, true, Bool, List, [], ◌∷◌, length, map, replicate, if◌then◌else◌, Option, Some, None}
 use Rattle.std.specs.List.{sum_by}
 use Rattle.std.specs.FinMap.{get}
@@ -6,8 +6,7 @@ use Rattle.outside.specs.Tree.{Files, is_file, content}
 use Rattle.outside.specs.Parts.{IsPart}
 use Rattle.outside.specs.Spans.{Piece, pieces, joined_bytes}
 
--- a span: the path of its file, where it begins there, its bytes, whether it tells them, whether its writes are planned to fail, and
--- its count of faults
+-- a span: the path of its file, its start there, its bytes, whether it tells them, whether its writes fail, and its count of faults
 pub record Spanned : Type 0 where
   pub path : List ℕ
   pub start : ℕ
@@ -28,11 +27,11 @@ abbrev pub blank : Bool → Bool → Piece → Spanned
 blank tells fails piece =
     record { path = piece.path; start = piece.start; bytes = replicate piece.size 0; tells = tells; fails = fails; count = 0 }
 
--- the bytes of spans one behind the other
+-- the bytes of spans one after the other
 abbrev pub bytes_of_all : List Spanned → List ℕ
 bytes_of_all spans = joined_bytes (map (λ span. Some span.bytes) spans)
 
--- the file that waits for its spans stands alone in the nodes
+-- the file that waits for its spans is alone in the nodes
 pub record IsCutOut (path : List ℕ) (own : List (List ℕ)) (files : Files) : Type 0 where
   pub alone : own ≡ path ∷ []
   pub part : IsPart (path ∷ []) files

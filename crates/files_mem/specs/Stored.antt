@@ -8,7 +8,7 @@ use Rattle.files_mem.specs.declared.nodes.Node as stored
 use Rattle.files_mem.specs.declared.nodes.Body as kept
 use Rattle.files_mem.specs.declared.nodes.Body.TheVariants as b
 
--- what a body holds
+-- the contents of a body
 abbrev pub body_of : kept.Body → Body
 body_of (b.Dir far) = dir far
 body_of (b.File bytes) = file bytes.items

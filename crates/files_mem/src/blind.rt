@@ -21,8 +21,8 @@ use path_text::{OutOfMemory, Path};
 use std::alloc::Global;
 use std::marker::Model;
 
-/// Files in memory that tell no tree, and whose readers may lie and meet. They are seen as their count of faults and where they
-/// may be written. Every call is passed on to the ground inside, and answered as there.
+/// Files in memory that tell no tree, and whose readers may lie, swell files and meet. They are seen as their count of faults and
+/// where they may be written. They pass every call on to the ground inside, and answer as it does.
 #[derive(Drop)]
 pub struct Blind {
     ground: MemGround,
@@ -41,7 +41,7 @@ impl Model for Blind {
 }
 
 impl Blind {
-    /// These files. They neither lie nor meet.
+    /// These files. They neither lie, nor swell, nor meet.
     pub fn make(ground: MemGround) -> Blind
         ensures { result ≡ record { count = ground.count; area = ground.area } }
     {
@@ -60,15 +60,22 @@ impl Blind {
         self.tricks.lie(self.ground.allocator(), path)
     }
 
-    /// The `stat` of a later reader, of one of the two paths, looks ten million times at most whether the other is asked for
-    /// too, or was before, by any reader. Where it never is, that `stat` fails. A later call takes the place of this one.
+    /// Later readers answer, by `stat`, one byte more for a file at the path than it has. A lie about the path comes before that.
+    pub fn swell(&mut self, path: &Path) -> Result<(), OutOfMemory>
+        ensures { self.new ≡ self.old }
+    {
+        self.tricks.swell(self.ground.allocator(), path)
+    }
+
+    /// A later reader's `stat` of one of the two paths waits for a `stat` of the other by any reader, also an earlier one.
+    /// It looks 10,000,000 times at most, and fails if the other never comes. A later call takes the place of this one.
     pub fn meet(&mut self, one: &Path, other: &Path) -> Result<(), OutOfMemory>
         ensures { self.new ≡ self.old }
     {
         self.tricks.meet(self.ground.allocator(), one, other)
     }
 
-    /// The files inside, which count the faults that came from there alone.
+    /// The files inside. They count only the faults that came from there.
     pub fn into_files(self) -> MemGround
         ensures { result.area ≡ self.area }
     {
@@ -94,7 +101,7 @@ fn is_empty_file(told: Option<Stat>) -> bool
     }
 }
 
-// Whether a directory stands over the path.
+// Whether the parent of the path is a directory.
 fn has_parent(ground: &mut MemGround, alloc: Global, path: &Path) -> Result<bool, OutOfMemory>
     ensures told { IfOk result (λ has. IsTrue has → is_dir (map.get ground.old.files (parent_of path.now)) ≡ true) }
     ensures same { ground.new ≡ ground.old }
@@ -105,7 +112,7 @@ fn has_parent(ground: &mut MemGround, alloc: Global, path: &Path) -> Result<bool
     }
 }
 
-// Whether a directory stands over each of the paths.
+// Whether the parent of each of the paths is a directory.
 fn have_parents(ground: &mut MemGround, alloc: Global, tops: &[Path]) -> Result<bool, OutOfMemory>
     ensures told { IfOk result (λ have. IsTrue have → HaveParents tops.now ground.old.files) }
     ensures same { ground.new ≡ ground.old }
@@ -189,7 +196,7 @@ impl Ground for Blind {
         self.ground.take_reader(reader.into_reader());
     }
 
-    /// Where no directory stands over a top, it finds no memory: the ground inside lends no such part.
+    /// If the parent of a top is not a directory, it answers out of memory: the ground inside lends no such part.
     fn lease(&mut self, alloc: Global, tops: &[Path]) -> Result<BlindPart, OutOfMemory> {
         if !have_parents(&mut self.ground, alloc, tops)? {
             return Err(OutOfMemory);
@@ -207,7 +214,7 @@ impl Ground for Blind {
 impl Wide for Blind {
     type Span = MemSpan;
 
-    /// The spans tell no bytes. Where no empty file is at the path, that is a fault: the ground inside lends no other.
+    /// The spans tell no bytes. If no empty file is at the path, that is a fault: the ground inside lends no other.
     fn lease_spans(
         &mut self,
         alloc: Global,

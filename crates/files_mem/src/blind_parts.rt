@@ -44,7 +44,7 @@ impl BlindPart {
     }
 }
 
-/// Counts the fault, where the answer is one.
+/// Counts the answer if it is a fault.
 pub(crate) fn counted(count: &mut u64, told: Result<(), WriteError>) -> Result<(), WriteError>
     ensures same { result ≡ told }
     ensures count { RoseBy 0 count.old count.new }
@@ -56,7 +56,7 @@ pub(crate) fn counted(count: &mut u64, told: Result<(), WriteError>) -> Result<(
     told
 }
 
-/// Whether the place is in the file or at its end, where a file is told of.
+/// Whether the answer is a file, and the place is in it or at its end.
 pub(crate) fn has_place(told: Option<Stat>, at: u64) -> bool
     ensures { (node : Option Node) → told ≡ option_map stat_of node → IsTrue result → HasPlace at node }
 {

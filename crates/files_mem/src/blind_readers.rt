@@ -1,5 +1,5 @@
-//! Readers that may lie and meet.
-ghost use Rattle.std.specs.Prelude.{◌≡◌};
+//! Readers that may lie, swell files and meet.
+ghost use Rattle.std.specs.Prelude.{◌≡◌, ◌≢◌, IfSome};
 
 use crate::readers::MemReader;
 use crate::tricks::Tricks;
@@ -8,14 +8,28 @@ use path_text::Path;
 use std::alloc::Global;
 use std::marker::Model;
 
-/// What [`crate::Blind`] stands a directory in for.
+/// The answer for a path that a [`crate::Blind`] lies about: a directory.
 const LIE: Stat = Stat {
     kind: Kind::Dir,
     size: 0,
     mtime: None,
 };
 
-/// A reader of files in memory that tells no tree, seen as its count of faults. It lies and meets as was planned when it was made.
+// One byte more, if the answer is a file.
+fn swelled(told: Option<Stat>) -> Option<Stat>
+    ensures { IfSome told (λ stat. stat.kind ≢ Kind.File → stat.size ≡ 0) → IfSome result (λ stat. stat.kind ≢ Kind.File → stat.size ≡ 0) }
+{
+    match told {
+        Some(stat) if stat.kind == Kind::File => Some(Stat {
+            size: stat.size.saturating_add(1),
+            ..stat
+        }),
+        told => told,
+    }
+}
+
+/// A reader of files in memory that tells no tree, seen as its count of faults. It lies, swells files and meets as the ground
+/// planned before it made the reader.
 #[derive(Drop)]
 pub struct BlindReader {
     reader: MemReader,
@@ -60,7 +74,7 @@ impl Tree for BlindReader {
         self.count
     }
 
-    /// A path that meets another waits for it, and fails where it does not come. A path that is lied about is a directory.
+    /// A path that meets another waits for it, and fails if it does not come. A path that is lied about is a directory.
     fn stat(&mut self, path: &Path) -> Result<Option<Stat>, Failed> {
         if !self.tricks.meets(path) {
             self.count = self.count.saturating_add(1);
@@ -70,6 +84,7 @@ impl Tree for BlindReader {
             return Ok(Some(LIE));
         }
         match self.reader.stat(path) {
+            Ok(told) if self.tricks.swells(path) => Ok(swelled(told)),
             Ok(told) => Ok(told),
             Err(Failed) => {
                 self.count = self.count.saturating_add(1);

@@ -18,13 +18,13 @@ use std::collections::BTreeMap;
 use std::collections::btree_map::Range;
 use std::ops::Bound;
 
-/// The names of the children of the path, in byte order. All that is under a child is passed over at once, so this costs
-/// the children and not the subtree.
+/// The names of the children of the path, in byte order. It passes over all that is under a child at once, so it costs the
+/// children and not the subtree.
 pub fn list(map: &BTreeMap<Path, Node>, alloc: Global, path: &Path) -> Result<Listing, OutOfMemory>
     requires valid { AllValid map.now.entries }
     ensures { IfOk result (λ listing. (listing.0 ≡ names_in (files_of map.now.entries) path.now) × (listing.1 ≡ 0) × (listing.2 ≡ 0)) }
 {
-    let _ = map.len(); // tells that the keys are in order
+    let _ = map.len(); // gives the proof that the keys are in order
     let mut listing = Listing::make(alloc);
     let Some(least) = least_child(path)? else {
         return Ok(listing);
@@ -43,7 +43,7 @@ pub fn list(map: &BTreeMap<Path, Node>, alloc: Global, path: &Path) -> Result<Li
     Ok(listing)
 }
 
-// The entries behind a child, of which `rest` are the next ones: all that is under the child may be left out.
+// The entries after a child, of which `rest` are the next ones: all that is under the child may be left out.
 fn behind<'a>(
     map: &'a BTreeMap<Path, Node>,
     alloc: Global,
@@ -74,7 +74,7 @@ fn is_one_name(name: &str) -> bool
     !name.is_empty() && !name.as_bytes().contains(&b'/')
 }
 
-// What the children of a path begin with.
+// The text that the paths of all children begin with.
 fn front_of(alloc: Global, path: &Path) -> Result<String, AllocError>
     ensures { IfOk result (λ text. string_bytes text ≡ front path.now) }
 {
@@ -85,7 +85,7 @@ fn front_of(alloc: Global, path: &Path) -> Result<String, AllocError>
     Ok(text)
 }
 
-// The least path that a child can have, where one can be.
+// The least path that a child can have, if there can be one.
 #[tactic(auto, using(crate::proofs::Between::joined_front))]
 fn least_child(path: &Path) -> Result<Option<Path>, OutOfMemory>
     ensures found { IfOk result (λ o. IfSome o (λ least. least ≡ front path.now ++ 1 ∷ [])) }
@@ -98,7 +98,7 @@ fn least_child(path: &Path) -> Result<Option<Path>, OutOfMemory>
     }
 }
 
-// What comes behind all that is under a path, where it can be written.
+// The path that comes after all that is under a path, if it can be written.
 fn past(alloc: Global, path: &Path) -> Result<Option<Path>, AllocError>
     ensures { IfOk result (λ o. IfSome o (λ past. past ≡ path.now ++ 1 ∷ [])) }
 {

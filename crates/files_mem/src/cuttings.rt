@@ -1,4 +1,4 @@
-//! Files that are out in spans, and what waits for them.
+//! Files that are out in spans, and the places that wait for them.
 ghost use Rattle.std.specs.Prelude.{◌≡◌, ◌+◌, ◌≤◌, ◌<◌, ◌++◌, ◌∷◌, [], Some, true, length, map, IfOk, OnOk, OnErr, IsTrue, is_some};
 ghost use Rattle.std.specs.Prelude.{slice_get};
 ghost use Rattle.std.specs.List.{sum_by, remove};
@@ -20,8 +20,8 @@ use std::alloc::Global;
 use std::marker::Model;
 use std::sync::Arc;
 
-/// A file that is out in spans: seen as its path and where it was cut. The empty file itself waits here, with room for all its bytes,
-/// so that nothing that comes back takes memory.
+/// A file that is out in spans: seen as its path and where it was cut. The empty file itself waits here, with room for all its
+/// bytes, so that the return takes no memory.
 #[derive(Drop)]
 pub struct Cutting {
     path: Path,
@@ -91,7 +91,7 @@ impl Cutting {
     }
 }
 
-// Puts the bytes of the spans behind each other into room that is there.
+// Puts the bytes of the spans one after the other into room that is there.
 fn fill(room: &mut Vec<u8>, spans: &[MemSpan])
     requires empty { room.old.items ≡ [] }
     requires room { sum_by (λ span. length span.bytes) spans.now ≤ vec_capacity room.old }
@@ -102,7 +102,7 @@ fn fill(room: &mut Vec<u8>, spans: &[MemSpan])
     }
 }
 
-// Puts bytes behind others, where there is room for them.
+// Puts bytes after others, in room that is there.
 fn put_behind(room: &mut Vec<u8>, bytes: &[u8])
     requires { length room.old.items + length bytes.now ≤ vec_capacity room.old }
     ensures items { room.new.items ≡ room.old.items ++ bytes.now }
@@ -131,7 +131,7 @@ impl Model for Cuttings {
 }
 
 impl Cuttings {
-    /// None.
+    /// No paths.
     pub fn make(alloc: Global) -> Cuttings
         ensures { result ≡ [] }
     {
@@ -170,14 +170,14 @@ impl Cuttings {
         let tops = [path.copy()?];
         let cuts = Vec::from_slice(alloc, cuts)?;
         self.out.reserve(1)?;
-        let mut lent = Lent::make(alloc); // it is no part, so no other call counts its top
+        let mut lent = Lent::make(alloc); // it is not a part, so no other call counts its top
         let (store, tops) = divide(alloc, store, &mut lent, &tops)?;
         let cutting = Cutting::make(own, cuts, tops, store, room);
         put_last(&mut self.out, cutting);
         Ok(())
     }
 
-    /// The first of the file at the path, which is out no more.
+    /// Takes the first cutting of the file at the path away.
     pub fn take(&mut self, path: &Path) -> Cutting
         requires { is_some (cuts_at path.now self.old) ≡ true }
         ensures path { result.path ≡ path.now }
@@ -189,7 +189,7 @@ impl Cuttings {
     }
 }
 
-// Puts one into a place that was made for it.
+// Puts a cutting into a place that was made for it.
 fn put_last(out: &mut Vec<Cutting>, cutting: Cutting)
     requires { vec_len out.old < vec_capacity out.old }
     ensures { out.new.items ≡ out.old.items ++ cutting ∷ [] }
@@ -197,7 +197,7 @@ fn put_last(out: &mut Vec<Cutting>, cutting: Cutting)
     let _ = out.push(cutting);
 }
 
-// The place of the first of the file at the path.
+// The place of the first cutting of the file at the path.
 fn place_of(out: &[Cutting], path: &Path) -> usize
     requires { is_some (cuts_at path.now out.now) ≡ true }
     ensures inside { result < length out.now }

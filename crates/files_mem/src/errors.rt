@@ -7,13 +7,13 @@ use thiserror::Error;
 /// Why a node is not put at a path.
 #[derive(Clone, Copy, Debug, Drop, PartialEq, Eq, Error)]
 pub enum PutError {
-    /// A node is there.
+    /// A node is there already.
     #[error("a node is there already")]
     Exists,
-    /// The path over it is no directory.
+    /// The parent is not a directory.
     #[error("the path over it is no directory")]
     NoParent,
-    /// No memory was found.
+    /// Out of memory.
     #[error("out of memory")]
     OutOfMemory,
 }

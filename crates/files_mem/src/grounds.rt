@@ -30,8 +30,8 @@ use std::alloc::{AllocError, AllocFailed, Global};
 use std::marker::Model;
 use std::sync::Arc;
 
-/// Files in memory, which tell their tree: seen as the nodes by their paths, the calls that are planned to fail, and the
-/// count of faults.
+/// Files in memory, which tell their tree. They are seen as the nodes by their paths, the calls that are planned to fail, the
+/// count of faults, and their area.
 #[derive(Drop)]
 pub struct MemGround {
     held: Held,
@@ -71,7 +71,7 @@ impl MemGround {
         })
     }
 
-    /// Puts a directory, of which so many children have a path that would be too long and are in no map.
+    /// Puts a directory. The path of `far` of its children would be too long, so they are in no map.
     pub fn put_dir(&mut self, path: &Path, far: u64, mtime: Option<u64>) -> Result<(), PutError>
         ensures put { OnOk result (self.new ≡ with_node self.old path.now (record { body = dir far; mtime = mtime })) }
         ensures free { OnOk result (put_refusal self.old.files path.now ≡ None) }
@@ -125,7 +125,7 @@ impl MemGround {
         self.put(path, Node { body, mtime })
     }
 
-    /// Plans the call to fail at the path, every time from now on, also in the readers that are made from now on.
+    /// Plans the call to fail at the path, every time from now on, also in readers made from now on.
     pub fn plan(&mut self, call: Call, path: &Path) -> Result<(), OutOfMemory>
         ensures planned { OnOk result (self.new ≡ with_planned self.old call path.now) }
         ensures same { OnErr result (self.new ≡ self.old) }
@@ -134,12 +134,12 @@ impl MemGround {
         Ok(())
     }
 
-    // Where its memory comes from.
+    // The allocator of its memory.
     pub(crate) fn allocator(&self) -> Global {
         self.plan.allocator()
     }
 
-    // What stands at the path, whatever is planned.
+    // The kind, size and time of the node at the path, whatever is planned.
     pub(crate) fn look(&mut self, alloc: Global, path: &Path) -> Result<Option<Stat>, OutOfMemory>
         ensures told { IfOk result (λ answer. answer ≡ option_map stat_of (map.get self.old.files path.now)) }
         ensures same { self.new ≡ self.old }
@@ -147,7 +147,7 @@ impl MemGround {
         Ok(self.held.store(alloc)?.stat(path))
     }
 
-    // Whether the call is to fail at the path. Where it is, that is counted.
+    // Whether the call is planned to fail at the path. If so, it counts as a fault.
     fn fails(&mut self, call: Call, path: &Path) -> bool
         ensures planned { result ≡ is_planned call path.now self.old.planned }
         ensures counted { self.new ≡ answered (is_planned call path.now self.old.planned) self.old }
@@ -213,19 +213,19 @@ impl MemGround {
         if let Some(refused) = self.held.put_refusal(alloc, path)? {
             return Err(refused);
         }
-        let _ = path.text(); // tells that it is a path
+        let _ = path.text(); // gives the proof that it is a path
         self.held.put(alloc, path.copy()?, node)?;
         Ok(())
     }
 
-    // Makes a node, as the calls do that write.
+    // Makes a node, for the calls that write.
     fn make(&mut self, call: Call, path: &Path, node: Node) -> Result<(), WriteError>
         ensures acts { Acts call path.now (make_refusal self.old.area self.old.files path.now) (map.insert self.old.files path.now (node_of node)) self.old result self.new }
         ensures named { IfErr result (λ e. IsTrue (may_make e)) }
         ensures count { RoseBy 0 self.old.count self.new.count }
         ensures cause { IsErrOf result WriteError.Failed → RoseBy 1 self.old.count self.new.count }
     {
-        let _ = &self.held; // tells that it is a ground, and no part
+        let _ = &self.held; // gives the proof that it is a ground, and not a part
         if self.fails(call, path) {
             return Err(WriteError::Failed);
         }
@@ -243,7 +243,7 @@ fn folder(far: u64, mtime: Option<u64>) -> Node
     }
 }
 
-// Adds a call to the plan, or to a copy of it where readers hold the one that is there.
+// Adds a call to the plan, or to a copy of it if readers hold this one.
 fn add_to(plan: &mut Arc<Plan>, call: Call, path: Path) -> Result<(), AllocError>
     ensures ok { OnOk result (arc_value plan.new ≡ arc_value plan.old ++ (call, path) ∷ []) }
     ensures err { OnErr result (arc_value plan.new ≡ arc_value plan.old) }
@@ -264,7 +264,8 @@ impl Plot for MemGround {
         self.count
     }
 
-    /// Makes an empty directory without a time. It fails exactly where that is planned, before any other refusal, and changes nothing then.
+    /// Makes an empty directory without a time. It fails exactly if that is planned, before any other refusal, and changes
+    /// nothing then.
     fn make_dir(&mut self, alloc: Global, path: &Path) -> Result<(), WriteError>
         requires { IsTrue (is_open self.old.area path.now) }
         ensures acts { Acts Call.MakeDir path.now (make_refusal self.old.area self.old.files path.now) (map.insert self.old.files path.now empty_dir) self.old result self.new }
@@ -276,7 +277,7 @@ impl Plot for MemGround {
         self.make(Call::MakeDir, path, folder(0, None))
     }
 
-    /// Makes an empty file without a time. It fails exactly where that is planned, before any other refusal, and changes nothing then.
+    /// Makes an empty file without a time. It fails exactly if that is planned, before any other refusal, and changes nothing then.
     fn make_file(&mut self, alloc: Global, path: &Path) -> Result<(), WriteError>
         requires { IsTrue (is_open self.old.area path.now) }
         ensures acts { Acts Call.MakeFile path.now (make_refusal self.old.area self.old.files path.now) (map.insert self.old.files path.now (new_file [])) self.old result self.new }
@@ -289,7 +290,8 @@ impl Plot for MemGround {
         self.make(Call::MakeFile, path, Node { body, mtime: None })
     }
 
-    /// Makes a link with this text, without a time. It fails exactly where that is planned, before any other refusal, and changes nothing then.
+    /// Makes a link with this text, without a time. It fails exactly if that is planned, before any other refusal, and changes
+    /// nothing then.
     fn make_link(&mut self, alloc: Global, path: &Path, text: &LinkText) -> Result<(), WriteError>
         requires { IsTrue (is_open self.old.area path.now) }
         ensures acts { Acts Call.MakeLink path.now (make_refusal self.old.area self.old.files path.now) (map.insert self.old.files path.now (new_link text.now)) self.old result self.new }
@@ -299,7 +301,7 @@ impl Plot for MemGround {
         ensures cause { IsErrOf result WriteError.Failed → RoseBy 1 self.old.count self.new.count }
     {
         let Ok(text) = text.copy() else {
-            // a planned fault comes before want of memory
+            // a planned fault comes before out of memory
             if self.fails(Call::MakeLink, path) {
                 return Err(WriteError::Failed);
             }
@@ -309,7 +311,8 @@ impl Plot for MemGround {
         self.make(Call::MakeLink, path, Node { body, mtime: None })
     }
 
-    /// Writes bytes over those of a file from a place on, and past its end. It fails exactly where that is planned, before any other refusal, and changes nothing then.
+    /// Writes bytes over those of a file from a place on, also past its end. It fails exactly if that is planned, before any other
+    /// refusal, and changes nothing then.
     fn write_at(
         &mut self,
         alloc: Global,
@@ -335,7 +338,7 @@ impl Plot for MemGround {
         Ok(())
     }
 
-    /// Removes what is no directory. It fails exactly where that is planned, before any other refusal, and changes nothing then.
+    /// Removes a node that is not a directory. It fails exactly if that is planned, before any other refusal, and changes nothing then.
     fn remove_file(&mut self, alloc: Global, path: &Path) -> Result<(), WriteError>
         requires { IsTrue (is_open self.old.area path.now) }
         ensures acts { Acts Call.RemoveFile path.now (remove_file_refusal (map.get self.old.files path.now)) (map.remove self.old.files path.now) self.old result self.new }
@@ -354,7 +357,7 @@ impl Plot for MemGround {
         Ok(())
     }
 
-    /// Removes an empty directory. It fails exactly where that is planned, before any other refusal, and changes nothing then.
+    /// Removes an empty directory. It fails exactly if that is planned, before any other refusal, and changes nothing then.
     fn remove_dir(&mut self, alloc: Global, path: &Path) -> Result<(), WriteError>
         requires { IsTrue (is_open self.old.area path.now) }
         ensures acts { Acts Call.RemoveDir path.now (remove_dir_refusal self.old.files path.now) (map.remove self.old.files path.now) self.old result self.new }
@@ -379,8 +382,8 @@ impl Ground for MemGround {
 
     type Part = MemPart;
 
-    /// It shares the nodes and the plan with the reader. A later call that changes them copies them first. Of a part that is
-    /// out the reader tells nothing.
+    /// It shares the nodes and the plan with the reader. A later call that changes them copies them first. The reader shows nothing
+    /// of a part that is out.
     fn reader(&mut self, alloc: Global) -> Result<MemReader, OutOfMemory>
         ensures valid { IsTree self.old.files }
         ensures made { IfOk result (λ reader. reader ≡ record self.old { count = 0; area = nothing_lent }) }
@@ -398,8 +401,8 @@ impl Ground for MemGround {
         self.count = self.count.saturating_add(reader.faults());
     }
 
-    /// It moves what stands at and under the tops to the part, and makes the place for what comes back. It costs as much as
-    /// these nodes are, and not all, unless a reader is out.
+    /// It moves the nodes at and under the tops to the part, and makes the place for their return. It costs these nodes, and not
+    /// all, unless a reader is out.
     fn lease(&mut self, alloc: Global, tops: &[Path]) -> Result<MemPart, OutOfMemory>
         requires tops { CanLease self.old.area tops.now }
         requires parents { HaveParents tops.now self.old.files }
@@ -412,7 +415,7 @@ impl Ground for MemGround {
         Ok(MemPart::make(store, tops, plan))
     }
 
-    /// The part waits in its place, and is joined by the next call that may find no memory.
+    /// The part waits in its place until the next call that may run out of memory joins it.
     fn give_back(&mut self, part: MemPart)
         requires { IsTrue (is_out part.area self.old.area) }
         ensures joins { Joins (tops_of part.area) part.files self.old.files self.new.files }
@@ -428,7 +431,7 @@ impl Ground for MemGround {
 impl Wide for MemGround {
     type Span = MemSpan;
 
-    /// It fails exactly where that is planned, before it looks for memory, and changes nothing then. It takes the memory of the spans,
+    /// It fails exactly if that is planned, before it takes memory, and changes nothing then. It takes the memory of the spans,
     /// and that of the whole file for when they come back.
     fn lease_spans(
         &mut self,
@@ -452,7 +455,7 @@ impl Wide for MemGround {
         self.cut(alloc, path, cuts, true)
     }
 
-    /// The file waits in its place, as a part that came back does.
+    /// The file waits in its place, as a part does that came back.
     fn give_back_spans(&mut self, path: &Path, spans: Vec<MemSpan>)
         requires pieces { option_map (pieces path.now) (cuts_in path.now self.old.area) ≡ Some (list_map piece_of spans.items) }
         requires tells { All (λ span. is_some (held_by span) ≡ true) spans.items }

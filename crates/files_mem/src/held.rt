@@ -1,4 +1,4 @@
-//! What a ground keeps while parts of it are out.
+//! The state of a ground while parts of it are out.
 ghost use Rattle.std.specs.Prelude.{◌≡◌, ◌<◌, ◌≤◌, ◌+◌, ◌++◌, ◌∷◌, [], ℕ, List, Some, None, true, false, length, map as list_map, OnOk, OnErr, IfOk, slice_get, IsTrue};
 ghost use Rattle.std.specs.Vec.{vec_len, vec_capacity};
 ghost use Rattle.std.specs.Arc.{arc_value};
@@ -45,8 +45,8 @@ impl Model for Returned {
     ghost view = { λ r. record { tops = r.tops; files = r.store } };
 }
 
-/// The nodes that a ground keeps, the tops of the parts that are out, and the files that are out in spans. What comes back waits
-/// in a place that was made when it was lent, so that it takes no memory, and is joined by the next call that may find none.
+/// The nodes that a ground keeps, the tops of the parts that are out, and the files that are out in spans. A part or file that
+/// comes back waits, without memory, in a place that its lease made. The next call that may run out of memory joins it.
 #[derive(Drop)]
 pub struct Held {
     store: Arc<Store>,
@@ -71,7 +71,7 @@ impl Model for Held {
 }
 
 impl Held {
-    /// These nodes, of which nothing is out.
+    /// These nodes, with nothing out.
     pub fn make(alloc: Global, store: Store) -> Result<Held, AllocError>
         ensures { IfOk result (λ made. made ≡ record { files = store; out = []; cut = [] }) }
     {
@@ -83,7 +83,7 @@ impl Held {
         })
     }
 
-    /// The nodes, all that came back among them, for a reader to share.
+    /// The nodes, with all that came back, for a reader to share.
     pub fn store(&mut self, alloc: Global) -> Result<Arc<Store>, OutOfMemory>
         ensures told { IfOk result (λ store. arc_value store ≡ self.old.files) }
         ensures same { self.new ≡ self.old }
@@ -105,7 +105,7 @@ impl Held {
         self.store.put_refusal(alloc, path, false)
     }
 
-    /// Why bytes can't be written to what is at the path.
+    /// Why bytes can't be written to the node at the path.
     pub fn write_refusal(
         &mut self,
         alloc: Global,
@@ -118,7 +118,7 @@ impl Held {
         Ok(self.store.write_refusal(path))
     }
 
-    /// Why what is at the path can't be removed as no directory.
+    /// Why the node at the path can't be removed by `remove_file`.
     pub fn remove_file_refusal(
         &mut self,
         alloc: Global,
@@ -131,7 +131,7 @@ impl Held {
         Ok(self.store.remove_file_refusal(path))
     }
 
-    /// Why what is at the path can't be removed as an empty directory.
+    /// Why the node at the path can't be removed as an empty directory.
     pub fn remove_dir_refusal(
         &mut self,
         alloc: Global,
@@ -144,7 +144,7 @@ impl Held {
         self.store.remove_dir_refusal(alloc, path)
     }
 
-    /// Puts a node at the path, in place of what is there.
+    /// Puts a node at the path, in place of any that is there.
     pub fn put(&mut self, alloc: Global, path: Path, node: Node) -> Result<(), OutOfMemory>
         ensures ok { OnOk result (self.new ≡ record self.old { files = map.insert self.old.files path (node_of node) }) }
         ensures err { OnErr result (self.new ≡ self.old) }
@@ -154,7 +154,7 @@ impl Held {
         Ok(())
     }
 
-    /// Writes bytes over those of the file at the path from a place on, and past its end.
+    /// Writes bytes over those of the file at the path from a place on, also past its end.
     pub fn write(
         &mut self,
         alloc: Global,
@@ -172,7 +172,7 @@ impl Held {
         Ok(())
     }
 
-    /// Removes what is at the path.
+    /// Removes the node at the path.
     pub fn take(&mut self, alloc: Global, path: &Path) -> Result<(), OutOfMemory>
         ensures ok { OnOk result (self.new ≡ record self.old { files = map.remove self.old.files path.now }) }
         ensures err { OnErr result (self.new ≡ self.old) }
@@ -182,7 +182,7 @@ impl Held {
         Ok(())
     }
 
-    /// Takes what stands at and under the tops away, for a part, and makes a place for what comes back.
+    /// Takes the nodes at and under the tops away, for a part, and makes a place for their return.
     pub fn lease(&mut self, alloc: Global, tops: &[Path]) -> Result<(Store, Tops), OutOfMemory>
         ensures part { IfOk result (λ part. part.0 ≡ leased tops.now self.old.files) }
         ensures tops { IfOk result (λ part. part.1 ≡ tops.now) }
@@ -204,7 +204,7 @@ impl Held {
         put_back(&mut self.back, Returned { tops, store });
     }
 
-    /// Takes an empty file away, for spans that have room here, and makes a place for what comes back.
+    /// Takes an empty file away, for spans that have room here, and makes a place for its return.
     pub fn cut_out(
         &mut self,
         alloc: Global,
@@ -240,7 +240,7 @@ impl Held {
     }
 }
 
-// Joins what came back with what is kept, and what is told stays, also after a refusal.
+// Joins the parts that came back with the nodes kept. The answers stay the same, also after a refusal.
 fn settle(
     alloc: Global,
     store: &mut Arc<Store>,
@@ -259,7 +259,7 @@ fn settle(
     Ok(())
 }
 
-// Lays a part over the nodes, or over a copy of them where readers hold those that are there.
+// Lays a part over the nodes, or over a copy of them if readers hold these.
 fn lay_in(alloc: Global, store: &mut Arc<Store>, part: &Returned) -> Result<(), OutOfMemory>
     ensures ok { OnOk result (arc_value store.new ≡ laid part.now.tops part.now.files (arc_value store.old)) }
     ensures err { OnErr result (laid part.now.tops part.now.files (arc_value store.new) ≡ laid part.now.tops part.now.files (arc_value store.old)) }
@@ -277,7 +277,7 @@ fn put_back(places: &mut Vec<Returned>, part: Returned)
     let _ = places.push(part);
 }
 
-// The writes go into a copy of the nodes where readers hold those that are there.
+// The writes go into a copy of the nodes if readers hold these.
 
 fn put_in(store: &mut Arc<Store>, path: Path, node: Node) -> Result<(), AllocError>
     ensures ok { OnOk result (arc_value store.new ≡ map.insert (arc_value store.old) path (node_of node)) }

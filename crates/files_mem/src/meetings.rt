@@ -4,10 +4,10 @@ use std::sync::atomic::AtomicBool;
 use std::sync::atomic::Ordering::SeqCst;
 use std::thread::yield_now;
 
-/// How often a look asks whether the other one came.
+/// The largest number of times that a look asks whether the other one came.
 const MOST: u32 = 10_000_000;
 
-/// After so many times another thread may run.
+/// After how many looks another thread may run.
 const TURN: u32 = 1_000;
 
 /// Two paths, and whether each was looked at.
@@ -30,8 +30,8 @@ impl Meeting {
         }
     }
 
-    /// Tells that this path is looked at, and whether the other one is too, or was before. A path that is none of the two waits
-    /// for none.
+    /// Notes a look at this path, and answers whether the other one is looked at too, or was before. A path that is neither of the two
+    /// waits for none.
     pub fn meets(&self, path: &Path) -> bool {
         let is_one = self.one == *path;
         let is_other = self.other == *path;
@@ -51,7 +51,7 @@ impl Meeting {
     }
 }
 
-// Whether the flag is set, or is set soon.
+// Whether the flag is set, now or soon.
 fn comes(flag: &AtomicBool) -> bool {
     for look in 0..MOST {
         if flag.load(SeqCst) {

@@ -1,4 +1,4 @@
-//! What stands at a path.
+//! The nodes of a tree, without their paths.
 ghost use Rattle.std.specs.Prelude.{◌≡◌, ◌≤◌, true, false, length, OnOk, OnErr, IfSome, IfNone};
 ghost use Rattle.outside.specs.Tree.{stat_of, is_dir_body, is_file_body, bytes_of, file};
 ghost use Rattle.outside.specs.Writes.{spliced};
@@ -7,7 +7,7 @@ ghost use Rattle.files_mem.specs.Stored.{body_of, node_of};
 use outside::{Kind, LinkText, Stat};
 use std::alloc::AllocError;
 
-/// What a node is, with what it holds.
+/// The kind of a node, with its contents.
 #[derive(Drop)]
 pub enum Body {
     /// A directory, with the number of children whose path would be too long.
@@ -20,7 +20,7 @@ pub enum Body {
     Other,
 }
 
-/// What stands at a path.
+/// A node: its body and its time.
 #[derive(Drop)]
 pub struct Node {
     pub body: Body,
@@ -28,7 +28,7 @@ pub struct Node {
 }
 
 impl Node {
-    /// What is told of it without its bytes.
+    /// Its kind, size and time, as `stat` answers them.
     pub fn stat(&self) -> Stat
         ensures { result ≡ stat_of (node_of self.now) }
     {
@@ -64,7 +64,7 @@ impl Node {
         }
     }
 
-    /// Writes bytes over those of a file from a place on, and past its end. A refusal changes nothing.
+    /// Writes bytes over those of a file from a place on, also past its end. A refusal changes nothing.
     pub fn write(&mut self, at: usize, bytes: &[u8]) -> Result<(), AllocError>
         requires file { is_file_body (body_of self.old.body) ≡ true }
         requires place { at ≤ length (bytes_of (body_of self.old.body)) }
@@ -87,7 +87,7 @@ impl Node {
     }
 }
 
-// Puts bytes over others from a place on, and past their end.
+// Puts bytes over others from a place on, also past their end.
 fn splice(old: &mut Vec<u8>, at: usize, bytes: &[u8]) -> Result<(), AllocError>
     requires { at ≤ length old.old.items }
     ensures ok { OnOk result (old.new.items ≡ spliced old.old.items at bytes.now) }

@@ -1,4 +1,4 @@
-//! Parts of files in memory, lent out.
+//! Parts of files in memory that are lent.
 ghost use Rattle.std.specs.Prelude.{◌≡◌, [], Some, None, IsTrue, IfErr, IsErrOf};
 ghost use Rattle.std.specs.Arc.{arc_value};
 ghost use Rattle.std.specs.FinMap as map;
@@ -20,7 +20,7 @@ use std::alloc::Global;
 use std::marker::Model;
 use std::sync::Arc;
 
-/// A part of files in memory, which tells its nodes: what stands at and under its tops. It is seen as its ground is.
+/// A part of files in memory. It tells its nodes, those at and under its tops, and is seen as its ground is.
 #[derive(Drop)]
 pub struct MemPart {
     store: Store,
@@ -66,14 +66,14 @@ impl MemPart {
         (self.store, self.tops)
     }
 
-    // What stands at the path, whatever is planned.
+    // The kind, size and time of the node at the path, whatever is planned.
     pub(crate) fn look(&self, path: &Path) -> Option<Stat>
         ensures { result ≡ option_map stat_of (map.get self.now.files path.now) }
     {
         self.store.stat(path)
     }
 
-    // Whether the call is to fail at the path. Where it is, that is counted.
+    // Whether the call is planned to fail at the path. If so, it counts as a fault.
     fn fails(&mut self, call: Call, path: &Path) -> bool
         ensures planned { result ≡ is_planned call path.now self.old.planned }
         ensures counted { self.new ≡ answered (is_planned call path.now self.old.planned) self.old }
@@ -87,7 +87,7 @@ impl MemPart {
         planned
     }
 
-    // Makes a node, as the calls do that write.
+    // Makes a node, for the calls that write.
     fn make_node(
         &mut self,
         alloc: Global,
@@ -101,7 +101,7 @@ impl MemPart {
         ensures count { RoseBy 0 self.old.count self.new.count }
         ensures cause { IsErrOf result WriteError.Failed → RoseBy 1 self.old.count self.new.count }
     {
-        let _ = path.text(); // tells that it is a path
+        let _ = path.text(); // gives the proof that it is a path
         if self.fails(call, path) {
             return Err(WriteError::Failed);
         }
@@ -134,7 +134,8 @@ impl Plot for MemPart {
         self.count
     }
 
-    /// Makes an empty directory without a time. It fails exactly where that is planned, before any other refusal, and changes nothing then.
+    /// Makes an empty directory without a time. It fails exactly if that is planned, before any other refusal, and changes
+    /// nothing then.
     fn make_dir(&mut self, alloc: Global, path: &Path) -> Result<(), WriteError>
         requires { IsTrue (is_open self.old.area path.now) }
         ensures acts { Acts Call.MakeDir path.now (make_refusal self.old.area self.old.files path.now) (map.insert self.old.files path.now empty_dir) self.old result self.new }
@@ -147,7 +148,7 @@ impl Plot for MemPart {
         self.make_node(alloc, Call::MakeDir, path, Node { body, mtime: None })
     }
 
-    /// Makes an empty file without a time. It fails exactly where that is planned, before any other refusal, and changes nothing then.
+    /// Makes an empty file without a time. It fails exactly if that is planned, before any other refusal, and changes nothing then.
     fn make_file(&mut self, alloc: Global, path: &Path) -> Result<(), WriteError>
         requires { IsTrue (is_open self.old.area path.now) }
         ensures acts { Acts Call.MakeFile path.now (make_refusal self.old.area self.old.files path.now) (map.insert self.old.files path.now (new_file [])) self.old result self.new }
@@ -160,7 +161,8 @@ impl Plot for MemPart {
         self.make_node(alloc, Call::MakeFile, path, Node { body, mtime: None })
     }
 
-    /// Makes a link with this text, without a time. It fails exactly where that is planned, before any other refusal, and changes nothing then.
+    /// Makes a link with this text, without a time. It fails exactly if that is planned, before any other refusal, and changes
+    /// nothing then.
     fn make_link(&mut self, alloc: Global, path: &Path, text: &LinkText) -> Result<(), WriteError>
         requires { IsTrue (is_open self.old.area path.now) }
         ensures acts { Acts Call.MakeLink path.now (make_refusal self.old.area self.old.files path.now) (map.insert self.old.files path.now (new_link text.now)) self.old result self.new }
@@ -170,7 +172,7 @@ impl Plot for MemPart {
         ensures cause { IsErrOf result WriteError.Failed → RoseBy 1 self.old.count self.new.count }
     {
         let Ok(text) = text.copy() else {
-            // a planned fault comes before want of memory
+            // a planned fault comes before out of memory
             if self.fails(Call::MakeLink, path) {
                 return Err(WriteError::Failed);
             }
@@ -180,7 +182,8 @@ impl Plot for MemPart {
         self.make_node(alloc, Call::MakeLink, path, Node { body, mtime: None })
     }
 
-    /// Writes bytes over those of a file from a place on, and past its end. It fails exactly where that is planned, before any other refusal, and changes nothing then.
+    /// Writes bytes over those of a file from a place on, also past its end. It fails exactly if that is planned, before any other
+    /// refusal, and changes nothing then.
     fn write_at(
         &mut self,
         alloc: Global,
@@ -206,7 +209,7 @@ impl Plot for MemPart {
         Ok(())
     }
 
-    /// Removes what is no directory. It fails exactly where that is planned, before any other refusal, and changes nothing then.
+    /// Removes a node that is not a directory. It fails exactly if that is planned, before any other refusal, and changes nothing then.
     fn remove_file(&mut self, alloc: Global, path: &Path) -> Result<(), WriteError>
         requires { IsTrue (is_open self.old.area path.now) }
         ensures acts { Acts Call.RemoveFile path.now (remove_file_refusal (map.get self.old.files path.now)) (map.remove self.old.files path.now) self.old result self.new }
@@ -225,7 +228,7 @@ impl Plot for MemPart {
         Ok(())
     }
 
-    /// Removes an empty directory. It fails exactly where that is planned, before any other refusal, and changes nothing then.
+    /// Removes an empty directory. It fails exactly if that is planned, before any other refusal, and changes nothing then.
     fn remove_dir(&mut self, alloc: Global, path: &Path) -> Result<(), WriteError>
         requires { IsTrue (is_open self.old.area path.now) }
         ensures acts { Acts Call.RemoveDir path.now (remove_dir_refusal self.old.files path.now) (map.remove self.old.files path.now) self.old result self.new }

@@ -1,4 +1,4 @@
-//! The calls that are to fail.
+//! The calls that are planned to fail.
 ghost use Rattle.std.specs.Prelude.{◌≡◌, ◌==◌, ◌&&◌, ◌++◌, ◌∷◌, [], nat_eq, OnOk, OnErr};
 ghost use Rattle.std.specs.List.{list_any};
 ghost use Rattle.std.specs.Cmp.Lexicographic.{pointwise};
@@ -15,7 +15,7 @@ pub enum Call {
     Stat,
     /// `list` answers `Failed`.
     List,
-    /// `list` answers that one name is no text.
+    /// `list` answers that one name is not a text.
     Name,
     /// `read` answers `Failed`.
     Read,
@@ -37,7 +37,7 @@ pub enum Call {
     Spans,
 }
 
-/// The calls that are to fail, each with its path.
+/// The calls that are planned to fail, each with its path.
 #[derive(Drop)]
 pub struct Plan {
     calls: Vec<(Call, Path)>,
@@ -74,12 +74,12 @@ impl Plan {
         }
     }
 
-    /// Where its memory comes from.
+    /// The allocator of its memory.
     pub fn allocator(&self) -> Global {
         *self.calls.allocator()
     }
 
-    /// Whether the call is to fail at the path.
+    /// Whether the call is planned to fail at the path.
     pub fn has(&self, call: Call, path: &Path) -> bool
         ensures { result ≡ is_planned call path.now self.now }
     {
@@ -88,7 +88,7 @@ impl Plan {
             .any(|planned| planned.0 == call && planned.1 == *path)
     }
 
-    /// One more call. A refusal leaves the others.
+    /// Adds a call. A refusal leaves the others.
     pub fn add(&mut self, call: Call, path: Path) -> Result<(), AllocError>
         ensures ok { OnOk result (self.new ≡ self.old ++ (call, path) ∷ []) }
         ensures err { OnErr result (self.new ≡ self.old) }

@@ -17,7 +17,7 @@ use std::alloc::Global;
 use std::marker::Model;
 use std::sync::Arc;
 
-/// A reader of the files as they were when the ground made it. Its count is of its own faults alone.
+/// A reader of the files as they were when the ground made it. It counts its own faults alone.
 #[derive(Drop)]
 pub struct MemReader {
     store: Arc<Store>,
@@ -53,7 +53,7 @@ impl MemReader {
         }
     }
 
-    // Whether the call is to fail at the path. Where it is, that is counted.
+    // Whether the call is planned to fail at the path. If so, it counts as a fault.
     fn fails(&mut self, call: Call, path: &Path) -> bool
         ensures planned { result ≡ is_planned call path.now self.old.planned }
         ensures counted { self.new ≡ answered (is_planned call path.now self.old.planned) self.old }
@@ -77,7 +77,7 @@ impl Tree for MemReader {
         self.count
     }
 
-    /// Fails exactly where that is planned, which is all that it counts.
+    /// Fails exactly if that is planned, and counts only that.
     fn stat(&mut self, path: &Path) -> Result<Option<Stat>, Failed>
         ensures valid { IsTree self.old.files }
         ensures planned { IsErr result ↔ IsTrue (is_planned Call.Stat path.now self.old.planned) }
@@ -87,14 +87,14 @@ impl Tree for MemReader {
         ensures ok { OnOk result (RoseBy 0 self.old.count self.new.count) }
         ensures cause { OnErr result (RoseBy 1 self.old.count self.new.count) }
     {
-        let _ = &self.store; // tells that it is a tree
+        let _ = &self.store; // gives the proof that it is a tree
         if self.fails(Call::Stat, path) {
             return Err(Failed);
         }
         Ok(self.store.stat(path))
     }
 
-    /// Fails exactly where that is planned, before any other refusal. A name that is no text is planned too.
+    /// Fails exactly if that is planned, before any other refusal. Names that are not texts are planned too.
     fn list(&mut self, alloc: Global, path: &Path) -> Result<Listing, ListError>
         ensures valid { IsTree self.old.files }
         ensures planned { IsErrOf result ListError.Failed ↔ IsTrue (is_planned Call.List path.now self.old.planned) }
@@ -108,7 +108,7 @@ impl Tree for MemReader {
         ensures cause { IsErrOf result ListError.Failed → RoseBy 1 self.old.count self.new.count }
         ensures err { OnErr result (RoseBy 0 self.old.count self.new.count) }
     {
-        let _ = &self.store; // tells that it is a tree
+        let _ = &self.store; // gives the proof that it is a tree
         if self.fails(Call::List, path) {
             return Err(ListError::Failed);
         }
@@ -123,8 +123,8 @@ impl Tree for MemReader {
         Ok(listing)
     }
 
-    /// Reads as much as is there and fits. It fails exactly where that is planned, before any other refusal. What `into` holds
-    /// behind the bytes read, and all of it after a refusal, is as before.
+    /// Reads as many bytes as are there and fit. It fails exactly if that is planned, before any other refusal. The bytes of `into`
+    /// after those read stay as before, and after a refusal all of them do.
     fn read(&mut self, path: &Path, at: u64, into: &mut [u8]) -> Result<usize, ReadError>
         ensures valid { IsTree self.old.files }
         ensures planned { IsErrOf result ReadError.Failed ↔ IsTrue (is_planned Call.Read path.now self.old.planned) }
@@ -137,7 +137,7 @@ impl Tree for MemReader {
         ensures cause { IsErrOf result ReadError.Failed → RoseBy 1 self.old.count self.new.count }
         ensures count { RoseBy 0 self.old.count self.new.count }
     {
-        let _ = &self.store; // tells that it is a tree
+        let _ = &self.store; // gives the proof that it is a tree
         if self.fails(Call::Read, path) {
             return Err(ReadError::Failed);
         }
@@ -147,7 +147,7 @@ impl Tree for MemReader {
         }
     }
 
-    /// The text of the link at the path. It fails exactly where that is planned, before any other refusal.
+    /// The text of the link at the path. It fails exactly if that is planned, before any other refusal.
     fn read_link(&mut self, alloc: Global, path: &Path) -> Result<LinkText, LinkError>
         ensures valid { IsTree self.old.files }
         ensures planned { IsErrOf result LinkError.Failed ↔ IsTrue (is_planned Call.ReadLink path.now self.old.planned) }
@@ -157,7 +157,7 @@ impl Tree for MemReader {
         ensures cause { IsErrOf result LinkError.Failed → RoseBy 1 self.old.count self.new.count }
         ensures count { RoseBy 0 self.old.count self.new.count }
     {
-        let _ = &self.store; // tells that it is a tree
+        let _ = &self.store; // gives the proof that it is a tree
         if self.fails(Call::ReadLink, path) {
             return Err(LinkError::Failed);
         }

@@ -12,8 +12,8 @@ use path_text::{OutOfMemory, Path};
 use std::alloc::Global;
 use std::marker::Model;
 
-/// A span of a file in memory: seen as the path of its file, where it begins there, its bytes, whether it tells them, whether its
-/// writes are planned to fail, and its count of faults. It tells its bytes where its ground tells its tree.
+/// A span of a file in memory. It is seen as its file's path, its start there, its bytes, whether it tells them, whether its
+/// writes fail, and its count of faults. It tells its bytes where its ground tells its tree.
 #[derive(Drop)]
 pub struct MemSpan {
     path: Path,
@@ -75,7 +75,7 @@ impl Span for MemSpan {
         self.count
     }
 
-    /// It fails exactly where that is planned, and changes nothing then.
+    /// It fails exactly if that is planned, and changes nothing then.
     fn write(&mut self, at: u64, bytes: &[u8]) -> Result<(), SpanError>
         requires { at + length bytes.now ≤ length self.old.bytes }
         ensures ok { OnOk result (self.new ≡ record self.old { bytes = spliced self.old.bytes at bytes.now }) }
@@ -103,7 +103,7 @@ fn put_over(old: &mut Vec<u8>, at: usize, bytes: &[u8])
     old[at..at + bytes.len()].copy_from_slice(bytes);
 }
 
-/// A span for each two neighbouring cuts.
+/// Makes a span for each two neighbouring cuts.
 pub(crate) fn spans_of(
     alloc: Global,
     path: &Path,

@@ -73,7 +73,7 @@ impl Store {
         self.map.get(path)
     }
 
-    /// What is told of the node at the path.
+    /// The kind, size and time of the node at the path.
     pub fn stat(&self, path: &Path) -> Option<Stat>
         ensures { result ≡ option_map stat_of (map.get self.now path.now) }
     {
@@ -92,7 +92,7 @@ impl Store {
         }
     }
 
-    /// Of a directory the number of children whose path would be too long; `None` of all else.
+    /// For a directory, the number of children whose path would be too long; `None` for anything else.
     pub fn far(&self, path: &Path) -> Option<u64>
         ensures { result ≡ dir_far (map.get self.now path.now) }
     {
@@ -105,17 +105,17 @@ impl Store {
         }
     }
 
-    /// Puts a node at the path, in place of what is there. A refusal changes nothing.
+    /// Puts a node at the path, in place of any that is there. A refusal changes nothing.
     pub fn put(&mut self, path: Path, node: Node) -> Result<(), AllocError>
         ensures ok { OnOk result (self.new ≡ map.insert self.old path (node_of node)) }
         ensures err { OnErr result (self.new ≡ self.old) }
     {
-        let _ = path.text(); // tells that it is a path
+        let _ = path.text(); // gives the proof that it is a path
         self.map.insert(path, node)?;
         Ok(())
     }
 
-    /// Whether a directory stands over the path.
+    /// Whether the parent of the path is a directory.
     fn has_parent(&self, alloc: Global, path: &Path) -> Result<bool, OutOfMemory>
         ensures { IfOk result (λ has. has ≡ is_dir (map.get self.now (parent_of path.now))) }
     {
@@ -149,7 +149,7 @@ impl Store {
         Ok(Some(PutError::NoParent))
     }
 
-    /// Why bytes can't be written to what is at the path.
+    /// Why bytes can't be written to the node at the path.
     pub fn write_refusal(&self, path: &Path) -> Option<WriteError>
         ensures { result ≡ write_refusal (map.get self.now path.now) }
     {
@@ -162,7 +162,7 @@ impl Store {
         }
     }
 
-    /// Why what is at the path can't be removed as no directory.
+    /// Why the node at the path can't be removed by `remove_file`.
     pub fn remove_file_refusal(&self, path: &Path) -> Option<WriteError>
         ensures { result ≡ remove_file_refusal (map.get self.now path.now) }
     {
@@ -178,7 +178,7 @@ impl Store {
         }
     }
 
-    /// Why what is at the path can't be removed as an empty directory.
+    /// Why the node at the path can't be removed as an empty directory.
     pub fn remove_dir_refusal(
         &self,
         alloc: Global,
@@ -200,8 +200,8 @@ impl Store {
         }
     }
 
-    /// Reads the file at the path from a place on, as much as there is room for and bytes are there; `None` of all else, and
-    /// then the buffer is as before.
+    /// Reads the file at the path from a place on, as many bytes as are there and have room. It answers `None` for anything else, and
+    /// the buffer is then as before.
     pub fn read(&self, path: &Path, at: u64, into: &mut [u8]) -> Option<usize>
         ensures file { IfSome result (λ n. FillsFrom (map.get self.now path.now) at into.old into.new n) }
         ensures other { IfNone result (is_file (map.get self.now path.now) ≡ false) }
@@ -216,7 +216,7 @@ impl Store {
         }
     }
 
-    /// The text of the link at the path; `None` of all else.
+    /// The text of the link at the path; `None` for anything else.
     pub fn link(&self, path: &Path) -> Option<&LinkText>
         ensures { option_copied result ≡ link_at (map.get self.now path.now) }
     {
@@ -229,7 +229,7 @@ impl Store {
         }
     }
 
-    /// Writes bytes over those of the file at the path from a place on, and past its end. A refusal changes nothing.
+    /// Writes bytes over those of the file at the path from a place on, also past its end. A refusal changes nothing.
     pub fn write(&mut self, path: &Path, at: usize, bytes: &[u8]) -> Result<(), AllocError>
         requires file { is_file (map.get self.old path.now) ≡ true }
         requires place { at ≤ length (content (map.get self.old path.now)) }
@@ -242,7 +242,7 @@ impl Store {
         node.write(at, bytes)
     }
 
-    /// Gives the file at the path other bytes. It takes no memory.
+    /// Gives the file at the path other bytes, without memory.
     pub fn set_bytes(&mut self, path: &Path, bytes: Vec<u8>)
         requires { is_file (map.get self.old path.now) ≡ true }
         ensures { self.new ≡ map.insert self.old path.now (record { body = file bytes.items; mtime = time_of (map.get self.old path.now) }) }
@@ -253,14 +253,14 @@ impl Store {
         node.set_bytes(bytes);
     }
 
-    /// Removes what is at the path.
+    /// Removes the node at the path.
     pub fn take(&mut self, path: &Path)
         ensures { self.new ≡ map.remove self.old path.now }
     {
         let _ = self.map.remove(path);
     }
 
-    /// What stands at and under the tops. It costs as much as that is, and not the whole map.
+    /// A copy of the nodes at and under the tops. It costs these nodes, and not the whole map.
     pub fn leased(&self, alloc: Global, tops: &[Path]) -> Result<Store, OutOfMemory>
         ensures { IfOk result (λ part. part ≡ leased tops.now self.now) }
     {
@@ -269,7 +269,7 @@ impl Store {
         Ok(part)
     }
 
-    /// Removes all that the other has.
+    /// Removes all nodes that the other has.
     pub fn take_all(&mut self, other: &Store)
         ensures { (q : List ℕ) → map.get self.new q ≡ (if is_some (map.get other.now q) then None else map.get self.old q) }
     {
@@ -279,7 +279,7 @@ impl Store {
         }
     }
 
-    /// Takes what stands at and under the tops away, for a part. A refusal changes nothing.
+    /// Takes the nodes at and under the tops away, for a part. A refusal changes nothing.
     pub fn divide(
         &mut self,
         alloc: Global,
@@ -300,7 +300,7 @@ impl Store {
         Ok((part, theirs))
     }
 
-    /// Lays a part over it: at and under the tops what the part has, and nothing else. After a refusal the same may be done again.
+    /// Lays a part over it: at and under the tops come the nodes of the part, and nothing else. A call that is refused can be repeated.
     pub fn lay(&mut self, alloc: Global, tops: &[Path], part: &Store) -> Result<(), OutOfMemory>
         ensures ok { OnOk result (self.new ≡ laid tops.now part.now self.old) }
         ensures err { OnErr result (laid tops.now part.now self.new ≡ laid tops.now part.now self.old) }
@@ -310,7 +310,7 @@ impl Store {
         part.copy_tops(tops, self)
     }
 
-    // Copies what stands at and under the tops into the other.
+    // Copies the nodes at and under the tops into the other.
     fn copy_tops(&self, tops: &[Path], into: &mut Store) -> Result<(), OutOfMemory>
         ensures ok { OnOk result ((q : List ℕ) → map.get into.new q ≡ copied (in_tops tops.now q) (map.get self.now q) (map.get into.old q)) }
         ensures err { OnErr result ((q : List ℕ) → in_tops tops.now q ≡ false → map.get into.new q ≡ map.get into.old q) }
@@ -321,12 +321,12 @@ impl Store {
         Ok(())
     }
 
-    // Copies what stands at and under the top into the other.
+    // Copies the nodes at and under the top into the other.
     fn copy_top(&self, top: &Path, into: &mut Store) -> Result<(), OutOfMemory>
         ensures ok { OnOk result ((q : List ℕ) → map.get into.new q ≡ copied (is_within q top.now) (map.get self.now q) (map.get into.old q)) }
         ensures err { OnErr result ((q : List ℕ) → is_within q top.now ≡ false → map.get into.new q ≡ map.get into.old q) }
     {
-        let _ = top.text(); // tells that it is a path
+        let _ = top.text(); // gives the proof that it is a path
         let mut entries = child_names::from(&self.map, top);
         while let Some((key, node)) = entries.next() {
             if !key.is_within(top) {
@@ -345,7 +345,7 @@ impl Store {
     }
 }
 
-/// Divides the nodes, or a copy of them where readers hold those that are there.
+/// Divides the nodes, or a copy of them if readers hold these.
 pub fn divide(
     alloc: Global,
     store: &mut Arc<Store>,
@@ -363,7 +363,7 @@ pub fn divide(
     Arc::make_mut(store)?.divide(alloc, lent, tops)
 }
 
-// The text of the path over this one.
+// The text of the parent's path.
 fn parent_text(path: &Path) -> &str
     ensures { result.now ≡ parent_of path.now }
 {
@@ -375,7 +375,7 @@ fn parent_text(path: &Path) -> &str
     }
 }
 
-// Fills the front of a buffer with the bytes from a place on, and answers how many.
+// Fills a buffer from its start with the bytes from a place on, and answers how many it copied.
 fn fill(bytes: &[u8], at: u64, into: &mut [u8]) -> usize
     ensures many { result ≡ min (length into.old) (length bytes.now - at) }
     ensures whole { into.new ≡ take result (drop at bytes.now) ++ drop result into.old }

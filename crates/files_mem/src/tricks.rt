@@ -1,41 +1,44 @@
-//! What readers answer in place of what is there.
+//! The false answers of readers.
 use crate::meetings::Meeting;
 use path_text::{OutOfMemory, Path};
 use std::alloc::{AllocError, Global};
 use std::sync::Arc;
 
-/// The paths that are lied about, and the paths that meet. What shares them keeps them as they were.
+/// The paths that are lied about, those whose files swell, and the paths that meet. Those who share them keep them as they were.
 #[derive(Drop)]
 pub struct Tricks {
     lies: Option<Arc<Vec<Path>>>,
+    swells: Option<Arc<Vec<Path>>>,
     meeting: Option<Arc<Meeting>>,
 }
 
 impl Tricks {
-    /// None.
+    /// No paths.
     pub fn none() -> Tricks {
         Tricks {
             lies: None,
+            swells: None,
             meeting: None,
         }
     }
 
-    /// The same ones again.
+    /// A second handle on the same paths.
     pub fn share(&self) -> Result<Tricks, OutOfMemory> {
         Ok(Tricks {
             lies: again(&self.lies)?,
+            swells: again(&self.swells)?,
             meeting: again(&self.meeting)?,
         })
     }
 
-    /// One more lie.
+    /// Adds a path that is lied about.
     pub fn lie(&mut self, alloc: Global, path: &Path) -> Result<(), OutOfMemory> {
-        let path = path.copy()?;
-        match &mut self.lies {
-            Some(lies) => Arc::make_mut(lies)?.push(path)?,
-            None => self.lies = Some(Arc::new(alloc, vec![in alloc; path]?)?),
-        }
-        Ok(())
+        add(&mut self.lies, alloc, path)
+    }
+
+    /// Adds a path whose file swells.
+    pub fn swell(&mut self, alloc: Global, path: &Path) -> Result<(), OutOfMemory> {
+        add(&mut self.swells, alloc, path)
     }
 
     /// These two meet, and no others.
@@ -47,13 +50,15 @@ impl Tricks {
 
     /// Whether the path is lied about.
     pub fn lies(&self, path: &Path) -> bool {
-        match &self.lies {
-            Some(lies) => lies.contains(path),
-            None => false,
-        }
+        has(&self.lies, path)
     }
 
-    /// Waits for the path that this one meets, and tells whether it came.
+    /// Whether the file at the path swells.
+    pub fn swells(&self, path: &Path) -> bool {
+        has(&self.swells, path)
+    }
+
+    /// Waits for a look at the path that this one meets, and answers whether it came.
     pub fn meets(&self, path: &Path) -> bool {
         match &self.meeting {
             Some(meeting) => meeting.meets(path),
@@ -62,7 +67,24 @@ impl Tricks {
     }
 }
 
-// The same value again.
+// Adds a path. Those who share the paths keep them as they were.
+fn add(paths: &mut Option<Arc<Vec<Path>>>, alloc: Global, path: &Path) -> Result<(), OutOfMemory> {
+    let path = path.copy()?;
+    match paths {
+        Some(paths) => Arc::make_mut(paths)?.push(path)?,
+        None => *paths = Some(Arc::new(alloc, vec![in alloc; path]?)?),
+    }
+    Ok(())
+}
+
+fn has(paths: &Option<Arc<Vec<Path>>>, path: &Path) -> bool {
+    match paths {
+        Some(paths) => paths.contains(path),
+        None => false,
+    }
+}
+
+// A second handle on the same value.
 fn again<T>(shared: &Option<Arc<T>>) -> Result<Option<Arc<T>>, AllocError> {
     match shared {
         Some(shared) => Ok(Some(Arc::try_clone(shared)?)),

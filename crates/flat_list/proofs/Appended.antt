@@ -83,7 +83,8 @@ pub all_texts : {ss : List Slim} {os : List Odd} {starts ts begins : List ℕ} {
 all_texts {hs = hs} k = sym (ap length k.texts) ∙ texts_many hs
 
 -- what is kept of two lists of heads
-pub record Both (ss ss' ss'' : List Slim) (os os' os'' : List Odd) (starts starts' starts'' ts ts' ts'' begins begins' begins'' : List ℕ) (base from : ℕ) : Type 0 where
+pub record Both (ss ss' ss'' : List Slim) (os os' os'' : List Odd) (starts starts' starts'' ts ts' ts'' begins begins' begins'' : List ℕ)
+    (base from : ℕ) : Type 0 where
   pub slims : ss'' ≡ ss ++ ss'
   pub odds : os'' ≡ os ++ os'
   pub odds_begin : starts'' ≡ starts ++ map (λ s. base + s) starts'
@@ -107,7 +108,8 @@ slims_both {ss} {ss'} {os} {os'} {starts} {starts'} {ts} {ts'} {begins} {begins'
 heads_same : {ss ss' : List Slim} {os os' : List Odd} {starts starts' ts ts' begins begins' : List ℕ} {hs gs : List Head} →
     IsSlim ss os starts ts begins hs → IsSlim ss' os' starts' ts' begins' gs → heads_of (ss ++ ss') (os ++ os') (ts ++ ts') ≡ hs ++ gs
 heads_same {ss} {ss'} {os} {os'} {starts} {starts'} {ts} {ts'} {begins} {begins'} {hs} {gs} k m =
-    (λ i. heads_of (sym (map-append slim_by hs gs ∙ ap₂ ◌++◌ k.slims m.slims) i) (sym (flat_map-append odds_by hs gs ∙ ap₂ ◌++◌ k.odds m.odds) i)
+    (λ i. heads_of (sym (map-append slim_by hs gs ∙ ap₂ ◌++◌ k.slims m.slims) i)
+    (sym (flat_map-append odds_by hs gs ∙ ap₂ ◌++◌ k.odds m.odds) i)
     (sym (flat_map-append text_by hs gs ∙ ap₂ ◌++◌ k.texts m.texts) i))
     ∙ heads_back (hs ++ gs) (list_all-append (λ (h : Head). is_text h.target) hs gs ∙ ap₂ ◌&&◌ k.valid m.valid)
 

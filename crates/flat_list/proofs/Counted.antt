@@ -1,5 +1,6 @@
 -- The counts of a list, with one entry more whose head is known.
-use Rattle.std.proofs.Common.{◌≡◌, ℕ, zero, suc, ◌+◌, ◌≤◌, Bool, true, false, cond, List, [], ◌∷◌, ◌++◌, length, take, drop, refl, ap, sym, ◌∙◌, arith}
+use Rattle.std.proofs.Common.{◌≡◌, ℕ, zero, suc, ◌+◌, ◌≤◌, Bool, true, false, cond, List, [], ◌∷◌, ◌++◌, length, take, drop, refl}
+use Rattle.std.proofs.Common.{ap, sym, ◌∙◌, arith}
 use Rattle.std.specs.Prelude.{Some, slice_get, is_some, ◌==◌, if◌then◌else◌}
 use Rattle.std.specs.List.{sum_by}
 use Rattle.std.proofs.lemmas.List.{take_more}
@@ -78,7 +79,8 @@ counted_more {old} {new} {h} xs ys path k is more =
     same _ _ _ _ _ _ _ _ _ _ _ _ _ _ items dirs files links others bytes failed ∙ ap summary_of (sym more)
 
 -- the bytes of so many paths, and of one more
-pub bytes_more : (hs : List Head) (k : ℕ) (h : Head) → slice_get hs k ≡ Some h → sum_by path_len (take k hs) + path_len h ≡ sum_by path_len (take (k + 1) hs)
+pub bytes_more : (hs : List Head) (k : ℕ) (h : Head) → slice_get hs k ≡ Some h →
+    sum_by path_len (take k hs) + path_len h ≡ sum_by path_len (take (k + 1) hs)
 bytes_more hs k h is =
     let one : take (k + 1) hs ≡ take k hs ++ h ∷ [] =
     take_more hs k h (slice_get_within hs k h is) ∙ ap (λ (g : Head). take k hs ++ g ∷ []) (get_or_from_slice_get hs k h h is) in

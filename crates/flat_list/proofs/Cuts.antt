@@ -28,7 +28,8 @@ module _ {A : Type 0} where
   none_left r p (x ∷ w) is none = absurd (omega (arith, none))
 
   -- one entry more that waits
-  pub one_waits : (before held w w' : List A) (e : A) → IsPermutation before (held ++ w) → w' ≡ w ++ e ∷ [] → IsPermutation (before ++ e ∷ []) (held ++ w')
+  pub one_waits : (before held w w' : List A) (e : A) → IsPermutation before (held ++ w) → w' ≡ w ++ e ∷ [] →
+      IsPermutation (before ++ e ∷ []) (held ++ w')
   one_waits before held w w' e moved put_one =
       let more = IsPermutation-append_left (e ∷ []) _ _ moved in
       subst (IsPermutation (before ++ e ∷ [])) (append_assoc held w (e ∷ []) ∙ ap (λ xs. held ++ xs) (sym put_one)) more
@@ -56,7 +57,8 @@ module _ {A : Type 0} where
       (subst (λ xs. IsPermutation (held ++ (front ++ e ∷ [])) (held' ++ xs)) (sym left) (passes held held' front e put_one))
 
   -- the last entry that is left goes behind the others
-  pub last_behind : (all left before list list' : List A) (e : A) → IsPermutation all (left ++ list) → left ≡ before ++ e ∷ [] → list' ≡ list ++ e ∷ [] →
+  pub last_behind : (all left before list list' : List A) (e : A) → IsPermutation all (left ++ list) → left ≡ before ++ e ∷ [] →
+      list' ≡ list ++ e ∷ [] →
       IsPermutation all (before ++ list')
   last_behind all left before list list' e moved last put_one =
       let split : left ++ list ≡ before ++ (e ∷ [] ++ list) = ap (λ xs. xs ++ list) last ∙ append_assoc before (e ∷ []) list in
@@ -66,10 +68,12 @@ module _ {A : Type 0} where
   -- the last of some lists goes behind others
   pub taken : (runs runs' : List (List A)) (run all : List A) → runs ≡ runs' ++ run ∷ [] → IsPermutation (flat runs ++ all) (flat runs' ++ (all ++ run))
   taken runs runs' run all is =
-      let split : flat runs ++ all ≡ flat runs' ++ (run ++ all) = ap (λ xs. xs ++ all) (ap flat is ∙ flat_more runs' run) ∙ append_assoc (flat runs') run all in
+      let split : flat runs ++ all ≡ flat runs' ++ (run ++ all) =
+      ap (λ xs. xs ++ all) (ap flat is ∙ flat_more runs' run) ∙ append_assoc (flat runs') run all in
       subst (λ xs. IsPermutation xs (flat runs' ++ (all ++ run))) (sym split) (IsPermutation-append_right (flat runs') _ _ (IsPermutation-append_comm run all))
 
   -- one more behind what moved
-  pub one_behind : (from xs ys zs : List A) (e : A) → IsPermutation (from ++ xs) ys → IsPermutation (ys ++ e ∷ []) zs → IsPermutation (from ++ (xs ++ e ∷ [])) zs
+  pub one_behind : (from xs ys zs : List A) (e : A) → IsPermutation (from ++ xs) ys → IsPermutation (ys ++ e ∷ []) zs →
+      IsPermutation (from ++ (xs ++ e ∷ [])) zs
   one_behind from xs ys zs e p q =
       subst (λ l. IsPermutation l zs) (append_assoc from xs (e ∷ [])) (IsPermutation-trans _ _ _ (IsPermutation-append_left (e ∷ []) _ _ p) q)

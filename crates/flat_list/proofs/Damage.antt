@@ -1,5 +1,6 @@
 -- Where the lines of a text stop to be those of a list file: what holds of all files of whole lines, for entries and their targets.
-use Rattle.std.proofs.Common.{◌≡◌, ℕ, zero, suc, ◌+◌, ◌-◌, ◌<◌, ◌≤◌, ◌^◌, inl, inr, List, [], ◌∷◌, ◌++◌, length, take, get_or, Option, Some, None}
+use Rattle.std.proofs.Common.{◌≡◌, ℕ, zero, suc, ◌+◌, ◌-◌, ◌<◌, ◌≤◌, ◌^◌, inl, inr, List, [], ◌∷◌, ◌++◌, length, take}
+use Rattle.std.proofs.Common.{get_or, Option, Some, None}
 use Rattle.std.proofs.Common.{refl, ap, sym, ◌∙◌, subst, arith, append-nil, length-append, ◌*◌}
 use Rattle.std.specs.List.{AllByRecursion, flat_map}
 use Rattle.std.proofs.Common.{eqb}
@@ -10,7 +11,8 @@ use Rattle.outside.specs.Links.{LinkReadingUndoesWriting}
 use Rattle.flat_list.specs.declared.entries.Entry.{Entry}
 use Rattle.flat_list.specs.declared.versions.Version.{Version}
 use Rattle.flat_list.specs.declared.versions.Version.TheVariants.{One, Two}
-use Rattle.flat_list.specs.Spelling.{text_of, header_text, target_text, target_lines, lines_by, entry_lines, lines_for, IsEntry, IsKnown, IsList, Follows, SpellsAs}
+use Rattle.flat_list.specs.Spelling.{text_of, header_text, target_text, target_lines, lines_by, entry_lines, lines_for, IsEntry, IsKnown, IsList, Follows}
+use Rattle.flat_list.specs.Spelling.{SpellsAs}
 use Rattle.whole_lines.specs.Lines.{line, end_text, lines_of}
 use Rattle.flat_list.specs.Spelling.{Begins, max_entries, IsTooLong, IsRefused}
 use Rattle.whole_lines.proofs.Lines.{all_more, line_same, joined_lines}
@@ -142,7 +144,8 @@ module _ (undoes : Undoes) where
         ≡ line (header_text v) ∷ (whole.lines_for (pieces undoes v) (pieces_of es) ++ end_line (pieces_of es) ∷ [])
     lines_of_list es = (λ i. line (header_text v) ∷ (sym (same_lines es) i ++ sym (end_is es) i ∷ []))
 
-    begins_as : (n : ℕ) (bytes : List ℕ) (ls : List (List ℕ)) → lines_of bytes ≡ line (header_text v) ∷ ls → (b : Begins (suc n) bytes) → v ≡ b.version →
+    begins_as : (n : ℕ) (bytes : List ℕ) (ls : List (List ℕ)) → lines_of bytes ≡ line (header_text v) ∷ ls → (b : Begins (suc n) bytes) →
+        v ≡ b.version →
         whole.Begins (pieces undoes v) n ls
     begins_as n bytes ls is b same = record {
       items = pieces_of b.entries;
@@ -157,7 +160,8 @@ module _ (undoes : Undoes) where
         let head : line (header_text v) ≡ line (header_text b.version) = (cons_parts _ _ _ _ (ap (take (suc n)) (sym is) ∙ b.same)).0 in
         begins_as n bytes ls is b (same_version v b.version head)
 
-    with_header : (n : ℕ) (bytes : List ℕ) (ls : List (List ℕ)) → lines_of bytes ≡ line (header_text v) ∷ ls → whole.Begins (pieces undoes v) n ls →
+    with_header : (n : ℕ) (bytes : List ℕ) (ls : List (List ℕ)) → lines_of bytes ≡ line (header_text v) ∷ ls →
+        whole.Begins (pieces undoes v) n ls →
         Begins (suc n) bytes
     with_header n bytes ls is b = record {
       version = v;
@@ -175,7 +179,8 @@ module _ (undoes : Undoes) where
     -- ---- too many entries
 
     -- of two lists of pieces whose lines begin one text, the one that is no longer is a front of the other
-    front_of : (ps qs : List Piece) (more rest : List (List ℕ)) → AllByRecursion (IsPiece v) ps → AllByRecursion (IsPiece v) qs → length qs ≤ length ps →
+    front_of : (ps qs : List Piece) (more rest : List (List ℕ)) → AllByRecursion (IsPiece v) ps → AllByRecursion (IsPiece v) qs →
+        length qs ≤ length ps →
         whole.lines_for (pieces undoes v) ps ++ more ≡ whole.lines_for (pieces undoes v) qs ++ rest → (others : List Piece) × (ps ≡ qs ++ others)
     front_of ps [] more rest each all le e = (ps, refl)
     front_of [] (q ∷ qs) more rest each all le e = absurd (omega arith)

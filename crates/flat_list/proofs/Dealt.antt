@@ -1,5 +1,6 @@
 -- Turns of a loop over entries, and levels and pieces with one entry more.
-use Rattle.std.proofs.Common.{◌≡◌, ℕ, zero, suc, ◌+◌, ◌<◌, ◌≤◌, ◌%◌, Bool, true, false, cond, List, [], ◌∷◌, ◌++◌, length, map, set, take, get_or}
+use Rattle.std.proofs.Common.{◌≡◌, ℕ, zero, suc, ◌+◌, ◌<◌, ◌≤◌, ◌%◌, Bool, true, false, cond, List, [], ◌∷◌, ◌++◌, length}
+use Rattle.std.proofs.Common.{map, set, take, get_or}
 use Rattle.std.proofs.Common.{max, refl, ap, sym, ◌∙◌, arith, eqb}
 use Rattle.std.proofs.lemmas.List.{take_more, take_all, map-append, map-id, map-set, get_or-map, length-map, length-take-le}
 use Rattle.std.proofs.lemmas.List.FromFn.{map-range_with_len_more, length-map-range_with_len, get_or-map-range_with_len}
@@ -67,7 +68,8 @@ pub record Step {X : Type 0} (f g : ℕ → X) (n key : ℕ) (value : X) : Type 
   pub here : g key ≡ value
   pub others : (j : ℕ) → (j ≡ key → ⊥) → g j ≡ f j
 
-step_set : {X : Type 0} {f g : ℕ → X} {n key : ℕ} {value : X} → Step f g n key value → set (map f (range_with_len 0 n)) key value ≡ map g (range_with_len 0 n)
+step_set : {X : Type 0} {f g : ℕ → X} {n key : ℕ} {value : X} → Step f g n key value →
+    set (map f (range_with_len 0 n)) key value ≡ map g (range_with_len 0 n)
 step_set {X} {f} {g} {n} {key} {value} s =
     ap (set (map f (range_with_len 0 n)) key) (sym s.here) ∙ one_set f g 0 n key key s.below (omega arith) s.others
 
@@ -198,7 +200,8 @@ below_here {xs} {at} {e} t level is =
     below_count (x ∷ xs) (suc i) d lt = let rest = below_count xs i d (omega arith) in omega arith
 
 -- one more of what f lists
-pub listed_more : {X Y : Type 0} (f : ℕ → X) (read : Y → X) (ys : List Y) (y : Y) (n : ℕ) → map read ys ≡ map f (range_with_len 0 n) → read y ≡ f n →
+pub listed_more : {X Y : Type 0} (f : ℕ → X) (read : Y → X) (ys : List Y) (y : Y) (n : ℕ) → map read ys ≡ map f (range_with_len 0 n) →
+    read y ≡ f n →
     map read (ys ++ y ∷ []) ≡ map f (range_with_len 0 (n + 1))
 listed_more f read ys y n is new =
     let more : map f (range_with_len 0 (n + 1)) ≡ map f (range_with_len 0 n) ++ f n ∷ [] = map-range_with_len_more f 0 n n (omega arith) in

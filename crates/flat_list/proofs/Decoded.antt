@@ -1,5 +1,6 @@
 -- The steps of reading a list file.
-use Rattle.std.proofs.Common.{◌≡◌, ℕ, suc, ◌+◌, ◌-◌, ◌<◌, ◌≤◌, Bool, true, false, cond, eqb, List, [], ◌∷◌, ◌++◌, length, take, Option, Some}
+use Rattle.std.proofs.Common.{◌≡◌, ℕ, suc, ◌+◌, ◌-◌, ◌<◌, ◌≤◌, Bool, true, false, cond, eqb, List, [], ◌∷◌, ◌++◌, length}
+use Rattle.std.proofs.Common.{take, Option, Some}
 use Rattle.std.proofs.Common.{None, Result, Ok, Err, length-append, refl, ap, sym, ◌∙◌, subst, arith, append_assoc}
 use Rattle.std.specs.List.Sorted.{IsStrictlySortedBy}
 use Rattle.std.specs.Ordering.{is_lt}
@@ -17,17 +18,20 @@ use Rattle.flat_list.specs.declared.entries.Entry.{Entry}
 use Rattle.flat_list.specs.declared.reading.Told.{Told}
 use Rattle.flat_list.specs.declared.versions.Version.{Version}
 use Rattle.flat_list.specs.declared.versions.Version.TheVariants.{Two}
-use Rattle.flat_list.specs.Spelling.{text_of, header_text, target_text, target_lines, lines_by, entry_lines, IsTarget, IsEntry, is_marked, is_new, is_known, IsKnown, paths, IsList, Follows, Spells, max_entries}
+use Rattle.flat_list.specs.Spelling.{text_of, header_text, target_text, target_lines, lines_by, entry_lines, IsTarget, IsEntry, is_marked, is_new, is_known}
+use Rattle.flat_list.specs.Spelling.{IsKnown, paths, IsList, Follows, Spells, max_entries}
 use Rattle.whole_lines.specs.Lines.{line, end_text, lines_of}
 use Rattle.flat_list.specs.Spelling.{IsTooLong, IsRefused}
 use Rattle.whole_lines.specs.Words.{cut, path_from, end_at, ◌>>=◌}
 use Rattle.flat_list.specs.Private.Reading.{told_at, told_entry, path_behind, if_behind, path_after, entry_at, entry_behind, IsLast, Adds, NoneFollows}
 use Rattle.flat_list.specs.Entries.{is_sized, shape_by, has_target, is_shaped}
-use Rattle.flat_list.specs.Private.Reading.{target_at, takes_target, target_and, target_line, target_behind, with_target, behind_target, line_count, found_at, IsSettled}
+use Rattle.flat_list.specs.Private.Reading.{target_at, takes_target, target_and, target_line, target_behind, with_target, behind_target, line_count, found_at}
+use Rattle.flat_list.specs.Private.Reading.{IsSettled}
 use Rattle.whole_lines.proofs.Words.{IsFree, cut_takes, pair_is}
 use Rattle.flat_list.proofs.Lines.{entry_takes, entry_again, target_takes, target_again}
 use Rattle.whole_lines.proofs.Ends.{end_takes, end_again}
-use Rattle.flat_list.proofs.Pieces.{Piece, own, target, piece_line, pieces_of, IsPiece, IsFile, IsLine, own_count, own_is, one_list, bare_more, and_both, TakesTarget, target_follows}
+use Rattle.flat_list.proofs.Pieces.{Piece, own, target, piece_line, pieces_of, IsPiece, IsFile, IsLine, own_count, own_is, one_list, bare_more, and_both}
+use Rattle.flat_list.proofs.Pieces.{TakesTarget, target_follows}
 use Rattle.whole_lines.proofs.Lines.{line_same, line_first, free_uncut, torn, no_lines, all_more}
 use Rattle.flat_list.proofs.Ascending.{sorted_none, sorted_one, sorted_last, sorted_more}
 use Rattle.flat_list.proofs.Damage.{Undoes, list_more, lines_more, Stands, refused_here, refused_after, spelled}
@@ -132,7 +136,8 @@ none_behind v before text es none last = by_entry (entry_at v text) before (sym 
         by_test false off e follows = precedes_no es b d.path last off (subst (IsStrictlySortedBy path_cmp) (paths_more es d) follows)
 
 pub some_behind : (v : Version) (before : Option Entry) (text : List ℕ) (es new : List Entry) (d : Entry) (found : Option (List ℕ × List ℕ)) →
-    entry_behind v before text ≡ Some d → IsUtf8 d.path → IfSome found (λ f. IsUtf8 f.0) → IsLast before es → IsStrictlySortedBy path_cmp (paths es) →
+    entry_behind v before text ≡ Some d → IsUtf8 d.path → IfSome found (λ f. IsUtf8 f.0) → IsLast before es →
+    IsStrictlySortedBy path_cmp (paths es) →
     new ≡ es ++ with_target d found ∷ [] → Adds (entry_at v text) found es new
 some_behind v before text es new d found some utf8 named last sorted more = by_entry (entry_at v text) before (sym (after_is v before text) ∙ some) last
   where
@@ -175,7 +180,8 @@ adds_found v before text behind es new d found is read utf8 named last sorted mo
     subst (λ f. Adds (entry_at v text) f es new) (sym (found_same v before text behind d found is read))
     (some_behind v before text es new d found is utf8 named last sorted more)
 
-pub read_utf8 : {A B : Type 0} (f : A → B) (P : A → Type 0) (Q : B → Type 0) (o : Option A) → ((x : A) → P x → Q (f x)) → IfSome o P → IfSome (option_map f o) Q
+pub read_utf8 : {A B : Type 0} (f : A → B) (P : A → Type 0) (Q : B → Type 0) (o : Option A) → ((x : A) → P x → Q (f x)) → IfSome o P →
+    IfSome (option_map f o) Q
 read_utf8 f P Q None h p = tt
 read_utf8 f P Q (Some x) h p = h x p
 
@@ -204,7 +210,8 @@ first_line text rest bytes e = let parts = cut_takes 10 bytes text rest e in ap 
 pub header_none : (bytes : List ℕ) → cut 10 bytes ≡ None → IsRefused bytes 1
 header_none bytes e = refused_first bytes (λ v. torn bytes (header_text v) (free_uncut 10 bytes e))
 
-pub header_other : (bytes text rest : List ℕ) → cut 10 bytes ≡ Some (text, rest) → ((v : Version) → text ≡ header_text v → ⊥) → IsRefused bytes 1
+pub header_other : (bytes text rest : List ℕ) → cut 10 bytes ≡ Some (text, rest) → ((v : Version) → text ≡ header_text v → ⊥) →
+    IsRefused bytes 1
 header_other bytes text rest e off = refused_first bytes (λ v one. off v
     (line_same text (header_text v) (cons_parts (line text) (line (header_text v)) [] [] (ap (take 1) (sym (first_line text rest bytes e)) ∙ one)).0))
 
@@ -255,7 +262,8 @@ item : Undoes → (v : Version) (d : Entry) (behind : List ℕ) (found : Option 
 item undoes v d behind None is utf8 e = bare_item v d behind is
 item undoes v d behind (Some f) is utf8 e = by_test (takes_target v d) refl e
   where
-    by_line : takes_target v d ≡ true → (o : Option (List ℕ × List ℕ)) → cut 10 behind ≡ o → (o >>= λ parts. target_and (target_at parts.0) parts.1) ≡ Some f →
+    by_line : takes_target v d ≡ true → (o : Option (List ℕ × List ℕ)) → cut 10 behind ≡ o →
+        (o >>= λ parts. target_and (target_at parts.0) parts.1) ≡ Some f →
         IsItem v d behind (Some f)
     by_line so None first e = absurd cc
     by_line so (Some parts) first e = by_text (target_at parts.0) refl e
@@ -390,7 +398,8 @@ bad_text {v} {bytes} {rest} {text} {behind} {es} undoes r last is_last settled n
 
 -- ---- the end
 
-end_first : (rest text behind : List ℕ) (n : ℕ) → cut 10 rest ≡ Some (text, behind) → end_at text ≡ Some n → lines_of rest ≡ line (end_text n) ∷ lines_of behind
+end_first : (rest text behind : List ℕ) (n : ℕ) → cut 10 rest ≡ Some (text, behind) → end_at text ≡ Some n →
+    lines_of rest ≡ line (end_text n) ∷ lines_of behind
 end_first rest text behind n e end = first_line text behind rest e ∙ ap (λ t. line t ∷ lines_of behind) (end_takes text n end).0
 
 pub at_end : {v : Version} {bytes rest text behind : List ℕ} {es : List Entry} → Reads v bytes rest text behind es →
@@ -468,7 +477,8 @@ left_shorter v text rest behind first = by_entry (entry_at v text)
     by_found None is = less
     by_found (Some f) is = by_cut (cut 10 behind) refl (sym (line_is behind) ∙ is)
       where
-        by_cut : (o : Option (List ℕ × List ℕ)) → cut 10 behind ≡ o → (o >>= λ parts. target_and (target_at parts.0) parts.1) ≡ Some f → length f.1 < length rest
+        by_cut : (o : Option (List ℕ × List ℕ)) → cut 10 behind ≡ o → (o >>= λ parts. target_and (target_at parts.0) parts.1) ≡ Some f →
+            length f.1 < length rest
         by_cut None first e = absurd cc
         by_cut (Some parts) first e = by_target (target_at parts.0) e
           where

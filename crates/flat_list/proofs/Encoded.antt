@@ -1,5 +1,6 @@
 -- The steps of writing a list file.
-use Rattle.std.proofs.Common.{◌≡◌, ℕ, ◌+◌, ◌<◌, ◌≤◌, ◌^◌, List, [], ◌∷◌, ◌++◌, length, take, ap, sym, ◌∙◌, subst, refl, append_assoc, append-nil, arith}
+use Rattle.std.proofs.Common.{◌≡◌, ℕ, ◌+◌, ◌<◌, ◌≤◌, ◌^◌, List, [], ◌∷◌, ◌++◌, length, take, ap, sym, ◌∙◌, subst}
+use Rattle.std.proofs.Common.{refl, append_assoc, append-nil, arith}
 use Rattle.std.specs.Prelude.{codes, Bool, true, false, ◌&&◌, ◌||◌, is_none}
 use Rattle.std.specs.Fmt.{decimal}
 use Rattle.std.specs.List.{AllByRecursion, flat_map}
@@ -84,5 +85,6 @@ nothing_noted mark unnamed far fine none near =
     ∙ ap (λ z. codes "ok" ++ 32 ∷ (z ++ 32 ∷ (z ++ 32 ∷ []))) (decimal_digit 0 (omega arith)))
 
 -- the words of a stat
-pub told_joined : (a b c old : List ℕ) → ((old ++ (a ++ 32 ∷ [])) ++ (b ++ 32 ∷ [])) ++ (c ++ 32 ∷ []) ≡ old ++ (a ++ 32 ∷ (b ++ 32 ∷ (c ++ 32 ∷ [])))
+pub told_joined : (a b c old : List ℕ) →
+    ((old ++ (a ++ 32 ∷ [])) ++ (b ++ 32 ∷ [])) ++ (c ++ 32 ∷ []) ≡ old ++ (a ++ 32 ∷ (b ++ 32 ∷ (c ++ 32 ∷ [])))
 told_joined a b c old = simp append_assoc

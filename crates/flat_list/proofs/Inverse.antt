@@ -1,5 +1,6 @@
 -- Packing and unpacking are inverse, and packing goes on behind.
-use Rattle.std.proofs.Common.{◌≡◌, ℕ, zero, suc, ◌+◌, ◌<◌, ◌≤◌, ◌%◌, true, false, cond, List, [], ◌∷◌, ◌++◌, length, take, drop, get_or, refl}
+use Rattle.std.proofs.Common.{◌≡◌, ℕ, zero, suc, ◌+◌, ◌<◌, ◌≤◌, ◌%◌, true, false, cond, List, [], ◌∷◌, ◌++◌, length, take}
+use Rattle.std.proofs.Common.{drop, get_or, refl}
 use Rattle.std.proofs.Common.{ap, sym, Result, Ok, Err, ◌∙◌, arith, append_assoc}
 use Rattle.std.specs.Prelude.{nat_eq, ◌==◌, ◌&&◌}
 use Rattle.std.specs.List.{common_prefix_len, list_all, sum_by}
@@ -214,11 +215,14 @@ pub starts_more : (f : Head → ℕ) (hs : List Head) (h : Head) (starts : List 
     → AreStarts f (starts_by (length hs) at starts) (hs ++ h ∷ [])
 starts_more f hs h starts at a is =
     elim (length hs % 256 == 0) as (λ t. (length hs % 256 == 0) ≡ t → AreStarts f (cond t (starts ++ at ∷ []) starts) (hs ++ h ∷ [])) [
-      | true ↦ λ e. let zero : length hs % 256 ≡ 0 = grind (arith, nat_tests, e) in starts_new f hs h starts at a (omega (arith, a.enough, a.some, zero)) is
-      | false ↦ λ e. let some : (length hs % 256 ≡ 0 → ⊥) = grind (arith, nat_tests, e) in starts_same f hs h starts a (omega (arith, a.enough, a.some, some))
+      | true ↦ λ e. let zero : length hs % 256 ≡ 0 = grind (arith, nat_tests, e) in
+          starts_new f hs h starts at a (omega (arith, a.enough, a.some, zero)) is
+      | false ↦ λ e. let some : (length hs % 256 ≡ 0 → ⊥) = grind (arith, nat_tests, e) in
+          starts_same f hs h starts a (omega (arith, a.enough, a.some, some))
     ] refl
 
-pub kept_more : (hs : List Head) (starts bytes path : List ℕ) (entries : List Entry) (e : Entry) → IsKept hs starts bytes path entries → is_path e.path ≡ true →
+pub kept_more : (hs : List Head) (starts bytes path : List ℕ) (entries : List Entry) (e : Entry) → IsKept hs starts bytes path entries →
+    is_path e.path ≡ true →
     IsKept (hs ++ head_by (length hs) path e ∷ []) (starts_by (length hs) (length bytes) starts)
     (bytes ++ rest_by (length hs) path e.path) e.path (entries ++ e ∷ [])
 kept_more hs starts bytes path entries e k p =
@@ -232,7 +236,8 @@ kept_more hs starts bytes path entries e k p =
       begins = starts_more (λ h. h.rest) hs (head_by (length hs) path e) starts (length bytes) k.begins (all_rests k);
     }
 
-pub told_more : (hs : List Head) (starts bytes path : List ℕ) (entries : List Entry) (e : Entry) → IsKept hs starts bytes path entries → is_path e.path ≡ true →
+pub told_more : (hs : List Head) (starts bytes path : List ℕ) (entries : List Entry) (e : Entry) → IsKept hs starts bytes path entries →
+    is_path e.path ≡ true →
     unpacked [] (hs ++ head_by (length hs) path e ∷ []) (bytes ++ rest_by (length hs) path e.path) ≡ entries ++ e ∷ []
 told_more hs starts bytes path entries e k p =
     let more = kept_more hs starts bytes path entries e k p in
@@ -261,7 +266,8 @@ pub is_put : (hs : List Head) (last path : List ℕ) (e : Entry) (h : Head) (s n
 is_put hs last path e h s n ep p en es eh = record {
   same = ep;
   valid = p;
-  head = eh ∙ ap (λ (s : ℕ). head_from e s) (es ∙ ap (λ (n : ℕ). shared_by n last path) en ∙ ap (λ (p : List ℕ). shared_by (length hs) last p) ep);
+  head =
+      eh ∙ ap (λ (s : ℕ). head_from e s) (es ∙ ap (λ (n : ℕ). shared_by n last path) en ∙ ap (λ (p : List ℕ). shared_by (length hs) last p) ep);
 }
 
 rest_is : {hs : List Head} {last path : List ℕ} {e : Entry} {h : Head} → IsPut hs last path e h → drop h.shared path ≡ rest_by (length hs) last e.path

@@ -1,5 +1,6 @@
 -- The text of a line is read as what was written, and no other text is.
-use Rattle.std.proofs.Common.{◌≡◌, ℕ, ◌<◌, ◌^◌, ◌⊎◌, inl, inr, Bool, true, false, cond, ltb, eqb, ◌&&◌, List, ◌∷◌, ◌++◌, length, get_or, Option}
+use Rattle.std.proofs.Common.{◌≡◌, ℕ, ◌<◌, ◌^◌, ◌⊎◌, inl, inr, Bool, true, false, cond, ltb, eqb, ◌&&◌, List, ◌∷◌, ◌++◌}
+use Rattle.std.proofs.Common.{length, get_or, Option}
 use Rattle.std.proofs.Common.{Some, None, Result, Ok, Err, refl, ap, sym, ◌∙◌, subst, arith}
 use Rattle.std.specs.Prelude.{IfSome, is_none, codes}
 use Rattle.std.specs.Str.{IsUtf8, is_utf8, bytes_eq}
@@ -197,7 +198,8 @@ pub record IsTold (v : Version) (t : Told) : Type 0 where
   pub unnamed : t.unnamed < 2 ^ 64
   pub far : t.far < 2 ^ 64
 
-fits_takes : (v : Version) (t u : Told) (word rest : List ℕ) → told_if v t word ≡ Some (u, rest) → (is_told v t ≡ true) × (t ≡ u) × (word ≡ rest)
+fits_takes : (v : Version) (t u : Told) (word rest : List ℕ) → told_if v t word ≡ Some (u, rest) →
+    (is_told v t ≡ true) × (t ≡ u) × (word ≡ rest)
 fits_takes v t u word rest e = by_test (is_told v t) refl e
   where
     by_test : (b : Bool) → is_told v t ≡ b → cond {A = Option (Told × List ℕ)} b (Some (t, word)) None ≡ Some (u, rest) →
@@ -224,7 +226,8 @@ after_size v k s = word_at time_from s.1 >>= λ m. after_time v k s.0 m
 abbrev after_kind : Version → Option Kind × List ℕ → Option (Told × List ℕ)
 after_kind v k = word_at number_of k.1 >>= λ s. after_size v k.0 s
 
-pub told_takes : (v : Version) (text : List ℕ) (t : Told) (word : List ℕ) → told_at v text ≡ Some (t, word) → (text ≡ told_text t word) × IsTold v t
+pub told_takes : (v : Version) (text : List ℕ) (t : Told) (word : List ℕ) → told_at v text ≡ Some (t, word) →
+    (text ≡ told_text t word) × IsTold v t
 unfolding told_at
 told_takes v text t word e =
     let k = bind_some (word_at kind_from text) (λ k. after_kind v k) (t, word) e in
@@ -233,7 +236,8 @@ told_takes v text t word e =
     let r = bind_some (word_at mark_from m.0.1) (λ r. after_mark v k.0.0 s.0.0 m.0.0 r) (t, word) m.2 in
     let u = bind_some (word_at number_of r.0.1) (λ u. after_unnamed v k.0.0 s.0.0 m.0.0 r.0.0 u) (t, word) r.2 in
     let f = bind_some (word_at number_of u.0.1) (λ f. after_far v k.0.0 s.0.0 m.0.0 r.0.0 u.0.0 f) (t, word) u.2 in
-    let st = bind_some (stat_from k.0.0 s.0.0 m.0.0) (λ st. told_if v (record { stat = st; mark = r.0.0; unnamed = u.0.0; far = f.0.0 }) f.0.1) (t, word) f.2 in
+    let st =
+    bind_some (stat_from k.0.0 s.0.0 m.0.0) (λ st. told_if v (record { stat = st; mark = r.0.0; unnamed = u.0.0; far = f.0.0 }) f.0.1) (t, word) f.2 in
     let told : Told = record { stat = st.0; mark = r.0.0; unnamed = u.0.0; far = f.0.0 } in
     let fits = fits_takes v told t f.0.1 word st.2 in
     let stat = stat_takes k.0.0 s.0.0 m.0.0 st.0 st.1 in

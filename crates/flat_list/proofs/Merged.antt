@@ -32,7 +32,8 @@ module _ {A : Type 0} where
       (IsPermutation-trans _ _ _ (IsPermutation-append_right x _ _ rest) (passed_by x all' (flat (set xs k s'))))
 
   -- one element more behind both
-  pub one_more : (from xs ys zs : List A) (e : A) → IsPermutation (from ++ xs) (ys ++ zs) → IsPermutation (from ++ (xs ++ e ∷ [])) (ys ++ (zs ++ e ∷ []))
+  pub one_more : (from xs ys zs : List A) (e : A) → IsPermutation (from ++ xs) (ys ++ zs) →
+      IsPermutation (from ++ (xs ++ e ∷ [])) (ys ++ (zs ++ e ∷ []))
   one_more from xs ys zs e p =
       let more = IsPermutation-append_left (e ∷ []) _ _ p in
       subst (λ l. IsPermutation l (ys ++ (zs ++ e ∷ []))) (append_assoc from xs (e ∷ []))

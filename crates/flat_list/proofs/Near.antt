@@ -1,5 +1,6 @@
 -- A path that has all but its last name from the path before it.
-use Rattle.std.proofs.Common.{◌≡◌, ℕ, zero, suc, ◌+◌, ◌-◌, ◌/◌, ◌%◌, ◌<◌, ◌≤◌, ◌⊎◌, inl, inr, true, false, cond, ◌&&◌, ◌||◌, eqb, List, [], ◌∷◌, ◌++◌}
+use Rattle.std.proofs.Common.{◌≡◌, ℕ, zero, suc, ◌+◌, ◌-◌, ◌/◌, ◌%◌, ◌<◌, ◌≤◌, ◌⊎◌, inl, inr, true, false, cond}
+use Rattle.std.proofs.Common.{◌&&◌, ◌||◌, eqb, List, [], ◌∷◌, ◌++◌}
 use Rattle.std.proofs.Common.{length, get_or, take, drop, Some, None, refl, ap, sym, ◌∙◌, subst, arith, add-one, get_or-drop}
 use Rattle.std.specs.Prelude.{nat_eq, nat_le, ◌==◌}
 use Rattle.std.specs.List.{list_all, list_any, common_prefix_len}
@@ -198,8 +199,10 @@ near before word at is last short plain named f =
     not_root = let some = f.some in grind (arith, nat_tests, some)
 
     name_plain : list_all is_plain name ≡ true
-    name_plain = (and_parts (list_all is_plain (take (at + 1) word)) (list_all is_plain name) (sym (list_all-append is_plain (take (at + 1) word) name) ∙ ap (list_all is_plain) (take-append-drop (at + 1) word) ∙ plain)).1
+    name_plain = (and_parts (list_all is_plain (take (at + 1) word)) (list_all is_plain name)
+        (sym (list_all-append is_plain (take (at + 1) word) name) ∙ ap (list_all is_plain) (take-append-drop (at + 1) word) ∙ plain)).1
 
     bare : list_any is_slash name ≡ false
     bare = no_slash name (λ j below. ap (λ b. eqb b 47) (get_or-drop (at + 1) word j 0)
-        ∙ false_from_ne_true (eqb (get_or word (at + 1 + j) 0) 47) (last.0.after (at + 1 + j) (omega arith) (omega (arith, below, length-drop (at + 1) word))))
+        ∙ false_from_ne_true (eqb (get_or word (at + 1 + j) 0) 47)
+        (last.0.after (at + 1 + j) (omega arith) (omega (arith, below, length-drop (at + 1) word))))

@@ -40,7 +40,8 @@ next_mod a b e = omega (arith, e)
 pub rests_shift : (a b : ℕ) (before : List ℕ) (xs : List Entry) → a % 256 ≡ b % 256 → rests_from a before xs ≡ rests_from b before xs
 rests_shift a b before [] e = refl
 rests_shift a b before (x ∷ xs) e =
-    let one : rest_by a before x.path ≡ rest_by b before x.path = ap (λ (m : ℕ). drop (cond (m == 0) 0 (common_prefix_len nat_eq before x.path)) x.path) e in
+    let one : rest_by a before x.path ≡ rest_by b before x.path =
+    ap (λ (m : ℕ). drop (cond (m == 0) 0 (common_prefix_len nat_eq before x.path)) x.path) e in
     let more = rests_shift (a + 1) (b + 1) x.path xs (next_mod a b e) in
     ap (λ (r : List ℕ). r ++ rests_from (a + 1) x.path xs) one ∙ ap (λ (r : List ℕ). rest_by b before x.path ++ r) more
 
@@ -83,7 +84,8 @@ behind {hs} {starts} {bytes} {path} {entries} n kept le =
     }
 
 -- one may begin before a page
-pub before_page : {hs : List Head} {starts bytes path : List ℕ} (k at : ℕ) → IsKept hs starts bytes path (unpacked [] hs bytes) → 256 * k ≤ length hs →
+pub before_page : {hs : List Head} {starts bytes path : List ℕ} (k at : ℕ) → IsKept hs starts bytes path (unpacked [] hs bytes) →
+    256 * k ≤ length hs →
     at ≡ rest_sum (take (256 * k) hs) → IsBefore hs bytes (256 * k) at
 before_page {hs} {starts} {bytes} {path} k at kept le is held =
     let entries : List Entry = unpacked [] hs bytes in
@@ -107,7 +109,8 @@ page_begins {hs} {starts} k start a lt is = is ∙ get_or_from_slice_get starts 
 past_end : (xs : List ℕ) (i d : ℕ) → length xs ≤ i → get_or xs i d ≡ d
 past_end xs i d le = sym (unwrap_or-slice_get xs i d) ∙ ap (λ o. unwrap_or o d) (slice_get_past xs i le)
 
-pub page_ends : {hs : List Head} {starts : List ℕ} (k end count : ℕ) → AreStarts (λ h. h.rest) starts hs → 256 * k < length hs → count ≡ rest_sum hs
+pub page_ends : {hs : List Head} {starts : List ℕ} (k end count : ℕ) → AreStarts (λ h. h.rest) starts hs → 256 * k < length hs →
+    count ≡ rest_sum hs
     → end ≡ get_or starts (k + 1) count →
     end ≡ rest_sum (take (256 * k + 256) hs)
 page_ends {hs} {starts} k end count a lt all is = elim (cases_lt (k + 1) (length starts)) [
@@ -152,12 +155,14 @@ pub record IsPage (bytes : List ℕ) (entries : List Entry) (k start end : ℕ) 
   pub inside : end ≤ length bytes
   pub is : take (end - start) (drop start bytes) ≡ page_of k entries
 
-pub has_page : {hs : List Head} {starts bytes path : List ℕ} {entries : List Entry} (k : ℕ) → IsKept hs starts bytes path entries → 256 * k < length entries →
+pub has_page : {hs : List Head} {starts bytes path : List ℕ} {entries : List Entry} (k : ℕ) → IsKept hs starts bytes path entries →
+    256 * k < length entries →
     k < length starts
 has_page k kept lt = omega (arith, kept.begins.enough, kept_many kept)
 
 pub page_told : {hs : List Head} {starts bytes path : List ℕ} {entries : List Entry} (k start end count : ℕ) → IsKept hs starts bytes path entries →
-    256 * k < length entries → start ≡ get_or starts k start → count ≡ length bytes → end ≡ get_or starts (k + 1) count → IsPage bytes entries k start end
+    256 * k < length entries → start ≡ get_or starts k start → count ≡ length bytes → end ≡ get_or starts (k + 1) count →
+    IsPage bytes entries k start end
 page_told {hs} {starts} {bytes} {path} {entries} k start end count kept lt is all ends =
     let lh : 256 * k < length hs = omega (arith, lt, kept_many kept) in
     let sum : count ≡ rest_sum hs = all ∙ all_rests kept in

@@ -1,5 +1,6 @@
 -- A cursor passes an entry.
-use Rattle.std.proofs.Common.{◌≡◌, ℕ, ◌+◌, ◌-◌, ◌<◌, ◌≤◌, true, false, List, [], ◌∷◌, ◌++◌, length, take, drop, get_or, refl, subst, ap, ap₂, sym, ◌∙◌, arith}
+use Rattle.std.proofs.Common.{◌≡◌, ℕ, ◌+◌, ◌-◌, ◌<◌, ◌≤◌, true, false, List, [], ◌∷◌, ◌++◌, length, take, drop, get_or}
+use Rattle.std.proofs.Common.{refl, subst, ap, ap₂, sym, ◌∙◌, arith}
 use Rattle.std.specs.Prelude.{Option, Some, None, slice_get, ◌&&◌, is_none}
 use Rattle.std.specs.Str.{is_utf8}
 use Rattle.std.specs.List.{list_all}
@@ -73,7 +74,8 @@ pub record IsStep (hs : List Head) (bytes : List ℕ) (passed at : ℕ) (held : 
   pub next : IsAt hs bytes (passed + 1) (at + h.rest) (path_by held h (drop at bytes)) entries
   pub here : slice_get entries passed ≡ Some (entry_by h (path_by held h (drop at bytes)))
 
-pub step : {hs : List Head} {bytes : List ℕ} {passed at : ℕ} {held : List ℕ} {entries : List Entry} (h : Head) → IsAt hs bytes passed at held entries →
+pub step : {hs : List Head} {bytes : List ℕ} {passed at : ℕ} {held : List ℕ} {entries : List Entry} (h : Head) →
+    IsAt hs bytes passed at held entries →
     slice_get hs passed ≡ Some h → IsStep hs bytes passed at held entries h
 step {hs} {bytes} {passed} {at} {held} {entries} h k sg =
     let lt : passed < length hs = slice_get_within hs passed h sg in
@@ -119,14 +121,18 @@ step {hs} {bytes} {passed} {at} {held} {entries} h k sg =
 
 -- how the next path stands to the one passed last is how what they do not share stands
 tail_stands : (shared : ℕ) (held rest : List ℕ) → shared ≤ length held → path_cmp (take shared held ++ rest) held ≡ path_cmp rest (drop shared held)
-tail_stands shared held rest short = ap (path_cmp (take shared held ++ rest)) (sym (take-append-drop shared held)) ∙ behind (take shared held) rest (drop shared held)
+tail_stands shared held rest short =
+    ap (path_cmp (take shared held ++ rest)) (sym (take-append-drop shared held)) ∙ behind (take shared held) rest (drop shared held)
 
 pub rises_next : {hs : List Head} {bytes : List ℕ} {passed at : ℕ} {held : List ℕ} {entries : List Entry} (h : Head) (n m : ℕ) (last : Entry) →
-    n ≡ h.rest → m ≡ length held - h.shared → IsAt hs bytes passed at held entries → slice_get hs passed ≡ Some h → last.path ≡ held → 0 < passed →
-    slice_get entries (passed - 1) ≡ Some last → is_lt (path_cmp (take n (drop at bytes)) (take m (drop h.shared held))) ≡ false → RisesAt entries (passed - 1)
+    n ≡ h.rest → m ≡ length held - h.shared → IsAt hs bytes passed at held entries → slice_get hs passed ≡ Some h → last.path ≡ held →
+    0 < passed →
+    slice_get entries (passed - 1) ≡ Some last → is_lt (path_cmp (take n (drop at bytes)) (take m (drop h.shared held))) ≡ false →
+    RisesAt entries (passed - 1)
 rises_next {hs} {bytes} {passed} {at} {held} {entries} h n m last is ms k sg path some before stands d lt =
     let s = step h k sg in
-    let next : path_by held h (drop at bytes) ≡ take h.shared held ++ take n (drop at bytes) = ap (λ (n : ℕ). take h.shared held ++ take n (drop at bytes)) (sym is) in
+    let next : path_by held h (drop at bytes) ≡ take h.shared held ++ take n (drop at bytes) =
+    ap (λ (n : ℕ). take h.shared held ++ take n (drop at bytes)) (sym is) in
     let here : get_or entries passed d ≡ entry_by h (path_by held h (drop at bytes)) = get_or_from_slice_get entries passed _ d s.here in
     let there : get_or entries (passed - 1) d ≡ last = get_or_from_slice_get entries (passed - 1) last d before in
     let one : passed - 1 + 1 ≡ passed = omega arith in
@@ -143,7 +149,8 @@ pub made_path : {hs : List Head} {bytes : List ℕ} {passed at : ℕ} {held : Li
 made_path {hs} {bytes} {passed} {at} {held} {entries} h n is k sg =
     ap (λ (n : ℕ). is_path (take h.shared held ++ take n (drop at bytes))) is ∙ (step h k sg).path
 
-pub made_next : {hs : List Head} {bytes : List ℕ} {passed at : ℕ} {held : List ℕ} {entries : List Entry} (h : Head) (n : ℕ) (e : Entry) → n ≡ h.rest →
+pub made_next : {hs : List Head} {bytes : List ℕ} {passed at : ℕ} {held : List ℕ} {entries : List Entry} (h : Head) (n : ℕ) (e : Entry) →
+    n ≡ h.rest →
     IsAt hs bytes passed at held entries → slice_get hs passed ≡ Some h → e ≡ entry_by h (take h.shared held ++ take n (drop at bytes)) →
     IsAt hs bytes (passed + 1) (at + h.rest) e.path entries
 made_next {hs} {bytes} {passed} {at} {held} {entries} h n e is k sg made =
@@ -151,17 +158,20 @@ made_next {hs} {bytes} {passed} {at} {held} {entries} h n e is k sg made =
     (ap (λ (n : ℕ). take h.shared held ++ take n (drop at bytes)) (sym is) ∙ ap (λ (e : Entry). e.path) (sym made)) (step h k sg).next
 
 -- an entry made by a head and its target
-pub targeted : (h : told.Head) {t u : Option (List ℕ)} {p : List ℕ} {e : Entry} → t ≡ u → e ≡ entry_by (with_text h t) p → e ≡ entry_by (with_text h u) p
+pub targeted : (h : told.Head) {t u : Option (List ℕ)} {p : List ℕ} {e : Entry} → t ≡ u → e ≡ entry_by (with_text h t) p →
+    e ≡ entry_by (with_text h u) p
 targeted h {t} {u} {p} {e} same made = made ∙ ap (λ (t : Option (List ℕ)). entry_by (with_text h t) p) same
 
-pub made_here : {hs : List Head} {bytes : List ℕ} {passed at : ℕ} {held : List ℕ} {entries : List Entry} (h : Head) (n : ℕ) (e : Entry) → n ≡ h.rest →
+pub made_here : {hs : List Head} {bytes : List ℕ} {passed at : ℕ} {held : List ℕ} {entries : List Entry} (h : Head) (n : ℕ) (e : Entry) →
+    n ≡ h.rest →
     IsAt hs bytes passed at held entries → slice_get hs passed ≡ Some h → e ≡ entry_by h (take h.shared held ++ take n (drop at bytes)) →
     slice_get entries passed ≡ Some e
 made_here {hs} {bytes} {passed} {at} {held} {entries} h n e is k sg made =
     (step h k sg).here ∙ ap Some (ap (λ (n : ℕ). entry_by h (take h.shared held ++ take n (drop at bytes))) (sym is) ∙ sym made)
 
 -- the last of so many
-pub taken_last : (entries : List Entry) (n : ℕ) (e : Entry) → 0 < n → slice_get entries (n - 1) ≡ Some e → take n entries ≡ take (n - 1) entries ++ e ∷ []
+pub taken_last : (entries : List Entry) (n : ℕ) (e : Entry) → 0 < n → slice_get entries (n - 1) ≡ Some e →
+    take n entries ≡ take (n - 1) entries ++ e ∷ []
 taken_last entries n e some is =
     let lt : n - 1 < length entries = slice_get_within entries (n - 1) e is in
     let one : n - 1 + 1 ≡ n = omega arith in
@@ -169,11 +179,13 @@ taken_last entries n e some is =
     ∙ ap (λ (y : Entry). take (n - 1) entries ++ y ∷ []) (get_or_from_slice_get entries (n - 1) e e is)
 
 -- what holds of heads, and how many of them were passed, holds where a pair has both
-pub at_pair : {hs : List Head} {bytes : List ℕ} {n at : ℕ} {held : List ℕ} (l : List Head × ℕ) → l ≡ (hs, n) → IsAt hs bytes n at held (unpacked [] hs bytes) →
+pub at_pair : {hs : List Head} {bytes : List ℕ} {n at : ℕ} {held : List ℕ} (l : List Head × ℕ) → l ≡ (hs, n) →
+    IsAt hs bytes n at held (unpacked [] hs bytes) →
     IsAt l.0 bytes l.1 at held (unpacked [] l.0 bytes)
 at_pair {hs} {bytes} {n} {at} {held} l is k = subst (λ (l : List Head × ℕ). IsAt l.0 bytes l.1 at held (unpacked [] l.0 bytes)) (sym is) k
 
-pub before_pair : {hs : List Head} {bytes : List ℕ} {n at : ℕ} (l : List Head × ℕ) (b : List ℕ) → l ≡ (hs, n) → b ≡ bytes → IsBefore hs bytes n at →
+pub before_pair : {hs : List Head} {bytes : List ℕ} {n at : ℕ} (l : List Head × ℕ) (b : List ℕ) → l ≡ (hs, n) → b ≡ bytes →
+    IsBefore hs bytes n at →
     IsBefore l.0 b l.1 at
 before_pair {hs} {bytes} {n} {at} l b is same k =
     subst (λ (l : List Head × ℕ). IsBefore l.0 b l.1 at) (sym is) (subst (λ (b : List ℕ). IsBefore hs b n at) (sym same) k)

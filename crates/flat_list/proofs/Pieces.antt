@@ -1,5 +1,6 @@
 -- The lines of a list file one by one: each is an entry's own, or that of the target of the entry before it.
-use Rattle.std.proofs.Common.{◌≡◌, ℕ, ◌+◌, ◌≤◌, Bool, true, false, ◌&&◌, ◌||◌, List, [], ◌∷◌, ◌++◌, length, Option, Some, None, refl, ap, sym, ◌∙◌}
+use Rattle.std.proofs.Common.{◌≡◌, ℕ, ◌+◌, ◌≤◌, Bool, true, false, ◌&&◌, ◌||◌, List, [], ◌∷◌, ◌++◌, length, Option, Some}
+use Rattle.std.proofs.Common.{None, refl, ap, sym, ◌∙◌}
 use Rattle.std.proofs.Common.{subst, arith, append_assoc, append-nil}
 use Rattle.std.specs.Prelude.{is_none, IfSome}
 use Rattle.std.specs.List.{AllByRecursion, flat_map}
@@ -78,7 +79,8 @@ unfolding entries_of
 back [] = refl
 back (e ∷ es) = by_target e.target refl (back es)
   where
-    by_target : (o : Option (List ℕ)) → e.target ≡ o → entries_of (pieces_of es) ≡ es → entries_of (own (bare e) ∷ (target_pieces o ++ pieces_of es)) ≡ e ∷ es
+    by_target : (o : Option (List ℕ)) → e.target ≡ o → entries_of (pieces_of es) ≡ es →
+        entries_of (own (bare e) ∷ (target_pieces o ++ pieces_of es)) ≡ e ∷ es
     by_target None is rest = (λ i. (none_taken (bare e) es ∙ bare_is e is) i ∷ rest i)
     by_target (Some t) is rest = (λ i. ap (λ (t : Option (List ℕ)). record e { target = t }) (sym is) i ∷ rest i)
 
@@ -270,7 +272,8 @@ and_both true true p q = refl
 and_both true false p q = q
 and_both false b p q = p
 
-last_entry : (v : Version) (front : List Entry) (e : Entry) → AllByRecursion IsEntry (front ++ e ∷ []) → AllByRecursion (IsKnown v) (front ++ e ∷ []) →
+last_entry : (v : Version) (front : List Entry) (e : Entry) → AllByRecursion IsEntry (front ++ e ∷ []) →
+    AllByRecursion (IsKnown v) (front ++ e ∷ []) →
     IsEntry e × IsKnown v e
 last_entry v [] e each known = (each.0, known.0)
 last_entry v (d ∷ front) e each known = last_entry v front e each.1 known.1
@@ -284,7 +287,8 @@ target_follows v es t f = by_end (ends f.entries)
         let last = last_entry v front e (subst (AllByRecursion IsEntry) is f.list.each) (subst (AllByRecursion (IsKnown v)) is f.known) in
         by_target e.target refl last.0 last.1 (f.same ∙ ap pieces_of is ∙ pieces_more front e)
       where
-        by_target : (o : Option (List ℕ)) → e.target ≡ o → IsEntry e → IsKnown v e → pieces_of es ++ target t ∷ [] ≡ pieces_of front ++ pieces_by e →
+        by_target : (o : Option (List ℕ)) → e.target ≡ o → IsEntry e → IsKnown v e →
+            pieces_of es ++ target t ∷ [] ≡ pieces_of front ++ pieces_by e →
             TakesTarget v es t
         by_target None empty entry known same =
             let whole : pieces_of es ++ target t ∷ [] ≡ pieces_of front ++ own (bare e) ∷ [] =
@@ -293,7 +297,8 @@ target_follows v es t f = by_end (ends f.entries)
             absurd cc
         by_target (Some u) full entry known same =
             let whole : pieces_of es ++ target t ∷ [] ≡ (pieces_of front ++ own (bare e) ∷ []) ++ target u ∷ [] =
-            same ∙ (λ i. pieces_of front ++ own (bare e) ∷ target_pieces (full i)) ∙ sym (append_assoc (pieces_of front) (own (bare e) ∷ []) (target u ∷ [])) in
+            same ∙ (λ i. pieces_of front ++ own (bare e) ∷ target_pieces (full i))
+            ∙ sym (append_assoc (pieces_of front) (own (bare e) ∷ []) (target u ∷ [])) in
             let parts = snoc_parts (pieces_of es) (pieces_of front ++ own (bare e) ∷ []) (target t) (target u) whole in
             let told : (is_none (Some u) || has_target e.mark e.stat) ≡ true =
             subst (λ o. (is_none o || has_target e.mark e.stat) ≡ true) full (and_parts _ _ entry.shape).0 in

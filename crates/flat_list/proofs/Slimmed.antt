@@ -1,5 +1,6 @@
 -- Heads and what is kept of them are inverse, and more is kept behind.
-use Rattle.std.proofs.Common.{◌≡◌, ℕ, zero, suc, ◌+◌, ◌*◌, ◌<◌, Bool, true, false, List, [], ◌∷◌, ◌++◌, length, map, take, drop, get_or, refl, ap, cond, ◌≤◌, nat_lt}
+use Rattle.std.proofs.Common.{◌≡◌, ℕ, zero, suc, ◌+◌, ◌*◌, ◌<◌, Bool, true, false, List, [], ◌∷◌, ◌++◌, length, map, take, drop}
+use Rattle.std.proofs.Common.{get_or, refl, ap, cond, ◌≤◌, nat_lt}
 use Rattle.std.proofs.Common.{ap₂, sym, subst, ◌∙◌, arith}
 use Rattle.std.specs.Prelude.{Option, Some, None, slice_get, not, is_some, is_none, ◌==◌, ◌&&◌, ◌||◌, if◌then◌else◌}
 use Rattle.std.specs.List.{flat_map, list_all, sum_by}
@@ -148,11 +149,13 @@ heads_back (h ∷ hs) valid =
 
 pub odds_many : (hs : List Head) → length (flat_map odds_by hs) ≡ sum_by odd_count hs
 odds_many [] = refl
-odds_many (h ∷ hs) = length-append (odds_by h) (flat_map odds_by hs) ∙ ap (λ (n : ℕ). odd_count h + n) (odds_many hs) ∙ sym (sum_by-cons odd_count h hs)
+odds_many (h ∷ hs) =
+    length-append (odds_by h) (flat_map odds_by hs) ∙ ap (λ (n : ℕ). odd_count h + n) (odds_many hs) ∙ sym (sum_by-cons odd_count h hs)
 
 pub texts_many : (hs : List Head) → length (flat_map text_by hs) ≡ sum_by text_len hs
 texts_many [] = refl
-texts_many (h ∷ hs) = length-append (text_by h) (flat_map text_by hs) ∙ ap (λ (n : ℕ). text_len h + n) (texts_many hs) ∙ sym (sum_by-cons text_len h hs)
+texts_many (h ∷ hs) =
+    length-append (text_by h) (flat_map text_by hs) ∙ ap (λ (n : ℕ). text_len h + n) (texts_many hs) ∙ sym (sum_by-cons text_len h hs)
 
 pub slim_long : {ss : List Slim} {os : List Odd} {starts ts begins : List ℕ} {hs : List Head} → IsSlim ss os starts ts begins hs → length ss ≡ length hs
 slim_long {hs = hs} k = sym (ap length k.slims) ∙ simp length-map
@@ -203,7 +206,8 @@ pub put_heads : {ss ss' : List Slim} {os os' : List Odd} {starts starts' ts ts' 
 put_heads {ss} {ss'} {os} {os'} {starts} {starts'} {ts} {ts'} {begins} {begins'} {h} k p =
     rw p.slims (rw p.odds (rw p.texts (heads_more ss os starts ts begins (heads_of ss os ts) h k p.valid)))
 
-pub slim_same : {ss ss' : List Slim} {os os' : List Odd} {starts starts' ts ts' begins begins' : List ℕ} → ss' ≡ ss → os' ≡ os → starts' ≡ starts → ts' ≡ ts →
+pub slim_same : {ss ss' : List Slim} {os os' : List Odd} {starts starts' ts ts' begins begins' : List ℕ} → ss' ≡ ss → os' ≡ os →
+    starts' ≡ starts → ts' ≡ ts →
     begins' ≡ begins → IsSlim ss os starts ts begins (heads_of ss os ts) → IsSlim ss' os' starts' ts' begins' (heads_of ss' os' ts')
 slim_same a b c d e k = rw a (rw b (rw c (rw d (rw e k))))
 
@@ -240,7 +244,8 @@ lead_at {ss} {os} {starts} {ts} {begins} {hs} page gone at k lt is from =
       valid = k.valid;
     }
 
-pub lead_first : {ss : List Slim} {os : List Odd} {starts ts begins : List ℕ} {hs : List Head} → IsSlim ss os starts ts begins hs → IsLead ss os ts 0 0 0 hs
+pub lead_first : {ss : List Slim} {os : List Odd} {starts ts begins : List ℕ} {hs : List Head} → IsSlim ss os starts ts begins hs →
+    IsLead ss os ts 0 0 0 hs
 lead_first k = record {
   slims = k.slims;
   odds = k.odds;
@@ -309,7 +314,8 @@ lead_one {ss} {os} {ts} {passed} {gone} {at} {hs} s o k is odd =
       room = room;
       valid = ap (λ (h : Head). is_text h.target) whole ∙ valid;
       next = λ gone' e.
-          let count : gone' ≡ length (odds_by h) + gone = e ∙ ap (λ (s : Slim). if s.odd then gone + 1 else gone) (sym same) ∙ odd_step (is_odd h) (odd_by h) gone in
+          let count : gone' ≡ length (odds_by h) + gone =
+          e ∙ ap (λ (s : Slim). if s.odd then gone + 1 else gone) (sym same) ∙ odd_step (is_odd h) (odd_by h) gone in
           record {
             slims = k.slims;
             odds = sym (drop-append_seam (odds_by h) more_odds) ∙ ap (drop (length (odds_by h))) odds_split ∙ drop-drop (length (odds_by h)) gone os

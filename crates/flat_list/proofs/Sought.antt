@@ -1,5 +1,6 @@
 -- What a path shares with a wanted one follows from what the path before it shares with it.
-use Rattle.std.proofs.Common.{◌≡◌, ℕ, suc, ◌+◌, ◌<◌, ◌≤◌, ◌%◌, Bool, true, false, cond, List, [], ◌∷◌, ◌++◌, length, take, drop, refl, ap, sym, ◌∙◌, arith}
+use Rattle.std.proofs.Common.{◌≡◌, ℕ, suc, ◌+◌, ◌<◌, ◌≤◌, ◌%◌, Bool, true, false, cond, List, [], ◌∷◌, ◌++◌, length, take}
+use Rattle.std.proofs.Common.{drop, refl, ap, sym, ◌∙◌, arith}
 use Rattle.std.specs.Prelude.{nat_eq, ◌==◌}
 use Rattle.std.specs.List.{common_prefix_len}
 use Rattle.std.specs.List.{position_or_len, position}
@@ -40,18 +41,20 @@ agree : (x y z : ℕ) → nat_eq x y ≡ true → nat_eq x z ≡ true → nat_eq
 agree x y z e f = let same = same_of_eq x y e in ap (λ (y : ℕ). nat_eq y z) (sym same) ∙ f
 
 -- the wanted one leaves the path before it sooner than the path does
-pub shares_less : (b p w : List ℕ) → common_prefix_len nat_eq b w < common_prefix_len nat_eq b p → common_prefix_len nat_eq p w ≡ common_prefix_len nat_eq b w
+pub shares_less : (b p w : List ℕ) → common_prefix_len nat_eq b w < common_prefix_len nat_eq b p →
+    common_prefix_len nat_eq p w ≡ common_prefix_len nat_eq b w
 shares_less [] p w lt = absurd (omega (arith, lt))
 shares_less (x ∷ b) [] w lt = absurd (omega (arith, lt))
 shares_less (x ∷ b) (y ∷ p) [] lt = refl
 shares_less (x ∷ b) (y ∷ p) (z ∷ w) lt =
     elim (nat_eq x y) as (λ t. nat_eq x y ≡ t → common_prefix_len nat_eq (y ∷ p) (z ∷ w) ≡ common_prefix_len nat_eq (x ∷ b) (z ∷ w)) [
       | false ↦ λ e. absurd (omega (arith, lt, both_off x y b p e))
-      | true ↦ λ e. elim (nat_eq x z) as (λ t. nat_eq x z ≡ t → common_prefix_len nat_eq (y ∷ p) (z ∷ w) ≡ common_prefix_len nat_eq (x ∷ b) (z ∷ w)) [
-        | false ↦ λ f. both_off y z p w (differ x y z e f) ∙ sym (both_off x z b w f)
-        | true ↦ λ f. both_on y z p w (agree x y z e f)
-            ∙ ap (λ (n : ℕ). 1 + n) (shares_less b p w (omega (arith, lt, both_on x y b p e, both_on x z b w f))) ∙ sym (both_on x z b w f)
-      ] refl
+      | true ↦ λ e.
+          elim (nat_eq x z) as (λ t. nat_eq x z ≡ t → common_prefix_len nat_eq (y ∷ p) (z ∷ w) ≡ common_prefix_len nat_eq (x ∷ b) (z ∷ w)) [
+            | false ↦ λ f. both_off y z p w (differ x y z e f) ∙ sym (both_off x z b w f)
+            | true ↦ λ f. both_on y z p w (agree x y z e f)
+                ∙ ap (λ (n : ℕ). 1 + n) (shares_less b p w (omega (arith, lt, both_on x y b p e, both_on x z b w f))) ∙ sym (both_on x z b w f)
+          ] refl
     ] refl
 
 -- and no sooner
@@ -162,7 +165,8 @@ pub record IsFound (hs : List Head) (bytes wanted : List ℕ) (k at same next : 
 
 pub seek_step : {hs : List Head} {bytes wanted : List ℕ} {k at same : ℕ} {entries : List Entry} (next n : ℕ) (h : Head)
     → IsSeek hs bytes wanted k at same entries →
-    slice_get hs k ≡ Some h → n ≡ h.rest → next ≡ same_after same h.shared (take n (drop at bytes)) wanted → IsFound hs bytes wanted k at same next entries h
+    slice_get hs k ≡ Some h → n ≡ h.rest → next ≡ same_after same h.shared (take n (drop at bytes)) wanted →
+    IsFound hs bytes wanted k at same next entries h
 seek_step {hs} {bytes} {wanted} {k} {at} {same} {entries} next n h s sg e taken =
     let lt : k < length hs = slice_get_within hs k h sg in
     let en : next ≡ same_after same h.shared (take h.rest (drop at bytes)) wanted =
@@ -196,7 +200,8 @@ seek_step {hs} {bytes} {wanted} {k} {at} {same} {entries} next n h s sg e taken 
     ∙ ap (λ (n : ℕ). same_after (common_prefix_len nat_eq before wanted) n (take h.rest (drop at bytes)) wanted) front
     ∙ ap (λ (r : List ℕ). same_after (common_prefix_len nat_eq before wanted) (shared_by k before x.path) r wanted) rest
     ∙ sym (shares_next k before x.path wanted) in
-    let whole : h.shared + h.rest ≡ length x.path = omega (arith, long, front, shared_short k before x.path, length-drop (shared_by k before x.path) x.path) in
+    let whole : h.shared + h.rest ≡ length x.path =
+    omega (arith, long, front, shared_short k before x.path, length-drop (shared_by k before x.path) x.path) in
     let test : pointwise nat_eq x.path wanted ≡ (next == length wanted && h.shared + h.rest == next) = equal_by x.path wanted
     ∙ ap (λ (n : ℕ). n == length wanted && length x.path == n) (sym shares)
     ∙ ap (λ (n : ℕ). next == length wanted && n == next) (sym whole) in

@@ -30,7 +30,8 @@ entry_left c e some at =
     drop_more c.0 (c.1 - 1) e lt ∙ ap (λ (x : Entry). x ∷ drop (c.1 - 1 + 1) c.0) (get_or_from_slice_get c.0 (c.1 - 1) e e at)
     ∙ ap (λ (n : ℕ). e ∷ drop n c.0) next
 
-pub given : {c c' : List Entry × ℕ} {more : Bool} (all all' : List Entry) (e : Entry) → 0 < c.1 → slice_get c.0 (c.1 - 1) ≡ Some e → Stepped c c' more →
+pub given : {c c' : List Entry × ℕ} {more : Bool} (all all' : List Entry) (e : Entry) → 0 < c.1 → slice_get c.0 (c.1 - 1) ≡ Some e →
+    Stepped c c' more →
     all' ≡ all ++ e ∷ [] → all' ++ left_of (not more) c' ≡ all ++ left_of false c
 given {c} {c'} {more} all all' e some at s put =
     ap (λ xs. xs ++ left_of (not more) c') put ∙ append_assoc all (e ∷ []) (left_of (not more) c')

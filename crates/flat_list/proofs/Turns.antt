@@ -1,5 +1,6 @@
 -- A cursor that passes an entry takes a turn of a loop over its list.
-use Rattle.std.proofs.Common.{◌≡◌, ℕ, ◌+◌, ◌-◌, ◌<◌, ◌≤◌, inl, inr, Bool, true, false, List, length, refl, ap, ap₂, sym, subst, ◌∙◌, arith, get_or}
+use Rattle.std.proofs.Common.{◌≡◌, ℕ, ◌+◌, ◌-◌, ◌<◌, ◌≤◌, inl, inr, Bool, true, false, List, length, refl, ap, ap₂, sym, subst}
+use Rattle.std.proofs.Common.{◌∙◌, arith, get_or}
 use Rattle.std.specs.Prelude.{Some, slice_get, nat_lt, if◌then◌else◌}
 use Rattle.std.specs.Ordering.{is_lt}
 use Rattle.std.proofs.lemmas.Bool.{cases_lt}
@@ -38,12 +39,14 @@ pub inside : {xs : List Entry} {old new : List Entry × ℕ} {more : Bool} {e : 
 inside {old = old} p = omega (arith, one_on p, (turn_at old.1 refl p).within)
 
 -- there is one more before the end, and none behind it
-pub more_at : (xs : List Entry) (n : ℕ) (old : List Entry × ℕ) (more : Bool) → old ≡ (xs, n) → n < length xs → more ≡ nat_lt old.1 (length old.0) → more ≡ true
+pub more_at : (xs : List Entry) (n : ℕ) (old : List Entry × ℕ) (more : Bool) → old ≡ (xs, n) → n < length xs →
+    more ≡ nat_lt old.1 (length old.0) → more ≡ true
 more_at xs n old more is lt answer =
     let yes : nat_lt n (length xs) ≡ true = grind (arith, nat_tests, lt) in
     answer ∙ ap (λ (v : List Entry × ℕ). nat_lt v.1 (length v.0)) is ∙ yes
 
-pub no_more : (xs : List Entry) (old : List Entry × ℕ) (more : Bool) → old.0 ≡ xs → more ≡ nat_lt old.1 (length old.0) → more ≡ false → length xs ≤ old.1
+pub no_more : (xs : List Entry) (old : List Entry × ℕ) (more : Bool) → old.0 ≡ xs → more ≡ nat_lt old.1 (length old.0) → more ≡ false →
+    length xs ≤ old.1
 no_more xs old more is answer none =
     let no : nat_lt old.1 (length xs) ≡ false = ap (λ (l : List Entry). nat_lt old.1 (length l)) (sym is) ∙ sym answer ∙ none in
     grind (arith, nat_tests, no)
@@ -67,7 +70,8 @@ up_more {xs} {a} {b} {x} {y} up s t next not_less k d lt = elim (cases_lt (k + 1
       ∙ not_less
 ]
 
-pub more_in : (xs : List Entry) (old : List Entry × ℕ) (more : Bool) → old.0 ≡ xs → old.1 < length xs → more ≡ nat_lt old.1 (length old.0) → more ≡ true
+pub more_in : (xs : List Entry) (old : List Entry × ℕ) (more : Bool) → old.0 ≡ xs → old.1 < length xs → more ≡ nat_lt old.1 (length old.0) →
+    more ≡ true
 more_in xs old more is lt answer =
     let yes : nat_lt old.1 (length xs) ≡ true = grind (arith, nat_tests, lt) in
     answer ∙ ap (λ (l : List Entry). nat_lt old.1 (length l)) is ∙ yes

@@ -1,5 +1,6 @@
 -- A list has one text of a version, a text is one list's, and of the answers about a text one alone is true.
-use Rattle.std.proofs.Common.{◌≡◌, ℕ, zero, suc, ◌+◌, ◌-◌, ◌<◌, inl, inr, List, [], ◌∷◌, ◌++◌, length, take, refl, ap, sym, ◌∙◌, subst, arith}
+use Rattle.std.proofs.Common.{◌≡◌, ℕ, zero, suc, ◌+◌, ◌-◌, ◌<◌, inl, inr, List, [], ◌∷◌, ◌++◌, length, take, refl, ap, sym}
+use Rattle.std.proofs.Common.{◌∙◌, subst, arith}
 use Rattle.std.proofs.Common.{append-nil}
 use Rattle.std.proofs.lemmas.Bool.{cases_lt}
 use Rattle.std.proofs.lemmas.List.{append_cancel_left}
@@ -42,7 +43,8 @@ module _ (undoes : Undoes) where
   same_as v a more es fs s t =
       let form = pieces undoes v in
       let end = line (end_text (length es)) in
-      let both : line (header_text v) ∷ (entry_lines es ++ end ∷ lines_of more) ≡ lines_for v fs = sym (list_lines v a more es s) ∙ own_lines v (a ++ more) fs t in
+      let both : line (header_text v) ∷ (entry_lines es ++ end ∷ lines_of more) ≡ lines_for v fs =
+      sym (list_lines v a more es s) ∙ own_lines v (a ++ more) fs t in
       let tails : whole.lines_for form (pieces_of es) ++ end_line (pieces_of es) ∷ lines_of more
       ≡ whole.lines_for form (pieces_of fs) ++ end_line (pieces_of fs) ∷ [] =
       (λ i. same_lines undoes v es i ++ end_is undoes v es i ∷ lines_of more)

@@ -1,4 +1,4 @@
--- What a list of entries tells: the shape of an entry, and the summary. Our own, after mpiFileUtils' flat lists and the summary of its dwalk.
+-- The shape of an entry, and the summary of a list. Our own, after mpiFileUtils' flat lists and the summary of its dwalk.
 use Rattle.std.specs.Prelude.{ℕ, ◌+◌, Bool, true, false, ◌&&◌, ◌||◌, List, Option, Some, None, is_some, is_none, ◌==◌, if◌then◌else◌}
 use Rattle.std.specs.List.{sum_by, count_by}
 use Rattle.outside.specs.declared.trees.Kind.{Kind}
@@ -29,8 +29,8 @@ size_by (Some stat) = stat.size
 abbrev pub is_sized : Option Stat → Bool
 is_sized stat = is_of kind.File stat || size_by stat == 0
 
--- the shape of an entry, by its mark: where the stat failed or nothing was there it has none; a directory whose names failed, and
--- a directory or a link that changed, tells no number; and only a directory tells one
+-- the shape of an entry, by its mark. If the stat failed or nothing was there, it has no stat. If the reading of its names
+-- failed it is a directory, and if it changed a directory or a link; then it has no numbers. Only a directory has numbers
 abbrev pub shape_by : Mark → Option Stat → Bool → Bool
 shape_by mark.StatFailed stat none = is_none stat && none
 shape_by mark.Gone stat none = is_none stat && none
@@ -38,7 +38,7 @@ shape_by mark.ListFailed stat none = is_of kind.Dir stat && none
 shape_by mark.Changed stat none = (is_of kind.Dir stat || is_of kind.Link stat) && none
 shape_by mark.Fine stat none = is_some stat && (is_of kind.Dir stat || none)
 
--- a target may be told: of a link whose answers were as they are
+-- an entry may have a target: that of a link of which each call was answered
 abbrev pub is_fine : Mark → Bool
 is_fine mark.Fine = true
 is_fine mark.StatFailed = false

@@ -50,7 +50,7 @@ abbrev pub turned : Bool → (Entry → Entry → Ordering) → Entry → Entry 
 turned false cmp = cmp
 turned true cmp = flip_args cmp
 
--- the order of a sort: the field, upwards or downwards, and where it ties ascending path order
+-- the order of a sort: the field, upwards or downwards, and ascending path order if it ties
 abbrev pub sort_order : Field → Bool → Entry → Entry → Ordering
 sort_order f down = then_cmp (turned down (by_field f)) by_path
 
@@ -63,7 +63,7 @@ abbrev pub level_count : List Entry → ℕ
 level_count [] = 0
 level_count (e ∷ entries) = max (level_of e.path + 1) (level_count entries)
 
--- the places of the entries of one level, where so many entries come before
+-- the places of the entries of one level, after a number of entries
 abbrev pub places_from : ℕ → ℕ → List Entry → List ℕ
 places_from before level [] = []
 places_from before level (e ∷ entries) =
@@ -72,7 +72,7 @@ places_from before level (e ∷ entries) =
 abbrev pub places_at : ℕ → List Entry → List ℕ
 places_at level entries = places_from 0 level entries
 
--- piece j of n: each entry whose place, where so many come before, leaves j when it is divided by n
+-- piece j of n: each entry whose place, after a number of entries, leaves j when it is divided by n
 abbrev pub dealt_from : ℕ → ℕ → ℕ → List Entry → List Entry
 dealt_from before n j [] = []
 dealt_from before n j (e ∷ entries) = if before % n == j then e ∷ dealt_from (before + 1) n j entries else dealt_from (before + 1) n j entries

@@ -1,12 +1,13 @@
 -- Entries packed: each path as the number of bytes that it shares with the one before, and its rest. This is the incremental encoding of
 -- sorted lists (front coding), as in the databases that updatedb makes for locate. Pages, at whose front a path stands whole, are our own.
-use Rattle.std.specs.Prelude.{ℕ, ◌+◌, ◌*◌, ◌%◌, List, [], ◌∷◌, ◌++◌, length, take, drop, if◌then◌else◌, ◌==◌, nat_eq, nat_lt, Option}
+use Rattle.std.specs.Prelude.{ℕ, ◌+◌, ◌*◌, ◌%◌, List, [], ◌∷◌, ◌++◌, length, take, drop, if◌then◌else◌, ◌==◌, nat_eq, nat_lt}
+use Rattle.std.specs.Prelude.{Option}
 use Rattle.std.specs.List.{common_prefix_len}
 use Rattle.flat_list.specs.declared.entries.Entry.{Entry}
 use Rattle.flat_list.specs.declared.entries.Mark.{Mark}
 use Rattle.outside.specs.declared.trees.Stat.{Stat}
 
--- what is kept of an entry beside the bytes of its path
+-- the parts of an entry that are kept beside the bytes of its path
 pub record Head : Type 0 where
   pub stat : Option Stat
   pub unnamed : ℕ
@@ -37,7 +38,7 @@ head_from e shared = record {
 abbrev pub head_by : ℕ → List ℕ → Entry → Head
 head_by place before e = head_from e (shared_by place before e.path)
 
--- the heads, and the rests joined, of entries that stand from a place on, behind a path
+-- the heads, and the rests joined, of entries from a place on, after a path
 abbrev pub heads_from : ℕ → List ℕ → List Entry → List Head
 heads_from place before [] = []
 heads_from place before (e ∷ es) = head_by place before e ∷ heads_from (place + 1) e.path es
@@ -46,15 +47,15 @@ abbrev pub rests_from : ℕ → List ℕ → List Entry → List ℕ
 rests_from place before [] = []
 rests_from place before (e ∷ es) = rest_by place before e.path ++ rests_from (place + 1) e.path es
 
--- where the rests of each page begin, with one entry more at a place, whose rest begins at such a byte
+-- where the rests of each page begin, with one entry more at a place, and where its rest begins
 abbrev pub starts_by : ℕ → ℕ → List ℕ → List ℕ
 starts_by place at starts = if place % 256 == 0 then starts ++ at ∷ [] else starts
 
--- what the rests of a page are, joined
+-- the rests of a page, joined
 abbrev pub page_of : ℕ → List Entry → List ℕ
 page_of k entries = rests_from 0 [] (take 256 (drop (256 * k) entries))
 
--- the path that a head tells, and its entry
+-- the path of a head, and its entry
 abbrev pub path_by : List ℕ → Head → List ℕ → List ℕ
 path_by before h bytes = take h.shared before ++ take h.rest bytes
 
@@ -65,7 +66,7 @@ entry_by h path = record { path = path; stat = h.stat; mark = h.mark; unnamed = 
 abbrev pub path_len : Head → ℕ
 path_len h = h.shared + h.rest
 
--- the entries that heads and rests tell
+-- the entries of heads and rests
 abbrev pub unpacked : List ℕ → List Head → List ℕ → List Entry
 unpacked before [] bytes = []
 unpacked before (h ∷ hs) bytes = entry_by h (path_by before h bytes) ∷ unpacked (path_by before h bytes) hs (drop h.rest bytes)
@@ -75,6 +76,6 @@ abbrev pub last_path : List ℕ → List Entry → List ℕ
 last_path before [] = before
 last_path before (e ∷ es) = last_path e.path es
 
--- what a path of so many shared bytes and a rest shares with a wanted one, where the path before shares so many with it
+-- how many bytes a path of some shared bytes and a rest shares with a wanted one, if the path before shares `same` with it
 abbrev pub same_after : ℕ → ℕ → List ℕ → List ℕ → ℕ
 same_after same shared rest wanted = if nat_lt same shared then same else shared + common_prefix_len nat_eq rest (drop shared wanted)

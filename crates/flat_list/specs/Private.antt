@@ -1,4 +1,4 @@
--- What the crate's private functions answer: only their clauses cite it, and no public one rests on it.
+-- The answers of the crate's private functions: only their clauses cite these definitions, and no public clause does.
 pub mod Reading
 pub mod Left
 pub mod Kept

@@ -1,7 +1,8 @@
--- The list file, in both versions, as a relation between bytes and lists of entries: whole lines, one for each entry, and in version 2
--- one more for each target of a link. A list is written in a version (`SpellsAs`), and bytes are read in some version (`Spells`).
--- Our own.
-use Rattle.std.specs.Prelude.{◌≡◌, ℕ, ◌+◌, ◌-◌, ◌<◌, ◌≤◌, ◌^◌, ◌&&◌, ◌||◌, Bool, true, false, List, [], ◌∷◌, ◌++◌, length, map, take, Option, Some, None}
+-- The list file, in both versions, as a relation between bytes and lists of entries. It has whole lines, one for each entry, and in
+-- version 2 one more for each target of a link. A list is written in a version (`SpellsAs`), and bytes are read in some version
+-- (`Spells`). Our own.
+use Rattle.std.specs.Prelude.{◌≡◌, ℕ, ◌+◌, ◌-◌, ◌<◌, ◌≤◌, ◌^◌, ◌&&◌, ◌||◌, Bool, true, false, List, [], ◌∷◌}
+use Rattle.std.specs.Prelude.{◌++◌, length, map, take, Option, Some, None}
 use Rattle.std.specs.Prelude.{IfSome, is_none, codes}
 use Rattle.std.specs.List.{flat_map, AllByRecursion}
 use Rattle.std.specs.List.Sorted.{IsStrictlySortedBy}
@@ -58,7 +59,7 @@ text_of e =
     (decimal (size_by e.stat) ++ 32 ∷
     (time_word (time_of e.stat) ++ 32 ∷ (mark_word e.mark ++ 32 ∷ (decimal e.unnamed ++ 32 ∷ (decimal e.far ++ 32 ∷ escape e.path)))))
 
--- the first line's text, by which a text tells its version
+-- the first line's text, which names the version
 abbrev pub header_text : Version → List ℕ
 header_text One = codes "mfu list 1"
 header_text Two = codes "mfu list 2"
@@ -67,12 +68,12 @@ header_text Two = codes "mfu list 2"
 abbrev pub target_text : List ℕ → List ℕ
 target_text target = 62 ∷ 32 ∷ escape target
 
--- the line of a target, where there is one
+-- the line of a target, if there is one
 abbrev pub target_lines : Option (List ℕ) → List (List ℕ)
 target_lines None = []
 target_lines (Some target) = line (target_text target) ∷ []
 
--- the lines of an entry: its own, and behind it that of its target
+-- the lines of an entry: its own, and after it that of its target
 abbrev pub lines_by : Entry → List (List ℕ)
 lines_by e = line (text_of e) ∷ target_lines e.target
 
@@ -99,7 +100,7 @@ pub record IsEntry (e : Entry) : Type 0 where
   pub unnamed : e.unnamed < 2 ^ 64
   pub far : e.far < 2 ^ 64
 
--- the marks that version 1 can tell: it tells of directories alone that they changed
+-- the marks that version 1 can have: only a directory can have changed
 abbrev pub is_old : Mark → Option Stat → Bool
 is_old mark.Fine stat = true
 is_old mark.StatFailed stat = true
@@ -111,12 +112,12 @@ abbrev pub is_marked : Version → Mark → Option Stat → Bool
 is_marked One m stat = is_old m stat
 is_marked Two m stat = true
 
--- a version that tells targets
+-- a version that has targets
 abbrev pub is_new : Version → Bool
 is_new One = false
 is_new Two = true
 
--- an entry that a list file of this version can tell
+-- an entry that a list file of this version can have
 abbrev pub is_known : Version → Entry → Bool
 is_known v e = (is_none e.target || is_new v) && is_marked v e.mark e.stat
 
@@ -126,13 +127,13 @@ IsKnown v e = is_known v e ≡ true
 abbrev pub paths : List Entry → List (List ℕ)
 paths entries = map (λ e. e.path) entries
 
--- entries of which a list file can tell: their paths ascend strictly in path order, and their number has 64 bits
+-- entries that a list file can have: their paths ascend strictly in path order, and their number has 64 bits
 pub record IsList (entries : List Entry) : Type 0 where
   pub count : length entries < 2 ^ 64
   pub each : AllByRecursion IsEntry entries
   pub ascend : IsStrictlySortedBy path_cmp (paths entries)
 
--- an entry may come behind the others
+-- an entry may come after the others
 abbrev pub Follows : List Entry → Entry → Type 0
 Follows entries e = IsStrictlySortedBy path_cmp (paths (entries ++ e ∷ []))
 
@@ -147,8 +148,8 @@ pub record Spells (bytes : List ℕ) (entries : List Entry) : Type 0 where
   pub version : Version
   pub spells : SpellsAs version bytes entries
 
--- the first n lines of the text are the first n of some list file of either version; where the text has fewer than n lines, they are all
--- that this file has
+-- the first n lines of the text are the first n of some list file of either version. If the text has fewer than n lines, they
+-- are all lines of this file
 pub record Begins (n : ℕ) (bytes : List ℕ) : Type 0 where
   pub version : Version
   pub entries : List Entry
@@ -166,7 +167,7 @@ pub record IsDamaged (bytes : List ℕ) (n : ℕ) : Type 0 where
 abbrev pub max_entries : ℕ
 max_entries = 4194304
 
--- a header and the lines of one entry more than a list may have stand first
+-- the text begins with a header and the lines of one entry more than a list may have
 pub record IsTooLong (bytes : List ℕ) : Type 0 where
   pub version : Version
   pub entries : List Entry
@@ -193,7 +194,7 @@ pub record SpellsOne : Type 0 where
   pub one_list : (a : List ℕ) (entries others : List Entry) → Spells a entries → Spells a others → entries ≡ others
   pub no_prefix : (a rest : List ℕ) (entries others : List Entry) → Spells a entries → Spells (a ++ rest) others → rest ≡ []
 
--- a text is damaged at one line at most, no list's text is, and it is too long only where the list is
+-- a text is damaged at one line at most, no list's text is, and it is too long only if the list is
 pub record RefusesExactly : Type 0 where
   pub one_line : (a : List ℕ) (m n : ℕ) → IsDamaged a m → IsDamaged a n → m ≡ n
   pub no_damage : (a : List ℕ) (entries : List Entry) (n : ℕ) → Spells a entries → IsDamaged a n → ⊥

@@ -7,7 +7,7 @@ use crate::passing::Reader;
 use path_text::OutOfMemory;
 use std::marker::Model;
 
-/// Goes over the entries of a list in their order: seen as (the list, how many entries were passed).
+/// Goes over the entries of a list in their order: seen as (the list, how many entries are passed).
 #[derive(Debug, Drop)]
 pub struct Cursor<'a> {
     reader: Reader<'a>,
@@ -33,8 +33,8 @@ impl<'a> Cursor<'a> {
         Cursor { reader }
     }
 
-    /// Passes the next entry. It answers whether there was one. A refusal leaves the cursor. Memory is taken where no path so
-    /// far was as long as the next.
+    /// Passes the next entry, and answers whether there was one. A refusal leaves the cursor. It takes memory if the next path
+    /// is longer than all before.
     pub fn advance(&mut self) -> Result<bool, OutOfMemory>
         ensures answer { IfOk result (λ more. more ≡ nat_lt self.old.1 (length self.old.0)) }
         ensures passed { IfOk result (λ more. self.new ≡ (self.old.0, if more then self.old.1 + 1 else self.old.1)) }
@@ -56,7 +56,7 @@ impl<'a> Cursor<'a> {
         self.reader.falls()
     }
 
-    // How many bytes the path passed last shares with the one before, or fewer. Speed alone rests on the answer.
+    // How many bytes the path passed last shares with the one before, or fewer. Only speed depends on the answer.
     pub(crate) fn shared(&self) -> usize {
         self.reader.shared()
     }

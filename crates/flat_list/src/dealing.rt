@@ -31,7 +31,7 @@ fn no_places(alloc: Global, count: usize) -> Result<Vec<Vec<usize>>, OutOfMemory
     Ok(levels)
 }
 
-// How many levels there are down to the deepest entry.
+// How many levels there are, down to the deepest entry.
 #[tactic(auto, using(crate::proofs::Dealt::count_step, crate::proofs::Dealt::count_all))]
 fn level_count(list: &FlatList) -> Result<usize, OutOfMemory>
     ensures { IfOk result (λ count. count ≡ level_count list.now) }
@@ -50,7 +50,7 @@ fn greater(a: usize, b: usize) -> usize
     if a < b { b } else { a }
 }
 
-// Copies of the entries in n pieces, each entry to the piece whose number its place leaves when it is divided by n.
+// Copies of the entries in n pieces: an entry goes to the piece whose number is the rest of its place divided by n.
 pub(crate) fn pieces_of(list: &FlatList, n: u32) -> Result<Vec<FlatList>, OutOfMemory>
     requires { 1 ≤ n }
     ensures { IfOk result (λ pieces. pieces.items ≡ map (λ j. dealt n j list.now) (range_with_len 0 n)) }

@@ -1,4 +1,4 @@
-//! A list file read.
+//! Reads a list file.
 ghost use Rattle.std.specs.Prelude.{◌≡◌, ◌≢◌, ◌+◌, ◌<◌, ◌≤◌, ◌^◌, ◌++◌, ◌∷◌, [], length, true, false, Some, None, IfOk, IfErr, IfSome, IfNone, OnOk, OnErr};
 ghost use Rattle.std.specs.List.Sorted.{IsStrictlySortedBy};
 ghost use Rattle.path_text.specs.Order.{path_cmp};
@@ -19,13 +19,13 @@ use whole_lines::{cut_line, end_at};
 
 const MAX_ENTRIES: usize = 4_194_304;
 
-/// The list that a list file of either version tells.
+/// The list of a list file of either version.
 pub(crate) fn decode(alloc: Global, bytes: &[u8]) -> Result<FlatList, CacheError>
     ensures ok { IfOk result (λ list. Spells bytes.now list) }
     ensures few { IfOk result (λ list. length list ≤ max_entries) }
     ensures refused { IfErr result (IsCause bytes.now) }
 {
-    // That no other text tells the same entry, and none the same target, rests on these laws.
+    // These laws say that no other text has the same entry, and none the same target.
     reading_undoes_writing();
     link_reading_undoes_writing();
     let Some((version, rest)) = behind_header(bytes) else {
@@ -52,7 +52,7 @@ pub(crate) fn decode(alloc: Global, bytes: &[u8]) -> Result<FlatList, CacheError
     Err(CacheError::Damaged(line))
 }
 
-// The version that the header tells, and what stands behind it.
+// The version that the header names, and the text after the header.
 fn behind_header(bytes: &[u8]) -> Option<(Version, &[u8])>
     ensures some { IfSome result (λ found. cut 10 bytes.now ≡ Some (header_text found.0, found.1.now)) }
     ensures none { IfNone result (IsRefused bytes.now 1) }
@@ -89,15 +89,15 @@ fn is_end(text: &[u8], list: &FlatList) -> bool
     }
 }
 
-// What is left of a text behind an entry, and how many lines the entry has.
+// The text that is left after an entry, and how many lines the entry has.
 #[derive(Clone, Copy, Drop)]
 struct Next<'a> {
     rest: &'a [u8],
     lines: u64,
 }
 
-// Adds the entry whose text this is, with the target behind it, if there is one that may come behind the others, the last of
-// which is given.
+// Adds the entry whose text this is, with the target after it, if there is one that may come after the others. `last` is the
+// last of the others.
 #[tactic(auto, using(crate::proofs::Decoded::last_is))]
 fn add_entry<'a>(
     alloc: Global,
@@ -126,7 +126,7 @@ fn add_entry<'a>(
     Ok(Some(next))
 }
 
-// Gives an entry the target that was found behind it, if one was, and tells what is behind both.
+// Gives an entry the target that was found after it, if there was one. It answers the text after both too.
 fn take_found<'a>(
     entry: &mut Entry,
     found: Option<(LinkText, &'a [u8])>,
@@ -148,7 +148,7 @@ fn take_found<'a>(
     }
 }
 
-// The list, if nothing stands behind its end line, which has this number.
+// The list, if there is nothing after its end line, which has this number.
 fn ended(list: FlatList, line: u64, behind: &[u8]) -> Result<FlatList, CacheError>
     requires { line < 2 ^ 63 }
     ensures ok { IfOk result (λ same. (same ≡ list) × (length behind.now ≡ 0)) }

@@ -1,4 +1,4 @@
-//! A list file written.
+//! Writes a list file.
 ghost use Rattle.std.specs.Prelude.{◌≡◌, ◌+◌, ◌<◌, ◌++◌, ◌∷◌, [], true, map, All, IfOk, OnOk, IfSome, Some, ◌^◌};
 ghost use Rattle.std.specs.List.{flat_map};
 ghost use Rattle.std.specs.List.Sorted.{IsStrictlySortedBy};
@@ -17,7 +17,7 @@ use itoa::Buffer;
 use outside::{Kind, LinkText, Stat};
 use path_text::{OutOfMemory, put_escaped, put_escaped_bytes};
 
-// What a line has beside its path, where it tells a size of six digits and a time, and no number of names.
+// The bytes of a line without its path, if it has a size of six digits and a time, and no number of names.
 const LINE_LEN: usize = 28;
 
 /// The list file of a list.
@@ -36,7 +36,7 @@ pub(crate) fn encode(list: &FlatList) -> Result<Vec<u8>, OutOfMemory>
     Ok(text)
 }
 
-// So many bytes the file has where no byte of a path is escaped, or somewhat fewer or more.
+// The bytes of the file if no byte of a path is escaped, or somewhat fewer or more.
 fn expected_len(list: &FlatList) -> usize {
     let paths = usize::try_from(list.path_bytes()).unwrap_or(0);
     paths.saturating_add(list.len().saturating_mul(LINE_LEN))
@@ -70,12 +70,12 @@ fn put_line(text: &mut Vec<u8>, entry: &Entry) -> Result<(), OutOfMemory>
     put_notes(text, entry.mark, entry.unnamed, entry.far)?;
     put_escaped(text, &entry.path)?;
     text.push(b'\n')?;
-    // That a path is UTF-8 is told by its text alone.
+    // The text alone shows that a path is UTF-8.
     let _text = entry.path.text();
     Ok(())
 }
 
-// The line of a target, where there is one.
+// The line of a target, if there is one.
 fn put_target(text: &mut Vec<u8>, target: &Option<LinkText>) -> Result<(), OutOfMemory>
     ensures text { OnOk result (text.new.items ≡ text.old.items ++ flat_map (λ l. l) (target_lines target.now)) }
     ensures target { OnOk result (IfSome target.now IsTarget) }
@@ -96,7 +96,7 @@ fn put_target_line(text: &mut Vec<u8>, target: &LinkText) -> Result<(), OutOfMem
     Ok(())
 }
 
-// The words of a stat, each with a space behind it.
+// The words of a stat, each with a space after it.
 fn put_stat(text: &mut Vec<u8>, stat: Option<Stat>) -> Result<(), OutOfMemory>
     ensures text { OnOk result (text.new.items ≡ text.old.items ++ (kind_word (kind_by stat) ++ 32 ∷ (decimal (size_by stat) ++ 32 ∷ (time_word (time_of stat) ++ 32 ∷ [])))) }
     ensures size { OnOk result (size_by stat < 2 ^ 64) }
@@ -124,7 +124,7 @@ fn put_words(
     put_time(text, mtime)
 }
 
-// The words of a mark and of two numbers, each with a space behind it. Mostly there is nothing to note.
+// The words of a mark and of two numbers, each with a space after it. Mostly there is nothing to note.
 fn put_notes(text: &mut Vec<u8>, mark: Mark, unnamed: u64, far: u64) -> Result<(), OutOfMemory>
     ensures text { OnOk result (text.new.items ≡ text.old.items ++ (mark_word mark ++ 32 ∷ (decimal unnamed ++ 32 ∷ (decimal far ++ 32 ∷ [])))) }
     ensures unnamed { OnOk result (unnamed < 2 ^ 64) }

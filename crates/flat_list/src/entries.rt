@@ -1,39 +1,39 @@
-//! What a walk tells of a path.
+//! An entry: a path, and the file system's answers for it.
 ghost use Rattle.std.specs.Prelude.{◌≡◌, IfOk, OnOk, OnErr};
 
 use outside::{Kind, LinkText, Stat};
 use path_text::{OutOfMemory, Path, compare};
 use std::cmp::Ordering;
 
-/// How the files answered of a path.
+/// How the file system answered for a path.
 #[derive(Clone, Copy, Debug, Drop, PartialEq, Eq)]
 pub enum Mark {
-    /// As they are.
+    /// Each call was answered.
     Fine,
-    /// Its stat failed, or the reading of a link's text.
+    /// The call for its stat failed, or the reading of a link's text.
     StatFailed,
-    /// It is a directory, and its names failed.
+    /// It is a directory, and the reading of its names failed.
     ListFailed,
     /// Nothing is there.
     Gone,
-    /// It was told to be a directory or a link, and then not to be.
+    /// It was a directory or a link at first, and then it was not.
     Changed,
 }
 
-/// What a walk tells of a path.
+/// A path, and the file system's answers for it.
 #[derive(Debug, Drop)]
 pub struct Entry {
     /// The path.
     pub path: Path,
-    /// What stands there, where it was told.
+    /// The kind, size and time of the file at the path, if they are known.
     pub stat: Option<Stat>,
-    /// How the files answered.
+    /// How the file system answered.
     pub mark: Mark,
-    /// How many names in it are no text.
+    /// How many names in it are not text.
     pub unnamed: u64,
     /// How many of its children have a path that would be too long.
     pub far: u64,
-    /// Where a link leads, where its text was told. An entry read from a list file of version 1 has none.
+    /// The text of a link, if it was read. An entry read from a list file of version 1 has none.
     pub target: Option<LinkText>,
 }
 
@@ -63,7 +63,7 @@ fn copy_target(target: &Option<LinkText>) -> Result<Option<LinkText>, OutOfMemor
     }
 }
 
-// An entry becomes another, in its own memory where that is enough. A refusal leaves it.
+// An entry becomes another, in its own memory if that is enough. A refusal leaves it.
 pub(crate) fn write_over(slot: &mut Entry, entry: &Entry) -> Result<(), OutOfMemory>
     ensures ok { OnOk result (slot.new ≡ entry.now) }
     ensures err { OnErr result (slot.new ≡ slot.old) }
@@ -78,15 +78,15 @@ pub(crate) fn write_over(slot: &mut Entry, entry: &Entry) -> Result<(), OutOfMem
     Ok(())
 }
 
-// Compares two paths that share so many bytes, or more, as far as both go: what stands behind decides. Speed alone rests on
-// the answer.
+// Compares two paths that share this many bytes, or more, up to the end of the shorter one: the bytes after them decide. Only
+// speed depends on the answer.
 pub(crate) fn compare_behind(a: &Path, b: &Path, shared: usize) -> Ordering {
     let (a, b) = (a.text().as_bytes(), b.text().as_bytes());
     let at = shared.min(a.len()).min(b.len());
     compare(&a[at..], &b[at..])
 }
 
-// Whether a directory stands there, as far as was told.
+// Whether a directory is there, as far as is known.
 pub(crate) fn is_dir(entry: &Entry) -> bool {
     match entry.stat {
         Some(stat) => stat.kind == Kind::Dir,

@@ -1,18 +1,18 @@
-//! Why a text is no list file.
+//! Why a text is not a list file.
 use path_text::OutOfMemory;
 use thiserror::Error;
 
-/// Why a text is refused as a list file.
+/// Why [`FlatList::decode`](crate::FlatList::decode) refuses a text.
 #[derive(Clone, Copy, Debug, Drop, PartialEq, Eq, Error)]
 pub enum CacheError {
-    /// The lines before this one begin some list file, and with it they do not. Lines are counted from 1, and behind the
-    /// last line of a text stands its end.
+    /// The lines before this one begin some list file, and together with this one they do not. Lines are counted from 1, and
+    /// the line after the last line of a text is its end.
     #[error("the list is damaged at line {0}")]
     Damaged(u64),
-    /// No memory was found.
+    /// Out of memory.
     #[error("out of memory")]
     OutOfMemory,
-    /// The lines of more than 4,194,304 entries stand first.
+    /// The text begins with the lines of more than 4,194,304 entries.
     #[error("the list has too many entries")]
     TooMany,
 }

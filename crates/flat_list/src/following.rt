@@ -1,7 +1,8 @@
-//! The path that a line of a list file tells, read behind the path of the line before it.
+//! Reads the path of a line of a list file that comes after the path of the line before it.
 //!
-//! In a list a path has mostly the names of the one before it, all but the last. Where that is so, and the text is printable
-//! ASCII in which each byte stands for itself, only that last name is looked at, and the path before is rewritten. Our own.
+//! In a list a path mostly has all names of the one before it but the last. Suppose that it does, and that the text is
+//! printable ASCII in which each byte is itself. Then only the last name is looked at, and the path before is overwritten. Our
+//! own.
 ghost use Rattle.std.specs.Prelude.{◌≡◌, true, IfOk, IfSome};
 ghost use Rattle.std.specs.List.{list_all};
 ghost use Rattle.std.specs.Str.{IsUtf8};
@@ -12,7 +13,7 @@ use path_text::{MAX_PATH, OutOfMemory, Path, common_len, compare, reading_undoes
 use std::alloc::Global;
 use whole_lines::path_from;
 
-/// The path that a word tells, if there is one and it comes behind another, whose memory it takes.
+/// The path that a word has, if there is one and it comes after another path, whose memory it takes.
 #[tactic(auto, unfolding(crate::specs::Private::Reading::path_behind))]
 pub(crate) fn path_behind(
     alloc: Global,
@@ -34,13 +35,13 @@ pub(crate) fn path_behind(
     Ok(Some(path))
 }
 
-// The path that a word tells of which all before a place stands in the path before it, if it comes behind that one.
+// The path that a word has, if the path before has all of it up to a place, and if it comes after that path.
 fn moved(before: Path, word: &[u8], at: usize) -> Result<Option<Path>, OutOfMemory>
     requires { IsNear before word.now at }
     ensures read { IfOk result (λ found. found ≡ path_behind before word.now) }
     ensures utf8 { IfOk result (λ found. IfSome found (λ path. IsUtf8 path)) }
 {
-    // That each byte stands for itself rests on this law.
+    // This law says that each byte is itself.
     reading_undoes_writing();
     if !compare(&before.text().as_bytes()[at..], &word[at..]).is_lt() {
         return Ok(None);
@@ -50,8 +51,8 @@ fn moved(before: Path, word: &[u8], at: usize) -> Result<Option<Path>, OutOfMemo
     Ok(Some(path))
 }
 
-// Where the last name of a word begins, with the slash before it, where all before it stands in the path before, and each byte
-// is printable ASCII and stands for itself.
+// Where the last name of a word begins, with the slash before it. All before that place has to be in the path before, and each
+// byte has to be printable ASCII that is itself.
 fn last_name(before: &Path, word: &[u8]) -> Option<usize>
     ensures { IfSome result (IsNear before.now word.now) }
 {
@@ -66,7 +67,7 @@ fn last_name(before: &Path, word: &[u8]) -> Option<usize>
     Some(at)
 }
 
-// Whether each byte is printable ASCII and no backslash. Each is looked at, whatever the others are, so that a processor may
+// Whether each byte is printable ASCII and not a backslash. It looks at each byte, whatever the others are, so a processor may
 // look at many at once.
 fn are_plain(word: &[u8]) -> bool
     ensures { result ≡ list_all is_plain word.now }
@@ -84,14 +85,14 @@ fn is_plain(b: u8) -> bool
     b' ' <= b && b < 0x7F && b != b'\\'
 }
 
-// Whether a name is told to be neither `.` nor `..` by its length or its first byte.
+// Whether the length or the first byte of a name shows that it is neither `.` nor `..`.
 fn is_plain_name(name: &[u8]) -> bool
     ensures { result ≡ true → IsPlainName name.now }
 {
     name.len() > 2 || (name.len() > 0 && name[0] != b'.')
 }
 
-// Whether a path begins with some of another's names, which are one at least.
+// Whether a path begins with one or more of another path's names.
 #[tactic(auto, using(crate::proofs::Near::front))]
 fn is_front(path: &[u8], names: &[u8]) -> bool
     ensures { result ≡ true → IsFront path.now names.now }

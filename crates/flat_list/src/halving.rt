@@ -14,7 +14,7 @@ use std::alloc::Global;
 use std::thread;
 use std::thread::Threads;
 
-// Fewer entries are put in order in one thread.
+// Below this number one thread puts the entries in order.
 const FEW: usize = 4096;
 
 /// All entries of the logs as runs, by up to `hosts` threads.

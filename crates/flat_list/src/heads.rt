@@ -1,4 +1,4 @@
-//! What a list keeps of its entries beside the bytes of their paths.
+//! The heads of a list: all that it keeps of its entries except the bytes of their paths.
 ghost use Rattle.std.specs.Prelude.{◌≡◌, ◌+◌, ◌*◌, ◌%◌, ◌^◌, ◌<◌, ◌≤◌, ◌++◌, ◌∷◌, [], true, false, Some, None, length, drop, slice_get, if◌then◌else◌, OnOk, OnErr, IfOk, IfSome};
 ghost use Rattle.std.specs.Option.{option_map};
 ghost use Rattle.outside.specs.Links.{link_refusal};
@@ -13,8 +13,8 @@ use path_text::OutOfMemory;
 use std::alloc::Global;
 use std::marker::Model;
 
-/// What is kept of an entry beside the bytes of its path and of its target: how many of the path it shares with the path
-/// before, and how many are its own.
+/// All that a list keeps of an entry except the bytes of its path and of its target. `shared` is how many bytes the path shares
+/// with the path before, and `rest` how many are its own.
 #[derive(Clone, Copy, Debug, Drop)]
 pub(crate) struct Head {
     pub stat: Option<Stat>,
@@ -30,11 +30,11 @@ pub(crate) struct Head {
 pub(crate) struct Heads {
     slims: Vec<Slim>,
     odds: Vec<Odd>,
-    // Where the odd ones of each page begin.
+    // Where the odd ones of each page begin: heads with a target, or with a number that is not 0.
     starts: Vec<usize>,
     // The targets, joined.
     texts: Vec<u8>,
-    // Where those of each page begin.
+    // Where the targets of each page begin.
     text_starts: Vec<usize>,
 }
 
@@ -64,7 +64,7 @@ impl Heads {
         }
     }
 
-    // No heads, with room for so many.
+    // No heads, with room for a number of them.
     pub fn with_room(alloc: Global, count: usize) -> Result<Heads, OutOfMemory>
         ensures { IfOk result (λ heads. heads ≡ []) }
     {
@@ -83,7 +83,7 @@ impl Heads {
         self.slims.len()
     }
 
-    // Adds a head with a target behind the others. A refusal leaves them.
+    // Adds a head with a target after the others. A refusal leaves them.
     pub fn push(&mut self, head: Head, target: &Option<LinkText>) -> Result<(), OutOfMemory>
         ensures ok { OnOk result (self.new ≡ self.old ++ with_text head target.now ∷ []) }
         ensures err { OnErr result (self.new ≡ self.old) }
@@ -105,7 +105,7 @@ impl Heads {
         Ok(())
     }
 
-    // Puts the heads of others behind these, which end where a page begins. A refusal leaves them.
+    // Puts the heads of others after these, which end where a page begins. A refusal leaves them.
     pub fn append(&mut self, other: &Heads) -> Result<(), OutOfMemory>
         requires { length self.old % 256 ≡ 0 }
         ensures ok { OnOk result (self.new ≡ self.old ++ other.now) }
@@ -126,7 +126,7 @@ impl Heads {
         Ok(())
     }
 
-    // The heads, none of which was passed.
+    // The heads, none of which is passed.
     pub fn leads(&self) -> Leads<'_>
         ensures { result ≡ (self.now, 0) }
     {
@@ -140,7 +140,7 @@ impl Heads {
         }
     }
 
-    // The heads, of which those before a page were passed.
+    // The heads, of which those before a page are passed.
     pub fn leads_at(&self, page: usize) -> Leads<'_>
         requires { 256 * page < length self.now }
         ensures { result ≡ (self.now, 256 * page) }
@@ -156,16 +156,16 @@ impl Heads {
     }
 }
 
-/// Goes over heads in their order: seen as (the heads, how many were passed).
+/// Goes over heads in their order: seen as (the heads, how many are passed).
 #[derive(Debug, Drop)]
 pub(crate) struct Leads<'a> {
     slims: &'a [Slim],
     odds: &'a [Odd],
     texts: &'a [u8],
     passed: usize,
-    // How many odd ones were passed.
+    // How many odd ones are passed.
     gone: usize,
-    // And how many bytes of targets.
+    // How many bytes of targets are passed.
     at: usize,
 }
 
@@ -182,7 +182,7 @@ impl<'a> Model for Leads<'a> {
 }
 
 impl<'a> Leads<'a> {
-    // Whether all were passed.
+    // Whether all are passed.
     pub fn is_over(&self) -> bool
         ensures yes { result ≡ true → self.now.1 ≡ length self.now.0 }
         ensures no { result ≡ false → self.now.1 < length self.now.0 }
@@ -190,7 +190,8 @@ impl<'a> Leads<'a> {
         self.passed >= self.slims.len()
     }
 
-    // The next head and its target. Heads fit into memory, so there are not many.
+    // The next head and its target. Heads fit into memory, so their number is small.
+    #[inline(always)]
     pub fn next(&self) -> (Head, Option<&'a str>)
         requires { self.now.1 < length self.now.0 }
         ensures next { slice_get self.now.0 self.now.1 ≡ Some (with_text result.0 (option_map (λ t. t.now) result.1)) }
@@ -215,7 +216,7 @@ impl<'a> Leads<'a> {
     }
 }
 
-// The target of so many bytes that stand at a place; `None` where they are none.
+// The target of this length at a place; `None` if the length is 0.
 fn text_at(texts: &[u8], at: usize, len: u16) -> Option<&str>
     requires room { at + len ≤ length texts.now }
     requires valid { is_text (target_by len (drop at texts.now)) ≡ true }
@@ -229,7 +230,7 @@ fn text_at(texts: &[u8], at: usize, len: u16) -> Option<&str>
     Some(unsafe { str::from_utf8_unchecked(&texts[at..end]) })
 }
 
-// The bytes of a target; none where there is none.
+// The bytes of a target; none if there is no target.
 fn bytes_of(target: &Option<LinkText>) -> &[u8]
     ensures { result.now ≡ target_bytes target.now }
 {
@@ -239,7 +240,7 @@ fn bytes_of(target: &Option<LinkText>) -> &[u8]
     }
 }
 
-// How many odd ones were passed, with one head more.
+// How many odd ones are passed, with one head more.
 fn gone_after(gone: usize, odd: bool) -> usize
     requires { gone + 1 < 2 ^ 64 }
     ensures { result ≡ (if odd then gone + 1 else gone) }

@@ -33,8 +33,8 @@ use std::alloc::Global;
 use std::marker::Model;
 use std::thread::Threads;
 
-/// Entries in pages of 256, seen as their list. Of each entry a head is kept, and of its path what it does not share with the
-/// one before; the first path of a page is kept whole.
+/// Entries in pages of 256, seen as their list. Of each entry it keeps a head, and the part of the path that the path before
+/// does not share. The first path of a page is whole.
 #[derive(Debug, Drop)]
 pub struct FlatList {
     heads: Heads,
@@ -71,7 +71,7 @@ impl FlatList {
         }
     }
 
-    // No entries, with room for the heads of so many.
+    // No entries, with room for the heads of a number of them.
     fn with_room(alloc: Global, count: usize) -> Result<FlatList, OutOfMemory>
         ensures { IfOk result (λ list. list ≡ []) }
     {
@@ -157,7 +157,7 @@ impl FlatList {
         self.len() == 0
     }
 
-    /// Adds a copy of an entry behind the others. A refusal leaves the list.
+    /// Adds a copy of an entry after the others. A refusal leaves the list.
     pub fn add(&mut self, entry: &Entry) -> Result<(), OutOfMemory>
         ensures ok { OnOk result (self.new ≡ self.old ++ entry.now ∷ []) }
         ensures err { OnErr result (self.new ≡ self.old) }
@@ -176,8 +176,8 @@ impl FlatList {
         )
     }
 
-    /// Puts the entries of another list behind those of this one, which ends where a page begins: what is kept of them is copied
-    /// as it stands. A refusal leaves the list.
+    /// Puts the entries of another list after those of this one, which ends where a page begins. It copies them as they are
+    /// kept. A refusal leaves the list.
     pub(crate) fn append(&mut self, other: &FlatList) -> Result<(), OutOfMemory>
         requires { length self.old % 256 ≡ 0 }
         ensures ok { OnOk result (self.new ≡ self.old ++ other.now) }
@@ -197,7 +197,7 @@ impl FlatList {
         Ok(())
     }
 
-    // Puts the entries of another list behind those of this one, as they are kept where this one ends at a page.
+    // Puts the entries of another list after those of this one: as they are kept, if this one ends where a page does.
     pub(crate) fn put_behind(&mut self, other: &FlatList) -> Result<(), OutOfMemory>
         ensures { OnOk result (self.new ≡ self.old ++ other.now) }
     {
@@ -207,7 +207,7 @@ impl FlatList {
         Source::make(other)?.give_all(self)
     }
 
-    // Whether the last path comes before the first one of another list. Speed alone rests on the answer.
+    // Whether the last path comes before the first one of another list. Only speed depends on the answer.
     pub(crate) fn is_before(&self, other: &FlatList) -> bool {
         let heads = other.heads.leads();
         if heads.is_over() {
@@ -220,8 +220,8 @@ impl FlatList {
         }
     }
 
-    /// Keeps the entries for which `keep` answers `true`, in their order, and drops the others. A refusal leaves the list. What
-    /// is kept is packed beside the list before that is dropped.
+    /// Keeps the entries for which `keep` answers `true`, in their order, and drops the others. A refusal leaves the list. It
+    /// packs the kept entries beside the list before it drops the list.
     pub fn retain<F: FnMut(&Entry) -> bool>(&mut self, keep: F) -> Result<(), OutOfMemory>
         requires { F.IsAlwaysCallable keep }
         ensures ok { OnOk result (IsFiltered (CalledAt F.FnMut) keep self.old self.new) }
@@ -247,7 +247,7 @@ impl FlatList {
         Ok(kept)
     }
 
-    // Adds a copy of an entry behind the others, where it is wanted.
+    // Adds a copy of an entry after the others, if `wanted`.
     fn add_if(&mut self, wanted: bool, entry: &Entry) -> Result<(), OutOfMemory>
         ensures { OnOk result (self.new ≡ self.old ++ (if wanted then entry.now ∷ [] else [])) }
     {
@@ -257,7 +257,7 @@ impl FlatList {
         self.add(entry)
     }
 
-    /// All entries of the logs, in path order, soonest where ranks of a walk made them.
+    /// All entries of the logs, in path order. It is fastest if ranks of a walk made the logs.
     pub fn from_jobs(alloc: Global, logs: Vec<Vec<Entry>>) -> Result<FlatList, OutOfMemory>
         ensures all { IfOk result (λ list. IsPermutation (flat_map (λ log. log.items) logs.items) list) }
         ensures sorted { IfOk result (λ list. IsSortedByKey (λ e. e.path) path_cmp list) }
@@ -267,9 +267,9 @@ impl FlatList {
         Ok(list)
     }
 
-    /// All entries of the logs, in path order, soonest where ranks of a walk made them. Up to `hosts` threads read the logs, and
-    /// put them in order a piece at a time; the pieces are then brought together. A log is dropped as soon as it is read, and a
-    /// piece as soon as it is joined to others. So it takes room for all entries, packed, once more.
+    /// All entries of the logs, in path order. It is fastest if ranks of a walk made the logs. Up to `hosts` threads read the
+    /// logs, and put them in order a piece at a time; then the pieces are joined. It drops a log as soon as it has read it, and
+    /// a piece as soon as it has joined it. So it takes room for all entries, packed, once more.
     pub fn from_logs<R: Threads + Sync>(
         rt: &R,
         alloc: Global,
@@ -285,8 +285,8 @@ impl FlatList {
         Ok(list)
     }
 
-    /// All entries of some lists, in path order: soonest where each is in path order already, since such lists are merged. The
-    /// lists are dropped when they are merged, so it takes room for all entries, packed, once more.
+    /// All entries of some lists, in path order. It is fastest if each list is in path order already, since it merges such
+    /// lists. It drops the lists as it merges them, so it takes room for all entries, packed, once more.
     pub fn from_lists(alloc: Global, runs: Vec<FlatList>) -> Result<FlatList, OutOfMemory>
         ensures all { IfOk result (λ list. IsPermutation (flat_map (λ run. run) runs.items) list) }
         ensures sorted { IfOk result (λ list. IsSortedByKey (λ e. e.path) path_cmp list) }
@@ -311,8 +311,8 @@ impl FlatList {
         Ok(reader.into_entry())
     }
 
-    /// The rests of the entries of a page, joined: the first path whole, of each later one what it does not share with the one
-    /// before. It takes no memory.
+    /// The rests of the entries of a page, joined. The first path is whole, and each later rest is the part that the path before
+    /// does not share. It takes no memory.
     pub fn page(&self, k: usize) -> &[u8]
         requires { 256 * k < length self.now }
         ensures { result.now ≡ page_of k self.now }
@@ -335,8 +335,8 @@ impl FlatList {
         Ok(true)
     }
 
-    /// Puts the entries in path order. Entries of one path stay in their order. A list that is in path order already takes
-    /// one pass and room for one path; any other is unpacked while it is sorted. A refusal leaves the list.
+    /// Puts the entries in path order. Entries of one path stay in their order. A list that is in path order already takes one
+    /// pass and room for one path. Any other list is unpacked while it is sorted. A refusal leaves the list.
     pub fn sort_path(&mut self) -> Result<(), OutOfMemory>
         ensures all { IsPermutation self.old self.new }
         ensures sorted { OnOk result (IsSortedByKey (λ e. e.path) path_cmp self.new) }
@@ -352,7 +352,7 @@ impl FlatList {
         Ok(())
     }
 
-    /// The first place of a path. It looks at the entries one by one, since a list may stand in any order, and takes no memory.
+    /// The first place of a path. It looks at the entries one by one, since a list may have any order, and takes no memory.
     pub fn place_of(&self, path: &Path) -> Option<usize>
         ensures { result ≡ place_of path.now self.now }
     {
@@ -374,7 +374,7 @@ impl FlatList {
         Ok(())
     }
 
-    /// The places of the entries of each level, level 0 first, down to the level of the deepest entry.
+    /// The places of the entries of each level, from level 0 to the level of the deepest entry.
     pub fn levels(&self) -> Result<Vec<Vec<usize>>, OutOfMemory>
         ensures { IfOk result (λ levels. map (λ places. places.items) levels.items ≡ map (λ k. places_at k self.now) (range_with_len 0 (level_count self.now))) }
     {
@@ -389,9 +389,11 @@ impl FlatList {
         pieces_of(self, n)
     }
 
-    /// The list file, version 2: the line `mfu list 2`; a line for each entry, `KIND SIZE MTIME MARK UNNAMED FAR PATH`, the path
-    /// as [`escape`](path_text::escape) writes it, and behind it, where it has a target, the line `> TARGET`, written so too; and
-    /// the line `end COUNT`. It takes time in proportion to its text.
+    /// The list file, version 2. It takes time in proportion to its text. Its lines are:
+    /// - `mfu list 2`;
+    /// - for each entry `KIND SIZE MTIME MARK UNNAMED FAR PATH`, the path as [`escape`](path_text::escape) writes it;
+    /// - after an entry that has a target `> TARGET`, escaped too;
+    /// - `end COUNT`.
     pub fn encode(&self) -> Result<Vec<u8>, OutOfMemory>
         requires ascend { IsStrictlySortedBy path_cmp (paths self.now) }
         requires shaped { All (λ e. is_shaped e ≡ true) self.now }
@@ -400,7 +402,8 @@ impl FlatList {
         encode(self)
     }
 
-    /// The list that a list file of either version tells, or why the bytes are none. It takes time in proportion to them.
+    /// The list of a list file of either version, or why the bytes are not a list file. It takes time in proportion to the
+    /// bytes.
     pub fn decode(alloc: Global, bytes: &[u8]) -> Result<FlatList, CacheError>
         ensures ok { IfOk result (λ list. Spells bytes.now list) }
         ensures few { IfOk result (λ list. length list ≤ max_entries) }
@@ -441,7 +444,7 @@ fn rests_len(lists: &[FlatList]) -> usize {
     len
 }
 
-// Where the rests of a page begin; where there is no such page, how many bytes there are.
+// Where the rests of a page begin; if there is no such page, how many bytes there are.
 fn begin_of(starts: &[usize], page: usize, count: usize) -> usize
     ensures { result ≡ slice_index_or starts.now page count }
 {

@@ -1,9 +1,9 @@
-//! Runs that become one list.
+//! Joins runs to one list.
 //!
-//! Where each run comes before the one before it, as those of one rank do, they are joined as they are kept, the last one first.
-//! Others are merged: the run whose next entry comes first gives its entries until that of another comes first. Which run is
-//! next is found by halving among the others, kept in falling order of their next entries, so of many runs few paths are
-//! compared. Nothing is promised of the order: whoever wants a list in order goes over it once more.
+//! Runs of which each comes before the one before it, as those of one rank do, are joined as they are kept, the last first.
+//! Others are merged: the run whose next entry comes first gives its entries until that of another comes first. The others are
+//! kept in falling order of their next entries, and the next run is found among them by halving. So even of many runs few paths
+//! are compared. Nothing is promised of the order: a caller that needs a list in order goes over it once more.
 ghost use Rattle.std.specs.Prelude.{◌≡◌, ◌++◌, ◌≤◌, length, OnOk, IfOk};
 ghost use Rattle.std.specs.List.{flat_map};
 ghost use Rattle.std.specs.List.Sorted.{IsPermutation};
@@ -13,8 +13,8 @@ use crate::sources::Source;
 use path_text::{OutOfMemory, common_len};
 use std::alloc::Global;
 
-/// All entries of the runs; where each run is in path order, so are they. Runs that come in falling order, as one rank's do,
-/// are joined as they are kept.
+/// All entries of the runs. If each run is in path order, so are they. Runs that come in falling order, as one rank's do, are
+/// joined as they are kept.
 pub(crate) fn joined(alloc: Global, runs: Vec<FlatList>) -> Result<FlatList, OutOfMemory>
     ensures { IfOk result (λ all. IsPermutation (flat_map (λ run. run) runs.items) all) }
 {
@@ -34,7 +34,7 @@ fn fall(runs: &[FlatList]) -> bool {
     true
 }
 
-// All entries of the runs, those of the last one first. Each run is dropped as soon as it is joined.
+// All entries of the runs, those of the last one first. It drops each run as soon as it has joined it.
 fn turned(alloc: Global, runs: Vec<FlatList>) -> Result<FlatList, OutOfMemory>
     ensures { IfOk result (λ all. IsPermutation (flat_map (λ run. run) runs.items) all) }
 {
@@ -88,7 +88,7 @@ fn waiting_of(alloc: Global, sources: &[Source<'_>]) -> Result<Vec<usize>, OutOf
     Ok(waiting)
 }
 
-// The sources give so many entries, each that which comes first.
+// The sources give this many entries, each time the one that comes first.
 fn give_in_turn(
     all: &mut FlatList,
     sources: &mut Vec<Source<'_>>,
@@ -108,7 +108,7 @@ fn give_in_turn(
     Ok(())
 }
 
-// What is left in the sources goes behind the others.
+// All that is left in the sources goes after the others.
 fn give_rest(all: &mut FlatList, sources: Vec<Source<'_>>) -> Result<(), OutOfMemory>
     ensures { OnOk result (all.new ≡ all.old ++ flat_map (λ s. s) sources.entry.items) }
 {
@@ -119,8 +119,8 @@ fn give_rest(all: &mut FlatList, sources: Vec<Source<'_>>) -> Result<(), OutOfMe
     Ok(())
 }
 
-// Which source gives, and how many bytes its next path shares with that of the source that waits at the end; more than any path
-// has where that is not known.
+// Which source gives, and how many bytes its next path shares with that of the source that waits at the end. If that is not
+// known, the number is higher than the length of any path.
 #[derive(Clone, Copy, Drop)]
 struct Turn {
     at: usize,
@@ -135,8 +135,8 @@ fn first_turn(sources: &[Source<'_>], waiting: &mut Vec<usize>) -> Turn {
     }
 }
 
-// Which source is next, behind one that just gave an entry. Where its next path shares more with the one that it gave than that
-// did with the one that waits, it comes first as that did, and no paths are compared.
+// Which source is next, after one that just gave an entry. Suppose that its next path shares more with the one it gave than
+// that one did with the one that waits. Then it comes first as that one did, and no paths are compared.
 fn next_turn(sources: &[Source<'_>], waiting: &mut Vec<usize>, turn: Turn) -> Turn {
     if is_over(sources, turn.at) {
         return first_turn(sources, waiting);

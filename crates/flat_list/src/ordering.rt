@@ -8,7 +8,7 @@ use crate::entries::Entry;
 use outside::{Kind, Stat};
 use std::cmp::Ordering;
 
-/// What a list is sorted by.
+/// The field that a list is sorted by.
 #[derive(Clone, Copy, Debug, Drop, PartialEq, Eq)]
 pub enum Field {
     /// The path, in path order.
@@ -19,11 +19,11 @@ pub enum Field {
     Size,
     /// The time of the last change.
     Mtime,
-    /// The kind: files, directories, links, and all else.
+    /// The kind: files, directories, links, and then all others.
     Kind,
 }
 
-// How two entries stand: by the field, upwards or downwards, and where it ties by path.
+// How two entries compare: by the field, upwards or downwards, and by path if it ties.
 pub(crate) fn sort_order(field: Field, down: bool, a: &Entry, b: &Entry) -> Ordering
     ensures { result ≡ sort_order field down a.now b.now }
 {
@@ -50,7 +50,7 @@ fn by_field(field: Field, a: &Entry, b: &Entry) -> Ordering
     }
 }
 
-// What is missing is below all else.
+// A missing value is below all others.
 fn compare(a: Option<u64>, b: Option<u64>) -> Ordering
     ensures { result ≡ option_cmp nat_cmp a b }
 {

@@ -1,4 +1,4 @@
-//! An entry is packed behind others.
+//! Packs an entry after others.
 ghost use Rattle.std.specs.Prelude.{◌≡◌, ◌+◌, ◌*◌, ◌%◌, ◌<◌, ◌≤◌, ◌++◌, ◌∷◌, [], None, length, take, drop, OnOk, OnErr, if◌then◌else◌, ◌==◌};
 ghost use Rattle.std.specs.Vec.{vec_len, vec_capacity};
 ghost use Rattle.path_text.specs.Path.{refusal};
@@ -23,7 +23,7 @@ pub(crate) fn shared_of(place: usize, last: &[u8], path: &[u8]) -> usize
     common_len(last, path)
 }
 
-/// What is kept of an entry beside the bytes of its path.
+/// The head of an entry, without its target.
 #[tactic(auto, using(path_text::proofs::Parts::short))]
 pub(crate) fn head_of(entry: &Entry, path: &str, shared: usize) -> Head
     requires path { path.now ≡ entry.now.path }
@@ -41,7 +41,7 @@ pub(crate) fn head_of(entry: &Entry, path: &str, shared: usize) -> Head
     }
 }
 
-/// Puts a head, a target and what its path does not share behind the others. A refusal leaves all.
+/// Puts a head, a target and the rest of its path after the others. A refusal leaves all.
 pub(crate) fn put(
     heads: &mut Heads,
     starts: &mut Vec<usize>,
@@ -76,7 +76,7 @@ pub(crate) fn put(
     Ok(())
 }
 
-/// Puts where what is kept of a page begins, if one begins at this place. There is room.
+/// Puts where the data of a page begin, if a page begins at this place. There is room.
 pub(crate) fn put_start(starts: &mut Vec<usize>, place: usize, at: usize)
     requires { vec_len starts.old + 1 ≤ vec_capacity starts.old }
     ensures { starts.new.items ≡ starts_by place at starts.old.items }
@@ -86,7 +86,7 @@ pub(crate) fn put_start(starts: &mut Vec<usize>, place: usize, at: usize)
     }
 }
 
-/// The first bytes of some bytes, and others behind them, for which there is room.
+/// The first bytes of some bytes, and others after them, for which there is room.
 pub(crate) fn cut_back(bytes: &mut Vec<u8>, shared: usize, rest: &[u8])
     requires { vec_len bytes.old + length rest.now ≤ vec_capacity bytes.old }
     ensures { bytes.new.items ≡ take shared bytes.old.items ++ rest.now }

@@ -1,4 +1,4 @@
-//! The entries of a list made again, one by one.
+//! Makes the entries of a list again, one by one.
 ghost use Rattle.std.specs.Prelude.{◌≡◌, ◌+◌, ◌-◌, ◌*◌, ◌<◌, ◌≤◌, ◌++◌, [], true, false, Some, None, length, take, slice_get, OnOk, OnErr, IfOk, IfSome};
 ghost use Rattle.std.specs.Option.{option_map};
 ghost use Rattle.outside.specs.Links.{link_refusal};
@@ -13,7 +13,7 @@ use path_text::{OutOfMemory, Path, common_len, compare};
 use std::alloc::Global;
 use std::marker::Model;
 
-/// Makes the entries of a list again, in their order: seen as (the list, how many entries were passed, the entry passed last).
+/// Makes the entries of a list again, in their order: seen as (the list, how many entries are passed, the entry passed last).
 #[derive(Debug, Drop)]
 pub(crate) struct Reader<'a> {
     heads: Leads<'a>,
@@ -60,7 +60,7 @@ impl<'a> Reader<'a> {
         })
     }
 
-    /// Whether all entries were passed.
+    /// Whether all entries are passed.
     pub fn is_over(&self) -> bool
         ensures yes { result ≡ true → self.now.1 ≡ length self.now.0 }
         ensures no { result ≡ false → self.now.1 < length self.now.0 }
@@ -88,8 +88,8 @@ impl<'a> Reader<'a> {
         Ok(())
     }
 
-    /// Whether there is a next entry whose path comes before that of the entry passed last. What the two share is not looked at,
-    /// and no path is made.
+    /// Whether there is a next entry whose path comes before that of the entry passed last. It does not look at the bytes that
+    /// the two share, and makes no path.
     pub fn falls(&self) -> bool
         requires some { 0 < self.now.1 }
         requires last { slice_get self.now.0 (self.now.1 - 1) ≡ Some self.now.2 }
@@ -104,7 +104,7 @@ impl<'a> Reader<'a> {
         compare(&self.rests[self.at..end], &last[head.shared as usize..]).is_lt()
     }
 
-    /// How many bytes the path passed last shares with the one passed before it. Speed alone rests on the answer.
+    /// How many bytes the path passed last shares with the one passed before it. Only speed depends on the answer.
     pub fn shared(&self) -> usize {
         self.shared
     }
@@ -124,7 +124,8 @@ impl<'a> Reader<'a> {
     }
 }
 
-// How many bytes the path of a head and a rest shares with the last one: that is kept, but at the front of a page.
+// How many bytes the path of a head and a rest shares with the last one. The head has this number, except at the front of a
+// page.
 fn shared_by(last: &Path, head: Head, rest: &[u8]) -> usize {
     if head.shared > 0 {
         return head.shared as usize;
@@ -153,7 +154,7 @@ fn rewrite(
     Ok(())
 }
 
-// The target that a text is, which is known to be one.
+// The target that is this text, which is known to be one.
 fn target_of(alloc: Global, text: Option<&str>) -> Result<Option<LinkText>, OutOfMemory>
     requires { IfSome text (λ t. link_refusal t.now ≡ None) }
     ensures { IfOk result (λ target. target ≡ option_map (λ t. t.now) text.entry) }
@@ -164,7 +165,7 @@ fn target_of(alloc: Global, text: Option<&str>) -> Result<Option<LinkText>, OutO
     }
 }
 
-// Before the first entry a reader holds the entry of `/`, of which nothing is told.
+// Before the first entry a reader has the entry of `/`, without a stat.
 fn blank(alloc: Global) -> Result<Entry, OutOfMemory> {
     let Ok(path) = Path::parse(alloc, "/") else {
         return Err(OutOfMemory);

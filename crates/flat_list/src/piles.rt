@@ -7,8 +7,8 @@ use path_text::OutOfMemory;
 use std::alloc::{AllocError, Global};
 use std::marker::Model;
 
-/// Copies of entries, seen as their list. What is taken away leaves its slot, and the next entry is written over what stands
-/// there, so that few paths take memory of their own. Our own.
+/// Copies of entries, seen as their list. An entry that is taken away leaves its slot, and the next entry is written over it.
+/// So few paths take memory of their own. Our own.
 #[derive(Debug, Drop)]
 pub(crate) struct Pile {
     slots: Vec<Entry>,
@@ -54,7 +54,7 @@ impl Pile {
         Some(&self.slots[self.len - 1])
     }
 
-    /// Puts a copy of an entry behind the others. A refusal leaves them.
+    /// Puts a copy of an entry after the others. A refusal leaves them.
     pub fn put(&mut self, entry: &Entry) -> Result<(), OutOfMemory>
         ensures ok { OnOk result (self.new ≡ self.old ++ entry.now ∷ []) }
         ensures err { OnErr result (self.new ≡ self.old) }
@@ -82,7 +82,7 @@ impl Pile {
         self.len = 0;
     }
 
-    /// Puts the entries in path order, where their paths share so many bytes, or more.
+    /// Puts the entries in path order, if their paths share this many bytes, or more.
     pub fn sort(&mut self, shared: usize) -> Result<(), AllocError>
         ensures { IsPermutation self.old self.new }
     {

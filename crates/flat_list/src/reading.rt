@@ -17,7 +17,7 @@ use path_text::OutOfMemory;
 use std::alloc::Global;
 use whole_lines::{cut, cut_line, leading_number, number_at, number_of, path_from};
 
-/// What a line tells beside the path.
+/// All that a line has except the path.
 #[derive(Clone, Copy, Drop)]
 pub(crate) struct Told {
     stat: Option<Stat>,
@@ -123,7 +123,7 @@ impl Told {
     }
 }
 
-// Whether a list file of this version can tell such a mark.
+// Whether a list file of this version can have such a mark.
 fn is_marked(version: Version, mark: Mark, stat: Option<Stat>) -> bool
     ensures { result ≡ is_marked version mark stat }
 {
@@ -186,7 +186,7 @@ fn has_shape(mark: Mark, stat: Option<Stat>, none: bool) -> bool
     }
 }
 
-// All that a line tells beside the path, and the word of the path.
+// All that a line has except the path, and the word of the path.
 #[tactic(auto, unfolding(crate::specs::Private::Reading::told_at))]
 fn told_at(version: Version, text: &[u8]) -> Option<(Told, &[u8])>
     ensures { option_map (λ found. (found.0, found.1.now)) result ≡ told_at version text.now }
@@ -210,7 +210,8 @@ fn told_at(version: Version, text: &[u8]) -> Option<(Told, &[u8])>
     Some((told, rest))
 }
 
-/// The entry that a line's text tells, if there is one and it comes behind the one before it, of which it takes the path's memory.
+/// The entry of a line's text, if there is one and it comes after the entry before it. It takes that entry's memory for its
+/// path.
 #[tactic(auto, unfolding(crate::specs::Private::Reading::entry_behind))]
 pub(crate) fn entry_behind(
     alloc: Global,
@@ -241,7 +242,7 @@ pub(crate) fn entry_behind(
     }))
 }
 
-/// The target that the first line of a text tells, and what is behind that line, where a target may come behind the entry.
+/// The target that the first line of a text has, and the text after that line, if a target may follow the entry.
 pub(crate) fn target_behind<'a>(
     alloc: Global,
     version: Version,
@@ -280,7 +281,7 @@ fn target_line<'a>(
     }
 }
 
-// The target that a line's text tells.
+// The target of a line's text.
 #[tactic(auto, unfolding(crate::specs::Private::Reading::target_at))]
 fn target_at(alloc: Global, text: &[u8]) -> Result<Option<LinkText>, OutOfMemory>
     ensures read { IfOk result (λ target. target ≡ target_at text.now) }
@@ -309,7 +310,7 @@ fn target_of(alloc: Global, text: &str) -> Result<Option<LinkText>, OutOfMemory>
 {
     match LinkText::unescape(alloc, text) {
         Ok(target) => {
-            // That a target is UTF-8 is told by its text alone.
+            // The text alone shows that a target is UTF-8.
             let _text = target.text();
             Ok(Some(target))
         }

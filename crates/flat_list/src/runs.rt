@@ -1,11 +1,12 @@
 //! Logs of a walk, cut into runs: short lists, each in path order.
 //!
-//! A rank handles its newest string first, so its log has each directory before what is below it, and siblings in falling
-//! order. Where a directory waits until what is below it was passed, the entries come in falling path order. So a piece of
-//! them that is turned around is in path order, and comes before the piece that was made before it. What a rank was given on
-//! the way begins anew in its log: a piece of many entries ends there, and one of few goes on, and is sorted. A log is read an
-//! entry at a time, and its entries wait in slots that are used again. What a path shares with the one before it in the log is
-//! told by the log, so that only what stands behind it is compared.
+//! A rank handles its newest string first. So its log has each directory before the entries below it, and siblings in falling
+//! order. If a directory waits until the entries below it are passed, the entries come in falling path order. So a piece of
+//! them that is turned around is in path order, and comes before the piece that was made before it.
+//!
+//! Strings that a rank got on the way start a new order in its log. There a piece of many entries ends; one of few goes on, and
+//! is sorted. A log is read an entry at a time, and its entries wait in slots that are used again. The log has how many bytes a
+//! path shares with the one before it, so only the bytes after them are compared.
 ghost use Rattle.std.specs.Prelude.{◌≡◌, ◌+◌, ◌<◌, ◌≤◌, ◌++◌, ◌∷◌, [], true, length, OnOk, IfOk};
 ghost use Rattle.std.specs.List.{flat_map};
 ghost use Rattle.std.specs.List.Sorted.{IsPermutation};
@@ -17,13 +18,13 @@ use crate::piles::Pile;
 use path_text::OutOfMemory;
 use std::alloc::Global;
 
-// So many entries of a log make a run; a multiple of a page, so that runs can be joined page by page.
+// A run has this many entries of a log. It is a multiple of a page, so that runs can be joined page by page.
 const PIECE: usize = 8192;
 
-// Where a log begins anew, a piece of fewer entries goes on.
+// At a new order of a log, a piece of fewer entries goes on.
 const SHORT: usize = 64;
 
-// And so does one of fewer than such a part of its log, so that the merge has no great number of runs to keep apart.
+// So does a piece of fewer than this part of its log, so that the merge does not have a great number of runs.
 const PARTS: usize = 64;
 
 /// All entries of the logs as runs.
@@ -44,7 +45,7 @@ pub(crate) fn run_each(alloc: Global, logs: Vec<Vec<Entry>>) -> Result<Vec<FlatL
     Ok(runs)
 }
 
-// The logs, read. Each is dropped as soon as it is.
+// The logs, read. Each is dropped as soon as it is read.
 fn cut_of(alloc: Global, logs: Vec<FlatList>) -> Result<Cut, OutOfMemory>
     ensures { IfOk result (λ cut. IsPermutation (flat_map (λ log. log) logs.items) (all_of cut)) }
 {
@@ -66,18 +67,18 @@ fn cut_each(alloc: Global, logs: Vec<Vec<Entry>>) -> Result<Cut, OutOfMemory>
     Ok(cut)
 }
 
-/// The runs, and the piece that is to be the next one.
+/// The runs, and the piece that becomes the next one.
 #[derive(Debug, Drop)]
 struct Pieces {
     runs: Vec<FlatList>,
     piece: Pile,
     // Whether each entry of the piece comes before the one that was put before it.
     falls: bool,
-    // So many bytes all paths of the piece share, or more.
+    // All paths of the piece share this many bytes, or more.
     shared: usize,
-    // So many entries make the next run.
+    // The next run has this many entries.
     room: usize,
-    // So many make a run where the log begins anew.
+    // This many entries make a run at a new order of the log.
     many: usize,
 }
 
@@ -95,7 +96,7 @@ impl Pieces {
         }
     }
 
-    // A log of so many entries begins. Its first run is the short one, so that the others end where a page does.
+    // A log of this many entries begins. Its first run is the short one, so that the others end where a page does.
     fn begin(&mut self, len: usize)
         ensures { held_by self.new ≡ held_by self.old }
     {
@@ -104,8 +105,8 @@ impl Pieces {
         self.many = SHORT.max(len / PARTS);
     }
 
-    // An entry goes into the piece, or begins the next one. Its path shares so many bytes with the one put last, or more, as far
-    // as both go.
+    // An entry goes into the piece, or begins the next one. Its path shares this many bytes with the one put last, or more, up
+    // to the end of the shorter one.
     fn put(&mut self, entry: &Entry, shared: usize) -> Result<(), OutOfMemory>
         ensures { OnOk result (IsPermutation (held_by self.old ++ entry.now ∷ []) (held_by self.new)) }
     {
@@ -124,7 +125,7 @@ impl Pieces {
         }
     }
 
-    // Counts what all paths of the piece share, where an entry is put behind the last one.
+    // Counts the bytes that all paths of the piece share, if an entry is put after the last one.
     fn share(&mut self, entry: &Entry, shared: usize)
         ensures { held_by self.new ≡ held_by self.old }
     {
@@ -136,7 +137,7 @@ impl Pieces {
         self.shared = self.shared.min(shared).min(entry.path.text().len());
     }
 
-    // Where the log begins anew with an entry, a piece of many entries becomes a run, and one of few falls no more.
+    // If the log starts a new order with an entry, a piece of many entries becomes a run, and one of few stops falling.
     fn end_long(&mut self, entry: &Entry, shared: usize) -> Result<(), OutOfMemory>
         ensures { OnOk result (IsPermutation (held_by self.old) (held_by self.new)) }
     {
@@ -162,7 +163,7 @@ impl Pieces {
         Ok(())
     }
 
-    // The piece becomes a run, if it holds an entry.
+    // The piece becomes a run, if it has an entry.
     fn end(&mut self) -> Result<(), OutOfMemory>
         ensures moved { OnOk result (IsPermutation (held_by self.old) (held_by self.new)) }
         ensures empty { OnOk result (self.new.piece ≡ []) }
@@ -179,7 +180,7 @@ impl Pieces {
         Ok(())
     }
 
-    // The entries of the piece in path order, packed: where they fall from the last one on, and else sorted.
+    // The entries of the piece in path order, packed: turned around if they fall, and else sorted.
     fn run(&mut self) -> Result<FlatList, OutOfMemory>
         ensures run { IfOk result (IsPermutation self.old.piece) }
         ensures runs { self.new.runs ≡ self.old.runs }
@@ -193,12 +194,12 @@ impl Pieces {
     }
 }
 
-/// Logs that are read: their runs, and the directories that wait until what is below them was passed.
+/// Logs that are read: their runs, and the directories that wait until the entries below them are passed.
 #[derive(Debug, Drop)]
 struct Cut {
     pieces: Pieces,
     waiting: Pile,
-    // So many bytes all paths share that were read since one went into the piece, and that one, or more, as far as it goes.
+    // All paths read since one went into the piece share this many bytes with it, or more, up to its end.
     shared: usize,
 }
 
@@ -213,7 +214,7 @@ impl Cut {
         }
     }
 
-    // The entries of a log go behind others.
+    // The entries of a log go after others.
     fn read(&mut self, log: &FlatList) -> Result<(), OutOfMemory>
         ensures { OnOk result (IsPermutation (all_of self.old ++ log.now) (all_of self.new)) }
     {
@@ -238,8 +239,8 @@ impl Cut {
         Ok(())
     }
 
-    // The next entry of a log, whose path shares so many bytes with the one before; 0 where that is not known. Directories that
-    // it is not below wait no more.
+    // The next entry of a log, whose path shares this many bytes with the one before; 0 if that is not known. Directories that
+    // it is not below stop waiting.
     fn put(&mut self, entry: &Entry, shared: usize) -> Result<(), OutOfMemory>
         ensures { OnOk result (IsPermutation (all_of self.old ++ entry.now ∷ []) (all_of self.new)) }
     {
@@ -256,8 +257,8 @@ impl Cut {
         Ok(())
     }
 
-    // Whether a directory waits that the entry is not below. The one that waits last is the path before in the log, or over it:
-    // so the entry is below it where its path shares all of it with that one, and a slash follows.
+    // Whether a directory waits that the entry is not below. The one that waits last is the path before in the log, or above
+    // it. So the entry is below it if its path shares all of it with that one, and a slash follows.
     fn leaves(&self, entry: &Entry, shared: usize) -> bool
         ensures { result ≡ true → 0 < length self.now.waiting }
     {
@@ -286,7 +287,7 @@ impl Cut {
         Ok(())
     }
 
-    // All that waits becomes runs.
+    // All entries that wait become runs.
     fn end(&mut self) -> Result<(), OutOfMemory>
         ensures moved { OnOk result (IsPermutation (all_of self.old) (all_of self.new)) }
         ensures all { OnOk result (all_of self.new ≡ flat_map (λ run. run) self.new.pieces.runs.items) }

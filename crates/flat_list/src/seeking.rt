@@ -7,8 +7,8 @@ ghost use Rattle.flat_list.specs.Private.Kept.{IsSeek};
 use crate::heads::{Head, Heads};
 use path_text::common_len;
 
-/// The first place of a path among the entries that are kept. Of each path it only looks at what it does not share with the one
-/// before, where that shares as much with the wanted one.
+/// The first place of a path among the entries that are kept. It looks only at the bytes of a path that the path before does not
+/// share, and only if that path shares as much with the wanted one.
 pub(crate) fn place_in(heads: &Heads, rests: &[u8], wanted: &[u8]) -> Option<usize>
     requires { IsSeek heads.now rests.now wanted.now 0 0 0 (unpacked [] heads.now rests.now) }
     ensures { result ≡ place_of wanted.now (unpacked [] heads.now rests.now) }
@@ -35,7 +35,7 @@ fn is_whole(same: usize, wanted: usize, head: Head) -> bool
     same == wanted && head.shared as usize + head.rest as usize == same
 }
 
-// How many bytes a path shares with the wanted one, where the path before shares so many with it.
+// How many bytes a path shares with the wanted one, if the path before shares this many with it.
 fn same_after(same: usize, shared: usize, rest: &[u8], wanted: &[u8]) -> usize
     requires { same ≤ length wanted.now }
     ensures { result ≡ same_after same shared rest.now wanted.now }

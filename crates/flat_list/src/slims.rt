@@ -11,7 +11,7 @@ use crate::packing::put_start;
 use outside::{Kind, LinkText, Stat};
 use path_text::OutOfMemory;
 
-/// The kind of what stands at a path, where it was told.
+/// The kind of the file at a path, if it is known.
 #[derive(Clone, Copy, Debug, Drop, PartialEq, Eq)]
 pub(crate) enum Shown {
     Nothing,
@@ -21,7 +21,7 @@ pub(crate) enum Shown {
     Other,
 }
 
-/// What is kept of every head.
+/// The part of each head that is kept in 24 bytes.
 #[derive(Clone, Copy, Debug, Drop)]
 pub(crate) struct Slim {
     pub size: u64,
@@ -34,17 +34,17 @@ pub(crate) struct Slim {
     pub odd: bool,
 }
 
-/// What is kept of the heads that have a target, or of which one of the two numbers is not 0.
+/// The part that is kept only of odd heads: they have a target, or one of the two numbers is not 0.
 #[derive(Clone, Copy, Debug, Drop)]
 pub(crate) struct Odd {
     pub unnamed: u64,
     pub far: u64,
-    /// How many bytes the target has, and 0 where there is none.
+    /// How many bytes the target has, and 0 if there is none.
     pub target: u16,
 }
 
 impl Slim {
-    /// The head of which this was kept, with what was kept beside it.
+    /// The head of which this is a part, with its other part.
     pub fn told(&self, odd: Odd) -> Head
         ensures { result ≡ told self.now odd }
     {
@@ -79,7 +79,7 @@ fn stat_shown(shown: Shown, size: u64, mtime: Option<u64>) -> Option<Stat>
     Some(Stat { kind, size, mtime })
 }
 
-/// Puts what is kept of a head and a target behind the others. A refusal leaves all.
+/// Puts the parts of a head and a target after the others. A refusal leaves all.
 pub(crate) fn put_slim(
     slims: &mut Vec<Slim>,
     odds: &mut Vec<Odd>,
@@ -106,7 +106,7 @@ pub(crate) fn put_slim(
     Ok(())
 }
 
-// How many bytes a target has, and 0 where there is none.
+// How many bytes a target has, and 0 if there is none.
 #[tactic(auto, using(crate::proofs::Slimmed::text_short))]
 fn text_len(target: &Option<LinkText>) -> u16
     ensures len { result ≡ length (target_bytes target.now) }
@@ -210,7 +210,8 @@ fn kind_shown(kind: Kind) -> Shown
     }
 }
 
-/// What was kept beside the next odd head, where so many were passed: 0 and 0 for a head that is not odd.
+/// The other part of the next odd head, after this many; two zeros and no target for a head that is not odd.
+#[inline(always)]
 pub(crate) fn odd_at(odds: &[Odd], gone: usize, wanted: bool) -> Odd
     ensures { result ≡ first_odd wanted (drop gone odds.now) }
 {

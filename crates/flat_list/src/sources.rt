@@ -1,4 +1,4 @@
-//! Lists that are read to their ends, an entry at a time, into another.
+//! Lists whose entries go one by one to the end of another list.
 ghost use Rattle.std.specs.Prelude.{◌≡◌, ◌-◌, ◌<◌, ◌++◌, [], true, false, length, OnOk, IfOk};
 
 use crate::cursors::Cursor;
@@ -7,7 +7,7 @@ use crate::lists::FlatList;
 use path_text::OutOfMemory;
 use std::marker::Model;
 
-/// What is left of a list, whose next entry is at hand: seen as the entries that are left.
+/// The rest of a list, whose next entry is at hand: seen as the entries that are left.
 #[derive(Debug, Drop)]
 pub(crate) struct Source<'a> {
     cursor: Cursor<'a>,
@@ -55,12 +55,12 @@ impl<'a> Source<'a> {
         Some(self.cursor.entry())
     }
 
-    /// How many bytes the next path shares with that of the entry given last, or fewer. Speed alone rests on the answer.
+    /// How many bytes the next path shares with that of the entry given last, or fewer. Only speed depends on the answer.
     pub fn shared(&self) -> usize {
         self.cursor.shared()
     }
 
-    /// Its next entry goes behind others, if one is left.
+    /// Its next entry goes after others, if one is left.
     pub fn give(&mut self, all: &mut FlatList) -> Result<(), OutOfMemory>
         ensures moved { OnOk result (all.new ++ self.new ≡ all.old ++ self.old) }
         ensures fewer { OnOk result (length self.new ≡ length self.old - 1) }
@@ -74,7 +74,7 @@ impl<'a> Source<'a> {
         Ok(())
     }
 
-    /// All that is left goes behind others.
+    /// All that is left goes after others.
     pub fn give_all(&mut self, all: &mut FlatList) -> Result<(), OutOfMemory>
         ensures { OnOk result (all.new ≡ all.old ++ self.old) }
     {

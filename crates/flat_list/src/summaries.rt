@@ -9,7 +9,7 @@ use crate::entries::Mark;
 use crate::heads::{Head, Leads};
 use outside::{Kind, Stat};
 
-/// What a list holds: the entries with a stat, by kind, and the failures that its entries name.
+/// The contents of a list: the entries with a stat, by kind, and the failures that its entries name.
 #[derive(Clone, Copy, Debug, Drop, PartialEq, Eq)]
 pub struct Summary {
     /// The entries with a stat.
@@ -20,11 +20,11 @@ pub struct Summary {
     pub files: u64,
     /// The symbolic links.
     pub links: u64,
-    /// All else.
+    /// All other kinds.
     pub others: u64,
     /// The bytes of the files.
     pub bytes: u128,
-    /// The notes that the entries give.
+    /// The notes of the entries.
     pub failed: u64,
 }
 
@@ -97,7 +97,7 @@ fn note_count(head: Head) -> u64
     marked + u64::from(head.unnamed > 0) + u64::from(head.far > 0)
 }
 
-// The bytes of a file, and 0 for all else.
+// The bytes of a file, and 0 for all other kinds.
 fn bytes(stat: Option<Stat>) -> u64
     ensures { result ≡ bytes_by stat }
 {

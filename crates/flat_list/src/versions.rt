@@ -1,10 +1,10 @@
 //! The versions of the list file.
 
-/// Of which version a list file is: `encode` writes version 2, and `decode` reads both. No call takes one; contracts name it.
+/// The version of a list file: `encode` writes version 2, and `decode` reads both. No call takes a version; contracts name it.
 #[derive(Clone, Copy, Debug, Drop, PartialEq, Eq)]
 pub enum Version {
-    /// It tells no targets of links.
+    /// It has no targets of links.
     One,
-    /// It tells the targets of links, each in a line of its own.
+    /// It has the targets of links, each in a line of its own.
     Two,
 }

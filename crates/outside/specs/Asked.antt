@@ -1,5 +1,5 @@
--- Calls, each with its answer: what a reader was asked, and which write was called. Our own, after the operations and their
--- results of a transition system with labels.
+-- Calls of a reader and calls that write, each with its answer. Our own, after the operations and their results of a transition
+-- system with labels.
 use Rattle.std.specs.Prelude.{ℕ, List, Option, Result}
 use Rattle.outside.specs.declared.failures.Failed.{Failed}
 use Rattle.outside.specs.declared.trees.Stat.{Stat}
@@ -8,14 +8,14 @@ use Rattle.outside.specs.declared.trees.ReadError.{ReadError}
 use Rattle.outside.specs.declared.trees.LinkError.{LinkError}
 use Rattle.outside.specs.declared.plots.WriteError.{WriteError}
 
--- a call of a reader at a path, with its answer: a read names its place too
+-- a call of a reader at a path, with its answer: a read names its offset too
 pub data Asked : Type 0 where
   stat : List ℕ → Result (Option Stat) Failed → Asked
   list : List ℕ → Result (List (List ℕ) × ℕ × ℕ) ListError → Asked
   read : List ℕ → ℕ → Result ℕ ReadError → Asked
   read_link : List ℕ → Result (List ℕ) LinkError → Asked
 
--- a call that writes: with its text, where it makes a link, and with bytes at a place, where it writes bytes
+-- a call that writes: with its text, if it makes a link, and with bytes and their offset, if it writes bytes
 pub data Write : Type 0 where
   make_dir : Write
   make_file : Write
@@ -24,7 +24,7 @@ pub data Write : Type 0 where
   remove_file : Write
   remove_dir : Write
 
--- which answers an object may give, and what a call leaves
+-- which answers an object may give, and which state a call leaves
 abbrev pub Asks : Type 0 → Type 1
 Asks S = S → Asked → S → Type 0
 

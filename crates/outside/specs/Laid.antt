@@ -1,4 +1,4 @@
--- The files of a part laid over what its ground kept: the one map in which the two join. Our own.
+-- The files of a part laid over those that its ground kept: the one map in which the two join. Our own.
 use Rattle.std.proofs.Common.{◌≡◌, ℕ, Bool, true, false, cond, not, List, [], ◌∷◌, Option, Some, None, refl, ap, ◌∙◌, sym, is_some}
 use Rattle.std.specs.FinMap.{get, insert, entries, get-insert, get-entries, get-retain_keys}
 use Rattle.std.specs.FinMap.Entries.{find}

@@ -12,14 +12,14 @@ use Rattle.outside.specs.Writes.{Area, all_but, under, is_open}
 abbrev pub in_tops : List (List ℕ) → List ℕ → Bool
 in_tops tops path = list_any (is_within path) tops
 
--- what a part gets, and what its ground keeps
+-- the nodes that a part gets, and those that its ground keeps
 abbrev pub leased : List (List ℕ) → Files → Files
 leased tops files = retain_keys files (in_tops tops)
 
 abbrev pub kept : List (List ℕ) → Files → Files
 kept tops files = retain_keys files (λ q. not (in_tops tops q))
 
--- the two joined: at and under the tops what the part has, and everywhere else what the ground kept
+-- the two joined: the nodes of the part at and under the tops, and everywhere else those that the ground kept
 abbrev pub Joins : List (List ℕ) → Files → Files → Files → Type 0
 Joins tops own rest after = (q : List ℕ) → get after q ≡ (if in_tops tops q then get own q else get rest q)
 
@@ -33,7 +33,7 @@ pub record CanLease (area : Area) (tops : List (List ℕ)) : Type 0 where
 abbrev pub HaveParents : List (List ℕ) → Files → Type 0
 HaveParents tops files = (i : ℕ) (x : List ℕ) → slice_get tops i ≡ Some x → is_dir (get files (parent_of x)) ≡ true
 
--- the area of a ground once the tops are leased, behind those that are out
+-- the area of a ground once the tops are leased, after those that are out
 abbrev pub area_without : List (List ℕ) → Area → Area
 area_without tops (all_but lent cut) = all_but (lent ++ tops ∷ []) cut
 area_without tops (under own) = under own

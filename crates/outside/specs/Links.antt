@@ -6,7 +6,7 @@ use Rattle.path_text.specs.Escape.{escape, good_len, unescaped}
 use Rattle.outside.specs.declared.links.LinkTextError.{LinkTextError}
 use Rattle.outside.specs.declared.links.LinkTextError.TheVariants.{Empty, TooLong, Nul, BadEscape}
 
--- why a text is refused as a link's; `None` where it is one
+-- why a text is refused as a link's; `None` if it is one
 abbrev pub link_refusal : List ℕ → Option LinkTextError
 link_refusal text =
     if length text == 0 then Some Empty

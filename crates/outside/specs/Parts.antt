@@ -1,4 +1,4 @@
--- What is true of the nodes of a part, and what leases keep true. Our own.
+-- The shape of the nodes of a part, and the laws of leases. Our own.
 use Rattle.std.specs.Prelude.{◌≡◌, ℕ, true, false, ◌||◌, List, Some, None, is_some, slice_get, IsTrue}
 use Rattle.std.specs.FinMap.{get}
 use Rattle.path_text.specs.Order.{is_under}
@@ -7,7 +7,7 @@ use Rattle.outside.specs.Tree.{Files, IsTree, is_dir, is_root}
 use Rattle.outside.specs.Writes.{Area, all_but, under, is_top}
 use Rattle.outside.specs.Lease.{in_tops, leased, kept, Joins, HaveParents}
 
--- the nodes of a part: they stand at and under its tops, and the parent of each but a top is a directory
+-- the nodes of a part: they are at and under its tops, and the parent of each but a top is a directory
 pub record IsPart (tops : List (List ℕ)) (files : Files) : Type 0 where
   pub inside : (q : List ℕ) → is_some (get files q) ≡ true → in_tops tops q ≡ true
   pub no_root : (q : List ℕ) → is_some (get files q) ≡ true → is_root q ≡ false
@@ -35,19 +35,19 @@ pub record LeasesKeepTrees : Type 0 where
 abbrev pub AreApartTops : List (List ℕ) → List (List ℕ) → Type 0
 AreApartTops one two = (q : List ℕ) → in_tops one q ≡ true → in_tops two q ≡ false
 
--- a map in between: the first part is back, and the second was not leased yet
+-- a map between: the first part is back, and the second was not leased yet
 pub record Between (one two : List (List ℕ)) (own own' files last : Files) : Type 0 where
   pub mid : Files
   pub first : Joins one own (kept one files) mid
   pub second : Joins two own' (kept two mid) last
   pub same_part : leased two mid ≡ leased two (kept one files)
 
--- two parts that are out at once come to the same as one after the other
+-- two parts that are out at once give the same tree as one after the other
 abbrev pub LeasesOverlap : Type 0
 LeasesOverlap = (one two : List (List ℕ)) (own own' files next last : Files) → AreApartTops one two →
     Joins one own (kept two (kept one files)) next → Joins two own' next last → Between one two own own' files last
 
--- in a tree all that a path is under is a directory
+-- in a tree each path over a node is a directory
 abbrev pub UnderDirectories : Type 0
 UnderDirectories = (files : Files) (q p : List ℕ) → IsTree files → refusal p ≡ None → IsTrue (is_under q p) → is_some (get files q) ≡ true
     → is_dir (get files p) ≡ true

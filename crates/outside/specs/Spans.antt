@@ -1,4 +1,4 @@
--- Large files that are cut in spans, each written by itself. Our own.
+-- Large files that are cut in spans, each of which is written on its own. Our own.
 use Rattle.std.specs.Prelude.{◌≡◌, ℕ, ◌-◌, Bool, true, false, ◌&&◌, List, [], ◌∷◌, ◌++◌, replicate, if◌then◌else◌, ◌==◌, nat_eq, nat_lt}
 use Rattle.std.specs.Prelude.{Option, Some, None}
 use Rattle.std.specs.Option.{option_map}
@@ -13,13 +13,13 @@ abbrev pub ascends_above : ℕ → List ℕ → Bool
 ascends_above at [] = true
 ascends_above at (cut ∷ cuts) = nat_lt at cut && ascends_above cut cuts
 
--- where a file can be cut: from 0 on, ascending strictly, at two places at least
+-- where a file can be cut: from 0 on, strictly ascending, at two places at least
 abbrev pub are_cuts : List ℕ → Bool
 are_cuts [] = false
 are_cuts (first ∷ []) = false
 are_cuts (first ∷ second ∷ cuts) = first == 0 && ascends_above first (second ∷ cuts)
 
--- what a span shows: the path of its file, where it begins in the file, and how many bytes it has
+-- the piece that a span shows: the path of its file, its start in the file, and its number of bytes
 pub record Piece : Type 0 where
   pub path : List ℕ
   pub start : ℕ
@@ -34,7 +34,7 @@ abbrev pub pieces : List ℕ → List ℕ → List Piece
 pieces path [] = []
 pieces path (first ∷ cuts) = pieces_from path first cuts
 
--- the zeros of a new span, where the files tell their tree
+-- the zeros of a new span, if the files tell their tree
 abbrev pub zeros_of : Option Files → Piece → Option (List ℕ)
 zeros_of tree piece = option_map (λ _. replicate piece.size 0) tree
 
@@ -48,7 +48,7 @@ abbrev pub without_cut : List ℕ → List Cut → List Cut
 without_cut path [] = []
 without_cut path (one ∷ cut) = if pointwise nat_eq one.path path then cut else one ∷ without_cut path cut
 
--- the area of a ground once a file is out in spans, behind those that are out
+-- the area of a ground once a file is out in spans, after those that are out
 abbrev pub area_cut : List ℕ → List ℕ → Area → Area
 area_cut path cuts (all_but lent cut) = all_but lent (cut ++ record { path = path; cuts = cuts } ∷ [])
 area_cut path cuts (under tops) = under tops
@@ -63,17 +63,17 @@ abbrev pub area_whole : List ℕ → Area → Area
 area_whole path (all_but lent cut) = all_but lent (without_cut path cut)
 area_whole path (under tops) = under tops
 
--- an empty file stands there
+-- the node is an empty file
 pub record IsEmptyFile (node : Option Node) : Type 0 where
   pub is_file : is_file node ≡ true
   pub empty : content node ≡ []
 
--- the bytes that are told
+-- the bytes, or none if the span does not tell them
 abbrev pub told_bytes : Option (List ℕ) → List ℕ
 told_bytes None = []
 told_bytes (Some bytes) = bytes
 
--- those of several spans, one behind the other
+-- those of several spans, one after the other
 abbrev pub joined_bytes : List (Option (List ℕ)) → List ℕ
 joined_bytes [] = []
 joined_bytes (one ∷ rest) = told_bytes one ++ joined_bytes rest

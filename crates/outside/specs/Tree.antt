@@ -14,7 +14,7 @@ use Rattle.outside.specs.declared.trees.Kind.{Kind}
 use Rattle.outside.specs.declared.trees.Kind.TheVariants as kind
 use Rattle.outside.specs.declared.trees.Stat.{Stat}
 
--- what stands at a path: a directory with the number of children whose path is too long, a file with its bytes, a link with its
+-- the body of a node: a directory with the number of children whose path is too long, a file with its bytes, a link with its
 -- text, or another
 pub data Body : Type 0 where
   dir : ℕ → Body
@@ -44,7 +44,7 @@ is_dir (Some n) = is_dir_body n.body
 abbrev pub is_one_name : List ℕ → Bool
 is_one_name name = not (length name == 0) && not (list_any is_slash name)
 
--- the name of q, where q is a child of the path
+-- the name of q, if q is a child of the path
 abbrev pub name_below : List ℕ → List ℕ → Option (List ℕ)
 name_below path q =
     let name = drop (length (front path)) q in
@@ -72,7 +72,7 @@ far_of (file bytes) = 0
 far_of (link text) = 0
 far_of other = 0
 
--- of a file its bytes
+-- of a file: its bytes
 abbrev pub bytes_of : Body → List ℕ
 bytes_of (dir far) = []
 bytes_of (file bytes) = bytes
@@ -89,7 +89,7 @@ abbrev pub is_file : Option Node → Bool
 is_file None = false
 is_file (Some n) = is_file_body n.body
 
--- of a link its text
+-- of a link: its text
 abbrev pub text_of : Body → Option (List ℕ)
 text_of (dir far) = None
 text_of (file bytes) = None
@@ -108,7 +108,7 @@ abbrev pub far_at : Option Node → ℕ
 far_at None = 0
 far_at (Some n) = far_of n.body
 
--- what `stat` tells of a node
+-- the answer of `stat` for a node
 abbrev pub stat_of : Node → Stat
 stat_of n = record { kind = kind_of n.body; size = size_of n.body; mtime = n.mtime }
 
@@ -118,7 +118,7 @@ pub record Lists (files : Files) (path : List ℕ) (listing : List (List ℕ) ×
   pub names : listing.0 ≡ names_in files path
   pub far : Some listing.2 ≡ option_map (λ n. far_of n.body) (get files path)
 
--- n bytes of the file at a path, from the place `at` on, fill the front of a buffer: one at least where both go on
+-- n bytes of the file at a path, from the offset `at` on, fill the front of a buffer: at least one, if neither is at its end
 pub record Reads (files : Files) (path : List ℕ) (at : ℕ) (buffer : List ℕ) (n : ℕ) : Type 0 where
   pub is_file : is_file (get files path) ≡ true
   pub same : take n buffer ≡ take n (drop at (content (get files path)))
@@ -134,13 +134,13 @@ pub record AreNames (path : List ℕ) (names : List (List ℕ)) : Type 0 where
 abbrev pub is_root : List ℕ → Bool
 is_root path = pointwise nat_eq path (47 ∷ [])
 
--- `/` is a directory; where a node is at another path, the path is one, and its parent is a directory
+-- `/` is a directory; if a node is at another path, the path is valid, and its parent is a directory
 abbrev pub is_placed : Files → List ℕ → Bool
 is_placed files path =
     if is_root path then is_dir (get files path)
     else is_none (get files path) || (is_none (refusal path) && is_dir (get files (parent_of path)))
 
--- what is true of every tree
+-- the laws of every tree
 unfoldable pub IsTree : Files → Type 0
 IsTree files = (path : List ℕ) → IsTrue (is_placed files path)
 
@@ -148,7 +148,7 @@ pub IsTree-prop : (files : Files) → IsProp (IsTree files)
 unfolding IsTree
 IsTree-prop files = hlevel (Bool-set)
 
--- in every tree a path that has a node is one
+-- in every tree a path that has a node is valid
 abbrev pub NodesHavePaths : Type 0
 NodesHavePaths = (files : Files) (path : List ℕ) → IsTree files → is_none (get files path) ≡ false → refusal path ≡ None
 

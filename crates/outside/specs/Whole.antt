@@ -26,7 +26,7 @@ can_put files path parent = is_dir (get files parent) && (is_none (get files pat
 abbrev pub can_save : Files → List ℕ → Bool
 can_save files path = not (is_root path) && can_put files path (parent_of path)
 
--- what `save` answers and leaves
+-- the answer of `save`, and the files after it
 abbrev pub Saves : List ℕ → List ℕ → Files → Result (Unit {0}) SaveError → Option Files → Type 0
 Saves path bytes before (Ok _) new = (can_save before path ≡ true) × (new ≡ Some (insert before path (new_file bytes)))
 Saves path bytes before (Err e.NoPlace) new = (can_save before path ≡ false) × (new ≡ Some before)
@@ -40,7 +40,7 @@ pub record Holds (path : List ℕ) (node : Option Node) (before after : Files) :
   pub others : SameBut path before after
   pub here : get after path ≡ node
 
--- a file is there, or nothing
+-- a file is there, or no node
 pub record IsOld (old : Bool) (node : Option Node) : Type 0 where
   pub is_old : is_file node ≡ old
   pub no_other : (is_none node || is_file node) ≡ true

@@ -1,4 +1,5 @@
--- Where files may be written, and what each call that writes answers and leaves. Our own, after the calls of a file system.
+-- Where files may be written, and for each call that writes its answer and the files after it. Our own, after the calls of a
+-- file system.
 use Rattle.std.specs.Prelude.{◌≡◌, ℕ, ◌+◌, ◌≤◌, Bool, true, false, not, ◌&&◌, ◌||◌, List, [], ◌∷◌, ◌++◌, length, map, take, drop, if◌then◌else◌, ◌==◌}
 use Rattle.std.specs.Prelude.{Option, Some, None, IfSome, is_some, is_none, nat_eq, Result, Ok, Err}
 use Rattle.std.specs.List.{list_any, list_all}
@@ -15,8 +16,8 @@ pub record Cut : Type 0 where
   pub path : List ℕ
   pub cuts : List ℕ
 
--- where an object may write: everywhere but at, under and over what is out, which is the tops of parts and files in spans; or at and
--- under its own tops
+-- where an object may write: everywhere but at, under and over the tops of parts that are out and files that are out in spans; or
+-- at and under its own tops
 pub data Area : Type 0 where
   all_but : List (List (List ℕ)) → List Cut → Area
   under : List (List ℕ) → Area
@@ -25,7 +26,7 @@ pub data Area : Type 0 where
 abbrev pub nothing_lent : Area
 nothing_lent = all_but [] []
 
--- the tops of all that is out: of a file in spans its path alone
+-- the tops of all that is out; the top of a file in spans is its path
 abbrev pub all_out : List (List (List ℕ)) → List Cut → List (List (List ℕ))
 all_out lent cut = map (λ c. c.path ∷ []) cut ++ lent
 
@@ -45,22 +46,22 @@ abbrev pub is_top : Area → List ℕ → Bool
 is_top (all_but lent cut) path = false
 is_top (under tops) path = list_any (λ top. pointwise nat_eq top path) tops
 
--- why nothing can be made at the path. Over a top of its own an object has a directory
+-- why no node can be made at the path. Over a top of its own an object has a directory
 abbrev pub make_refusal : Area → Files → List ℕ → Option WriteError
 make_refusal area files path =
     if is_some (get files path) then Some e.Exists
     else if is_top area path || is_dir (get files (parent_of path)) then None
     else Some e.NoParent
 
--- why bytes can't be written to a node
+-- why bytes cannot be written to a node
 abbrev pub write_refusal : Option Node → Option WriteError
 write_refusal node = if is_none node then Some e.Absent else if is_file node then None else Some e.WrongKind
 
--- why a node can't be removed as one that is no directory
+-- why a node cannot be removed as one that is not a directory
 abbrev pub remove_file_refusal : Option Node → Option WriteError
 remove_file_refusal node = if is_none node then Some e.Absent else if is_dir node then Some e.WrongKind else None
 
--- why what stands at the path can't be removed as an empty directory. Children whose path is too long count too
+-- why the node at the path cannot be removed as an empty directory. Children whose path is too long count too
 abbrev pub remove_dir_refusal : Files → List ℕ → Option WriteError
 remove_dir_refusal files path =
     if is_none (get files path) then Some e.Absent
@@ -71,15 +72,15 @@ remove_dir_refusal files path =
 abbrev pub empty_dir : Node
 empty_dir = record { body = dir 0; mtime = None }
 
--- a file as it is made, without a time
+-- a file as it is made, without a modification time
 abbrev pub new_file : List ℕ → Node
 new_file bytes = record { body = file bytes; mtime = None }
 
--- a link as it is made, without a time
+-- a link as it is made, without a modification time
 abbrev pub new_link : List ℕ → Node
 new_link text = record { body = link text; mtime = None }
 
--- bytes put over those at a place, and past the end
+-- bytes written over those from an offset on, and past the end
 abbrev pub spliced : List ℕ → ℕ → List ℕ → List ℕ
 spliced old at bytes = take at old ++ bytes ++ drop (at + length bytes) old
 
@@ -91,7 +92,7 @@ time_of (Some n) = n.mtime
 abbrev pub written : Files → List ℕ → ℕ → List ℕ → Files
 written files path at bytes = insert files path (record { body = file (spliced (content (get files path)) at bytes); mtime = time_of (get files path) })
 
--- the place is in the file or at its end, where a file is there
+-- the offset is in the file or at its end, if a file is there
 abbrev pub HasPlace : ℕ → Option Node → Type 0
 HasPlace at node = is_file node ≡ true → at ≤ length (content node)
 
@@ -99,7 +100,7 @@ HasPlace at node = is_file node ≡ true → at ≤ length (content node)
 abbrev pub SameBut : List ℕ → Files → Files → Type 0
 SameBut path old new = (q : List ℕ) → pointwise nat_eq q path ≡ false → get new q ≡ get old q
 
--- what a call answers and leaves, where it is refused as `refusal` says, and else makes `after` of the tree
+-- the answer of a call and the tree after it: the call is refused as `refusal` says, or else makes `after` of the tree
 abbrev pub Answers : List ℕ → Option WriteError → Files → Files → Result (Unit {0}) WriteError → Option Files → Type 0
 Answers path refusal before after (Ok _) new = (refusal ≡ None) × (new ≡ Some after)
 Answers path refusal before after (Err e.Failed) new = IfSome new (SameBut path before)

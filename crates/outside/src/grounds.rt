@@ -1,4 +1,4 @@
-//! Files of which readers can be made, and that can be written.
+//! Files that can be written, and of which readers can be made.
 ghost use Rattle.std.specs.Prelude.{◌≡◌, ◌≤◌, IsTrue, IfOk, IfSome, OnOk, OnErr, is_some};
 ghost use Rattle.std.specs.Option.{option_map};
 ghost use Rattle.outside.specs.Count.{capped};
@@ -10,17 +10,16 @@ use crate::trees::Tree;
 use path_text::{OutOfMemory, Path};
 use std::alloc::Global;
 
-/// Files of which readers can be made, and that can be written, also by lending parts of them. What stands at and under the
-/// tops of a part that is out is in the part alone, and the ground may be written neither there nor over there until the part
-/// is back.
+/// Files that can be written, also by lending parts of them, and of which readers can be made. While a part is out, it alone
+/// has the nodes at and under its tops. Until it is back, the ground may not be written at, under or over those tops.
 pub trait Ground: Plot {
-    /// What looks at the files.
+    /// An object that reads the files.
     type Reader: Tree + Drop;
 
     /// A part of the files, lent out to be written.
     type Part: Plot + Drop;
 
-    /// A reader of the files as they are now.
+    /// Makes a reader of the files as they are now.
     fn reader(&mut self, alloc: Global) -> Result<Self::Reader, OutOfMemory>
         ensures told { IfOk result (λ reader. Self.Reader.tree reader ≡ Self.tree self.old) }
         ensures zero { IfOk result (λ reader. Self.Reader.count reader ≡ 0) }
@@ -29,14 +28,14 @@ pub trait Ground: Plot {
         ensures count { Self.count self.new ≡ Self.count self.old }
         ensures refused { OnErr result (self.new ≡ self.old) };
 
-    /// Takes a reader back, and adds its count. The count never falls, whatever the two are.
+    /// Takes a reader back, and adds its count. The count never falls, for any two counts.
     fn take_reader(&mut self, reader: Self::Reader)
         ensures same { Self.tree self.new ≡ Self.tree self.old }
         ensures area { Self.area self.new ≡ Self.area self.old }
         ensures count { Self.count self.new ≡ capped (Self.count self.old) (Self.Reader.count reader) }
         ensures rises { Self.count self.old ≤ Self.count self.new };
 
-    /// Lends what stands at and under the tops. The empty list of tops lends nothing, and is fine.
+    /// Lends the nodes at and under the tops. The list of tops may be empty, and then lends nothing.
     fn lease(&mut self, alloc: Global, tops: &[Path]) -> Result<Self::Part, OutOfMemory>
         requires tops { CanLease (Self.area self.old) tops.now }
         requires parents { IfSome (Self.tree self.old) (HaveParents tops.now) }
@@ -49,8 +48,8 @@ pub trait Ground: Plot {
         ensures refused_area { OnErr result (Self.area self.new ≡ Self.area self.old) }
         ensures count { Self.count self.new ≡ Self.count self.old };
 
-    /// Takes a part back, adds its count and ends that lease. It takes no memory. The part may come from other files, if
-    /// its tops are those of one that is out: at and under the tops is then what the part has.
+    /// Takes a part back, adds its count and ends that lease. It takes no memory. The part may come from other files, if its
+    /// tops are those of a part that is out. The nodes at and under the tops are then those of the part.
     fn give_back(&mut self, part: Self::Part)
         requires out { IsTrue (is_out (Self.Part.area part) (Self.area self.old)) }
         requires tells { is_some (Self.Part.tree part) ≡ is_some (Self.tree self.old) }

@@ -1,4 +1,4 @@
-//! The tops of parts that are out, as an implementation of `Ground` keeps them.
+//! The tops of parts that are out. An implementation of `Ground` keeps them.
 ghost use Rattle.std.specs.Prelude.{◌≡◌, ◌<◌, ◌++◌, ◌∷◌, [], ℕ, List, Some, None, length, slice_get, IfOk, OnErr, OnOk, IsTrue};
 ghost use Rattle.std.specs.List.{list_any, remove};
 ghost use Rattle.outside.specs.Lease.{without_tops, same_tops};
@@ -9,7 +9,7 @@ use std::alloc::Global;
 use std::marker::Model;
 use std::sync::Arc;
 
-/// The tops of a part, shared by the part and the ground that it is out of. They are seen as the list of their paths.
+/// The tops of a part. The part and its ground share them. A contract sees them as the list of their paths.
 #[derive(Drop)]
 pub struct Tops {
     paths: Arc<Vec<Path>>,
@@ -25,7 +25,7 @@ impl Model for Tops {
 }
 
 impl Tops {
-    /// The paths, in the order in which they were given.
+    /// The paths, in the order of the call that lent them.
     pub fn paths(&self) -> &[Path]
         ensures { result.now ≡ self.now }
     {
@@ -33,7 +33,7 @@ impl Tops {
     }
 }
 
-/// The tops of all parts that are out, in the order in which they were lent. They are seen as the list of their lists.
+/// The tops of all parts that are out, in the order in which they were lent. A contract sees them as the list of their lists.
 #[derive(Drop)]
 pub struct Lent {
     out: Vec<Tops>,
@@ -48,7 +48,7 @@ impl Model for Lent {
 }
 
 impl Lent {
-    /// No part is out. It takes no memory.
+    /// Makes a list without a part. It takes no memory.
     pub fn make(alloc: Global) -> Lent
         ensures { result ≡ [] }
     {
@@ -57,15 +57,15 @@ impl Lent {
         }
     }
 
-    /// How many parts are out.
+    /// Counts the parts that are out.
     pub fn len(&self) -> usize
         ensures { result ≡ length self.now }
     {
         self.out.len()
     }
 
-    /// Lends these tops: they stand behind those that are out, and what is answered is for the part. The paths are copied
-    /// once. A refusal changes nothing.
+    /// Lends these tops: it adds them after those that are out, and returns the tops for the part. It copies the paths once.
+    /// An error changes nothing.
     pub fn lend(&mut self, alloc: Global, tops: &[Path]) -> Result<Tops, OutOfMemory>
         ensures lent { OnOk result (self.new ≡ self.old ++ tops.now ∷ []) }
         ensures tops { IfOk result (λ part. part ≡ tops.now) }
@@ -79,7 +79,7 @@ impl Lent {
         Ok(Tops { paths: theirs })
     }
 
-    /// The part with these tops is back. It takes no memory.
+    /// Ends the lease of the part with these tops. It takes no memory.
     pub fn end(&mut self, tops: &Tops)
         requires { IsTrue (list_any (λ one. same_tops one tops.now) self.old) }
         ensures { self.new ≡ without_tops tops.now self.old }
@@ -89,7 +89,7 @@ impl Lent {
     }
 }
 
-// The same paths again.
+// Copies the paths.
 fn copies(alloc: Global, paths: &[Path]) -> Result<Vec<Path>, OutOfMemory>
     ensures { IfOk result (λ copies. copies.items ≡ paths.now) }
 {
@@ -100,7 +100,7 @@ fn copies(alloc: Global, paths: &[Path]) -> Result<Vec<Path>, OutOfMemory>
     Ok(copies)
 }
 
-// Tells that each is a path. It does nothing.
+// Does nothing: its contract says that each of them is a path.
 fn tell(paths: &[Path])
     ensures { (i : ℕ) (x : List ℕ) → slice_get paths.now i ≡ Some x → refusal x ≡ None }
 {
@@ -109,7 +109,7 @@ fn tell(paths: &[Path])
     }
 }
 
-// The place of the first list that is these tops.
+// The index of the first list that is these tops.
 fn place_of(out: &[Tops], tops: &[Path]) -> usize
     requires { IsTrue (list_any (λ one. same_tops one tops.now) out.now) }
     ensures inside { result < length out.now }

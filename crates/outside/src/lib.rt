@@ -1,52 +1,65 @@
-//! What the tools ask of the outside: trees of files that can be looked at and written, and sinks that take text.
+//! The traits of the outside: trees of files that can be read and written, and sinks that take text.
 //!
-//! - [`Tree`] looks at files: [`Tree::stat`] tells what stands at a path, [`Tree::list`] the names in a directory, as a
-//!   [`Listing`], [`Tree::read`] bytes of a file, and [`Tree::read_link`] the text of a link, as a [`LinkText`].
+//! - [`Tree`] reads files. [`Tree::stat`] gives the kind, size and time of a path. [`Tree::list`] gives the names in a
+//!   directory, as a [`Listing`]. [`Tree::read`] gives bytes of a file, and [`Tree::read_link`] the text of a link, as a
+//!   [`LinkText`].
 //! - [`Plot`] is written, by six calls that each name one path: [`Plot::make_dir`], [`Plot::make_file`], [`Plot::make_link`],
-//!   [`Plot::write_at`], [`Plot::remove_file`] and [`Plot::remove_dir`]. [`WriteError`] says why one is refused.
+//!   [`Plot::write_at`], [`Plot::remove_file`] and [`Plot::remove_dir`]. [`WriteError`] says why a call is refused.
 //! - [`Ground`] is a set of files that can be written and of which readers can be made. Each [`Ground::Reader`] is a [`Tree`].
-//!   Parts of it can be lent out ([`Ground::lease`], [`Ground::give_back`]): each [`Ground::Part`] is a [`Plot`] of what stands
-//!   at and under some paths, its tops. [`Lent`] keeps the [`Tops`] of the parts that are out, for whoever writes a ground.
-//! - [`Wide`] is a ground of which one file can be lent in spans ([`Wide::lease_spans`], [`Wide::give_back_spans`]), so that
-//!   several write it at once. Each [`Span`] is a range of its bytes. [`SpanError`] says why a call is refused.
+//!   It lends parts ([`Ground::lease`], [`Ground::give_back`]): each [`Ground::Part`] is a [`Plot`] of the nodes at and under
+//!   some paths, its tops. [`Lent`] keeps the [`Tops`] of the parts that are out, for an implementation of `Ground`.
+//! - [`Wide`] is a ground that can lend one file in spans ([`Wide::lease_spans`], [`Wide::give_back_spans`]), so that several
+//!   threads write it at once. Each [`Span`] is a range of its bytes. [`SpanError`] says why a call is refused.
 //! - [`LinkText`] is the text of a link, 1 to 4,095 bytes without a 0. [`LinkText::escape`] writes it as printable text, and
-//!   [`LinkText::unescape`] reads that. [`LinkTextError`] says why a text is none.
+//!   [`LinkText::unescape`] reads that. [`LinkTextError`] says why a text is not one of a link.
 //! - [`load`] reads a whole file, and [`save`] writes one, in place of a file that is there.
-//! - [`Sink`] takes bytes, and [`put_all`] puts all of a text there. [`MemSink`] is a sink in memory.
+//! - [`Sink`] takes bytes, and [`put_all`] puts all bytes of a text into it. [`MemSink`] is a sink in memory.
 //!
-//! An object may *tell its tree*: then the ghost member `tree` is the finite map from paths to nodes that its answers are
-//! about, and each answer is tied to that map, as is what each call leaves. An object over a real disk tells none, and its
-//! contract still says which answers it has and when each may come. The ghost member `area` says where an object may be
-//! written: a part at and under its tops, and a ground everywhere but at, under and over what is out: the tops of parts, and
-//! files in spans. A span always shows its path, its start and its length, and tells its bytes where the ground tells its tree.
+//! An object may *tell its tree*. Then the ghost member `tree` is the finite map from paths to nodes that its answers are
+//! about. The clauses tie each answer, and the state after each call, to that map. An object over a real disk tells no tree.
+//! Its contract still says which answers it has and when each may come. The ghost member `area` says where an object may be
+//! written. A part may be written at and under its tops. A ground may not be written at, under and over the tops of parts and
+//! the files in spans that are out. It may be written everywhere else. A span always shows its path, its start and its length.
+//! It tells its bytes if the ground tells its tree.
 //!
-//! Each reader, and all files, have a relation `gives` too: which answer a call may have, and what it leaves. An implementation may
-//! choose any. What is written for all of them knows nothing of it, so its contract can name an answer only where a call gave it.
-//! In this way [`load`] and [`save`] tell the cause of each answer also over files that tell no tree.
+//! Each reader, and all files, have a relation `gives` too: which answer a call may have, and which state it leaves. An
+//! implementation may choose any relation. Code for all implementations knows nothing of it, so its contract can name an answer
+//! only if a call gave it. In this way [`load`] and [`save`] tell the cause of each answer also over files that tell no tree.
 //!
-//! Everything outside may fail. Each object counts its *faults* in a number that never falls and stops at 2^64 - 1; an
-//! answer that blames the outside comes only where that count rose, or stands at its end.
+//! Everything outside may fail. Each object counts its *faults* in a number that never falls and stops at 2^64 - 1. An answer
+//! that blames the outside comes only if that count rose, or is at its end.
 //!
-//! Proved: [`put_all`], [`load`] and [`save`] end, over every object. [`put_all`] appends exactly its bytes, or a front of
-//! them where the sink failed. [`load`] gives exactly the bytes of the file, and `NoFile` where no file is there, and [`save`]
-//! leaves a file with exactly the bytes and all else as before, or says `NoPlace` exactly where no file can be, both where the
-//! files tell their tree. Over all files [`load`] gives as many bytes as `stat` told, or as came before a read gave none, and
-//! says `NoFile` only where `stat` or a read answered that; and [`save`] wrote all its bytes piece behind piece, or says
-//! `NoPlace` only where a look or a write answered that. Memory for a whole file is taken before any of it is read.
-//! [`MemSink`] and [`Listing`] meet their clauses. The traits' clauses are what each implementation is
-//! proved to meet. Laws say what the names in every tree are like ([`children_have_names`]), that nodes stand at paths
-//! ([`nodes_have_paths`]), that a path is under its parent ([`children_have_parents`]), and that all that a node is under is a
-//! directory ([`nodes_are_under_directories`]). A lease leaves a tree and makes a part, and a return makes a tree again
-//! ([`leases_keep_trees`]); two parts that are out at once come to the same as one after the other ([`leases_overlap`]). Not
-//! claimed: what stands at the path of a [`save`] that failed or found no memory.
+//! Proved: [`put_all`], [`load`] and [`save`] end, over every object. [`put_all`] appends exactly its bytes, or a front of them
+//! if the sink failed. If the files tell their tree, [`load`] gives exactly the bytes of the file, and `NoFile` if no file is
+//! there. [`save`] then leaves a file with exactly the bytes and all else as before, or answers `NoPlace` exactly if no file
+//! can be there. Over all files, [`load`] gives as many bytes as `stat` answered, or all bytes before a read gave none. It
+//! answers `NoFile` only if `stat` or a read answered that. [`save`] wrote all its bytes, one piece after another, or answers
+//! `NoPlace` only if a `stat` or a write answered that. [`load`] takes the memory for a whole file before it reads any of it.
+//! [`MemSink`] and [`Listing`] meet their clauses. Each implementation of a trait is proved to meet the clauses of the trait.
 //!
+//! Laws give the form of the names in every tree ([`children_have_names`]), and say that the path of a node is valid
+//! ([`nodes_have_paths`]). A path is under its parent ([`children_have_parents`]), and each path over a node is a directory
+//! ([`nodes_are_under_directories`]). A lease leaves a tree and makes a part, and a return makes a tree again
+//! ([`leases_keep_trees`]). Two parts that are out at once give the same tree as one after the other ([`leases_overlap`]).
 //! Reading undoes writing of a link's text ([`link_reading_undoes_writing`]).
 //!
-//! Definitions stand in `specs/`: `Tree` (files, nodes, listings, bytes that are read), `Links` (the texts of links), `Writes`
-//! (areas, refusals, what a call answers and leaves), `Lease` (how files are divided and joined, and the areas meanwhile),
-//! `Laid` (the joined map), `Parts` (the nodes of a part, and what leases keep true), `Spans` (files cut in spans, and the areas
-//! meanwhile), `Whole` (whole files), `Asked` (calls with their answers), `Answered` (whole files by what was answered),
-//! `Count` (counts of faults), `Sinks`; `Codes` is for proofs alone.
+//! Not claimed: the node at the path of a [`save`] that failed or ran out of memory.
+//!
+//! The definitions are in `specs/`:
+//!
+//! - `Tree`: files, nodes, listings, bytes that are read
+//! - `Links`: the texts of links
+//! - `Writes`: areas, refusals, the answer of a call and the state that it leaves
+//! - `Lease`: dividing and joining files, and the areas meanwhile
+//! - `Laid`: the joined map
+//! - `Parts`: the nodes of a part, and the laws of leases
+//! - `Spans`: files cut in spans, and the areas meanwhile
+//! - `Whole`: whole files
+//! - `Asked`: calls with their answers
+//! - `Answered`: whole files by the answers of the calls
+//! - `Count`: counts of faults
+//! - `Sinks`: sinks
+//! - `Codes`: only for proofs
 #![tactic(auto)]
 
 mod failures;

@@ -12,22 +12,22 @@ use thiserror::Error;
 /// The most bytes that the text of a link has.
 pub const MAX_LINK: usize = 4095;
 
-/// Why a text is not one of a link, or why none could be made of it.
+/// Why a text is not one of a link, or why no text of a link could be made of it.
 #[derive(Clone, Copy, Debug, Drop, PartialEq, Eq, Error)]
 pub enum LinkTextError {
-    /// It has no byte.
+    /// The text has no byte.
     #[error("the text of a link is not empty")]
     Empty,
-    /// More than 4,095 bytes.
+    /// The text has more than 4,095 bytes.
     #[error("the text of the link has more than 4095 bytes")]
     TooLong,
-    /// It holds the byte 0.
+    /// The text holds the byte 0.
     #[error("the text of the link holds the byte 0")]
     Nul,
-    /// The byte at this place is raw and would have to be escaped, or is a backslash that begins no escape.
+    /// The byte at this index is raw and must be escaped, or is a backslash that begins no escape.
     #[error("the byte at {0} is no text of a link")]
     BadEscape(usize),
-    /// No memory was found.
+    /// The call is out of memory.
     #[error("out of memory")]
     OutOfMemory,
 }
@@ -43,7 +43,7 @@ impl From<AllocError> for LinkTextError {
     }
 }
 
-/// The text of a symbolic link, seen as its bytes: UTF-8, one byte at least and 4,095 at most, none of them 0.
+/// The text of a symbolic link: UTF-8, at least one byte and at most 4,095, none of them 0. A contract sees it as its bytes.
 #[derive(Debug, Drop)]
 pub struct LinkText {
     text: String,
@@ -62,7 +62,7 @@ impl Model for LinkText {
 }
 
 impl LinkText {
-    /// The link's text that a text is. The text is looked at before memory is taken.
+    /// Makes a link's text of a text. It checks the text before it takes memory.
     pub fn parse(alloc: Global, text: &str) -> Result<LinkText, LinkTextError>
         ensures ok { IfOk result (λ link. link ≡ text.now) }
         ensures valid { OnOk result (link_refusal text.now ≡ None) }
@@ -75,7 +75,7 @@ impl LinkText {
         Ok(LinkText { text })
     }
 
-    /// Its text, which is UTF-8.
+    /// The text, which is UTF-8.
     pub fn text(&self) -> &str
         ensures text { result.now ≡ self.now }
         ensures valid { link_refusal self.now ≡ None }
@@ -83,7 +83,7 @@ impl LinkText {
         self.text.as_str()
     }
 
-    /// The same text again.
+    /// Copies the text.
     pub fn copy(&self) -> Result<LinkText, OutOfMemory>
         ensures { IfOk result (λ link. link ≡ self.now) }
     {
@@ -91,7 +91,7 @@ impl LinkText {
         Ok(LinkText { text })
     }
 
-    /// The text in printable text, as [`path_text::escape`] writes a path.
+    /// Writes the text in printable text, as [`path_text::escape`] writes a path.
     pub fn escape(&self, alloc: Global) -> Result<Vec<u8>, OutOfMemory>
         ensures { IfOk result (λ written. written.items ≡ escape self.now) }
     {
@@ -100,7 +100,7 @@ impl LinkText {
         Ok(written)
     }
 
-    /// The link's text whose printable text this is, as [`LinkText::escape`] writes it. It is looked at before memory is taken.
+    /// Reads the link's text for which [`LinkText::escape`] writes this text. It checks the text before it takes memory.
     pub fn unescape(alloc: Global, written: &str) -> Result<LinkText, LinkTextError>
         ensures ok { IfOk result (λ link. link_reading written.now ≡ Ok link) }
         ensures refused { IfErr result (λ e. (link_reading written.now ≡ Err e) ⊎ (e ≡ LinkTextError.OutOfMemory)) }
@@ -117,7 +117,7 @@ impl LinkText {
         Ok(LinkText { text })
     }
 
-    /// The link's text that a text is, which is known to be one: it is not looked at again.
+    /// Makes a link's text of a text that is known to be one. It does not check the text again.
     pub fn of_text(alloc: Global, text: &str) -> Result<LinkText, OutOfMemory>
         requires { link_refusal text.now ≡ None }
         ensures { IfOk result (λ link. link ≡ text.now) }
@@ -127,7 +127,7 @@ impl LinkText {
     }
 }
 
-// Why the bytes of a text are none of a link; `None` where they are.
+// Why the bytes of a text are not a link's text; `None` if they are one.
 fn refusal(text: &[u8]) -> Option<LinkTextError>
     ensures { result ≡ link_refusal text.now }
 {
@@ -143,7 +143,7 @@ fn refusal(text: &[u8]) -> Option<LinkTextError>
     None
 }
 
-// Why what a printable text without a bad byte stands for is no text of a link; `None` where it is.
+// Why the bytes that a printable text without a bad byte means are not a link's text; `None` if they are one.
 fn told_refusal(written: &[u8]) -> Option<LinkTextError>
     requires { good_len written.now ≡ length written.now }
     ensures { result ≡ link_refusal (unescaped written.now) }

@@ -7,13 +7,13 @@ use path_text::OutOfMemory;
 use std::alloc::Global;
 use std::marker::Model;
 
-/// The names in a directory, seen as (names, unnamed, far): the names, how many more are no text, and how many children
-/// have a path that would be too long.
+/// The names in a directory. A contract sees them as (names, unnamed, far). `unnamed` is the number of names that are not
+/// text, and `far` the number of children whose path would be too long.
 #[derive(Debug, Drop)]
 pub struct Listing {
-    // All names, one behind the other: a name of its own allocation would take several times its bytes.
+    // All names, one after another: a name with an allocation of its own would take several times its bytes.
     text: String,
-    // Where each of them ends.
+    // The index at which each name ends.
     ends: Vec<usize>,
     unnamed: u64,
     far: u64,
@@ -32,7 +32,7 @@ impl Model for Listing {
 }
 
 impl Listing {
-    /// No names. It takes no memory.
+    /// Makes a listing without names. It takes no memory.
     pub fn make(alloc: Global) -> Listing
         ensures { result ≡ ([], 0, 0) }
     {
@@ -44,8 +44,8 @@ impl Listing {
         }
     }
 
-    /// Takes the memory for so many more names of so many bytes in all, so that adding them takes none. The names stay, also
-    /// where there is no memory.
+    /// Takes the memory for this number of further names and bytes, so that adding them takes none. The names stay, also if
+    /// the call is out of memory.
     pub fn reserve(&mut self, names: usize, bytes: usize) -> Result<(), OutOfMemory>
         ensures { self.new ≡ self.old }
     {
@@ -54,7 +54,7 @@ impl Listing {
         Ok(())
     }
 
-    /// Adds a name behind the others. A refusal drops it, and leaves the listing.
+    /// Adds a name after the others. An error drops the name, and leaves the listing unchanged.
     pub fn add(&mut self, name: String) -> Result<(), OutOfMemory>
         ensures ok { OnOk result (self.new ≡ (self.old.0 ++ string_bytes name ∷ [], self.old.1, self.old.2)) }
         ensures err { OnErr result (self.new ≡ self.old) }
@@ -62,12 +62,12 @@ impl Listing {
         self.add_name(name.as_str())
     }
 
-    /// Adds a name behind the others. A refusal leaves the listing.
+    /// Adds a name after the others. An error leaves the listing unchanged.
     pub fn add_name(&mut self, name: &str) -> Result<(), OutOfMemory>
         ensures ok { OnOk result (self.new ≡ (self.old.0 ++ name.now ∷ [], self.old.1, self.old.2)) }
         ensures err { OnErr result (self.new ≡ self.old) }
     {
-        // The room for the end is taken first, so that a name never stands without it.
+        // The room for the end is taken first, so that no name is ever there without its end.
         self.ends.reserve(1)?;
         self.text.push_str(name)?;
         self.ends.push(self.text.len())?;
@@ -82,14 +82,14 @@ impl Listing {
         self.far = far;
     }
 
-    /// How many names there are.
+    /// Counts the names.
     pub fn len(&self) -> usize
         ensures { result ≡ length self.now.0 }
     {
         self.ends.len()
     }
 
-    /// The name at a place.
+    /// The name at an index.
     pub fn name(&self, k: usize) -> &str
         requires { k < length self.now.0 }
         ensures { slice_get self.now.0 k ≡ Some result.now }
@@ -97,14 +97,14 @@ impl Listing {
         name_at(&self.text, &self.ends, k)
     }
 
-    /// How many names are no text.
+    /// The number of names that are not text.
     pub fn unnamed(&self) -> u64
         ensures { result ≡ self.now.1 }
     {
         self.unnamed
     }
 
-    /// How many children have a path that would be too long.
+    /// The number of children whose path would be too long.
     pub fn far(&self) -> u64
         ensures { result ≡ self.now.2 }
     {
@@ -112,7 +112,7 @@ impl Listing {
     }
 }
 
-// The name at a place, in a text with these ends.
+// The name at an index, in a text with these ends.
 fn name_at<'a>(text: &'a str, ends: &[usize], k: usize) -> &'a str
     requires within { k < length ends.now }
     requires ends { AreEndsFrom 0 text.now ends.now }
@@ -121,7 +121,7 @@ fn name_at<'a>(text: &'a str, ends: &[usize], k: usize) -> &'a str
     &text[start_of(ends, k)..ends[k]]
 }
 
-// Where the name at a place begins: at the end of the one before it.
+// The start of the name at an index: the end of the name before it.
 fn start_of(ends: &[usize], k: usize) -> usize
     requires { k < length ends.now }
     ensures { result ≡ slice_index (0 ∷ ends.now) k }

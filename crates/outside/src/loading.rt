@@ -1,4 +1,4 @@
-//! Whole files, read.
+//! Reads whole files.
 ghost use Rattle.std.specs.Prelude.{◌≡◌, ◌+◌, ◌<◌, ◌≤◌, ◌++◌, ℕ, true, false, length, take, drop, IfOk, IfErr, IfSome, IsErrOf};
 ghost use Rattle.std.specs.FinMap.{get};
 ghost use Rattle.outside.specs.Count.{RoseBy};
@@ -13,19 +13,19 @@ use path_text::Path;
 use std::alloc::{AllocError, Global};
 use thiserror::Error;
 
-/// How many bytes of a file are asked for at a time.
+/// The number of bytes that one read asks for.
 const PIECE: usize = 65536;
 
 /// Why a file is not loaded.
 #[derive(Clone, Copy, Debug, Drop, PartialEq, Eq, Error)]
 pub enum LoadError {
-    /// The outside failed, and the reader has counted it.
+    /// The outside failed, and the reader has counted the fault.
     #[error("the outside failed")]
     Failed,
     /// No file is at the path.
     #[error("no file is there")]
     NoFile,
-    /// No memory was found.
+    /// The call is out of memory.
     #[error("out of memory")]
     OutOfMemory,
 }
@@ -66,8 +66,8 @@ impl From<AllocError> for LoadError {
     }
 }
 
-/// The bytes of the file at the path, up to the size that `stat` tells, and fewer where reading comes to an end before. It
-/// ends by itself: each turn reads one byte at least, or is the last. Room for all the bytes is taken before any is read.
+/// Reads the bytes of the file at the path, up to the size that `stat` answers. It gives fewer if a read gives none before.
+/// It ends: each turn reads at least one byte, or is the last. It takes room for all bytes before it reads any.
 pub fn load<R: Tree>(alloc: Global, reader: &mut R, path: &Path) -> Result<Vec<u8>, LoadError>
     ensures whole { IfOk result (λ bytes. IfSome (R.tree reader.old) (λ files. HoldsFile bytes.items (get files path.now))) }
     ensures no_file { IsErrOf result LoadError.NoFile → IfSome (R.tree reader.old) (λ files. is_file (get files path.now) ≡ false) }
@@ -75,7 +75,7 @@ pub fn load<R: Tree>(alloc: Global, reader: &mut R, path: &Path) -> Result<Vec<u
     ensures count { RoseBy 0 (R.count reader.old) (R.count reader.new) }
     ensures cause { IsErrOf result LoadError.Failed → RoseBy 1 (R.count reader.old) (R.count reader.new) }
 
-    // Over all files, also those that tell no tree, by what the reader answered.
+    // Over all files, also those that tell no tree, by the answers of the reader.
     ensures ended { IfOk result (λ bytes. LoadEnded R.gives path.now bytes.items reader.old reader.new) }
     ensures stopped { IfErr result (LoadStopped R.gives path.now reader.old reader.new) }
 {
@@ -86,7 +86,7 @@ pub fn load<R: Tree>(alloc: Global, reader: &mut R, path: &Path) -> Result<Vec<u
     Ok(bytes)
 }
 
-// How many bytes the file at the path has.
+// The number of bytes of the file at the path.
 fn size_of<R: Tree>(reader: &mut R, path: &Path) -> Result<usize, LoadError>
     ensures told { IfOk result (λ size. IfSome (R.tree reader.old) (λ files. (is_file (get files path.now) ≡ true) × (length (content (get files path.now)) ≡ size))) }
     ensures no_file { IsErrOf result LoadError.NoFile → IfSome (R.tree reader.old) (λ files. is_file (get files path.now) ≡ false) }
@@ -98,7 +98,7 @@ fn size_of<R: Tree>(reader: &mut R, path: &Path) -> Result<usize, LoadError>
     by_stat(reader.stat(path))
 }
 
-// What the answer of `stat` says of the size of a file that is to be loaded.
+// The size of a file to load, by the answer of `stat`.
 fn by_stat(told: Result<Option<Stat>, Failed>) -> Result<usize, LoadError>
     ensures { result ≡ size_told told }
 {
@@ -111,7 +111,7 @@ fn by_stat(told: Result<Option<Stat>, Failed>) -> Result<usize, LoadError>
     Ok(stat.size as usize)
 }
 
-// Reads the file from its front on, until the buffer is full or a read gives nothing, and answers how many bytes.
+// Reads the file from its front on, until the buffer is full or a read gives no byte. It answers the number of bytes.
 fn fill<R: Tree>(reader: &mut R, path: &Path, bytes: &mut [u8]) -> Result<usize, ReadError>
     ensures most { IfOk result (λ n. n ≤ length bytes.new) }
     ensures told { IfOk result (λ n. IfSome (R.tree reader.old) (λ files. take n bytes.new ≡ take n (content (get files path.now)))) }
@@ -134,7 +134,7 @@ fn fill<R: Tree>(reader: &mut R, path: &Path, bytes: &mut [u8]) -> Result<usize,
     Ok(at)
 }
 
-// Reads the file from a place on, into the buffer at the same place.
+// Reads the file from an offset on, into the buffer at the same offset.
 fn read_piece<R: Tree>(
     reader: &mut R,
     path: &Path,

@@ -7,29 +7,29 @@ use path_text::{OutOfMemory, Path};
 use std::alloc::{AllocError, Global};
 use thiserror::Error;
 
-/// Why a call that writes is refused. Where several of them stand, `Exists` comes before `NoParent`, and `Absent` before
-/// `WrongKind` before `NotEmpty`.
+/// Why a call that writes is refused. If several apply, `Exists` comes before `NoParent`, and `Absent` before `WrongKind`
+/// before `NotEmpty`.
 #[derive(Clone, Copy, Debug, Drop, PartialEq, Eq, Error)]
 pub enum WriteError {
-    /// The outside failed, and the object has counted it.
+    /// The outside failed, and the object has counted the fault.
     #[error("the outside failed")]
     Failed,
-    /// A node is there.
+    /// A node is at the path.
     #[error("a node is there already")]
     Exists,
-    /// The path over it is no directory.
+    /// The parent of the path is not a directory.
     #[error("the path over it is no directory")]
     NoParent,
-    /// What is there is of another kind.
+    /// The node at the path is of another kind.
     #[error("what is there is of another kind")]
     WrongKind,
     /// The directory has a child.
     #[error("the directory is not empty")]
     NotEmpty,
-    /// Nothing is there.
+    /// No node is at the path.
     #[error("nothing is there")]
     Absent,
-    /// No memory was found.
+    /// The call is out of memory.
     #[error("out of memory")]
     OutOfMemory,
 }
@@ -56,8 +56,8 @@ impl From<AllocError> for WriteError {
     }
 }
 
-/// Files that can be written, each call at one path. A refusal other than `Failed` leaves them as before, and `Failed` every
-/// path but the one that the call names.
+/// Files that can be written, with each call at one path. A refusal other than `Failed` leaves them as before. `Failed` leaves
+/// every path but the path of the call as before.
 pub trait Plot {
     ghost use Rattle.outside.specs.Tree.{Files};
     ghost use Rattle.outside.specs.Parts.{IsTreeIn};
@@ -68,25 +68,26 @@ pub trait Plot {
     ghost use Rattle.std.specs.Prelude.{[], List, Result};
     ghost use Rattle.outside.specs.declared.plots.WriteError as refused;
 
-    /// The nodes by their paths, where the object tells them.
+    /// The nodes by their paths, if the object tells its tree.
     ghost tree: { Self → Option Files };
 
-    /// How often it, and what it took back, have failed.
+    /// The number of faults of the object and of all that it took back.
     ghost count: { Self → ℕ };
 
-    /// Where it may write.
+    /// The paths at which the object may write.
     ghost area: { Self → Area };
 
-    /// Which answer a write at a path may have, and what it leaves: a relation of the implementation's own. What is written for
-    /// all files knows nothing of it, so it can tell of an answer only where a call gave it.
+    /// Which answer a write at a path may have, and which state it leaves. Each implementation chooses this relation. Code for
+    /// all files knows nothing of it, so it can name an answer only if a call gave it.
     ghost gives: { Self → List ℕ → Write → Result (Unit {0}) refused.WriteError → Self → Type 0 } = { λ _ _ _ _ _. Unit {0} };
 
-    /// How often it, and what it took back, have failed. The call tells too that the nodes are a tree, or those of a part.
+    /// The number of faults of the object and of all that it took back. The contract also says that the nodes are a tree, or
+    /// those of a part.
     fn faults(&self) -> u64
         ensures counted { result ≡ count self.now }
         ensures valid { IfSome (tree self.now) (IsTreeIn (area self.now)) };
 
-    /// Makes an empty directory without a time.
+    /// Makes an empty directory without a modification time.
     fn make_dir(&mut self, alloc: Global, path: &Path) -> Result<(), WriteError>
         requires { IsTrue (is_open (area self.old) path.now) }
         ensures told { IfSome (tree self.old) (λ files. Answers path.now (make_refusal (area self.old) files path.now) files (map.insert files path.now empty_dir) result (tree self.new)) }
@@ -97,7 +98,7 @@ pub trait Plot {
         ensures cause { IsErrOf result WriteError.Failed → RoseBy 1 (count self.old) (count self.new) }
         ensures given { gives self.old path.now asked.make_dir result self.new };
 
-    /// Makes an empty file without a time.
+    /// Makes an empty file without a modification time.
     fn make_file(&mut self, alloc: Global, path: &Path) -> Result<(), WriteError>
         requires { IsTrue (is_open (area self.old) path.now) }
         ensures told { IfSome (tree self.old) (λ files. Answers path.now (make_refusal (area self.old) files path.now) files (map.insert files path.now (new_file [])) result (tree self.new)) }
@@ -108,7 +109,7 @@ pub trait Plot {
         ensures cause { IsErrOf result WriteError.Failed → RoseBy 1 (count self.old) (count self.new) }
         ensures given { gives self.old path.now asked.make_file result self.new };
 
-    /// Makes a link with this text, without a time.
+    /// Makes a link with this text, without a modification time.
     fn make_link(&mut self, alloc: Global, path: &Path, text: &LinkText) -> Result<(), WriteError>
         requires { IsTrue (is_open (area self.old) path.now) }
         ensures told { IfSome (tree self.old) (λ files. Answers path.now (make_refusal (area self.old) files path.now) files (map.insert files path.now (new_link text.now)) result (tree self.new)) }
@@ -119,7 +120,7 @@ pub trait Plot {
         ensures cause { IsErrOf result WriteError.Failed → RoseBy 1 (count self.old) (count self.new) }
         ensures given { gives self.old path.now (asked.make_link text.now) result self.new };
 
-    /// Writes bytes over those of a file from a place on, and past its end.
+    /// Writes bytes over those of a file from an offset on, and past its end.
     fn write_at(
         &mut self,
         alloc: Global,
@@ -137,7 +138,7 @@ pub trait Plot {
         ensures cause { IsErrOf result WriteError.Failed → RoseBy 1 (count self.old) (count self.new) }
         ensures given { gives self.old path.now (asked.write_at at bytes.now) result self.new };
 
-    /// Removes what is no directory.
+    /// Removes a node that is not a directory.
     fn remove_file(&mut self, alloc: Global, path: &Path) -> Result<(), WriteError>
         requires { IsTrue (is_open (area self.old) path.now) }
         ensures told { IfSome (tree self.old) (λ files. Answers path.now (remove_file_refusal (map.get files path.now)) files (map.remove files path.now) result (tree self.new)) }

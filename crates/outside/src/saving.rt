@@ -1,4 +1,4 @@
-//! Whole files, written.
+//! Writes whole files.
 ghost use Rattle.std.specs.Prelude.{◌≡◌, ◌≢◌, ◌⊎◌, true, false, [], length, Some, None, Ok, Err, OnOk, OnErr, IfOk, IfErr, IfSome, IsErrOf, IsTrue, is_some};
 ghost use Rattle.std.specs.FinMap as map;
 ghost use Rattle.outside.specs.Count.{RoseBy};
@@ -16,19 +16,19 @@ use path_text::{OutOfMemory, Path};
 use std::alloc::Global;
 use thiserror::Error;
 
-/// How many bytes are written at a time.
+/// The number of bytes of one write.
 const PIECE: usize = 65536;
 
 /// Why a file is not saved.
 #[derive(Clone, Copy, Debug, Drop, PartialEq, Eq, Error)]
 pub enum SaveError {
-    /// The outside failed, and the files have counted it.
+    /// The outside failed, and the files have counted the fault.
     #[error("the outside failed")]
     Failed,
-    /// No file can be at the path: no directory is over it, or what is there is no file.
+    /// No file can be at the path: its parent is not a directory, or its node is not a file.
     #[error("no file can be there")]
     NoPlace,
-    /// No memory was found.
+    /// The call is out of memory.
     #[error("out of memory")]
     OutOfMemory,
 }
@@ -70,8 +70,8 @@ impl From<WriteError> for SaveError {
     }
 }
 
-/// Puts a file with these bytes at the path, in place of a file that is there. It ends by itself: each turn writes one byte
-/// at least. After `Failed` and `OutOfMemory` nothing is said of the path itself.
+/// Writes a file with these bytes at the path, in place of a file that is there. It ends: each turn writes at least one byte.
+/// After `Failed` and `OutOfMemory` the contract says nothing of the path itself.
 pub fn save<G: Ground>(
     alloc: Global,
     ground: &mut G,
@@ -85,7 +85,7 @@ pub fn save<G: Ground>(
     ensures count { RoseBy 0 (G.count ground.old) (G.count ground.new) }
     ensures cause { IsErrOf result SaveError.Failed → RoseBy 1 (G.count ground.old) (G.count ground.new) }
 
-    // Over all files, also those that tell no tree, by what was answered.
+    // Over all files, also those that tell no tree, by the answers of the calls.
     ensures ended { OnOk result (SaveEnded G.Reader.gives G.gives path.now bytes.now ground.new) }
     ensures stopped { IfErr result (SaveStopped G.Reader.gives G.gives path.now ground.old ground.new) }
 {
@@ -99,7 +99,7 @@ pub fn save<G: Ground>(
     write_all(alloc, ground, path, bytes)
 }
 
-// Whether the path holds a file already, where one can be saved there.
+// Whether a file is at the path already, if a file can be saved there.
 fn find_old<G: Ground>(
     alloc: Global,
     ground: &mut G,
@@ -139,7 +139,7 @@ fn look<R: Tree>(reader: &mut R, path: &Path, parent: &Path) -> Result<bool, Sav
     }
 }
 
-// What the answer of `stat` at the path over a file says of saving the file.
+// Whether a file can be saved, by the answer of `stat` at its parent.
 fn by_over(told: Result<Option<Stat>, Failed>) -> Result<(), SaveError>
     ensures { result ≡ over_told told }
 {
@@ -152,7 +152,7 @@ fn by_over(told: Result<Option<Stat>, Failed>) -> Result<(), SaveError>
     Ok(())
 }
 
-// Whether there is an old file, by the answer of `stat` at the path of a file that is to be saved.
+// Whether there is an old file, by the answer of `stat` at the path of the file to save.
 fn by_place(told: Result<Option<Stat>, Failed>) -> Result<bool, SaveError>
     ensures { result ≡ place_told told }
 {
@@ -165,7 +165,7 @@ fn by_place(told: Result<Option<Stat>, Failed>) -> Result<bool, SaveError>
     Ok(true)
 }
 
-// Removes the file at the path, where one is there.
+// Removes the file at the path, if there is one.
 fn clear<G: Ground>(alloc: Global, ground: &mut G, path: &Path, old: bool) -> Result<(), SaveError>
     requires open { IsTrue (is_open (G.area ground.old) path.now) }
     requires old { IfSome (G.tree ground.old) (λ files. IsOld old (map.get files path.now)) }
@@ -185,7 +185,7 @@ fn clear<G: Ground>(alloc: Global, ground: &mut G, path: &Path, old: bool) -> Re
     Ok(())
 }
 
-// Makes an empty file, where nothing is and the parent is a directory.
+// Makes an empty file at a path without a node, whose parent is a directory.
 fn make_empty<G: Ground>(alloc: Global, ground: &mut G, path: &Path) -> Result<(), SaveError>
     requires area { G.area ground.old ≡ nothing_lent }
     requires open { IsTrue (is_open (G.area ground.old) path.now) }
@@ -204,7 +204,7 @@ fn make_empty<G: Ground>(alloc: Global, ground: &mut G, path: &Path) -> Result<(
     Ok(())
 }
 
-// Writes all the bytes to a file that is empty.
+// Writes all the bytes to an empty file.
 fn write_all<G: Ground>(
     alloc: Global,
     ground: &mut G,

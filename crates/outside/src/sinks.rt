@@ -1,4 +1,4 @@
-//! Where text goes.
+//! Sinks, which take text.
 ghost use Rattle.std.specs.Prelude.{◌≡◌, ◌≢◌, ◌+◌, ◌-◌, ◌<◌, ◌≤◌, ◌++◌, ℕ, List, Option, Some, [], length, take, min, OnOk, OnErr, IfOk, IfSome, is_some, ◌↔◌, IsErr};
 ghost use Rattle.outside.specs.Count.{RoseBy, capped};
 ghost use Rattle.outside.specs.Sinks.{GrewByPrefix, InMemory};
@@ -8,19 +8,19 @@ use path_text::OutOfMemory;
 use std::alloc::Global;
 use std::marker::Model;
 
-/// Where text goes.
+/// An object that takes text.
 pub trait Sink {
-    /// All that was put so far, where the sink tells it.
+    /// All bytes that were put so far, if the sink tells them.
     ghost text: { Self → Option (List ℕ) };
 
-    /// How often it has failed.
+    /// The number of faults.
     ghost count: { Self → ℕ };
 
-    /// How often it has failed.
+    /// The number of faults.
     fn faults(&self) -> u64
         ensures { result ≡ count self.now };
 
-    /// Appends some bytes from the front, and answers how many: of bytes that are not empty at least one.
+    /// Appends some bytes from the front, and answers their number: at least one, if the bytes are not empty.
     fn put(&mut self, bytes: &[u8]) -> Result<usize, Failed>
         ensures most { IfOk result (λ n. n ≤ length bytes.now) }
         ensures some { IfOk result (λ n. 0 < length bytes.now → 0 < n) }
@@ -31,7 +31,7 @@ pub trait Sink {
         ensures cause { OnErr result (RoseBy 1 (count self.old) (count self.new)) };
 }
 
-/// Puts all the bytes. It ends by itself: each turn takes one byte at least, or is the last.
+/// Puts all the bytes. It ends: each turn puts at least one byte, or is the last.
 pub fn put_all<S: Sink>(sink: &mut S, bytes: &[u8]) -> Result<(), Failed>
     ensures all { OnOk result (IfSome (S.text sink.old) (λ old. S.text sink.new ≡ Some (old ++ bytes.now))) }
     ensures part { OnErr result (IfSome (S.text sink.old) (λ old. IfSome (S.text sink.new) (GrewByPrefix bytes.now old))) }
@@ -46,7 +46,7 @@ pub fn put_all<S: Sink>(sink: &mut S, bytes: &[u8]) -> Result<(), Failed>
     Ok(())
 }
 
-/// A sink in memory, which takes so many bytes in all: seen as its text, that limit and its count of faults.
+/// A sink in memory that takes a limited number of bytes. A contract sees it as its text, that limit and its count of faults.
 #[derive(Debug, Drop)]
 pub struct MemSink {
     text: Vec<u8>,
@@ -66,7 +66,7 @@ impl Model for MemSink {
 }
 
 impl MemSink {
-    /// A sink that takes so many bytes in all. All the memory for them is taken here.
+    /// Makes a sink that takes `takes` bytes in all. It takes all the memory for them.
     pub fn limited(alloc: Global, takes: u64) -> Result<MemSink, OutOfMemory>
         ensures { IfOk result (λ sink. sink ≡ record { text = []; limit = takes; count = 0 }) }
     {
@@ -81,7 +81,7 @@ impl MemSink {
         })
     }
 
-    /// All that was put.
+    /// All bytes that were put.
     pub fn text(&self) -> &[u8]
         ensures { result.now ≡ self.now.text }
     {
@@ -98,7 +98,7 @@ impl Sink for MemSink {
         self.count
     }
 
-    /// Takes what there is room for. It fails exactly where the bytes are not empty and there is room for none.
+    /// Takes all bytes for which there is room. It fails exactly if the bytes are not empty and there is room for none.
     fn put(&mut self, bytes: &[u8]) -> Result<usize, Failed>
         ensures takes { IfOk result (λ n. n ≡ min (length bytes.now) (self.old.limit - length self.old.text)) }
         ensures grew { IfOk result (λ n. self.new ≡ record self.old { text = self.old.text ++ take n bytes.now }) }

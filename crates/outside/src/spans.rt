@@ -16,10 +16,10 @@ use thiserror::Error;
 /// Why a span is not written, or a file is not lent in spans.
 #[derive(Clone, Copy, Debug, Drop, PartialEq, Eq, Error)]
 pub enum SpanError {
-    /// The outside failed, and the object has counted it.
+    /// The outside failed, and the object has counted the fault.
     #[error("the outside failed")]
     Failed,
-    /// No memory was found.
+    /// The call is out of memory.
     #[error("out of memory")]
     OutOfMemory,
 }
@@ -46,23 +46,24 @@ impl From<AllocError> for SpanError {
     }
 }
 
-/// A range of the bytes of a file, written by itself. No call changes which range it is, or whether it tells its bytes.
+/// A range of the bytes of a file, which is written on its own. No call changes its range, or whether it tells its bytes.
 pub trait Span {
-    /// The path of its file, where it begins there, and how many bytes it has.
+    /// The path of its file, its start in that file, and its number of bytes.
     ghost piece: { Self → Piece };
 
-    /// Its bytes, where it tells them.
+    /// Its bytes, if it tells them.
     ghost holds: { Self → Option (List ℕ) };
 
-    /// How often it has failed.
+    /// The number of faults.
     ghost count: { Self → ℕ };
 
-    /// How often it has failed. The call tells too that it has as many bytes as it shows.
+    /// The number of faults. The contract also says that it has as many bytes as it shows.
     fn faults(&self) -> u64
         ensures counted { result ≡ count self.now }
         ensures valid { IfSome (holds self.now) (λ bytes. length bytes ≡ (piece self.now).size) };
 
-    /// Writes bytes over its own, from a place on that is counted from its start. After `Failed` nothing is said of its bytes.
+    /// Writes bytes over its own, from an offset on that counts from its start. After `Failed` the contract says nothing of its
+    /// bytes.
     fn write(&mut self, at: u64, bytes: &[u8]) -> Result<(), SpanError>
         requires { at + length bytes.now ≤ (piece self.old).size }
         ensures ok { OnOk result (holds self.new ≡ option_map (λ old. spliced old at bytes.now) (holds self.old)) }
@@ -73,15 +74,15 @@ pub trait Span {
         ensures cause { IsErrOf result SpanError.Failed → RoseBy 1 (count self.old) (count self.new) };
 }
 
-/// Files of which one can be lent in spans, so that several write it at once. While its spans are out, the file is not among the
-/// files, and what is at its path, under it and over it may not be written. The area shows its path and where it was cut, so
-/// that no other call ends that lease.
+/// Files that can lend one of them in spans, so that several threads write it at once. While its spans are out, the file is
+/// not among the files. Its path and the paths under and over it may then not be written. The area shows its path and its
+/// cuts, so that no other call ends that lease.
 pub trait Wide: Ground {
     /// A range of a file, lent out to be written.
     type Span: Span + Drop;
 
-    /// Lends an empty file in spans: one for each two neighbouring cuts, all of zeros. A refusal leaves the files as before, but
-    /// for this path after `Failed`.
+    /// Lends an empty file in spans: one for each two neighbouring cuts, all of zeros. An error leaves the files as before, but
+    /// `Failed` may change this path.
     fn lease_spans(
         &mut self,
         alloc: Global,

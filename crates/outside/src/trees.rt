@@ -1,4 +1,4 @@
-//! Trees of files that can be looked at.
+//! Trees of files that can be read.
 ghost use Rattle.std.specs.Prelude.{◌≡◌, ◌≢◌, ◌≤◌, ℕ, Option, Some, None, false, length, OnOk, OnErr, IfOk, IfSome, IsErrOf};
 ghost use Rattle.outside.specs.Count.{RoseBy};
 
@@ -9,7 +9,7 @@ use path_text::Path;
 use std::alloc::Global;
 use thiserror::Error;
 
-/// What stands at a path.
+/// The kind of the node at a path.
 #[derive(Clone, Copy, Debug, Drop, PartialEq, Eq)]
 pub enum Kind {
     /// A regular file.
@@ -18,61 +18,61 @@ pub enum Kind {
     Dir,
     /// A symbolic link, which is not followed.
     Link,
-    /// Anything else: a device, a pipe, a socket.
+    /// Any other node: a device, a pipe, a socket.
     Other,
 }
 
-/// What is told of a path without reading its content.
+/// The answer of [`Tree::stat`]. It needs no contents.
 #[derive(Clone, Copy, Debug, Drop, PartialEq, Eq)]
 pub struct Stat {
-    /// What it is.
+    /// The kind of the node.
     pub kind: Kind,
     /// The number of bytes of a file, and 0 for all else.
     pub size: u64,
-    /// The last change, in seconds since 1970, where there is one.
+    /// The time of the last modification, in seconds since 1970, if there is one.
     pub mtime: Option<u64>,
 }
 
-/// Why the names in a directory are not told.
+/// Why [`Tree::list`] gives no names.
 #[derive(Clone, Copy, Debug, Drop, PartialEq, Eq, Error)]
 pub enum ListError {
-    /// The outside failed, and the object has counted it.
+    /// The outside failed, and the object has counted the fault.
     #[error("the outside failed")]
     Failed,
-    /// The path is no directory.
+    /// The path is not a directory.
     #[error("the path is no directory")]
     NotDir,
-    /// No memory was found.
+    /// The call is out of memory.
     #[error("out of memory")]
     OutOfMemory,
 }
 
-/// Why the bytes of a file are not told.
+/// Why [`Tree::read`] gives no bytes.
 #[derive(Clone, Copy, Debug, Drop, PartialEq, Eq, Error)]
 pub enum ReadError {
-    /// The outside failed, and the object has counted it.
+    /// The outside failed, and the object has counted the fault.
     #[error("the outside failed")]
     Failed,
-    /// The path is no file.
+    /// The path is not a file.
     #[error("the path is no file")]
     NotFile,
 }
 
-/// Why the text of a link is not told.
+/// Why [`Tree::read_link`] gives no text.
 #[derive(Clone, Copy, Debug, Drop, PartialEq, Eq, Error)]
 pub enum LinkError {
-    /// The outside failed, and the object has counted it.
+    /// The outside failed, and the object has counted the fault.
     #[error("the outside failed")]
     Failed,
-    /// The path is no link.
+    /// The path is not a link.
     #[error("the path is no link")]
     NotLink,
-    /// No memory was found.
+    /// The call is out of memory.
     #[error("out of memory")]
     OutOfMemory,
 }
 
-/// Files that can be looked at. Links are not followed.
+/// Files that can be read. No call follows a link.
 pub trait Tree {
     ghost use Rattle.outside.specs.Tree.{Files, is_dir, is_file, link_at, stat_of, Lists, AreNames, IsTree, Reads};
     ghost use Rattle.std.specs.FinMap as map;
@@ -80,21 +80,21 @@ pub trait Tree {
     ghost use Rattle.outside.specs.Asked.{Asked};
     ghost use Rattle.outside.specs.Asked as asked;
 
-    /// The nodes by their paths, where the object tells them.
+    /// The nodes by their paths, if the object tells its tree.
     ghost tree: { Self → Option Files };
 
-    /// How often it has failed.
+    /// The number of faults.
     ghost count: { Self → ℕ };
 
-    /// Which answer a call may have, and what it leaves: a relation of the implementation's own. What is written for every
-    /// tree knows nothing of it, so it can tell of an answer only where a call gave it.
+    /// Which answer a call may have, and which state it leaves. Each implementation chooses this relation. Code for every tree
+    /// knows nothing of it, so it can name an answer only if a call gave it.
     ghost gives: { Self → Asked → Self → Type 0 } = { λ _ _ _. Unit {0} };
 
-    /// How often it has failed.
+    /// The number of faults.
     fn faults(&self) -> u64
         ensures { result ≡ count self.now };
 
-    /// What stands at the path; `None` where nothing does.
+    /// The kind, size and time of the node at the path; `None` if there is no node.
     fn stat(&mut self, path: &Path) -> Result<Option<Stat>, Failed>
         ensures valid { IfSome (tree self.old) IsTree }
         ensures same { tree self.new ≡ tree self.old }
@@ -104,7 +104,7 @@ pub trait Tree {
         ensures cause { OnErr result (RoseBy 1 (count self.old) (count self.new)) }
         ensures given { gives self.old (asked.stat path.now result) self.new };
 
-    /// The names in the directory at the path. Names that are no text are counted as `unnamed`, and as so many faults.
+    /// Lists the names in the directory at the path. It counts each name that is not text as `unnamed`, and as a fault.
     fn list(&mut self, alloc: Global, path: &Path) -> Result<Listing, ListError>
         ensures valid { IfSome (tree self.old) IsTree }
         ensures same { tree self.new ≡ tree self.old }
@@ -116,9 +116,9 @@ pub trait Tree {
         ensures err { OnErr result (RoseBy 0 (count self.old) (count self.new)) }
         ensures given { gives self.old (asked.list path.now result) self.new };
 
-    /// Reads the file at the path from a place on, into the front of `into`, and answers how many bytes: one at least where
-    /// neither is at its end. Where no file is there, nothing is put into `into`. What it holds behind the bytes read, and
-    /// after `Failed`, is not said, since no system says it.
+    /// Reads the file at the path from an offset on, into the front of `into`, and answers the number of bytes. It reads at
+    /// least one, unless the file or `into` is at its end. If no file is there, `into` is unchanged. The contract does not say
+    /// which bytes `into` holds after the bytes read, and after `Failed`, since no system says it.
     fn read(&mut self, path: &Path, at: u64, into: &mut [u8]) -> Result<usize, ReadError>
         ensures valid { IfSome (tree self.old) IsTree }
         ensures same { tree self.new ≡ tree self.old }
@@ -131,7 +131,7 @@ pub trait Tree {
         ensures untouched { IsErrOf result ReadError.NotFile → into.new ≡ into.old }
         ensures given { gives self.old (asked.read path.now at result) self.new };
 
-    /// The text of the link at the path.
+    /// Reads the text of the link at the path.
     fn read_link(&mut self, alloc: Global, path: &Path) -> Result<LinkText, LinkError>
         ensures valid { IfSome (tree self.old) IsTree }
         ensures same { tree self.new ≡ tree self.old }

@@ -1,4 +1,4 @@
--- What the answer of a stat tells of its path. Our own. Only clauses of this crate's own functions cite this file.
+-- The meaning of the answer of a `stat` of a path. Our own. Only clauses of this crate's private functions cite this file.
 use Rattle.std.specs.Prelude.{Option, Some, None, Result, Ok, Err}
 use Rattle.outside.specs.declared.failures.Failed.{Failed}
 use Rattle.outside.specs.declared.trees.Stat.{Stat}

@@ -1,4 +1,4 @@
--- Looks at paths: when each changed last. Our own, after the `-newer` of find.
+-- Looks at paths: the time of the last modification of each. Our own, after the `-newer` of find.
 use Rattle.std.specs.Prelude.{◌≡◌, ℕ, Bool, true, false, List, map, sum_by, Option, Some, None, IfSome, MatchOption, is_some}
 use Rattle.std.specs.List.{All, Contains}
 use Rattle.std.specs.List.Sorted.{IsStrictlySortedBy}
@@ -10,19 +10,19 @@ use Rattle.path_looks.specs.declared.looks.Look.{Look}
 use Rattle.path_looks.specs.declared.looks.Seen.{Seen}
 use Rattle.path_looks.specs.declared.looks.Seen.TheVariants as seen
 
--- what a look tells is so: when the path last changed, or that nothing is there
+-- the answer of a look is right: the time of the last modification, or that no node is there
 abbrev pub IsSeen : Option Files → List ℕ → Seen → Type 0
 IsSeen tree path (seen.At mtime) = IfSome tree (λ files. MatchOption (get files path) ⊥ (λ node. mtime ≡ node.mtime))
 IsSeen tree path seen.Absent = IfSome tree (λ files. get files path ≡ None)
 IsSeen tree path seen.Failed = Unit {0}
 
--- how many faults were seen
+-- the number of faults of an answer
 abbrev pub faults_in : Seen → ℕ
 faults_in (seen.At mtime) = 0
 faults_in seen.Absent = 0
 faults_in seen.Failed = 1
 
--- how many faults a look tells
+-- the number of faults of a look
 abbrev pub fault_of : Look → ℕ
 fault_of l = faults_in l.seen
 
@@ -39,13 +39,13 @@ pub record AreLooks (tree : Option Files) (paths : List (List ℕ)) (looks : Lis
   pub told : All (λ l. IsSeen tree l.path l.seen) looks
   pub counted : RoseBy (sum_by fault_of looks) old new
 
--- something was there
+-- a node was there
 abbrev pub is_at : Seen → Bool
 is_at (seen.At mtime) = true
 is_at seen.Absent = false
 is_at seen.Failed = false
 
--- where every path is there and no fault was counted, each look tells of something
+-- if every path is there and no fault was counted, each look found a node
 abbrev pub LooksWithoutFaultsAreTold : Type 0
 LooksWithoutFaultsAreTold =
     (files : Files) (paths : List (List ℕ)) (looks : List Look) (old new : ℕ) →

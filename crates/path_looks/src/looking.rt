@@ -1,4 +1,4 @@
-//! Looks at paths, once at each.
+//! Looks at paths, at each once.
 ghost use Rattle.std.specs.Prelude.{◌≡◌, [], All, sum_by, IsOk, IfOk};
 ghost use Rattle.std.specs.List.{Contains};
 ghost use Rattle.std.specs.List.Sorted.{IsStrictlySortedBy};
@@ -12,7 +12,7 @@ use outside::{Failed, Ground, Stat, Tree};
 use path_text::{OutOfMemory, Path};
 use std::alloc::Global;
 
-/// Looks once at each of the paths, which may stand twice: the looks are in path order.
+/// Looks once at each of the paths, also if a path is given twice. The looks are in path order.
 pub fn look_at_each<G: Ground>(
     alloc: Global,
     files: &mut G,
@@ -23,7 +23,7 @@ pub fn look_at_each<G: Ground>(
     ensures area { G.area files.new ≡ G.area files.old }
     ensures count { RoseBy 0 (G.count files.old) (G.count files.new) }
 
-    // With no path nothing is asked of the files.
+    // With no path it does not call the files.
     ensures none { paths.items ≡ [] → IsOk result }
     ensures idle { paths.items ≡ [] → files.new ≡ files.old }
 {
@@ -68,7 +68,7 @@ fn looks_by<T: Tree>(
     Ok(looks)
 }
 
-// Looks at a path by one stat.
+// Looks at a path by one `stat`.
 fn look_at<T: Tree>(reader: &mut T, path: Path) -> Look
     ensures path { result.path ≡ path }
     ensures told { IsSeen (T.tree reader.old) path result.seen }
@@ -80,7 +80,7 @@ fn look_at<T: Tree>(reader: &mut T, path: Path) -> Look
     Look { path, seen }
 }
 
-// What the answer of a stat tells.
+// The meaning of the answer of a `stat`.
 fn by_stat(answer: Result<Option<Stat>, Failed>) -> Seen
     ensures { result ≡ by_stat answer }
 {

@@ -1,22 +1,22 @@
-//! What a look at a path tells.
+//! A look at a path, and its answer.
 use path_text::Path;
 
-/// What a look at a path told.
+/// The answer of a look at a path.
 #[derive(Clone, Copy, Debug, Drop, PartialEq, Eq)]
 pub enum Seen {
-    /// Something is there, which changed last at this time, where there is one.
+    /// A node is there. This is the time of its last modification, in seconds since 1970, if it has one.
     At(Option<u64>),
-    /// Nothing is there.
+    /// No node is there.
     Absent,
-    /// The look failed, and the files have counted it.
+    /// The look failed, and the files have counted the fault.
     Failed,
 }
 
-/// A path, and what a look at it told.
+/// A path, and the answer of a look at it.
 #[derive(Debug, Drop)]
 pub struct Look {
     /// The path.
     pub path: Path,
-    /// What a look at it told.
+    /// The answer of the look.
     pub seen: Seen,
 }

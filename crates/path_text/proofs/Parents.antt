@@ -144,7 +144,8 @@ ended (a ∷ b ∷ path) v = record { before = a ∷ b ∷ path; front_is = fron
 pub parent_joined : (dir name : List ℕ) → refusal dir ≡ None → list_any is_slash name ≡ false → parent_of (joined dir name) ≡ dir
 parent_joined dir name fine bare =
     let e = ended dir fine in
-    ap parent_of (sym (front-joined dir name) ∙ ap (λ f. f ++ name) e.front_is ∙ append_assoc e.before (47 ∷ []) name) ∙ parent_cut e.before name bare ∙ sym e.is
+    ap parent_of (sym (front-joined dir name) ∙ ap (λ f. f ++ name) e.front_is ∙ append_assoc e.before (47 ∷ []) name) ∙
+    parent_cut e.before name bare ∙ sym e.is
 
 -- a path has a slash
 pub some_slash : (path : List ℕ) → refusal path ≡ None → list_any is_slash path ≡ true

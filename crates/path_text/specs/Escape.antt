@@ -1,4 +1,4 @@
--- How bytes, those of a path above all, are written so that they fill one line of printable text, and how such a text is read. Our own.
+-- Bytes, above all those of a path, written on one line of printable text, and such a text read. Our own.
 use Rattle.std.specs.Prelude.{◌≡◌, ℕ, ◌≤◌, ◌+◌, ◌-◌, ◌*◌, ◌/◌, ◌%◌, Bool, not, ◌&&◌, List, [], ◌∷◌, length, drop, if◌then◌else◌, nat_lt, nat_eq, ◌==◌}
 use Rattle.std.specs.Prelude.{◌||◌, slice_index, Option, Some, None, Result, Ok, Err}
 use Rattle.std.specs.List.{flat_map, starts_with}
@@ -11,7 +11,7 @@ use Rattle.path_text.specs.Path.{refusal}
 abbrev pub hex_digit : ℕ → ℕ
 hex_digit n = if nat_lt n 10 then 48 + n else 55 + n
 
--- a byte that does not stand for itself: below a space, the byte 0x7F or the backslash
+-- a byte that is written as an escape: below a space, the byte 0x7F or the backslash
 abbrev pub is_escaped : ℕ → Bool
 is_escaped b = nat_lt b 32 || (b == 127 || b == 92)
 
@@ -23,24 +23,24 @@ escaped b = if is_escaped b then 92 ∷ 120 ∷ hex_digit (b / 16) ∷ hex_digit
 abbrev pub escape : List ℕ → List ℕ
 escape path = flat_map escaped path
 
--- what an upper-case hexadecimal digit stands for
+-- the value of an upper-case hexadecimal digit
 abbrev pub hex_value : ℕ → ℕ
 hex_value digit = if nat_lt digit 58 then digit - 48 else digit - 55
 
--- the byte that the two digits behind `\x` tell
+-- the byte that the two digits after `\x` write
 abbrev pub told_byte : List ℕ → ℕ
 told_byte text = 16 * hex_value (slice_index text 2) + hex_value (slice_index text 3)
 
--- a text begins as a byte is written that does not stand for itself
+-- a text begins with the escape of a byte
 abbrev pub begins_escape : List ℕ → Bool
 begins_escape text = is_escaped (told_byte text) && starts_with nat_eq text (escaped (told_byte text))
 
--- how many bytes stand before the first bad one, which is raw and would have to be escaped, or is a backslash that begins no escape
+-- the number of bytes before the first bad one, which is raw and must be escaped, or is a backslash that begins no escape
 abbrev pub good_len : List ℕ → ℕ
 good_len [] = 0
 good_len (b ∷ text) = if is_escaped b && not (begins_escape (b ∷ text)) then 0 else good_len text + 1
 
--- the bytes that a text without a bad byte stands for: at a backslash the byte that is told, in place of the three bytes behind it
+-- the bytes that a text without a bad byte means: each backslash and the three bytes after it are one byte
 abbrev pub unescaped : List ℕ → List ℕ
 unescaped [] = []
 unescaped (b ∷ text) = if b == 92 then told_byte (b ∷ text) ∷ drop 3 (unescaped text) else b ∷ unescaped text
@@ -56,7 +56,7 @@ reading text =
     if nat_lt (good_len text) (length text) then Err (BadEscape (good_len text))
     else path_of (refusal (unescaped text)) (unescaped text)
 
--- what is written for some bytes is read as them, and for what a text without a bad byte stands for that text alone is written
+-- the text written for some bytes is read as them; the bytes that a good text means are written as that text
 pub record UnescapingUndoesEscaping : Type 0 where
   pub within : (text : List ℕ) → good_len text ≤ length text
   pub good : (bytes : List ℕ) → good_len (escape bytes) ≡ length (escape bytes)

@@ -7,11 +7,11 @@ use Rattle.path_text.specs.Order.{path_cmp, front, is_under, is_within}
 abbrev pub below_of : List ℕ → List ℕ → List ℕ
 below_of x top = 47 ∷ drop (length (front top)) x
 
--- the names of the path `rest` behind those of the top
+-- the names of the path `rest` after those of the top
 abbrev pub grafted : List ℕ → List ℕ → List ℕ
 grafted top rest = if length rest == 1 then top else joined top (drop 1 rest)
 
--- what was taken off a path gives it back
+-- a path that is moved below a top, and then on that top, is itself again
 abbrev pub GraftUndoesBelow : Type 0
 GraftUndoesBelow = (x top : List ℕ) → IsTrue (is_within x top) → grafted top (below_of x top) ≡ x
 
@@ -24,7 +24,7 @@ pub record BelowUndoesGraft : Type 0 where
 abbrev pub BelowKeepsOrder : Type 0
 BelowKeepsOrder = (x y top : List ℕ) → IsTrue (is_within x top) → IsTrue (is_within y top) → path_cmp (below_of x top) (below_of y top) ≡ path_cmp x y
 
--- what is under a source has its parent within the source, and moves to a target together with its parent
+-- a path under a source has its parent within the source, and moves to a target together with its parent
 pub record ParentMovesToo : Type 0 where
   pub within : (path source : List ℕ) → refusal path ≡ None → refusal source ≡ None → IsTrue (is_under path source) →
       IsTrue (is_within (parent_of path) source)

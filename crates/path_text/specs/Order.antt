@@ -1,5 +1,6 @@
 -- Path order: the bytes, with `/` before every other byte. Our own.
-use Rattle.std.specs.Prelude.{◌≡◌, ◌≢◌, ◌⊎◌, ℕ, ◌+◌, Bool, false, ◌&&◌, ◌||◌, List, [], ◌∷◌, ◌++◌, length, map, if◌then◌else◌, ◌==◌, nat_eq, nat_lt, IsTrue, None}
+use Rattle.std.specs.Prelude.{◌≡◌, ◌≢◌, ◌⊎◌, ℕ, ◌+◌, Bool, false, ◌&&◌, ◌||◌, List, [], ◌∷◌, ◌++◌, length, map}
+use Rattle.std.specs.Prelude.{if◌then◌else◌, ◌==◌, nat_eq, nat_lt, IsTrue, None}
 use Rattle.std.specs.List.{starts_with, list_any}
 use Rattle.std.specs.declared.cmp.Ordering.{Ordering}
 use Rattle.std.specs.declared.cmp.Ordering.TheVariants.{Less}
@@ -11,11 +12,11 @@ use Rattle.path_text.specs.Path.{is_name, joined, refusal, parent_of}
 abbrev pub byte_rank : ℕ → ℕ
 byte_rank b = if b == 47 then 0 else b + 1
 
--- path order: the first byte that differs decides, and else the shorter path comes first
+-- path order: the first byte that differs decides; if none differs, the shorter path comes first
 abbrev pub path_cmp : List ℕ → List ℕ → Ordering
 path_cmp = slice_cmp (on byte_rank nat_cmp)
 
--- what the paths under a path begin with
+-- the front of a path: the bytes with which the paths under it begin
 abbrev pub front : List ℕ → List ℕ
 front path = if length path == 1 then path else path ++ 47 ∷ []
 
@@ -35,12 +36,12 @@ pub record IsPreorder : Type 0 where
   pub siblings : (p m n x : List ℕ) → IsTrue (is_name m) → IsTrue (is_name n) → slice_cmp nat_cmp m n ≡ Less → IsTrue (is_within x (joined p m)) →
       path_cmp x (joined p n) ≡ Less
 
--- in path order the paths under a path stand together, right behind it
+-- in path order the paths under a path are contiguous, right after it
 pub record UnderIsContiguous : Type 0 where
-  -- what comes after a path and before one that is under it is under it too
+  -- a path that comes after a path and before one that is under it is under it too
   pub between : (u x z : List ℕ) → refusal u ≡ None → refusal x ≡ None → path_cmp u x ≡ Less → path_cmp x z ≡ Less → IsTrue (is_under z u) →
       IsTrue (is_under x u)
-  -- what is under a path that is under another is under that one
+  -- a path under a path that is under another is under that one
   pub deeper : (x y u : List ℕ) → IsTrue (is_under x y) → IsTrue (is_under y u) → IsTrue (is_under x u)
 
 -- of two paths that a third one is within, one is within the other

@@ -1,4 +1,4 @@
--- What a path is, and why a text is refused.
+-- The form of a path, and why a text is refused as a path.
 use Rattle.std.specs.Prelude.{ℕ, ◌+◌, Bool, not, ◌&&◌, List, [], ◌∷◌, ◌++◌, length, drop, if◌then◌else◌, ◌==◌, nat_lt, nat_le, Option, Some, None, is_none}
 use Rattle.std.specs.List.{slice_split, list_any, list_all, before_last, after_last}
 use Rattle.path_text.specs.declared.errors.PathError.{PathError}
@@ -7,7 +7,7 @@ use Rattle.path_text.specs.declared.errors.PathError.TheVariants.{NotAbsolute, E
 abbrev pub is_slash : ℕ → Bool
 is_slash b = b == 47
 
--- why these bytes, which hold no `/`, are no name
+-- why these bytes, which hold no `/`, are not a name
 abbrev pub name_fault : List ℕ → Option PathError
 name_fault name =
     if length name == 0 then Some EmptyName
@@ -15,7 +15,7 @@ name_fault name =
     else if list_any (λ b. b == 0) name then Some Nul
     else None
 
--- bytes that may stand after a `/`
+-- bytes that can be a name
 abbrev pub is_name : List ℕ → Bool
 is_name name = not (list_any is_slash name) && is_none (name_fault name)
 
@@ -28,7 +28,7 @@ first_fault (name ∷ names) = if is_none (name_fault name) then first_fault nam
 abbrev pub names_of : List ℕ → List (List ℕ)
 names_of path = slice_split is_slash (drop 1 path)
 
--- why a text is refused as a path; `None` where it is one
+-- why a text is refused as a path; `None` if it is one
 abbrev pub refusal : List ℕ → Option PathError
 refusal [] = Some NotAbsolute
 refusal (b ∷ bytes) =
@@ -41,7 +41,7 @@ refusal (b ∷ bytes) =
 abbrev pub joined : List ℕ → List ℕ → List ℕ
 joined path name = if length path == 1 then path ++ name else path ++ 47 ∷ name
 
--- the path that a path other than `/` stands in: all before its last name
+-- the parent of a path other than `/`: all before its last name
 abbrev pub parent_of : List ℕ → List ℕ
 parent_of path = let before = before_last is_slash path in if length before == 0 then 47 ∷ [] else before
 

@@ -1,4 +1,4 @@
--- The fault of names as they stand in printable text. Only private clauses cite it. Our own.
+-- The faults of names in printable text. Only private clauses cite them. Our own.
 use Rattle.std.specs.Prelude.{ℕ, Bool, false, ◌&&◌, ◌||◌, List, [], ◌∷◌, length, if◌then◌else◌, ◌==◌, nat_le, nat_eq, Option, Some, None, is_none}
 use Rattle.std.specs.List.{starts_with, list_all}
 use Rattle.path_text.specs.declared.errors.PathError.{PathError}
@@ -7,16 +7,16 @@ use Rattle.path_text.specs.declared.errors.PathError.TheVariants.{EmptyName, Dot
 abbrev pub is_backslash : ℕ → Bool
 is_backslash b = b == 92
 
--- a text begins as the byte 0 is written
+-- a text begins with the escape of the byte 0
 abbrev pub begins_nul : List ℕ → Bool
 begins_nul text = starts_with nat_eq text (92 ∷ 120 ∷ 48 ∷ 48 ∷ [])
 
--- the byte 0 is written somewhere in a text
+-- a text has the escape of the byte 0
 abbrev pub tells_nul : List ℕ → Bool
 tells_nul [] = false
 tells_nul (b ∷ text) = begins_nul (b ∷ text) || tells_nul text
 
--- why what a text without `/` stands for is no name
+-- why the bytes that a text without `/` means are not a name
 abbrev pub written_fault : List ℕ → Option PathError
 written_fault name =
     if length name == 0 then Some EmptyName

@@ -1,8 +1,8 @@
-//! Why a call on paths is refused.
+//! The errors of calls on paths.
 use std::alloc::{AllocError, AllocFailed};
 use thiserror::Error;
 
-/// No memory was found.
+/// The call is out of memory.
 #[derive(Clone, Copy, Debug, Drop, PartialEq, Eq, Error)]
 #[error("out of memory")]
 pub struct OutOfMemory;
@@ -19,7 +19,7 @@ impl<T: Drop> From<AllocFailed<T>> for OutOfMemory {
     }
 }
 
-/// Why a text is no path, or why none could be made of it.
+/// Why a text is not a path, or why no path could be made of it.
 #[derive(Clone, Copy, Debug, Drop, PartialEq, Eq, Error)]
 pub enum PathError {
     /// The first byte is not `/`.
@@ -34,10 +34,10 @@ pub enum PathError {
     /// A name holds the byte 0.
     #[error("a name of the path holds the byte 0")]
     Nul,
-    /// More than 4,095 bytes.
+    /// The text has more than 4,095 bytes.
     #[error("the path has more than 4095 bytes")]
     TooLong,
-    /// No memory was found.
+    /// The call is out of memory.
     #[error("out of memory")]
     OutOfMemory,
 }
@@ -56,10 +56,10 @@ impl From<AllocError> for PathError {
 /// Why a longer path could not be made.
 #[derive(Clone, Copy, Debug, Drop, PartialEq, Eq, Error)]
 pub enum JoinError {
-    /// It would have more than 4,095 bytes.
+    /// The path would have more than 4,095 bytes.
     #[error("the path would have more than 4095 bytes")]
     TooLong,
-    /// No memory was found.
+    /// The call is out of memory.
     #[error("out of memory")]
     OutOfMemory,
 }
@@ -75,16 +75,16 @@ impl From<AllocError> for JoinError {
     }
 }
 
-/// Why a text is not a path as [`escape`](crate::escape) writes it, or why none could be made of it.
+/// Why a text is not a path as [`escape`](crate::escape) writes it, or why no path could be made of it.
 #[derive(Clone, Copy, Debug, Drop, PartialEq, Eq, Error)]
 pub enum EscapeError {
-    /// The byte at this place is raw and would have to be escaped, or is a backslash that begins no escape.
+    /// The byte at this index is raw and must be escaped, or is a backslash that begins no escape.
     #[error("the byte at {0} is no text of a path")]
     BadEscape(usize),
-    /// The bytes that it stands for are no path. It is never `PathError::OutOfMemory`.
+    /// The bytes that the text means are not a path. The error is never `PathError::OutOfMemory`.
     #[error("{0}")]
     Path(PathError),
-    /// No memory was found.
+    /// The call is out of memory.
     #[error("out of memory")]
     OutOfMemory,
 }

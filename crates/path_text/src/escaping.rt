@@ -1,4 +1,4 @@
-//! A path as printable text.
+//! Writes a path as printable text.
 ghost use Rattle.std.specs.Prelude.{◌≡◌, ◌+◌, ◌++◌, ◌∷◌, [], ◌<◌, ◌≤◌, false, true, length, take, drop, slice_index, IfOk, IfSome, IfNone, OnOk, OnErr, List, ℕ};
 ghost use Rattle.std.specs.List.{list_any, position, position_or_len};
 ghost use Rattle.path_text.specs.Escape.{hex_digit, is_escaped, escaped, escape};
@@ -7,11 +7,11 @@ use crate::errors::OutOfMemory;
 use crate::paths::Path;
 use std::alloc::{AllocError, Global};
 
-// How many bytes are looked at together.
+// The number of bytes that are read together.
 const BLOCK: usize = 16;
 
-/// The path in printable text: each byte below a space, 0x7F and the backslash is `\x` and two upper-case hexadecimal
-/// digits, and every other byte is itself.
+/// Writes the path in printable text. Each byte below a space, 0x7F and the backslash becomes `\x` and two upper-case
+/// hexadecimal digits. Every other byte is itself.
 pub fn escape(alloc: Global, path: &Path) -> Result<Vec<u8>, OutOfMemory>
     ensures { IfOk result (λ text. text.items ≡ escape path.now) }
 {
@@ -20,7 +20,7 @@ pub fn escape(alloc: Global, path: &Path) -> Result<Vec<u8>, OutOfMemory>
     Ok(text)
 }
 
-/// Appends what [`escape`] gives, with no memory of its own. A refusal leaves the text as it was.
+/// Appends the text that [`escape`] gives, and takes no memory beside that of `text`. An error leaves `text` unchanged.
 pub fn put_escaped(text: &mut Vec<u8>, path: &Path) -> Result<(), OutOfMemory>
     ensures ok { OnOk result (text.new.items ≡ text.old.items ++ escape path.now) }
     ensures err { OnErr result (text.new.items ≡ text.old.items) }
@@ -28,7 +28,7 @@ pub fn put_escaped(text: &mut Vec<u8>, path: &Path) -> Result<(), OutOfMemory>
     put_escaped_bytes(text, path.text().as_bytes())
 }
 
-/// Appends bytes in printable text, as [`escape`] writes those of a path. A refusal leaves the text as it was.
+/// Appends bytes in printable text, as [`escape`] writes those of a path. An error leaves `text` unchanged.
 pub fn put_escaped_bytes(text: &mut Vec<u8>, bytes: &[u8]) -> Result<(), OutOfMemory>
     ensures ok { OnOk result (text.new.items ≡ text.old.items ++ escape bytes.now) }
     ensures err { OnErr result (text.new.items ≡ text.old.items) }
@@ -41,7 +41,7 @@ pub fn put_escaped_bytes(text: &mut Vec<u8>, bytes: &[u8]) -> Result<(), OutOfMe
     put
 }
 
-// Appends each byte as it is written. A refusal may leave the first of them behind the old text.
+// Appends each byte in printable text. After an error, the first of them may follow the old text.
 fn append_escaped(text: &mut Vec<u8>, bytes: &[u8]) -> Result<(), OutOfMemory>
     ensures ok { OnOk result (text.new.items ≡ text.old.items ++ escape bytes.now) }
     ensures kept { take (length text.old.items) text.new.items ≡ text.old.items }
@@ -56,7 +56,7 @@ fn append_escaped(text: &mut Vec<u8>, bytes: &[u8]) -> Result<(), OutOfMemory>
     Ok(())
 }
 
-/// The first byte that does not stand for itself.
+/// The index of the first byte that is written as an escape.
 pub(crate) fn first_escaped(bytes: &[u8]) -> Option<usize>
     ensures found { IfSome result (λ k. (k < length bytes.now) × (is_escaped (slice_index bytes.now k) ≡ true)
         × (escape bytes.now ≡ take k bytes.now ++ (escaped (slice_index bytes.now k) ++ escape (drop (k + 1) bytes.now)))) }
@@ -75,7 +75,7 @@ fn escaped_at(bytes: &[u8]) -> Option<usize>
     }
 }
 
-// How many bytes at the front, in whole blocks, stand for themselves.
+// Counts the bytes at the front, in whole blocks, that are written as themselves.
 fn plain_blocks(bytes: &[u8]) -> usize
     ensures within { result ≤ length bytes.now }
     ensures plain { result ≤ position_or_len is_escaped bytes.now }
@@ -90,8 +90,8 @@ fn plain_blocks(bytes: &[u8]) -> usize
     at
 }
 
-// Whether one of the bytes does not stand for itself. Each is looked at, whatever the others are, so that a processor may
-// look at many at once.
+// Whether one of the bytes is written as an escape. It reads each byte, whatever the others are, so that a processor can
+// read many at once.
 fn has_escaped(bytes: &[u8]) -> bool
     ensures { result ≡ list_any is_escaped bytes.now }
 {

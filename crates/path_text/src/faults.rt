@@ -1,4 +1,4 @@
-//! Why bytes are no path.
+//! Says why bytes are not a path.
 ghost use Rattle.std.specs.Prelude.{◌≡◌, ◌==◌, ◌+◌, ◌<◌, ◌∷◌, [], length, take, drop, IfSome, IfNone};
 ghost use Rattle.std.specs.List.{slice_split, list_all, position};
 ghost use Rattle.path_text.specs.Path.{name_fault, first_fault, is_slash, refusal};
@@ -6,7 +6,7 @@ ghost use Rattle.path_text.specs.Path.{name_fault, first_fault, is_slash, refusa
 use crate::errors::PathError;
 use crate::paths::MAX_PATH;
 
-/// Why the bytes of a text are no path; `None` where they are one.
+/// Why the bytes of a text are not a path; `None` if they are one.
 pub fn refusal(text: &[u8]) -> Option<PathError>
     ensures { result ≡ refusal text.now }
 {
@@ -27,7 +27,7 @@ pub fn refusal(text: &[u8]) -> Option<PathError>
     }
 }
 
-/// Why bytes that hold no `/` are no name; `None` where they are one.
+/// Why bytes that hold no `/` are not a name; `None` if they are one.
 pub fn name_fault(name: &[u8]) -> Option<PathError>
     ensures { result ≡ name_fault name.now }
 {
@@ -49,7 +49,7 @@ pub fn is_dots(name: &[u8]) -> bool
     name.iter().all(|b| *b == b'.')
 }
 
-// The fault of the first bad name of `bytes`, whose names are divided by `/`.
+// The fault of the first bad name of `bytes`. Each `/` separates two names.
 fn first_fault(bytes: &[u8]) -> Option<PathError>
     ensures { result ≡ first_fault (slice_split is_slash bytes.now) }
 {
@@ -64,7 +64,7 @@ fn first_fault(bytes: &[u8]) -> Option<PathError>
     name_fault(rest)
 }
 
-/// Where the first name ends, if another follows.
+/// The index at which the first name ends, if another name follows.
 pub fn name_end(bytes: &[u8]) -> Option<usize>
     ensures found { IfSome result (λ k. (k < length bytes.now)
         × (slice_split is_slash bytes.now ≡ take k bytes.now ∷ slice_split is_slash (drop (k + 1) bytes.now))) }

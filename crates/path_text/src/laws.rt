@@ -1,15 +1,16 @@
-//! Laws of paths, each the contract of a function that does nothing.
+//! The laws of paths. Each law is the contract of a function that does nothing.
 ghost use Rattle.path_text.specs.Escape.{ReadingUndoesWriting, UnescapingUndoesEscaping};
 ghost use Rattle.path_text.specs.Graft.{GraftUndoesBelow, BelowUndoesGraft, BelowKeepsOrder, ParentMovesToo};
 ghost use Rattle.path_text.specs.Order.{IsPreorder, UnderIsContiguous, ReadsSlashAsZero, TopsAreNested, ParentIsOver};
 
-/// Path order is preorder with siblings in byte order: a path comes before all that is under it, and of two children of a
-/// path the one with the lower name comes first, with all that is under it.
+/// Path order is preorder with siblings in byte order. A path comes before all paths under it. Of two children of a path, the
+/// one with the lower name comes first, with all paths under it.
 pub fn path_order_is_preorder()
     ensures { IsPreorder }
 {}
 
-/// The paths under a path stand together in path order: whatever comes after the path and before one of them is one of them.
+/// The paths under a path are contiguous in path order. Each path that comes after the path and before one of them is one of
+/// them.
 pub fn under_is_contiguous()
     ensures { UnderIsContiguous }
 {}
@@ -24,12 +25,13 @@ pub fn parent_is_over()
     ensures { ParentIsOver }
 {}
 
-/// On paths, which hold no byte 0, path order is the order of the bytes with `/` read as 0.
+/// Path order of paths, which hold no byte 0, is the order of the bytes with `/` read as 0.
 pub fn path_order_reads_slash_as_zero()
     ensures { ReadsSlashAsZero }
 {}
 
-/// A path taken below a top and grafted on that top is itself again.
+/// A path that [`Path::below`](crate::Path::below) takes below a top, and [`Path::graft`](crate::Path::graft) grafts on that
+/// top, is itself again.
 pub fn graft_undoes_below()
     ensures { GraftUndoesBelow }
 {}
@@ -49,12 +51,12 @@ pub fn parent_moves_too()
     ensures { ParentMovesToo }
 {}
 
-/// What is written for a path is read as that path, and nothing else is.
+/// The text that is written for a path is read as that path, and no other text is.
 pub fn reading_undoes_writing()
     ensures { ReadingUndoesWriting }
 {}
 
-/// What is written for some bytes is read as them, and no other text is.
+/// The text that is written for some bytes is read as those bytes, and no other text is.
 pub fn unescaping_undoes_escaping()
     ensures { UnescapingUndoesEscaping }
 {}

@@ -1,22 +1,23 @@
-//! Absolute paths as text: what a path is, how paths are put in order, and how one is printed.
+//! Absolute paths as text: the form of a path, the order of paths, and the printed form of a path.
 //!
 //! A [`Path`] is `/`, or one or more names, each after a `/`, with at most 4,095 bytes. A contract sees it as the list of
-//! its bytes. [`Path::parse`] tells why a text is none, and [`Path::join`] makes the path of a child. [`Path::parent`],
-//! [`Path::base`] and [`Path::level`] tell of its names; each path but `/` is under its parent ([`parent_is_over`]).
-//! [`Path::is_under`] and [`Path::is_within`] tell whether a path stands under a top, and of two tops of one path one is
-//! within the other ([`tops_are_nested`]). [`Path::below`] moves a path from a top to `/`, and [`Path::graft`] moves it on to
-//! another top; each undoes the other ([`graft_undoes_below`], [`below_undoes_graft`]), paths keep their order
-//! ([`below_keeps_order`]), and a parent moves with its child ([`parent_moves_too`]).
+//! its bytes. [`Path::parse`] says why a text is not a path, and [`Path::join`] makes the path of a child. [`Path::parent`],
+//! [`Path::base`] and [`Path::level`] give its parent, its last name and its number of names. Each path but `/` is under its
+//! parent ([`parent_is_over`]). [`Path::is_under`] and [`Path::is_within`] say whether a path is under a top. Of two tops of
+//! one path, one is within the other ([`tops_are_nested`]). [`Path::below`] moves a path from a top to `/`, and
+//! [`Path::graft`] moves it to another top. Each undoes the other ([`graft_undoes_below`], [`below_undoes_graft`]). Paths
+//! keep their order ([`below_keeps_order`]), and a parent moves with its child ([`parent_moves_too`]).
 //!
-//! Paths are in *path order*: `/` comes before every other byte, and the other bytes are as they are. It is preorder with
-//! siblings in byte order, so a list of the paths of a tree that is in path order reads as a walk of that tree from the top
-//! down ([`path_order_is_preorder`]), in which all that is under a path stands right behind it ([`under_is_contiguous`]).
-//! [`compare`] compares bytes so, whether they make a path or not, and [`common_len`] tells how many bytes two texts begin with.
+//! Paths are in *path order*: `/` comes before every other byte, and the other bytes keep their order. Path order is preorder
+//! with siblings in byte order ([`path_order_is_preorder`]). So a list of the paths of a tree in path order is a walk of that
+//! tree from the top down. In it, all paths under a path come right after that path ([`under_is_contiguous`]). [`compare`]
+//! compares any bytes in path order, even if they are not a path. [`common_len`] counts the first bytes that two texts share.
 //!
-//! [`escape`] writes a path so that it fills one line of printable text, whatever bytes its names hold, and [`unescape`]
-//! reads that text, and no other, as the path ([`reading_undoes_writing`]). What these stand on serves other texts as well, as
-//! those of links: [`put_escaped_bytes`] writes bytes so, [`good_len`] tells whether a text is written so, [`told_len`] and
-//! [`tells_zero`] what it stands for before memory is taken, and [`unescaped`] reads it ([`unescaping_undoes_escaping`]).
+//! [`escape`] writes a path on one line of printable text, whatever bytes its names hold. [`unescape`] reads that text, and
+//! no other, as the path ([`reading_undoes_writing`]). Other texts, for example those of links, use the parts of these two.
+//! [`put_escaped_bytes`] writes bytes in printable text, and [`good_len`] says whether a text has that form. [`told_len`]
+//! counts the bytes that such a text means, and [`tells_zero`] says whether one of them is 0; neither takes memory.
+//! [`unescaped`] reads the text ([`unescaping_undoes_escaping`]).
 //!
 //! ```text
 //! let top = Path::parse(alloc, "/t")?;
@@ -27,10 +28,10 @@
 //! let there = Path::graft(&Path::parse(alloc, "/d")?, &child.below(&top)?)?;     // `/d/a` and a line feed
 //! ```
 //!
-//! Proved: each call meets its clauses for every text, ends, and reads nothing out of bounds. Only memory can fail beside
-//! what the clauses name. Definitions stand in `specs/`: `Path` (what a path is), `Order` (path order and its
-//! laws), `Total` (that path order is a total order), `Graft` (moving a path), `Escape` (writing and reading it). What only private
-//! clauses cite stands in `Written`.
+//! Proved: each call meets its clauses for every text, ends, and reads nothing out of bounds. The clauses name every failure
+//! but a lack of memory. The definitions are in `specs/`. `Path` has the form of a path, `Order` path order and its laws, and
+//! `Total` that path order is a total order. `Graft` moves a path, and `Escape` writes and reads it. `Written` has the
+//! definitions that only private clauses cite.
 #![tactic(auto)]
 
 mod errors;

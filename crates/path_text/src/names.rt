@@ -1,10 +1,10 @@
-//! The names of a path: the last one, how many there are, and those behind the names of another.
+//! The names of a path: the last one, their number, and those after the names of another path.
 ghost use Rattle.std.specs.Prelude.{◌≡◌, ◌≤◌, [], ◌∷◌, ◌++◌, length, drop, IsTrue, IfSome, IfNone, OnSome, nat_eq, false, true};
 ghost use Rattle.std.specs.List.{before_last, after_last, count_by, list_any, starts_with};
 ghost use Rattle.path_text.specs.Path.{is_slash};
 ghost use Rattle.path_text.specs.Order.{front, is_within};
 
-/// What stands before the last slash, and what stands behind it.
+/// The text before the last slash, and the text after it.
 pub fn around_last_slash(text: &str) -> Option<(&str, &str)>
     ensures found { IfSome result (λ parts. (parts.0.now ≡ before_last is_slash text.now) × (parts.1.now ≡ after_last is_slash text.now)
         × (text.now ≡ parts.0.now ++ 47 ∷ parts.1.now) × (list_any is_slash parts.1.now ≡ false)) }
@@ -14,7 +14,7 @@ pub fn around_last_slash(text: &str) -> Option<(&str, &str)>
     text.rsplit_once('/')
 }
 
-/// How many slashes there are.
+/// Counts the slashes.
 pub fn slashes(bytes: &[u8]) -> usize
     ensures count { result ≡ count_by is_slash bytes.now }
     ensures within { result ≤ length bytes.now }
@@ -22,7 +22,7 @@ pub fn slashes(bytes: &[u8]) -> usize
     bytes.iter().filter(|b| **b == b'/').count()
 }
 
-/// What stands behind the front of the path `top`, if the text begins with that.
+/// The text after the front of the path `top`, if the text begins with that front.
 pub fn behind_front<'a>(text: &'a str, top: &str) -> Option<&'a str>
     ensures found { IfSome result (λ names. names.now ≡ drop (length (front top.now)) text.now) }
     ensures begins { OnSome result (starts_with nat_eq text.now (front top.now) ≡ true) }
@@ -42,7 +42,7 @@ fn behind<'a>(text: &'a str, top: &str) -> Option<&'a str>
     text.strip_prefix(top)
 }
 
-/// What stands behind the front of `top`, which the path is or is under.
+/// The names after the front of `top`. The path is `top` or is under it.
 pub fn names_below<'a>(path: &'a str, top: &str) -> &'a str
     requires { IsTrue (is_within path.now top.now) }
     ensures { result.now ≡ drop (length (front top.now)) path.now }

@@ -1,11 +1,11 @@
-//! Path order: eight bytes at a time up to the first difference, whose bytes decide.
+//! Compares in path order: eight bytes at a time up to the first difference, and then single bytes.
 ghost use Rattle.std.specs.Prelude.{◌≡◌};
 ghost use Rattle.path_text.specs.Order.{path_cmp, byte_rank};
 
 use crate::prefixes::shared_words;
 use std::cmp::Ordering;
 
-/// Compares the bytes of two paths in path order. Bytes that both begin with may be left out on both sides.
+/// Compares the bytes of two paths in path order. A caller may leave out the first bytes that both share, on both sides.
 pub fn compare(a: &[u8], b: &[u8]) -> Ordering
     ensures { result ≡ path_cmp a.now b.now }
 {

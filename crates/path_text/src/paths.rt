@@ -1,4 +1,4 @@
-//! Paths.
+//! Paths: making, comparing, moving and rewriting them.
 ghost use Rattle.std.specs.Prelude.{◌≡◌, ◌≢◌, ◌==◌, ◌+◌, ◌++◌, ◌<◌, ◌≤◌, ◌⊎◌, if◌then◌else◌, ◌∷◌, length, take, drop, true, OnErr, IsTrue, IfOk, IfErr, OnOk, IsErrOf, Some, None};
 ghost use Rattle.std.specs.List.{slice_split};
 ghost use Rattle.std.specs.String.{string_bytes};
@@ -20,7 +20,7 @@ use std::mem;
 /// The most bytes that a path has.
 pub const MAX_PATH: usize = 4095;
 
-/// An absolute path, seen as its bytes.
+/// An absolute path. A contract sees it as the list of its bytes.
 #[derive(Debug, Drop)]
 pub struct Path {
     text: String,
@@ -40,7 +40,7 @@ impl Model for Path {
 }
 
 impl Path {
-    /// The path that a text is. The text is looked at before memory is taken.
+    /// Makes the path of a text. It checks the text before it takes memory.
     pub fn parse(alloc: Global, text: &str) -> Result<Path, PathError>
         ensures ok { IfOk result (λ path. path ≡ text.now) }
         ensures valid { OnOk result (refusal text.now ≡ None) }
@@ -55,7 +55,7 @@ impl Path {
         }
     }
 
-    /// Its text, which is UTF-8.
+    /// The text of the path, which is UTF-8.
     pub fn text(&self) -> &str
         ensures text { result.now ≡ self.now }
         ensures valid { refusal self.now ≡ None }
@@ -63,7 +63,7 @@ impl Path {
         self.text.as_str()
     }
 
-    /// The same path again.
+    /// Copies the path.
     pub fn copy(&self) -> Result<Path, OutOfMemory>
         ensures { IfOk result (λ path. path ≡ self.now) }
     {
@@ -71,7 +71,7 @@ impl Path {
         Ok(Path { text })
     }
 
-    /// The path of a child. The length is looked at before memory is taken.
+    /// Makes the path of a child. It checks the length before it takes memory.
     #[tactic(auto, using(crate::proofs::Joined::name_alone))]
     pub fn join(&self, name: &str) -> Result<Path, JoinError>
         requires { IsTrue (is_name name.now) }
@@ -100,7 +100,7 @@ impl Path {
         Ok(Path { text })
     }
 
-    /// The path that it stands in; `None` for `/`.
+    /// The path of the directory that has this path; `None` for `/`.
     pub fn parent(&self) -> Result<Option<Path>, OutOfMemory>
         ensures { IfOk result (λ parent. parent ≡ (if length self.now == 1 then None else Some (parent_of self.now))) }
     {
@@ -112,7 +112,7 @@ impl Path {
         Ok(Some(Path { text }))
     }
 
-    /// Its last name, which is empty for `/`.
+    /// The last name, which is empty for `/`.
     #[tactic(auto, using(crate::proofs::Parts::base_named, crate::proofs::Parts::never_bare))]
     pub fn base(&self) -> &str
         ensures base { result.now ≡ base_of self.now }
@@ -124,7 +124,7 @@ impl Path {
         }
     }
 
-    /// How many names it has.
+    /// Counts the names of the path.
     #[tactic(auto, using(crate::proofs::Parts::slashes_are_names))]
     pub fn level(&self) -> u32
         ensures { result ≡ level_of self.now }
@@ -136,7 +136,7 @@ impl Path {
         }
     }
 
-    /// Whether it has the names of `top` and more behind them.
+    /// Whether the path has the names of `top` and at least one more after them.
     pub fn is_under(&self, top: &Path) -> bool
         ensures { result ≡ is_under self.now top.now }
     {
@@ -146,14 +146,14 @@ impl Path {
         }
     }
 
-    /// Whether it is `top`, or is under it.
+    /// Whether the path is `top`, or is under it.
     pub fn is_within(&self, top: &Path) -> bool
         ensures { result ≡ is_within self.now top.now }
     {
         self == top || self.is_under(top)
     }
 
-    /// The path that it would be if `top`, which it is or is under, were `/`.
+    /// The path that this one would be if `top` were `/`. This path is `top` or is under it.
     #[tactic(auto, using(crate::proofs::Parts::below_made))]
     pub fn below(&self, top: &Path) -> Result<Path, OutOfMemory>
         requires { IsTrue (is_within self.now top.now) }
@@ -164,8 +164,7 @@ impl Path {
         Ok(Path { text })
     }
 
-    /// The path `rest` moved from `/` to `top`, which undoes [`Path::below`]. The length is looked at before memory is
-    /// taken.
+    /// Moves the path `rest` from `/` to `top`, which undoes [`Path::below`]. It checks the length before it takes memory.
     pub fn graft(top: &Path, rest: &Path) -> Result<Path, JoinError>
         ensures ok { IfOk result (λ path. path ≡ grafted top.now rest.now) }
         ensures short { OnOk result (length (grafted top.now rest.now) ≤ 4095) }
@@ -179,8 +178,8 @@ impl Path {
         top.extended(names(rest.text.as_str()))
     }
 
-    /// Becomes its first `shared` bytes with `rest` behind them, which are to make a path. Its text is rewritten in place. A
-    /// refusal leaves the path.
+    /// Replaces all after the first `shared` bytes by `rest`; the two together must be a path. It rewrites the text in place.
+    /// An error leaves the path unchanged.
     pub fn rewrite(&mut self, shared: usize, rest: &[u8]) -> Result<(), OutOfMemory>
         requires path { refusal (take shared self.old ++ rest.now) ≡ None }
         requires text { is_utf8 (take shared self.old ++ rest.now) ≡ true }
@@ -190,7 +189,7 @@ impl Path {
         rewrite_text(&mut self.text, shared, rest)
     }
 
-    // The path that a text is, which is kept and not copied.
+    // Makes the path of a text. It takes the text and does not copy it.
     pub(crate) fn of_text(text: String) -> Path
         requires { refusal (string_bytes text) ≡ None }
         ensures { result ≡ string_bytes text }
@@ -199,7 +198,7 @@ impl Path {
     }
 }
 
-// A text becomes its first bytes with others behind them.
+// Replaces all after the first `shared` bytes of a text by `rest`.
 fn rewrite_text(text: &mut String, shared: usize, rest: &[u8]) -> Result<(), OutOfMemory>
     requires { is_utf8 (take shared (string_bytes text.old) ++ rest.now) ≡ true }
     ensures ok { OnOk result (string_bytes text.new ≡ take shared (string_bytes text.old) ++ rest.now) }
@@ -211,7 +210,7 @@ fn rewrite_text(text: &mut String, shared: usize, rest: &[u8]) -> Result<(), Out
     put
 }
 
-// The bytes of a text, which is left empty.
+// Takes the bytes out of a text and leaves the text empty.
 fn bytes_out(text: &mut String) -> Vec<u8>
     ensures bytes { result.items ≡ string_bytes text.old }
     ensures utf8 { is_utf8 result.items ≡ true }
@@ -220,7 +219,7 @@ fn bytes_out(text: &mut String) -> Vec<u8>
     mem::replace(text, empty).into_bytes()
 }
 
-// Bytes become their first ones with others behind them. A refusal leaves them.
+// Replaces all after the first `shared` bytes by `rest`. An error leaves the bytes unchanged.
 fn rewrite_bytes(bytes: &mut Vec<u8>, shared: usize, rest: &[u8]) -> Result<(), OutOfMemory>
     requires whole { is_utf8 bytes.old.items ≡ true }
     requires made { is_utf8 (take shared bytes.old.items ++ rest.now) ≡ true }
@@ -234,7 +233,7 @@ fn rewrite_bytes(bytes: &mut Vec<u8>, shared: usize, rest: &[u8]) -> Result<(), 
     Ok(())
 }
 
-// Adds bytes for which there is room.
+// Appends bytes that fit in the capacity.
 fn extend_reserved(bytes: &mut Vec<u8>, rest: &[u8])
     requires { vec_len bytes.old + length rest.now ≤ vec_capacity bytes.old }
     ensures { bytes.new.items ≡ bytes.old.items ++ rest.now }
@@ -300,7 +299,7 @@ fn joined_text(path: &String, name: &str, len: usize) -> Result<String, AllocErr
     Ok(text)
 }
 
-/// Whether a text may stand after a `/`: it is not empty, neither `.` nor `..`, and holds neither `/` nor the byte 0.
+/// Whether a text can be a name of a path. A name is not empty, is neither `.` nor `..`, and holds neither `/` nor the byte 0.
 pub fn valid_name(name: &str) -> bool
     ensures { result ≡ is_name name.now }
 {

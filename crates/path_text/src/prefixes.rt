@@ -1,9 +1,10 @@
-//! What two texts begin with.
+//! The first bytes that two texts share.
 ghost use Rattle.std.specs.Prelude.{◌≡◌, ◌+◌, ◌≤◌, length, take, drop, nat_eq};
 ghost use Rattle.std.specs.List.{common_prefix_len};
 ghost use Rattle.std.specs.Int.{from_be_bytes, w64};
 
-/// How many bytes both begin with: eight are compared at a time, and from the first eight that differ each byte. Our own.
+/// Counts the first bytes that both share. It compares eight bytes at a time, and single bytes from the first eight that
+/// differ. Our own.
 #[tactic(auto, using(crate::proofs::Shared::prefix_done, crate::proofs::Shared::prefix_short))]
 pub fn common_len(a: &[u8], b: &[u8]) -> usize
     ensures common { result ≡ common_prefix_len nat_eq a.now b.now }
@@ -19,7 +20,7 @@ pub fn common_len(a: &[u8], b: &[u8]) -> usize
     both
 }
 
-/// How many bytes, in whole words, both begin with.
+/// Counts the first bytes that both share, in whole words of eight bytes.
 pub(crate) fn shared_words(a: &[u8], b: &[u8]) -> usize
     ensures in_a { result ≤ length a.now }
     ensures in_b { result ≤ length b.now }

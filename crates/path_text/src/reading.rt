@@ -1,4 +1,4 @@
-//! A path read from printable text.
+//! Reads a path from printable text.
 ghost use Rattle.std.specs.Prelude.{◌≡◌, ◌≢◌, ◌+◌, ◌*◌, ◌&&◌, not, ◌<◌, ◌≤◌, ◌⊎◌, ◌∷◌, ◌++◌, length, take, drop, slice_index, IfOk, IfErr, IsErrOf, IsOk, Ok, Err, IsTrue, List, ℕ};
 ghost use Rattle.std.specs.String.{string_bytes};
 ghost use Rattle.path_text.specs.Escape.{hex_value, told_byte, is_escaped, begins_escape, good_len, unescaped, escape, reading};
@@ -9,8 +9,8 @@ use crate::paths::Path;
 use crate::written::told_refusal;
 use std::alloc::{AllocError, Global};
 
-/// The path whose printable text this is, as [`escape`](crate::escape) writes it. The text is looked at before memory is
-/// taken. Where each byte stands for itself, which is seen many bytes at a time, the text is the path's own.
+/// Reads the path for which [`escape`](crate::escape) writes this text. It checks the text before it takes memory. If each
+/// byte of the text means itself, the text is that of the path; this test reads many bytes at a time.
 #[tactic(auto, using(crate::proofs::Refused::never_memory))]
 pub fn unescape(alloc: Global, text: &str) -> Result<Path, EscapeError>
     ensures ok { IfOk result (λ path. reading text.now ≡ Ok path) }
@@ -32,7 +32,7 @@ pub fn unescape(alloc: Global, text: &str) -> Result<Path, EscapeError>
     Ok(Path::of_text(bytes))
 }
 
-// The path that a text is in which each byte stands for itself.
+// The path whose text is this text, in which each byte means itself.
 #[tactic(auto, using(crate::proofs::Readable::reads_itself, crate::proofs::Refused::never_memory))]
 fn plain(alloc: Global, text: &str) -> Result<Path, EscapeError>
     requires { escape text.now ≡ text.now }
@@ -48,8 +48,8 @@ fn plain(alloc: Global, text: &str) -> Result<Path, EscapeError>
     }
 }
 
-/// How many bytes of a printable text stand before the first bad one, which is raw and would have to be escaped, or is a
-/// backslash that begins no escape.
+/// Counts the bytes of a printable text before the first bad one. A bad byte is raw and must be escaped, or is a backslash
+/// that begins no escape.
 pub fn good_len(text: &[u8]) -> usize
     ensures good { result ≡ good_len text.now }
     ensures within { result ≤ length text.now }
@@ -62,7 +62,7 @@ pub fn good_len(text: &[u8]) -> usize
     text.len()
 }
 
-// Whether the first byte is raw and would have to be escaped, or is a backslash that begins no escape.
+// Whether the first byte is raw and must be escaped, or is a backslash that begins no escape.
 fn is_bad(text: &[u8]) -> bool
     requires { 0 < length text.now }
     ensures { result ≡ (is_escaped (slice_index text.now 0) && not (begins_escape text.now)) }
@@ -80,7 +80,7 @@ fn begins_escape(text: &[u8]) -> bool
     told < 128 && is_escaped(told as u8) && text.starts_with(&escape_of(told as u8))
 }
 
-// The byte that two digits tell; more than a byte where they are none.
+// The byte that two digits write; a number above 255 is possible if they are not digits.
 fn told_byte(high: u8, low: u8) -> u16
     ensures { result ≡ 16 * hex_value high + hex_value low }
 {
@@ -97,7 +97,7 @@ fn hex_value(digit: u8) -> u8
     }
 }
 
-/// The text that a printable text without a bad byte stands for.
+/// The text that a printable text without a bad byte means.
 pub fn unescaped(alloc: Global, text: &str) -> Result<String, AllocError>
     requires { good_len text.now ≡ length text.now }
     ensures { IfOk result (λ bytes. string_bytes bytes ≡ unescaped text.now) }
@@ -113,7 +113,7 @@ pub fn unescaped(alloc: Global, text: &str) -> Result<String, AllocError>
     Ok(bytes)
 }
 
-// The byte that stands behind a backslash, as `x` and two digits.
+// The byte that `x` and two digits after a backslash write.
 fn told(behind: &str) -> u8
     requires { IsTrue (begins_escape (92 ∷ behind.now)) }
     ensures told { result ≡ told_byte (92 ∷ behind.now) }

@@ -1,4 +1,4 @@
-//! Why the bytes that a printable text stands for are no path, told from the text, so that no memory is taken before.
+//! Says from a printable text why the bytes that it means are not a path. So a refusal takes no memory.
 ghost use Rattle.std.specs.Prelude.{◌≡◌, ◌==◌, length, take, drop};
 ghost use Rattle.std.specs.List.{count_by, slice_split};
 ghost use Rattle.path_text.specs.Path.{is_slash, refusal};
@@ -10,10 +10,10 @@ use crate::errors::PathError;
 use crate::faults::{is_dots, name_end};
 use crate::paths::MAX_PATH;
 
-// How the byte 0 is written.
+// The byte 0 in printable text.
 const NUL: [u8; 4] = [b'\\', b'x', b'0', b'0'];
 
-/// Why the bytes that a text without a bad byte stands for are no path; `None` where they are one.
+/// Why the bytes that a text without a bad byte means are not a path; `None` if they are one.
 pub fn told_refusal(text: &[u8]) -> Option<PathError>
     requires { good_len text.now ≡ length text.now }
     ensures { result ≡ refusal (unescaped text.now) }
@@ -35,7 +35,7 @@ pub fn told_refusal(text: &[u8]) -> Option<PathError>
     }
 }
 
-/// How many bytes a printable text without a bad byte stands for.
+/// Counts the bytes that a printable text without a bad byte means.
 pub fn told_len(text: &[u8]) -> usize
     requires { good_len text.now ≡ length text.now }
     ensures { result ≡ length (unescaped text.now) }
@@ -49,7 +49,7 @@ fn backslashes(text: &[u8]) -> usize
     text.iter().filter(|b| **b == b'\\').count()
 }
 
-// The fault of the first bad name of `bytes`, whose names are divided by `/` and written as printable text.
+// The fault of the first bad name of `bytes`. Each `/` separates two names, which are in printable text.
 fn first_written(bytes: &[u8]) -> Option<PathError>
     ensures { result ≡ first_written (slice_split is_slash bytes.now) }
 {
@@ -79,7 +79,7 @@ fn written_fault(name: &[u8]) -> Option<PathError>
     None
 }
 
-/// Whether a printable text without a bad byte stands for bytes of which one is 0.
+/// Whether one of the bytes that a printable text without a bad byte means is 0.
 #[tactic(auto, using(crate::proofs::Told::zero_told))]
 pub fn tells_zero(text: &[u8]) -> bool
     requires { good_len text.now ≡ length text.now }

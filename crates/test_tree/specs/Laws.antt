@@ -9,7 +9,7 @@ pub record FirstNodeIsThere : Type 0 where
   pub path : path_of 0 ≡ 47 ∷ 110 ∷ 48 ∷ []
   pub there : (n : ℕ) → 1 ≤ n → n ≤ 1000000 → is_some (get (test_files n) (path_of 0)) ≡ true
 
--- what is made is a tree: each node stands in a directory, at a valid path
+-- the made nodes are a tree: each node is in a directory, at a valid path
 abbrev pub TestFilesAreTree : Type 0
 TestFilesAreTree = (n : ℕ) → 1 ≤ n → n ≤ 1000000 → IsTree (test_files n)
 

@@ -11,19 +11,19 @@ use Rattle.test_tree.specs.Nodes.{path_of, node_of}
 unfoldable pub first_files : ℕ → ℕ → Files
 first_files n k = from_entries ((47 ∷ [], empty_dir) ∷ map (λ j. (path_of j, node_of n j)) (range_with_len 0 k))
 
--- where a node can stand: at `/`, or at the node with the number before
+-- a place for a node: `/`, or the node with the number before
 abbrev pub place : ℕ → List ℕ
 place zero = 47 ∷ []
 place (suc k) = path_of k
 
--- where node k stands
+-- the place of node k
 abbrev pub place_over : ℕ → List ℕ
 place_over k = place ((k + 7) / 8)
 
--- files in memory of which no call is planned to fail
+-- files in memory in which no call is planned to fail
 abbrev pub memory_of : Files → Memory
 memory_of files = record { files = files; planned = []; count = 0; area = nothing_lent }
 
--- files in memory in which the first k of n nodes are put
+-- files in memory that have the first k of n nodes
 abbrev pub made : ℕ → ℕ → Memory
 made n k = memory_of (first_files n k)

@@ -1,5 +1,5 @@
--- The made-up tree of the self-test: node k is named `n` and k, stands under node (k - 1) / 8, and is a directory where it has
--- a child, else a file. Our own.
+-- The made-up tree of the self-test: node k is named `n` and k, is under node (k - 1) / 8, and is a directory if it has a child,
+-- else a file. Our own.
 use Rattle.std.specs.Prelude.{ℕ, ◌+◌, ◌*◌, ◌/◌, ◌%◌, List, [], ◌∷◌, map, if◌then◌else◌, nat_lt, replicate, None, zero, suc}
 use Rattle.std.specs.Fmt.{decimal}
 use Rattle.std.specs.List.{range_with_len}

@@ -15,7 +15,7 @@ use path_text::{OutOfMemory, Path};
 use std::alloc::Global;
 use std::marker::Model;
 
-/// Files in memory that never fail. They are seen as the nodes by their paths, and where they may be written.
+/// Files in memory that never fail. A contract sees them as the nodes by their paths, and the area that may be written.
 #[derive(Drop)]
 pub struct TestGround {
     files: MemGround,
@@ -37,7 +37,7 @@ impl Model for TestGround {
     ghost invariant = { λ g. IsSteady g.files };
 }
 
-/// A part of them, which never fails. It is seen as they are.
+/// A part of the files, which never fails. A contract sees it as it sees the files.
 #[derive(Drop)]
 pub struct TestPart {
     part: MemPart,
@@ -60,7 +60,7 @@ impl Model for TestPart {
 }
 
 impl TestGround {
-    /// The tree of so many nodes.
+    /// Makes the tree of this number of nodes.
     pub fn make(alloc: Global, nodes: u64) -> Result<TestGround, OutOfMemory>
         requires { (1 ≤ nodes) × (nodes ≤ 1000000) }
         ensures files { IfOk result (λ made. made.0 ≡ test_files nodes) }
@@ -80,13 +80,13 @@ impl Plot for TestGround {
 
     ghost area = { λ g. g.1 };
 
-    /// It is 0. The call tells too that the nodes are a tree.
+    /// It is 0. The contract also says that the nodes are a tree.
     fn faults(&self) -> u64 {
         let _ = self.files.faults();
         0
     }
 
-    /// It never fails.
+    /// The call never fails.
     fn make_dir(&mut self, alloc: Global, path: &Path) -> Result<(), WriteError>
         requires { IsTrue (is_open self.old.1 path.now) }
         ensures told { Answers path.now (make_refusal self.old.1 self.old.0 path.now) self.old.0 (map.insert self.old.0 path.now empty_dir) result (Some self.new.0) }
@@ -97,7 +97,7 @@ impl Plot for TestGround {
         self.files.make_dir(alloc, path)
     }
 
-    /// It never fails.
+    /// The call never fails.
     fn make_file(&mut self, alloc: Global, path: &Path) -> Result<(), WriteError>
         requires { IsTrue (is_open self.old.1 path.now) }
         ensures told { Answers path.now (make_refusal self.old.1 self.old.0 path.now) self.old.0 (map.insert self.old.0 path.now (new_file [])) result (Some self.new.0) }
@@ -108,7 +108,7 @@ impl Plot for TestGround {
         self.files.make_file(alloc, path)
     }
 
-    /// It never fails.
+    /// The call never fails.
     fn make_link(&mut self, alloc: Global, path: &Path, text: &LinkText) -> Result<(), WriteError>
         requires { IsTrue (is_open self.old.1 path.now) }
         ensures told { Answers path.now (make_refusal self.old.1 self.old.0 path.now) self.old.0 (map.insert self.old.0 path.now (new_link text.now)) result (Some self.new.0) }
@@ -119,7 +119,7 @@ impl Plot for TestGround {
         self.files.make_link(alloc, path, text)
     }
 
-    /// It never fails.
+    /// The call never fails.
     fn write_at(
         &mut self,
         alloc: Global,
@@ -137,7 +137,7 @@ impl Plot for TestGround {
         self.files.write_at(alloc, path, at, bytes)
     }
 
-    /// It never fails.
+    /// The call never fails.
     fn remove_file(&mut self, alloc: Global, path: &Path) -> Result<(), WriteError>
         requires { IsTrue (is_open self.old.1 path.now) }
         ensures told { Answers path.now (remove_file_refusal (map.get self.old.0 path.now)) self.old.0 (map.remove self.old.0 path.now) result (Some self.new.0) }
@@ -148,7 +148,7 @@ impl Plot for TestGround {
         self.files.remove_file(alloc, path)
     }
 
-    /// It never fails.
+    /// The call never fails.
     fn remove_dir(&mut self, alloc: Global, path: &Path) -> Result<(), WriteError>
         requires { IsTrue (is_open self.old.1 path.now) }
         ensures told { Answers path.now (remove_dir_refusal self.old.0 path.now) self.old.0 (map.remove self.old.0 path.now) result (Some self.new.0) }
@@ -169,13 +169,13 @@ impl Plot for TestPart {
 
     ghost area = { λ g. g.1 };
 
-    /// It is 0. The call tells too that the nodes are a tree.
+    /// It is 0. The contract also says that the nodes are a tree.
     fn faults(&self) -> u64 {
         let _ = self.part.faults();
         0
     }
 
-    /// It never fails.
+    /// The call never fails.
     fn make_dir(&mut self, alloc: Global, path: &Path) -> Result<(), WriteError>
         requires { IsTrue (is_open self.old.1 path.now) }
         ensures told { Answers path.now (make_refusal self.old.1 self.old.0 path.now) self.old.0 (map.insert self.old.0 path.now empty_dir) result (Some self.new.0) }
@@ -186,7 +186,7 @@ impl Plot for TestPart {
         self.part.make_dir(alloc, path)
     }
 
-    /// It never fails.
+    /// The call never fails.
     fn make_file(&mut self, alloc: Global, path: &Path) -> Result<(), WriteError>
         requires { IsTrue (is_open self.old.1 path.now) }
         ensures told { Answers path.now (make_refusal self.old.1 self.old.0 path.now) self.old.0 (map.insert self.old.0 path.now (new_file [])) result (Some self.new.0) }
@@ -197,7 +197,7 @@ impl Plot for TestPart {
         self.part.make_file(alloc, path)
     }
 
-    /// It never fails.
+    /// The call never fails.
     fn make_link(&mut self, alloc: Global, path: &Path, text: &LinkText) -> Result<(), WriteError>
         requires { IsTrue (is_open self.old.1 path.now) }
         ensures told { Answers path.now (make_refusal self.old.1 self.old.0 path.now) self.old.0 (map.insert self.old.0 path.now (new_link text.now)) result (Some self.new.0) }
@@ -208,7 +208,7 @@ impl Plot for TestPart {
         self.part.make_link(alloc, path, text)
     }
 
-    /// It never fails.
+    /// The call never fails.
     fn write_at(
         &mut self,
         alloc: Global,
@@ -226,7 +226,7 @@ impl Plot for TestPart {
         self.part.write_at(alloc, path, at, bytes)
     }
 
-    /// It never fails.
+    /// The call never fails.
     fn remove_file(&mut self, alloc: Global, path: &Path) -> Result<(), WriteError>
         requires { IsTrue (is_open self.old.1 path.now) }
         ensures told { Answers path.now (remove_file_refusal (map.get self.old.0 path.now)) self.old.0 (map.remove self.old.0 path.now) result (Some self.new.0) }
@@ -237,7 +237,7 @@ impl Plot for TestPart {
         self.part.remove_file(alloc, path)
     }
 
-    /// It never fails.
+    /// The call never fails.
     fn remove_dir(&mut self, alloc: Global, path: &Path) -> Result<(), WriteError>
         requires { IsTrue (is_open self.old.1 path.now) }
         ensures told { Answers path.now (remove_dir_refusal self.old.0 path.now) self.old.0 (map.remove self.old.0 path.now) result (Some self.new.0) }
@@ -254,7 +254,7 @@ impl Ground for TestGround {
 
     type Part = TestPart;
 
-    /// It shares the nodes with the reader. A later call that changes them copies them first.
+    /// Shares the nodes with the reader. A later call that changes them copies them first.
     fn reader(&mut self, alloc: Global) -> Result<TestReader, OutOfMemory>
         ensures valid { IsTree self.old.0 }
         ensures made { IfOk result (λ reader. reader ≡ self.old.0) }
@@ -264,12 +264,12 @@ impl Ground for TestGround {
         Ok(TestReader::make(reader))
     }
 
-    /// There is nothing to be counted.
+    /// No fault needs counting.
     fn take_reader(&mut self, _reader: TestReader)
         ensures { self.new ≡ self.old }
     {}
 
-    /// Only want of memory may stand in place of the part.
+    /// Gives the part, or is out of memory.
     fn lease(&mut self, alloc: Global, tops: &[Path]) -> Result<TestPart, OutOfMemory>
         requires tops { CanLease self.old.1 tops.now }
         requires parents { HaveParents tops.now self.old.0 }

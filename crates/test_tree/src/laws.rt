@@ -1,4 +1,4 @@
-//! Laws of the made-up tree, each the contract of a function that does nothing.
+//! The laws of the made-up tree. Each law is the contract of a function that does nothing.
 ghost use Rattle.test_tree.specs.Laws.{FirstNodeIsThere, TestFilesAreTree, NoChildIsFar, NodesAreCounted};
 
 /// Node 0 is there, at `/n0`.
@@ -6,7 +6,7 @@ pub fn first_node_is_there()
     ensures { FirstNodeIsThere }
 {}
 
-/// What is made is a tree: each node stands in a directory, at a valid path.
+/// The made nodes are a tree: each node is in a directory, at a valid path.
 pub fn test_files_are_tree()
     ensures { TestFilesAreTree }
 {}
@@ -16,7 +16,7 @@ pub fn no_child_is_far()
     ensures { NoChildIsFar }
 {}
 
-/// The paths are as many as the nodes, and `/`.
+/// The tree has one path for each node, and `/`.
 pub fn nodes_are_counted()
     ensures { NodesAreCounted }
 {}

@@ -1,4 +1,4 @@
-//! The made-up tree, node after node.
+//! Makes the tree, node after node.
 ghost use Rattle.std.specs.Prelude.{◌≡◌, ◌+◌, ◌-◌, ◌*◌, ◌<◌, ◌≤◌, [], ◌∷◌, None, OnOk, IfOk, replicate};
 ghost use Rattle.std.specs.String.{string_bytes};
 ghost use Rattle.files_mem.specs.Memory.{put_refusal, with_node};
@@ -9,7 +9,7 @@ use files_mem::{MemGround, PutError};
 use path_text::{JoinError, OutOfMemory, Path};
 use std::alloc::{AllocError, Global};
 
-/// Files in memory with so many nodes.
+/// Makes files in memory with this number of nodes.
 pub fn made(alloc: Global, nodes: u64) -> Result<MemGround, OutOfMemory>
     requires { (1 ≤ nodes) × (nodes ≤ 1000000) }
     ensures { IfOk result (λ files. files ≡ memory_of (test_files nodes)) }
@@ -32,7 +32,7 @@ fn root(alloc: Global) -> Result<Path, OutOfMemory>
     }
 }
 
-// The place of node k, given that of the node before it. Eight nodes in a row have one, so no other is kept.
+// The place of node k, from that of the node before it. Eight nodes in a row have the same, so it keeps no other.
 fn next_place(alloc: Global, place: Path, k: u64) -> Result<Path, OutOfMemory>
     requires limit { k < 1000000 }
     requires place { place ≡ place_over (k - 1) }
@@ -44,7 +44,7 @@ fn next_place(alloc: Global, place: Path, k: u64) -> Result<Path, OutOfMemory>
     path_of(alloc, k / 8)
 }
 
-// The path of node k, made from those of the nodes over it, of which there are seven at most.
+// The path of node k, made from the paths of the nodes over it, which are at most seven.
 fn path_of(alloc: Global, k: u64) -> Result<Path, OutOfMemory>
     requires { k < 1000000 }
     ensures { IfOk result (λ path. path ≡ path_of k) }
@@ -57,7 +57,7 @@ fn path_of(alloc: Global, k: u64) -> Result<Path, OutOfMemory>
     child(alloc, &place, k)
 }
 
-// The path of node k, which stands there.
+// The path of node k, which is at this place.
 fn child(alloc: Global, place: &Path, k: u64) -> Result<Path, OutOfMemory>
     requires limit { k < 1000000 }
     requires place { place.now ≡ place_over k }
@@ -77,7 +77,7 @@ fn name_of(alloc: Global, k: u64) -> Result<String, AllocError>
     format!(in alloc; "n{k}")
 }
 
-// Puts node k, which stands there, where those before it are put.
+// Puts node k at its place, in files that have the nodes before it.
 fn put_next(
     alloc: Global,
     files: &mut MemGround,
@@ -95,7 +95,7 @@ fn put_next(
     put(files, &path, nodes, k)
 }
 
-// Puts node k at its path, where nothing is, in a directory.
+// Puts node k at its path, which has no node, in a directory.
 fn put(files: &mut MemGround, path: &Path, nodes: u64, k: u64) -> Result<(), OutOfMemory>
     requires limit { k ≤ 1000000 }
     requires free { put_refusal files.old.files path.now ≡ None }

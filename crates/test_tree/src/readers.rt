@@ -12,7 +12,8 @@ use path_text::Path;
 use std::alloc::Global;
 use std::marker::Model;
 
-/// A reader of the files as they were when the ground made it, which never fails. It is seen as the nodes by their paths.
+/// A reader of the files as they were when the ground made it, which never fails. A contract sees it as the nodes by their
+/// paths.
 #[derive(Drop)]
 pub struct TestReader {
     reader: MemReader,
@@ -52,7 +53,7 @@ impl Tree for TestReader {
         0
     }
 
-    /// It never fails.
+    /// The call never fails.
     fn stat(&mut self, path: &Path) -> Result<Option<Stat>, Failed>
         ensures valid { IsTree self.old }
         ensures works { IsOk result }
@@ -63,7 +64,7 @@ impl Tree for TestReader {
         self.reader.stat(path)
     }
 
-    /// Only want of memory may stand in place of the names.
+    /// Gives the names, or is out of memory.
     fn list(&mut self, alloc: Global, path: &Path) -> Result<Listing, ListError>
         ensures valid { IsTree self.old }
         ensures works { result ≢ Err ListError.Failed }
@@ -76,7 +77,7 @@ impl Tree for TestReader {
         self.reader.list(alloc, path)
     }
 
-    /// It never fails.
+    /// The call never fails.
     fn read(&mut self, path: &Path, at: u64, into: &mut [u8]) -> Result<usize, ReadError>
         ensures valid { IsTree self.old }
         ensures works { result ≢ Err ReadError.Failed }
@@ -90,7 +91,7 @@ impl Tree for TestReader {
         self.reader.read(path, at, into)
     }
 
-    /// Only want of memory may stand in place of the text.
+    /// Gives the text, or is out of memory.
     fn read_link(&mut self, alloc: Global, path: &Path) -> Result<LinkText, LinkError>
         ensures valid { IsTree self.old }
         ensures works { result ≢ Err LinkError.Failed }

@@ -1,4 +1,4 @@
--- Text of whole lines: what a line is, the lines of a text, and the line that ends a file with the number of its items. Our own.
+-- Text of whole lines: a line, the lines of a text, and the line that ends a file with the number of its items. Our own.
 use Rattle.std.specs.Prelude.{ℕ, ◌==◌, List, [], ◌∷◌, ◌++◌, if◌then◌else◌, codes}
 use Rattle.std.specs.Fmt.{decimal}
 

@@ -1,16 +1,16 @@
--- What the crate's private functions answer: only their clauses cite it, and no public one rests on it.
+-- The answers of the crate's private functions. Only their clauses cite them, and no public clause needs them.
 use Rattle.std.specs.Prelude.{◌≡◌, ◌≢◌, ℕ, ◌+◌, ◌<◌, ◌≤◌, List, length, take, drop, slice_index, Some}
 use Rattle.std.specs.Str.Parse.{AllDigits, digits_value}
 use Rattle.whole_lines.specs.declared.reading.Digits.{Digits}
 use Rattle.whole_lines.specs.Words.{number_of, word_at}
 
--- how a word begins that is a number without leading zeros and without a sign
+-- a word begins as a number without leading zeros and without a sign does
 pub record LeadsNumber (word : List ℕ) : Type 0 where
   pub some : 0 < length word
   pub plain : slice_index word 0 ≢ 43
   pub zero : slice_index word 0 ≡ 48 → length word ≡ 1
 
--- the number that the first word of a text writes, which has so many digits
+-- the number that the first word of a text writes, which has this number of digits
 pub record IsNumberWord (text : List ℕ) (digits : Digits) : Type 0 where
   pub short : digits.len < length text
   pub number : word_at number_of text ≡ Some (digits.value, drop (digits.len + 1) text)

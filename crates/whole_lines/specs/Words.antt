@@ -1,4 +1,4 @@
--- How a line is read: the words that a byte divides, numbers, paths, and the count of an end line. Our own.
+-- Reading a line: the words between which a byte is, numbers, paths, and the count of an end line. Our own.
 use Rattle.std.specs.Prelude.{ℕ, ◌^◌, ◌&&◌, ◌==◌, nat_lt, List, [], ◌∷◌, if◌then◌else◌, Option, Some, None, Result, Ok, Err, codes}
 use Rattle.std.specs.Str.{is_utf8, bytes_eq}
 use Rattle.std.specs.Str.Parse.{digits_value}
@@ -11,7 +11,7 @@ abbrev pub ◌>>=◌ : {A B : Type 0} → Option A → (A → Option B) → Opti
 None >>= f = None
 (Some x) >>= f = f x
 
--- what stands before a byte's first place and what behind it
+-- the text before the first place of a byte, and the text after it
 abbrev pub onto_word : ℕ → Option (List ℕ × List ℕ) → Option (List ℕ × List ℕ)
 onto_word b None = None
 onto_word b (Some p) = Some (b ∷ p.0, p.1)
@@ -20,7 +20,7 @@ unfoldable pub cut : ℕ → List ℕ → Option (List ℕ × List ℕ)
 cut c [] = None
 cut c (b ∷ bytes) = if b == c then Some ([], bytes) else onto_word b (cut c bytes)
 
--- a word before a space, read, and what is behind the space
+-- a word before a space, read, and the text after the space
 unfoldable pub word_at : {A : Type 0} → (List ℕ → Option A) → List ℕ → Option (A × List ℕ)
 word_at read text = do
   word ← cut 32 text
@@ -31,7 +31,7 @@ word_at read text = do
 unfoldable pub number_of : List ℕ → Option ℕ
 number_of word = if bytes_eq word (decimal (digits_value 10 word)) && nat_lt (digits_value 10 word) (2 ^ 64) then Some (digits_value 10 word) else None
 
--- the path that a word tells
+-- the path that a word writes
 abbrev pub ok_of : Result (List ℕ) EscapeError → Option (List ℕ)
 ok_of (Ok path) = Some path
 ok_of (Err e) = None

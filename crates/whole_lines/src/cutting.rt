@@ -1,4 +1,4 @@
-//! Lines and words, cut off the front of a text.
+//! Cuts lines and words off the front of a text.
 ghost use Rattle.std.specs.Prelude.{◌≡◌, ◌+◌, ◌<◌, take, drop, IfSome, IfNone, Some, None, length, ◌==◌};
 ghost use Rattle.std.specs.List.{position};
 ghost use Rattle.std.specs.Option.{option_map};
@@ -6,7 +6,7 @@ ghost use Rattle.whole_lines.specs.Words.{cut};
 
 use memchr::memchr;
 
-/// What stands before the first place of a byte, and what stands behind it.
+/// The text before the first place of a byte, and the text after it.
 pub fn cut(text: &[u8], at: u8) -> Option<(&[u8], &[u8])>
     ensures { option_map (λ parts. (parts.0.now, parts.1.now)) result ≡ cut at text.now }
 {
@@ -14,7 +14,8 @@ pub fn cut(text: &[u8], at: u8) -> Option<(&[u8], &[u8])>
     Some((&text[..place], &text[place + 1..]))
 }
 
-/// The first line of a text without its end, and what stands behind it. Lines are long, so the end is sought many bytes at a time.
+/// The first line of a text without its line feed, and the text after it. Lines are long, so the search for the line feed reads
+/// many bytes at a time.
 pub fn cut_line(text: &[u8]) -> Option<(&[u8], &[u8])>
     ensures { option_map (λ parts. (parts.0.now, parts.1.now)) result ≡ cut 10 text.now }
 {

@@ -1,8 +1,8 @@
-//! Text of whole lines: lines, the words of a line, numbers and paths among them, and the line that ends a file.
+//! Text of whole lines: lines, the words of a line, among them numbers and paths, and the line that ends a file.
 //!
 //! - [`cut_line`] takes the first line off a text, and [`cut`] the first word before a byte.
-//! - [`number_of`] and [`number_at`] read numbers of 64 bits in decimal, without leading zeros; [`leading_number`] is the
-//!   quick way for those of at most 19 digits.
+//! - [`number_of`] and [`number_at`] read numbers of 64 bits in decimal, without leading zeros. [`leading_number`] is faster,
+//!   and reads those of at most 19 digits.
 //! - [`path_from`] reads a path as [`path_text::escape`] writes it, and [`end_at`] the count of an end line, `end COUNT`.
 //!
 //! ```text
@@ -10,12 +10,12 @@
 //! let count = end_at(text)?;                           // 2
 //! ```
 //!
-//! Proved: each answers by its definition, so nothing else is read and nothing is left out.
+//! Proved: each function answers by its definition, so it reads nothing else and leaves nothing out.
 //!
-//! Definitions stand in `specs/`: `Lines` (a line, the lines of a text, the end line) and `Words` (how a line is read); `Private`
-//! has what only private clauses cite. `proofs/WholeLines` is the argument on files of whole lines, for items of any kind with
-//! one line or more each: the lines of such a file tell its items, and a text is damaged from the first line on with which no
-//! file goes on. A crate that has such a file gives a `Form`. The other proof files say that a reading undoes what was written.
+//! The definitions are in `specs/`: `Lines` (a line, the lines of a text, the end line) and `Words` (reading a line). `Private`
+//! has those that only private clauses cite. `proofs/WholeLines` is the argument on files of whole lines, for items of any kind
+//! with one line or more each. The lines of such a file determine its items. A text is damaged from the first line on with
+//! which no file goes on. A crate that has such a file gives a `Form`. The other proof files say that reading undoes writing.
 #![tactic(auto)]
 
 mod cutting;

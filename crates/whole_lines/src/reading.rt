@@ -1,4 +1,4 @@
-//! Numbers, paths and the count of an end line, read from words.
+//! Reads numbers, paths and the count of an end line from words.
 ghost use Rattle.std.specs.Prelude.{◌≡◌, ◌+◌, ◌<◌, ◌≤◌, IfOk, IfSome, Some, None, true, false, length};
 ghost use Rattle.std.specs.Option.{option_map};
 ghost use Rattle.std.specs.Str.{IsUtf8};
@@ -12,7 +12,7 @@ use std::alloc::Global;
 
 const MAX_DIGITS: usize = 19;
 
-/// A number of 64 bits in decimal, without leading zeros.
+/// Reads a number of 64 bits in decimal, without leading zeros.
 #[tactic(auto, using(crate::proofs::Numbers::no_text))]
 pub fn number_of(word: &[u8]) -> Option<u64>
     ensures { result ≡ number_of word.now }
@@ -50,14 +50,14 @@ fn parsed(text: &str) -> Option<u64>
     text.parse::<u64>().ok()
 }
 
-// Digits at the front of a text: how many they are, and the number that they write.
+// Digits at the front of a text: their count, and the number that they write.
 #[derive(Clone, Copy, Drop)]
 pub(crate) struct Digits {
     value: u64,
     len: usize,
 }
 
-// The number of at most 19 digits that a space ends; `None` where the first word is none, or is longer.
+// The number of at most 19 digits that a space ends; `None` if the first word is not a number, or is longer.
 #[tactic(auto, using(crate::proofs::Digits::ended))]
 fn digits_word(text: &[u8]) -> Option<Digits>
     ensures { IfSome result (IsNumberWord text.now) }
@@ -72,7 +72,7 @@ fn digits_word(text: &[u8]) -> Option<Digits>
     Some(digits)
 }
 
-// The first digits, of which 19 are the most that always have 64 bits.
+// The first digits, at most 19: this is the most that always fits in 64 bits.
 fn digits_of(text: &[u8]) -> Digits
     ensures { AreDigits text.now result }
 {
@@ -85,7 +85,8 @@ fn digits_of(text: &[u8]) -> Digits
     Digits { value, len }
 }
 
-/// The number before a space, and what is behind it, where it has at most 19 digits; of another word this tells nothing.
+/// Reads the number before a space, and gives the text after the space, if the number has at most 19 digits. `None` says
+/// nothing of the first word.
 pub fn leading_number(text: &[u8]) -> Option<(u64, &[u8])>
     ensures { IfSome result (λ found. word_at number_of text.now ≡ Some (found.0, found.1.now)) }
 {
@@ -93,7 +94,7 @@ pub fn leading_number(text: &[u8]) -> Option<(u64, &[u8])>
     Some((digits.value, &text[digits.len + 1..]))
 }
 
-/// The number before a space, and what is behind it.
+/// Reads the number before a space, and gives the text after the space.
 #[tactic(auto, unfolding(crate::specs::Words::word_at))]
 pub fn number_at(text: &[u8]) -> Option<(u64, &[u8])>
     ensures { option_map (λ found. (found.0, found.1.now)) result ≡ word_at number_of text.now }
@@ -105,7 +106,7 @@ pub fn number_at(text: &[u8]) -> Option<(u64, &[u8])>
     Some((number_of(word)?, rest))
 }
 
-/// The path that a word tells, if there is one.
+/// Reads the path that a word writes; `None` if the word writes no path.
 #[tactic(auto, using(crate::proofs::Numbers::path_texts))]
 pub fn path_from(alloc: Global, word: &[u8]) -> Result<Option<Path>, OutOfMemory>
     ensures read { IfOk result (λ path. path ≡ path_from word.now) }
@@ -123,7 +124,7 @@ fn path_of(alloc: Global, text: &str) -> Result<Option<Path>, OutOfMemory>
 {
     match unescape(alloc, text) {
         Ok(path) => {
-            // That a path is UTF-8 is told by its text alone.
+            // Only the contract of `text` says that a path is UTF-8.
             let _text = path.text();
             Ok(Some(path))
         }
@@ -133,7 +134,7 @@ fn path_of(alloc: Global, text: &str) -> Result<Option<Path>, OutOfMemory>
     }
 }
 
-/// The count that an end line tells, if this is its text.
+/// Reads the count of an end line; `None` if this is not the text of an end line.
 #[tactic(auto, unfolding(crate::specs::Words::end_at))]
 pub fn end_at(text: &[u8]) -> Option<u64>
     ensures { result ≡ end_at text.now }

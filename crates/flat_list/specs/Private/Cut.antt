@@ -1,4 +1,4 @@
--- What a log that is read becomes.
+-- The entries of a log that is read.
 use Rattle.std.specs.Prelude.{List, ◌++◌}
 use Rattle.std.specs.List.{flat_map}
 use Rattle.flat_list.specs.declared.entries.Entry.{Entry}

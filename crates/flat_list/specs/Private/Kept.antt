@@ -1,5 +1,6 @@
--- What a packed list keeps, and where one stands who goes over it.
-use Rattle.std.specs.Prelude.{◌≡◌, ℕ, ◌+◌, ◌*◌, ◌<◌, ◌≤◌, length, take, drop, nat_eq, ◌&&◌, Bool, List, [], true, false, is_none, Some, slice_get, slice_index_or}
+-- The fields of a packed list, and the state of one that goes over it.
+use Rattle.std.specs.Prelude.{◌≡◌, ℕ, ◌+◌, ◌*◌, ◌<◌, ◌≤◌, length, take, drop, nat_eq, ◌&&◌, Bool, List, [], true, false, is_none}
+use Rattle.std.specs.Prelude.{Some, slice_get, slice_index_or}
 use Rattle.std.specs.Ordering.{is_lt}
 use Rattle.std.specs.List.{list_all, common_prefix_len, position_or_len, sum_by}
 use Rattle.std.specs.Cmp.Lexicographic.{pointwise}
@@ -18,13 +19,13 @@ is_path path = is_none (refusal path) && is_utf8 path
 abbrev pub rest_sum : List Head → ℕ
 rest_sum hs = sum_by (λ h. h.rest) hs
 
--- where what is kept of each page begins, where so much is kept of a head
+-- where the bytes of each page begin, by the number of bytes that are kept of a head
 pub record AreStarts (weight : Head → ℕ) (starts : List ℕ) (hs : List Head) : Type 0 where
   pub enough : length hs ≤ 256 * length starts
   pub some : 256 * length starts < length hs + 256
   pub each : (k : ℕ) → k < length starts → slice_get starts k ≡ Some (sum_by weight (take (256 * k) hs))
 
--- what is kept is what the entries are packed as
+-- the fields are the entries packed
 pub record IsKept (hs : List Head) (starts bytes path : List ℕ) (entries : List Entry) : Type 0 where
   pub paths : list_all (λ e. is_path e.path) entries ≡ true
   pub heads : heads_from 0 [] entries ≡ hs
@@ -32,7 +33,7 @@ pub record IsKept (hs : List Head) (starts bytes path : List ℕ) (entries : Lis
   pub last : last_path [] entries ≡ path
   pub begins : AreStarts (λ h. h.rest) starts hs
 
--- where one stands who has passed so many entries and so many bytes, and holds the path passed last; at the front of a page any
+-- the state after some entries and some bytes, which holds the path passed last; at the front of a page any path
 pub record IsAt (hs : List Head) (bytes : List ℕ) (passed at : ℕ) (held : List ℕ) (entries : List Entry) : Type 0 where
   pub paths : list_all (λ e. is_path e.path) entries ≡ true
   pub many : length entries ≡ length hs
@@ -41,7 +42,7 @@ pub record IsAt (hs : List Head) (bytes : List ℕ) (passed at : ℕ) (held : Li
   pub within : passed ≤ length hs
   pub inside : at ≤ length bytes
 
--- where a search stands that has passed so many entries and so many bytes, of which none has the wanted path
+-- the state of a search after some entries and some bytes, if none of these entries has the wanted path
 pub record IsSeek (hs : List Head) (bytes wanted : List ℕ) (k at same : ℕ) (entries : List Entry) : Type 0 where
   pub many : length entries ≡ length hs
   pub heads : heads_from k (last_path [] (take k entries)) (drop k entries) ≡ drop k hs
@@ -50,10 +51,11 @@ pub record IsSeek (hs : List Head) (bytes wanted : List ℕ) (k at same : ℕ) (
   pub shared : same ≡ common_prefix_len nat_eq (last_path [] (take k entries)) wanted
   pub none : position_or_len (λ e. pointwise nat_eq e.path wanted) entries ≡ k + position_or_len (λ e. pointwise nat_eq e.path wanted) (drop k entries)
 
--- a place and a byte before which one may begin: the front of a page, whatever path is held
+-- a place and a byte before which one may begin: the front of a page, with any path
 abbrev pub IsBefore : List Head → List ℕ → ℕ → ℕ → Type 0
 IsBefore hs bytes passed at = (held : List ℕ) → IsAt hs bytes passed at held (unpacked [] hs bytes)
 
--- the entry behind a place does not come before that at the place
+-- the entry after a place does not come before that at the place
 abbrev pub RisesAt : List Entry → ℕ → Type 0
-RisesAt entries k = (d : Entry) → k + 1 < length entries → is_lt (path_cmp (slice_index_or entries (k + 1) d).path (slice_index_or entries k d).path) ≡ false
+RisesAt entries k = (d : Entry) → k + 1 < length entries →
+    is_lt (path_cmp (slice_index_or entries (k + 1) d).path (slice_index_or entries k d).path) ≡ false

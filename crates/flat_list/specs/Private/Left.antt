@@ -1,8 +1,8 @@
--- What is left of a list that is read to its end.
+-- The rest of a list that is read to its end.
 use Rattle.std.specs.Prelude.{ℕ, ◌-◌, Bool, true, false, List, [], drop}
 use Rattle.flat_list.specs.declared.entries.Entry.{Entry}
 
--- where one is over, or has the entry that was passed last still to give
+-- the list is over, or the entry that was passed last is still to be given
 abbrev pub left_of : Bool → List Entry × ℕ → List Entry
 left_of true c = []
 left_of false c = drop (c.1 - 1) c.0

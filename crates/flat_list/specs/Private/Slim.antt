@@ -1,6 +1,7 @@
--- A head as it is kept: in few bytes, with the two numbers that are mostly 0 in a list of their own, and the targets of links in one text.
+-- A head as it is kept, in few bytes. The two numbers that are mostly 0 are in a list of their own, and the targets of links in one text.
 -- Our own.
-use Rattle.std.specs.Prelude.{◌≡◌, ℕ, ◌≤◌, ◌==◌, ◌&&◌, ◌||◌, not, Bool, true, false, List, [], ◌∷◌, length, map, take, drop, Option, Some, None, is_some, is_none, if◌then◌else◌}
+use Rattle.std.specs.Prelude.{◌≡◌, ℕ, ◌≤◌, ◌==◌, ◌&&◌, ◌||◌, not, Bool, true, false, List, [], ◌∷◌, length, map, take, drop}
+use Rattle.std.specs.Prelude.{Option, Some, None, is_some, is_none, if◌then◌else◌}
 use Rattle.std.specs.List.{flat_map, list_all}
 use Rattle.outside.specs.declared.trees.Kind.{Kind}
 use Rattle.outside.specs.declared.trees.Kind.TheVariants as kind
@@ -79,7 +80,7 @@ odds_by h = if is_odd h then odd_by h ∷ [] else []
 abbrev pub odd_count : Head → ℕ
 odd_count h = length (odds_by h)
 
--- what is kept, told again
+-- the head of its kept parts
 abbrev pub stat_shown : Shown → ℕ → Option ℕ → Option Stat
 stat_shown shown.Nothing size time = None
 stat_shown shown.File size time = Some (record { kind = kind.File; size = size; mtime = time })
@@ -87,11 +88,11 @@ stat_shown shown.Dir size time = Some (record { kind = kind.Dir; size = size; mt
 stat_shown shown.Link size time = Some (record { kind = kind.Link; size = size; mtime = time })
 stat_shown shown.Other size time = Some (record { kind = kind.Other; size = size; mtime = time })
 
--- a target of so many bytes, which stand first
+-- a target of a number of bytes, which come first
 abbrev pub target_by : ℕ → List ℕ → Option (List ℕ)
 target_by n texts = if n == 0 then None else Some (take n texts)
 
--- what is kept beside the texts, and a target
+-- the parts that are kept beside the texts, and a target
 abbrev pub with_text : kept.Head → Option (List ℕ) → Head
 with_text h target = record { stat = h.stat; unnamed = h.unnamed; far = h.far; shared = h.shared; rest = h.rest; mark = h.mark; target = target }
 
@@ -122,7 +123,7 @@ heads_of [] odds texts = []
 heads_of (s ∷ slims) odds texts =
     head_told s (first_odd s.odd odds) texts ∷ heads_of slims (odds_after s.odd odds) (drop (first_odd s.odd odds).target texts)
 
--- what is kept of heads, and where the odd ones and the targets of each page begin
+-- the kept parts of heads, and where the odd ones and the targets of each page begin
 pub record IsSlim (ss : List Slim) (os : List Odd) (starts ts begins : List ℕ) (hs : List Head) : Type 0 where
   pub slims : map slim_by hs ≡ ss
   pub odds : flat_map odds_by hs ≡ os
@@ -131,7 +132,7 @@ pub record IsSlim (ss : List Slim) (os : List Odd) (starts ts begins : List ℕ)
   pub texts_begin : AreStarts text_len begins hs
   pub valid : list_all (λ h. is_text h.target) hs ≡ true
 
--- where one stands who has passed so many heads, and so many odd ones and bytes of targets among them
+-- the state after some heads, and the odd ones and the bytes of targets among them
 pub record IsLead (ss : List Slim) (os : List Odd) (ts : List ℕ) (passed gone at : ℕ) (hs : List Head) : Type 0 where
   pub slims : map slim_by hs ≡ ss
   pub odds : flat_map odds_by (drop passed hs) ≡ drop gone os

@@ -5,7 +5,8 @@ use Rattle.whole_lines.specs.Lines.{lines_of}
 use Rattle.whole_lines.specs.Words.{cut}
 use Rattle.flat_list.specs.Private.Reading.{entry_at, found_at, behind_target, line_count, Adds, NoneFollows, IsLast, IsSettled}
 use Rattle.flat_list.proofs.Damage.{Undoes, Stands, line_len}
-use Rattle.flat_list.proofs.Decoded.{Reads, starts, goes_on, bad_torn, bad_text, at_end, past_end, too_long, if_ok_then, if_err_then, adds_one, left_shorter, none_holds, some_holds, few_lines}
+use Rattle.flat_list.proofs.Decoded.{Reads, starts, goes_on, bad_torn, bad_text, at_end, past_end, too_long, if_ok_then, if_err_then, adds_one, left_shorter}
+use Rattle.flat_list.proofs.Decoded.{none_holds, some_holds, few_lines}
 use Rattle.flat_list.proofs.decoding.decode.Goals as goal
 
 pub loop-text-init : goal.loop-text-init
@@ -75,7 +76,8 @@ returns-then-len-gt-MAX_ENTRIES-clause-refused c =
     record { stands = before.stands; few = before.few; first = sym c.in-Some-cut_line.ensures } in
     let next = c.in-Some-added.next in
     let some : c.in_ok-added.added ≡ Some next = c.in-Some-added.is in
-    let adds = some_holds c.in_ok-added.added next (λ n. Adds (entry_at v text) (found_at v text behind) list c.add_entry.new.list) some c.in_ok-added.ensures.yes in
+    let adds =
+    some_holds c.in_ok-added.added next (λ n. Adds (entry_at v text) (found_at v text behind) list c.add_entry.new.list) some c.in_ok-added.ensures.yes in
     let on = goes_on undoes reads c.add_entry.new.list adds in
     let more = adds_one (entry_at v text) (found_at v text behind) list c.add_entry.new.list adds in
     let few = before.few in
@@ -94,7 +96,8 @@ overflow_add-line c =
     record { stands = before.stands; few = before.few; first = sym c.in-Some-cut_line.ensures } in
     let next = c.in-Some-added.next in
     let some : c.in_ok-added.added ≡ Some next = c.in-Some-added.is in
-    let adds = some_holds c.in_ok-added.added next (λ n. Adds (entry_at v text) (found_at v text behind) list c.add_entry.new.list) some c.in_ok-added.ensures.yes in
+    let adds =
+    some_holds c.in_ok-added.added next (λ n. Adds (entry_at v text) (found_at v text behind) list c.add_entry.new.list) some c.in_ok-added.ensures.yes in
     let on = goes_on undoes reads c.add_entry.new.list adds in
     let rest_is : next.rest.now ≡ behind_target behind (found_at v text behind) =
     some_holds c.in_ok-added.added next (λ n. n.rest.now ≡ behind_target behind (found_at v text behind)) some c.in_ok-added.ensures.rest in
@@ -115,13 +118,15 @@ loop-text-smaller c =
     record { stands = before.stands; few = before.few; first = sym c.in-Some-cut_line.ensures } in
     let next = c.in-Some-added.next in
     let some : c.in_ok-added.added ≡ Some next = c.in-Some-added.is in
-    let adds = some_holds c.in_ok-added.added next (λ n. Adds (entry_at v text) (found_at v text behind) list c.add_entry.new.list) some c.in_ok-added.ensures.yes in
+    let adds =
+    some_holds c.in_ok-added.added next (λ n. Adds (entry_at v text) (found_at v text behind) list c.add_entry.new.list) some c.in_ok-added.ensures.yes in
     let on = goes_on undoes reads c.add_entry.new.list adds in
     let rest_is : next.rest.now ≡ behind_target behind (found_at v text behind) =
     some_holds c.in_ok-added.added next (λ n. n.rest.now ≡ behind_target behind (found_at v text behind)) some c.in_ok-added.ensures.rest in
     let lines_is : next.lines ≡ line_count (found_at v text behind) =
     some_holds c.in_ok-added.added next (λ n. n.lines ≡ line_count (found_at v text behind)) some c.in_ok-added.ensures.lines in
-    subst (λ (r : List ℕ). length r < length c.loop-text.rest.now) (sym rest_is) (left_shorter v text c.loop-text.rest.now behind (sym c.in-Some-cut_line.ensures))
+    subst (λ (r : List ℕ). length r < length c.loop-text.rest.now) (sym rest_is)
+    (left_shorter v text c.loop-text.rest.now behind (sym c.in-Some-cut_line.ensures))
 
 pub loop-text-preserved : goal.loop-text-preserved
 loop-text-preserved c =
@@ -136,7 +141,8 @@ loop-text-preserved c =
     record { stands = before.stands; few = before.few; first = sym c.in-Some-cut_line.ensures } in
     let next = c.in-Some-added.next in
     let some : c.in_ok-added.added ≡ Some next = c.in-Some-added.is in
-    let adds = some_holds c.in_ok-added.added next (λ n. Adds (entry_at v text) (found_at v text behind) list c.add_entry.new.list) some c.in_ok-added.ensures.yes in
+    let adds =
+    some_holds c.in_ok-added.added next (λ n. Adds (entry_at v text) (found_at v text behind) list c.add_entry.new.list) some c.in_ok-added.ensures.yes in
     let on = goes_on undoes reads c.add_entry.new.list adds in
     let rest_is : next.rest.now ≡ behind_target behind (found_at v text behind) =
     some_holds c.in_ok-added.added next (λ n. n.rest.now ≡ behind_target behind (found_at v text behind)) some c.in_ok-added.ensures.rest in

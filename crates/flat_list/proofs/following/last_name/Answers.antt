@@ -14,5 +14,6 @@ returns c =
     let named : c.is_plain_name.result ≡ true = search (rules, nots) in
     let fronted : c.is_front.result ≡ true = search (rules, nots) in
     let name : IsPlainName (drop (at + 1) word) = subst IsPlainName (rest_of word (at + 1)) (c.is_plain_name.ensures named) in
-    let front : IsFront before (take at word) = subst (λ p. IsFront p (take at word)) (c.as_bytes.ensures.value ∙ c.text-text.ensures.text) (c.is_front.ensures fronted) in
+    let front : IsFront before (take at word) =
+    subst (λ p. IsFront p (take at word)) (c.as_bytes.ensures.value ∙ c.text-text.ensures.text) (c.is_front.ensures fronted) in
     near before word at c.text-text.ensures.valid c.in_ok-at.ensures (omega arith) (sym c.are_plain.ensures ∙ plain) name front

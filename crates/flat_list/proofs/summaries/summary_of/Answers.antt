@@ -24,10 +24,13 @@ loop-preserved c =
       bytes = c.count.ensures.bytes;
       failed = c.count.ensures.failed;
     } in
-    let next : slice_get hs k ≡ Some (with_text c.next.result.0 (option_map (λ t. t.now) c.next.result.1)) = subst (λ (l : List Head × ℕ). slice_get l.0 l.1 ≡ Some (with_text c.next.result.0 (option_map (λ t. t.now) c.next.result.1))) before.here c.next.ensures.next in
+    let next : slice_get hs k ≡ Some (with_text c.next.result.0 (option_map (λ t. t.now) c.next.result.1)) =
+    subst (λ (l : List Head × ℕ). slice_get l.0 l.1 ≡ Some (with_text c.next.result.0 (option_map (λ t. t.now) c.next.result.1)))
+    before.here c.next.ensures.next in
     record {
       here = c.pass.ensures ∙ ap (λ (l : List Head × ℕ). (l.0, l.1 + 1)) before.here;
-      counted = λ bytes. let more = one_more hs bytes k (with_text c.next.result.0 (option_map (λ t. t.now) c.next.result.1)) next in counted_more _ _ more.0 counts (before.counted bytes) more.1;
+      counted = λ bytes. let more = one_more hs bytes k (with_text c.next.result.0 (option_map (λ t. t.now) c.next.result.1)) next in
+          counted_more _ _ more.0 counts (before.counted bytes) more.1;
       items = omega (arith, before.items, counts.items, bit (is_some c.next.result.0.stat));
       dirs = omega (arith, before.dirs, counts.dirs, bit (is_of kind.Dir c.next.result.0.stat));
       files = omega (arith, before.files, counts.files, bit (is_of kind.File c.next.result.0.stat));

@@ -35,7 +35,8 @@ invariant_of-self-2 c =
     l.text_starts.items o.text_starts.items c.put_shifted-2.new.starts.items c.len-base.result c.len-text_base.result = record {
       slims = c.extend_reserved.ensures ∙ ap₂ ◌++◌ c.reserve.ensures.items c.deref.ensures.value;
       odds = c.extend_reserved-2.ensures ∙ ap₂ ◌++◌ c.reserve-2.ensures.items c.deref-2.ensures.value;
-      odds_begin = c.put_shifted.ensures ∙ ap₂ (λ (a b : List ℕ). a ++ map (λ s. c.len-base.result + s) b) c.reserve-3.ensures.items c.deref-3.ensures.value;
+      odds_begin =
+          c.put_shifted.ensures ∙ ap₂ (λ (a b : List ℕ). a ++ map (λ s. c.len-base.result + s) b) c.reserve-3.ensures.items c.deref-3.ensures.value;
       texts = c.extend_reserved-3.ensures ∙ ap₂ ◌++◌ c.reserve-4.ensures.items c.deref-4.ensures.value;
       texts_begin = c.put_shifted-2.ensures
           ∙ ap₂ (λ (a b : List ℕ). a ++ map (λ s. c.len-text_base.result + s) b) c.reserve-5.ensures.items c.deref-5.ensures.value;
@@ -53,7 +54,8 @@ returns-clause-ok c =
     l.text_starts.items o.text_starts.items c.put_shifted-2.new.starts.items c.len-base.result c.len-text_base.result = record {
       slims = c.extend_reserved.ensures ∙ ap₂ ◌++◌ c.reserve.ensures.items c.deref.ensures.value;
       odds = c.extend_reserved-2.ensures ∙ ap₂ ◌++◌ c.reserve-2.ensures.items c.deref-2.ensures.value;
-      odds_begin = c.put_shifted.ensures ∙ ap₂ (λ (a b : List ℕ). a ++ map (λ s. c.len-base.result + s) b) c.reserve-3.ensures.items c.deref-3.ensures.value;
+      odds_begin =
+          c.put_shifted.ensures ∙ ap₂ (λ (a b : List ℕ). a ++ map (λ s. c.len-base.result + s) b) c.reserve-3.ensures.items c.deref-3.ensures.value;
       texts = c.extend_reserved-3.ensures ∙ ap₂ ◌++◌ c.reserve-4.ensures.items c.deref-4.ensures.value;
       texts_begin = c.put_shifted-2.ensures
           ∙ ap₂ (λ (a b : List ℕ). a ++ map (λ s. c.len-text_base.result + s) b) c.reserve-5.ensures.items c.deref-5.ensures.value;

@@ -18,7 +18,8 @@ invariant_of-self c =
     let it : IsPut l.heads l.last.items c.as_bytes-2.result.now c.args.entry.now (with_text c.head_of-head.result c.args.entry.now.target) =
     is_put _ _ _ _ _ c.shared_of-shared.result c.len.result (c.as_bytes-2.ensures.value ∙ c.text-path.ensures.text)
     (path_is _ _ c.text-path.ensures.text c.text-path.ensures.valid c.text-path.utf8) c.len.ensures shared c.head_of-head.ensures in
-    put_kept c.put.result l.heads _ l.starts.items _ l.rests.items _ l.last.items _ c.as_bytes-2.result.now c.args.entry.now (with_text c.head_of-head.result c.args.entry.now.target)
+    put_kept c.put.result l.heads _ l.starts.items _ l.rests.items _ l.last.items _ c.as_bytes-2.result.now c.args.entry.now
+    (with_text c.head_of-head.result c.args.entry.now.target)
     c.self.invariant it c.put.ensures.heads c.put.ensures.starts c.put.ensures.rests c.put.ensures.last
     c.put.ensures.no_head c.put.ensures.no_start c.put.ensures.no_rest c.put.ensures.no_last
 
@@ -31,5 +32,6 @@ returns-clause-ok c =
     is_put _ _ _ _ _ c.shared_of-shared.result c.len.result (c.as_bytes-2.ensures.value ∙ c.text-path.ensures.text)
     (path_is _ _ c.text-path.ensures.text c.text-path.ensures.valid c.text-path.utf8) c.len.ensures shared c.head_of-head.ensures in
     subst (λ (v : List Entry). OnOk c.put.result (unpacked [] c.put.new.heads c.put.new.rests.items ≡ v ++ c.args.entry.now ∷ [])) c.self.view_is
-    (put_told c.put.result l.heads _ l.starts.items l.rests.items _ l.last.items c.as_bytes-2.result.now c.args.entry.now (with_text c.head_of-head.result c.args.entry.now.target)
+    (put_told c.put.result l.heads _ l.starts.items l.rests.items _ l.last.items c.as_bytes-2.result.now c.args.entry.now
+    (with_text c.head_of-head.result c.args.entry.now.target)
     c.self.invariant it c.put.ensures.heads c.put.ensures.rests)

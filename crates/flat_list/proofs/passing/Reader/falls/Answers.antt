@@ -10,7 +10,8 @@ use Rattle.flat_list.proofs.Passed.{step, rises_next}
 use Rattle.flat_list.proofs.passing.Reader.falls.Goals as goal
 
 pub slice_bounds-compare-end : goal.slice_bounds-compare-end
-slice_bounds-compare-end c = omega (arith, (step (with_text c.next.result.0 (option_map (λ t. t.now) c.next.result.1)) c.self.invariant c.next.ensures.next).room)
+slice_bounds-compare-end c =
+    omega (arith, (step (with_text c.next.result.0 (option_map (λ t. t.now) c.next.result.1)) c.self.invariant c.next.ensures.next).room)
 
 pub slice_bounds-compare-count-2 : goal.slice_bounds-compare-count-2
 slice_bounds-compare-count-2 c = omega (
