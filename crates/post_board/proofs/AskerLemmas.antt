@@ -12,7 +12,8 @@ use Rattle.ring_core.specs.declared.states.Token.{Token}
 use Rattle.post_board.specs.Plain.{plain, wants, no_rank, fresh_rank, told_of, shown_by, Fits, Noted}
 use Rattle.post_board.specs.declared.plain_seats.PlainSeat.{PlainSeat}
 use Rattle.post_board.proofs.PlainFrames.{told_place}
-use Rattle.post_board.proofs.PlainDeeds.{own_rest, serving_mail}
+use Rattle.post_board.proofs.PlainDeeds.{own_rest}
+use Rattle.post_board.proofs.PlainServing.{serving_mail}
 use Rattle.post_board.specs.declared.plain_ranks.PlainMailbox.TheVariants.{Rest, Wants}
 use Rattle.post_board.specs.declared.plain_ranks.PlainRank.{PlainRank}
 use Rattle.post_board.proofs.PlainStart.{read_of_copies}

@@ -4,6 +4,8 @@ pub mod WordLemmas
 pub mod BitLemmas
 pub mod PlainFrames
 pub mod PlainDeeds
+pub mod PlainToken
+pub mod PlainServing
 pub mod PlainStart
 pub mod AskerLemmas
 pub mod PlainHalts

@@ -1,7 +1,10 @@
 -- What seats of a plain board know of the halt and of the stops stays so, where a deed replaces ranks.
-use Rattle.std.proofs.Common.{◌≡◌, ℕ, ◌<◌, ◌≢◌, ⊎_elim, inr, refl, sym, subst, ap, ◌∙◌, arith, Bool, true, false, List, length, map, set, get_or}
+use Rattle.std.proofs.Common.{◌≡◌, ℕ, ◌<◌, ◌≢◌, ◌⊎◌, ⊎_elim, inr, refl, sym, subst, ap, ◌∙◌, arith, Bool, true, false, List, [], ◌∷◌, length, map, set, get_or}
 use Rattle.std.proofs.Common.{get_or-set_same, get_or-set_other, length-set, Option, Some, None}
-use Rattle.std.proofs.lemmas.List.{length-map, get_or_past}
+use Rattle.std.specs.List.{Contains}
+use Rattle.std.proofs.lemmas.List.{length-map, get_or_default, get_or_past}
+use Rattle.std.proofs.lemmas.List.Elements.{Contains-get_or}
+use Rattle.std.proofs.lemmas.List.Sorted.{Contains-permutation, IsPermutation-sym, length_permutation}
 use mathlib.Core.Logic.{dite}
 use native.Mathlib.Decide.{ℕ_discrete, dec_lt}
 use Rattle.ring_core.specs.declared.states.Token.{Token}
@@ -18,10 +21,7 @@ use Rattle.post_board.specs.declared.plain_ranks.PlainRank.{PlainRank}
 use Rattle.post_board.specs.declared.plain_seats.PlainSeat.{PlainSeat}
 use Rattle.post_board.proofs.PlainFrames.{After, told_place}
 use Rattle.post_board.proofs.PlainDeeds.{inside}
-
-not_true : (b : Bool) → (b ≡ true → ⊥) → b ≡ false
-not_true true f = absurd (f refl)
-not_true false f = refl
+use Rattle.post_board.proofs.PlainToken.{not_true}
 
 -- no deed that is an event looks at the words of the halt and the stops
 legal_worded : (me : ℕ) (d : Deed) (t : Told) (halter : Option ℕ) (stops : List Bool) → Legal me d t → Legal me d (worded halter stops t)
@@ -130,38 +130,69 @@ full_box (asked r) e = cc
 full_box (full r b) e = refl
 full_box (empty r) e = cc
 
--- once all ranks have ended or stopped, no batch is on the way
-pub none_left_over : (b : PlainBoard) (all : List PlainSeat) (d : PlainSeat) → 0 < length all → AllDone shown_by (Seats b) all → NoneOnTheWay (told_by b)
-none_left_over b all d some done r = dite (dec_lt r (length all))
-    (λ h. (let x = done r d h in
-    let s = get_or all r d in
-    let ranks = b.ranks.items in
-    let t : Told = told_of ranks b.token in
-    let at : place t r ≡ place_of (plain ranks r) = told_place ranks b.token r in
-    let number : s.number ≡ r = x.1 in
-    ⊎_elim
-    (λ ended. not_true (is_full (place t r).mail) (λ f.
-    (let over : b.token ≡ Over = x.0.0.1.sane.over s.number
-    (ap (λ (y : Place). y.ended) (told_place ranks b.token s.number) ∙ x.0.0.0.matches.3 ∙ ended) in
-    let quiet : PictureInvariant (length t.places) (picture t) Over = subst (PictureInvariant (length t.places) (picture t)) over x.0.0.1.token in
-    quiet r (subst (λ (j : ℕ). j < length t.places) number (inside ranks s.number x.0.0.0.inside), inr (full_box (place t r).mail f)))))
-    (λ stopped. (let gone = x.0.2.gone r (ap (λ (k : ℕ). get_or b.stops.items k false) (sym number) ∙ x.0.2.own ∙ stopped) in
-    ap (λ (y : Place). is_full y.mail) at ∙ ap (λ (m : PlainMailbox). is_full (mail_of m)) gone.1))
-    x.3))
-    (λ h. (let x = done 0 d some in
-    let size = x.0.0.0.sized in let n = x.2 in let many = length-map b.ranks.items place_of in
-    ap (λ (y : Place). is_full y.mail) (get_or_past (map place_of b.ranks.items) r no_place (omega arith))))
-
 some_is : (a : Option ℕ) → is_some a ≡ true → (r : ℕ) × (a ≡ Some r)
 some_is None e = cc
 some_is (Some r) e = (r, refl)
 
--- where a seat knows of a halt, the seat of who told it shows so
-pub halters_of : (b : PlainBoard) (all : List PlainSeat) → 0 < length all → AllDone shown_by (Seats b) all → Halters shown_by (Seats b) all
-halters_of b all some done k d h knows =
-    let x = done k d h in
-    let by = some_is b.halter (x.0.2.knows knows) in
-    let r = by.0 in
-    let below : r < length all = (let w = x.0.2.within r by.1 in let size = x.0.0.0.sized in let n = x.2 in omega arith) in
-    let y = done r d below in
-    (r, below, y.0.2.by (by.1 ∙ ap Some (sym y.1)))
+module _ (b : PlainBoard) (all : List PlainSeat) (done : AllDone shown_by (Seats b) all) where
+  -- what is asked of the seat of one rank
+  abbrev OfRank : ℕ → PlainSeat → Type 0
+  OfRank k s = Seats b s × (s.number ≡ k) × (s.n ≡ length done.ranks) × ((s.ended ≡ true) ⊎ (s.stopped ≡ true))
+      × ((r : ℕ) → get_or s.serves.items r false ≡ false)
+
+  rank_of : (s : PlainSeat) → Contains all s → (k : ℕ) × OfRank k s
+  rank_of s c = let (k, lt, at) = Contains-permutation all done.ranks s (IsPermutation-sym done.ranks all done.same) c in
+      (k, subst (OfRank k) at (done.by_number k s lt))
+
+  spare : (xs : List PlainSeat) → 0 < length xs → PlainSeat
+  spare [] h = absurd (omega arith)
+  spare (x ∷ xs) h = x
+
+  pub some_rank : 0 < length all → 0 < length b.ranks.items
+  some_rank some =
+      let as_many = length_permutation done.ranks all done.same in
+      let x = done.by_number 0 (spare all some) (omega arith) in
+      let inside = x.0.0.0.inside in omega arith
+
+  -- rank 0 saw the end where its seat shows so
+  pub over_is : (s : PlainSeat) → Contains all s → s.number ≡ 0 → (plain b.ranks.items 0).ended ≡ s.ended
+  over_is s c lowest = ap (λ (k : ℕ). (plain b.ranks.items k).ended) (sym lowest) ∙ (rank_of s c).1.0.0.0.matches.3
+
+  -- once all ranks have ended or stopped, no batch is on the way
+  pub none_left_over : 0 < length all → NoneOnTheWay (told_by b)
+  none_left_over some r = dite (dec_lt r (length done.ranks))
+      (λ h. (let x = done.by_number r d h in
+      let s = get_or done.ranks r d in
+      let ranks = b.ranks.items in
+      let t : Told = told_of ranks b.token in
+      let at : place t r ≡ place_of (plain ranks r) = told_place ranks b.token r in
+      let number : s.number ≡ r = x.1 in
+      ⊎_elim
+      (λ ended. not_true (is_full (place t r).mail) (λ f.
+      (let over : b.token ≡ Over = x.0.0.1.sane.over s.number
+      (ap (λ (y : Place). y.ended) (told_place ranks b.token s.number) ∙ x.0.0.0.matches.3 ∙ ended) in
+      let quiet : PictureInvariant (length t.places) (picture t) Over = subst (PictureInvariant (length t.places) (picture t)) over x.0.0.1.token in
+      quiet r (subst (λ (j : ℕ). j < length t.places) number (inside ranks s.number x.0.0.0.inside), inr (full_box (place t r).mail f)))))
+      (λ stopped. (let gone = x.0.2.gone r (ap (λ (k : ℕ). get_or b.stops.items k false) (sym number) ∙ x.0.2.own ∙ stopped) in
+      ap (λ (y : Place). is_full y.mail) at ∙ ap (λ (m : PlainMailbox). is_full (mail_of m)) gone.1))
+      x.3))
+      (λ h. (let as_many = length_permutation done.ranks all done.same in
+      let x = done.by_number 0 d (omega arith) in
+      let size = x.0.0.0.sized in let n = x.2 in let many = length-map b.ranks.items place_of in
+      ap (λ (y : Place). is_full y.mail) (get_or_past (map place_of b.ranks.items) r no_place (omega arith))))
+    where
+      d : PlainSeat
+      d = spare all some
+
+  -- where a seat knows of a halt, the seat of who told it shows so
+  pub halters_of : Halters shown_by (Seats b) all
+  halters_of k d h knows =
+      let of = (rank_of (get_or all k d) (Contains-get_or all k d h)).1 in
+      let seats = of.0 in
+      let n = of.2 in
+      let (r, by) = some_is b.halter (seats.2.knows knows) in
+      let below : r < length done.ranks = (let w = seats.2.within r by in let size = seats.0.0.sized in omega arith) in
+      let y = done.by_number r d below in
+      let (j, lt, at) = Contains-permutation done.ranks all (get_or done.ranks r d) done.same (Contains-get_or done.ranks r d below) in
+      let halted : (get_or done.ranks r d).halted ≡ true = y.0.2.by (by ∙ ap Some (sym y.1)) in
+      (j, lt, ap (λ (s : PlainSeat). s.halted) (get_or_default all j d (get_or done.ranks r d) lt ∙ at) ∙ halted)

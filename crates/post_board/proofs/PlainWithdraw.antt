@@ -11,7 +11,8 @@ use Rattle.post_board.specs.declared.plain_ranks.PlainRank.{PlainRank}
 use Rattle.post_board.specs.declared.plain_seats.PlainSeat.{PlainSeat}
 use Rattle.post_board.proofs.AskerLemmas.{noted_taken}
 use Rattle.post_board.proofs.LateDeeds.{sound_worded, late_sound}
-use Rattle.post_board.proofs.PlainDeeds.{acts, inside, mine, matching, mail_is, asked_is, unlike, wants_is}
+use Rattle.post_board.proofs.PlainDeeds.{acts, inside, mine, matching, mail_is, asked_is, unlike}
+use Rattle.post_board.proofs.PlainServing.{wants_is}
 use Rattle.post_board.proofs.PlainFrames.{told_put, told_place, Alike, frame}
 use Rattle.post_board.proofs.PlainHalts.{Keeps, keeps_put}
 

@@ -1,4 +1,4 @@
--- What a plain board tells of a seat's rank is what the seat shows: the law of the trait, for plain boards. Our own.
+-- A plain board tells of a seat's rank the facts that the seat shows: the law of the trait, for plain boards. Our own.
 use Rattle.std.specs.Prelude.{◌≡◌, ◌<◌, ℕ, Some}
 use Rattle.std.proofs.Common.{sym, subst, ap, ◌∙◌}
 use Rattle.std.proofs.lemmas.List.{length-map}

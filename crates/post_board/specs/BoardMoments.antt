@@ -1,5 +1,5 @@
--- What the rule of a board of atomic words says of every moment, between any two steps, in words that name no code of a word.
--- That nothing is left at the end is what EWD840 (Dijkstra, Feijen, van Gasteren) proves of its ring; the history of each two ranks is our own.
+-- The rule of a board of atomic words at every moment, between any two steps, without the codes of words.
+-- EWD840 (Dijkstra, Feijen, van Gasteren) proves of its ring that nothing is left at the end; the history of each two ranks is our own.
 use Rattle.std.specs.Prelude.{◌≡◌, ℕ, ◌<◌, false, List, []}
 use Rattle.post_board.specs.Shown.{Strings}
 use Rattle.post_board.specs.Told.{Told}

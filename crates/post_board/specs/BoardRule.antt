@@ -1,7 +1,7 @@
 -- The rule of a board of atomic words: all that holds between any two steps, whatever the threads do.
 -- A board has the words 0 (the ring, where the token lies), r + 1 (the mailbox of rank r), n + 1 (the halt) and n + 2 (the stops, one bit a
 -- rank), and the slot r, in which a batch for rank r waits.
--- Of each rank the rule speaks by what its seat knows (`Known`), which changes only at a step of that seat. The token, busy and colour are
+-- The rule speaks of each rank by the knowledge of its seat (`Known`), which changes only at a step of that seat. The token, busy and colour are
 -- EWD840's (Dijkstra, Feijen, van Gasteren); mailboxes, slots, halt and stops are our own.
 -- The rule has three parts: `MailboxFacts` (the words and slots of mailboxes, and the history of batches), `RingFacts` (the picture with
 -- the token) and `HaltFacts` (halt and stops).
@@ -24,7 +24,7 @@ use Rattle.post_board.specs.declared.board_views.View.{View}
 use Rattle.post_board.specs.declared.board_views.OwnMailbox.{OwnMailbox}
 use Rattle.post_board.specs.declared.board_views.OwnMailbox.TheVariants.{Resting, Open, Left, Filled, Emptied, Getting}
 
--- what a slot holds: a batch, or nothing
+-- the content of a slot: a batch, or nothing
 abbrev pub Parcel : Type 0
 Parcel = Option Strings
 
@@ -42,7 +42,7 @@ given v r = slice_index_or v.given r []
 abbrev pub taken : Known → ℕ → List Strings
 taken v r = slice_index_or v.taken r []
 
--- whom an open request went to
+-- the rank that an open request went to
 abbrev pub asked_of : OwnMailbox → Option ℕ
 asked_of Resting = None
 asked_of (Open v) = Some v
@@ -55,7 +55,7 @@ asked_of (Getting v) = Some v
 abbrev pub OpenFits : ℕ → Sign → Type 0
 OpenFits v d = (d ≡ asking v) ⊎ ((d ≡ serving v) ⊎ ((d ≡ full v) ⊎ (d ≡ emptied v)))
 
--- what a rank's seat knows of its own mailbox is so
+-- a rank's seat is right about its own mailbox
 abbrev pub OwnFits : OwnMailbox → Sign → Type 0
 OwnFits Resting d = d ≡ resting
 OwnFits (Open v) d = OpenFits v d
@@ -64,7 +64,7 @@ OwnFits (Filled v) d = d ≡ full v
 OwnFits (Emptied v) d = d ≡ emptied v
 OwnFits (Getting v) d = d ≡ fetching v
 
--- where the slot of a mailbox is: with the rank that serves it or that empties it, else at home, with a batch where the mailbox says so
+-- the place of a mailbox's slot: with the rank that serves or empties it, else at home, with a batch if the mailbox says so
 abbrev pub SlotFits : Sign → Core.Option Parcel → Type 0
 SlotFits (serving i) h = h ≡ none
 SlotFits (fetching i) h = h ≡ none
@@ -76,7 +76,7 @@ abbrev pub on_way : Sign → ℕ → Core.Option Parcel → List Strings
 on_way (full k) i (some (Some b)) = if k == i then b ∷ [] else []
 on_way _ i h = []
 
--- who was asked is another rank
+-- the asked rank is another one
 abbrev pub Away : ℕ → ℕ → OwnMailbox → Type 0
 Away n r o = (v : ℕ) → asked_of o ≡ Some v → (v < n) × (v ≢ r)
 
@@ -85,14 +85,14 @@ pub record MailboxFacts (n : ℕ) (known : ℕ → Known) (signs : ℕ → Sign)
   -- each seat knows its rank and the number of ranks, and keeps a list of that many
   pub named : (r : ℕ) → r < n → ((known r).number ≡ r) × ((known r).n ≡ n)
   pub sized : (r : ℕ) → r < n → (length (known r).serves ≡ n) × (length (known r).given ≡ n) × (length (known r).taken ≡ n)
-  -- what it knows of its own mailbox is so
+  -- it is right about its own mailbox
   pub own : (r : ℕ) → r < n → OwnFits (known r).own (signs r)
   pub away : (r : ℕ) → r < n → Away n r (known r).own
   pub held : (r : ℕ) → r < n → SlotFits (signs r) (slot r)
   -- a mailbox says that it is served exactly where one seat knows that it serves it
   pub served : (r k : ℕ) → r < n → k < n → signs r ≡ serving k → serves (known k) r ≡ true
   pub serving_is : (r k : ℕ) → r < n → k < n → serves (known k) r ≡ true → signs r ≡ serving k
-  -- what j took from i and what is on the way is what i gave to j
+  -- the batches that j took from i, with those on the way, are those that i gave to j
   pub paired : (i j : ℕ) → i < n → j < n → taken (known j) i ++ on_way (signs j) i (slot j) ≡ given (known i) j
 
 -- how a mailbox word reads in the picture; batches are left out
@@ -111,18 +111,18 @@ place_of v d = record { busy = v.busy; colour = v.colour; tried = v.tried; ended
 abbrev pub sheet : ℕ → (ℕ → Place) → Token → Told
 sheet n f token = record { places = map f (range_with_len 0 n); token = token; halt = false; stops = replicate n false }
 
--- the picture of a board: what its seats know, its mailboxes and its token
+-- the picture of a board: the knowledge of its seats, its mailboxes and its token
 abbrev pub told_of : ℕ → (ℕ → Known) → (ℕ → Sign) → Token → Told
 told_of n known signs token = sheet n (λ r. place_of (known r) (signs r)) token
 
--- the picture came about by legal deeds alone, and who knows the token here is right
+-- the picture came about by legal deeds alone, and a seat that knows the token here is right
 pub record RingFacts (n : ℕ) (known : ℕ → Known) (signs : ℕ → Sign) (token : Token) : Type 0 where
   pub reached : Reached n (told_of n known signs token)
   pub here : (r : ℕ) → r < n → HereFits (known r).here r token
 
 -- the facts of the halt and the stops
 pub record HaltFacts (n : ℕ) (known : ℕ → Known) (halt : Bool) (stops : ℕ → Bool) : Type 0 where
-  -- who told all to halt did so, and who knows that one did is right
+  -- if a rank told all to halt or knows of it, the halt is set, and one rank set it
   pub halted : (r : ℕ) → r < n → (known r).halted ≡ true → halt ≡ true
   pub knows : (r : ℕ) → r < n → (known r).knows_halt ≡ true → halt ≡ true
   pub by_one : halt ≡ true → (r : ℕ) × (r < n) × ((known r).halted ≡ true)
@@ -132,7 +132,7 @@ pub record HaltFacts (n : ℕ) (known : ℕ → Known) (halt : Bool) (stops : �
   -- a rank that has stopped has not ended, is at rest and serves nobody
   pub gone : (r : ℕ) → r < n → (known r).stopped ≡ true → ((known r).own ≡ Resting) × ((known r).ended ≡ false) × ((k : ℕ) → serves (known r) k ≡ false)
 
--- the mailbox word of a rank, and 0 where there is no such rank
+-- the mailbox word of a rank, and 0 if there is no such rank
 abbrev pub mailbox_word : ℕ → List ℕ → ℕ → ℕ
 mailbox_word n ws r = if nat_lt r n then slice_index ws (r + 1) else 0
 
@@ -152,13 +152,13 @@ halt_in n ws = slice_index ws (n + 1) == 1
 abbrev pub stops_in : ℕ → List ℕ → ℕ → Bool
 stops_in n ws r = has_bit (slice_index ws (n + 2)) r
 
--- all facts of the words, the slots at home, and what the seats know
+-- all facts of the words, the slots at home, and the knowledge of the seats
 pub record Moment (n : ℕ) (known : ℕ → Known) (ws : List ℕ) (hs : List (Core.Option Parcel)) : Type 0 where
   pub mailboxes : MailboxFacts n known (signs_in n ws) (slots_in hs)
   pub ring : RingFacts n known (signs_in n ws) (token_in ws)
   pub halt : HaltFacts n known (halt_in n ws) (stops_in n ws)
 
--- what the seat of the rank i knows at first, of n ranks
+-- the knowledge of the seat of the rank i at first, of n ranks
 abbrev pub fresh : ℕ → ℕ → Known
 fresh n i =
     record {
@@ -183,19 +183,19 @@ fresh n i =
 abbrev pub opened : ℕ → View
 opened n = record { made = 1; own = fresh n 0; kept = []; live = true }
 
--- a seat that was taken in: what it knew is what its rank knows, and it is spent
+-- a seat that was taken in: its rank keeps its knowledge, and the seat is spent
 abbrev pub KeptIn : ℕ → (ℕ → Known) → List View → Known → Type 0
 KeptIn n known views x = (x.number < n) × (known x.number ≡ x) × ((u : View) × (get_elem? views x.number ≡ some u) × (u.live ≡ false))
 
 -- the rule
 pub record Rule (n : ℕ) (s : TableState) : Type 0 where
-  -- what the seat of each rank knows; a rank whose seat is not made yet knows what a fresh one does
+  -- the knowledge of each rank's seat; a rank whose seat is not made yet has the knowledge of a fresh one
   pub known : ℕ → Known
   pub few : n ≤ 64
   pub wide : length s.words ≡ n + 3
   pub slots : length s.homes ≡ n
   pub seated : (k : ℕ) (v : View) → get_elem? s.views k ≡ some v → v.live ≡ true → (k < n) × (known k ≡ v.own)
-  -- what a seat took in is what that rank still knows, and its own seat is spent
+  -- the knowledge that a seat took in is still that of its rank, whose own seat is spent
   pub kept : (k : ℕ) (v : View) → get_elem? s.views k ≡ some v → All (KeptIn n known s.views) v.kept
   -- the first seat alone can make others, and has made all that there are
   pub dealt : (k : ℕ) (v : View) → get_elem? s.views k ≡ some v → (v.made ≡ 0) ⊎ ((k ≡ 0) × (v.made ≡ length s.views))

@@ -1,5 +1,5 @@
--- Which seats are a board's own, and what they show: the seat of `Post` for `&Board`. Our own.
-use Rattle.std.specs.Prelude.{◌≡◌, ℕ, ◌<◌, ◌≤◌, [], replicate, map, length, sum_by, true, false, Bool, Option, Some, None}
+-- Which seats are a board's own, and the facts that they show: the seat of `Post` for `&Board`. Our own.
+use Rattle.std.specs.Prelude.{◌≡◌, ℕ, ◌<◌, ◌≤◌, ◌==◌, if◌then◌else◌, [], replicate, map, length, sum_by, true, false, Bool, Option, Some, None}
 use Rattle.std.specs.List.{Contains}
 use Rattle.std.proofs.Common.{deque_capacity}
 use Rattle.post_board.specs.Shown.{Batches, Shown}
@@ -10,7 +10,7 @@ use Rattle.post_board.specs.declared.board_views.OwnMailbox.TheVariants.{Resting
 use Rattle.post_board.specs.declared.boards.Board.{Board}
 use Rattle.post_board.specs.declared.boards.BoardSeat.{BoardSeat}
 
--- what a seat shows of what it knows
+-- the facts that a seat shows of its knowledge
 abbrev pub shown_known : Known → Shown
 shown_known v =
     record {
@@ -36,12 +36,12 @@ abbrev pub one_if : Bool → ℕ
 one_if true = 1
 one_if false = 0
 
--- what a seat knows of its own mailbox between two calls
+-- the knowledge of a seat about its own mailbox between two calls
 abbrev pub own_by : Option ℕ → OwnMailbox
 own_by None = Resting
 own_by (Some v) = Open v
 
--- the seat is one of this board's, and its fields are what its view knows
+-- the seat is one of this board's, and its fields are the knowledge in its view
 pub record IsSeat (b : Board) (s : BoardSeat) : Type 0 where
   pub table : s.seat.table_id ≡ b.table.shared.table_id
   pub number : s.seat.me.0.own.number ≡ s.number
@@ -69,3 +69,7 @@ IsUnread s = s.seat.me.0.own.readings ≡ []
 -- the lists of a seat that gave nothing and took nothing
 abbrev pub unused : ℕ → Batches
 unused n = record { given = replicate n []; taken = replicate n [] }
+
+-- whether rank 0 saw the end, once its seat has come: as this seat says, if it is rank 0's, else as was known
+abbrev pub first_ended : ℕ → Bool → Bool → Bool
+first_ended number ended over = if number == 0 then ended else over

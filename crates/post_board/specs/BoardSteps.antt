@@ -1,5 +1,5 @@
--- What each step of a board of atomic words tells the call that makes it: of the step, the seat before, the number found and the seat
--- after. Our own. Private clauses alone cite this, and `LateSteps`.
+-- The facts that each step of a board of atomic words gives the call that makes it: of the step, the seat before, the number found and the
+-- seat after. Our own. Private clauses alone cite this, and `LateSteps`.
 use Rattle.std.specs.Prelude.{All, ◌≡◌, ◌≢◌, ℕ, ◌-◌, ◌<◌, ◌⊎◌, ◌==◌, nat_lt, Bool, true, false, if◌then◌else◌, List, [], ◌∷◌, ◌++◌, slice_set, Some, None}
 use Rattle.atomic_table.specs.Table.{Me, Step, rest}
 use Rattle.ring_core.specs.World.{is_over}
@@ -16,7 +16,7 @@ use Rattle.post_board.specs.declared.board_views.View.{View}
 use Rattle.post_board.specs.declared.board_views.OwnMailbox.{OwnMailbox}
 use Rattle.post_board.specs.declared.board_views.OwnMailbox.TheVariants.{Resting, Open, Filled, Emptied, Getting}
 
--- what a seat knows, and the slots that it holds, the one that it took last in front
+-- the knowledge of a seat, and the slots that it holds, the one that it took last in front
 abbrev pub SeatState : Type 0
 SeatState = Me Parcel View
 
@@ -58,7 +58,7 @@ after_look v word found = record (noted v word found found) { own = learn v.own 
 abbrev pub LookTells : Telling
 LookTells st m r n = OwnFits m.0.own.own (sign r) × (n ≡ knowing m (after_look m.0.own st.word r))
 
--- take up: a compare_exchange of another mailbox; where it fails, a look
+-- take up: a compare_exchange of another mailbox; if it fails, a look
 abbrev pub after_taking : Known → ℕ → ℕ → ℕ → Known
 after_taking v asker word found = record (noted v word found (word_of (serving v.number))) { serves = slice_set v.serves asker true }
 
@@ -67,7 +67,7 @@ TakeUpTells st m r n =
     (r ≡ st.first → (serves m.0.own (st.word - 1) ≡ false) × (n ≡ (knows m.0 (after_taking m.0.own (st.word - 1) st.word r), (st.word - 1, None) ∷ m.1)))
     × (r ≢ st.first → n ≡ knowing m (noted m.0.own st.word r r))
 
--- a look at the mailbox of another rank: a load, noted where it does not ask this rank
+-- a look at the mailbox of another rank: a load, noted if it does not ask this rank
 abbrev pub ScanTells : Telling
 ScanTells st m r n =
     (r ≡ word_of (asking m.0.own.number) → n ≡ m)
@@ -152,11 +152,11 @@ after_conclude v found left = record (noted v 0 found left) { here = None; ended
 abbrev pub ConcludeTells : Telling
 ConcludeTells st m r n = ((c : Colour) → m.0.own.here ≡ Some c → token_read r ≡ At m.0.own.number c) × (n ≡ knowing m (after_conclude m.0.own r st.first))
 
--- the last look: what the kept seats took from one another is what they gave, where each has ended or stopped
+-- the last look: if each kept seat has ended or stopped, they took from one another the batches that they gave
 abbrev pub Squares : View → Type 0
 Squares v = All (λ x. All (λ y. taken y x.number ≡ given x y.number) (v.own ∷ v.kept)) (v.own ∷ v.kept)
 
--- and where one knows of the halt, the rank of some number has halted
+-- and if one knows of the halt, the rank of some number has halted
 abbrev pub Halters : View → Type 0
 Halters v = All (λ x. x.knows_halt ≡ true → (r : ℕ) × (r < v.own.n) × All (λ y. y.number ≡ r → y.halted ≡ true) (v.own ∷ v.kept)) (v.own ∷ v.kept)
 

@@ -1,4 +1,4 @@
--- What each step on a board of atomic words makes of its picture: one deed of the rank whose seat steps, or nothing. A record has the steps on
+-- Each step on a board of atomic words changes its picture by one deed of the rank whose seat steps, or not at all. A record has the steps on
 -- mailboxes, one those on the ring, and one those by which ranks halt and stop. Deeds are EWD840's (Dijkstra, Feijen, van Gasteren), and our own.
 use Rattle.std.specs.Prelude.{◌≡◌, ◌≢◌, ℕ, ◌-◌, ◌<◌, ◌⊎◌, Bool, true, false, [], Some}
 use Rattle.ring_core.specs.Picture.{put}
@@ -19,25 +19,25 @@ use Rattle.post_board.specs.LateSteps.{after_halt, halt_seen, after_stop, after_
 use Rattle.post_board.specs.declared.board_views.Known.{Known}
 use Rattle.post_board.specs.declared.board_views.OwnMailbox.TheVariants.{Resting, Left, Filled, Emptied, Getting}
 
--- A step of the seat of the rank `id`, where the rule holds. The seat comes to know something more, and a word changes or none does.
+-- A step of the seat of the rank `id` under the rule. The seat learns something, and a word changes or none does.
 module _ (n : ℕ) (s : TableState) (o : Rule n s) (id : ℕ) where
-  -- what the seat knows before the step
+  -- the knowledge of the seat before the step
   abbrev pub own : Known
   own = o.known id
 
-  -- the mailboxes, of which that of the rank r says d then
+  -- the mailboxes, if that of the rank r says d then
   abbrev pub signs_but : ℕ → Sign → ℕ → Sign
   signs_but r d = put (signs_in n s.words) r d
 
-  -- the picture, where the seat knows w then
+  -- the picture, if the seat knows w then
   abbrev pub told_with : Known → (ℕ → Sign) → Token → Told
   told_with w signs token = told_of n (put o.known id w) signs token
 
-  -- the step is this deed: it may be done, and leaves what the deed leaves
+  -- the step is this deed: it may be done, and leaves the picture that the deed leaves
   abbrev pub IsDeed : Deed → Known → (ℕ → Sign) → Token → Type 0
   IsDeed deed w signs token = Legal id deed (told_at n s o) × (told_after id deed (told_at n s o) ≡ told_with w signs token)
 
-  -- the step is no deed: the picture is as before
+  -- the step is not a deed: the picture is as before
   abbrev pub IsNone : Known → (ℕ → Sign) → Type 0
   IsNone w signs = told_with w signs (token_in s.words) ≡ told_at n s o
 
@@ -75,7 +75,7 @@ pub record RingTurns (n : ℕ) (s : TableState) (o : Rule n s) (id : ℕ) : Type
       → (own n s o id).here ≡ Some White → id ≡ 0 → (own n s o id).colour ≡ White
       → IsDeed n s o id conclude (after_conclude (own n s o id) found left) (signs_in n s.words) Over
 
--- the steps by which ranks halt and stop. A request that is taken back from a rank that has stopped is no deed of EWD840's: it leaves the asker
+-- the steps by which ranks halt and stop. A request that is taken back from a rank that has stopped is not a deed of EWD840's: it leaves the asker
 -- as a refusal would
 pub record HaltTurns (n : ℕ) (s : TableState) (o : Rule n s) (id : ℕ) : Type 0 where
   pub halts : (word found : ℕ) → IsNone n s o id (after_halt (own n s o id) word found) (signs_in n s.words)

@@ -1,4 +1,4 @@
--- What the calls of a board of atomic words do within themselves. Our own. Private clauses alone cite this.
+-- The inner parts of the calls of a board of atomic words. Our own. Private clauses alone cite this.
 use Rattle.std.specs.Prelude.{◌≡◌, ◌≢◌, ℕ, ◌+◌, ◌<◌, ◌⊎◌, ◌==◌, if◌then◌else◌, ◌∷◌, map, length, true, false, Some, None}
 use Rattle.std.specs.List.{Contains}
 use Rattle.std.proofs.Common.{deque_capacity}
@@ -27,7 +27,7 @@ pub record Mine (b : Board) (id : TableId) (m : SeatState) (me : ℕ) : Type 0 w
   pub inside : me < b.n
   pub going : Going m
 
--- what the token in the ring word says to the rank me
+-- the meaning of the token in the ring word for the rank me
 abbrev pub ring_read : Token → ℕ → Ring
 ring_read Over me = HeardOver
 ring_read (At p c) me = if p == me then Here c else Elsewhere
@@ -39,7 +39,7 @@ Heard me Elsewhere token halt = (is_at (token_read token) me ≡ false) × (is_o
 Heard me (Here c) token halt = (token_read token ≡ At me c) × (halt ≢ 1)
 Heard me Halted token halt = (is_over (token_read token) ≡ false) × (halt ≡ 1)
 
--- what its seat knows then
+-- the knowledge of its seat then
 abbrev pub after_hearing : ℕ → Known → Ring → ℕ → ℕ → Known
 after_hearing n v HeardOver token halt = record (noted v 0 token token) { here = None; ended = true }
 after_hearing n v Elsewhere token halt = record (noted (noted v 0 token token) (n + 1) halt halt) { here = None }
@@ -63,7 +63,7 @@ Replied v Full stops word = sign word ≡ full v
 Replied v Refused stops word = sign word ≡ emptied v
 Replied v Withdrawn stops word = (has_bit stops v ≡ true) × (sign word ≡ asking v)
 
--- what the seat of the rank me knows then
+-- the knowledge of the seat of the rank me then
 abbrev pub after_finding : ℕ → ℕ → ℕ → Known → Reply → ℕ → ℕ → Known
 after_finding n me v k Waiting stops word = noted (noted k (n + 2) stops stops) (me + 1) word word
 after_finding n me v k Full stops word = record (noted (noted k (n + 2) stops stops) (me + 1) word word) { own = Filled v }
@@ -77,7 +77,7 @@ pub record Finds (n me v : ℕ) (m : SeatState) (reply : Reply) (m' : SeatState)
   pub replied : Replied v reply stops word
   pub after : m' ≡ knowing m (after_finding n me v m.0.own reply stops word)
 
--- the slot of a rank that is served is in front, and no more in the list
+-- the slot of a rank that is served is in front, and no longer in the list
 pub record Fronted (s : BoardSeat) (to : ℕ) (s' : BoardSeat) : Type 0 where
   pub table : s'.seat.table_id ≡ s.seat.table_id
   pub view : s'.seat.me.0 ≡ s.seat.me.0

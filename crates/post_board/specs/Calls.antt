@@ -1,5 +1,7 @@
--- What each call of a board leaves of its seat, and what it tells. Our own.
+-- The seat after each call of a board, and the facts that the call gives. Our own.
 use Rattle.std.specs.Prelude.{◌≡◌, ◌≢◌, ℕ, ◌<◌, ◌⊎◌, nat_lt, true, false, if◌then◌else◌, List, length, [], slice_set, slice_index_or, Option, Some, None}
+use Rattle.std.specs.List.{Contains}
+use Rattle.std.specs.List.Sorted.{IsPermutation}
 use Rattle.ring_core.specs.World.{is_over}
 use Rattle.ring_core.specs.Step.{is_at}
 use Rattle.ring_core.specs.declared.states.Colour.TheVariants.{White, Black}
@@ -30,7 +32,7 @@ abbrev pub serving : Shown → Option ℕ → Shown
 serving s None = s
 serving s (Some r) = record s { serves = slice_set s.serves r true }
 
--- of the first k ranks none asks this one, save those that it serves already
+-- of the first k ranks none asks this one, except those that it serves already
 abbrev pub NoneAsks : Shown → ℕ → Told → Type 0
 NoneAsks s k t = (r : ℕ) → r < k → r ≢ s.number → (place t r).mail ≡ asked s.number → is_served s r ≡ true
 
@@ -79,28 +81,34 @@ stopping s = record s { stopped = true }
 abbrev pub NoneOnTheWay : Told → Type 0
 NoneOnTheWay t = (r : ℕ) → is_full (place t r).mail ≡ false
 
--- what j took from i is what i gave to j
+-- the batches that j took from i are those that i gave to j
 abbrev pub Even : Option Batches → ℕ → Option Batches → ℕ → Type 0
 Even (Some x) i (Some y) j = slice_index_or y.taken i [] ≡ slice_index_or x.given j []
 Even _ i _ j = Unit {0}
 
 module _ {S : Type 0} (shows : S → Shown) (seats : S → Type 0) where
-  -- the seats of all ranks, in ascending number, each ended or stopped, and serving nobody
-  abbrev pub AllDone : List S → Type 0
-  AllDone all = (k : ℕ) (d : S) → k < length all → let s = shows (slice_index_or all k d) in
-      seats (slice_index_or all k d) × (s.number ≡ k) × (s.n ≡ length all) × ((s.ended ≡ true) ⊎ (s.stopped ≡ true)) × ((r : ℕ) → is_served s r ≡ false)
+  -- the seats of all ranks by their numbers, each ended or stopped, and serving nobody
+  abbrev pub ByNumber : List S → Type 0
+  ByNumber ranks = (k : ℕ) (d : S) → k < length ranks → let s = shows (slice_index_or ranks k d) in
+      seats (slice_index_or ranks k d) × (s.number ≡ k) × (s.n ≡ length ranks) × ((s.ended ≡ true) ⊎ (s.stopped ≡ true))
+      × ((r : ℕ) → is_served s r ≡ false)
 
-  -- for each two ranks, what one took from the other is what that one gave
+  -- the same seats in any order
+  pub record AllDone (all : List S) : Type 0 where
+    pub ranks : List S
+    pub by_number : ByNumber ranks
+    pub same : IsPermutation ranks all
+
+  -- for each two seats, the batches that one rank took from the other are those that the other gave
   abbrev pub AllEven : List S → Type 0
-  AllEven all = (i j : ℕ) (d : S) → i < length all → j < length all
-      → Even (shows (slice_index_or all i d)).batches i (shows (slice_index_or all j d)).batches j
+  AllEven all = (x y : S) → Contains all x → Contains all y → Even (shows x).batches (shows x).number (shows y).batches (shows y).number
 
-  -- where one knows that all are to halt, one told them so
+  -- if one knows that all are to halt, one told them so
   abbrev pub Halters : List S → Type 0
   Halters all = (k : ℕ) (d : S) → k < length all → (shows (slice_index_or all k d)).knows_halt ≡ true
       → (j : ℕ) × (j < length all) × ((shows (slice_index_or all j d)).halted ≡ true)
 
--- what is told of the seat's rank is what the seat shows
+-- the board tells of the seat's rank the facts that the seat shows
 pub record Agrees (t : Told) (s : Shown) : Type 0 where
   pub ranks : length t.places ≡ s.n
   pub within : s.number < length t.places

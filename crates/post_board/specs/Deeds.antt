@@ -1,4 +1,4 @@
--- What a rank does to a board by a call, as an event of the ranks' world, with the batch that goes with it.
+-- A rank's call on a board as an event of the ranks' world, with the batch that goes with it.
 -- Passing, restarting, concluding and blackening are EWD840's (Dijkstra, Feijen, van Gasteren); asking and giving through mailboxes are our
 -- own, after libcircle's work stealing.
 use Rattle.std.specs.Prelude.{◌≡◌, ◌≢◌, ℕ, ◌-◌, ◌<◌, ◌⊎◌, nat_lt, true, false, if◌then◌else◌, length, slice_set, Option, Some, None}
@@ -38,7 +38,7 @@ event_of me see_over = SeeOver me
 abbrev pub blackened : Place → ℕ → ℕ → Place
 blackened x me to = record x { colour = (if nat_lt me to then Black else x.colour) }
 
--- what a deed leaves
+-- the told picture after a deed
 abbrev pub told_after : ℕ → Deed → Told → Told
 told_after me (ask victim) t = put_place t me (record (place t me) { busy = false; mail = asked victim })
 told_after me (give to batch) t = put_place (put_place t me (blackened (place t me) me to)) to (record (place t to) { mail = full me batch })
@@ -50,14 +50,14 @@ told_after me restart t = record (put_place t me (record (place t me) { busy = f
 told_after me conclude t = record (put_place t me (record (place t me) { ended = true })) { token = Over }
 told_after me see_over t = put_place t me (record (place t me) { ended = true })
 
--- the rank is one of those that are told, and has not ended
+-- the rank is one of the told ones, and has not ended
 abbrev pub Acts : ℕ → Told → Type 0
 Acts me t = (me < length t.places) × ((place t me).ended ≡ false)
 
 abbrev pub Other : ℕ → ℕ → Told → Type 0
 Other me r t = (r < length t.places) × (me ≢ r)
 
--- where a deed may be done
+-- when a deed may be done
 abbrev pub Legal : ℕ → Deed → Told → Type 0
 Legal me (ask victim) t = Acts me t × Other me victim t × ((place t me).mail ≡ vacant)
 Legal me (give to batch) t = Acts me t × Other me to t × ((place t me).busy ≡ true) × ((place t to).mail ≡ asked me)
@@ -75,12 +75,12 @@ Legal me conclude t =
     × ((length t.places ≡ 1) ⊎ ((place t me).tried ≡ true))
 Legal me see_over t = Acts me t × (t.token ≡ Over)
 
--- a board that tells its places tells them after the deed too, which was legal; one that tells none goes on so
+-- a board that tells its places tells them after the deed too, which was legal; one that tells none still tells none
 abbrev pub Tells : ℕ → Deed → Option Told → Option Told → Type 0
 Tells me deed None after = after ≡ None
 Tells me deed (Some t) after = Legal me deed t × (after ≡ Some (told_after me deed t))
 
--- nothing that is told changes, and this holds of it
+-- the told picture stays the same, and P holds of it
 abbrev pub Stays : (Told → Type 0) → Option Told → Option Told → Type 0
 Stays P None after = after ≡ None
 Stays P (Some t) after = P t × (after ≡ Some t)
@@ -91,23 +91,23 @@ DeedsAreEvents =
     (me : ℕ) (deed : Deed) (t : Told) → Legal me deed t
     → Happens (length t.places) (picture t) t.token (event_of me deed) (picture (told_after me deed t)) (told_after me deed t).token
 
--- a legal deed keeps what is true of all that is told, the token invariant among it
+-- a legal deed keeps all facts of a sound picture, the token invariant among them
 abbrev pub DeedsKeepSound : Type 0
 DeedsKeepSound = (me : ℕ) (deed : Deed) (t : Told) → Legal me deed t → Sound t → Sound (told_after me deed t)
 
--- what a rank does that is no event of EWD840: it takes its request back from a rank that has stopped, tells all to halt, stops. Our own.
+-- calls that are not events of EWD840: a rank takes its request back from a rank that has stopped, tells all to halt, or stops. Our own.
 pub data Late : Type 0 where
   withdraw : ℕ → Late
   halt : Late
   stop : Late
 
--- what it leaves
+-- the told picture after it
 abbrev pub told_late : ℕ → Late → Told → Told
 told_late me (withdraw from) t = put_place t me (record (place t me) { tried = true; mail = vacant })
 told_late me halt t = record t { halt = true }
 told_late me stop t = record t { stops = slice_set t.stops me true }
 
--- where it may be done: a rank that has stopped has not ended
+-- when it may be done: a rank that has stopped has not ended
 abbrev pub LegalLate : ℕ → Late → Told → Type 0
 LegalLate me (withdraw from) t =
     Acts me t × Other me from t × ((place t me).mail ≡ asked from) × (is_stopped t from ≡ true) × ((place t from).ended ≡ false)
@@ -119,6 +119,6 @@ abbrev pub TellsLate : ℕ → Late → Option Told → Option Told → Type 0
 TellsLate me late None after = after ≡ None
 TellsLate me late (Some t) after = LegalLate me late t × (after ≡ Some (told_late me late t))
 
--- where it is legal, it keeps what is true of all that is told, the token invariant among it
+-- if it is legal, it keeps all facts of a sound picture, the token invariant among them
 abbrev pub LateKeepsSound : Type 0
 LateKeepsSound = (me : ℕ) (late : Late) (t : Told) → LegalLate me late t → Sound t → Sound (told_late me late t)

@@ -6,7 +6,7 @@ use Rattle.ring_core.specs.declared.states.Token.TheVariants.{At}
 use Rattle.post_board.specs.Shown.{Batches, Shown}
 use Rattle.post_board.specs.Told.{vacant, Place, Told}
 
--- what the seat of the rank k shows at first, of n ranks
+-- the facts that the seat of the rank k shows at first, of n ranks
 abbrev pub fresh : ℕ → ℕ → Option Batches → Shown
 fresh n k batches =
     record {
@@ -28,7 +28,7 @@ fresh n k batches =
 abbrev pub fresh_place : Place
 fresh_place = record { busy = true; colour = White; tried = false; ended = false; mail = vacant }
 
--- what a board of n ranks tells at first
+-- the picture that a board of n ranks tells at first
 abbrev pub fresh_told : ℕ → Told
 fresh_told n = record { places = replicate n fresh_place; token = At 0 Black; halt = false; stops = replicate n false }
 

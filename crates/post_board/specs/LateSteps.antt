@@ -1,5 +1,5 @@
--- The steps by which all ranks are told to halt and a rank stops, and those by which ranks read that, and one that waits for a rank that
--- has stopped takes its request back. Our own.
+-- The steps by which a rank tells all to halt or stops, those by which ranks read that, and the step by which a rank takes its request back
+-- from a rank that has stopped. Our own.
 use Rattle.std.specs.Prelude.{◌≡◌, ◌≢◌, ℕ, ◌+◌, ◌^◌, ◌<◌, ◌⊎◌, ◌==◌, Bool, true, false, if◌then◌else◌, bit_or, None}
 use prog.Atomic.{either}
 use mathlib.Core.Option.{none}
@@ -18,7 +18,7 @@ after_halt v word found = record (noted v word found 1) { halted = true }
 abbrev pub SetHaltTells : Telling
 SetHaltTells st m r n = n ≡ knowing m (after_halt m.0.own st.word r)
 
--- load halt: who reads it set forgets the token
+-- load halt: a rank that reads it set forgets the token
 abbrev pub halt_seen : Known → Bool → Known
 halt_seen v true = record v { knows_halt = true; here = None }
 halt_seen v false = v
@@ -44,13 +44,13 @@ after_stops v word found = record (noted v word found found) { own = stop_seen v
 abbrev pub LoadStopsTells : Telling
 LoadStopsTells st m r n = (n ≡ knowing m (after_stops m.0.own st.word r)) × ((v : ℕ) → m.0.own.own ≡ Open v → v < m.0.own.n)
 
--- withdraw: a compare_exchange of the own mailbox; where it fails, a look, which read full or empty
+-- withdraw: a compare_exchange of the own mailbox; if it fails, a look, which read full or emptied
 abbrev pub WithdrawTells : Telling
 WithdrawTells st m r n = (v : ℕ) → m.0.own.own ≡ Left v
     → (r ≡ st.first → n ≡ knowing m (after_rest m.0.own st.word r true))
     × (r ≢ st.first → ((sign r ≡ full v) ⊎ (sign r ≡ emptied v)) × (n ≡ knowing m (after_look m.0.own st.word r)))
 
--- each keeps the rule, and tells what stands above
+-- each keeps the rule, and gives the facts above
 abbrev pub SetHaltKeeps : Type 0
 SetHaltKeeps = (n slots id : ℕ) (m : SeatState) → Going m
     → Allows (Rule n) slots id m (n + 1) (λ _. 1) (SetHaltTells (step slots (n + 1) 1 0 none) m)

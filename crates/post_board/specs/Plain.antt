@@ -1,4 +1,4 @@
--- A plain board: what it tells, what its seats show, and which seats are its own. Our own.
+-- A plain board: the picture that it tells, the facts that its seats show, and which seats are its own. Our own.
 use Rattle.std.specs.Prelude.{◌≡◌, ◌≢◌, ℕ, ◌<◌, ◌≤◌, ◌==◌, Bool, true, false, List, length, map, slice_index_or, replicate, Option, Some, None}
 use Rattle.ring_core.specs.declared.states.Colour.{Colour}
 use Rattle.ring_core.specs.declared.states.Colour.TheVariants.{White, Black}
@@ -13,7 +13,7 @@ use Rattle.post_board.specs.declared.plain_ranks.PlainRank.{PlainRank}
 use Rattle.post_board.specs.declared.plain_seats.PlainSeat.{PlainSeat}
 use Rattle.post_board.specs.declared.plain_boards.PlainBoard.{PlainBoard}
 
--- whether the request was taken up is not told
+-- a board does not tell whether the request was taken up
 abbrev pub mail_of : PlainMailbox → Mail
 mail_of Rest = vacant
 mail_of (Wants r) = asked r
@@ -31,7 +31,7 @@ abbrev pub is_some : Option ℕ → Bool
 is_some None = false
 is_some (Some r) = true
 
--- the same with who told all to halt, and who has stopped
+-- the same with the rank that told all to halt, and the ranks that have stopped
 abbrev pub worded : Option ℕ → List Bool → Told → Told
 worded halter stops t = record t { halt = is_some halter; stops = stops }
 
@@ -53,7 +53,7 @@ abbrev pub wants : PlainMailbox → ℕ → Bool
 wants (Wants r) of = r == of
 wants _ of = false
 
--- black where there is no token any more
+-- black if there is no token any more
 abbrev pub token_colour : Token → Colour
 token_colour (At r colour) = colour
 token_colour Over = Black
@@ -76,7 +76,7 @@ shown_by s =
       batches = None;
     }
 
--- what a seat knows of its own mailbox is so
+-- a seat is right about its own mailbox
 abbrev pub OwnFits : Option ℕ → PlainMailbox → Type 0
 OwnFits None m = m ≡ Rest
 OwnFits (Some v) Rest = ⊥
@@ -85,7 +85,7 @@ OwnFits (Some v) (Served r) = r ≡ v
 OwnFits (Some v) (Holds r batch) = r ≡ v
 OwnFits (Some v) (Refused r) = r ≡ v
 
--- what it knows of the token is so
+-- it is right about the token
 abbrev pub HereFits : Option Colour → ℕ → Token → Type 0
 HereFits None r token = Unit {0}
 HereFits (Some c) r token = token ≡ At r c
@@ -93,7 +93,7 @@ HereFits (Some c) r token = token ≡ At r c
 abbrev pub Match : PlainRank → PlainSeat → Type 0
 Match x s = (x.busy ≡ s.busy) × (x.colour ≡ s.colour) × (x.tried ≡ s.tried) × (x.ended ≡ s.ended) × OwnFits s.asked x.mailbox
 
--- all that a seat knows is so
+-- all knowledge of a seat is right
 pub record Fits (ranks : List PlainRank) (token : Token) (s : PlainSeat) : Type 0 where
   pub inside : s.number < length ranks
   pub sized : s.n ≡ length ranks
@@ -118,7 +118,7 @@ IsSeat ranks token s = Fits ranks token s × Sound (told_of ranks token)
 abbrev pub Gone : List PlainRank → ℕ → Type 0
 Gone ranks r = ((plain ranks r).ended ≡ false) × ((plain ranks r).mailbox ≡ Rest) × ((k : ℕ) → (plain ranks k).mailbox ≢ Served r)
 
--- what a seat knows of the halt and of its stop is so
+-- a seat is right about the halt and its stop
 pub record HaltFits (halter : Option ℕ) (stops : List Bool) (ranks : List PlainRank) (s : PlainSeat) : Type 0 where
   pub many : length stops ≡ length ranks
   pub own : slice_index_or stops s.number false ≡ s.stopped

@@ -1,4 +1,4 @@
--- What legal deeds lead to from the start of a board, one after the other. Our own, after the runs of events of the crate ring_core.
+-- The pictures that legal deeds lead to from the start of a board. Our own, after the runs of events of the crate ring_core.
 use Rattle.std.specs.Prelude.{ℕ}
 use Rattle.post_board.specs.Told.{Told}
 use Rattle.post_board.specs.Deeds.{Deed, Legal, told_after}

@@ -1,4 +1,4 @@
--- The steps that each call makes on the words of a board, where a seat tells them. Our own.
+-- The steps that each call makes on the words of a board, if a seat tells them. Our own.
 use Rattle.std.specs.Prelude.{All, ◌≡◌, ◌≢◌, ℕ, zero, suc, ◌+◌, ◌^◌, ◌==◌, ◌⊎◌, true, false, if◌then◌else◌, List, map, [], ◌∷◌, ◌++◌, bit_or}
 use Rattle.std.specs.Prelude.{Option, Some, None}
 use Rattle.ring_core.specs.World.{is_over}
@@ -16,7 +16,7 @@ use Rattle.post_board.specs.declared.answers.Reading.{Reading}
 abbrev pub Steps : Type 1
 Steps = List Reading → Type 0
 
--- a seat that tells its steps tells these more; one that tells none goes on so
+-- a seat that tells its steps tells these more; one that tells none still tells none
 abbrev pub Adds : Option (List Reading) → Steps → Option (List Reading) → Type 0
 Adds None P after = after ≡ None
 Adds (Some old) P after = (more : List Reading) × P more × (after ≡ Some (old ++ more))
@@ -47,9 +47,9 @@ Four P Q R S steps = (x y z u : Reading) × P x × Q y × R z × S u × (steps �
 abbrev pub AskSteps : Shown → ℕ → Steps
 AskSteps s victim = One (Step (s.number + 1) (Is resting) (Is (asking victim)))
 
--- First the word of the stops is read, so that no answer can come any more where the bit of the rank that was asked is set. Then the own
--- mailbox: still asked or taken up, where that bit was not set; refused and put to rest, or, where it was set, taken back in one step that
--- found it asked still; filled, fetched and put to rest, whether it was set or not.
+-- First the word of the stops is read: if the bit of the asked rank is set, no answer can come any more. Then the own mailbox. It still asks
+-- or is taken up, if that bit was not set. Or it was refused and is put to rest. Or, if the bit was set, it is taken back in one step that
+-- found it still asking. Or it was filled, is fetched and put to rest, whether the bit was set or not.
 abbrev pub AnswerSteps : Shown → Answer → Steps
 AnswerSteps s Pending steps =
     Two (Read (s.n + 2) (λ w. has_bit w (victim_of s) ≡ false))

@@ -1,4 +1,4 @@
--- What a seat shows: what a rank knows of itself and of its mailbox. Busy and colour are EWD840's (Dijkstra, Feijen, van Gasteren); the rest is our own.
+-- The facts that a seat shows: a rank's knowledge about itself and its mailbox. Busy and colour are EWD840's; the rest is our own.
 use Rattle.std.specs.Prelude.{◌≡◌, ℕ, Bool, true, false, List, [], ◌∷◌, ◌++◌, slice_set, slice_index_or, Option, Some, None}
 use Rattle.ring_core.specs.World.{darker}
 use Rattle.ring_core.specs.declared.states.Colour.{Colour}
@@ -22,11 +22,11 @@ pub record Shown : Type 0 where
   pub colour : Colour
   -- its last request was refused
   pub tried : Bool
-  -- whom it asked, where its mailbox is not at rest
+  -- the rank that it asked, if its mailbox is not at rest
   pub asked : Option ℕ
   -- for each rank, whether it took up a request of it that it has not answered
   pub serves : List Bool
-  -- the token's colour, where it knows the token here
+  -- the token's colour, if it knows that the token is here
   pub here : Option Colour
   -- it saw the end
   pub ended : Bool
@@ -34,7 +34,7 @@ pub record Shown : Type 0 where
   pub halted : Bool
   pub knows_halt : Bool
   pub stopped : Bool
-  -- where the seat keeps them
+  -- if the seat keeps them
   pub batches : Option Batches
 
 abbrev pub is_served : Shown → ℕ → Bool
@@ -51,7 +51,7 @@ Free s = (s.asked ≡ None) × ((r : ℕ) → is_served s r ≡ false)
 abbrev pub is_open : Shown → Bool
 is_open s = elim s.asked [ None ↦ false | Some victim ↦ true ]
 
--- whom an open request went to
+-- the rank that an open request went to
 abbrev pub victim_of : Shown → ℕ
 victim_of s = elim s.asked [ None ↦ 0 | Some victim ↦ victim ]
 

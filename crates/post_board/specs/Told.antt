@@ -1,4 +1,4 @@
--- What a board may tell: its picture, with the batch in each mailbox. Busy, colour and token are EWD840's (Dijkstra, Feijen, van Gasteren);
+-- The facts that a board may tell: its picture, with the batch in each mailbox. Busy, colour and token are EWD840's (Dijkstra, Feijen, van Gasteren);
 -- the mailboxes are our own.
 use Rattle.std.specs.Prelude.{◌≡◌, ◌≢◌, ℕ, ◌<◌, Bool, true, false, List, length, slice_set, slice_index_or}
 use Rattle.ring_core.specs.Picture.{Mailbox, at_rest, asked_of, filled_by, refused_by, RankPicture, Picture, PictureInvariant}
@@ -56,11 +56,11 @@ mailbox (empty r) = refused_by r
 abbrev pub pictured : Place → RankPicture
 pictured x = record { busy = x.busy; colour = x.colour; tried = x.tried; ended = x.ended; mailbox = mailbox x.mail }
 
--- the picture that is told
+-- the told picture
 abbrev pub picture : Told → Picture
 picture t r = pictured (place t r)
 
--- what else is true of all that is told between two calls
+-- the other facts of a told picture between two calls
 pub record Sane (t : Told) : Type 0 where
   -- a rank alone has no string once its token is white
   pub alone : length t.places ≡ 1 → t.token ≡ At 0 White → (place t 0).busy ≡ false
@@ -69,7 +69,7 @@ pub record Sane (t : Told) : Type 0 where
   pub over : (r : ℕ) → (place t r).ended ≡ true → t.token ≡ Over
   pub within : (p : ℕ) (c : Colour) → t.token ≡ At p c → p < length t.places
 
--- the token invariant, and what goes with it
+-- the token invariant, and the facts that go with it
 pub record Sound (t : Told) : Type 0 where
   pub token : PictureInvariant (length t.places) (picture t) t.token
   pub sane : Sane t

@@ -1,15 +1,15 @@
-//! What the calls of a board answer.
+//! The answers of a board's calls.
 use rank_queue::Batch;
 use ring_core::Colour;
 
-/// What has become of a request.
+/// The state of a request.
 #[derive(Drop)]
 pub enum Answer {
     /// It is not answered yet.
     Pending,
-    /// There was nothing for it.
+    /// The rank got no strings.
     Nothing,
-    /// The strings that the rank that was asked gave.
+    /// The strings that the asked rank gave.
     Work(Batch),
 }
 
@@ -20,20 +20,20 @@ pub enum Ring {
     Elsewhere,
     /// At this rank, with this colour.
     Here(Colour),
-    /// All is over.
+    /// The run has ended: all is over.
     Over,
     /// All are to halt.
     Halted,
 }
 
-/// What is seen when all seats have come together.
+/// The answer to the gathering of all seats.
 #[derive(Clone, Copy, Debug, Drop, PartialEq, Eq)]
 pub struct Gathered {
     /// Whether rank 0 saw the end.
     pub over: bool,
 }
 
-/// A step on a word of a board: the number of the word, what it read, and what it read afterwards.
+/// A step on a word of a board: the number of the word, its value before the step, and its value after it.
 #[derive(Clone, Copy, Debug, Drop, PartialEq, Eq)]
 pub struct Reading {
     pub word: u64,

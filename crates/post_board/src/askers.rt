@@ -1,4 +1,4 @@
-//! By whom each rank of a plain board is asked, so that one test says that nobody asks.
+//! Which ranks ask each rank of a plain board, so that one test says that nobody asks.
 ghost use Rattle.std.specs.Prelude.{◌≡◌, ◌^◌, ◌<◌, ◌==◌, length, replicate, slice_set, slice_index_or, bit_or, bit_xor, IfOk};
 
 use path_text::OutOfMemory;
@@ -37,7 +37,7 @@ impl Askers {
         self.masks[of as usize] |= 1 << asker;
     }
 
-    /// The rank `asker`, which asked the rank `of`, asks it no more.
+    /// The rank `asker`, which asked the rank `of`, no longer asks it.
     pub(crate) fn take_away(&mut self, of: u32, asker: u32)
         requires of { of < length self.old.masks.items }
         requires asker { asker < 64 }

@@ -1,5 +1,5 @@
-//! What a rank reads of the token and the halt, and of the stops and its own mailbox: each method is one look of
-//! [`Post`](crate::Post), by the steps of `src/board_steps.rt`.
+//! A rank reads the token and the halt, or the stops and its own mailbox. Each method is one look of [`Post`](crate::Post), by
+//! the steps of `src/board_steps.rt`.
 ghost use Rattle.std.specs.Prelude.{◌≡◌};
 ghost use Rattle.post_board.specs.BoardWork.{Mine, Hears, Finds};
 ghost use Rattle.post_board.specs.declared.board_views.OwnMailbox.TheVariants.{Open};
@@ -12,7 +12,7 @@ use crate::ring_words::read_ring;
 use atomic_table::Seat;
 use rank_queue::Batch;
 
-/// What a rank with an open request finds.
+/// The answer that a rank with an open request finds.
 #[derive(Clone, Copy, Debug, Drop, PartialEq, Eq)]
 pub enum Reply {
     /// No answer yet.
@@ -21,7 +21,7 @@ pub enum Reply {
     Full,
     /// A refusal.
     Refused,
-    /// None from a rank that has stopped: the request was taken back.
+    /// No answer from a rank that has stopped: the asker took the request back.
     Withdrawn,
 }
 
@@ -41,8 +41,8 @@ impl Board {
         if halt == 1 { Ring::Halted } else { heard }
     }
 
-    /// Looks which ranks have stopped, and then for the answer to the request to the rank `victim`, which is taken back where that
-    /// one has stopped and not answered.
+    /// Looks which ranks have stopped, and then for the answer of the rank `victim`. If that one has stopped and not answered, the
+    /// request is taken back.
     pub(crate) fn find(&self, seat: &mut Seat<Option<Batch>, View>, me: u32, victim: u32) -> Reply
         requires mine { Mine self.now seat.old.table_id seat.old.me me }
         requires open { seat.old.me.0.own.own ≡ Open victim }

@@ -1,4 +1,4 @@
-//! A batch is taken out of the own slot, and the slot of a rank that is served comes to the front.
+//! Taking a batch out of the own slot, and moving the slot of a served rank to the front.
 ghost use Rattle.std.specs.Prelude.{◌≡◌, ◌+◌, ◌<◌, ◌∷◌, ◌++◌, ℕ, map, length, slice_index_or, true, false, Some, None, take, drop};
 ghost use Rattle.std.specs.List.{Contains};
 ghost use Rattle.post_board.specs.Words.{sign, full, fetching};
@@ -29,7 +29,7 @@ impl Board {
         batch
     }
 
-    /// Brings the slot of the rank `to`, which is served, to the front, where its step works, and takes it off the list.
+    /// Moves the slot of the rank `to`, which is served, to the front, where its step works, and takes it off the list.
     pub(crate) fn front_slot(&self, seat: &mut BoardSeat, to: u32)
         requires seat { IsSeat self.now seat.old }
         requires served { serves seat.old.seat.me.0.own to ≡ true }
@@ -44,7 +44,7 @@ impl Board {
     }
 }
 
-/// Where a number lies in a list that has it.
+/// The place of a number in a list that has it.
 fn place_in(held: &VecDeque<u32>, to: u32) -> usize
     requires has { Contains held.now.items to }
     ensures place { (result < length held.now.items) × (slice_index_or held.now.items result 0 ≡ to) }

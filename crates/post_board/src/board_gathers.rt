@@ -1,6 +1,7 @@
-//! Seats come together.
+//! Gathering the seats.
 ghost use Rattle.std.specs.Prelude.{◌≡◌, ◌⊎◌, ◌+◌, ◌<◌, [], ◌∷◌, All, true};
 ghost use Rattle.post_board.specs.BoardRule.{both};
+ghost use Rattle.post_board.specs.BoardSeats.{first_ended};
 ghost use Rattle.post_board.specs.BoardSteps.{Squares, Halters};
 
 use crate::board_rules::{Gather, Settle};
@@ -10,21 +11,21 @@ use atomic_table::Seat;
 use rank_queue::Batch;
 
 impl BoardSeat {
-    /// What a gathering needs of it.
-    pub(crate) fn apart(self) -> (Seat<Option<Batch>, View>, bool)
-        ensures { (result.0 ≡ self.seat) × (result.1 ≡ self.ended) }
+    /// The parts that a gathering needs: the seat of its words and, once rank 0 has come, whether that rank saw the end.
+    pub(crate) fn apart(self, over: bool) -> (Seat<Option<Batch>, View>, bool)
+        ensures { (result.0 ≡ self.seat) × (result.1 ≡ first_ended self.number self.ended over) }
     {
         let BoardSeat {
             seat,
             ended,
-            number: _,
+            number,
             n: _,
             colour: _,
             here: _,
             asked: _,
             held: _,
         } = self;
-        (seat, ended)
+        (seat, if number == 0 { ended } else { over })
     }
 }
 
@@ -44,7 +45,7 @@ impl Board {
         self.table.shared.join_seat::<Gather>(seat, other);
     }
 
-    /// What the seats that were taken in took from one another is what they gave.
+    /// The seats that were taken in took from one another exactly the batches that they gave.
     pub(crate) fn settle_step(&self, seat: &mut Seat<Option<Batch>, View>)
         requires fits { seat.old.table_id ≡ self.now.table.shared.table_id }
         requires live { seat.old.me.0.live ≡ true }

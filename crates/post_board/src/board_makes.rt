@@ -1,4 +1,4 @@
-//! A board and its seats are made.
+//! Making a board and its seats.
 ghost use Rattle.std.specs.Prelude.{◌≡◌, ◌+◌, ◌<◌, ◌≤◌, [], length, true, false, All, IfOk, Some};
 ghost use Rattle.post_board.specs.Fresh.{AllFresh, fresh as fresh_shown};
 ghost use Rattle.post_board.specs.BoardRule.{fresh, dealing, opened};

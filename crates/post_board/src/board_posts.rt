@@ -1,5 +1,6 @@
-//! What ranks do to a board of atomic words, each call by the steps of `src/board_steps.rt`.
-ghost use Rattle.std.specs.Prelude.{◌≡◌, ◌<◌, Some, None, length, slice_index_or};
+//! The calls of ranks on a board of atomic words, each by the steps of `src/board_steps.rt`.
+ghost use Rattle.std.specs.Prelude.{◌≡◌, ◌<◌, Some, None, length};
+ghost use Rattle.std.specs.List.{Contains};
 ghost use Rattle.post_board.specs.Deeds.{Stays};
 ghost use Rattle.post_board.specs.Calls.{AllDone, AllEven, Halters, NoneOnTheWay};
 ghost use Rattle.post_board.specs.BoardSeats.{shown_by, IsSeat};
@@ -129,7 +130,7 @@ impl<'b> Post for &'b Board {
     fn gather(&mut self, mut all: Vec<BoardSeat>) -> Gathered
         requires some { 0 < length all.items }
         requires all { AllDone shown_by (IsSeat self.old.now) all.items }
-        ensures over { (d : BoardSeat) → result.over ≡ (shown_by (slice_index_or all.items 0 d)).ended }
+        ensures over { (s : BoardSeat) → Contains all.items s → (shown_by s).number ≡ 0 → result.over ≡ (shown_by s).ended }
         ensures told { Stays NoneOnTheWay None None }
         ensures batches { AllEven shown_by (IsSeat self.old.now) all.items }
         ensures halters { Halters shown_by (IsSeat self.old.now) all.items }
@@ -137,11 +138,11 @@ impl<'b> Post for &'b Board {
         let Some(last) = all.pop() else {
             unreachable!()
         };
-        let (mut first, mut over) = last.apart();
+        let (mut first, mut over) = last.apart(false);
         while let Some(other) = all.pop() {
-            let (theirs, ended) = other.apart();
+            let (theirs, seen) = other.apart(over);
             self.join_step(&mut first, theirs);
-            over = ended;
+            over = seen;
         }
         self.settle_step(&mut first);
         Gathered { over }

@@ -1,4 +1,4 @@
-//! The rule of a board's table, and each kind of step with what it tells the call that makes it. They have no values.
+//! The rule of a board's table, and each kind of step with the facts that it gives the call that makes it. They have no values.
 ghost use Rattle.post_board.specs.BoardRule.{Rule, opened, dealing, dealt_out, both, spent};
 ghost use Rattle.post_board.specs.BoardSteps.{AskTells, LookTells, TakeUpTells, ScanTells, GiveTells, RefuseTells, FetchTells, RestTells};
 ghost use Rattle.post_board.specs.BoardSteps.{RestEmptyTells, RingTells, PassTells, RestartTells, ConcludeTells, LastLookTells};
@@ -8,7 +8,7 @@ use crate::board_views::View;
 use atomic_table::{Join, Play, Split, TableRule};
 use rank_queue::Batch;
 
-/// What holds between any two steps: `specs/BoardRule.antt`.
+/// The rule that holds between any two steps: `specs/BoardRule.antt`.
 pub struct Order;
 
 impl TableRule<Option<Batch>, View, u64> for Order {
@@ -31,7 +31,7 @@ impl Play<Option<Batch>, View> for Look {
     ghost then = { LookTells };
 }
 
-/// A rank takes up a request, where the mailbox of the other rank asks it.
+/// A rank takes up a request, if the mailbox of the other rank asks it.
 pub struct TakeUp;
 
 impl Play<Option<Batch>, View> for TakeUp {
@@ -129,7 +129,7 @@ impl Play<Option<Batch>, View> for LoadStops {
     ghost then = { LoadStopsTells };
 }
 
-/// A rank takes its request back, where its mailbox asks still.
+/// A rank takes its request back, if its mailbox still asks.
 pub struct Withdraw;
 
 impl Play<Option<Batch>, View> for Withdraw {

@@ -1,4 +1,4 @@
-//! What calls do to the words of a board: each method is one step on one word, or on the slot that the seat took last.
+//! The steps of calls on the words of a board: each method is one step on one word, or on the slot that the seat took last.
 //!
 //! The codes of words are those of `specs/Words.antt`: `8 * rank + 1` asks the rank, `+ 2` is served by it, `+ 3` was filled by it,
 //! `+ 4` is being emptied of what it gave, `+ 5` was refused by it, and 0 rests.
@@ -54,7 +54,7 @@ impl Board {
         self.table.shared.load::<Look>(seat, word)
     }
 
-    /// Takes up the request of the rank `r`, where there is one. Answers whether there was.
+    /// Takes up the request of the rank `r`, if there is one. Answers whether there was.
     pub(crate) fn take_step(&self, seat: &mut Seat<Option<Batch>, View>, me: u32, r: u32) -> bool
         requires mine { Mine self.now seat.old.table_id seat.old.me me }
         requires other { (r < self.now.n) × (r ≢ me) }
@@ -85,7 +85,7 @@ impl Board {
         self.table.shared.load::<Scan>(seat, word)
     }
 
-    /// Looks at the mailbox of the rank `r`, and takes its request up where it asks this rank. Answers whether it did.
+    /// Looks at the mailbox of the rank `r`, and takes its request up if it asks this rank. Answers whether it did.
     pub(crate) fn look_at(&self, seat: &mut Seat<Option<Batch>, View>, me: u32, r: u32) -> bool
         requires mine { Mine self.now seat.old.table_id seat.old.me me }
         requires other { (r < self.now.n) × (r ≢ me) }
@@ -269,7 +269,7 @@ impl Board {
         self.table.shared.swap::<SetHalt>(seat, word, 1);
     }
 
-    /// Looks whether all are to halt. One that told all to does see it.
+    /// Looks whether all are to halt. A rank that told all to halt does see it.
     pub(crate) fn hear_step(&self, seat: &mut Seat<Option<Batch>, View>, me: u32) -> u64
         requires mine { Mine self.now seat.old.table_id seat.old.me me }
         ensures table { seat.new.table_id ≡ seat.old.table_id }
@@ -303,7 +303,7 @@ impl Board {
         self.table.shared.load::<LoadStops>(seat, word)
     }
 
-    /// Takes back the request to the rank `victim`, which has stopped, where the own mailbox asks it still. Answers what was found there.
+    /// Takes back the request to the rank `victim`, which has stopped, if the own mailbox still asks it. Answers the word found there.
     pub(crate) fn withdraw_step(
         &self,
         seat: &mut Seat<Option<Batch>, View>,

@@ -1,4 +1,4 @@
-//! What the seat of a rank knows. No value of these types is made: they are the views of the seats of a table, which only proofs see.
+//! The knowledge of a rank's seat. No value of these types is made: they are the views of the seats of a table, which only proofs see.
 ghost use Rattle.std.specs.Prelude.{List, ℕ};
 
 use crate::answers::Reading;
@@ -6,7 +6,7 @@ use rank_queue::Batch;
 use ring_core::Colour;
 use std::collections::LinkedList;
 
-/// What a seat knows of its own mailbox.
+/// The knowledge of a seat about its own mailbox.
 pub enum OwnMailbox {
     /// No request is open.
     Resting,
@@ -22,7 +22,7 @@ pub enum OwnMailbox {
     Getting(u64),
 }
 
-/// What the seat of a rank knows of itself and of the board.
+/// The knowledge of a rank's seat about itself and the board.
 pub struct Known {
     pub number: u64,
     pub n: u64,
@@ -33,7 +33,7 @@ pub struct Known {
     pub own: OwnMailbox,
     /// For each rank, whether it took up a request of it that it has not answered.
     pub serves: LinkedList<bool>,
-    /// The token's colour, where it knows the token here.
+    /// The token's colour, if it knows that the token is here.
     pub here: Option<Colour>,
     pub ended: bool,
     /// It told all to halt; it knows that one did; it has stopped.
@@ -52,7 +52,7 @@ pub struct View {
     /// Seats made so far, told by the first one alone.
     pub made: u64,
     pub own: Known,
-    /// What the seats knew that this one took in.
+    /// The knowledge of the seats that this one took in.
     pub kept: LinkedList<Known>,
     /// False once another seat has taken this one in.
     pub live: bool,

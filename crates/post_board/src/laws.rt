@@ -1,4 +1,4 @@
-//! What is proved of every board that tells its picture, of the words, of plain boards, and of boards that threads share.
+//! Laws of every board that tells its picture, of the words, of plain boards, and of boards that threads share.
 ghost use Rattle.std.specs.Prelude.{◌≡◌, ℕ, ◌<◌, ◌++◌, true};
 ghost use Rattle.ring_core.specs.Picture.{PictureInvariant};
 ghost use Rattle.ring_core.specs.declared.states.Token.{Token};
@@ -14,35 +14,35 @@ ghost use Rattle.post_board.specs.LateSteps.{SetHaltKeeps, LoadHaltKeeps, StopKe
 ghost use Rattle.post_board.specs.declared.plain_boards.PlainBoard.{PlainBoard};
 ghost use Rattle.post_board.specs.declared.plain_seats.PlainSeat.{PlainSeat};
 
-/// A deed that is legal is its event on the picture that is told.
+/// A legal deed is its event on the told picture.
 pub fn deeds_are_events()
     ensures { DeedsAreEvents }
 {}
 
-/// A deed that is legal keeps the token invariant, and what goes with it.
+/// A legal deed keeps the token invariant, and the facts that go with it (`Sane` in `specs/Told.antt`).
 pub fn deeds_keep_sound()
     ensures { DeedsKeepSound }
 {}
 
-/// So does what is no event: a request that is taken back from a rank that has stopped, a halt, and a stop.
+/// The calls that are not events keep them too: a request taken back from a rank that has stopped, a halt, and a stop.
 pub fn late_keeps_sound()
     ensures { LateKeepsSound }
 {}
 
-/// The word of a mailbox and the word of the ring are read back as what was written.
+/// The word of a mailbox and the word of the ring are read back as they were written.
 pub fn words_are_read_back()
     ensures mailbox { (s : Sign) → sign (word_of s) ≡ s }
     ensures ring { (t : Token) → token_read (word_of_token t) ≡ t }
 {}
 
-/// A plain board that has a seat tells a sound picture: the token invariant holds of it, and what goes with it.
+/// A plain board that has a seat tells a sound picture: the token invariant holds of it, and the facts that go with it.
 pub fn told_is_sound()
     ensures { (b : PlainBoard) (s : PlainSeat) → Seats b s → Sound (told_by b) }
 {}
 
-/// Between any two steps on the words of a [`Board`](crate::Board), whatever its threads do: its picture came about by legal deeds
-/// alone, one after the other, from the start; the token invariant holds of it; what each rank took from each other one, followed
-/// by what is on the way, is what that one gave, in order; and where a rank's seat has seen the end, nothing is left.
+/// Between any two steps on the words of a [`Board`](crate::Board), whatever its threads do, its picture came about by legal deeds
+/// alone, one after the other, from the start. The token invariant holds of it. The batches that each rank took from each other
+/// one, followed by those on the way, are those that the other gave, in order. If a rank's seat has seen the end, nothing is left.
 pub fn board_is_sound_at_every_moment()
     ensures reached { (n : ℕ) (s : TableState) (o : Rule n s) → Reached n (told_at n s o) }
     ensures token { (n : ℕ) (s : TableState) (o : Rule n s) → 0 < n → PictureInvariant n (picture (told_at n s o)) (token_in s.words) }
@@ -51,8 +51,8 @@ pub fn board_is_sound_at_every_moment()
     ensures end { (n : ℕ) (s : TableState) (o : Rule n s) (r : ℕ) → r < n → (o.known r).ended ≡ true → NothingLeft n s o }
 {}
 
-/// The rule of a [`Board`](crate::Board) keeps the steps too by which ranks halt, stop, hear of that, and take back a request to a
-/// rank that has stopped.
+/// The steps by which ranks halt, stop, hear of that, and take back a request to a rank that has stopped keep the rule of a
+/// [`Board`](crate::Board) too.
 pub fn late_steps_keep_the_rule()
     ensures set_halt { SetHaltKeeps }
     ensures load_halt { LoadHaltKeeps }

@@ -22,7 +22,7 @@ pub struct PlainBoard {
     pub(crate) ranks: Vec<PlainRank>,
     pub(crate) token: Token,
     pub(crate) askers: Askers,
-    /// Who told all to halt, the last time that one did.
+    /// The rank that last told all to halt.
     pub(crate) halter: Option<u32>,
     /// For each rank, whether it has stopped.
     pub(crate) stops: Vec<bool>,
@@ -66,7 +66,7 @@ impl PlainBoard {
         }
     }
 
-    /// Takes up the request in the mailbox of the rank `r`, which is still told as it was.
+    /// Takes up the request in the mailbox of the rank `r`, of which the board still tells the same.
     pub(crate) fn take_up(&mut self, seat: &mut PlainSeat, r: u32)
         requires seat { Seats self.old seat.old }
         requires live { seat.old.stopped ≡ false }
@@ -121,7 +121,7 @@ fn no_stops(alloc: Global, n: u32) -> Result<Vec<bool>, OutOfMemory>
     Ok(stops)
 }
 
-/// Black where `black` says so.
+/// Black if `black` is true, else the colour.
 pub(crate) fn shaded(black: bool, colour: Colour) -> Colour
     ensures { result ≡ (if black then Black else colour) }
 {

@@ -1,5 +1,6 @@
-//! What the ranks do to a plain board.
-ghost use Rattle.std.specs.Prelude.{◌≡◌, ◌<◌, Some, None, length, slice_index_or};
+//! The calls of ranks on a plain board.
+ghost use Rattle.std.specs.Prelude.{◌≡◌, ◌<◌, Some, None, length};
+ghost use Rattle.std.specs.List.{Contains};
 ghost use Rattle.post_board.specs.Deeds.{Stays};
 ghost use Rattle.post_board.specs.Calls.{AllDone, AllEven, Halters, NoneOnTheWay};
 ghost use Rattle.post_board.specs.Plain.{shown_by, told_by, Seats};
@@ -153,12 +154,14 @@ impl Post for PlainBoard {
     fn gather(&mut self, all: Vec<PlainSeat>) -> Gathered
         requires some { 0 < length all.items }
         requires all { AllDone shown_by (Seats self.old) all.items }
-        ensures over { (d : PlainSeat) → result.over ≡ (shown_by (slice_index_or all.items 0 d)).ended }
+        ensures over { (s : PlainSeat) → Contains all.items s → (shown_by s).number ≡ 0 → result.over ≡ (shown_by s).ended }
         ensures told { Stays NoneOnTheWay (Some (told_by self.old)) (Some (told_by self.new)) }
         ensures batches { AllEven shown_by (Seats self.old) all.items }
         ensures halters { Halters shown_by (Seats self.old) all.items }
     {
-        Gathered { over: all[0].ended }
+        Gathered {
+            over: self.ranks[0].ended,
+        }
     }
 
     ghost agrees = { agreed };

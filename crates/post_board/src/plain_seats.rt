@@ -7,7 +7,7 @@ use path_text::OutOfMemory;
 use ring_core::Colour;
 use std::alloc::Global;
 
-/// A rank's seat at a [`PlainBoard`](crate::PlainBoard): what the rank knows of itself, of its mailbox and of the token.
+/// A rank's seat at a [`PlainBoard`](crate::PlainBoard): the rank's knowledge about itself, its mailbox and the token.
 #[derive(Drop)]
 pub struct PlainSeat {
     pub(crate) number: u32,

@@ -1,5 +1,6 @@
 //! The trait of boards.
-ghost use Rattle.std.specs.Prelude.{◌-◌, ◌≡◌, ◌≢◌, ◌<◌, ◌⊎◌, Option, None, List, length, true, false, slice_index_or};
+ghost use Rattle.std.specs.Prelude.{◌-◌, ◌≡◌, ◌≢◌, ◌<◌, ◌⊎◌, Option, None, List, length, true, false};
+ghost use Rattle.std.specs.List.{Contains};
 ghost use Rattle.ring_core.specs.declared.states.Colour.TheVariants.{White, Black};
 ghost use Rattle.ring_core.specs.declared.states.Token.TheVariants.{At, Over};
 ghost use Rattle.post_board.specs.Shown.{Shown, is_served, Live, Free, is_open, is_here, token_of, mixed};
@@ -18,19 +19,19 @@ use rank_queue::Batch;
 /// A board on which ranks ask each other for strings, give and refuse, and move the token, each through a seat of its own.
 /// No call takes memory, and none waits.
 pub trait Post {
-    /// What a rank keeps of the board.
+    /// A rank's place at the board.
     type Seat;
 
-    // What a seat shows of its rank.
+    // The facts that a seat shows of its rank.
     ghost shows: { Self.Seat → Shown };
 
-    // The steps that a seat made on the words of the board, where it tells them.
+    // The steps that a seat made on the words of the board, if it tells them.
     ghost reads: { Self.Seat → Option (List Reading) };
 
-    // The picture of the board with the batches on the way, where it tells them.
+    // The picture of the board with the batches on the way, if it tells them.
     ghost tells: { Self → Option Told };
 
-    // The seat is one of this board's, and what it shows is so.
+    // The seat is one of this board's, and the facts that it shows are true.
     ghost seats: { Self → Self.Seat → Type 0 };
 
     /// Asks another rank for strings, once this one has none.
@@ -46,8 +47,8 @@ pub trait Post {
         ensures mine { seats self.new seat.new }
         ensures others { (other : Self.Seat) → (shows other).number ≢ (shows seat.old).number → seats self.old other → seats self.new other };
 
-    /// Looks for the answer to the open request. A request to a rank that has stopped is taken back at once; an answer that came
-    /// before is never.
+    /// Looks for the answer to the open request. A request to a rank that has stopped is taken back at once, unless that rank had
+    /// answered it.
     fn answer(&mut self, seat: &mut Self::Seat) -> Answer
         requires seat { seats self.old seat.old }
         requires live { Live (shows seat.old) }
@@ -112,7 +113,7 @@ pub trait Post {
         ensures mine { seats self.new seat.new }
         ensures others { (other : Self.Seat) → (shows other).number ≢ (shows seat.old).number → seats self.old other → seats self.new other };
 
-    /// Passes the token to the rank below, black where this rank is or the token was.
+    /// Passes the token to the rank below, black if this rank is or the token was.
     fn pass(&mut self, seat: &mut Self::Seat)
         requires seat { seats self.old seat.old }
         requires live { Live (shows seat.old) }
@@ -172,7 +173,7 @@ pub trait Post {
         ensures mine { seats self.new seat.new }
         ensures others { (other : Self.Seat) → (shows other).number ≢ (shows seat.old).number → seats self.old other → seats self.new other };
 
-    /// Stops: this rank does nothing more at the board. A request to it is not answered any more: who asked takes it back.
+    /// Stops: this rank does nothing more at the board. It answers no further request: the asker takes the request back.
     fn stop(&mut self, seat: &mut Self::Seat)
         requires seat { seats self.old seat.old }
         requires live { Live (shows seat.old) }
@@ -184,15 +185,15 @@ pub trait Post {
         ensures mine { seats self.new seat.new }
         ensures others { (other : Self.Seat) → (shows other).number ≢ (shows seat.old).number → seats self.old other → seats self.new other };
 
-    /// Takes the seats of all ranks, in ascending number, when each has ended or stopped.
+    /// Takes the seats of all ranks, in any order, when each has ended or stopped.
     fn gather(&mut self, all: Vec<Self::Seat>) -> Gathered
         requires some { 0 < length all.items }
         requires all { AllDone shows (seats self.old) all.items }
-        ensures over { (d : Self.Seat) → result.over ≡ (shows (slice_index_or all.items 0 d)).ended }
+        ensures over { (s : Self.Seat) → Contains all.items s → (shows s).number ≡ 0 → result.over ≡ (shows s).ended }
         ensures told { Stays NoneOnTheWay (tells self.old) (tells self.new) }
         ensures batches { AllEven shows (seats self.old) all.items }
         ensures halters { Halters shows (seats self.old) all.items };
 
-    // What the board tells of a seat's rank is what the seat shows.
+    // The board tells of a seat's rank the facts that the seat shows.
     ghost agrees: { (b : Self) (s : Self.Seat) → seats b s → AgreesIfTold (tells b) (shows s) };
 }

@@ -17,7 +17,7 @@ pub(crate) fn word_at(place: u32, colour: Colour) -> u64
     }
 }
 
-/// What the word of the ring says to a rank.
+/// The place of the token, as the word of the ring says it to a rank.
 #[tactic(auto, unfolding(crate::specs::Words::token_read))]
 pub(crate) fn read_ring(found: u64, me: u32) -> Ring
     ensures { result ≡ ring_read (token_read found) me }

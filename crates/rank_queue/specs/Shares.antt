@@ -1,5 +1,5 @@
--- What a rank gives and whom it asks. That an idle rank asks another by lot, which gives it a part of its queue, equal or by lot, is from
--- LaFon, Misra and Bringhurst, On Distributed File Tree Walk of Parallel File Systems (SC 2012); the amounts are our own.
+-- How much a rank gives and which rank it asks. An idle rank asks another at random, which gives it a part of its queue, equal or random:
+-- LaFon, Misra and Bringhurst, On Distributed File Tree Walk of Parallel File Systems (SC 2012). The amounts are our own.
 use Rattle.std.specs.Prelude.{ℕ, ◌+◌, ◌-◌, ◌/◌, ◌%◌, if◌then◌else◌, nat_lt}
 use Rattle.rand_pcg.specs.Lcg.{Lcg, started, increment_of}
 use Rattle.rand_pcg.specs.Pcg.{multiplier_64, pcg32}
@@ -16,11 +16,11 @@ word from = (pcg32 from).0
 abbrev pub after_word : Lcg → Lcg
 after_word from = (pcg32 from).1
 
--- what each that asked gets, where the rank itself keeps as much or more
+-- the strings for each rank that asked; the rank itself keeps as much or more
 abbrev pub equal_share : ℕ → ℕ → ℕ
 equal_share queued asked = queued / (asked + 1)
 
--- what one gets by a word: from none to all that is left
+-- the strings for one rank by a word: from none to all that is left
 abbrev pub random_share : ℕ → ℕ → ℕ
 random_share left word = word % (left + 1)
 
@@ -28,6 +28,6 @@ random_share left word = word % (left + 1)
 abbrev pub other_rank : ℕ → ℕ → ℕ
 other_rank me v = if nat_lt v me then v else v + 1
 
--- whom I ask by a word: one of the n - 1 others
+-- the rank that I ask by a word: one of the n - 1 others
 abbrev pub victim : ℕ → ℕ → ℕ → ℕ
 victim me n word = other_rank me (word % (n - 1))

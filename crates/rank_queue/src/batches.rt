@@ -53,7 +53,7 @@ impl Batch {
         Ok(())
     }
 
-    /// Drops all its paths, and keeps their room for the next ones.
+    /// Drops all its paths, and keeps their memory for the next ones.
     pub fn clear(&mut self)
         ensures { self.new ≡ [] }
     {

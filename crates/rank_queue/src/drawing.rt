@@ -1,4 +1,4 @@
-//! How many strings a rank gives, and whom it asks.
+//! How many strings a rank gives, and which rank it asks.
 ghost use Rattle.std.specs.Prelude.{◌≡◌, ◌≢◌, ◌<◌, ◌≤◌, ◌-◌, ◌^◌};
 ghost use Rattle.rank_queue.specs.Shares.{generator_of, word, after_word, equal_share, random_share, victim};
 
@@ -12,7 +12,7 @@ pub fn generator(seed: u64, rank: u32) -> Pcg32
     Pcg32::new(seed, rank as u64)
 }
 
-/// What each of `asked` ranks gets of `queued` strings, where all get the same.
+/// The strings of `queued` that each of `asked` ranks gets, if all get the same.
 pub fn equal_share(queued: u64, asked: u64) -> u64
     requires { asked < 2 ^ 64 - 1 }
     ensures { result ≡ equal_share queued asked }
@@ -20,7 +20,7 @@ pub fn equal_share(queued: u64, asked: u64) -> u64
     queued / (asked + 1)
 }
 
-/// What a rank gets by lot, where `left` strings may be given.
+/// The number of strings that a rank gets at random, if `left` strings may be given.
 pub fn random_share(from: &mut Pcg32, left: u64) -> u64
     requires { left < 2 ^ 32 }
     ensures share { result ≡ random_share left (word from.old) }
@@ -30,7 +30,7 @@ pub fn random_share(from: &mut Pcg32, left: u64) -> u64
     from.next_word() as u64 % (left + 1)
 }
 
-/// Whom rank `me` of `n` asks: by lot, one of the others.
+/// The rank that rank `me` of `n` asks: one of the others, at random.
 pub fn victim(from: &mut Pcg32, me: u32, n: u32) -> u32
     requires several { 2 ≤ n }
     requires me { me < n }

@@ -1,11 +1,11 @@
-//! The strings that wait at one rank, the amounts that it hands over and the words that it draws.
+//! The strings that wait at one rank, the amounts that it gives and the words that it draws.
 //!
-//! A rank works on strings, here paths. It keeps those that wait in a [`RankQueue`], takes the newest to work on, and puts
-//! what it finds behind the newest. A rank that has none asks another, and gets some of the oldest in a [`Batch`]. Contracts
-//! see a queue and a batch each as the list of their paths, the oldest first.
+//! A rank works on strings, here paths. It keeps those that wait in a [`RankQueue`]. It takes the newest to work on, and adds
+//! the strings that it finds behind the newest. A rank that has none asks another, which gives it some of its oldest in a
+//! [`Batch`]. Contracts see a queue and a batch each as the list of their paths, the oldest first.
 //!
-//! How many a rank gives is [`equal_share`] or [`random_share`], and whom an idle rank asks is [`victim`]. The last two draw
-//! a word of the rank's own [`generator`], so that a run with the same seed and the same order of events draws the same.
+//! A rank gives [`equal_share`] or [`random_share`] strings, and an idle rank asks its [`victim`]. The last two draw a word of
+//! the rank's own [`generator`], so a run with the same seed and the same order of events draws the same.
 //!
 //! ```text
 //! let mut queue = RankQueue::make(alloc);
@@ -17,9 +17,9 @@
 //! let newest = queue.take();                // is `second`
 //! ```
 //!
-//! Proved: a queue and a batch are exactly the lists that the clauses say, and no path is lost or doubled, also where memory
-//! is refused; amounts, victims and the generator after each draw are exactly those of `specs/Shares.antt`. To add a batch
-//! costs the length of the batch and to give costs what is given, whatever waits beside it; that is by construction, and not
+//! Proved: a queue and a batch are exactly the lists that the clauses say. No path is lost or doubled, even if memory runs
+//! out. Amounts, victims and the generator after each draw are exactly those of `specs/Shares.antt`. To add a batch costs the
+//! length of the batch, and to give costs the number given, whatever waits beside it; this holds by construction and is not
 //! proved.
 #![tactic(auto)]
 

@@ -45,7 +45,7 @@ impl RankQueue {
         self.paths.is_empty()
     }
 
-    /// Moves all paths of the batch behind the newest. The batch keeps its room, to be filled again.
+    /// Moves all paths of the batch behind the newest. The batch keeps its memory and can be filled again.
     pub fn push_all(&mut self, batch: &mut Batch) -> Result<(), OutOfMemory>
         ensures added { OnOk result (self.new ≡ self.old ++ batch.old) }
         ensures moved { OnOk result (batch.new ≡ []) }
@@ -85,7 +85,7 @@ impl RankQueue {
     }
 }
 
-// Takes the `k` oldest. The room for them is there first, so that a refusal loses none.
+// Takes the `k` oldest. It reserves the memory for them first, so a refusal loses none.
 fn oldest(queue: &mut VecDeque<Path>, k: usize) -> Result<VecDeque<Path>, AllocError>
     requires { k < length queue.old.items }
     ensures given { IfOk result (λ batch. batch.items ≡ take k queue.old.items) }

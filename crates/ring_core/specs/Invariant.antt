@@ -9,7 +9,7 @@ use Rattle.ring_core.specs.declared.states.Token.TheVariants.{At, Over}
 abbrev pub Quiet : (ℕ → Type 0) → Type 0
 Quiet active = (r : ℕ) → ¬ active r
 
--- with the token at p, no rank above p is active, or some rank at or below p is black, or the token is black; when all is over, all is quiet
+-- with the token at p, no rank above p is active, or some rank at or below p is black, or the token is black; when all is over, nobody is active
 abbrev pub TokenInvariant : (ℕ → Type 0) → (ℕ → Type 0) → Token → Type 0
 TokenInvariant active black (At p colour) =
     ((r : ℕ) → p < r → ¬ active r)

@@ -1,4 +1,4 @@
--- The picture of a world: what is left of it without the numbers of strings. What an event does to a picture, when a picture is quiet, and
+-- The picture of a world: the world without the numbers of strings. Also the effect of an event on a picture, when a picture is quiet, and
 -- the token invariant of a picture.
 -- Busy and colour are EWD840's; the mailbox is our own. A board whose ranks act at the same time has a picture too, though no world.
 use Rattle.std.specs.Prelude.{◌≡◌, ◌≢◌, ℕ, ◌-◌, ◌<◌, ◌==◌, ◌⊎◌, nat_lt, Bool, true, false, if◌then◌else◌, List, length}
@@ -26,7 +26,7 @@ abbrev pub is_filled : Mailbox → Bool
 is_filled (filled_by from) = true
 is_filled _ = false
 
--- one rank, busy or not in place of its number of strings
+-- one rank, busy or not, without its number of strings
 pub record RankPicture : Type 0 where
   pub busy : Bool
   pub colour : Colour
@@ -55,13 +55,13 @@ Acts n p rank = (rank < n) × ((p rank).ended ≡ false)
 abbrev pub Other : ℕ → ℕ → ℕ → Type 0
 Other n rank other = (other < n) × (rank ≢ other)
 
--- who gives to a higher rank turns black
+-- a rank that gives to a higher one turns black
 abbrev pub gave : RankPicture → ℕ → ℕ → RankPicture
 gave x rank to = record x { colour = (if nat_lt rank to then Black else x.colour) }
 
--- the event is legal where n ranks have the picture p and the token t, and may leave the picture q and the token u.
--- Numbers of strings are not looked at, so `Handle` may leave the rank busy or not. `Ask`, and `Restart` with one rank, may find the rank
--- busy: they also tell that it has no string any more
+-- the event is legal if n ranks have the picture p and the token t, and may leave the picture q and the token u.
+-- A picture has no numbers of strings, so `Handle` may leave the rank busy or not. `Ask`, and `Restart` with one rank, may find the rank
+-- busy: they also say that it has no string any more
 abbrev pub Happens : ℕ → Picture → Token → Event → Picture → Token → Type 0
 Happens n p t (Handle rank path kids) q u =
     Acts n p rank × ((p rank).busy ≡ true) × ((b : Bool) × Becomes p rank (record (p rank) { busy = b }) q) × (u ≡ t)

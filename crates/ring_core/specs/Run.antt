@@ -27,7 +27,7 @@ pub record StopsAt (world : Seen) (events : List Event) (at : ℕ) (reason : Rea
   pub before : IsRun world (take at events)
   pub here : option_and_then (refused (after_all world (take at events))) (slice_get events at) ≡ Some reason
 
--- the cause of an answer other than a verdict; want of memory has none
+-- the cause of an answer other than a verdict; out of memory has none
 abbrev pub HasCause : Seen → List Event → RunError → Type 0
 HasCause world events (NotLegal at reason) = StopsAt world events at reason
 HasCause world events OutOfMemory = Unit {0}
@@ -41,7 +41,7 @@ abbrev pub pushed : Event → ℕ
 pushed (Handle rank path kids) = kids
 pushed _ = 0
 
--- what is told of the world at the end of a run in which so many strings were handled
+-- the verdict on the world at the end of a run in which so many strings were handled
 abbrev pub verdict_of : Seen → ℕ → Verdict
 verdict_of world handled = record { over = is_over world.1; queued = queued_in world.0; on_way = on_way_in world.0; handled = handled }
 

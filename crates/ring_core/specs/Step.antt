@@ -1,4 +1,4 @@
--- A legal step: where an event is refused and with which reason, and what it leaves.
+-- A legal step: when an event is refused and with which reason, and the world that it leaves.
 -- Passing, restarting, concluding and blackening are the rules of EWD840; asking, giving, refusing and taking through mailboxes are our
 -- own, after libcircle's work stealing.
 use Rattle.std.specs.Prelude.{ℕ, ◌+◌, ◌-◌, ◌^◌, ◌==◌, ◌||◌, ◌&&◌, nat_lt, Bool, true, false, not, if◌then◌else◌, List, [], ◌∷◌, length, slice_set}
@@ -54,7 +54,7 @@ differs false b = b
 abbrev pub is_none_of : List RankState → ℕ → Bool
 is_none_of ranks rank = not (nat_lt rank (length ranks))
 
--- one of the two is no rank, or both are the same
+-- one of the two is not a rank, or both are the same
 abbrev pub no_pair_of : List RankState → ℕ → ℕ → Bool
 no_pair_of ranks rank other = is_none_of ranks rank || is_none_of ranks other || rank == other
 
@@ -71,7 +71,7 @@ abbrev pub first_reason : List (Bool × Reason) → Option Reason
 first_reason [] = None
 first_reason (x ∷ xs) = if x.0 then Some x.1 else first_reason xs
 
--- where an event is refused: each reason behind its condition, in the order of the reasons
+-- when an event is refused: each condition with its reason, in the order of the reasons
 abbrev pub checks : List RankState → Token → Event → List (Bool × Reason)
 checks ranks token (Handle rank path kids) =
     (is_none_of ranks rank, BadRank)
@@ -139,11 +139,11 @@ checks ranks token (SeeOver rank) =
     ∷ (not (is_over token), NoToken)
     ∷ []
 
--- the first reason against an event; `None` where it is legal
+-- the first reason against an event; `None` if it is legal
 abbrev pub refusal : List RankState → Token → Event → Option Reason
 refusal ranks token event = first_reason (checks ranks token event)
 
--- who gives to a higher rank turns black
+-- a rank that gives to a higher one turns black
 abbrev pub after_giving : RankState → ℕ → ℕ → RankState
 after_giving me rank to = record me { colour = (if nat_lt rank to then Black else me.colour) }
 
@@ -170,7 +170,7 @@ token_after ranks token (Restart rank) = At (length ranks - 1) White
 token_after ranks token (Conclude rank) = Over
 token_after ranks token _ = token
 
--- the first reason against an event in a world; `None` where it is legal there
+-- the first reason against an event in a world; `None` if it is legal there
 abbrev pub refused : Seen → Event → Option Reason
 refused world event = refusal world.0 world.1 event
 

@@ -1,4 +1,4 @@
--- The line of an event in a trace: its word, its numbers, and what else it tells, behind a space each. Our own.
+-- The line of an event in a trace: its word, then its numbers and its colour or path, each after a space. Our own.
 use Rattle.std.specs.Prelude.{ℕ, List, ◌∷◌, ◌++◌, codes}
 use Rattle.std.specs.Fmt.{decimal}
 use Rattle.path_text.specs.Escape.{escape}
@@ -7,7 +7,7 @@ use Rattle.ring_core.specs.declared.states.Colour.TheVariants.{White, Black}
 use Rattle.ring_core.specs.declared.events.Event.{Event}
 use Rattle.ring_core.specs.declared.events.Event.TheVariants.{Handle, Ask, Give, Refuse, Take, TakeNone, Pass, Restart, Conclude, SeeOver}
 
--- a number behind a space
+-- a number after a space
 abbrev pub number : ℕ → List ℕ
 number n = 32 ∷ decimal n
 

@@ -10,7 +10,7 @@ use Rattle.ring_core.specs.declared.states.Token.{Token}
 use Rattle.ring_core.specs.declared.states.Token.TheVariants.{At, Over}
 use Rattle.ring_core.specs.declared.states.RankState.{RankState}
 
--- what a contract sees of a world: the ranks by their numbers, and the token
+-- a world as a contract sees it: the ranks by their numbers, and the token
 abbrev pub Seen : Type 0
 Seen = List RankState × Token
 
@@ -18,7 +18,7 @@ Seen = List RankState × Token
 abbrev pub fresh : ℕ → RankState
 fresh queued = record { queued = queued; colour = White; tried = false; desk = Rest; ended = false }
 
--- the rank of this number, or a fresh one without strings where there is none
+-- the rank of this number, or a fresh one without strings if there is none
 abbrev pub rank_of : List RankState → ℕ → RankState
 rank_of ranks r = slice_index_or ranks r (fresh 0)
 
@@ -26,7 +26,7 @@ abbrev pub is_black : Colour → Bool
 is_black Black = true
 is_black White = false
 
--- black where one of the two is
+-- black if one of the two is
 abbrev pub darker : Colour → Colour → Colour
 darker Black c = Black
 darker White c = c

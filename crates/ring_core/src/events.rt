@@ -1,4 +1,4 @@
-//! What ranks do, and why an event is refused.
+//! The events of ranks, and the reasons to refuse one.
 use crate::states::Colour;
 use path_text::Path;
 use thiserror::Error;
@@ -31,7 +31,7 @@ pub enum Event {
 /// Why an event is not legal. The reasons are tried in this order, and the first that holds is the answer.
 #[derive(Clone, Copy, Debug, Drop, PartialEq, Eq, Error)]
 pub enum Reason {
-    /// A named rank is none, two named ranks are one, or a rank has no business with the token.
+    /// A named rank does not exist, two named ranks are the same, or the rank may not do this with the token.
     #[error("no rank for this event")]
     BadRank,
     /// The acting rank has ended.

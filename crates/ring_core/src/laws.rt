@@ -1,4 +1,4 @@
-//! What is proved of every picture, every world and every run.
+//! Laws of every picture, every world and every run.
 ghost use Rattle.std.specs.Prelude.{◌≡◌, ℕ, List, None, IsTrue};
 ghost use Rattle.ring_core.specs.declared.states.RankState.{RankState};
 ghost use Rattle.ring_core.specs.declared.states.Token.{Token};
@@ -29,14 +29,14 @@ pub fn run_keeps_invariant()
     ensures { (world : Seen) (events : List Event) → IsRun world events → WorldInvariant world → WorldInvariant (after_all world events) }
 {}
 
-/// A legal event of a world is a step of its picture, where no batch on the way is empty. A run from the start makes none.
+/// A legal event of a world is a step of its picture, if no batch on the way is empty. A run from the start makes none.
 pub fn legal_event_is_step_of_picture()
     ensures step { (world : Seen) (event : Event) → NoEmptyBatch world.0 → refused world event ≡ None → IsStepOfPicture world event }
     ensures start { (n starts : ℕ) → NoEmptyBatch (started n starts).0 }
     ensures kept { (world : Seen) (event : Event) → refused world event ≡ None → NoEmptyBatch world.0 → NoEmptyBatch (after world event).0 }
 {}
 
-/// Whatever the order of events, no rank learns of the end while a string is queued or on the way: where a rank has ended, none is.
+/// Whatever the order of events, no rank learns of the end while a string is queued or on the way: if a rank has ended, none is.
 pub fn no_rank_ends_early()
     ensures { (n starts : ℕ) (events : List Event) (r : ℕ) → IsRun (started n starts) events
         → IsTrue (rank_of (after_all (started n starts) events).0 r).ended

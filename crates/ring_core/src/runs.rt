@@ -11,7 +11,7 @@ use path_text::OutOfMemory;
 use std::alloc::Global;
 use thiserror::Error;
 
-/// What a run of events comes to.
+/// The result of a run of events.
 #[derive(Clone, Copy, Debug, Drop, PartialEq, Eq)]
 pub struct Verdict {
     /// Whether rank 0 has concluded that all is done.
@@ -30,7 +30,7 @@ pub enum RunError {
     /// The event at this place, counted from 0, is the first that is not legal.
     #[error("event {at} is not legal: {reason}")]
     NotLegal { at: usize, reason: Reason },
-    /// No memory was found.
+    /// Out of memory.
     #[error("out of memory")]
     OutOfMemory,
 }
@@ -53,7 +53,7 @@ pub fn check_run(alloc: Global, events: &[Event], n: u32, starts: u64) -> Result
     ensures legal { OnOk result (IsRun (started n starts) events.now) }
     ensures verdict { IfOk result (λ verdict. verdict ≡ verdict_of (after_all (started n starts) events.now) (count_by is_handle events.now)) }
 
-    // The end is told only where nothing is left to do.
+    // A run is over only if nothing is left to do.
     ensures nothing_left { IfOk result (λ verdict. IsTrue verdict.over → (verdict.queued ≡ 0) × (verdict.on_way ≡ 0)) }
 
     // No string is lost and none comes twice.

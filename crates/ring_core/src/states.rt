@@ -1,4 +1,4 @@
-//! What a world is made of.
+//! The parts of a world.
 
 /// The colour of a rank or of the token.
 #[derive(Clone, Copy, Debug, Drop, PartialEq, Eq)]
@@ -31,12 +31,12 @@ pub enum Token {
     Over,
 }
 
-/// What is known of one rank.
+/// The state of one rank.
 #[derive(Clone, Copy, Debug, Drop, PartialEq, Eq)]
 pub struct RankState {
-    /// How many strings wait at the rank. It is busy where there is one.
+    /// How many strings wait at the rank. It is busy if there is one.
     pub queued: u64,
-    /// Black where it may have given strings to a higher rank since it last had the token.
+    /// Black if it may have given strings to a higher rank since it last had the token.
     pub colour: Colour,
     /// Whether its last request was refused.
     pub tried: bool,
@@ -50,7 +50,7 @@ impl Colour {
     ghost use Rattle.std.specs.Prelude.{◌≡◌};
     ghost use Rattle.ring_core.specs.World.{darker};
 
-    /// Black where one of the two colours is.
+    /// Black if one of the two colours is.
     pub fn darker(self, other: Colour) -> Colour
         ensures { result ≡ darker self other }
     {

@@ -34,7 +34,7 @@ pub fn step(world: &mut World, event: &Event) -> Result<(), Reason>
 }
 
 impl World {
-    // The acting rank, where it is one and has not ended.
+    // The acting rank, if it exists and has not ended.
     fn acting(&self, rank: u32) -> Result<RankState, Reason>
         ensures ok { IfOk result (λ me. (rank < length self.now.0) × (me ≡ rank_of self.now.0 rank) × (me.ended ≡ false)) }
         ensures err { IfErr result (λ e. first_reason ((is_none_of self.now.0 rank, Reason.BadRank)
@@ -64,7 +64,7 @@ impl World {
         Ok((me, self.ranks[other as usize]))
     }
 
-    // The acting rank, where it has no string and no request open.
+    // The acting rank, if it has no string and no request open.
     fn idle(&self, rank: u32) -> Result<RankState, Reason>
         ensures ok { IfOk result (λ me. (rank < length self.now.0) × (me ≡ rank_of self.now.0 rank) × (me.ended ≡ false)
             × (is_busy me ≡ false) × (is_rest me.desk ≡ true)) }
@@ -83,7 +83,7 @@ impl World {
         Ok(me)
     }
 
-    // The acting rank and the colour of the token, where the rank may move the token on.
+    // The acting rank and the colour of the token, if the rank may move the token on.
     fn token_holder(&self, rank: u32) -> Result<(RankState, Colour), Reason>
         ensures ok { IfOk result (λ x. (rank < length self.now.0) × (self.now.1 ≡ Token.At rank x.1) × (x.0 ≡ rank_of self.now.0 rank)
             × ((x.0).ended ≡ false) × (is_busy x.0 ≡ false) × (is_rest (x.0).desk ≡ true) × (is_untried self.now.0 x.0 ≡ false)) }

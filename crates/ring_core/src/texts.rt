@@ -17,7 +17,7 @@ pub fn text_of(alloc: Global, event: &Event) -> Result<Vec<u8>, OutOfMemory>
     Ok(text)
 }
 
-/// Appends what [`text_of`] gives, with no memory of its own. A refusal leaves the text as it was.
+/// Appends the line of [`text_of`], with no memory of its own. If memory runs out, the text is as before.
 pub fn put_event(text: &mut Vec<u8>, event: &Event) -> Result<(), OutOfMemory>
     ensures ok { OnOk result (text.new.items ≡ text.old.items ++ line_of event.now) }
     ensures err { OnErr result (text.new.items ≡ text.old.items) }
@@ -30,7 +30,7 @@ pub fn put_event(text: &mut Vec<u8>, event: &Event) -> Result<(), OutOfMemory>
     put
 }
 
-// A refusal may leave the first part of the line behind the old text.
+// If memory runs out, the first part of the line may stay behind the old text.
 fn append_line(text: &mut Vec<u8>, event: &Event) -> Result<(), OutOfMemory>
     ensures ok { OnOk result (text.new.items ≡ text.old.items ++ line_of event.now) }
     ensures kept { take (length text.old.items) text.new.items ≡ text.old.items }

@@ -7,7 +7,7 @@ use path_text::OutOfMemory;
 use std::alloc::Global;
 use std::marker::Model;
 
-/// The ranks by their numbers and the token. A contract sees it as the pair of these.
+/// The ranks by their numbers, and the token. A contract sees it as the pair of the two.
 #[derive(Debug, Drop)]
 pub struct World {
     pub(crate) ranks: Vec<RankState>,

@@ -1,4 +1,4 @@
--- What plain sums tell is what their seats show.
+-- Plain sums tell of each rank the facts that its seat shows.
 use Rattle.std.specs.Prelude.{Some}
 use Rattle.sum_tree.specs.Told.{SumTold}
 use Rattle.sum_tree.specs.Shown.{SumShown, Agrees}

@@ -4,8 +4,8 @@ use Rattle.std.specs.List.{range_with_len}
 use Rattle.sum_tree.specs.Told.{SumTold, uncounted, count_of, word_of, words_below}
 use Rattle.sum_tree.specs.Shown.{SumShown, IsShown}
 
--- what holds between two calls: there are at most 64 ranks, none has counted past 2^56 - 1, and a word holds at most the own count and what
--- the children's words hold
+-- between two calls there are at most 64 ranks, none has counted past 2^56 - 1, and a word holds at most the own count and the numbers in
+-- the children's words
 pub record Rule (t : SumTold) : Type 0 where
   pub wide : 2 ≤ t.width
   pub narrow : t.width ≤ 64

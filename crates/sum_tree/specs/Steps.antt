@@ -1,4 +1,4 @@
--- The steps that each call makes on the words, where a seat tells them. A word is twice a number, and one more where it is final. Our own.
+-- The steps that each call makes on the words, if a seat tells them. A word is twice a number, and one more if it is final. Our own.
 use Rattle.std.specs.Prelude.{◌≡◌, ℕ, ◌+◌, ◌*◌, ◌/◌, ◌%◌, ◌==◌, List, [], ◌∷◌, ◌++◌, map, All, if◌then◌else◌, true, false, Bool, Option, Some, None, is_some}
 use Rattle.std.specs.List.{sum_by, list_all}
 use Rattle.sum_tree.specs.Tree.{children}

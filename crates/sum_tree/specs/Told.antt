@@ -1,4 +1,4 @@
--- What sums may tell, rank by rank, and what is true of it at every moment. The sums are libcircle's (SC 2012); that a word is marked final is our own.
+-- The facts that sums may tell of each rank, and their truth at every moment. The sums are libcircle's (SC 2012); the final mark is our own.
 use Rattle.std.specs.Prelude.{◌≡◌, ℕ, ◌+◌, ◌-◌, ◌≤◌, ◌^◌, Bool, true, false, List, length, slice_set, slice_index_or, min, Option, Some, None}
 use Rattle.std.specs.List.{sum_by, list_all}
 use Rattle.sum_tree.specs.Tree.{children, sum_of}
@@ -13,7 +13,7 @@ pub record SumTold : Type 0 where
 abbrev pub uncounted : RankSum
 uncounted = record { count = 0; word = 0; is_final = false }
 
--- the rank of this number, or one that has counted nothing where there is none
+-- the rank of this number, or one that has counted nothing if there is none
 abbrev pub rank_of : SumTold → ℕ → RankSum
 rank_of t r = slice_index_or t.ranks r uncounted
 
@@ -29,7 +29,7 @@ is_final t r = (rank_of t r).is_final
 abbrev pub children_in : SumTold → ℕ → List ℕ
 children_in t r = children (length t.ranks) t.width r
 
--- what the rank and all below it have counted
+-- the counts of the rank and all below it, added up
 abbrev pub sum_in : SumTold → ℕ → ℕ
 sum_in t r = sum_of (length t.ranks) t.width (count_of t) r
 
@@ -50,7 +50,7 @@ pub record Sound (t : SumTold) : Type 0 where
 abbrev pub put_rank : SumTold → ℕ → RankSum → SumTold
 put_rank t r x = record t { ranks = slice_set t.ranks r x }
 
--- a count that rises by k, where counts stop at 2^56 - 1
+-- a count that rises by k; counts stop at 2^56 - 1
 abbrev pub raised_by : ℕ → ℕ → ℕ
 raised_by k count = min (count + k) (2 ^ 56 - 1)
 
@@ -67,7 +67,7 @@ abbrev pub told_finished : ℕ → Option ℕ → SumTold → SumTold
 told_finished r None t = t
 told_finished r (Some sum) t = put_rank t r (record (rank_of t r) { word = sum; is_final = true })
 
--- a rank cannot finish exactly where a child's word is not final; else it finishes with its sum
+-- a rank cannot finish exactly if a child's word is not final; else it finishes with its sum
 abbrev pub Finishes : ℕ → Option ℕ → SumTold → Type 0
 Finishes r None t = are_final_below t r ≡ false
 Finishes r (Some sum) t = (are_final_below t r ≡ true) × (sum ≡ sum_in t r)

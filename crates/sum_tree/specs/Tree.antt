@@ -1,5 +1,5 @@
--- A tree of ranks and what its counts come to: the reduction of libcircle (LaFon, Misra, Bringhurst, SC 2012), in which each rank adds what
--- its children tell to what it has counted itself.
+-- A tree of ranks and the sums of its counts: the reduction of libcircle (LaFon, Misra, Bringhurst, SC 2012), in which each rank adds the
+-- numbers of its children to its own count.
 use Rattle.std.specs.Prelude.{ℕ, zero, suc, ◌+◌, ◌-◌, ◌*◌, List, min}
 use Rattle.std.specs.List.{range_with_len, sum_by}
 
@@ -12,6 +12,6 @@ abbrev pub sum_down : ℕ → ℕ → (ℕ → ℕ) → ℕ → ℕ → ℕ
 sum_down n width count zero r = 0
 sum_down n width count (suc levels) r = count r + sum_by (sum_down n width count levels) (children n width r)
 
--- the sum of rank r: what it and all below it have counted. A child has a greater number, so no tree is deeper than its ranks are many
+-- the sum of rank r: the counts of it and all below it. A child has a greater number, so no tree is deeper than the number of its ranks
 unfoldable pub sum_of : ℕ → ℕ → (ℕ → ℕ) → ℕ → ℕ
 sum_of n width count r = sum_down n width count n r

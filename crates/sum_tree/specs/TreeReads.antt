@@ -6,7 +6,7 @@ use Rattle.sum_tree.specs.declared.ranks.Reading.{Reading}
 use Rattle.sum_tree.specs.TreeRule.{seen_of, final_of}
 use Rattle.sum_tree.specs.declared.tree_views.Known.{Known}
 
--- the words of these ranks were loaded, in this order; all else that the seat knows stays
+-- the words of these ranks were loaded, in this order; the seat's other knowledge stays
 pub record Loaded (v : Known) (ranks : List ℕ) (w : Known) : Type 0 where
   pub loads : List Reading
   pub read : Reads ranks loads

@@ -1,5 +1,5 @@
--- Which seats are those of sums over atomic words, and what they show. Our own.
-use Rattle.std.specs.Prelude.{◌≡◌, ℕ, ◌+◌, ◌-◌, ◌≤◌, ◌<◌, ◌^◌, true, List, [], length, slice_index_or, Some, is_some}
+-- Which seats are those of sums over atomic words, and the facts that they show. Our own.
+use Rattle.std.specs.Prelude.{◌≡◌, ℕ, ◌+◌, ◌-◌, ◌≤◌, ◌<◌, ◌^◌, ◌==◌, true, if◌then◌else◌, List, [], length, slice_index_or, Option, Some, is_some, unwrap_or}
 use Rattle.atomic_table.specs.Seated.{TableId}
 use Rattle.sum_tree.specs.Shown.{SumShown}
 use Rattle.sum_tree.specs.Plain.{fresh}
@@ -40,11 +40,11 @@ pub record IsSeat (t : SumTree) (s : SumSeat) : Type 0 where
   pub wide : length s.seat.me.0.own.finals ≡ t.n
   pub capped : s.count ≤ 2 ^ 56 - 1
   pub final : s.seat.me.0.own.is_final ≡ is_some s.answer
-  -- what was stored last is no more than what is counted, and all of it once the word is final
+  -- the count of the last store is no more than the count, and equal to it once the word is final
   pub stored : s.seat.me.0.own.count ≤ s.count
   pub all_stored : s.seat.me.0.own.is_final ≡ true → s.seat.me.0.own.count ≡ s.count
   pub answered : (x : ℕ) → s.answer ≡ Some x → s.seat.me.0.own.word ≡ x
-  -- the word is no more than what was counted and read before
+  -- the word is no more than the numbers that were counted and read before
   pub low : s.seat.me.0.own.word ≤ s.seat.me.0.own.count + below s.seat.me.0.own
 
 -- the seat has read no word yet
@@ -55,3 +55,7 @@ IsUnread s = s.seat.me.0.own.readings ≡ []
 pub record AllFresh (t : SumTree) (n width : ℕ) (all : List SumSeat) : Type 0 where
   pub count : length all ≡ n
   pub each : (k : ℕ) (d : SumSeat) → k < n → IsSeat t (slice_index_or all k d) × (shown_by (slice_index_or all k d) ≡ fresh n width k)
+
+-- the answer of rank 0, once its seat has come: that of this seat, if it is rank 0's, else the one that was known
+abbrev pub first_answer : ℕ → Option ℕ → ℕ → ℕ
+first_answer number answer known = if number == 0 then unwrap_or answer 0 else known

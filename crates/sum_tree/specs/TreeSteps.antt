@@ -1,4 +1,4 @@
--- What each step on the words tells the call that makes it: of the step, the seat before, the number found and the seat after. Our own.
+-- The facts that each step on the words gives the call that makes it: of the step, the seat before, the number found and the seat after. Our own.
 -- Private clauses alone cite this.
 use Rattle.std.specs.Prelude.{◌≡◌, ℕ, ◌-◌, ◌/◌, ◌%◌, ◌^◌, ◌<◌, ◌≤◌, ◌==◌, Bool, true, false, [], ◌∷◌, ◌++◌, slice_set}
 use Rattle.std.specs.List.{Contains, range_with_len, sum_by}
@@ -8,7 +8,7 @@ use Rattle.sum_tree.specs.TreeRule.{seen_of, below}
 use Rattle.sum_tree.specs.declared.tree_views.Known.{Known}
 use Rattle.sum_tree.specs.declared.tree_views.View.{View}
 
--- what a seat knows; the table has no slots
+-- the knowledge of a seat; the table has no slots
 abbrev pub SeatState : Type 0
 SeatState = Me (Unit {0}) View
 
@@ -27,7 +27,7 @@ abbrev pub after_load : Known → ℕ → ℕ → Known
 after_load v word found =
     record (noted v word found found) { seen = slice_set v.seen word (found / 2); finals = slice_set v.finals word (found % 2 == 1) }
 
--- what was read before was no more; what is read of the children, together with all counts, is far from the end of the type; the own word
+-- a number that was read before was no more; the numbers read of the children, with all counts, stay within the type; the own word
 -- reads as the seat knows
 abbrev pub LoadTells : Telling
 LoadTells st m r n =
@@ -36,7 +36,7 @@ LoadTells st m r n =
     × (below (after_load m.0.own st.word r) < 2 ^ 62)
     × (st.word ≡ m.0.own.number → r ≡ coded m.0.own.word m.0.own.is_final)
 
--- store word and final store, of the own word: the number is the own count and what was read below, so the count is what is left without that
+-- store word and final store, of the own word: the number is the own count and the numbers read below, so the count is the number less those
 abbrev pub after_store : Known → ℕ → Bool → Known
 after_store v left final =
     record (noted v v.number (coded v.word v.is_final) left) { count = left / 2 - below v; word = left / 2; is_final = final }
@@ -47,7 +47,7 @@ StoreTells st m r n = (n ≡ knowing m (after_store m.0.own st.first false)) × 
 abbrev pub FinalTells : Telling
 FinalTells st m r n = (n ≡ knowing m (after_store m.0.own st.first true)) × (m.0.own.word ≤ st.first / 2)
 
--- where these are all n ranks by their numbers, among what was taken in, the final word of rank 0 is the sum of their counts
+-- if these are all n ranks by their numbers, among the seats taken in, the final word of rank 0 is the sum of their counts
 abbrev pub Totals : View → Type 0
 Totals v =
     (f : ℕ → Known)

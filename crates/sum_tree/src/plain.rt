@@ -1,6 +1,6 @@
 //! Sums that one thread keeps.
 ghost use Rattle.std.specs.Prelude.{◌≡◌, ◌≢◌, ◌<◌, ◌≤◌, ◌+◌, ◌*◌, ◌^◌, ℕ, List, length, map, Option, Some, None, IfOk, IfSome, slice_index_or};
-ghost use Rattle.std.specs.List.{sum_by};
+ghost use Rattle.std.specs.List.{Contains, sum_by};
 ghost use Rattle.sum_tree.specs.Told.{SumTold, rank_of, children_in, words_below, are_final_below, put_rank};
 ghost use Rattle.sum_tree.specs.Shown.{SumShown, AllFinished, rank_shown};
 ghost use Rattle.sum_tree.specs.Plain.{IsSeat, started, fresh_seats};
@@ -12,10 +12,10 @@ use path_text::OutOfMemory;
 use std::alloc::Global;
 use std::marker::Model;
 
-// Where a count stops, so that the sum of 64 ranks is far from the end of its type.
+// A count stops here, so that the sum of 64 ranks stays within its type.
 const MOST: u64 = (1 << 56) - 1;
 
-/// Sums that one thread keeps, seen as what they tell: the count and the word of each rank.
+/// Sums that one thread keeps, seen as the count and the word of each rank, which they tell.
 #[derive(Drop)]
 pub struct PlainSums {
     width: u32,
@@ -30,7 +30,7 @@ impl Model for PlainSums {
     ghost view = { λ s. record { width = s.width; ranks = s.ranks.items } };
 }
 
-/// A rank's seat of plain sums, seen as what it shows. It keeps a copy of what the sums hold of its rank.
+/// A rank's seat of plain sums, seen as the facts that it shows. It keeps a copy of all that the sums hold of its rank.
 #[derive(Drop)]
 pub struct PlainSumSeat {
     number: u32,
@@ -84,7 +84,7 @@ impl PlainSums {
         Ok((PlainSums { width, ranks }, seats))
     }
 
-    // What is told of the children of a seat's rank.
+    // The counts and words of the children of a seat's rank.
     fn children(&self, seat: &PlainSumSeat) -> &[RankSum]
         requires { IsSeat self.now seat.now }
         ensures { result.now ≡ map (rank_of self.now) (children_in self.now seat.now.number) }
@@ -99,7 +99,7 @@ impl PlainSums {
         }
     }
 
-    // What the rank has counted and what the words of its children hold, together.
+    // The rank's count and the words of its children, added up.
     fn total(&self, seat: &PlainSumSeat) -> u64
         requires { IsSeat self.now seat.now }
         ensures { result ≡ seat.now.count + words_below self.now seat.now.number }
@@ -118,7 +118,7 @@ impl PlainSums {
         self.children(seat).iter().all(|child| child.is_final)
     }
 
-    // Takes over of the seat's rank what the seat shows.
+    // Writes the facts that the seat shows of its rank into the sums.
     fn write(&mut self, seat: &PlainSumSeat)
         requires { seat.now.number < length self.old.ranks }
         ensures { self.new ≡ put_rank self.old seat.now.number (rank_shown seat.now) }
@@ -171,10 +171,10 @@ impl Sums for PlainSums {
         requires some { 0 < length all.items }
         requires all { AllFinished (λ seat. seat) (IsSeat self.old) all.items }
         ensures sum { result ≡ sum_by (λ seat. seat.count) all.items }
-        ensures first { (d : SumShown) → (slice_index_or all.items 0 d).answer ≡ Some result }
+        ensures first { (s : SumShown) → Contains all.items s → s.number ≡ 0 → s.answer ≡ Some result }
         ensures told { self.new ≡ self.old }
     {
-        all[0].word
+        self.ranks[0].word
     }
 
     ghost agrees = { agreed };

@@ -1,23 +1,23 @@
-//! What is known of one rank, and a step on its word.
+//! The count and word of one rank, and a step on its word.
 
-/// What a rank counted and what its word holds.
+/// The count of a rank and its word.
 #[derive(Clone, Copy, Debug, Drop, PartialEq, Eq)]
 pub struct RankSum {
-    /// What the rank itself has counted.
+    /// The rank's own count.
     pub count: u64,
-    /// The number in its word: what was known, when it was written, of the rank and all below it.
+    /// The number in its word: the sum of the rank and all below it, as far as the rank knew it at the last writing.
     pub word: u64,
     /// Whether that number is the final sum.
     pub is_final: bool,
 }
 
-/// A step that a seat made on the word of a rank. A word is twice a number, and one more where that is final.
+/// A step that a seat made on the word of a rank. A word is twice a number, and one more if that is final.
 #[derive(Clone, Copy, Debug, Drop, PartialEq, Eq)]
 pub struct Reading {
     /// The rank's number.
     pub word: u64,
-    /// What the step found in the word.
+    /// The word before the step.
     pub found: u64,
-    /// What the step left there.
+    /// The word after the step.
     pub left: u64,
 }

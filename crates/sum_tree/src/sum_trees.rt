@@ -13,13 +13,13 @@ pub struct SumSeat {
     pub(crate) number: u32,
     pub(crate) n: u32,
     pub(crate) width: u32,
-    /// What the rank has counted; its word tells of it from the next refresh on.
+    /// The rank's count, which is in its word from the next refresh on.
     pub(crate) count: u64,
     /// The final sum, once the word is final.
     pub(crate) answer: Option<u64>,
 }
 
-/// Sums that threads share: a word for each rank, twice a number and one more where that is final.
+/// Sums that threads share: a word for each rank, twice a number and one more if that is final.
 #[derive(Drop)]
 pub struct SumTree {
     pub(crate) table: Table<(), View, (u64, u64), Adding, Global>,

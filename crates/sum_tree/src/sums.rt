@@ -1,7 +1,7 @@
-//! The calls by which ranks add up what they count.
-ghost use Rattle.std.specs.Prelude.{◌≡◌, ◌≢◌, ◌<◌, ◌≤◌, ◌+◌, ℕ, List, length, Option, Some, None, IfSome, slice_index_or};
+//! The calls by which ranks add up their counts.
+ghost use Rattle.std.specs.Prelude.{◌≡◌, ◌≢◌, ◌<◌, ◌≤◌, ◌+◌, ℕ, List, length, Option, Some, None, IfSome};
 ghost use Rattle.std.specs.Option.{option_map};
-ghost use Rattle.std.specs.List.{sum_by};
+ghost use Rattle.std.specs.List.{Contains, sum_by};
 ghost use Rattle.sum_tree.specs.Told.{SumTold, count_of, words_below, told_raised, told_refreshed, told_finished, Finishes};
 ghost use Rattle.sum_tree.specs.Shown.{SumShown, IsLeaf, raised, refreshed, finished, AllFinished, Agrees};
 ghost use Rattle.sum_tree.specs.Steps.{Adds, RefreshSteps, FinishSteps, ShownSteps};
@@ -12,13 +12,13 @@ pub trait Sums {
     /// A rank's place in the tree.
     type Seat;
 
-    /// What a seat shows of its rank.
+    /// The facts that a seat shows of its rank.
     ghost shows: { Self.Seat → SumShown };
 
-    /// The steps that a seat has made on the words since it was made, where it tells them.
+    /// The steps that a seat has made on the words since it was made, if it tells them.
     ghost reads: { Self.Seat → Option (List Reading) };
 
-    /// What every rank has counted and what its word holds, where the sums tell it.
+    /// The count and the word of every rank, if the sums tell them.
     ghost tells: { Self → Option SumTold };
 
     /// The seat is one of these sums.
@@ -35,7 +35,7 @@ pub trait Sums {
         ensures mine { seats self.new seat.new }
         ensures others { (other : Self.Seat) → (shows other).number ≢ (shows seat.old).number → seats self.old other → seats self.new other };
 
-    /// Writes into the rank's word what it has counted and what the words of its children hold.
+    /// Writes into the rank's word the sum of its own count and the words of its children.
     fn refresh(&mut self, seat: &mut Self::Seat)
         requires seat { seats self.old seat.old }
         requires counting { (shows seat.old).answer ≡ None }
@@ -51,7 +51,7 @@ pub trait Sums {
         ensures others { (other : Self.Seat) → (shows other).number ≢ (shows seat.old).number → seats self.old other → seats self.new other };
 
     /// The final sum of the rank and all below it, once all its children have finished; the rank has then finished too.
-    /// `None` where a child has not, and then nothing is changed.
+    /// `None` if a child has not; then nothing is changed.
     fn finish(&mut self, seat: &mut Self::Seat) -> Option<u64>
         requires seat { seats self.old seat.old }
         requires counting { (shows seat.old).answer ≡ None }
@@ -77,14 +77,14 @@ pub trait Sums {
         ensures mine { seats self.new seat.new }
         ensures others { (other : Self.Seat) → (shows other).number ≢ (shows seat.old).number → seats self.old other → seats self.new other };
 
-    /// The sum of all counts. Takes the seats of all ranks, in ascending number, each with its final sum.
+    /// The sum of all counts. Takes the seats of all ranks, in any order, each with its final sum.
     fn gather(&mut self, all: Vec<Self::Seat>) -> u64
         requires some { 0 < length all.items }
         requires all { AllFinished shows (seats self.old) all.items }
         ensures sum { result ≡ sum_by (λ seat. (shows seat).count) all.items }
-        ensures first { (d : Self.Seat) → (shows (slice_index_or all.items 0 d)).answer ≡ Some result }
+        ensures first { (s : Self.Seat) → Contains all.items s → (shows s).number ≡ 0 → (shows s).answer ≡ Some result }
         ensures told { tells self.new ≡ tells self.old };
 
-    // What is told is sound, and what is told of a seat's rank is what the seat shows.
+    // The told facts are sound, and those of a seat's rank are the facts that the seat shows.
     ghost agrees: { (sums : Self) (seat : Self.Seat) → seats sums seat → Agrees (tells sums) (shows seat) };
 }

@@ -1,7 +1,8 @@
-//! Seats come together.
+//! Gathering the seats.
 ghost use Rattle.std.specs.Prelude.{◌≡◌, ◌<◌, [], true};
 ghost use Rattle.sum_tree.specs.TreeRule.{both};
 ghost use Rattle.sum_tree.specs.TreeSteps.{Totals};
+ghost use Rattle.sum_tree.specs.TreeSeats.{first_answer};
 
 use crate::sum_trees::{SumSeat, SumTree};
 use crate::tree_rules::{Gather, LastLook};
@@ -9,18 +10,24 @@ use crate::tree_views::View;
 use atomic_table::Seat;
 
 impl SumSeat {
-    pub(crate) fn apart(self) -> (Seat<(), View>, Option<u64>)
-        ensures { (result.0 ≡ self.seat) × (result.1 ≡ self.answer) }
+    /// The parts that a gathering needs: the seat of its words and, once rank 0 has come, the answer of that rank.
+    pub(crate) fn apart(self, known: u64) -> (Seat<(), View>, u64)
+        ensures { (result.0 ≡ self.seat) × (result.1 ≡ first_answer self.number self.answer known) }
     {
         let SumSeat {
             seat,
             answer,
-            number: _,
+            number,
             n: _,
             width: _,
             count: _,
         } = self;
-        (seat, answer)
+        let total = if number == 0 {
+            answer.unwrap_or(0)
+        } else {
+            known
+        };
+        (seat, total)
     }
 }
 
@@ -37,7 +44,7 @@ impl SumTree {
         self.table.shared.join_seat::<Gather>(seat, other);
     }
 
-    /// Where all seats were taken in and are final, the sum of rank 0 is the sum of their counts.
+    /// If all seats were taken in and are final, the sum of rank 0 is the sum of their counts.
     pub(crate) fn sum_step(&self, seat: &mut Seat<(), View>)
         requires fits { seat.old.table_id ≡ self.now.table.shared.table_id }
         requires some { 0 < self.now.n }

@@ -1,4 +1,4 @@
-//! Sums and their seats are made.
+//! Making sums and their seats.
 ghost use Rattle.std.specs.Prelude.{◌≡◌, ◌+◌, ◌<◌, ◌≤◌, [], length, true, All, IfOk, map, slice_index_or, ℕ};
 ghost use Rattle.std.specs.List.{range_with_len};
 ghost use Rattle.sum_tree.specs.Plain.{fresh as fresh_shown};
@@ -54,9 +54,11 @@ impl SumTree {
     /// Makes the next seat.
     fn deal_step(&self, first: &mut Seat<(), View>, number: u32) -> Seat<(), View>
         requires fits { first.old.table_id ≡ self.now.table.shared.table_id }
-        requires next { (0 < number) × (first.old.me.0.made ≡ number) × (first.old.me.0.own.n ≡ self.now.n) × (first.old.me.0.own.width ≡ self.now.width) × (number < self.now.n) × (first.old.me.0.live ≡ true) }
+        requires next { (0 < number) × (first.old.me.0.made ≡ number) × (first.old.me.0.own.n ≡ self.now.n)
+            × (first.old.me.0.own.width ≡ self.now.width) × (number < self.now.n) × (first.old.me.0.live ≡ true) }
         ensures first { (first.new.table_id ≡ first.old.table_id) × (first.new.me ≡ (dealing first.old.me.0, first.old.me.1)) }
-        ensures seat { (result.table_id ≡ first.old.table_id) × (result.me.1 ≡ []) × (result.me.0.own ≡ fresh self.now.n self.now.width number) × (result.me.0.live ≡ true) × (result.me.0.kept ≡ []) }
+        ensures seat { (result.table_id ≡ first.old.table_id) × (result.me.1 ≡ [])
+            × (result.me.0.own ≡ fresh self.now.n self.now.width number) × (result.me.0.live ≡ true) × (result.me.0.kept ≡ []) }
     {
         self.table.shared.split_seat::<Deal>(first)
     }

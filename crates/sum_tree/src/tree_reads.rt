@@ -1,4 +1,4 @@
-//! The words of children are read.
+//! Reading the words of children.
 ghost use Rattle.std.specs.Prelude.{◌≡◌, ◌<◌, ◌^◌, None, IfSome, IfNone};
 ghost use Rattle.sum_tree.specs.Tree.{children};
 ghost use Rattle.sum_tree.specs.TreeRule.{below};
@@ -8,7 +8,7 @@ ghost use Rattle.sum_tree.specs.TreeReads.{Loaded, ChildrenFinal, Blocked};
 use crate::sum_trees::{SumSeat, SumTree};
 
 impl SumTree {
-    /// What the words of the children read, together.
+    /// The sum of the numbers in the words of the children.
     pub(crate) fn read_children(&self, seat: &mut SumSeat) -> u64
         requires seat { IsSeat self.now seat.old }
         requires counting { (shown_by seat.old).answer ≡ None }
@@ -16,7 +16,8 @@ impl SumTree {
         ensures mine { IsSeat self.now seat.new }
         ensures sum { result ≡ below seat.new.seat.me.0.own }
         ensures fits { result < 2 ^ 62 }
-        ensures loads { Loaded seat.old.seat.me.0.own (children seat.old.seat.me.0.own.n seat.old.seat.me.0.own.width seat.old.seat.me.0.own.number) seat.new.seat.me.0.own }
+        ensures loads { Loaded seat.old.seat.me.0.own
+            (children seat.old.seat.me.0.own.n seat.old.seat.me.0.own.width seat.old.seat.me.0.own.number) seat.new.seat.me.0.own }
     {
         let first = (seat.number * seat.width + 1) as usize;
         let n = seat.n as usize;
@@ -30,7 +31,7 @@ impl SumTree {
         sum
     }
 
-    /// What the words of the children read, together, where each reads final; reads up to the first that does not.
+    /// The sum of the numbers in the words of the children, if each is final; reads up to the first that is not.
     pub(crate) fn read_finals(&self, seat: &mut SumSeat) -> Option<u64>
         requires seat { IsSeat self.now seat.old }
         requires counting { (shown_by seat.old).answer ≡ None }

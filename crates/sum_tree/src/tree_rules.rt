@@ -1,4 +1,4 @@
-//! The rule of the table of sums, and what each kind of step tells.
+//! The rule of the table of sums, and the facts that each kind of step gives.
 ghost use Rattle.sum_tree.specs.TreeRule.{Rule, opened, dealing, dealt_out, both, spent};
 ghost use Rattle.sum_tree.specs.TreeSteps.{LoadTells, StoreTells, FinalTells, LastLookTells};
 

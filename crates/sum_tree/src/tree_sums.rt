@@ -1,6 +1,6 @@
-//! What ranks do to sums that threads share.
-ghost use Rattle.std.specs.Prelude.{◌≡◌, ◌<◌, Option, Some, None, length, slice_index_or};
-ghost use Rattle.std.specs.List.{sum_by};
+//! The calls of ranks on sums that threads share.
+ghost use Rattle.std.specs.Prelude.{◌≡◌, ◌<◌, Option, Some, None, length};
+ghost use Rattle.std.specs.List.{Contains, sum_by};
 ghost use Rattle.sum_tree.specs.Shown.{AllFinished};
 ghost use Rattle.sum_tree.specs.Told.{SumTold};
 ghost use Rattle.sum_tree.specs.TreeSeats.{shown_by, IsSeat};
@@ -8,7 +8,7 @@ ghost use Rattle.sum_tree.specs.TreeSeats.{shown_by, IsSeat};
 use crate::sum_trees::{SumSeat, SumTree};
 use crate::sums::Sums;
 
-// Where a count stops, so that the sum of 64 ranks is far from the end of its type.
+// A count stops here, so that the sum of 64 ranks stays within its type.
 const MOST: u64 = (1 << 56) - 1;
 
 impl<'b> Sums for &'b SumTree {
@@ -55,20 +55,19 @@ impl<'b> Sums for &'b SumTree {
         requires some { 0 < length all.items }
         requires all { AllFinished shown_by (IsSeat self.old.now) all.items }
         ensures sum { result ≡ sum_by (λ seat. (shown_by seat).count) all.items }
-        ensures first { (d : SumSeat) → (shown_by (slice_index_or all.items 0 d)).answer ≡ Some result }
+        ensures first { (s : SumSeat) → Contains all.items s → (shown_by s).number ≡ 0 → (shown_by s).answer ≡ Some result }
         ensures told { ◌≡◌ {A = Option SumTold} None None }
     {
         let Some(last) = all.pop() else {
             unreachable!()
         };
-        let (mut first, mut answer) = last.apart();
+        let (mut first, mut total) = last.apart(0);
         while let Some(other) = all.pop() {
-            let (theirs, its) = other.apart();
+            let (theirs, known) = other.apart(total);
             self.join_step(&mut first, theirs);
-            answer = its;
+            total = known;
         }
         self.sum_step(&mut first);
-        let Some(total) = answer else { unreachable!() };
         total
     }
 

@@ -1,13 +1,13 @@
-//! What the seat of a rank knows of the sums. No value of these types is made: they are the views of a table.
+//! The knowledge of a rank's seat about the sums. No value of these types is made: they are the views of a table.
 use crate::ranks::Reading;
 use std::collections::LinkedList;
 
-/// What the seat of a rank knows.
+/// The knowledge of a rank's seat.
 pub struct Known {
     pub number: u64,
     pub n: u64,
     pub width: u64,
-    /// What the rank had counted when it last stored its word.
+    /// The rank's count when it last stored its word.
     pub count: u64,
     pub word: u64,
     pub is_final: bool,
@@ -21,7 +21,7 @@ pub struct View {
     /// Seats made so far, told by the first one alone.
     pub made: u64,
     pub own: Known,
-    /// What the seats knew that this one took in.
+    /// The knowledge of the seats that this one took in.
     pub kept: LinkedList<Known>,
     /// False once another seat has taken this one in.
     pub live: bool,

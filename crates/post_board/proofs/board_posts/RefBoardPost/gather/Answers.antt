@@ -1,6 +1,6 @@
 use Rattle.std.proofs.Common.{◌≡◌, ◌∙◌, refl, ap, arith, [], ◌∷◌, ◌++◌, length}
 use Rattle.post_board.specs.BoardSteps.{SeatState}
-use Rattle.post_board.proofs.GatherLemmas.{begun, fits, went_on, squares_of, halters_of}
+use Rattle.post_board.proofs.GatherLemmas.{begun, fits, went_on, over_of, squares_of, halters_of}
 use Rattle.post_board.proofs.board_posts.RefBoardPost.gather.Goals as goal
 
 pub loop-other-init : goal.loop-other-init
@@ -51,6 +51,12 @@ loop-other-preserved c =
           c.apart-theirs.result.0.me c.join_step.new.seat.me.0 (ap (λ s. s.me) c.apart-theirs.ensures.0) c.apart-theirs.ensures.1
           (ap (λ (m : SeatState). m.0) c.join_step.ensures.both);
     }
+
+pub returns-clause-over : goal.returns-clause-over
+returns-clause-over c =
+    let inv = c.loop-other.invariant in
+    let none : length c.loop-other.all.items ≡ 0 = (let a = c.in_default-pop.ensures.cases in let b = c.loop-other.all.ok in omega arith) in
+    over_of c.args.self.now.now c.args.all.items c.requires.all c.loop-other.all.items c.loop-other.first.me.0 c.loop-other.over inv.together none
 
 pub returns-clause-batches : goal.returns-clause-batches
 returns-clause-batches c =

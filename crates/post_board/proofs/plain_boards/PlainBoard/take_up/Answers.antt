@@ -2,7 +2,7 @@ use Rattle.std.proofs.Common.{◌≡◌, ℕ, ◌∙◌, ap, refl, true, false, 
 use Rattle.std.proofs.lemmas.List.{get_or_read}
 use Rattle.std.specs.Vec.{with_item}
 use Rattle.post_board.specs.Plain.{no_rank, plain, worded, Noted}
-use Rattle.post_board.proofs.PlainDeeds.{take_up_deed, wants_is}
+use Rattle.post_board.proofs.PlainServing.{take_up_deed, wants_is}
 use Rattle.post_board.proofs.AskerLemmas.{noted_taken}
 use Rattle.post_board.proofs.PlainHalts.{Keeps, keeps_put, serves_on}
 use Rattle.post_board.specs.declared.plain_ranks.PlainMailbox.TheVariants.{Rest, Wants, Served}

@@ -1,7 +1,7 @@
 use Rattle.std.proofs.Common.{◌≡◌, ap, refl}
 use Rattle.std.proofs.lemmas.List.{get_or_read}
 use Rattle.post_board.specs.Plain.{no_rank, plain}
-use Rattle.post_board.proofs.PlainDeeds.{conclude_deed}
+use Rattle.post_board.proofs.PlainToken.{conclude_deed}
 use Rattle.post_board.specs.Plain.{wants}
 use Rattle.post_board.specs.declared.plain_ranks.PlainRank.{PlainRank}
 use Rattle.post_board.proofs.AskerLemmas.{noted_same}

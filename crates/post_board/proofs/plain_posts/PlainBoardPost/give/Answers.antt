@@ -2,14 +2,14 @@ use Rattle.std.proofs.Common.{rules, ◌≡◌, ℕ, ◌<◌, ap, refl, sym, sub
 use Rattle.std.proofs.lemmas.List.{get_or_read}
 use Rattle.std.specs.Vec.{with_item}
 use Rattle.post_board.specs.Plain.{no_rank, plain}
-use Rattle.post_board.proofs.PlainDeeds.{give_deed, serves_below}
+use Rattle.post_board.proofs.PlainServing.{give_deed, serves_below}
 use Rattle.post_board.specs.Plain.{wants}
 use Rattle.post_board.specs.declared.plain_ranks.PlainMailbox.{PlainMailbox}
 use Rattle.post_board.specs.declared.plain_ranks.PlainMailbox.TheVariants.{Rest, Served}
 use Rattle.post_board.specs.declared.plain_ranks.PlainRank.{PlainRank}
 use Rattle.post_board.proofs.AskerLemmas.{noted_same}
 use Rattle.post_board.proofs.PlainHalts.{done_by, keeps_own, keeps_put, keeps_then, serves_on}
-use Rattle.post_board.proofs.PlainDeeds.{not_self}
+use Rattle.post_board.proofs.PlainServing.{not_self}
 use Rattle.std.proofs.Common.{get_or-set_other}
 use Rattle.post_board.proofs.plain_posts.PlainBoardPost.give.Goals as goal
 

@@ -2,7 +2,7 @@ use Rattle.std.proofs.Common.{◌≡◌, ap, refl, false, sym, ◌∙◌}
 use Rattle.std.proofs.lemmas.List.{get_or_read}
 use Rattle.std.specs.Vec.{with_item}
 use Rattle.post_board.specs.Plain.{no_rank, plain}
-use Rattle.post_board.proofs.PlainDeeds.{refuse_deed, serves_below}
+use Rattle.post_board.proofs.PlainServing.{refuse_deed, serves_below}
 use Rattle.post_board.specs.Plain.{wants}
 use Rattle.post_board.specs.declared.plain_ranks.PlainMailbox.{PlainMailbox}
 use Rattle.post_board.proofs.AskerLemmas.{noted_same}

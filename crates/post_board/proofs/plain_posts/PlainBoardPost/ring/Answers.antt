@@ -1,7 +1,8 @@
 use Rattle.std.proofs.Common.{◌≡◌, ap, refl, inr}
 use Rattle.std.proofs.lemmas.List.{get_or_read}
 use Rattle.post_board.specs.Plain.{no_rank, plain}
-use Rattle.post_board.proofs.PlainDeeds.{over_deed, over_quiet}
+use Rattle.post_board.proofs.PlainDeeds.{over_deed}
+use Rattle.post_board.proofs.PlainToken.{over_quiet}
 use Rattle.post_board.specs.Plain.{wants}
 use Rattle.post_board.specs.declared.plain_ranks.PlainRank.{PlainRank}
 use Rattle.post_board.proofs.AskerLemmas.{noted_same}
