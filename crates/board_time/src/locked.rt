@@ -1,4 +1,4 @@
-//! The same job by threads that share one queue under a lock, as one would write it first.
+//! The same job by threads that share one queue under a lock, which is the plain way to write it.
 ghost use Rattle.std.specs.Prelude.{◌≡◌, []};
 
 use circle_run::Job;
@@ -18,14 +18,14 @@ struct Shared {
     unfinished: u64,
 }
 
-/// What a thread does next.
+/// The next step of a thread.
 enum Next {
     Handle(Path),
     Wait,
     End,
 }
 
-/// How many strings so many threads handled, from the string `/0` on.
+/// How many strings these threads handled, from the string `/0` on.
 pub fn by_lock<R: Threads + Wait + Sync>(
     rt: &R,
     alloc: Global,
@@ -105,7 +105,7 @@ fn take_next<R: Wait>(rt: &R, shared: &Mutex<Shared>) -> Next {
     }
 }
 
-// A string was handled, and pushed these.
+// Notes that a string was handled, and queues those that it pushed.
 fn put<R: Wait>(rt: &R, shared: &Mutex<Shared>, fresh: &mut Batch) {
     let mut guard = shared.lock(rt);
     let shared = &mut *guard;

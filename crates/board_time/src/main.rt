@@ -1,9 +1,9 @@
-//! A program to measure with: `board_time STRINGS` handles so many strings of a made-up job by ranks in 1, 2 and 4 threads, over a board
-//! and sums of atomic words, and then by as many threads that share one queue under a lock.
+//! A program for measurements: `board_time STRINGS` handles so many strings of a made-up job by ranks in 1, 2 and 4 threads, over a board
+//! and sums of atomic words. It then does so by as many threads that share one queue under a lock.
 //!
-//! Standard output has how many strings were handled in each run; standard error has how many a second. The job does nothing with a
-//! string, or works for some ten microseconds. At last one of 64 ranks looks for requests, as often, of which there is none. Where no
-//! number is given there are 1,000 strings.
+//! Standard output has the number of strings of each run, and standard error has the strings a second. The job does nothing with a
+//! string, or works for some ten microseconds. At the end one of 64 ranks looks for requests as many times; there are none. The
+//! default is 1,000 strings.
 #![tactic(auto)]
 
 mod locked;

@@ -15,8 +15,8 @@ use Rattle.post_board.specs.Shown.{Strings, Shown, is_served}
 use Rattle.post_board.specs.Told.{Told, place}
 use Rattle.post_board.specs.Deeds.{DeedsKeepSound, LateKeepsSound}
 use Rattle.post_board.specs.Fresh.{fresh_told}
-use Rattle.post_board.specs.Calls.{AgreesIfTold, AllDone, NoneOnTheWay}
-use Rattle.sum_tree.specs.Shown.{SumShown, AllFinished}
+use Rattle.post_board.specs.Calls.{AgreesIfTold, ByNumber as SeatsByNumber, NoneOnTheWay}
+use Rattle.sum_tree.specs.Shown.{SumShown, ByNumber as SumsByNumber}
 use Rattle.circle_run.specs.Balance.{Log, Balanced}
 use Rattle.circle_run.specs.Left.{all_left}
 use Rattle.circle_run.specs.Moves.{Move}
@@ -361,10 +361,10 @@ module _ {J S T P Q D : Type 0} (log : J → Log) (plain : J → D) (shows : S �
     played o starts jobs ranks0 ranks p0 p q0 q total f x,
   )
 
-  -- the seats may be gathered
+  -- the seats may be gathered: here they stand by their numbers
   pub seats_done : (o : Options) (ranks : List (Rank J S T)) (p : P) (q : Q) (all_seats : List S) → AreAll o ranks
       → AllEnded log shows seats sums_shows sums_seats ranks p q → all_seats ≡ map (λ (r : Rank J S T). r.seat) ranks
-      → AllDone shows (seats p) all_seats
+      → SeatsByNumber shows (seats p) all_seats
   seats_done o ranks p q all_seats all done are =
       let long : o.ranks ≡ length all_seats = sym (ap length are ∙ length-map ranks (λ (r : Rank J S T). r.seat) ∙ all.count) in
       map_each (λ (k : ℕ) (x : S). seats p x × ((shows x).number ≡ k) × ((shows x).n ≡ length all_seats)
@@ -383,7 +383,7 @@ module _ {J S T P Q D : Type 0} (log : J → Log) (plain : J → D) (shows : S �
 
   pub sums_done : (o : Options) (ranks : List (Rank J S T)) (p : P) (q : Q) (all_sums : List T) → AreAll o ranks
       → AllEnded log shows seats sums_shows sums_seats ranks p q → all_sums ≡ map (λ (r : Rank J S T). r.sums_seat) ranks
-      → AllFinished sums_shows (sums_seats q) all_sums
+      → SumsByNumber sums_shows (sums_seats q) all_sums
   sums_done o ranks p q all_sums all done are =
       let long : o.ranks ≡ length all_sums = sym (ap length are ∙ length-map ranks (λ (r : Rank J S T). r.sums_seat) ∙ all.count) in
       map_each (λ (k : ℕ) (x : T). sums_seats q x × ((sums_shows x).number ≡ k) × ((sums_shows x).n ≡ length all_sums) × IsSome (sums_shows x).answer)

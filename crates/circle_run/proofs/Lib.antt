@@ -4,6 +4,7 @@ pub mod Stepped
 pub mod Bounding
 pub mod Winding
 pub mod Asked
+pub mod Hearing
 pub mod Choosing
 pub mod Requests
 pub mod Answering
@@ -40,6 +41,7 @@ pub mod Sounding
 pub mod Beginning
 pub mod Leaving
 pub mod Finishing
+pub mod Gathering
 pub mod Lone
 pub mod Upto
 pub mod Apart

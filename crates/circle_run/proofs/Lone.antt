@@ -80,7 +80,8 @@ module _ {J S T P D : Type 0} (log : J → Log) (plain : J → D) (shows : S →
         let long = length-set ranks k r' in
         let was : get_or ranks k d ≡ r = sym (get_or_read ranks k r inside is d) in
         let here : r.book.lost ≡ false
-        → Alone log shows (get_or ranks0 k d) r = subst (λ (x : Rank J S T). x.book.lost ≡ false → Alone log shows (get_or ranks0 k d) x) was (all k d (omega arith)) in
+        → Alone log shows (get_or ranks0 k d) r =
+        subst (λ (x : Rank J S T). x.book.lost ≡ false → Alone log shows (get_or ranks0 k d) x) was (all k d (omega arith)) in
         let me : r.me ≡ (get_or ranks0 k d).me = ap (λ (x : Rank J S T). x.me) (sym was) ∙ same.me k d (omega arith) in
         let options : r.options ≡ (get_or ranks0 k d).options = ap (λ (x : Rank J S T). x.options) (sym was) ∙ same.options k d (omega arith) in
         each-set (λ (i : ℕ) (x : Rank J S T). x.book.lost ≡ false → Alone log shows (get_or ranks0 i d) x) ranks k r'

@@ -47,7 +47,8 @@ acted_some me moves (inr (inr (answers, some, e))) none =
 
 worked_some : (me : ℕ) (moves : List Move) → Worked Handled moves ⊎ MayHalt (Worked Acted) moves → flat_map (events_of me) moves ≡ [] → ⊥
 worked_some me moves (inl (answers, path, kids, due, e)) none =
-    some_event (map (λ x. event_of me (answer_of x)) answers) (flat_map (events_of me) (halt_if due)) (Handle me path (length kids)) (ap (flat_map (events_of me)) (sym e) ∙ none)
+    some_event (map (λ x. event_of me (answer_of x)) answers) (flat_map (events_of me) (halt_if due)) (Handle me path (length kids))
+    (ap (flat_map (events_of me)) (sym e) ∙ none)
 worked_some me moves (inr (inl w)) none = acted_some me moves w none
 worked_some me moves (inr (inr (rest, w, e))) none = acted_some me rest w (ap (flat_map (events_of me)) (sym e) ∙ none)
 

@@ -2,15 +2,16 @@
 use Rattle.std.proofs.Common.{◌≡◌, ℕ, ◌<◌, ◌≤◌, refl, sym, subst, ap, ◌∙◌, arith, true, false, List, [], ◌∷◌, map, length, get_or, Option, Some, None, Vec}
 use Rattle.std.proofs.lemmas.List.{length-map, get_or-map, get_or_default}
 use Rattle.std.proofs.lemmas.List.FromFn.{get_or-map-range_with_len}
+use Rattle.std.proofs.lemmas.List.Elements.{Contains-get_or}
 use Rattle.std.proofs.lemmas.List.Folds.{flat_map-map}
 use Rattle.std.proofs.lemmas.List.Sums.{sum_by-cons}
 use Rattle.std.specs.List.{flat_map, range_with_len, sum_by}
 use Rattle.rank_queue.specs.Shares.{generator_of}
 use Rattle.post_board.specs.Shown.{Strings, Shown, Batches}
 use Rattle.post_board.specs.Fresh.{fresh, AllFresh}
-use Rattle.post_board.specs.Calls.{Even, AllEven, AllDone, Halters}
+use Rattle.post_board.specs.Calls.{Even, AllEven, ByNumber as SeatsByNumber, Halters}
 use Rattle.post_board.specs.BoardSeats.{unused}
-use Rattle.sum_tree.specs.Shown.{SumShown, AllFinished}
+use Rattle.sum_tree.specs.Shown.{SumShown, ByNumber as SumsByNumber}
 use Rattle.sum_tree.specs.Plain.{fresh as fresh_sums}
 use Rattle.circle_run.specs.Balance.{Log, Balanced}
 use Rattle.circle_run.specs.Moves.{Move, Side, events_of}
@@ -215,9 +216,18 @@ module _ {J S T P Q D : Type 0} (log : J → Log) (plain : J → D) (shows : S �
             let is : (k : ℕ) → k < length final → (shows (get_or all_seats k d.seat)).batches ≡ Some (get_or bs k b) =
             λ k x. ap (λ (s : S). (shows s).batches) (at k x) ∙ keeps (get_or final k d).seat
             ∙ ap (λ (y : Batches). Some y) (sym (get_or-map (λ (r : Rank J S T). kept r.seat) final k d b x)) in
-            let e = even i j d.seat (omega (arith, hi, size)) (omega (arith, hj, size)) in
-            subst (λ (x : Option Batches). Even x i (Some (get_or bs j b)) j) (is i hi)
-            (subst (λ (x : Option Batches). Even (shows (get_or all_seats i d.seat)).batches i x j) (is j hj) e));
+            let by = seats_done log plain shows (λ (x : P). None) seats sums_shows sums_seats o final p q all_seats
+            (are_all log plain shows seats sums_shows sums_seats o starts whole final p q first last)
+            (all_ended log plain shows seats sums_shows sums_seats whole final p q last) seats_are in
+            let gi : i < length all_seats = omega (arith, hi, size) in
+            let gj : j < length all_seats = omega (arith, hj, size) in
+            let x : S = get_or all_seats i d.seat in
+            let y : S = get_or all_seats j d.seat in
+            let e = even x y (Contains-get_or all_seats i d.seat gi) (Contains-get_or all_seats j d.seat gj) in
+            subst (λ (z : Option Batches). Even z i (Some (get_or bs j b)) j) (is i hi)
+            (subst (λ (z : Option Batches). Even (shows x).batches i z j) (is j hj)
+            (subst (λ (k : ℕ). Even (shows x).batches k (shows y).batches j) (by i d.seat gi).1
+            (subst (λ (k : ℕ). Even (shows x).batches (shows x).number (shows y).batches k) (by j d.seat gj).1 e))));
       }
 
   -- and what each did
@@ -225,7 +235,8 @@ module _ {J S T P Q D : Type 0} (log : J → Log) (plain : J → D) (shows : S �
       → ((s : S) → (shows s).batches ≡ Some (kept s)) → 0 < o.ranks
       → Starting log shows seats sums_shows sums_seats o starts whole p q → Ending log plain shows seats sums_shows sums_seats whole final p q
       → all_seats ≡ map (λ (r : Rank J S T). r.seat) final → AllEven shows (seats p) all_seats
-      → PlayedApart o starts (map (λ (r : Rank J S T). log r.job) final) (map (λ (r : Rank J S T). r.queue) final) (map (λ (r : Rank J S T). r.book.share) final)
+      → PlayedApart o starts (map (λ (r : Rank J S T). log r.job) final) (map (λ (r : Rank J S T). r.queue) final)
+      (map (λ (r : Rank J S T). r.book.share) final)
   all_played o starts whole final p q kept all_seats keeps some first last seats_are even =
       let bs : List Batches = map (λ (r : Rank J S T). kept r.seat) final in
       let queues : List Strings = map (λ (r : Rank J S T). r.queue) final in
@@ -377,11 +388,12 @@ module _ {J S T P Q D : Type 0} (log : J → Log) (plain : J → D) (shows : S �
   closed o starts jobs whole final p q kept all_seats total f x =
       (outcome o starts jobs whole final p q kept all_seats total f x, apart o starts jobs whole final p q kept all_seats total f x)
 
-  -- the seats may be gathered
+  -- the seats may be gathered: here they stand by their numbers
   pub may_gather : (o : Options) (starts : Strings) (whole final : List (Rank J S T)) (p : P) (q : Q) (all_seats : List S) (all_sums : List T) → 1 ≤ o.ranks
       → Starting log shows seats sums_shows sums_seats o starts whole p q → Ending log plain shows seats sums_shows sums_seats whole final p q
       → all_seats ≡ map (λ (r : Rank J S T). r.seat) final → all_sums ≡ map (λ (r : Rank J S T). r.sums_seat) final
-      → ((0 < length all_seats) × (0 < length all_sums)) × AllDone shows (seats p) all_seats × AllFinished sums_shows (sums_seats q) all_sums
+      → ((0 < length all_seats) × (0 < length all_sums)) × SeatsByNumber shows (seats p) all_seats
+      × SumsByNumber sums_shows (sums_seats q) all_sums
   may_gather o starts whole final p q all_seats all_sums some first last seats_are sums_are =
       let all = are_all log plain shows seats sums_shows sums_seats o starts whole final p q first last in
       let ended = all_ended log plain shows seats sums_shows sums_seats whole final p q last in

@@ -29,7 +29,7 @@ pub record AllRan (o : Options) (starts : Strings) (logs : List Log) (left : Lis
       → RankRan o k (dealt_to o.ranks starts k) (slice_index_or logs k d) (slice_index_or left k l) (slice_index_or batches k b)
   pub even : (i j : ℕ) (b : Batches) → i < o.ranks → j < o.ranks → Even (Some (slice_index_or batches i b)) i (Some (slice_index_or batches j b)) j
 
--- where each rank made moves of its own to its end, and what each took from each other is what that one gave, the run is balanced
+-- if each rank made moves of its own to its end, and each took from each other the batches that the other gave, the run is balanced
 abbrev pub HostsAreBalanced : Type 0
 HostsAreBalanced = (o : Options) (starts : Strings) (logs : List Log) (left : List Strings) (batches : List Batches)
     → 0 < o.ranks → AllRan o starts logs left batches → Balanced (flat_map (λ l. l) logs) (flat_map (λ l. l) left) starts

@@ -4,7 +4,7 @@ use Rattle.std.specs.List.{flat_map}
 use Rattle.std.specs.Cmp.Lexicographic.{pointwise}
 use Rattle.circle_run.specs.Balance.{Log, Balanced}
 
--- how often a string stands in a list
+-- how often a string is in a list
 abbrev pub times : List ℕ → List (List ℕ) → ℕ
 times s strings = count_by (pointwise nat_eq s) strings
 

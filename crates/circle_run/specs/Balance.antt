@@ -1,4 +1,4 @@
--- What goes in comes out: the strings of the logs and those that are left are the starts and the strings pushed. The job, which handles
+-- Nothing is lost or added: the strings of the logs and those left are the starts and the strings pushed. The job, which handles
 -- strings and pushes more, is from LaFon, Misra and Bringhurst, On Distributed File Tree Walk of Parallel File Systems (SC 2012); its log
 -- and the balance are our own.
 use Rattle.std.specs.Prelude.{◌≡◌, ℕ, ◌+◌, List, sum_by}

@@ -1,4 +1,4 @@
--- What each rank of a run handled, gave, took and has left. Our own.
+-- The strings that each rank of a run handled, gave, took and has left. Our own.
 use Rattle.std.specs.Prelude.{◌≡◌, ℕ, ◌<◌, List, length, map, slice_index_or}
 use Rattle.std.specs.List.{flat_map, range_with_len}
 use Rattle.post_board.specs.Shown.{Strings, Batches}
@@ -12,8 +12,8 @@ use Rattle.circle_run.specs.Traced.{share_in}
 use Rattle.circle_run.specs.declared.outcomes.Share.{Share}
 use Rattle.circle_run.specs.declared.settings.Options.{Options}
 
--- moves of all ranks were played on one host, from the deal of the starts on: they leave this at each rank and nothing on the way, and each rank
--- did what their events say
+-- moves of all ranks were played on one host, from the deal of the starts on. They leave this at each rank and nothing on the way, and the
+-- shares count their events
 pub record Played (o : Options) (starts : Strings) (logs : List Log) (left : List Strings) (shares : List Share) : Type 0 where
   pub moves : List (ℕ × Move)
   pub last : Stage
@@ -26,12 +26,12 @@ pub record Played (o : Options) (starts : Strings) (logs : List Log) (left : Lis
 abbrev pub nothing_done : Share
 nothing_done = record { handled = 0; given = 0; taken = 0 }
 
--- a rank that ran so on a host of its own or with others, and did what the events of its moves say
+-- a rank that ran so, alone on a host or with others; its share counts the events of its moves
 pub record RankPlayed (o : Options) (me : ℕ) (dealt : Strings) (log : Log) (left : Strings) (batches : Batches) (share : Share) : Type 0 where
   pub ran : RankRan o me dealt log left batches
   pub counts : share ≡ counted (flat_map (events_of me) ran.moves) nothing_done
 
--- all ranks of several hosts: each made moves of its own, and what one took from another is what that one gave
+-- all ranks of several hosts: each made moves of its own, and took from each other one the batches that the other gave
 pub record PlayedApart (o : Options) (starts : Strings) (logs : List Log) (left : List Strings) (shares : List Share) : Type 0 where
   pub batches : List Batches
   pub all : AllRan o starts logs left batches

@@ -1,8 +1,9 @@
 -- Which move a rank makes once all that ask it have their answers.
--- That a rank works on its own strings and asks another once it has none is from LaFon, Misra and Bringhurst, On Distributed File Tree Walk
--- of Parallel File Systems (SC 2012); that only an idle rank moves the token is EWD840's. The order of these, and that a rank was refused
--- once before it moves the token, are our own.
-use Rattle.std.specs.Prelude.{◌≡◌, ◌≢◌, ℕ, zero, suc, ◌-◌, ◌==◌, ◌||◌, ◌&&◌, not, ◌⊎◌, nat_le, Bool, true, false, if◌then◌else◌, All, List, length, [], ◌∷◌, ◌++◌}
+-- A rank works on its own strings and asks another once it has none: LaFon, Misra and Bringhurst, On Distributed File Tree Walk of Parallel
+-- File Systems (SC 2012). Only an idle rank moves the token: EWD840. The order of these is our own, and so is the rule that a rank was
+-- refused once before it moves the token.
+use Rattle.std.specs.Prelude.{◌≡◌, ◌≢◌, ℕ, zero, suc, ◌-◌, ◌==◌, ◌||◌, ◌&&◌, not, ◌⊎◌, nat_le, Bool, true, false, if◌then◌else◌, All, List, length}
+use Rattle.std.specs.Prelude.{[], ◌∷◌, ◌++◌}
 use Rattle.std.specs.Prelude.{Option, Some, None}
 use Rattle.std.specs.List.{flat_map}
 use Rattle.std.specs.Option.{option_map}
@@ -20,15 +21,15 @@ use Rattle.circle_run.specs.Moves.{Move, handled, served, did, noted}
 use Rattle.circle_run.specs.declared.settings.Options.{Options}
 use Rattle.circle_run.specs.declared.ranks.Rank.{Rank}
 
--- what a rank goes by
+-- the facts by which a rank chooses
 pub record Standing : Type 0 where
-  -- what waits at it, oldest first
+  -- the strings that wait at it, oldest first
   pub queue : Strings
-  -- whom it asked, where it has not taken the answer yet
+  -- the rank that it asked, if it has not taken the answer yet
   pub asked : Option ℕ
   -- its last request was refused
   pub tried : Bool
-  -- what it read of the ring
+  -- the ring as it read it
   pub ring : Ring
 
 pub data Choice : Type 0 where
@@ -41,7 +42,7 @@ pub data Choice : Type 0 where
   -- to ask another rank
   to_ask : Choice
 
--- an idle rank of n moves the token that is here once it was refused, or where it is the only one; else it asks
+-- an idle rank of n moves the token that is here once it was refused, or if it is the only one; else it asks
 abbrev pub token_or_ask : ℕ → Bool → Ring → Choice
 token_or_ask n tried (Here held) = if tried || n == 1 then to_move held else to_ask
 token_or_ask n tried _ = to_ask
@@ -59,13 +60,13 @@ handle_or_on (s ∷ queue) idle = to_handle
 abbrev pub choice : ℕ → Standing → Choice
 choice n x = handle_or_on x.queue (look_or_on n x.asked x.tried x.ring)
 
--- the rank me moves the token on with this colour. Rank 0 ends the run where it is white, and else sends it round once more
+-- the rank me moves the token on with this colour. Rank 0 ends the run if it is white, and else sends it round once more
 abbrev pub moved_on : ℕ → Colour → Deed
 moved_on zero White = conclude
 moved_on zero Black = restart
 moved_on (suc r) colour = pass colour
 
--- the moves of a choice. Where the answer has not come there is none, and a request to a rank that has stopped is taken back
+-- the moves of a choice. If the answer has not come there is none, and a request to a rank that has stopped is taken back
 abbrev pub Chosen : ℕ → Choice → List Move → Type 0
 Chosen me to_handle moves = (path : List ℕ) × (kids : Strings) × (moves ≡ handled path kids ∷ [])
 Chosen me (to_look victim) moves =
@@ -76,28 +77,28 @@ Chosen me (to_look victim) moves =
 Chosen me (to_move held) moves = (own : Colour) × (moves ≡ did (moved_on me (darker own held)) ∷ [])
 Chosen me to_ask moves = (victim : ℕ) × (moves ≡ did (ask victim) ∷ [])
 
--- what the rank me reads of the ring while the token is so, and all are to halt or not
+-- the ring as the rank me reads it while the token is so, and all are to halt or not
 abbrev pub ring_of : ℕ → Token → Bool → Ring
 ring_of me Over called = HeardOver
 ring_of me (At place colour) true = HeardHalted
 ring_of me (At place colour) false = if place == me then Here colour else Elsewhere
 
--- where the token is told, this is what the rank me reads of the ring
+-- if the token is told, the rank me reads this of the ring
 abbrev pub IsRing : ℕ → Option Told → Ring → Type 0
 IsRing me None ring = Unit {0}
 IsRing me (Some t) ring = ring ≡ ring_of me t.token t.halt
 
--- the colour of the token, where it was read here
+-- the colour of the token, if it was read here
 abbrev pub held_of : Ring → Option Colour
 held_of (Here colour) = Some colour
 held_of _ = None
 
--- the same once the choice was made: who moves the token on has it no more
+-- the same once the choice was made: a rank that moves the token on no longer has it
 abbrev pub held_after : Choice → Ring → Option Colour
 held_after (to_move held) ring = None
 held_after _ ring = held_of ring
 
--- the numbers that the job heard, where it keeps them: with a string it is told how many others wait
+-- the numbers that the job heard, if it keeps them: with a string it hears how many others wait
 abbrev pub heard_after : Choice → ℕ → Option (List ℕ) → Option (List ℕ)
 heard_after to_handle waiting heard = option_map (λ numbers. numbers ++ waiting ∷ []) heard
 heard_after _ waiting heard = heard
@@ -107,7 +108,7 @@ abbrev pub halts_after : Choice → Bool → Bool
 halts_after to_handle due = due
 halts_after _ due = false
 
--- all are told to halt, or nothing is done
+-- the rank tells all to halt, or does nothing
 abbrev pub halt_if : Bool → List Move
 halt_if true = noted halt ∷ []
 halt_if false = []
@@ -116,7 +117,7 @@ halt_if false = []
 pub record Goes (n me : ℕ) (x : Standing) (due' : Bool) (held' : Option Colour) (heard heard' : Option (List ℕ)) (moves : List Move) : Type 0 where
   pub answers : List (ℕ × Strings)
   pub next : List Move
-  -- what waits after the service
+  -- the strings that wait after the service
   pub left : Strings
   pub are : moves ≡ served answers ∷ next ++ halt_if (halts_after (choice n (record x { queue = left })) due')
   pub oldest : x.queue ≡ flat_map (λ a. a.1) answers ++ left
@@ -133,12 +134,13 @@ abbrev pub is_halt : Ring → Bool
 is_halt HeardHalted = true
 is_halt _ = false
 
--- what a rank does last that is to halt: where it asked, it looks for the answer; else it stops
+-- the last move of a rank that is to halt: if it asked, it looks for the answer; else it stops
 abbrev pub Closes : ℕ → Option ℕ → List Move → Type 0
 Closes me (Some victim) moves = Chosen me (to_look victim) moves
 Closes me None moves = moves ≡ noted stop ∷ []
 
--- what a rank does that is to halt: a service in which it gives nothing, and its last. It may have to tell all first. What comes is queued
+-- the turn of a rank that is to halt: a service in which it gives nothing, and its last move. It may have to tell all first. Strings that come
+-- are queued
 pub record WindsUp (o : Options) (me : ℕ) (first : Bool) (asked : Option ℕ) (heard heard' : Option (List ℕ)) (moves : List Move) : Type 0 where
   pub answers : List (ℕ × Strings)
   pub next : List Move
@@ -155,7 +157,7 @@ module _ {J S T : Type 0} where
   abbrev pub has_done_all : Rank J S T → Bool
   has_done_all r = is_due r.options.stop_after r.book.share.handled
 
-  -- it is to halt: it has handled all that it may, or was told so
+  -- it is to halt: it has handled all that it may, or reads a halt
   abbrev pub is_to_halt : Ring → Rank J S T → Bool
   is_to_halt ring r = has_done_all r || is_halt ring
 
@@ -168,8 +170,8 @@ module _ {J S T : Type 0} where
   is_done r = r.ended || r.stopped
 
 module _ {J S T P : Type 0} (heard : J → Option (List ℕ)) (shows : S → Shown) (tells : P → Option Told) where
-  -- which moves a rank makes in a turn before it is done, by what it reads of the ring: where all is over it sees that, and does nothing else.
-  -- What it read is told, or else it is what the seat shows of the token afterwards
+  -- which moves a rank makes in a turn before it is done, by the ring that it reads. If all is over it sees that, and does nothing else. The ring
+  -- is told, or else the seat shows it of the token afterwards
   pub record Chooses (r : Rank J S T) (p : P) (r' : Rank J S T) (moves : List Move) : Type 0 where
     pub ring : Ring
     pub is : IsRing r.me (tells p) ring

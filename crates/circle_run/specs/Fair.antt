@@ -13,7 +13,7 @@ use Rattle.circle_run.specs.Moves.{Move, handled, served, did, noted}
 use Rattle.circle_run.specs.Stages.{Stage, Plays, events_of_all, begun}
 use Rattle.circle_run.specs.declared.settings.Options.{Options}
 
--- whose event it is
+-- the rank of the event
 abbrev pub actor : Event → ℕ
 actor (Handle rank path kids) = rank
 actor (Ask rank victim) = rank
@@ -41,18 +41,18 @@ abbrev pub is_asking : Desk → Bool
 is_asking (Asked of) = true
 is_asking _ = false
 
--- where the event handles a string: each other rank comes before that rank handles one again, save a rank that is asking
+-- if the event handles a string: each other rank comes before that rank handles one again, except a rank that is asking
 abbrev pub LetsOthers : Seen → Event → List Event → Type 0
 LetsOthers world (Handle rank path kids) events = (s : ℕ) → s < length world.0 → s ≢ rank → ComesBefore s rank events
     ⊎ (is_asking (rank_of world.0 s).desk ≡ true)
 LetsOthers world _ events = Unit {0}
 
--- between two strings that one rank handles every other rank has an event of its own, save a rank that is asking at the earlier of the two
+-- between two strings that one rank handles every other rank has an event of its own, except a rank that is asking at the earlier of the two
 abbrev pub IsFair : Seen → List Event → Type 0
 IsFair world [] = Unit {0}
 IsFair world (event ∷ events) = LetsOthers world event events × IsFair (after world event) events
 
--- where the event handles a string: no other rank asks this one
+-- if the event handles a string: no other rank asks this one
 abbrev pub NobodyAsked : Seen → Event → Type 0
 NobodyAsked world (Handle rank path kids) = (s : ℕ) → s < length world.0 → s ≢ rank → asks (rank_of world.0 s).desk rank ≡ false
 NobodyAsked world _ = Unit {0}
@@ -66,14 +66,14 @@ abbrev pub MovesAnswerFirst : Type 0
 MovesAnswerFirst = (o : Options) (starts : Strings) (moves : List (ℕ × Move)) (stage : Stage)
     → o.stop_after ≡ None → Plays o moves (begun o starts) stage → AnswersFirst (started o.ranks (length starts)) (events_of_all moves)
 
--- what may follow a move in the turn of its rank: after a string that it handled it tells all to halt, or does nothing more
+-- the moves that may follow a move in the turn of its rank: after a handled string it tells all to halt, or does nothing more
 abbrev pub MayFollow : Move → List Move → Type 0
 MayFollow (handled path kids) moves = (moves ≡ []) ⊎ (moves ≡ noted halt ∷ [])
 MayFollow (served answers) moves = Unit {0}
 MayFollow (did deed) moves = Unit {0}
 MayFollow (noted late) moves = Unit {0}
 
--- a turn, the moves of a rank one after the other, of which at most one handles a string, as the last but for a halt
+-- a turn, the moves of a rank one after the other, of which at most one handles a string; after it comes at most a halt
 abbrev pub HandlesLast : List Move → Type 0
 HandlesLast [] = Unit {0}
 HandlesLast (move ∷ moves) = MayFollow move moves × HandlesLast moves
@@ -85,7 +85,7 @@ abbrev pub is_waiting : Mail → Bool
 is_waiting (asked r) = true
 is_waiting _ = false
 
--- who has no event in its turn waits for an answer or has seen the end before it, or has stopped after it
+-- a rank that has no event in its turn waits for an answer or has seen the end before it, or has stopped after it
 abbrev pub MayIdle : ℕ → Told → Told → Type 0
 MayIdle r t t' = (is_waiting (place t r).mail ≡ true) ⊎ (((place t r).ended ≡ true) ⊎ (is_stopped t' r ≡ true))
 

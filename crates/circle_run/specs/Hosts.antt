@@ -25,11 +25,11 @@ module _ {J S T : Type 0} where
   abbrev pub IsAscending : List (Rank J S T) → Type 0
   IsAscending ranks = (j k : ℕ) (d : Rank J S T) → j < k → k < length ranks → (slice_index_or ranks j d).me < (slice_index_or ranks k d).me
 
-  -- no rank was refused memory
+  -- no rank ran out of memory
   abbrev pub NoneLost : List (Rank J S T) → Type 0
   NoneLost ranks = (k : ℕ) (d : Rank J S T) → k < length ranks → (slice_index_or ranks k d).book.lost ≡ false
 
-  -- no rank was refused memory or has an event
+  -- no rank ran out of memory or has an event
   abbrev pub NoneWrote : List (Rank J S T) → Type 0
   NoneWrote ranks = (k : ℕ) (d : Rank J S T) → k < length ranks → ((slice_index_or ranks k d).book.lost ≡ false)
       × ((slice_index_or ranks k d).book.events.items ≡ [])
@@ -65,7 +65,7 @@ module _ {J S T P Q : Type 0} (log : J → Log) (shows : S → Shown) (seats : P
   abbrev pub AllEnded : List (Rank J S T) → P → Q → Type 0
   AllEnded ranks p q = (k : ℕ) (d : Rank J S T) → k < length ranks → Placed true (slice_index_or ranks k d) p q
 
--- where it is told, the rank may have no event
+-- if the board is told, the rank may have no event
 abbrev pub MayIdleIfTold : ℕ → Option Told → Option Told → Type 0
 MayIdleIfTold r (Some t) (Some t') = MayIdle r t t'
 MayIdleIfTold r _ _ = Unit {0}
@@ -81,7 +81,7 @@ module _ {J S T P D : Type 0} (log : J → Log) (plain : J → D) (shows : S →
     pub share : r'.book.share ≡ counted (flat_map (events_of r.me) turn) r.book.share
     pub idle : flat_map (events_of r.me) turn ≡ [] → MayIdleIfTold r.me (tells p) (tells p')
 
-  -- what a turn comes to, or none where the rank is done. Unless it found no memory, it had some turn
+  -- the result of a turn, or of none if the rank is done. Unless it ran out of memory, it had some turn
   pub record Took (r : Rank J S T) (p : P) (r' : Rank J S T) (p' : P) : Type 0 where
     pub me : r'.me ≡ r.me
     pub options : r'.options ≡ r.options
@@ -94,11 +94,11 @@ module _ {J S T P : Type 0} (log : J → Log) (tells : P → Option Told) where
   abbrev pub rank_of : Rank J S T → RankSide
   rank_of r = record { queue = r.queue; log = log r.job; draws = r.draws }
 
-  -- all ranks together, and what the board tells
+  -- all ranks together, and the told board
   abbrev pub stage_of : List (Rank J S T) → Told → Stage
   stage_of ranks t = record { ranks = map rank_of ranks; told = t }
 
-  -- what all ranks come to by turns in rounds, where the board told this before: the turns are played and counted, and of all their moves this is kept
+  -- the result of turns of all ranks in rounds, if the board told this before: the turns are played and counted, and their moves are kept so
   pub record Ran (Kept : List (ℕ × Move) → Type 0) (o : Options) (t : Told) (ranks ranks' : List (Rank J S T)) (p' : P) : Type 0 where
     pub turns : List (List Move)
     pub told : Told
@@ -119,17 +119,17 @@ abbrev pub KeptInOrder : Options → List Event → List (ℕ × Move) → Type 
 KeptInOrder o events moves = events ≡ (if o.trace then events_of_all moves else [])
 
 module _ {J S T : Type 0} (log : J → Log) (shows : S → Shown) where
-  -- what a rank has and its seat keeps, over a board that tells nothing
+  -- the parts of a rank, and the batches that its seat keeps, over a board that tells nothing
   abbrev pub lone_side : Rank J S T → Side
   lone_side r = record { queue = r.queue; log = log r.job; draws = r.draws; batches = (shows r.seat).batches; told = None }
 
-  -- what a rank comes to by turns of its own, over a board that tells nothing
+  -- the result of a rank's own turns, over a board that tells nothing
   pub record Alone (r r' : Rank J S T) : Type 0 where
     pub moves : List Move
     pub does : DoesAll r.options r.me moves (lone_side r) (lone_side r')
     pub share : r'.book.share ≡ counted (flat_map (events_of r.me) moves) r.book.share
 
-  -- and so each that found no memory wanting
+  -- each rank that did not run out of memory
   abbrev pub AllAlone : List (Rank J S T) → List (Rank J S T) → Type 0
   AllAlone ranks ranks' = (k : ℕ) (d : Rank J S T) → k < length ranks → (slice_index_or ranks' k d).book.lost ≡ false
       → Alone (slice_index_or ranks k d) (slice_index_or ranks' k d)

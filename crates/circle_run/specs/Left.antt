@@ -1,4 +1,4 @@
--- What is left when a run ends or stops. Our own.
+-- The strings left when a run ends or stops. Our own.
 use Rattle.std.specs.Prelude.{ℕ, List, Vec}
 use Rattle.std.specs.List.{flat_map}
 use Rattle.std.specs.declared.alloc.Global.{Global}

@@ -1,5 +1,5 @@
--- What one rank does, one move after the other, and what each move does to its side: its queue, its log, the words that it draws, the
--- batches that its seat keeps, and what its board tells.
+-- The moves of one rank, one after the other, and the effect of each on its side: its queue, its log, the words that it draws, the
+-- batches that its seat keeps, and its told board.
 -- Handling, asking and giving are those of LaFon, Misra and Bringhurst, On Distributed File Tree Walk of Parallel File Systems (SC 2012),
 -- the token is EWD840's; amounts, the order in a queue and the victims are our own.
 use Rattle.std.specs.Prelude.{◌≡◌, ◌≢◌, ◌⊎◌, ℕ, zero, suc, ◌-◌, ◌<◌, ◌^◌, ◌==◌, ◌&&◌, Bool, true, false, not, if◌then◌else◌, min, All, List, length}
@@ -23,7 +23,7 @@ pub data Move : Type 0 where
   handled : List ℕ → Strings → Move
   -- answers all ranks that ask it, each by the strings that it gets; none is a refusal
   served : List (ℕ × Strings) → Move
-  -- asks, takes what came, or moves the token
+  -- asks, takes the answer, or moves the token
   did : Deed → Move
   -- takes its request back from a rank that has stopped, tells all to halt, or stops
   noted : Late → Move
@@ -40,7 +40,7 @@ pub record Side : Type 0 where
 abbrev pub answer_of : ℕ × Strings → Deed
 answer_of x = if length x.1 == 0 then refuse x.0 else give x.0 x.1
 
--- a request that is taken back is kept as if it had been refused; a halt and a stop are no events
+-- a request that is taken back is kept as if it had been refused; a halt and a stop are not events
 abbrev pub noted_of : ℕ → Late → List Event
 noted_of me (withdraw from) = TakeNone me from ∷ []
 noted_of me halt = []
@@ -53,7 +53,7 @@ events_of me (served answers) = map (λ x. event_of me (answer_of x)) answers
 events_of me (did deed) = event_of me deed ∷ []
 events_of me (noted late) = noted_of me late
 
--- by lot: each gets some of what the ones before it left, by a word each
+-- at random: each gets some of the strings that the ones before it left, by a word each
 abbrev pub lots : ℕ → ℕ → Lcg → List ℕ × Lcg
 lots left zero from = ([], from)
 lots left (suc r) from =
@@ -61,7 +61,7 @@ lots left (suc r) from =
     let rest : List ℕ × Lcg = lots (left - share) r (after_word from) in
     (share ∷ rest.0, rest.1)
 
--- what r ranks get of a queue of q strings, and the generator afterwards; one string stays. Lots see at most 2^32 strings
+-- the amounts for r ranks of a queue of q strings, and the generator afterwards; one string stays. Random amounts see at most 2^32 strings
 abbrev pub amounts : Split → ℕ → ℕ → Lcg → List ℕ × Lcg
 amounts Equal q r from = (replicate r (equal_share q r), from)
 amounts Random q r from = if q == 0 then (replicate r 0, from) else lots (min q (2 ^ 32) - 1) r from
@@ -74,17 +74,17 @@ asks me _ = false
 abbrev pub askers : ℕ → Told → List ℕ
 askers me t = filter (λ r. not (r == me) && asks me (place t r).mail) (range_with_len 0 (length t.places))
 
--- where it is told, the rank me has not ended
+-- if the board is told, the rank me has not ended
 abbrev pub IsLive : ℕ → Option Told → Type 0
 IsLive me None = Unit {0}
 IsLive me (Some t) = Acts me t
 
--- where it is told, nobody asks the rank me
+-- if the board is told, nobody asks the rank me
 abbrev pub NobodyAsks : ℕ → Option Told → Type 0
 NobodyAsks me None = Unit {0}
 NobodyAsks me (Some t) = askers me t ≡ []
 
--- where it is told, these are all that ask the rank me
+-- if the board is told, these are all that ask the rank me
 abbrev pub AreAskers : ℕ → Option Told → List ℕ → Type 0
 AreAskers me None ranks = Unit {0}
 AreAskers me (Some t) ranks = ranks ≡ askers me t
@@ -103,7 +103,7 @@ abbrev pub batches_after_all : List Deed → Option Batches → Option Batches
 batches_after_all [] b = b
 batches_after_all (deed ∷ deeds) b = batches_after_all deeds (batches_after deed b)
 
--- what a deed does to the queue. It asks and moves the token without a string; giving and refusing are no moves by themselves
+-- the effect of a deed on the queue. A rank asks and moves the token without a string; giving and refusing alone are not moves
 abbrev pub Queues : Deed → Strings → Strings → Type 0
 Queues (ask victim) q q' = (q ≡ []) × (q' ≡ [])
 Queues (give to batch) q q' = ⊥
@@ -115,17 +115,17 @@ Queues restart q q' = (q ≡ []) × (q' ≡ [])
 Queues conclude q q' = (q ≡ []) × (q' ≡ [])
 Queues see_over q q' = (q ≡ []) × (q' ≡ [])
 
--- whom it asks is drawn, and nothing else
+-- the rank that it asks is drawn, and nothing else
 abbrev pub Draws : ℕ → ℕ → Deed → Lcg → Lcg → Type 0
 Draws n me (ask v) from from' = (v ≡ victim me n (word from)) × (from' ≡ after_word from)
 Draws n me _ from from' = from' ≡ from
 
--- where it is told, all are to halt
+-- if the board is told, all are to halt
 abbrev pub IsHalted : Option Told → Type 0
 IsHalted None = Unit {0}
 IsHalted (Some t) = t.halt ≡ true
 
--- the amounts of the split; or none, without a word, in a run that stops after some number, where all are to halt
+-- the amounts of the split; or none, without a word, in a run that stops after some number, once all are to halt
 abbrev pub IsShared : Options → Option Told → List (ℕ × Strings) → Strings → Lcg → Lcg → Type 0
 IsShared o told answers q from from' =
     ((map (λ x. length x.1) answers ≡ (amounts o.split (length q) (length answers) from).0)
@@ -157,7 +157,7 @@ pub record Handles (o : Options) (me : ℕ) (path : List ℕ) (kids : Strings) (
   pub few : length (rest ++ kids) < 2 ^ 64
   pub after : s' ≡ record s { queue = rest ++ kids; log = s.log ++ (path, kids) ∷ [] }
 
--- whom it takes from is a rank
+-- it takes from a rank
 abbrev pub NamesRank : ℕ → Deed → Type 0
 NamesRank n (take from batch) = from < n
 NamesRank n _ = Unit {0}
@@ -171,7 +171,7 @@ pub record DoesDeed (o : Options) (me : ℕ) (deed : Deed) (s s' : Side) : Type 
   pub batches : s'.batches ≡ batches_after deed s.batches
   pub told : Tells me deed s.told s'.told
 
--- what it takes: a rank that has handled its number of strings tells all to halt; one stops where all are to halt
+-- the condition: a rank that has handled its number of strings tells all to halt; one stops if all are to halt
 abbrev pub MayNote : Options → Late → Side → Type 0
 MayNote o (withdraw from) s = from < o.ranks
 MayNote o halt s = o.stop_after ≡ Some (length s.log)

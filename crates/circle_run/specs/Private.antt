@@ -1,4 +1,4 @@
--- Definitions that the contracts of the crate's own steps alone cite: no clause of a public function rests on them, so no reader has to believe them.
+-- Definitions for the contracts of the crate's own steps alone. No clause of a public function rests on them, so no reader has to believe them.
 pub mod Books
 pub mod Steps
 pub mod Services

@@ -12,12 +12,12 @@ abbrev pub Thousands : ℕ → List ℕ → Type 0
 Thousands from [] = Unit {0}
 Thousands from (x ∷ numbers) = (x ≡ from + 1000) × Thousands x numbers
 
--- the last of the numbers, or this where there is none
+-- the last of the numbers, or this if there is none
 abbrev pub newest : ℕ → List ℕ → ℕ
 newest from [] = from
 newest from (x ∷ numbers) = newest x numbers
 
--- what was kept of a word that shows so much: none before was passed over, and with one rank the word is the count
+-- the numbers kept of a word that shows so much: none before was passed over, and with one rank the word is the count
 pub record Keeps (numbers : List ℕ) (word : ℕ) (s : SumShown) : Type 0 where
   pub rises : Rises 0 numbers
   pub within : newest 0 numbers ≤ word
@@ -41,6 +41,6 @@ pub record Progress (me : ℕ) (numbers : List ℕ) (s : SumShown) : Type 0 wher
   pub first : me ≡ 0 → KeptOf s.answer numbers s
   pub rest : me ≢ 0 → numbers ≡ []
 
--- the rank counted what it handled
+-- the rank counted the strings that it handled
 abbrev pub Counts : ℕ → SumShown → Type 0
 Counts strings s = s.count ≡ min strings (2 ^ 56 - 1)

@@ -1,4 +1,4 @@
--- A rank beside its board: what it knows, and what its steps come to. Our own.
+-- A rank beside its board: its knowledge, and the results of its steps. Our own.
 use Rattle.std.specs.Prelude.{◌≡◌, ℕ, ◌<◌, ◌≤◌, true, false, if◌then◌else◌, List, length, [], ◌∷◌, ◌++◌, Option, Some}
 use Rattle.std.specs.List.{flat_map}
 use Rattle.post_board.specs.Shown.{Shown, is_served}
@@ -15,7 +15,7 @@ DoesAll o me [] s s' = s' ≡ s
 DoesAll o me (m ∷ moves) s s' = (mid : Side) × Does o me m s mid × DoesAll o me moves mid s'
 
 module _ {J S T : Type 0} (shows : S → Shown) where
-  -- what a rank knows of itself is what its seat shows
+  -- a rank knows of itself the facts that its seat shows
   pub record Knows (r : Rank J S T) : Type 0 where
     pub number : (shows r.seat).number ≡ r.me
     pub ranks : (shows r.seat).n ≡ r.options.ranks

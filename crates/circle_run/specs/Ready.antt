@@ -1,4 +1,4 @@
--- A rank between two turns, and what a turn comes to. Our own.
+-- A rank between two turns, and the result of a turn. Our own.
 use Rattle.std.specs.Prelude.{◌≡◌, ℕ, ◌-◌, ◌^◌, ◌≤◌, ◌⊎◌, min, true, false, List, length, [], Option, Some, None, IfSome}
 use Rattle.rank_queue.specs.Shares.{generator_of}
 use Rattle.ring_core.specs.declared.states.Colour.TheVariants.{White}
@@ -59,11 +59,11 @@ module _ {J S T : Type 0} (log : J → Log) (shows : S → Shown) where
     pub most : IfSome r.options.stop_after (λ k. length (log r.job) ≤ k)
     -- it tells all to halt once it has handled as many
     pub halts : (shows r.seat).halted ≡ true → r.options.stop_after ≡ Some (length (log r.job))
-    -- it stops where it told all to halt, or knows that one did
+    -- it stops only if it told all to halt, or knows that one did
     pub stops : r.stopped ≡ true → ((shows r.seat).halted ≡ true) ⊎ ((shows r.seat).knows_halt ≡ true)
 
 module _ {J S T P Q : Type 0} (log : J → Log) (shows : S → Shown) (seats : P → S → Type 0) (sums_shows : T → SumShown) (sums_seats : Q → T → Type 0) where
-  -- a rank between two turns. One that found no memory has no string
+  -- a rank between two turns. One that ran out of memory has no string
   pub record Ready (r : Rank J S T) (p : P) (q : Q) : Type 0 where
     pub knows : Knows shows r
     pub none : ServesNone shows r
@@ -74,12 +74,12 @@ module _ {J S T P Q : Type 0} (log : J → Log) (shows : S → Shown) (seats : P
 
 module _ {J S T P D : Type 0} (log : J → Log) (heard : J → Option (List ℕ)) (plain : J → D) (shows : S → Shown) (tells : P → Option Told)
     (seats : P → S → Type 0) where
-  -- the moves of a turn: what came of it says which there are, and before the rank is done each is the first that applies
+  -- the moves of a turn: its result says which there are, and before the rank is done each is the first that applies
   pub record TurnMoves (turn : Turn) (r : Rank J S T) (p : P) (r' : Rank J S T) (moves : List Move) : Type 0 where
     pub kind : IsTurn (is_done r) turn moves
     pub chosen : is_done r ≡ false → Chooses heard shows tells r p r' moves
 
-  -- what a turn comes to. Unless the rank found no memory, it is moves of a turn, which were counted and, with a trace, kept
+  -- the result of a turn. Unless the rank ran out of memory, it is moves of a turn, which were counted and, with a trace, kept
   pub record Turned (turn : Turn) (r : Rank J S T) (p : P) (r' : Rank J S T) (p' : P) : Type 0 where
     pub me : r'.me ≡ r.me
     pub options : r'.options ≡ r.options

@@ -1,4 +1,4 @@
--- What each rank handled, gave and took in a run of moves. Our own.
+-- The strings that each rank handled, gave and took in a run of moves. Our own.
 use Rattle.std.specs.Prelude.{◌≡◌, ℕ, ◌+◌, ◌==◌, if◌then◌else◌, List, length, [], ◌∷◌, ◌++◌, map, sum_by}
 use Rattle.std.specs.List.{flat_map, range_with_len}
 use Rattle.ring_core.specs.declared.events.Event.{Event}
@@ -42,7 +42,7 @@ taken_by r moves = length (flat_map taken_in (moves_of r moves))
 abbrev pub of_all : ℕ → (Move → Strings) → List (ℕ × Move) → Strings
 of_all n kind moves = flat_map (λ r. flat_map kind (moves_of r moves)) (range_with_len 0 n)
 
--- the log of each rank is what it handled, in order
+-- the log of each rank holds the strings that it handled, in order
 abbrev pub LogsAreHandled : Type 0
 LogsAreHandled = (o : Options) (starts : Strings) (moves : List (ℕ × Move)) (stage : Stage)
     → Plays o moves (begun o starts) stage → (r : ℕ) → (rank_side stage r).log ≡ flat_map handled_in (moves_of r moves)
@@ -57,7 +57,7 @@ abbrev pub EventsTellLogs : Type 0
 EventsTellLogs = (o : Options) (starts : Strings) (moves : List (ℕ × Move)) (stage : Stage)
     → Plays o moves (begun o starts) stage → (r : ℕ) → flat_map (handled_at r) (events_of_all moves) ≡ map (λ x. (x.0, length x.1)) (rank_side stage r).log
 
--- what was given was taken or lies in a mailbox: whatever a string weighs, these weigh the same, and there are as many
+-- the strings that were given were taken or lie in a mailbox: whatever a string weighs, these weigh the same, and there are as many
 pub record IsTakenOrMailed (o : Options) (moves : List (ℕ × Move)) (stage : Stage) : Type 0 where
   pub weighs : (weight : List ℕ → ℕ)
       → sum_by weight (of_all o.ranks given_in moves) ≡ sum_by weight (of_all o.ranks taken_in moves) + sum_by weight (all_mailed stage)

@@ -12,7 +12,7 @@ use Rattle.circle_run.specs.Balance.{Log}
 use Rattle.circle_run.specs.Moves.{Move, Side, Does, events_of}
 use Rattle.circle_run.specs.declared.settings.Options.{Options}
 
--- what one rank has
+-- the parts of one rank
 pub record RankSide : Type 0 where
   pub queue : Strings
   pub log : Log

@@ -1,6 +1,6 @@
--- A traced run, and what the numbers of progress of a run may be.
--- A trace is a run of ring_core's world, whose token is EWD840's; who takes which strings and in which order the ranks act are our own,
--- after libcircle (LaFon et al., SC 2012).
+-- A traced run, and the numbers of progress of a run.
+-- A trace is a run of ring_core's world, whose token is EWD840's. The strings that each rank takes and the order in which the ranks act are
+-- our own, after libcircle (LaFon et al., SC 2012).
 use Rattle.std.specs.Prelude.{◌≡◌, ℕ, ◌+◌, ◌-◌, ◌^◌, ◌<◌, ◌≤◌, ◌==◌, if◌then◌else◌, min, sum, All, true, List, length, [], ◌∷◌, ◌++◌, map, count_by, sum_by}
 use Rattle.std.specs.List.{range_with_len}
 use Rattle.ring_core.specs.declared.states.Token.TheVariants.{Over}
@@ -33,7 +33,7 @@ pub record IsTraced (o : Options) (starts : Strings) (logs : List Log) (events :
   pub logs_are : logs ≡ map (λ x. x.log) last.ranks
   -- a rank handles a string only while nobody asks it
   pub answers : AnswersFirst (started o.ranks (length starts)) events
-  -- between two strings that a rank handles every other one that waits for no answer has an event
+  -- between two strings that a rank handles every other rank that does not wait for an answer has an event
   pub fair : IsFair (started o.ranks (length starts)) events
 
 -- how many strings the rank r gives by the event, and how many it takes
@@ -45,7 +45,7 @@ abbrev pub taken_at : ℕ → Event → ℕ
 taken_at r (Take rank from count) = if rank == r then count else 0
 taken_at r _ = 0
 
--- what the rank r did by the events. A count stops at the greatest value of its type
+-- the counts of the rank r by the events. A count stops at the greatest value of its type
 abbrev pub share_in : List Event → ℕ → Share
 share_in events r = record {
   handled = min (count_by (handles r) events) (2 ^ 64 - 1);

@@ -1,4 +1,4 @@
--- What a turn comes to: its moves by its result, for what it waits, and what it shows at the sums. Our own; the sums are libcircle's (LaFon et al., SC 2012).
+-- The moves of a turn by its result, the causes of waiting, and the numbers shown at the sums. Our own; the sums are libcircle's (SC 2012).
 use Rattle.std.specs.Prelude.{◌≡◌, ℕ, ◌+◌, ◌<◌, ◌⊎◌, Bool, true, false, List, length, [], ◌∷◌, Option, Some, None}
 use Rattle.post_board.specs.Shown.{Strings}
 use Rattle.post_board.specs.Told.{Told, asked, place}
@@ -12,21 +12,21 @@ use Rattle.circle_run.specs.declared.steps.Did.TheVariants.{Handled, Acted, Wait
 use Rattle.circle_run.specs.declared.ranks.Turn.{Turn}
 use Rattle.circle_run.specs.declared.ranks.Turn.TheVariants.{Went as TurnWent, Waited as TurnWaited, Stopped as TurnStopped, Ended as TurnEnded}
 
--- where it is told, the rank waits for an answer to its request
+-- if the board is told, the rank waits for an answer to its request
 abbrev pub Waits : ℕ → Option Told → Type 0
 Waits me None = Unit {0}
 Waits me (Some t) = (victim : ℕ) × ((place t me).mail ≡ asked victim)
 
--- a word adds up: it is the rank's own count and what the words of the ranks below it hold, as told
+-- a word adds up: it is the rank's own count and the told words of the ranks below it
 abbrev pub AddsUp : SumShown → SumTold → Type 0
 AddsUp s t = s.word ≡ s.count + words_below t s.number
 
--- it asks, takes what came, moves the token, or takes its request back
+-- it asks, takes the answer, moves the token, or takes its request back
 abbrev pub IsAct : Move → Type 0
 IsAct move = ((deed : Deed) × (move ≡ did deed)) ⊎ ((from : ℕ) × (move ≡ noted (withdraw from)))
 
--- a service and then a string handled, after which the rank may tell all to halt; that it saw the end, or a service and then what it did, or a service of some; or nothing, and nobody
--- asked; or a service and then the stop
+-- Handled: a service and then a string handled, after which the rank may tell all to halt. Acted: it saw the end, or made a service and then
+-- its act, or a service of some. Waited: nothing, and nobody asked. Stopped: a service and then the stop
 abbrev pub Worked : Did → List Move → Type 0
 Worked Handled moves =
     (answers : List (ℕ × Strings)) × (path : List ℕ) × (kids : Strings) × (due : Bool) × (moves ≡ served answers ∷ handled path kids ∷ halt_if due)

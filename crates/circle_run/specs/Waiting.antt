@@ -1,4 +1,4 @@
--- What all ranks of a stage have together, and the balance of a run of moves. Our own.
+-- The strings of all ranks of a stage, and the balance of a run of moves. Our own.
 use Rattle.std.specs.Prelude.{◌≡◌, ℕ, ◌<◌, true, List, [], ◌++◌, None}
 use Rattle.std.specs.List.{flat_map}
 use Rattle.post_board.specs.Shown.{Strings}
@@ -33,12 +33,12 @@ abbrev pub MovesAreBalanced : Type 0
 MovesAreBalanced = (o : Options) (starts : Strings) (moves : List (ℕ × Move)) (stage : Stage)
     → 0 < o.ranks → Plays o moves (begun o starts) stage → Balanced (all_logged stage) (all_queued stage ++ all_mailed stage) starts
 
--- and so, where nothing waits, each string was handled that often
+-- and so, if nothing waits, each string was handled that often
 abbrev pub AllIsHandled : Type 0
 AllIsHandled = (o : Options) (starts : Strings) (moves : List (ℕ × Move)) (stage : Stage)
     → 0 < o.ranks → Plays o moves (begun o starts) stage → NothingWaits stage → Balanced (all_logged stage) [] starts
 
--- where a rank has seen the end of a run that stops after no number, nothing waits
+-- if a rank has seen the end of a run that stops after no number, nothing waits
 abbrev pub NothingWaitsAtEnd : Type 0
 NothingWaitsAtEnd = (o : Options) (starts : Strings) (moves : List (ℕ × Move)) (stage : Stage) (r : ℕ)
     → o.stop_after ≡ None → Plays o moves (begun o starts) stage → (place stage.told r).ended ≡ true → NothingWaits stage

@@ -1,4 +1,4 @@
--- The world of ranks that a stage shows, and that what is played is a run of that world. Our own, over the world of ring_core.
+-- The world of ranks that a stage shows; the played moves are a run of that world. Our own, over the world of ring_core.
 use Rattle.std.specs.Prelude.{◌≡◌, ℕ, List, length, map, None}
 use Rattle.std.specs.List.{range_with_len}
 use Rattle.ring_core.specs.declared.states.Desk.{Desk}
@@ -19,7 +19,7 @@ desk_of (asked r) = Asked r
 desk_of (full r batch) = Full r (length batch)
 desk_of (empty r) = Empty r
 
--- a rank by its queue and what is told of it
+-- a rank by its queue and its told place
 abbrev pub state_of : Strings → Place → RankState
 state_of queue x = record { queued = length queue; colour = x.colour; tried = x.tried; desk = desk_of x.mail; ended = x.ended }
 

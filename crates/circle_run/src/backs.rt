@@ -1,4 +1,4 @@
-//! What a host in a thread of its own does, and what it gives back.
+//! The work of a host in a thread of its own, and the ranks that it gives back.
 ghost use Rattle.std.specs.Prelude.{◌≡◌, ◌≤◌, ℕ, ◌==◌, IsPermutation};
 ghost use Rattle.std.specs.List.{sum_by};
 ghost use Rattle.circle_run.specs.Hosts.{IsAscending};
@@ -18,7 +18,7 @@ use sum_tree::Sums;
 /// Ranks, with their jobs and seats.
 pub(crate) type Ranks<J, S, T> = Vec<Rank<J, S, T>>;
 
-/// What a thread gives back.
+/// The ranks that a thread gives back.
 #[derive(Drop)]
 pub enum Back<J, S, T> {
     /// Its ranks, which ran to their end.
@@ -27,7 +27,7 @@ pub enum Back<J, S, T> {
     Untouched(Ranks<J, S, T>),
 }
 
-/// What a thread promises: its ranks ran at this board and at these sums, or are as they were.
+/// The promise of a thread: its ranks ran at this board and at these sums, or are as they were.
 #[derive(Drop)]
 pub struct RanFrom<J: Job, S, T, P: Post<Seat = S>, Q: Sums<Seat = T>>(
     pub Snapshot<Ranks<J, S, T>>,
@@ -54,7 +54,7 @@ pub(crate) fn run_host<W: Wait, J: Job, S, T, P: Post<Seat = S>, Q: Sums<Seat = 
     Host::make(ranks).run(rt, post, sums)
 }
 
-/// What a thread does: it runs its ranks, unless its start was refused.
+/// The work of a thread: it runs its ranks, unless its start was refused.
 pub(crate) fn run_or_return<
     W: Wait,
     J: Job,

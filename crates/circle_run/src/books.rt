@@ -1,4 +1,4 @@
-//! What a rank writes down of what it did.
+//! The book of a rank: its events, counts and numbers of progress.
 ghost use Rattle.std.specs.Prelude.{◌≡◌, ◌<◌, ◌≤◌, ◌+◌, ◌++◌, ◌∷◌, [], true, false};
 ghost use Rattle.circle_run.specs.Books.{counted_one};
 ghost use Rattle.circle_run.specs.Private.Books.{Writes};
@@ -7,21 +7,21 @@ ghost use Rattle.circle_run.specs.Progress.{newest};
 use crate::outcomes::Share;
 use ring_core::Event;
 
-/// What a rank writes down of what it did, and whether it found no memory at some time.
+/// The book of a rank: its events, counts and numbers of progress, and whether it ever ran out of memory.
 #[derive(Drop)]
 pub struct Book {
-    /// The events, where they are kept.
+    /// The events, if they are kept.
     pub events: Vec<Event>,
     /// How many strings it handled, gave and took.
     pub share: Share,
     /// The numbers of progress.
     pub sums: Vec<u64>,
-    /// Whether it found no memory at some time.
+    /// Whether it ever ran out of memory.
     pub lost: bool,
 }
 
 impl Book {
-    /// Counts an event, and keeps it where `trace` is set.
+    /// Counts an event, and keeps it if `trace` is set.
     pub(crate) fn note(&mut self, trace: bool, event: Event)
         ensures { Writes trace (event ∷ []) self.old self.new }
     {
@@ -31,7 +31,7 @@ impl Book {
         }
     }
 
-    /// Keeps a number of progress, where it is at least 1,000 above the newest that was kept.
+    /// Keeps a number of progress, if it is at least 1,000 above the newest that was kept.
     pub(crate) fn keep(&mut self, shown: u64)
         ensures same { self.new ≡ record self.old { sums = self.new.sums; lost = self.new.lost } }
         ensures lost { self.old.lost ≡ true → self.new.lost ≡ true }
@@ -56,7 +56,7 @@ impl Book {
     }
 }
 
-// The last of the numbers, or 0 where there is none.
+// The last of the numbers, or 0 if there is none.
 fn newest_of(numbers: &[u64]) -> u64
     ensures { result ≡ newest 0 numbers.now }
 {
@@ -64,7 +64,7 @@ fn newest_of(numbers: &[u64]) -> u64
     if count == 0 { 0 } else { numbers[count - 1] }
 }
 
-// The counts with an event more.
+// The counts with one event more.
 fn counted(share: Share, event: &Event) -> Share
     ensures { result ≡ counted_one event.now share }
 {

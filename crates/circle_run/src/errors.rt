@@ -1,12 +1,12 @@
-//! Why a run gives nothing.
+//! The error of a run.
 use path_text::OutOfMemory;
 use std::alloc::{AllocError, AllocFailed};
 use thiserror::Error;
 
-/// Why a run gives nothing.
+/// Why a run has no result.
 #[derive(Clone, Copy, Debug, Drop, PartialEq, Eq, Error)]
 pub enum CircleError {
-    /// No memory was found, by the run or by a job.
+    /// The run or a job ran out of memory.
     #[error("out of memory")]
     OutOfMemory,
 }

@@ -1,4 +1,4 @@
-//! What a rank does that is to halt.
+//! The turn of a rank that is to halt.
 ghost use Rattle.std.specs.Prelude.{◌≡◌, ◌≢◌, ◌-◌, ◌^◌, ◌≤◌, ◌⊎◌, ◌||◌, ◌&&◌, not, length, true, false, Some, None, IfSome};
 ghost use Rattle.circle_run.specs.Choices.{has_done_all, is_halt};
 ghost use Rattle.circle_run.specs.Moves.{IsHalted};
@@ -25,8 +25,8 @@ impl<J: Job, S, T> RankState<J, S, T> {
         }
     }
 
-    /// Refuses all that ask. Then it looks for the answer to its open request, or stops where it has none. A rank that reads of no
-    /// halt tells all to halt first.
+    /// Refuses all that ask. Then it looks for the answer to its open request, or stops if it has none. A rank that reads of no halt
+    /// tells all to halt first.
     pub(crate) fn wind_up<P: Post<Seat = S>>(&mut self, post: &mut P, first: bool) -> Did
         requires seat { P.seats post.old self.old.seat }
         requires knows { Knows P.shows self.old }
@@ -35,7 +35,8 @@ impl<J: Job, S, T> RankState<J, S, T> {
         requires going { self.old.stopped ≡ false }
         requires due { first ≡ true → self.old.book.lost ≡ false → self.old.options.stop_after ≡ Some (length (J.log self.old.job)) }
         requires halted { first ≡ false → IsHalted (P.tells post.old) × ((P.shows self.old.seat).knows_halt ≡ true) }
-        ensures came { Came J.log J.plain P.shows P.tells P.seats (WoundUp result self.old.options self.old.me first self.old.asked) self.old post.old self.new post.new }
+        ensures came { Came J.log J.plain P.shows P.tells P.seats
+            (WoundUp result self.old.options self.old.me first self.old.asked) self.old post.old self.new post.new }
         ensures job { self.new.job ≡ self.old.job }
         ensures waits { result ≡ DidWait → Waits self.new.me (P.tells post.new) }
         ensures other { result ≢ DidHandle }
@@ -51,7 +52,7 @@ impl<J: Job, S, T> RankState<J, S, T> {
         in_all(some, did)
     }
 
-    /// Tells all to halt, where that is due.
+    /// Tells all to halt, if that is due.
     pub(crate) fn tell_halt<P: Post<Seat = S>>(&mut self, post: &mut P, due: bool)
         requires seat { P.seats post.old self.old.seat }
         requires knows { Knows P.shows self.old }
@@ -73,7 +74,7 @@ impl<J: Job, S, T> RankState<J, S, T> {
         }
     }
 
-    /// Looks for the answer to its open request, or stops where it has none.
+    /// Looks for the answer to its open request, or stops if it has none.
     fn close<P: Post<Seat = S>>(&mut self, post: &mut P) -> Did
         requires seat { P.seats post.old self.old.seat }
         requires knows { Knows P.shows self.old }
@@ -99,14 +100,14 @@ impl<J: Job, S, T> RankState<J, S, T> {
     }
 }
 
-/// Whether a rank tells all to halt that has handled all that it may, or that reads this of the ring, and is to halt.
+/// Whether a rank that is to halt tells all to halt. It has handled all that it may (`due`), or reads this of the ring.
 pub(crate) fn tells_first(due: bool, ring: Ring) -> bool
     ensures { result ≡ (due && not (is_halt ring)) }
 {
     due && !matches!(ring, Ring::Halted)
 }
 
-/// Whether a rank tells all to halt that did this, and has then handled all that it may or has not.
+/// Whether a rank tells all to halt after it did this. It has then handled all that it may (`due`), or has not.
 pub(crate) fn halts_by(did: Did, due: bool) -> bool
     ensures { result ≡ halts_by did due }
 {
@@ -116,7 +117,7 @@ pub(crate) fn halts_by(did: Did, due: bool) -> bool
     }
 }
 
-/// Whether a rank is to halt that has handled all that it may, or that reads this of the ring.
+/// Whether a rank is to halt. It has handled all that it may (`due`), or reads this of the ring.
 pub(crate) fn is_to_halt(due: bool, ring: Ring) -> bool
     ensures { result ≡ (due || is_halt ring) }
 {

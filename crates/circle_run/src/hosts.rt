@@ -1,7 +1,8 @@
 //! Ranks that have their turns in rounds on one thread.
 ghost use Rattle.std.specs.Prelude.{◌≡◌, ◌≢◌, ℕ, ◌++◌, ◌<◌, [], length, true, false, Some, slice_index_or, OnOk, IfOk, None};
 ghost use Rattle.post_board.specs.Told.{Told};
-ghost use Rattle.circle_run.specs.Hosts.{IsAscending, NoneLost, NoneWrote, AreAll, Same, Placed, AllReady, AllEnded, Took, Ran, KeptByEach, KeptInOrder, AllAlone};
+ghost use Rattle.circle_run.specs.Hosts.{IsAscending, NoneLost, NoneWrote, AreAll, Same, Placed, AllReady, AllEnded, Took, Ran, KeptByEach};
+ghost use Rattle.circle_run.specs.Hosts.{KeptInOrder, AllAlone};
 ghost use Rattle.circle_run.specs.declared.settings.Options.{Options};
 
 use crate::idle::Idle;
@@ -49,14 +50,15 @@ impl<J: Job, S, T> Host<J, S, T> {
         ensures ended { AllEnded J.log P.shows P.seats Q.shows Q.seats result.items post.new sums.new }
         ensures same { Same J.plain self result.items }
 
-        // Over a board that tells its places, where these are all ranks and none was refused memory: the turns are played.
-        ensures ran { (o : Options) (t : Told) → AreAll o self → P.tells post.old ≡ Some t → NoneLost result.items → Ran J.log P.tells (KeptByEach o self result.items) o t self result.items post.new }
+        // Over a board that tells its places, if these are all ranks and none ran out of memory: the turns are played.
+        ensures ran { (o : Options) (t : Told) → AreAll o self → P.tells post.old ≡ Some t → NoneLost result.items
+            → Ran J.log P.tells (KeptByEach o self result.items) o t self result.items post.new }
 
         // A board, and sums, that tell nothing stay the same value.
         ensures still { P.tells post.old ≡ None → post.new ≡ post.old }
         ensures sums_still { Q.tells sums.old ≡ None → sums.new ≡ sums.old }
 
-        // Over a board that tells nothing: each that was not refused memory made moves of its own, whatever became of the others.
+        // Over a board that tells nothing: each that did not run out of memory made moves of its own, whether others did or not.
         ensures alone { P.tells post.old ≡ None → (P.tells post.new ≡ None) × AllAlone J.log P.shows self result.items }
     {
         let Host { mut ranks } = self;
@@ -74,8 +76,8 @@ impl<J: Job, S, T> Host<J, S, T> {
         unreachable!()
     }
 
-    /// The same, with all events in their order, which move from the ranks behind `events` after each turn. Refused once a rank
-    /// has found no memory, or where there is none for the events.
+    /// The same, with all events in their order, which move from the ranks behind `events` after each turn. Fails once a rank has
+    /// run out of memory, or if there is none for the events.
     pub(crate) fn run_traced<R: Wait, P: Post<Seat = S>, Q: Sums<Seat = T>>(
         self,
         rt: &R,
@@ -94,7 +96,8 @@ impl<J: Job, S, T> Host<J, S, T> {
         ensures ended { IfOk result (λ ranks. AllEnded J.log P.shows P.seats Q.shows Q.seats ranks.items post.new sums.new) }
         ensures same { IfOk result (λ ranks. Same J.plain self ranks.items) }
         ensures unwritten { IfOk result (λ ranks. NoneWrote ranks.items) }
-        ensures ran { IfOk result (λ ranks. (o : Options) (t : Told) → AreAll o self → P.tells post.old ≡ Some t → Ran J.log P.tells (KeptInOrder o events.new.items) o t self ranks.items post.new) }
+        ensures ran { IfOk result (λ ranks. (o : Options) (t : Told) → AreAll o self → P.tells post.old ≡ Some t
+            → Ran J.log P.tells (KeptInOrder o events.new.items) o t self ranks.items post.new) }
     {
         let Host { mut ranks } = self;
         let mut done = unset();

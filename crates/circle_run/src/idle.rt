@@ -8,7 +8,7 @@ use std::time::Duration;
 // After so many rounds without a string a host sleeps.
 const ROUNDS: u32 = 100;
 
-/// How many rounds in a row a host has been without a string, and where it sleeps. Nobody wakes it before its time.
+/// How many rounds in a row a host has been without a string, and the parker at which it sleeps. Nobody wakes it early.
 #[derive(Drop)]
 pub(crate) struct Idle {
     rounds: u32,
@@ -23,8 +23,8 @@ impl Idle {
         }
     }
 
-    /// Gives the processor away after a round, where no rank has a string: at first it yields, and later it sleeps, longer from
-    /// round to round, up to a millisecond. So an answer waits at most some fraction of the time that nothing came.
+    /// Gives the processor away after a round, if no rank has a string. At first it yields; later it sleeps, longer from round to
+    /// round, up to a millisecond. So an answer waits at most some fraction of the time in which nothing came.
     pub(crate) fn rest<W: Wait, J, S, T>(&mut self, rt: &W, ranks: &[Rank<J, S, T>]) {
         if has_string(ranks) {
             self.rounds = 0;

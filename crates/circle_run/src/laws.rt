@@ -1,5 +1,4 @@
-//! What is proved of balances and of runs of moves: each law is the contract of a function that does nothing, or
-//! only cites others.
+//! Laws of balances and of runs of moves: each law is the contract of a function that does nothing, or only cites others.
 ghost use Rattle.circle_run.specs.Apart.{HostsAreBalanced};
 ghost use Rattle.circle_run.specs.AsOften.{BalanceIsAsOften};
 ghost use Rattle.circle_run.specs.Fair.{MovesAnswerFirst, RoundsAreFair, TurnsArePlayed};
@@ -10,26 +9,26 @@ ghost use Rattle.circle_run.specs.Worlds.{MovesAreLegalRun};
 
 use ring_core::{legal_event_is_step_of_picture, no_rank_ends_early};
 
-/// A run is balanced exactly where each string stands as often among those handled and those left as among the starts and
-/// those pushed.
+/// A run is balanced exactly if each string is as often among those handled and those left as among the starts and those
+/// pushed.
 pub fn balance_is_as_often()
     ensures { BalanceIsAsOften }
 {}
 
 /// The events of all moves that are played from the start are legal, one after the other, and leave the world of the last
-/// stage: each rank with as many strings as its queue has, its mailbox and the token as they are told.
+/// stage: each rank with as many strings as its queue has, and the told mailbox and token.
 pub fn moves_are_legal_run()
     ensures { MovesAreLegalRun }
 {}
 
 /// Moves that are played from the start are balanced: each string was handled, or waits at a rank or in a mailbox, as often
-/// as it was a start or was pushed. Where nothing waits, each was handled that often.
+/// as it was a start or was pushed. If nothing waits, each was handled that often.
 pub fn moves_are_balanced()
     ensures always { MovesAreBalanced }
     ensures whole { AllIsHandled }
 {}
 
-/// No rank sees the end too early: where one has, no string waits at a rank or in a mailbox.
+/// No rank sees the end too early: if one has, no string waits at a rank or in a mailbox.
 pub fn nothing_waits_at_end()
     ensures { NothingWaitsAtEnd }
 {
@@ -37,12 +36,12 @@ pub fn nothing_waits_at_end()
     legal_event_is_step_of_picture();
 }
 
-/// What the ranks gave was taken or lies in a mailbox.
+/// The strings that the ranks gave were taken or lie in a mailbox.
 pub fn given_is_taken_or_mailed()
     ensures { GivenIsTakenOrMailed }
 {}
 
-/// The log of each rank is what it handled, in order, and the events of the moves tell the same strings.
+/// The log of each rank holds the strings that it handled, in order, and the events of the moves tell the same strings.
 pub fn logs_are_handled()
     ensures logs { LogsAreHandled }
     ensures events { EventsTellLogs }
@@ -54,8 +53,8 @@ pub fn moves_answer_first()
 {}
 
 /// Ranks that have their turns in rounds are fair: between two strings that one rank handles every other rank has an event of
-/// its own, save a rank that is asking at the earlier of the two. A turn is a service and at most one move more, and has an
-/// event save where the rank waits for an answer or has seen the end.
+/// its own, except a rank that is asking at the earlier of the two. A turn is a service and at most one move more. It has an
+/// event, unless the rank waits for an answer or has seen the end.
 pub fn rounds_are_fair()
     ensures played { TurnsArePlayed }
     ensures fair { RoundsAreFair }
@@ -63,13 +62,13 @@ pub fn rounds_are_fair()
     nothing_waits_at_end();
 }
 
-/// Where each rank made moves of its own to its end, and what each took from each other is what that one gave, the run is
+/// If each rank made moves of its own to its end, and each took from each other the batches that the other gave, the run is
 /// balanced, whoever hosted the ranks and in whatever order they moved.
 pub fn hosts_are_balanced()
     ensures { HostsAreBalanced }
 {}
 
-/// All are to halt only where some rank has handled its number of strings, and only then does any rank stop.
+/// All are to halt only if some rank has handled its number of strings, and only then does any rank stop.
 pub fn moves_halt()
     ensures { MovesHalt }
 {}

@@ -1,4 +1,4 @@
-//! What each rank that asks gets of a queue.
+//! The part of a queue that each asking rank gets.
 ghost use Rattle.std.specs.Prelude.{◌≡◌, ◌<◌, ◌≤◌, ◌+◌, ◌-◌, ◌∷◌, ◌⊎◌, ℕ, suc, true, false};
 ghost use Rattle.rand_pcg.specs.Lcg.{Lcg};
 ghost use Rattle.circle_run.specs.Moves.{amounts};
@@ -9,17 +9,17 @@ use crate::settings::Split;
 use rand_pcg::Pcg32;
 use rank_queue::{equal_share, random_share};
 
-/// What is left to share out in a service.
+/// The part that is left to share out in a service.
 #[derive(Clone, Copy, Drop)]
 pub(crate) enum Lot {
     /// To each the same.
     Same(u64),
-    /// To each a part by lot of so many.
+    /// To each a random part of so many.
     ByLot(u32),
 }
 
 impl Lot {
-    /// What is shared out, or nothing where a rank refuses all.
+    /// The lot of a service, or of nothing if the rank refuses all.
     pub(crate) fn of(gives: bool, split: Split, queued: u64, askers: u64) -> Lot
         requires { askers ≤ 64 }
         ensures amounts { gives ≡ true → (from : Lcg) → amounts_of result askers from ≡ amounts split queued askers from }
@@ -33,7 +33,7 @@ impl Lot {
         }
     }
 
-    /// What is shared out of `queued` strings among `askers` ranks. Lots see at most 2^32 strings.
+    /// The lot of `queued` strings for `askers` ranks. A random lot sees at most 2^32 strings.
     fn make(split: Split, queued: u64, askers: u64) -> Lot
         requires { askers ≤ 64 }
         ensures amounts { (from : Lcg) → amounts_of result askers from ≡ amounts split queued askers from }
@@ -51,7 +51,7 @@ impl Lot {
         }
     }
 
-    /// What the next rank gets.
+    /// The number of strings for the next rank.
     pub(crate) fn next(&mut self, draws: &mut Pcg32) -> u64
         ensures first { (k : ℕ) → (amounts_of self.old (suc k) draws.old).0 ≡ result ∷ (amounts_of self.new k draws.new).0 }
         ensures drawn { (k : ℕ) → (amounts_of self.old (suc k) draws.old).1 ≡ (amounts_of self.new k draws.new).1 }

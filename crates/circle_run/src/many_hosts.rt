@@ -1,5 +1,6 @@
 //! A run whose ranks are spread over several threads.
-ghost use Rattle.std.specs.Prelude.{◌≡◌, ◌<◌, ◌≤◌, [], map, length, sum_by, All, IfOk, Some, true, false, slice_index_or};
+ghost use Rattle.std.specs.Prelude.{◌≡◌, ◌<◌, ◌≤◌, [], map, length, sum_by, All, IfOk, Some, true, false};
+ghost use Rattle.std.specs.List.{Contains};
 ghost use Rattle.post_board.specs.Calls.{AllDone, AllEven, Halters};
 ghost use Rattle.post_board.specs.Fresh.{AllFresh};
 ghost use Rattle.post_board.specs.BoardSeats.{IsSeat as IsBoardSeat, shown_by as board_shown, unused};
@@ -99,14 +100,15 @@ fn new_whole<J: Job + Drop>(
     requires unused { All (λ job. J.log job ≡ []) jobs.items }
     requires seats { AllFresh board_shown (IsBoardSeat board.now) options.now.ranks (Some (unused options.now.ranks)) seats.items }
     requires sums { AllFreshSums tree.now options.now.ranks options.now.width sums_seats.items }
-    ensures starting { IfOk result (λ ranks. Starting J.log board_shown IsBoardSeat sum_shown IsSumSeat options.now starts.items ranks.items board.now tree.now) }
+    ensures starting { IfOk result (λ ranks. Starting J.log board_shown IsBoardSeat sum_shown IsSumSeat
+        options.now starts.items ranks.items board.now tree.now) }
     ensures jobs { IfOk result (λ ranks. map (λ r. r.job) ranks.items ≡ jobs.items) }
 {
     let queues = deal(alloc, options.ranks, starts)?;
     Ok(new_ranks(alloc, options, jobs, seats, sums_seats, queues)?)
 }
 
-// All seats come together.
+// Gathers all seats.
 fn gather_all(board: &Board, seats: Vec<BoardSeat>, tree: &SumTree, sums_seats: Vec<SumSeat>) -> u64
     requires some { (0 < length seats.items) × (0 < length sums_seats.items) }
     requires all { AllDone board_shown (IsBoardSeat board.now) seats.items }
@@ -114,7 +116,7 @@ fn gather_all(board: &Board, seats: Vec<BoardSeat>, tree: &SumTree, sums_seats: 
     ensures even { AllEven board_shown (IsBoardSeat board.now) seats.items }
     ensures halters { Halters board_shown (IsBoardSeat board.now) seats.items }
     ensures sum { result ≡ sum_by (λ seat. (sum_shown seat).count) sums_seats.items }
-    ensures first { (d : SumSeat) → (sum_shown (slice_index_or sums_seats.items 0 d)).answer ≡ Some result }
+    ensures first { (s : SumSeat) → Contains sums_seats.items s → (sum_shown s).number ≡ 0 → (sum_shown s).answer ≡ Some result }
 {
     let mut post = board;
     post.gather(seats);
@@ -134,15 +136,18 @@ fn in_threads<R: Threads + Wait + Sync, J: Job + Send + Drop>(
     mine: Ranks<J, BoardSeat, SumSeat>,
     others: Vec<Ranks<J, BoardSeat, SumSeat>>,
 ) -> Result<Ranks<J, BoardSeat, SumSeat>, OutOfMemory>
-    requires spread { MaySpread J.log board_shown IsBoardSeat sum_shown IsSumSeat board.now tree.now whole.now.value.items mine.items others.items (length flags.now) count }
+    requires spread { MaySpread J.log board_shown IsBoardSeat sum_shown IsSumSeat board.now tree.now whole.now.value.items mine.items others.items
+        (length flags.now) count }
     ensures { IfOk result (λ v. AllJoined J.log J.plain board_shown IsBoardSeat sum_shown IsSumSeat board.now tree.now whole.now.value.items v.items) }
 {
     thread::scope(
         thread::scope_env(),
         rt,
         move |scope| -> Result<Ranks<J, BoardSeat, SumSeat>, OutOfMemory>
-            requires { MaySpread J.log board_shown IsBoardSeat sum_shown IsSumSeat board.now tree.now whole.now.value.items mine.items others.items (length flags.now) count }
-            ensures { IfOk result (λ v. AllJoined J.log J.plain board_shown IsBoardSeat sum_shown IsSumSeat board.entry.now tree.entry.now whole.entry.now.value.items v.items) }
+            requires { MaySpread J.log board_shown IsBoardSeat sum_shown IsSumSeat board.now tree.now whole.now.value.items mine.items others.items
+                (length flags.now) count }
+            ensures { IfOk result (λ v. AllJoined J.log J.plain board_shown IsBoardSeat sum_shown IsSumSeat
+                board.entry.now tree.entry.now whole.entry.now.value.items v.items) }
         {
             run_all(
                 rt, alloc, scope, board, tree, whole, flags, count, mine, others,
@@ -151,7 +156,7 @@ fn in_threads<R: Threads + Wait + Sync, J: Job + Send + Drop>(
     )
 }
 
-// Whether some rank found no memory.
+// Whether some rank ran out of memory.
 fn any_lost<J: Job, S, T>(ranks: &[Rank<J, S, T>]) -> bool
     ensures { result ≡ false → NoneLost ranks.now }
 {

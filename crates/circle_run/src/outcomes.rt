@@ -1,4 +1,4 @@
-//! What a run leaves.
+//! The result of a run.
 use path_text::Path;
 use ring_core::Event;
 
@@ -13,16 +13,16 @@ pub struct Share {
     pub taken: u128,
 }
 
-/// What a run leaves, in each list by rank.
+/// The result of a run, in each list by rank.
 #[derive(Drop)]
 pub struct Finished<J> {
     /// The jobs, with their logs.
     pub jobs: Vec<J>,
     /// The strings that wait, oldest first.
     pub left: Vec<Vec<Path>>,
-    /// What each rank did.
+    /// The counts of each rank.
     pub shares: Vec<Share>,
-    /// The events of the run, in order, where they were to be kept. Not by rank.
+    /// The events of the run, in order, if the options have a trace. Not by rank.
     pub events: Vec<Event>,
     /// The numbers of progress: how many strings had been handled at some moments, and at last how many in all. Not by rank.
     pub sums: Vec<u64>,

@@ -1,4 +1,4 @@
-//! The ranks of a run as they begin, and what they are taken apart into at its end.
+//! The ranks of a run as they begin, and their parts at its end.
 ghost use Rattle.std.specs.Prelude.{◌≡◌, ◌<◌, ◌≤◌, [], map, length, replicate, All, IfOk};
 ghost use Rattle.std.specs.List.{range_with_len};
 ghost use Rattle.circle_run.specs.Stages.{dealt_to};
@@ -13,7 +13,7 @@ use path_text::{OutOfMemory, Path};
 use rank_queue::{Batch, RankQueue};
 use std::alloc::Global;
 
-/// What ranks have, in each list by rank.
+/// The parts of ranks, in each list by rank.
 #[derive(Drop)]
 pub struct Parts<J, S, T> {
     pub(crate) jobs: Vec<J>,
@@ -103,7 +103,7 @@ pub(crate) fn new_ranks<J: Job + Drop, S: Drop, T: Drop>(
 }
 
 impl<J: Drop, S: Drop, T: Drop> Parts<J, S, T> {
-    /// What these ranks have.
+    /// The parts of these ranks.
     pub(crate) fn of(
         alloc: Global,
         ranks: Vec<Rank<J, S, T>>,

@@ -1,4 +1,4 @@
-//! Where ranks are kept while their hosts are started and joined.
+//! The pool that keeps ranks while their hosts are started and joined.
 ghost use Rattle.std.specs.Prelude.{◌≡◌, ◌≤◌, ◌+◌, ◌++◌, ◌∷◌, [], length, vec_capacity, IfOk};
 ghost use Rattle.circle_run.specs.Private.Pooled.{HasRoom};
 
@@ -10,8 +10,8 @@ use post_board::Post;
 use std::alloc::Global;
 use sum_tree::Sums;
 
-/// Where ranks are kept while their hosts are started and joined. It is made before the first start, and has room for all, so
-/// that nothing wants memory while threads run: a caller that left early would have the others wait for its ranks for ever.
+/// A pool keeps ranks while their hosts are started and joined. It is made before the first start, with memory for all, so nothing
+/// takes memory while threads run. A caller that returned early would let the others wait for its ranks for ever.
 #[derive(Drop)]
 pub struct Pool<J: Job, S, T, P: Post<Seat = S>, Q: Sums<Seat = T>> {
     /// The ranks that run on the calling thread.

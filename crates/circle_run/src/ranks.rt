@@ -9,7 +9,7 @@ use ring_core::Colour;
 use std::alloc::Global;
 use std::marker::Model;
 
-/// What came of a turn.
+/// The result of a turn.
 #[derive(Clone, Copy, Debug, Drop, PartialEq, Eq)]
 pub enum Turn {
     /// The rank did something.
@@ -22,7 +22,7 @@ pub enum Turn {
     Ended,
 }
 
-/// What a rank has. Contracts see a [`Rank`] as this.
+/// The parts of a rank. Contracts see a [`Rank`] as this.
 #[derive(Drop)]
 pub struct RankState<J, S, T> {
     /// Its job.
@@ -43,17 +43,17 @@ pub struct RankState<J, S, T> {
     pub colour: Colour,
     /// Whether its last request was refused.
     pub tried: bool,
-    /// Whom it asked, where it has not taken the answer yet.
+    /// The rank that it asked, if it has not taken the answer yet.
     pub asked: Option<u32>,
     /// Whether it has seen the end.
     pub ended: bool,
     /// Whether it has stopped, since all are to halt.
     pub stopped: bool,
-    /// What it wrote down of what it did.
+    /// Its book: events, counts and numbers of progress.
     pub book: Book,
-    /// Where the job puts what it pushes. It is empty but while a string is handled.
+    /// The job puts the strings that it pushes here. It is empty except while a string is handled.
     pub fresh: Batch,
-    /// Where its memory comes from.
+    /// The allocator of its memory.
     pub alloc: Global,
 }
 

@@ -1,5 +1,6 @@
 //! A run from its starts to its end.
-ghost use Rattle.std.specs.Prelude.{◌≡◌, ℕ, ◌-◌, ◌^◌, ◌<◌, ◌≤◌, ◌⊎◌, [], map, min, length, sum_by, All, Any, OnOk, IfOk, IfSome, Some, None, true, false, slice_index_or};
+ghost use Rattle.std.specs.Prelude.{◌≡◌, ℕ, ◌-◌, ◌^◌, ◌<◌, ◌≤◌, ◌⊎◌, [], map, min, length, sum_by, All, Any, OnOk, IfOk, IfSome, Some, None, true};
+ghost use Rattle.std.specs.Prelude.{false, slice_index_or};
 ghost use Rattle.std.specs.List.{flat_map, range_with_len};
 ghost use Rattle.post_board.specs.Fresh.{fresh_told, AllFresh};
 ghost use Rattle.sum_tree.specs.Plain.{fresh};
@@ -47,22 +48,26 @@ pub fn begin<R: Threads + Wait + Sync, J: Job + Send + Drop>(
     ensures stop { IfOk result (λ f. IfSome options.now.stop_after (λ k. All (λ job. length (J.log job) ≤ k) f.jobs.items)) }
     ensures left { IfOk result (λ f. IfSome options.now.stop_after (λ k. (all_left f.left.items ≡ []) ⊎ Any (λ job. length (J.log job) ≡ k) f.jobs.items)) }
 
-    // By rank: the jobs in their order, what is left and what was done. What all gave all took; counts stop at their greatest.
+    // By rank: the jobs in their order, the strings left and the counts. All took as many as all gave; counts stop at their greatest.
     ensures jobs { IfOk result (λ f. length f.jobs.items ≡ length jobs.items) }
     ensures plain { IfOk result (λ f. map J.plain f.jobs.items ≡ map J.plain jobs.items) }
     ensures lists { IfOk result (λ f. length f.left.items ≡ length jobs.items) }
     ensures shares { IfOk result (λ f. map (λ s. s.handled) f.shares.items ≡ map (λ job. min (length (J.log job)) (2 ^ 64 - 1)) f.jobs.items) }
     ensures moved { IfOk result (λ f. min (sum_by (λ s. s.given) f.shares.items) (2 ^ 128 - 1) ≡ min (sum_by (λ s. s.taken) f.shares.items) (2 ^ 128 - 1)) }
 
-    // On one host moves of all were played, on several each rank made moves of its own: they leave this, and each did so much by them.
-    ensures played { IfOk result (λ f. options.now.hosts ≡ 1 → Played options.now starts.items (map J.log f.jobs.items) (map (λ l. l.items) f.left.items) f.shares.items) }
-    ensures apart { IfOk result (λ f. 1 < options.now.hosts → PlayedApart options.now starts.items (map J.log f.jobs.items) (map (λ l. l.items) f.left.items) f.shares.items) }
+    // On one host moves of all were played, on several each rank made moves of its own. They leave these logs and strings, and the
+    // shares count them.
+    ensures played { IfOk result (λ f. options.now.hosts ≡ 1
+        → Played options.now starts.items (map J.log f.jobs.items) (map (λ l. l.items) f.left.items) f.shares.items) }
+    ensures apart { IfOk result (λ f. 1 < options.now.hosts
+        → PlayedApart options.now starts.items (map J.log f.jobs.items) (map (λ l. l.items) f.left.items) f.shares.items) }
 
-    // With a trace: the events are those of a whole run, and the shares are what they say. Without one none is kept.
+    // With a trace: the events are those of a whole run, and the shares count them. Without one none is kept.
     ensures traced { IfOk result (λ f. options.now.trace ≡ true → IsTraced options.now starts.items (map J.log f.jobs.items) f.events.items) }
     ensures untraced { IfOk result (λ f. options.now.trace ≡ false → f.events.items ≡ []) }
     ensures counts { IfOk result (λ f. options.now.trace ≡ true → f.shares.items ≡ map (share_in f.events.items) (range_with_len 0 options.now.ranks)) }
-    ensures ran { IfOk result (λ f. options.now.hosts ≡ 1 → options.now.stop_after ≡ None → WasRun options.now starts.items (map J.log f.jobs.items) f.shares.items f.events.items) }
+    ensures ran { IfOk result (λ f. options.now.hosts ≡ 1 → options.now.stop_after ≡ None
+        → WasRun options.now starts.items (map J.log f.jobs.items) f.shares.items f.events.items) }
     ensures progress { IfOk result (λ f. IsProgress (map (λ job. length (J.log job)) f.jobs.items) f.sums.items) }
 {
     if options.hosts > 1 {

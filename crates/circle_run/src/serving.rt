@@ -67,7 +67,7 @@ impl<J: Job, S, T> RankState<J, S, T> {
         count
     }
 
-    /// Gives so many of the oldest strings to a rank that is being served, or refuses it where that is none.
+    /// Gives so many of the oldest strings to a rank that is being served, or refuses it if that is none.
     fn answer_one<P: Post<Seat = S>>(&mut self, post: &mut P, to: u32, share: u64)
         requires seat { P.seats post.old self.old.seat }
         requires knows { Knows P.shows self.old }
@@ -94,7 +94,7 @@ impl<J: Job, S, T> RankState<J, S, T> {
     }
 }
 
-// So many of the oldest strings. None where that is none, where the queue has not so many and one more, and without memory.
+// So many of the oldest strings. `None` if `share` is 0, if the queue does not have more than `share`, or out of memory.
 fn portion(queue: &mut RankQueue, book: &mut Book, share: u64) -> Option<Batch>
     ensures oldest { IfSome result (λ batch. queue.old ≡ batch ++ queue.new) }
     ensures amount { IfSome result (λ batch. (length batch ≡ share) × (0 < share) × (0 < length queue.new)) }
@@ -114,7 +114,7 @@ fn portion(queue: &mut RankQueue, book: &mut Book, share: u64) -> Option<Batch>
     Some(batch)
 }
 
-// The colour of a rank that gave, which is black where it gave to a higher rank.
+// The colour of a rank that gave, which is black if it gave to a higher rank.
 fn shaded(higher: bool, colour: Colour) -> Colour
     ensures { result ≡ (if higher then Black else colour) }
 {

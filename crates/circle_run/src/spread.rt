@@ -1,7 +1,7 @@
-//! Ranks are spread over hosts: rank `r` goes to host `r` modulo `hosts`.
-ghost use Rattle.std.specs.Prelude.{◌≡◌, ◌+◌, ◌<◌, ◌%◌, ◌≤◌, ℕ, All, IfOk, length};
+//! Spreading ranks over hosts: rank `r` goes to host `r` modulo `hosts`.
+ghost use Rattle.std.specs.Prelude.{◌≡◌, ◌+◌, ◌<◌, ◌%◌, ◌≤◌, ◌==◌, ℕ, All, IfOk, length};
 ghost use Rattle.std.specs.List.{sum_by};
-ghost use Rattle.circle_run.specs.Private.Away.{IsHost};
+ghost use Rattle.circle_run.specs.Private.Away.{IsHost, one_if};
 
 use crate::backs::Ranks;
 use crate::jobs::Job;
@@ -20,8 +20,10 @@ pub(crate) fn spread<J: Job + Drop, S: Drop, T: Drop>(
     requires some { 1 ≤ hosts }
     requires ranks { IsHost whole.now.value.items ranks.items }
     ensures mine { IfOk result (λ made. IsHost whole.now.value.items made.0.items) }
+    ensures own { IfOk result (λ made. (j : ℕ) → 1 ≤ j → j < hosts → sum_by (λ r. one_if (r.me % hosts == j)) made.0.items ≡ 0) }
     ensures others { IfOk result (λ made. All (λ host. IsHost whole.now.value.items host.items) made.1.items) }
-    ensures numbers { IfOk result (λ made. (h : ℕ → ℕ) → sum_by (λ r. h r.me) made.0.items + sum_by (λ host. sum_by (λ r. h r.me) host.items) made.1.items ≡ sum_by (λ r. h r.me) ranks.items) }
+    ensures numbers { IfOk result (λ made. (h : ℕ → ℕ)
+        → sum_by (λ r. h r.me) made.0.items + sum_by (λ host. sum_by (λ r. h r.me) host.items) made.1.items ≡ sum_by (λ r. h r.me) ranks.items) }
 {
     let mut left = ranks;
     let mut others = Vec::with_capacity(alloc, hosts as usize)?;
@@ -46,7 +48,9 @@ fn split<J: Job + Drop, S: Drop, T: Drop>(
     ensures chosen { IfOk result (λ made. IsHost whole.now.value.items made.0.items) }
     ensures own { IfOk result (λ made. All (λ r. r.me % hosts ≡ host) made.0.items) }
     ensures rest { IfOk result (λ made. IsHost whole.now.value.items made.1.items) }
-    ensures numbers { IfOk result (λ made. (h : ℕ → ℕ) → sum_by (λ r. h r.me) made.0.items + sum_by (λ r. h r.me) made.1.items ≡ sum_by (λ r. h r.me) ranks.items) }
+    ensures left { IfOk result (λ made. sum_by (λ r. one_if (r.me % hosts == host)) made.1.items ≡ 0) }
+    ensures numbers { IfOk result (λ made. (h : ℕ → ℕ)
+        → sum_by (λ r. h r.me) made.0.items + sum_by (λ r. h r.me) made.1.items ≡ sum_by (λ r. h r.me) ranks.items) }
 {
     let mut chosen = Vec::new(alloc);
     let mut rest = Vec::with_capacity(alloc, ranks.len())?;

@@ -17,7 +17,7 @@ use post_board::{Answer, Post, Ring};
 use rank_queue::victim;
 use ring_core::{Colour, Event};
 
-/// What a rank did after its service.
+/// The action of a rank after its service.
 #[derive(Clone, Copy, Debug, Drop, PartialEq, Eq)]
 pub(crate) enum Did {
     /// It handled a string.
@@ -59,7 +59,7 @@ impl<J: Job, S, T> RankState<J, S, T> {
         ring
     }
 
-    /// Handles the newest string and queues what it pushed.
+    /// Handles the newest string and queues the strings that the job pushed.
     fn handle_newest(&mut self)
         requires some { 0 < length self.old.queue }
         requires fresh { self.old.fresh ≡ [] }
@@ -85,7 +85,7 @@ impl<J: Job, S, T> RankState<J, S, T> {
             .note(self.options.trace, Event::Handle { rank, path, kids });
     }
 
-    /// Looks for the answer to the open request, and queues what came.
+    /// Looks for the answer to the open request, and queues the strings that came.
     pub(crate) fn look<P: Post<Seat = S>>(&mut self, post: &mut P, victim: u32) -> Did
         requires seat { P.seats post.old self.old.seat }
         requires knows { Knows P.shows self.old }
@@ -207,9 +207,11 @@ impl<J: Job, S, T> RankState<J, S, T> {
         requires halt { ring ≢ HeardHalted }
         requires elsewhere { ring ≡ HeardElsewhere → 1 < self.old.options.ranks }
         requires held { (P.shows self.old.seat).here ≡ held_of ring }
-        ensures came { Came J.log J.plain P.shows P.tells P.seats (Follows result self.old.me (choice self.old.options.ranks (standing ring self.old))) self.old post.old self.new post.new }
+        ensures came { Came J.log J.plain P.shows P.tells P.seats
+            (Follows result self.old.me (choice self.old.options.ranks (standing ring self.old))) self.old post.old self.new post.new }
         ensures held { (P.shows self.new.seat).here ≡ held_after (choice self.old.options.ranks (standing ring self.old)) ring }
-        ensures heard { self.new.book.lost ≡ false → J.heard self.new.job ≡ heard_after (choice self.old.options.ranks (standing ring self.old)) (length self.old.queue - 1) (J.heard self.old.job) }
+        ensures heard { self.new.book.lost ≡ false
+            → J.heard self.new.job ≡ heard_after (choice self.old.options.ranks (standing ring self.old)) (length self.old.queue - 1) (J.heard self.old.job) }
         ensures waits { result ≡ DidWait → Waits self.new.me (P.tells post.new) }
         ensures handled { result ≡ DidHandle → self.new.book.lost ≡ false → length (J.log self.new.job) ≡ length (J.log self.old.job) + 1 }
         ensures other { result ≢ DidHandle → J.log self.new.job ≡ J.log self.old.job }

@@ -19,8 +19,8 @@ use std::sync::atomic::Ordering::SeqCst;
 use std::thread::{Scope, Threads};
 use sum_tree::Sums;
 
-/// Starts a thread for one host. Where none can be made its closure comes back, and gives the ranks as they were once its flag
-/// is set.
+/// Starts a thread for one host. If none can be made its closure comes back, and gives the ranks as they were once its flag is
+/// set.
 fn start<
     's,
     E,
@@ -59,7 +59,7 @@ fn start<
     }
 }
 
-/// Waits for a host, and runs its ranks here should it give them back untouched, which it never does.
+/// Waits for a host. If it gives its ranks back untouched, which it never does, runs them here.
 fn finish<
     J: Job + Drop,
     S: Drop,
@@ -80,8 +80,8 @@ fn finish<
     }
 }
 
-/// Starts a thread for a host, or else puts its ranks behind those that run here. Should the closure of a refused thread have run
-/// them, they are done.
+/// Starts a thread for a host, or else puts its ranks behind those that run here. If the closure of a refused thread has run them,
+/// they are done.
 fn add_host<
     's,
     E,
@@ -155,7 +155,8 @@ pub(crate) fn run_all<
     requires count { count ≡ length whole.now.value.items }
     requires mine { IsHost whole.now.value.items mine.items }
     requires others { All (λ host. IsHost whole.now.value.items host.items) others.items }
-    requires numbers { (h : ℕ → ℕ) → sum_by (λ r. h r.me) mine.items + sum_by (λ host. sum_by (λ r. h r.me) host.items) others.items ≡ sum_by (λ r. h r.me) whole.now.value.items }
+    requires numbers { (h : ℕ → ℕ) → sum_by (λ r. h r.me) mine.items + sum_by (λ host. sum_by (λ r. h r.me) host.items) others.items
+        ≡ sum_by (λ r. h r.me) whole.now.value.items }
     ensures done { IfOk result (λ v. AreDone J.log J.plain P.shows P.seats Q.shows Q.seats whole.now.value.items post sums v.items) }
     ensures numbers { IfOk result (λ v. (h : ℕ → ℕ) → sum_by (λ r. h r.me) v.items ≡ sum_by (λ r. h r.me) whole.now.value.items) }
 {
@@ -192,7 +193,8 @@ fn run_hosts<
     requires empty { (pool.done.items ≡ []) × (pool.started.items ≡ []) × (pool.all.items ≡ []) }
     requires room { HasRoom (length whole.now.value.items) (length others.items) pool }
     requires others { All (λ host. IsHost whole.now.value.items host.items) others.items }
-    requires numbers { (h : ℕ → ℕ) → sum_by (λ r. h r.me) pool.mine.items + sum_by (λ host. sum_by (λ r. h r.me) host.items) others.items ≡ sum_by (λ r. h r.me) whole.now.value.items }
+    requires numbers { (h : ℕ → ℕ) → sum_by (λ r. h r.me) pool.mine.items + sum_by (λ host. sum_by (λ r. h r.me) host.items) others.items
+        ≡ sum_by (λ r. h r.me) whole.now.value.items }
     ensures done { AreDone J.log J.plain P.shows P.seats Q.shows Q.seats whole.now.value.items post sums result.items }
     ensures numbers { (h : ℕ → ℕ) → sum_by (λ r. h r.me) result.items ≡ sum_by (λ r. h r.me) whole.now.value.items }
 {

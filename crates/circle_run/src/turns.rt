@@ -27,8 +27,8 @@ use std::alloc::Global;
 use sum_tree::Sums;
 
 impl<J: Job, S, T> Rank<J, S, T> {
-    /// The rank `me`, which has not had a turn yet. Its job has handled nothing, `queue` has what it was dealt, and its seats
-    /// are unused.
+    /// The rank `me`, which has not had a turn yet. Its job has handled nothing, `queue` has the starts that it was dealt, and its
+    /// seats are unused.
     pub fn make(
         alloc: Global,
         job: J,
@@ -72,7 +72,7 @@ impl<J: Job, S, T> Rank<J, S, T> {
         Rank { state }
     }
 
-    /// What it did so far, in order, where the options have a trace.
+    /// Its events so far, in order, if the options have a trace.
     pub fn events(&self) -> &[Event]
         ensures { result.now ≡ self.now.book.events.items }
     {
@@ -86,7 +86,7 @@ impl<J: Job, S, T> Rank<J, S, T> {
         self.state.me
     }
 
-    /// Whether it found no memory at some time.
+    /// Whether it ever ran out of memory.
     pub fn is_lost(&self) -> bool
         ensures { result ≡ self.now.book.lost }
     {
@@ -118,9 +118,10 @@ impl<J: Job, S, T> Rank<J, S, T> {
         ensures goes { result ≢ TurnStopped → self.new.stopped ≡ self.old.stopped }
         ensures late { result ≡ TurnWaited → is_done self.old ≡ true → IfSome (Q.tells sums.old) (Finishes (Q.shows self.old.sums_seat).number None) }
 
-        // Before it is done a rank with others below it at the sums shows in each turn what it and they counted, and each rank does
-        // where it handled a string.
-        ensures sums { is_done self.old ≡ false → (IsLeaf (Q.shows self.old.sums_seat) → length (J.log self.old.job) < length (J.log self.new.job)) → IfSome (Q.tells sums.old) (AddsUp (Q.shows self.new.sums_seat)) }
+        // Before it is done a rank with others below it at the sums shows in each turn the counts of itself and of them. Any rank
+        // does so after it handled a string.
+        ensures sums { is_done self.old ≡ false → (IsLeaf (Q.shows self.old.sums_seat) → length (J.log self.old.job) < length (J.log self.new.job))
+            → IfSome (Q.tells sums.old) (AddsUp (Q.shows self.new.sums_seat)) }
         ensures over { is_done self.old ≡ true → (result ≢ TurnWent) × (result ≢ TurnStopped) × (is_done self.new ≡ true) × (post.new ≡ post.old) }
     {
         let done = self.state.is_done();
@@ -144,7 +145,7 @@ impl<J: Job, S, T> RankState<J, S, T> {
         self.ended || self.stopped
     }
 
-    /// What the rank does at the board in a turn before it is done.
+    /// The part of a turn at the board, before the rank is done.
     fn work<P: Post<Seat = S>>(&mut self, post: &mut P) -> Did
         requires seat { P.seats post.old self.old.seat }
         requires knows { Knows P.shows self.old }
@@ -152,7 +153,8 @@ impl<J: Job, S, T> RankState<J, S, T> {
         requires live { self.old.ended ≡ false }
         requires going { self.old.stopped ≡ false }
         requires bounded { self.old.book.lost ≡ false → Bounded J.log P.shows self.old }
-        ensures came { Came J.log J.plain P.shows P.tells P.seats (Works J.heard P.shows P.tells result self.old post.old self.new) self.old post.old self.new post.new }
+        ensures came { Came J.log J.plain P.shows P.tells P.seats
+            (Works J.heard P.shows P.tells result self.old post.old self.new) self.old post.old self.new post.new }
         ensures bounded { self.new.book.lost ≡ false → Bounded J.log P.shows self.new }
         ensures waits { result ≡ DidWait → Waits self.old.me (P.tells post.new) }
         ensures handled { result ≡ DidHandle → self.new.book.lost ≡ false → length (J.log self.new.job) ≡ length (J.log self.old.job) + 1 }
@@ -178,7 +180,7 @@ impl<J: Job, S, T> RankState<J, S, T> {
         in_all(some, did)
     }
 
-    /// Counts a string that was handled, and shows what this rank and those below it counted.
+    /// Counts a string that was handled, and shows the counts of this rank and those below it.
     fn tally<Q: Sums<Seat = T>>(&mut self, sums: &mut Q, did: Did)
         requires seat { Q.seats sums.old self.old.sums_seat }
         requires number { (Q.shows self.old.sums_seat).number ≡ self.old.me }
@@ -191,7 +193,8 @@ impl<J: Job, S, T> RankState<J, S, T> {
         ensures book { self.new.book ≡ record self.old.book { sums = self.new.book.sums; lost = self.new.book.lost } }
         ensures lost { self.old.book.lost ≡ true → self.new.book.lost ≡ true }
         ensures unfinished { (Q.shows self.new.sums_seat).answer ≡ None }
-        ensures ready { (strings : ℕ) → SumsReady Q.shows Q.seats strings self.old sums.old → SumsReady Q.shows Q.seats (tallied did strings) self.new sums.new }
+        ensures ready { (strings : ℕ) → SumsReady Q.shows Q.seats strings self.old sums.old
+            → SumsReady Q.shows Q.seats (tallied did strings) self.new sums.new }
         ensures adds_up { (IsLeaf (Q.shows self.old.sums_seat) → did ≡ DidHandle) → IfSome (Q.tells sums.old) (AddsUp (Q.shows self.new.sums_seat)) }
         ensures others { (other : T) → (Q.shows other).number ≢ self.old.me → Q.seats sums.old other → Q.seats sums.new other }
         ensures still { Q.tells sums.old ≡ None → sums.new ≡ sums.old }
@@ -209,7 +212,7 @@ impl<J: Job, S, T> RankState<J, S, T> {
         }
     }
 
-    /// Shows what this rank and those below it counted. Rank 0 keeps it as a number of progress.
+    /// Shows the counts of this rank and those below it. Rank 0 keeps their sum as a number of progress.
     fn show<Q: Sums<Seat = T>>(&mut self, sums: &mut Q)
         requires seat { Q.seats sums.old self.old.sums_seat }
         requires unfinished { (Q.shows self.old.sums_seat).answer ≡ None }
@@ -223,8 +226,10 @@ impl<J: Job, S, T> RankState<J, S, T> {
         ensures rises { (Q.shows self.old.sums_seat).word ≤ (Q.shows self.new.sums_seat).word }
         ensures adds_up { IfSome (Q.tells sums.old) (AddsUp (Q.shows self.new.sums_seat)) }
         ensures alone { IsLeaf (Q.shows self.old.sums_seat) → (Q.shows self.new.sums_seat).word ≡ (Q.shows self.old.sums_seat).count }
-        ensures more { self.old.me ≡ 0 → self.new.book.lost ≡ false → newest 0 self.old.book.sums.items + 1000 ≤ (Q.shows self.new.sums_seat).word → self.new.book.sums.items ≡ self.old.book.sums.items ++ (Q.shows self.new.sums_seat).word ∷ [] }
-        ensures few { self.old.me ≡ 0 → self.new.book.lost ≡ false → (Q.shows self.new.sums_seat).word < newest 0 self.old.book.sums.items + 1000 → self.new.book.sums.items ≡ self.old.book.sums.items }
+        ensures more { self.old.me ≡ 0 → self.new.book.lost ≡ false → newest 0 self.old.book.sums.items + 1000 ≤ (Q.shows self.new.sums_seat).word
+            → self.new.book.sums.items ≡ self.old.book.sums.items ++ (Q.shows self.new.sums_seat).word ∷ [] }
+        ensures few { self.old.me ≡ 0 → self.new.book.lost ≡ false → (Q.shows self.new.sums_seat).word < newest 0 self.old.book.sums.items + 1000
+            → self.new.book.sums.items ≡ self.old.book.sums.items }
         ensures rest { self.old.me ≢ 0 → self.new.book ≡ self.old.book }
     {
         sums.refresh(&mut self.sums_seat);
@@ -262,7 +267,7 @@ impl<J: Job, S, T> RankState<J, S, T> {
     }
 }
 
-// What came of a turn before the end.
+// The result of a turn before the end.
 fn as_turn(did: Did) -> Turn
     ensures { result ≡ turn_of did }
 {
@@ -273,7 +278,7 @@ fn as_turn(did: Did) -> Turn
     }
 }
 
-/// What a rank did in all, where some asked it or none.
+/// The action of a rank in its whole turn: `some` says whether any rank asked it.
 pub(crate) fn in_all(some: bool, did: Did) -> Did
     ensures { result ≡ with_service some did }
 {
@@ -283,7 +288,7 @@ pub(crate) fn in_all(some: bool, did: Did) -> Did
     }
 }
 
-// A rank that found no memory has no string.
+// A rank that ran out of memory has no string.
 fn settle(queue: &mut RankQueue, book: &Book, alloc: Global)
     ensures lost { book.now.lost ≡ true → queue.new ≡ [] }
     ensures kept { book.now.lost ≡ false → queue.new ≡ queue.old }

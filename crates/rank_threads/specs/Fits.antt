@@ -1,4 +1,4 @@
--- What holds of a rank before its first turn in a thread of its own. Our own.
+-- The facts of a rank before its first turn in a thread of its own. Our own.
 use Rattle.std.specs.Prelude.{◌≡◌, map, false, None}
 use Rattle.circle_run.specs.Hosts.{Placed}
 use Rattle.post_board.specs.BoardSeats.{IsSeat as IsBoardSeat, shown_by as board_shown}

@@ -1,4 +1,4 @@
-//! Seats are dealt to the ranks of a run.
+//! Deals seats to the ranks of a run.
 ghost use Rattle.std.specs.Prelude.{◌≡◌, ◌<◌, ◌≤◌, [], Some, None, length, All, IfOk};
 ghost use Rattle.post_board.specs.Fresh.{AllFresh as AllFreshAtBoard, fresh as fresh_seat};
 ghost use Rattle.post_board.specs.BoardSeats.{IsSeat as IsBoardSeat, shown_by as board_shown, unused};
@@ -16,7 +16,7 @@ use std::alloc::Global;
 use std::sync::atomic::AtomicU64;
 use sum_tree::{SumSeat, SumTree};
 
-/// Where the ranks of a run meet.
+/// The board and the sums of the ranks of a run.
 #[derive(Clone, Copy, Drop)]
 pub(crate) struct Place<'a> {
     pub(crate) board: &'a Board,

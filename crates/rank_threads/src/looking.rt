@@ -7,7 +7,7 @@ use path_text::OutOfMemory;
 use post_board::{Board, BoardSeat, Post};
 use std::alloc::Global;
 
-/// How often the last of so many ranks found no request, of so many looks. Nobody asks.
+/// How often the last of `ranks` ranks found no request in `looks` looks. No rank asks.
 pub fn look(alloc: Global, ranks: u32, looks: u32) -> Result<u32, OutOfMemory>
     requires { (1 ≤ ranks) × (ranks ≤ 64) }
 {

@@ -14,20 +14,20 @@ use std::thread;
 use std::thread::Threads;
 use sum_tree::SumTree;
 
-/// How a run is to go.
+/// The settings of a run.
 #[derive(Clone, Copy, Debug, Drop, PartialEq, Eq)]
 pub struct Plan {
-    /// How many ranks there are, each in a thread of its own.
+    /// The number of ranks, each in a thread of its own.
     pub ranks: u32,
-    /// What a rank that is asked gives.
+    /// How much an asked rank gives.
     pub split: Split,
-    /// What the lots are drawn from.
+    /// The seed of the random numbers.
     pub seed: u64,
-    /// How many rounds are turned with each string.
+    /// How many rounds of made-up work each string takes.
     pub rounds: u64,
 }
 
-/// What came of a run.
+/// The result of a run.
 #[derive(Clone, Copy, Debug, Drop, PartialEq, Eq)]
 pub struct Outcome {
     /// How many strings all ranks handled.
@@ -36,11 +36,11 @@ pub struct Outcome {
     pub given: u64,
     /// How many strings they took.
     pub taken: u64,
-    /// The sum that rank 0 found of what all handled.
+    /// The sum of the handled strings that rank 0 found.
     pub sum: u64,
 }
 
-/// What the threads add to.
+/// The counts to which the threads add.
 #[derive(Drop)]
 struct Totals {
     stop: AtomicU64,
@@ -61,7 +61,7 @@ impl Totals {
         }
     }
 
-    // Has the worker go on to its end, and adds what it did.
+    // Runs the worker to its end, and adds its counts.
     fn add<R: Wait>(&self, rt: &R, worker: Worker)
         requires { Fits worker }
     {
@@ -82,7 +82,7 @@ fn small(count: u128) -> u64 {
     u64::try_from(count).unwrap_or(u64::MAX)
 }
 
-// Each worker goes on to its end in a thread of its own.
+// Runs each worker to its end in a thread of its own.
 fn go_all<'x, R: Threads + Wait + Sync>(rt: &'x R, totals: &'x Totals, workers: Vec<Worker<'x, 'x>>)
     requires { All Fits workers.items }
 {
@@ -104,7 +104,7 @@ fn go_all<'x, R: Threads + Wait + Sync>(rt: &'x R, totals: &'x Totals, workers: 
     );
 }
 
-/// Runs the made-up job in a thread a rank, from the string `/0` on. None where a thread could not be started.
+/// Runs the made-up job in a thread for each rank, from the string `/0` on. `None` if a thread could not be started.
 pub fn run_all<R: Threads + Wait + Sync>(
     rt: &R,
     alloc: Global,
@@ -146,7 +146,7 @@ pub fn run_all<R: Threads + Wait + Sync>(
 }
 
 impl Totals {
-    // What came of the run, where it came to its end.
+    // The result of the run, if it came to its end.
     fn outcome(&self) -> Option<Outcome> {
         if self.stop.load(Ordering::SeqCst) != 0 {
             return None;

@@ -7,8 +7,8 @@ use rank_queue::Batch;
 use std::alloc::Global;
 use std::sync::atomic::{AtomicU64, Ordering};
 
-/// Handles the strings `/0`, `/1` and so on: that of the number k pushes those of 2k + 1 and 2k + 2, as far as there are so many. It
-/// notes how often each was handled, by whatever rank, and turns some rounds with each.
+/// Handles the strings `/0`, `/1` and so on: the string of the number k pushes those of 2k + 1 and 2k + 2, if there are so many. It
+/// counts how often each was handled, by any rank, and does some rounds of made-up work with each.
 #[derive(Drop)]
 pub struct Sprout<'a> {
     pub(crate) alloc: Global,
@@ -78,7 +78,7 @@ pub fn counts(alloc: Global, strings: u32) -> Result<Vec<AtomicU64>, OutOfMemory
     Ok(seen)
 }
 
-/// Turns so many rounds, none of which the one before tells.
+/// Does `rounds` rounds of made-up work, each of which depends on the one before.
 pub fn spin(start: u64, rounds: u64) -> u64 {
     let mut x = start;
     for k in 0..rounds {
@@ -89,7 +89,7 @@ pub fn spin(start: u64, rounds: u64) -> u64 {
     x
 }
 
-// The number of a string, and a great one of any other text.
+// The number of a string, and the greatest number for any other text.
 fn number_of(item: &Path) -> u32 {
     item.base().parse().unwrap_or(u32::MAX)
 }

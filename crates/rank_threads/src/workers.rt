@@ -1,4 +1,4 @@
-//! A rank with all that its thread needs.
+//! A rank with everything that its thread needs.
 ghost use Rattle.std.specs.Prelude.{◌≡◌, map, false, None};
 ghost use Rattle.circle_run.specs.Hosts.{Placed};
 ghost use Rattle.rank_threads.specs.Fits.{Fits};
@@ -13,7 +13,7 @@ use std::sync::atomic::{AtomicU64, Ordering};
 use std::thread;
 use sum_tree::{SumSeat, SumTree, Sums};
 
-/// A rank, the board and the sums over which it acts, and a seat at further sums, for what it handled in all.
+/// A rank, the board and the sums over which it acts, and a seat at further sums, for the number of strings that it handled.
 #[derive(Drop)]
 pub struct Worker<'s, 'b> {
     pub(crate) me: u32,
@@ -25,8 +25,8 @@ pub struct Worker<'s, 'b> {
 }
 
 impl<'s, 'b> Worker<'s, 'b> {
-    /// Turns until the rank has ended, and the sum that it then finds of what it and all below it handled. None where `stop` was
-    /// set before.
+    /// Takes turns until the rank has ended. Answers the counts of the rank, and the sum of the strings that it and all ranks below it
+    /// handled. `None` if `stop` was set before.
     pub(crate) fn go<R: Wait>(self, rt: &R, stop: &AtomicU64) -> Option<(Share, u64)>
         requires { Fits self }
     {
@@ -52,7 +52,8 @@ fn turn_to_end<R: Wait>(
     sums: &SumTree,
     stop: &AtomicU64,
 ) -> Option<Share>
-    requires { Placed (λ s. map (λ step. (step.item, step.pushed.items)) s.steps.items) board_shown (λ b s. IsBoardSeat b.now s) sums_shown (λ t s. IsSumSeat t.now s) false rank board sums }
+    requires { Placed (λ s. map (λ step. (step.item, step.pushed.items)) s.steps.items)
+        board_shown (λ b s. IsBoardSeat b.now s) sums_shown (λ t s. IsSumSeat t.now s) false rank board sums }
 {
     let mut post = board;
     let mut tree = sums;
@@ -69,7 +70,7 @@ fn turn_to_end<R: Wait>(
     unreachable!()
 }
 
-// The final sum of this rank and all below it, of which this one counts so many.
+// The final sum of this rank and all below it, to which this one adds `count`.
 fn sum_of_all<R: Wait>(
     rt: &R,
     tree: &SumTree,

@@ -1,4 +1,4 @@
--- What ranks come to that run in threads, at a board and at sums which these share. Our own.
+-- The results of ranks that run in threads, at a board and at sums which these share. Our own.
 use Rattle.std.specs.Prelude.{◌≡◌, ℕ, ◌<◌, Bool, true, false, List, length, slice_index_or, All, Option, None}
 use Rattle.post_board.specs.Shown.{Shown}
 use Rattle.sum_tree.specs.Shown.{SumShown}
@@ -15,11 +15,11 @@ one_if true = 1
 one_if false = 0
 
 module _ {J S T : Type 0} where
-  -- each rank stands at its number
+  -- each rank is at its number
   abbrev pub InPlace : List (Rank J S T) → Type 0
   InPlace whole = (k : ℕ) (d : Rank J S T) → k < length whole → (slice_index_or whole k d).me ≡ k
 
-  -- one of these ranks, as it stands there
+  -- one of these ranks, as it is there
   pub record IsOne (whole : List (Rank J S T)) (r : Rank J S T) : Type 0 where
     pub inside : r.me < length whole
     pub is : slice_index_or whole r.me r ≡ r
@@ -31,18 +31,18 @@ module _ {J S T : Type 0} where
 
 module _ {J S T P Q D : Type 0} (log : J → Log) (plain : J → D) (shows : S → Shown) (seats : P → S → Type 0)
     (sums_shows : T → SumShown) (sums_seats : Q → T → Type 0) where
-  -- what a host's ranks come to
+  -- the results of a host's ranks
   pub record HostRan (p : P) (q : Q) (before after : List (Rank J S T)) : Type 0 where
     pub ended : AllEnded log shows seats sums_shows sums_seats after p q
     pub same : Same plain before after
     pub alone : AllAlone log shows before after
 
-  -- what a thread gives back: its ranks as they have ended, or as they were
+  -- the ranks that a thread gives back: as they have ended, or as they were
   abbrev pub Gives : P → Q → List (Rank J S T) → Back J S T → Type 0
   Gives p q before (Ran ranks) = HostRan p q before ranks.items
   Gives p q before (Untouched ranks) = ranks.items ≡ before
 
-  -- a rank that came of that of its number and has ended
+  -- a rank that was the one of its number at the start and has ended
   pub record EndOf (whole : List (Rank J S T)) (p : P) (q : Q) (r : Rank J S T) : Type 0 where
     pub inside : r.me < length whole
     pub options : r.options ≡ (slice_index_or whole r.me r).options

@@ -1,10 +1,10 @@
--- What a rank writes down of its events. Our own.
+-- The events in a rank's book. Our own.
 use Rattle.std.specs.Prelude.{◌≡◌, Bool, true, false, if◌then◌else◌, List, [], ◌++◌}
 use Rattle.ring_core.specs.declared.events.Event.{Event}
 use Rattle.circle_run.specs.Books.{counted}
 use Rattle.circle_run.specs.declared.books.Book.{Book}
 
--- unless memory was not found, these events were counted, and kept where that is wanted
+-- unless the rank ran out of memory, these events were counted, and kept with a trace
 pub record Writes (trace : Bool) (events : List Event) (b b' : Book) : Type 0 where
   pub sums : b'.sums ≡ b.sums
   pub lost : b.lost ≡ true → b'.lost ≡ true

@@ -1,4 +1,4 @@
--- How the ranks of a run begin, and what a run leaves. Our own.
+-- How the ranks of a run begin, and the result of a run. Our own.
 use Rattle.std.specs.Prelude.{◌≡◌, ℕ, ◌-◌, ◌^◌, ◌<◌, ◌≤◌, ◌⊎◌, min, true, false, List, length, [], map, sum_by, slice_index_or, All, None, IfSome}
 use Rattle.std.specs.List.{flat_map, range_with_len, Any}
 use Rattle.post_board.specs.Shown.{Strings}
@@ -22,7 +22,7 @@ module _ {J S T : Type 0} where
     pub new : (k : ℕ) (d : Rank J S T) → k < length ranks → let r = slice_index_or ranks k d in IsNew r.job r.seat r.sums_seat r.queue o k r
     pub unused : (k : ℕ) (d : Rank J S T) → k < length ranks → log (slice_index_or ranks k d).job ≡ []
 
-  -- what these ranks have, by rank
+  -- the parts of these ranks, by rank
   pub record ArePartsOf (ranks : List (Rank J S T)) (parts : Parts J S T) : Type 0 where
     pub jobs : parts.jobs.items ≡ map (λ r. r.job) ranks
     pub seats : parts.seats.items ≡ map (λ r. r.seat) ranks
@@ -32,7 +32,7 @@ module _ {J S T : Type 0} where
     pub numbers : parts.numbers.items ≡ flat_map (λ r. r.book.sums.items) ranks
 
 module _ {J D : Type 0} (log : J → Log) (plain : J → D) where
-  -- what a whole run leaves of these starts and jobs
+  -- the result of a whole run of these starts and jobs
   pub record IsOutcome (o : Options) (starts : Strings) (jobs : List J) (f : Finished J) : Type 0 where
     pub balance : Balanced (flat_map log f.jobs.items) (all_left f.left.items) starts
     pub whole : o.stop_after ≡ None → all_left f.left.items ≡ []
@@ -48,7 +48,7 @@ module _ {J D : Type 0} (log : J → Log) (plain : J → D) where
     pub progress : IsProgress (map (λ job. length (log job)) f.jobs.items) f.sums.items
 
 module _ {J : Type 0} (log : J → Log) where
-  -- what a whole run on one host, which stops after no number, leaves beside that
+  -- further results of a whole run on one host, which stops after no number
   pub record IsRun (o : Options) (starts : Strings) (f : Finished J) : Type 0 where
     pub traced : o.trace ≡ true → IsTraced o starts (map log f.jobs.items) f.events.items
     pub counts : o.trace ≡ true → f.shares.items ≡ map (share_in f.events.items) (range_with_len 0 o.ranks)

@@ -41,7 +41,7 @@ module _ {J S T P Q D : Type 0} (log : J → Log) (plain : J → D) (shows : S �
     pub alone : All (λ (r : Rank J S T). Alone log shows (slice_index_or whole r.me r) r) final
 
 module _ {J S T P Q : Type 0} (log : J → Log) (shows : S → Shown) (seats : P → S → Type 0) (sums_shows : T → SumShown) (sums_seats : Q → T → Type 0) where
-  -- the ranks of a run, so many, are spread over the first host and the others, and as many flags are there as others
+  -- the ranks of a run, so many, are spread over the first host and the others, and there are as many flags as others
   pub record MaySpread (p : P) (q : Q) (whole mine : List (Rank J S T)) (others : List (Vec (Rank J S T) Global)) (flags count : ℕ) : Type 0 where
     pub placed : InPlace whole
     pub ready : AllReady log shows seats sums_shows sums_seats whole p q

@@ -10,7 +10,7 @@ use Rattle.circle_run.specs.declared.started.Started.{Started}
 use Rattle.circle_run.specs.declared.pools.Pool.{Pool}
 
 module _ {J S T P Q : Type 0} where
-  -- what the numbers of the ranks weigh together
+  -- the weight of the ranks' numbers together
   abbrev pub started_numbers : (ℕ → ℕ) → List (Started J S T P Q) → ℕ
   started_numbers h xs = sum_by (λ c. sum_by (λ r. h r.me) c.before.value.items) xs
 

@@ -1,4 +1,4 @@
--- A service while it goes on: who is being served, and what is left to share out. Our own.
+-- A service while it goes on: the ranks being served, and the part left to share out. Our own.
 use Rattle.std.specs.Prelude.{◌≡◌, ◌≢◌, ℕ, ◌+◌, ◌-◌, ◌*◌, ◌<◌, ◌≤◌, ◌⊎◌, ◌&&◌, ◌==◌, not, Bool, true, false, if◌then◌else◌, List, length, [], ◌∷◌}
 use Rattle.std.specs.Prelude.{◌++◌, map, filter, take, replicate, slice_set, slice_index, Option, Some, None}
 use Rattle.std.specs.List.{flat_map, range_with_len}
@@ -28,7 +28,7 @@ pub record AsksOf (s : Shown) (asks : List ℕ) (k count : ℕ) : Type 0 where
   pub all : (r : ℕ) → is_served s r ≡ true → (j : ℕ) × (k ≤ j) × (j < count) × (slice_index asks j ≡ r)
   pub once : (i j : ℕ) → i < j → j < count → slice_index asks i ≢ slice_index asks j
 
--- where it is told, each rank that asks this one is being served
+-- if the board is told, each rank that asks this one is being served
 abbrev pub Awaits : Shown → Option Told → Type 0
 Awaits s None = Unit {0}
 Awaits s (Some t) = NoneAsks s s.n t
@@ -39,7 +39,7 @@ is_asker me t r = not (r == me) && asks me (place t r).mail
 abbrev pub askers_below : ℕ → Told → ℕ → List ℕ
 askers_below me t k = filter (is_asker me t) (range_with_len 0 k)
 
--- where it is told, those being served are all that ask of the ranks below some number, in order
+-- if the board is told, those being served are all that ask of the ranks below some number, in order
 pub record InOrder (me : ℕ) (s : Shown) (t : Told) (ranks : List ℕ) : Type 0 where
   pub upto : ℕ
   pub within : upto ≤ length t.places
@@ -79,7 +79,7 @@ module _ {J S T P : Type 0} (log : J → Log) (shows : S → Shown) (tells : P �
     pub long : length asks ≡ 64
     pub total : count + unserved (shows r'.seat).serves ≡ r'.options.ranks
 
-  -- what a step of a service leaves as it was, and what holds again after it
+  -- the parts that a step of a service does not change, and the facts that hold again after it
   pub record ServesOn (r : Rank J S T) (p : P) (r' : Rank J S T) (p' : P) : Type 0 where
     pub knows : Knows shows r'
     pub mine : seats p' r'.seat
@@ -100,7 +100,7 @@ module _ {J S T P : Type 0} (log : J → Log) (shows : S → Shown) (tells : P �
     pub lost : r.book.lost ≡ true → r'.book.lost ≡ true
     pub awaits : Awaits (shows r'.seat) (tells p')
 
-  -- so many of the oldest strings were given to this rank, or it was refused where that is none
+  -- so many of the oldest strings were given to this rank, or it was refused if that is none
   pub record Gave (to share : ℕ) (r : Rank J S T) (p : P) (r' : Rank J S T) (p' : P) : Type 0 where
     pub batch : Strings
     pub amount : length batch ≡ share

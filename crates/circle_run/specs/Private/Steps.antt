@@ -1,4 +1,4 @@
--- What the steps of a turn come to. Our own.
+-- The results of the steps of a turn. Our own.
 use Rattle.std.specs.Prelude.{◌≡◌, ◌≢◌, ℕ, ◌+◌, ◌^◌, ◌<◌, Bool, true, false, All, List, length, [], ◌∷◌, ◌++◌, Option, None}
 use Rattle.ring_core.specs.declared.events.Event.TheVariants.{Handle}
 use Rattle.post_board.specs.Shown.{Strings, Shown}
@@ -19,12 +19,12 @@ use Rattle.circle_run.specs.declared.ranks.Turn.{Turn}
 use Rattle.circle_run.specs.declared.ranks.Turn.TheVariants.{Went as TurnWent, Waited as TurnWaited, Stopped as TurnStopped}
 use Rattle.circle_run.specs.declared.ranks.Rank.{Rank}
 
--- the ring was read: where all is over, the rank has seen the end
+-- the ring was read: if all is over, the rank has seen the end
 abbrev pub Heard : Ring → List Move → Type 0
 Heard Over moves = moves ≡ did see_over ∷ []
 Heard _ moves = moves ≡ []
 
--- one move, or none where the rank waits
+-- one move, or none if the rank waits
 abbrev pub Acts : Did → List Move → Type 0
 Acts Handled moves = (path : List ℕ) × (kids : Strings) × (moves ≡ handled path kids ∷ [])
 Acts Acted moves = (move : Move) × IsAct move × (moves ≡ move ∷ [])
@@ -39,18 +39,18 @@ pub record Served (gives some : Bool) (moves : List Move) : Type 0 where
   pub any : some ≡ true → 0 < length answers
   pub refused : gives ≡ false → All (λ a. a.1 ≡ []) answers
 
--- all were told to halt, or nothing was done
+-- the rank told all to halt, or did nothing
 abbrev pub Halts : Bool → List Move → Type 0
 Halts due moves = moves ≡ halt_if due
 
--- a rank tells all to halt where it handled a string and has then handled all that it may
+-- a rank tells all to halt if it handled a string and has then handled all that it may
 abbrev pub halts_by : Did → Bool → Bool
 halts_by Handled due = due
 halts_by Acted due = false
 halts_by Waited due = false
 halts_by Stopped due = false
 
--- what a rank did in all, where some asked it or none
+-- the action of a rank in its whole turn, whether some asked it or none
 abbrev pub with_service : Bool → Did → Did
 with_service some Handled = Handled
 with_service some Acted = Acted
@@ -64,24 +64,24 @@ turn_of Acted = TurnWent
 turn_of Waited = TurnWaited
 turn_of Stopped = TurnStopped
 
--- how many strings a rank handled in all, that had handled so many
+-- how many strings a rank has handled in all after this, if it had handled so many
 abbrev pub tallied : Did → ℕ → ℕ
 tallied Handled strings = strings + 1
 tallied Acted strings = strings
 tallied Waited strings = strings
 tallied Stopped strings = strings
 
--- what was done is the move of the choice
+-- the action is the move of the choice
 pub record Follows (done : Did) (me : ℕ) (c : Choice) (moves : List Move) : Type 0 where
   pub acts : Acts done moves
   pub chosen : Chosen me c moves
 
--- what was done is the last of a rank that is to halt
+-- the action is the last of a rank that is to halt
 pub record Ends (done : Did) (me : ℕ) (asked : Option ℕ) (moves : List Move) : Type 0 where
   pub acts : Acts done moves
   pub closes : Closes me asked moves
 
--- all that a rank does that is to halt
+-- the whole turn of a rank that is to halt
 pub record WoundUp (done : Did) (o : Options) (me : ℕ) (first : Bool) (asked : Option ℕ) (moves : List Move) : Type 0 where
   pub kind : IsTurn false (turn_of done) moves
   pub answers : List (ℕ × Strings)
@@ -91,13 +91,13 @@ pub record WoundUp (done : Did) (o : Options) (me : ℕ) (first : Bool) (asked :
   pub closes : Closes me asked next
 
 module _ {J S T P : Type 0} (heard : J → Option (List ℕ)) (shows : S → Shown) (tells : P → Option Told) where
-  -- what was done at the board in a turn before the end
+  -- the actions at the board in a turn before the end
   pub record Works (done : Did) (r : Rank J S T) (p : P) (r' : Rank J S T) (moves : List Move) : Type 0 where
     pub kind : IsTurn false (turn_of done) moves
     pub chosen : Chooses heard shows tells r p r' moves
 
 module _ {J S T P Q : Type 0} (log : J → Log) (plain : J → Q) (shows : S → Shown) (tells : P → Option Told) (seats : P → S → Type 0) where
-  -- what a step of a rank comes to. Unless the rank found no memory, it is moves of this kind
+  -- the result of a rank's step. Unless the rank ran out of memory, it is moves of this kind
   pub record Came (kind : List Move → Type 0) (r : Rank J S T) (p : P) (r' : Rank J S T) (p' : P) : Type 0 where
     pub knows : Knows shows r'
     pub mine : seats p' r'.seat
@@ -114,7 +114,7 @@ module _ {J S T P Q : Type 0} (log : J → Log) (plain : J → Q) (shows : S →
     pub went : r'.book.lost ≡ false → Went log plain shows tells seats kind r p r' p'
 
 module _ {J S T Q : Type 0} (log : J → Log) (plain : J → Q) where
-  -- the newest string was handled, and what was pushed for it was queued
+  -- the newest string was handled, and the strings pushed for it were queued
   pub record Newest (r r' : Rank J S T) : Type 0 where
     pub path : List ℕ
     pub kids : List (List ℕ)

@@ -1,6 +1,5 @@
-use Rattle.std.proofs.Common.{rules, ◌≡◌, ◌==◌, map, length, get_or, refl, sym, subst, ap, ◌∙◌, arith}
+use Rattle.std.proofs.Common.{rules, ◌≡◌, ◌==◌, map, length, refl, sym, subst, ap, ◌∙◌, arith}
 use Rattle.std.specs.List.{sum_by}
-use Rattle.std.proofs.lemmas.List.{get_or-map}
 use Rattle.post_board.specs.BoardSeats.{IsSeat as IsBoardSeat, shown_by as board_shown}
 use Rattle.sum_tree.specs.TreeSeats.{IsSeat as IsSumSeat, shown_by as sum_shown}
 use Rattle.circle_run.specs.Hosts.{NoneLost}
@@ -9,6 +8,7 @@ use Rattle.circle_run.specs.Private.Parting.{Starting}
 use Rattle.circle_run.proofs.Maps.{sum_by-map}
 use Rattle.circle_run.proofs.Places.{once_whole}
 use Rattle.circle_run.proofs.Final.{ending}
+use Rattle.circle_run.proofs.Gathering.{all_done, all_finished, first_answers}
 use Rattle.circle_run.proofs.Whole.{whole_host, may_gather, closed}
 use Rattle.circle_run.proofs.many_hosts.run_spread.Goals as goal
 
@@ -57,7 +57,11 @@ gather_all-requires g c =
     let parts = c.in_ok-parts.ensures in
     let may = may_gather g.J.Job.log g.J.Job.plain board_shown IsBoardSeat sum_shown IsSumSeat o c.args.starts.items c.of-whole.result.value.items final b t
     c.in_ok-parts.parts.seats.items c.in_ok-parts.parts.sums_seats.items c.requires.ranks.0 first last parts.seats parts.sums_seats in
-    record { some = may.0; all = may.1; finished = may.2 }
+    record {
+      some = may.0;
+      all = all_done board_shown (IsBoardSeat b) c.in_ok-parts.parts.seats.items may.1;
+      finished = all_finished sum_shown (IsSumSeat t) c.in_ok-parts.parts.sums_seats.items may.2;
+    }
 
 pub returns : goal.returns
 returns g c =
@@ -92,10 +96,10 @@ returns g c =
       left_are = parts.left;
       shares_are = parts.shares;
       sums_are = parts.numbers;
-      answer = λ d. ap (λ x. (sum_shown x).answer)
-          (sym (ap (λ xs. get_or xs 0 d.sums_seat) parts.sums_seats
-          ∙ get_or-map (λ r. r.sums_seat) final 0 d d.sums_seat (let m = last.count ∙ first.count in omega (arith, m, some))))
-          ∙ c.gather_all.ensures.first d.sums_seat;
+      answer = first_answers sum_shown (IsSumSeat t) final c.in_ok-parts.parts.sums_seats.items c.gather_all.result parts.sums_seats
+          (may_gather g.J.Job.log g.J.Job.plain board_shown IsBoardSeat sum_shown IsSumSeat o c.args.starts.items c.of-whole.result.value.items final b t
+          c.in_ok-parts.parts.seats.items c.in_ok-parts.parts.sums_seats.items some first last parts.seats parts.sums_seats).2
+          (let m = last.count ∙ first.count in omega (arith, m, some)) c.gather_all.ensures.first;
       total_is = c.gather_all.ensures.sum ∙ ap (λ xs. sum_by (λ x. (sum_shown x).count) xs) parts.sums_seats
           ∙ sum_by-map (λ x. (sum_shown x).count) (λ r. r.sums_seat) final;
     })

@@ -1,5 +1,5 @@
-use Rattle.std.proofs.Common.{List, length, get_or, Option, sym, subst, ap, ◌∙◌, arith}
-use Rattle.std.proofs.lemmas.List.{length-map, get_or-map}
+use Rattle.std.proofs.Common.{List, length, Option, sym, subst, ap, ◌∙◌, arith}
+use Rattle.std.proofs.lemmas.List.{length-map}
 use Rattle.std.proofs.lemmas.List.FromFn.{length-map-range_with_len}
 use Rattle.std.specs.List.{sum_by}
 use Rattle.post_board.specs.Told.{Told}
@@ -12,6 +12,7 @@ use Rattle.circle_run.proofs.Maps.{sum_by-map}
 use Rattle.circle_run.proofs.Beginning.{begins}
 use Rattle.circle_run.proofs.Rounds.{same_all}
 use Rattle.circle_run.proofs.Finishing.{closed, seats_done, sums_done}
+use Rattle.circle_run.proofs.Gathering.{all_done, all_finished, first_answers}
 use Rattle.circle_run.proofs.running.run_whole.Goals as goal
 
 pub new_ranks-requires-clause-sums : goal.new_ranks-requires-clause-sums
@@ -48,9 +49,10 @@ gather-requires-clause-all g c =
     c.args.sums.now new
     c.requires.jobs c.requires.ranks.1 c.requires.width c.requires.seats c.requires.sums_shown c.requires.sums_seats c.in_ok-queues.ensures in
     let all = same_all g.J.Job.plain c.args.options.now c.make.result c.in_ok-ranks-2.ranks.items c.in_ok-ranks-2.ensures.same first.all in
-    seats_done g.J.Job.log g.J.Job.plain g.P.Post.shows g.P.Post.tells g.P.Post.seats g.Q.Sums.shows g.Q.Sums.seats c.args.options.now
+    all_done g.P.Post.shows (g.P.Post.seats c.run_traced.new.post) c.in_ok-parts.parts.seats.items
+    (seats_done g.J.Job.log g.J.Job.plain g.P.Post.shows g.P.Post.tells g.P.Post.seats g.Q.Sums.shows g.Q.Sums.seats c.args.options.now
     c.in_ok-ranks-2.ranks.items c.run_traced.new.post c.run_traced.new.sums c.in_ok-parts.parts.seats.items all c.in_ok-ranks-2.ensures.ended
-    c.in_ok-parts.ensures.seats
+    c.in_ok-parts.ensures.seats)
 
 pub gather-requires-2-clause-all : goal.gather-requires-2-clause-all
 gather-requires-2-clause-all g c =
@@ -61,9 +63,10 @@ gather-requires-2-clause-all g c =
     c.args.sums.now new
     c.requires.jobs c.requires.ranks.1 c.requires.width c.requires.seats c.requires.sums_shown c.requires.sums_seats c.in_ok-queues.ensures in
     let all = same_all g.J.Job.plain c.args.options.now c.make.result c.in_ok-ranks-2.ranks.items c.in_ok-ranks-2.ensures.same first.all in
-    sums_done g.J.Job.log g.J.Job.plain g.P.Post.shows g.P.Post.tells g.P.Post.seats g.Q.Sums.shows g.Q.Sums.seats c.args.options.now
+    all_finished g.Q.Sums.shows (g.Q.Sums.seats c.run_traced.new.sums) c.in_ok-parts.parts.sums_seats.items
+    (sums_done g.J.Job.log g.J.Job.plain g.P.Post.shows g.P.Post.tells g.P.Post.seats g.Q.Sums.shows g.Q.Sums.seats c.args.options.now
     c.in_ok-ranks-2.ranks.items c.run_traced.new.post c.run_traced.new.sums c.in_ok-parts.parts.sums_seats.items all
-    c.in_ok-ranks-2.ensures.ended c.in_ok-parts.ensures.sums_seats
+    c.in_ok-ranks-2.ensures.ended c.in_ok-parts.ensures.sums_seats)
 
 pub returns : goal.returns
 returns g c =
@@ -105,10 +108,11 @@ returns g c =
       left_are = parts.left;
       shares_are = parts.shares;
       sums_are = parts.numbers;
-      answer = λ d. ap (λ (x : _). (g.Q.Sums.shows x).answer)
-          (sym (ap (λ (xs : List _). get_or xs 0 d.sums_seat) parts.sums_seats
-          ∙ get_or-map (λ r. r.sums_seat) ranks 0 d d.sums_seat (let a = all.count in let b = c.requires.ranks.0 in omega arith)))
-          ∙ c.gather-2.ensures.first d.sums_seat;
+      answer = first_answers g.Q.Sums.shows (g.Q.Sums.seats c.run_traced.new.sums) ranks c.in_ok-parts.parts.sums_seats.items c.gather-2.result
+          parts.sums_seats
+          (sums_done g.J.Job.log g.J.Job.plain g.P.Post.shows g.P.Post.tells g.P.Post.seats g.Q.Sums.shows g.Q.Sums.seats o ranks
+          c.run_traced.new.post c.run_traced.new.sums c.in_ok-parts.parts.sums_seats.items all c.in_ok-ranks-2.ensures.ended parts.sums_seats)
+          (let a = all.count in let b = c.requires.ranks.0 in omega arith) c.gather-2.ensures.first;
       total_is = c.gather-2.ensures.sum ∙ ap (λ (xs : List _). sum_by (λ x. (g.Q.Sums.shows x).count) xs) parts.sums_seats
           ∙ sum_by-map (λ x. (g.Q.Sums.shows x).count) (λ r. r.sums_seat) ranks;
     })

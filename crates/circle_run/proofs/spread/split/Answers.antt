@@ -1,9 +1,11 @@
-use Rattle.std.proofs.Common.{rules, arith, ◌≡◌, length, [], ◌∷◌, ◌%◌, All, subst, ap, sym, ◌∙◌}
+use Rattle.std.proofs.Common.{rules, arith, ◌≡◌, ◌==◌, ℕ, false, length, [], ◌∷◌, ◌%◌, All, subst, ap, sym, ◌∙◌}
 use Rattle.std.proofs.lemmas.List.Elements.{All-nil, All-cons, All-append}
 use Rattle.circle_run.specs.declared.ranks.Rank.{Rank}
 use Rattle.std.specs.List.{sum_by}
 use Rattle.std.specs.Vec.Iter.{into_iter_items}
 use Rattle.std.proofs.lemmas.List.{nil_from_length}
+use Rattle.std.proofs.lemmas.List.Sums.{sum_by-cons, sum_by-append}
+use Rattle.circle_run.specs.Private.Away.{one_if}
 use Rattle.circle_run.proofs.Parted.{parted_first, parted_chosen, parted_rest}
 use Rattle.circle_run.proofs.spread.split.Goals as goal
 
@@ -16,6 +18,7 @@ loop-rank-init g c =
           (into_iter_items c.into_iter-rank-iterator.result) c.requires.ranks c.new-chosen.ensures.items c.in_ok-rest.ensures.items s;
       own = (let F : Rank g.row.J.Denot g.row.S.Denot g.row.T.Denot → Type 0 = λ r. r.me % c.args.hosts ≡ c.args.host in
           subst (All F) (sym c.new-chosen.ensures.items) (All-nil F));
+      left = ap (sum_by (λ r. one_if (r.me % c.args.hosts == c.args.host))) c.in_ok-rest.ensures.items;
     }
 
 pub returns-clause-numbers : goal.returns-clause-numbers
@@ -38,6 +41,7 @@ loop-rank-preserved-in-Continue-branch-2 g c =
           let is : c.in-Some.rank.me % c.args.hosts ≡ c.args.host = search rules in
           subst (All F) (sym c.in_ok-push.ensures.items)
           (All-append F c.loop-rank.chosen.items (c.in-Some.rank ∷ []) i.own (All-cons F c.in-Some.rank [] is (All-nil F))));
+      left = i.left;
     }
 
 pub loop-rank-preserved : goal.loop-rank-preserved
@@ -50,4 +54,15 @@ loop-rank-preserved g c =
           (into_iter_items c.loop-rank.rank-iterator)
           (into_iter_items c.next.new.self) c.push-else-number-hosts.new.self.items c.in-Some.rank e c.in_ok-push-2.ensures.items i.parted;
       own = i.own;
+      left = (let f : Rank g.row.J.Denot g.row.S.Denot g.row.T.Denot → ℕ = λ r. one_if (r.me % c.args.hosts == c.args.host) in
+          let other : (c.in-Some.rank.me % c.args.hosts == c.args.host) ≡ false = search rules in
+          let one : f c.in-Some.rank ≡ 0 = ap one_if other in
+          omega (
+            arith,
+            i.left,
+            one,
+            ap (sum_by f) c.in_ok-push-2.ensures.items,
+            sum_by-append f c.loop-rank.rest.items (c.in-Some.rank ∷ []),
+            sum_by-cons f c.in-Some.rank [],
+          ));
     }

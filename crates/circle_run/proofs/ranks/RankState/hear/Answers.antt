@@ -5,7 +5,7 @@ use Rattle.post_board.specs.declared.answers.Ring.{Ring}
 use Rattle.circle_run.specs.Moves.{did}
 use Rattle.circle_run.specs.Private.Steps.{Heard}
 use Rattle.circle_run.proofs.Stepped.{tells_as, went_did}
-use Rattle.circle_run.proofs.Choosing.{halt_read, knows_read}
+use Rattle.circle_run.proofs.Hearing.{halt_read, knows_read}
 use Rattle.circle_run.proofs.ranks.RankState.hear.Goals as goal
 
 pub returns-in-Over-clause-came : goal.returns-in-Over-clause-came

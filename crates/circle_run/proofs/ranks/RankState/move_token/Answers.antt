@@ -6,7 +6,7 @@ use Rattle.circle_run.specs.Choices.{to_move}
 use Rattle.circle_run.specs.Private.Steps.{Follows}
 use Rattle.circle_run.specs.declared.steps.Did.TheVariants.{Acted as DidAct}
 use Rattle.circle_run.proofs.Stepped.{tells_as, went_did, mixed_is}
-use Rattle.circle_run.proofs.Choosing.{moved_above, moved_black, moved_white, follows_moved}
+use Rattle.circle_run.proofs.Hearing.{moved_above, moved_black, moved_white, follows_moved}
 use Rattle.circle_run.proofs.ranks.RankState.move_token.Goals as goal
 
 pub returns-then-rank-gt0-clause-came : goal.returns-then-rank-gt0-clause-came

@@ -7,7 +7,8 @@ use Rattle.circle_run.specs.Choices.{is_due}
 use Rattle.circle_run.specs.Private.Steps.{Works}
 use Rattle.circle_run.specs.declared.steps.Did.{Did}
 use Rattle.circle_run.proofs.Stepped.{waited_alone, handled_still, handled_before, stopped_before}
-use Rattle.circle_run.proofs.Choosing.{came_on, came_worked, came_wound, halts_is, first_is, due_first, goes_neither, halt_unless_first, not_halted_ring}
+use Rattle.circle_run.proofs.Choosing.{came_on, came_worked, came_wound}
+use Rattle.circle_run.proofs.Hearing.{halts_is, first_is, due_first, goes_neither, halt_unless_first, not_halted_ring}
 use Rattle.circle_run.proofs.Choosing.{halts_handled, halts_due}
 use Rattle.circle_run.proofs.Bounding.{bounded, may_handle, has_all, has_all_after, not_halted}
 use Rattle.circle_run.proofs.Asked.{true_not_false}
