@@ -13,7 +13,7 @@ is_within (Equal m) n = n == m
 is_within (More m) n = nat_lt m n
 is_within (Less m) n = nat_lt n m
 
--- the digits at the front of a text, and what stands behind them
+-- the digits at the front of a text, and the rest of it
 abbrev pub digits_of : List ℕ → List ℕ
 digits_of text = take_while is_ascii_digit text
 
@@ -24,7 +24,7 @@ behind_digits text = drop (length (digits_of text)) text
 abbrev pub decimal : List ℕ → ℕ
 decimal digits = fold (λ n digit. n * 10 + (digit - 48)) 0 digits
 
--- how much one of a unit is: nothing is one, and sizes have bytes `B` and `k`, `M` and `G`
+-- the amount of a unit: no letter is one, and sizes have bytes `B` and `k`, `M` and `G`
 abbrev pub unit_of : Bool → List ℕ → Option ℕ
 unit_of sized [] = Some 1
 unit_of sized (c ∷ []) =

@@ -1,4 +1,4 @@
--- What a pattern says, by cases over its characters: the pieces that it is made of. Our own, after fnmatch without flags.
+-- The pieces of which a pattern is made, by cases over its characters. Our own, after fnmatch without flags.
 use Rattle.std.specs.Prelude.{ℕ, Bool, true, false, List, [], ◌∷◌, length, if◌then◌else◌, zero, suc}
 use Rattle.find_tests.specs.declared.signs.Sign.{Sign}
 use Rattle.find_tests.specs.declared.pieces.Range.{Range}
@@ -8,7 +8,7 @@ use Rattle.find_tests.specs.declared.pieces.Piece.{Piece}
 use Rattle.find_tests.specs.declared.pieces.Piece.TheVariants.{AnyText, OneOf}
 use Rattle.find_tests.specs.Signs.{char_of, is_sign}
 
--- the signs before the closing `]`, those behind it, and whether there is one
+-- the signs before the closing `]`, those after it, and whether there is one
 abbrev pub before_close : List Sign → List Sign
 before_close [] = []
 before_close (s ∷ rest) = if is_sign 93 s then [] else s ∷ before_close rest
@@ -21,7 +21,7 @@ abbrev pub has_close : List Sign → Bool
 has_close [] = false
 has_close (s ∷ rest) = if is_sign 93 s then true else has_close rest
 
--- what members of a bracket stand for: a member, `-` and a further member are a range by code points, and each other member is itself
+-- the ranges of the members of a bracket: a member, `-` and another member are a range by code points. Each other one is itself
 abbrev pub ranges_of : List Sign → List Range
 ranges_of [] = []
 ranges_of (s ∷ []) = record { first = char_of s; last = char_of s } ∷ []
@@ -30,7 +30,7 @@ ranges_of (s ∷ d ∷ e ∷ rest) =
     if is_sign 45 d then record { first = char_of s; last = char_of e } ∷ ranges_of rest
     else record { first = char_of s; last = char_of s } ∷ ranges_of (d ∷ e ∷ rest)
 
--- whether a bracket begins with `!`, and what stands behind that
+-- whether a bracket begins with `!`, and the signs after it
 abbrev pub is_negated : List Sign → Bool
 is_negated [] = false
 is_negated (s ∷ rest) = is_sign 33 s
@@ -39,7 +39,7 @@ abbrev pub behind_negation : List Sign → List Sign
 behind_negation [] = []
 behind_negation (s ∷ rest) = if is_sign 33 s then rest else s ∷ rest
 
--- the members of a bracket, of which the first may be a `]`; what stands behind its closing `]`; and whether it has one
+-- the members of a bracket, of which the first may be a `]`; the signs after its closing `]`; and whether it has one
 abbrev pub members : List Sign → List Sign
 members [] = []
 members (s ∷ rest) = s ∷ before_close rest
@@ -56,11 +56,11 @@ is_closed (s ∷ rest) = has_close rest
 abbrev pub is_bracket : Sign → List Sign → Bool
 is_bracket s rest = if is_sign 91 s then is_closed (behind_negation rest) else false
 
--- one character that is a member, or behind `!` one that is not
+-- one character that is a member, or after `!` one that is not
 abbrev pub bracket : List Sign → Class
 bracket rest = if is_negated rest then NotAmong (ranges_of (members (behind_negation rest))) else Among (ranges_of (members (behind_negation rest)))
 
--- the piece that a sign and what stands behind it begin with
+-- the piece that a sign begins, together with the signs after it
 abbrev pub piece_at : Sign → List Sign → Piece
 piece_at s rest =
     if is_sign 42 s then AnyText
@@ -68,7 +68,7 @@ piece_at s rest =
     else if is_bracket s rest then OneOf (bracket rest)
     else OneOf (Only (char_of s))
 
--- what stands behind that piece
+-- the signs after that piece
 abbrev pub behind_piece : Sign → List Sign → List Sign
 behind_piece s rest = if is_bracket s rest then behind_members (behind_negation rest) else rest
 
@@ -78,6 +78,6 @@ pieces_up_to n [] = []
 pieces_up_to zero (s ∷ rest) = []
 pieces_up_to (suc n) (s ∷ rest) = piece_at s rest ∷ pieces_up_to n (behind_piece s rest)
 
--- the pieces of a pattern, one behind the other
+-- the pieces of a pattern, one after the other
 unfoldable pub pieces_of : List Sign → List Piece
 pieces_of signs = pieces_up_to (length signs) signs

@@ -1,4 +1,4 @@
--- What a pattern matches. Our own, after fnmatch without flags.
+-- The texts that a pattern matches. Our own, after fnmatch without flags.
 use Rattle.std.specs.Prelude.{ℕ, Bool, true, false, not, ◌&&◌, ◌||◌, List, [], ◌∷◌, ◌==◌, nat_le}
 use Rattle.std.specs.List.{list_any}
 use Rattle.std.specs.Str.{chars}
@@ -10,7 +10,7 @@ use Rattle.find_tests.specs.declared.pieces.Piece.TheVariants.{AnyText, OneOf}
 use Rattle.find_tests.specs.Signs.{signs_of}
 use Rattle.find_tests.specs.Glob.{pieces_of}
 
--- a range has what stands between its ends, both included, so one that falls has nothing
+-- a range has the characters between its ends, both included, so one that falls has none
 abbrev pub is_in : ℕ → Range → Bool
 is_in c range = nat_le range.first c && nat_le c range.last
 
@@ -25,7 +25,7 @@ abbrev pub some_rest : (List ℕ → Bool) → List ℕ → Bool
 some_rest test [] = test []
 some_rest test (c ∷ text) = test (c ∷ text) || some_rest test text
 
--- pieces match a text: `*` and a rest match where some division of the text has a second part that the rest matches
+-- pieces match a text: `*` and a rest match if some division of the text has a second part that the rest matches
 abbrev pub matches : List Piece → List ℕ → Bool
 matches [] [] = true
 matches [] (c ∷ text) = false

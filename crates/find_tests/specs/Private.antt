@@ -1,3 +1,3 @@
--- What the crate's private functions answer: only their clauses cite it, and no public one rests on it.
+-- The answers of the crate's private functions: only their clauses cite them, and no public one rests on them.
 pub mod Front
 pub mod Brackets

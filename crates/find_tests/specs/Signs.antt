@@ -3,7 +3,7 @@ use Rattle.std.specs.Prelude.{ℕ, Bool, true, false, List, [], ◌∷◌, if◌
 use Rattle.find_tests.specs.declared.signs.Sign.{Sign}
 use Rattle.find_tests.specs.declared.signs.Sign.TheVariants.{Plain, Literal}
 
--- the signs of characters, of which the first may stand behind a backslash; a backslash with nothing behind it is literal
+-- the signs of characters, of which the first may follow a backslash. A backslash at the end is literal
 abbrev pub signs_behind : Bool → List ℕ → List Sign
 signs_behind false [] = []
 signs_behind false (c ∷ rest) = if c == 92 then signs_behind true rest else Plain c ∷ signs_behind false rest

@@ -1,4 +1,4 @@
--- When a test holds, and what is selected. Our own, after find and mpiFileUtils' dfind.
+-- When a test holds, and which entries are selected. Our own, after find and mpiFileUtils' dfind.
 use Rattle.std.specs.Prelude.{ℕ, ◌-◌, ◌/◌, Bool, true, false, List, [], ◌∷◌, ◌==◌, nat_lt, if◌then◌else◌, Option, Some, None, Result, Ok, Err}
 use Rattle.std.specs.List.{list_all}
 use Rattle.path_text.specs.Path.{base_of}
@@ -16,16 +16,16 @@ use Rattle.find_tests.specs.declared.testing.TestName.TheVariants as name
 use Rattle.find_tests.specs.Matching.{glob_matches}
 use Rattle.find_tests.specs.Bounds.{is_within, bound_reading}
 
--- how many whole units of so many seconds passed since a time; none of them where the time is still to come
+-- how many whole units of so many seconds passed since a time; none if the time is still to come
 abbrev pub age : ℕ → ℕ → ℕ → ℕ
 age unit now mtime = (now - mtime) / unit
 
--- a bound on the age, which holds of nothing that has no time
+-- a bound on the age, which does not hold of a path without a time
 abbrev pub is_aged : Bound → ℕ → ℕ → Option ℕ → Bool
 is_aged bound unit now None = false
 is_aged bound unit now (Some mtime) = is_within bound (age unit now mtime)
 
--- the first time is above the second, where both are there
+-- the first time is above the second, and both are there
 abbrev pub is_newer : Option ℕ → Option ℕ → Bool
 is_newer None than = false
 is_newer (Some mtime) None = false

@@ -4,14 +4,14 @@ ghost use Rattle.find_tests.specs.Bounds.{is_within, digits_of, behind_digits, d
 
 use crate::errors::TestError;
 
-/// What a number is compared with.
+/// A bound on a number.
 #[derive(Clone, Copy, Debug, Drop, PartialEq, Eq)]
 pub enum Bound {
-    /// It is this number.
+    /// The number is equal to this one.
     Equal(u64),
-    /// It is greater.
+    /// The number is greater than this one.
     More(u64),
-    /// It is less.
+    /// The number is less than this one.
     Less(u64),
 }
 
@@ -28,7 +28,7 @@ impl Bound {
     }
 }
 
-// The bound that a text says; units stand behind it where it is `sized`.
+// The bound that a text says. A unit may follow if it is `sized`.
 pub(crate) fn read_bound(sized: bool, text: &[u8]) -> Result<Bound, TestError>
     ensures { result ≡ bound_reading sized text.now }
 {

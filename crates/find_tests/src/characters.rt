@@ -2,7 +2,7 @@
 ghost use Rattle.std.specs.Prelude.{◌≡◌, ◌<◌, [], ◌∷◌, length, MatchOption};
 ghost use Rattle.std.specs.Str.{chars};
 
-// The first character of a text, and what stands behind it.
+// The first character of a text, and the rest of the text.
 pub(crate) fn next_char(text: &str) -> Option<(char, &str)>
     ensures { MatchOption result (chars text.now ≡ [])
         (λ (c, rest). (chars text.now ≡ c ∷ chars rest.now) × (length rest.now < length text.now)) }

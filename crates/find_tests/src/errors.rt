@@ -3,19 +3,19 @@ use path_text::OutOfMemory;
 use std::alloc::{AllocError, AllocFailed};
 use thiserror::Error;
 
-/// Why a text is no value of a test.
+/// Why a text is not a value of a test.
 #[derive(Clone, Copy, Debug, Drop, PartialEq, Eq, Error)]
 pub enum TestError {
-    /// No digit where a number stands, more than 40 digits, or a number of bytes or of time that is not below 2^64.
+    /// The number has no digit or more than 40 digits, or the bytes or the time that it gives are not below 2^64.
     #[error("the number is missing or too great")]
     BadNumber,
-    /// What stands behind the digits is no unit.
+    /// The text after the digits is not a unit.
     #[error("there is no such unit")]
     BadUnit,
     /// There is no such kind.
     #[error("the kind is one of f, d, l and o")]
     BadKind,
-    /// No memory was found.
+    /// The call is out of memory.
     #[error("out of memory")]
     OutOfMemory,
 }

@@ -19,8 +19,8 @@ pub(crate) fn matches(pieces: &[Piece], text: &str) -> bool
     }
 }
 
-// Whether the pieces match what is left of the text behind some front of it. Once a later `*` is reached, no longer front
-// for this one is tried: what the later `*` takes makes up for it.
+// Whether the pieces match the rest of the text after some front of it. Once it reaches a later `*`, it tries no longer front
+// for this one: the text that the later `*` takes makes up for it.
 fn matches_behind_star(pieces: &[Piece], text: &str) -> bool
     ensures { result ≡ matches (AnyText ∷ pieces.now) (chars text.now) }
 {
@@ -45,11 +45,11 @@ fn matches_behind_star(pieces: &[Piece], text: &str) -> bool
 
 // How far the pieces before the first `*` match a text.
 pub(crate) enum Front<'p, 't> {
-    // Up to a `*`: the pieces behind it, and what is left of the text.
+    // They match up to a `*`: the pieces after it, and the rest of the text.
     Star(&'p [Piece], &'t str),
     // There is no `*`, and they match the text to its end.
     Whole,
-    // They don't match.
+    // They do not match.
     Fails,
 }
 
@@ -74,7 +74,7 @@ fn front_of<'p, 't>(pieces: &'p [Piece], text: &'t str) -> Front<'p, 't>
     }
 }
 
-// What stands behind the first character of a text, if that is of the class.
+// The text after its first character, if that is of the class.
 fn pass_one<'t>(class: &Class, text: &'t str) -> Option<&'t str>
     ensures { MatchOption result (takes_first class.now (chars text.now) ≡ false)
         (λ rest. (takes_first class.now (chars text.now) ≡ true) × (chars rest.now ≡ drop 1 (chars text.now)) × (length rest.now < length text.now)) }

@@ -65,7 +65,7 @@ impl Ranges {
     }
 }
 
-/// What one character may be.
+/// A class of characters.
 #[derive(Debug, Drop)]
 pub(crate) enum Class {
     Any,
@@ -94,7 +94,7 @@ pub(crate) enum Piece {
     OneOf(Class),
 }
 
-// The pieces of a pattern. Once a bracket is not closed, none behind it is, so at most one is read in vain.
+// The pieces of a pattern. After a bracket that is not closed no bracket is closed, so at most one is read in vain.
 pub(crate) fn pieces_of(alloc: Global, pattern: &str) -> Result<Vec<Piece>, OutOfMemory>
     ensures { IfOk result (λ pieces. pieces.items ≡ pieces_of (signs_of (chars pattern.now))) }
 {
@@ -108,8 +108,8 @@ pub(crate) fn pieces_of(alloc: Global, pattern: &str) -> Result<Vec<Piece>, OutO
     Ok(pieces)
 }
 
-// The piece that a sign begins, and passes what belongs to it. Where no bracket may close any more, none is tried, and a
-// bracket that is not closed tells that none may.
+// Gives the piece that a sign begins, and passes the signs that belong to it. If no bracket may close any more, it tries none.
+// A bracket that is not closed shows that no later one may close.
 #[tactic(auto, using(crate::proofs::Closing::closings))]
 fn piece_at(
     alloc: Global,
@@ -137,7 +137,7 @@ fn piece_at(
     Ok(Piece::OneOf(Class::Only(sign.char())))
 }
 
-// The class of a bracket, whose `[` was passed; none, with nothing passed, where it is not closed.
+// The class of a bracket, whose `[` was passed. If the bracket is not closed, there is none, and no sign is passed.
 fn bracket(alloc: Global, signs: &mut Signs) -> Result<Option<Class>, OutOfMemory>
     ensures { IfOk result (λ found. IsBracket signs.old signs.new found) }
 {
@@ -168,7 +168,7 @@ fn pass_negation(signs: &mut Signs) -> bool
     }
 }
 
-// The members of a bracket, up to its `]`, which is passed; none where it is not closed.
+// The members of a bracket, up to its `]`, which is passed; none if it is not closed.
 fn read_ranges(alloc: Global, signs: &mut Signs) -> Result<Option<Ranges>, OutOfMemory>
     ensures { IfOk result (λ found. IsMembers signs.old signs.new found) }
 {
@@ -186,7 +186,7 @@ fn read_ranges(alloc: Global, signs: &mut Signs) -> Result<Option<Ranges>, OutOf
     Ok(None)
 }
 
-// The range that a member begins, or itself alone; it passes the `-` and the end of a range.
+// The range that a member begins, or the member alone. The call passes the `-` and the end of a range.
 fn range_at(sign: Sign, signs: &mut Signs) -> Range
     ensures ranges { ranges_of (sign ∷ before_close signs.old) ≡ result ∷ ranges_of (before_close signs.new) }
     ensures behind { behind_close signs.old ≡ behind_close signs.new }

@@ -29,7 +29,7 @@ pub fn select(
     Ok(selected)
 }
 
-/// The entries of a list that have a stat and meet every test, in their order, as [`select`] has them. They are moved.
+/// The entries of a list that have a stat and meet every test, in their order, as [`select`] has them. The call moves them.
 pub fn select_from(list: FlatList, tests: &[Test], now: u64) -> Result<FlatList, OutOfMemory>
     ensures { IfOk result (λ selected. selected ≡ filter (is_selected tests.now now) list) }
 {

@@ -9,9 +9,9 @@ use std::marker::Model;
 /// A character of a pattern.
 #[derive(Clone, Copy, Debug, Drop, PartialEq, Eq)]
 pub(crate) enum Sign {
-    /// As it stands there, so that it may have a meaning of its own.
+    /// A character without a backslash before it, which may have a meaning of its own.
     Plain(char),
-    /// Behind a backslash, so that it has none.
+    /// A character after a backslash, which has no meaning of its own.
     Literal(char),
 }
 
@@ -26,7 +26,7 @@ impl Sign {
         }
     }
 
-    // Whether it is this character as it stands there.
+    // Whether it is this character without a backslash.
     pub(crate) fn is(self, c: char) -> bool
         ensures { result ≡ is_sign c self }
     {

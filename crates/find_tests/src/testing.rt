@@ -1,4 +1,4 @@
-//! Tests of a path and what stands there.
+//! Tests of a path and its stat.
 ghost use Rattle.std.specs.Prelude.{◌≡◌, ◌/◌, ◌-◌, ◌⊎◌, ◌<◌, true, Ok, Err, IfOk, IfErr, IsErrOf};
 ghost use Rattle.flat_list.specs.Entries.{is_kind};
 ghost use Rattle.find_tests.specs.Bounds.{bound_reading};
@@ -17,22 +17,22 @@ const DAY: u64 = 86400;
 /// The seconds of a minute.
 const MINUTE: u64 = 60;
 
-/// What is asked of a path and its stat.
+/// A test of a path and its stat.
 #[derive(Debug, Drop)]
 pub enum Test {
     /// The last name matches.
     Name(Glob),
     /// The whole path matches.
     Path(Glob),
-    /// It is of this kind.
+    /// The path is of this kind.
     Kind(Kind),
-    /// The number of bytes.
+    /// The number of bytes meets the bound.
     Size(Bound),
-    /// The whole days since the last change.
+    /// The whole days since the last change meet the bound.
     Days(Bound),
-    /// The whole minutes since the last change.
+    /// The whole minutes since the last change meet the bound.
     Minutes(Bound),
-    /// The last change is after this time; where there is none, no path is.
+    /// The last change is after this time. Without a time the test holds of no path.
     Newer(Option<u64>),
 }
 
@@ -53,7 +53,7 @@ pub enum TestName {
     Minutes,
 }
 
-/// The test that a text says. Only a glob takes memory, and where there is none, any text is one.
+/// The test that a text says. Only a glob takes memory, and every text is a glob unless the call is out of memory.
 pub fn parse_test(alloc: Global, name: TestName, value: &str) -> Result<Test, TestError>
     ensures ok { IfOk result (λ test. test_reading name value.now ≡ Ok test) }
     ensures refused { IfErr result (λ e. (test_reading name value.now ≡ Err e) ⊎ ((e ≡ TestError.OutOfMemory) × (has_glob name ≡ true))) }
@@ -81,7 +81,7 @@ fn read_kind(text: &[u8]) -> Result<Test, TestError>
 }
 
 impl Test {
-    /// Whether it holds of a path with this stat, `now` being the time in seconds since 1970. It takes no memory.
+    /// Whether the test holds of a path with this stat, `now` being the time in seconds since 1970. It takes no memory.
     pub fn holds(&self, path: &Path, stat: &Stat, now: u64) -> bool
         ensures { result ≡ holds self.now path.now stat.now now }
     {

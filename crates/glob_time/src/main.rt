@@ -1,7 +1,7 @@
-//! A program to measure with: `glob_time PATTERN LENGTH` matches a glob against so many times `a`.
+//! A program for measurements: `glob_time PATTERN LENGTH` matches a glob against a text of LENGTH letters `a`.
 //!
-//! Standard output has the answer; standard error has the time that reading the glob took, and the one that the match took. The
-//! glob is `*a*a*a*a*b` where none is given, and the length 10,000.
+//! Standard output has the answer. Standard error has the time to read the glob, and the time of the match. The default glob
+//! is `*a*a*a*a*b`, and the default length 10,000.
 #![tactic(auto)]
 
 use find_tests::{Test, TestName, glob_match, parse_test};

@@ -107,7 +107,8 @@ module _ (files : Files) (a : Answers) (t : IsTree files) where
           ((bytes_decides (parent_of c) top.path).1 (kid.0 ∙ sym (path_is (a p) (get files p) p))) kid.1)
 
       rest : ((c : List ℕ) → AllByRecursion (Comes (walk_down n files a c) c) (walk_down n files a c)) → (cs : List (List ℕ)) →
-          AllByRecursion (IsKid (a p) (get files p) p) cs → ((q : List ℕ) → has_dir (flat_map (walk_down n files a) cs) q ≡ true → has_dir (top ∷ below) q ≡ true) →
+          AllByRecursion (IsKid (a p) (get files p) p) cs →
+          ((q : List ℕ) → has_dir (flat_map (walk_down n files a) cs) q ≡ true → has_dir (top ∷ below) q ≡ true) →
           AllByRecursion (Comes (top ∷ below) p) (flat_map (walk_down n files a) cs)
       rest sub [] h into = tt
       rest sub (c ∷ cs) h into =

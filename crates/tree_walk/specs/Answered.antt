@@ -18,8 +18,8 @@ pub record WasGiven {S : Type 0} (gives : Asks S) (answer : Asked) : Type 0 wher
   pub after : S
   pub given : gives before answer after
 
--- the answer by which an entry of this path has its mark. The stat of a path failed, or the reading of its link did; what has changed was
--- told to be a directory and has no names, or to be a link and has no text
+-- the answer by which an entry of this path has its mark. If the mark says so, the stat of the path failed, or the reading of
+-- its link. A changed path was a directory by its stat and has no names, or was a link and has no text
 abbrev pub MarkedBy : {S : Type 0} → Asks S → List ℕ → Mark → Option Stat → Type 0
 MarkedBy gives path mark.Fine stat = WasGiven gives (asked.stat path (Ok stat))
 MarkedBy gives path mark.Gone stat = WasGiven gives (asked.stat path (Ok None))
@@ -30,7 +30,7 @@ MarkedBy gives path mark.Changed stat =
     ((is_of kind.Dir stat ≡ true) × WasGiven gives (asked.list path (Err list.NotDir)))
     ⊎ ((is_of kind.Link stat ≡ true) × WasGiven gives (asked.read_link path (Err link.NotLink)))
 
--- a target is what the reading of the link answered
+-- a target is the answer of the reading of the link
 abbrev pub ReadAs : {S : Type 0} → Asks S → List ℕ → Option (List ℕ) → Type 0
 ReadAs gives path None = ⊥
 ReadAs gives path (Some text) = WasGiven gives (asked.read_link path (Ok text))

@@ -1,6 +1,6 @@
--- A walk that is cut, and goes on. The checkpoint is libcircle's (LaFon, Misra and Bringhurst, On Distributed File Tree Walk of Parallel File
--- Systems, SC 2012): where all stop, the strings that wait are left, and another run goes on with them. The entries beside them, and what
--- both together are, are our own.
+-- A walk that is cut, and goes on. The checkpoint is libcircle's (LaFon, Misra and Bringhurst, On Distributed File Tree Walk of
+-- Parallel File Systems, SC 2012). All ranks stop, the strings that wait are left, and another run goes on with them. The entries
+-- beside them, and the meaning of both together, are our own.
 use Rattle.std.specs.Prelude.{◌≡◌, ◌⊎◌, ℕ, ◌<◌, true, false, List, ◌++◌, map, length, Option, is_some, IfSome, None, All}
 use Rattle.std.specs.List.{sum_by}
 use Rattle.std.specs.List.Sorted.{IsStrictlySortedBy, IsSortedByKey, IsPermutation}
@@ -30,7 +30,7 @@ pub record IsCut (files : Files) (starts : List (List ℕ)) (done : List Entry) 
   -- the done paths and the left strings are, as often, the starts and the children of the done entries
   pub balance : Balanced (log_by files done) left starts
 
--- what a walk of the starts that was cut found, over files that may tell a tree and whose count of faults went from old to new
+-- a cut walk of the starts found these entries, over files that may tell a tree. Their count of faults went from old to new
 pub record IsCutFound (tree : Option Files) (starts : List (List ℕ)) (old new : ℕ) (done : List Entry) (left : List (List ℕ)) : Type 0 where
   -- over files that tell their tree it is a cut of the recursive walk
   pub told : IfSome tree (λ files. IsCut files starts done left)
@@ -48,17 +48,17 @@ pub record IsCutFound (tree : Option Files) (starts : List (List ℕ)) (old new 
   -- and the failed answers that the entries tell were counted
   pub counted : RoseBy (sum_by weight_of done) old new
 
--- what was found: the list of a whole walk, and what was done of one that was cut
+-- the found entries: the list of a whole walk, or the done entries of one that was cut
 abbrev pub found_in : Walked → List Entry → List Entry
 found_in walked.Whole list = list
 found_in (walked.Cut cut) list = cut.done
 
--- what holds of a cut
+-- a statement holds of a cut, if there is one
 abbrev pub IfCut : Walked → (Cut → Type 0) → Type 0
 IfCut walked.Whole P = Unit {0}
 IfCut (walked.Cut cut) P = P cut
 
--- what was done of a walk that was cut has n entries, more than a list may have
+-- the done part of a walk that was cut has n entries, more than a list may have
 pub record IsTooMuchDone (tree : Option Files) (starts : List (List ℕ)) (old new n : ℕ) : Type 0 where
   pub done : List Entry
   pub left : List (List ℕ)

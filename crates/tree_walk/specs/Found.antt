@@ -1,4 +1,4 @@
--- What a walk finds. Our own.
+-- The entries that a walk finds. Our own.
 use Rattle.std.specs.Prelude.{◌≡◌, ℕ, ◌<◌, true, List, length, Option, IfSome, All}
 use Rattle.std.specs.List.{sum_by, flat_map}
 use Rattle.std.specs.List.Sorted.{IsStrictlySortedBy, IsPermutation}
@@ -17,7 +17,7 @@ abbrev pub IsWalkOf : Files → List Entry → List (List ℕ) → Type 0
 IsWalkOf files list starts = (ordered : List (List ℕ)) → IsPermutation starts ordered → IsStrictlySortedBy path_cmp ordered
     → list ≡ flat_map (walk files (answers_in list)) ordered
 
--- what a walk of the starts found, over files that may tell a tree and whose count of faults went from old to new
+-- a walk of the starts found this list, over files that may tell a tree. Their count of faults went from old to new
 pub record IsFound (tree : Option Files) (starts : List (List ℕ)) (old new : ℕ) (list : List Entry) : Type 0 where
   -- over files that tell their tree it is the recursive walk
   pub told : IfSome tree (λ files. IsWalkOf files list starts)
@@ -36,7 +36,7 @@ pub record IsFound (tree : Option Files) (starts : List (List ℕ)) (old new : �
 abbrev pub max_entries : ℕ
 max_entries = 4194304
 
--- what was found has n entries, more than a list may have
+-- a walk found n entries, more than a list may have
 pub record IsTooMuch (tree : Option Files) (starts : List (List ℕ)) (old new n : ℕ) : Type 0 where
   pub list : List Entry
   pub found : IsFound tree starts old new list

@@ -1,5 +1,5 @@
--- What a job of a walk holds: its entries, each with the paths that were pushed for it. After the process step of libcircle's walk (SC
--- 2012); the form is our own.
+-- The entries that a job of a walk holds, each with the paths that were pushed for it. After the process step of libcircle's walk
+-- (SC 2012); the form is our own.
 use Rattle.std.specs.Prelude.{◌≡◌, ◌≤◌, ℕ, Bool, true, ◌&&◌, List, [], ◌∷◌, map, length, drop, if◌then◌else◌, Option, IfSome}
 use Rattle.std.specs.List.{AllByRecursion, sum_by}
 use Rattle.std.specs.FinMap.{get}
@@ -24,20 +24,20 @@ entries_of held = map (λ h. h.0) held
 abbrev pub log_of : List Held → Log
 log_of held = map (λ h. (h.0.path, h.1)) held
 
--- what was pushed are children, each once, names in byte order
+-- the pushed paths are children, each once, names in byte order
 pub record IsPush (h : Held) : Type 0 where
   pub names : List (List ℕ)
   pub are : AreNames h.0.path names
   pub is : h.1 ≡ map (joined h.0.path) names
 
--- the entry and what was pushed are those of the files, by the answer that the entry tells
+-- the entry and the pushed paths are those of the files, by the answer that the entry tells
 pub record IsDone (files : Files) (h : Held) : Type 0 where
   pub valid : IsTree files
   pub short : length h.0.path ≤ 4095
   pub entry : h.0 ≡ entry_of (answer_in h.0) (get files h.0.path) h.0.path
   pub children : h.1 ≡ children_of (answer_in h.0) files h.0.path
 
--- what holds of all that a job holds, over a reader that may tell a tree and has so many faults
+-- the invariant of all that a job holds, over a reader that may tell a tree and has this many faults
 pub record Holds (tree : Option Files) (count : ℕ) (held : List Held) : Type 0 where
   pub pushes : AllByRecursion IsPush held
   pub done : IfSome tree (λ files. AllByRecursion (IsDone files) held)

@@ -5,7 +5,7 @@ use Rattle.std.specs.List.Sorted.{IsStrictlySortedBy}
 use Rattle.path_text.specs.Path.{refusal}
 use Rattle.path_text.specs.Order.{path_cmp, front}
 
--- x is the path p, or is under it: what the paths under x begin with begins itself with what those under p begin with
+-- x is the path p or under it: the common front of the paths under x begins with the common front of those under p
 abbrev pub is_in : List ℕ → List ℕ → Bool
 is_in x p = starts_with nat_eq (front x) (front p)
 
@@ -17,7 +17,7 @@ is_in_some paths x = list_any (is_in x) paths
 abbrev pub Apart : List (List ℕ) → Type 0
 Apart paths = (x : List ℕ) → count_by (is_in x) paths ≤ 1
 
--- the roots of the given paths: some of them, in path order, that are apart, and that all the given ones are equal to or under
+-- the roots of the given paths: some of them, in path order and apart, that all the given ones are equal to or under
 pub record IsRoots (given roots : List (List ℕ)) : Type 0 where
   pub among : All (Contains given) roots
   pub ascend : IsStrictlySortedBy path_cmp roots

@@ -1,4 +1,5 @@
--- What the entries of a walk tell of the tree that was walked. That each has a stat is after mpiFileUtils' flat lists; the rest is our own.
+-- The facts of the walked tree that the entries of a walk give. That each has a stat is after mpiFileUtils' flat lists; the rest
+-- is our own.
 use Rattle.std.specs.Prelude.{◌≡◌, ℕ, Bool, ◌&&◌, ◌||◌, true, false, List, Option, None, is_some, nat_eq, All}
 use Rattle.std.specs.List.{flat_map, list_any, Contains}
 use Rattle.std.specs.Cmp.Lexicographic.{pointwise}
@@ -23,7 +24,7 @@ stat_by mark.Fine found = option_map stat_of found
 stat_by mark.ListFailed found = option_map stat_of found
 stat_by mark.Changed found = option_map stat_of found
 
--- what an entry with this mark says of what stands at its path. No entry of a walk tells of a change, since the tree is as it was
+-- an entry with this mark says this of its path. No entry of a walk tells of a change, since the tree is as it was
 abbrev pub StandsBy : Mark → Option Node → Type 0
 StandsBy mark.StatFailed found = Unit {0}
 StandsBy mark.Gone found = found ≡ None
@@ -47,18 +48,18 @@ target_by mark.ListFailed found = None
 target_by mark.Gone found = None
 target_by mark.Changed found = None
 
--- an entry tells what the tree has at its path
+-- an entry tells the truth of the tree at its path
 pub record IsTold (files : Files) (a : Answers) (e : Entry) : Type 0 where
   -- it is the entry of its path
   pub own : e ≡ entry_of (a e.path) (get files e.path) e.path
   -- so where its stat did not fail it has the stat of the node there, with its kind, size and time
   pub stat : e.stat ≡ stat_by e.mark (get files e.path)
-  -- and what its mark says stands there
+  -- and the statement of its mark holds
   pub stands : StandsBy e.mark (get files e.path)
   pub far : e.far ≡ far_by e.mark (get files e.path)
   pub target : e.target ≡ target_by e.mark (get files e.path)
 
--- each entry of a walk, and of the walks of several roots, tells what the tree has at its path
+-- each entry of a walk, and of the walks of several roots, tells the truth of the tree at its path
 pub record EntriesAreTold : Type 0 where
   pub of_one : (files : Files) (a : Answers) (root : List ℕ) → All (IsTold files a) (walk files a root)
   pub of_all : (files : Files) (a : Answers) (roots : List (List ℕ)) → All (IsTold files a) (flat_map (walk files a) roots)

@@ -1,6 +1,7 @@
 -- The recursive walk of a tree of files, and the answers of it that failed. After the process step of libcircle's walk (SC 2012); the
 -- failed answers are our own.
-use Rattle.std.specs.Prelude.{◌≡◌, ℕ, ◌-◌, ◌≤◌, List, [], ◌∷◌, zero, suc, map, length, if◌then◌else◌, Option, Some, None, is_some, Bool, true, false, All, nat_eq}
+use Rattle.std.specs.Prelude.{◌≡◌, ℕ, ◌-◌, ◌≤◌, List, [], ◌∷◌, zero, suc, map, length, if◌then◌else◌, Option, Some, None, is_some, Bool, true, false}
+use Rattle.std.specs.Prelude.{All, nat_eq}
 use Rattle.std.specs.Cmp.Lexicographic.{pointwise}
 use Rattle.std.specs.List.{flat_map, sum_by, count_by, list_any}
 use Rattle.std.specs.List.Sorted.{IsStrictlySortedBy}
@@ -12,8 +13,8 @@ use Rattle.flat_list.specs.declared.entries.Entry.{Entry}
 use Rattle.flat_list.specs.declared.entries.Mark.{Mark}
 use Rattle.flat_list.specs.declared.entries.Mark.TheVariants as mark
 
--- how the files answered of a path: as they are, leaving out a number of names that are no text; or its stat, or the reading of its link,
--- failed; or the listing of its names failed
+-- how the files answered for a path: as they are, without a number of names that are not text. Or its stat or the reading of its
+-- link failed. Or the listing of its names failed
 pub data Answer : Type 0 where
   told : ℕ → Answer
   stat_failed : Answer
@@ -23,7 +24,7 @@ pub data Answer : Type 0 where
 abbrev pub Answers : Type 0
 Answers = List ℕ → Answer
 
--- where nothing fails
+-- the answers of a walk in which nothing fails
 abbrev pub all_told : Answers
 all_told path = told 0
 
@@ -31,8 +32,8 @@ all_told path = told 0
 abbrev pub bare : List ℕ → Mark → Entry
 bare path m = record { path = path; stat = None; mark = m; unnamed = 0; far = 0; target = None }
 
--- the entry of a node. A directory tells how many of its names are no text and how many of its children have too long a path, and a link
--- tells its text
+-- the entry of a node. A directory has the number of its names that are not text, and the number of its children with too long
+-- a path. A link has its text
 abbrev pub entry_of_node : Answer → Node → List ℕ → Entry
 entry_of_node stat_failed node path = bare path mark.StatFailed
 entry_of_node list_failed node path = record {
@@ -128,7 +129,8 @@ abbrev pub WalkFindsAll : Type 0
 WalkFindsAll = (files : Files) (root : List ℕ) → IsTree files → refusal root ≡ None → is_some (get files root) ≡ true
     → All (λ e. (e.mark ≡ mark.Fine) × (e.unnamed ≡ 0)) (walk files all_told root)
 
--- nothing is left out off what failed: where the files answered of every path on the way from the root to a node, the node has an entry
+-- the walk leaves out only nodes behind a failed answer. If the files answered for every path from the root to a node, the node
+-- has an entry
 abbrev pub WalkListsAll : Type 0
 WalkListsAll = (files : Files) (a : Answers) (root q : List ℕ) → IsTree files → refusal root ≡ None → is_root root ≡ false → is_within q root ≡ true
     → is_some (get files q) ≡ true → ((p : List ℕ) → is_under q p ≡ true → is_within p root ≡ true → is_told (a p) ≡ true)

@@ -6,10 +6,10 @@ use thiserror::Error;
 /// Why a walk gives no list.
 #[derive(Clone, Copy, Debug, Drop, PartialEq, Eq, Error)]
 pub enum WalkError {
-    /// No memory was found.
+    /// The walk is out of memory.
     #[error("out of memory")]
     OutOfMemory,
-    /// The walk found so many entries, more than [`crate::MAX_ENTRIES`].
+    /// The walk found this many entries, more than [`crate::MAX_ENTRIES`].
     #[error("the walk found {0} entries, more than a list may have")]
     TooMany(u64),
 }

@@ -10,16 +10,17 @@ use rank_queue::Batch;
 use std::alloc::Global;
 use std::marker::Model;
 
-/// The job of one rank in a walk, seen as its reader and the entries that it made, each with the paths that it pushed for
+/// The job of one rank in a walk. Its contract sees its reader and its entries, each with the paths that the job pushed for
 /// it. Only [`crate::walk`] makes and opens one.
 ///
-/// The entries are packed as they are made. Of what it pushed it keeps the names, as the directory told them; the paths themselves have moved on.
+/// The job packs each entry when it makes it. Of the pushed paths it keeps the names, as the directory listed them. The paths
+/// themselves have moved on.
 #[derive(Drop)]
 pub struct WalkJob<R: Tree> {
     reader: R,
     entries: FlatList,
     names: Vec<Listing>,
-    // A path that is done with, whose memory the next one takes.
+    // A path that the job is done with, whose memory the next one takes.
     spare: Option<Path>,
 }
 
@@ -33,7 +34,8 @@ impl<R: Tree> Model for WalkJob<R> {
 
     ghost view = { λ w. (w.reader, held_of w.entries w.names.items) };
 
-    ghost invariant = { λ w. Holds (R.tree w.reader) (R.count w.reader) (held_of w.entries w.names.items) × (count_by is_listed w.entries ≡ length w.names.items) × AllByRecursion (IsAnswered R.gives) w.entries };
+    ghost invariant = { λ w. Holds (R.tree w.reader) (R.count w.reader) (held_of w.entries w.names.items)
+        × (count_by is_listed w.entries ≡ length w.names.items) × AllByRecursion (IsAnswered R.gives) w.entries };
 }
 
 impl<R: Tree> WalkJob<R> {
@@ -84,7 +86,7 @@ impl<R: Tree> Job for WalkJob<R> {
 
     ghost plain = { λ w. R.tree w.0 };
 
-    /// Handles a path by `stat`, a directory then by `list` and a link by `read_link`, and pushes its children.
+    /// Handles a path by `stat`, then a directory by `list` or a link by `read_link`, and pushes the children.
     fn handle(&mut self, item: &Path, _waiting: u64, fresh: &mut Batch) -> Result<(), OutOfMemory> {
         handle_path(
             &mut self.reader,

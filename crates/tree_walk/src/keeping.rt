@@ -1,4 +1,4 @@
-//! What a job keeps of one path.
+//! The entry and the names that a job keeps of one path.
 ghost use Rattle.std.specs.Prelude.{◌≡◌, ◌++◌, ◌∷◌, ◌<◌, [], true, false, map, length, OnOk, OnErr, IfOk};
 ghost use Rattle.std.specs.List.{count_by, AllByRecursion};
 ghost use Rattle.std.specs.Vec.{vec_len, vec_capacity};
@@ -12,7 +12,7 @@ use outside::{Listing, Tree};
 use path_text::{OutOfMemory, Path};
 use rank_queue::Batch;
 
-// Handles one path: its entry is kept, and its children are pushed. The memory of a path that is done with is used again.
+// Handles one path: keeps its entry, pushes its children, and uses the memory of a path that is done again.
 pub fn handle_path<R: Tree>(
     reader: &mut R,
     entries: &mut FlatList,
@@ -49,7 +49,7 @@ pub fn handle_path<R: Tree>(
     Ok(())
 }
 
-// A copy of a path, in the memory of another where there is one.
+// A copy of a path, in the memory of another if there is one.
 fn copied(spare: &mut Option<Path>, path: &Path) -> Result<Path, OutOfMemory>
     ensures { IfOk result (λ copy. copy ≡ path.now) }
 {
@@ -61,7 +61,7 @@ fn copied(spare: &mut Option<Path>, path: &Path) -> Result<Path, OutOfMemory>
     Ok(copy)
 }
 
-// Keeps an entry, packed, and the names where it was listed. A refusal keeps nothing.
+// Keeps an entry, packed, and its names if it was listed. If it is out of memory it keeps nothing.
 fn keep(
     entries: &mut FlatList,
     names: &mut Vec<Listing>,
@@ -71,7 +71,8 @@ fn keep(
     requires names { vec_len names.old < vec_capacity names.old }
     requires pairs { count_by is_listed entries.old ≡ length names.old.items }
     requires alone { is_listed entry.now ≡ false → listing.0 ≡ [] }
-    ensures held { OnOk result (held_of entries.new names.new.items ≡ held_of entries.old names.old.items ++ (entry.now, map (joined entry.now.path) listing.0) ∷ []) }
+    ensures held { OnOk result (held_of entries.new names.new.items
+        ≡ held_of entries.old names.old.items ++ (entry.now, map (joined entry.now.path) listing.0) ∷ []) }
     ensures pairs { count_by is_listed entries.new ≡ length names.new.items }
     ensures err { OnErr result (held_of entries.new names.new.items ≡ held_of entries.old names.old.items) }
     ensures added { OnOk result (entries.new ≡ entries.old ++ entry.now ∷ []) }

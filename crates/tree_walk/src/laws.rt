@@ -19,28 +19,31 @@ pub fn walk_has_each_path_once()
     ensures { WalkHasEachPathOnce }
 {}
 
-/// Where no answer fails and the root is there, every path of the walk is found.
+/// If no answer fails and the root is there, every path of the walk is found.
 pub fn walk_finds_all()
     ensures { WalkFindsAll }
 {}
 
-/// Nothing is left out off what failed: if the files answered of every path on the way from the root to a node, the node has an entry.
+/// The walk leaves out only nodes behind a failed answer. If the files answered for every path on the way from the root to a
+/// node, the node has an entry.
 pub fn walk_lists_all()
     ensures { WalkListsAll }
 {}
 
-/// Entries of several roots that tell no failed answer are those of the walk in which nothing fails, and each is fine.
+/// If the entries of several roots have no failed answer, they are those of the walk in which no answer fails, and each is
+/// fine.
 pub fn walk_without_faults_is_fine()
     ensures { WalkWithoutFaultsIsFine }
 {}
 
-/// Each entry of a walk tells what the tree has at its path: an entry with a stat has that of the node there, one that is fine
-/// or was not listed stands in the tree, and one that is gone does not. Each fine link has its text, and nothing else has one.
+/// Each entry of a walk tells the truth of the tree. An entry with a stat has the stat of the node at its path. The tree has
+/// the path of an entry that is fine or was not listed. It does not have the path of one that is gone. Each fine link has its
+/// text, and no other entry has one.
 pub fn entries_are_told()
     ensures { EntriesAreTold }
 {}
 
-/// In the walks of roots that are apart an entry whose parent has an entry too stands in a directory that was listed.
+/// In the walks of roots that are apart, an entry's parent that has an entry too is a directory that was listed.
 pub fn parents_are_listed()
     ensures { ParentsAreListed }
 {}
@@ -55,19 +58,20 @@ pub fn roots_are_unique()
     ensures { RootsAreUnique }
 {}
 
-/// A restart goes on: the done entries of a cut, with a walk of its left strings, are in path order a walk of its starts.
+/// A restart goes on. The done entries of a cut and a walk of its left strings are together, in path order, a walk of its
+/// starts.
 pub fn restart_is_walk()
     ensures { RestartIsWalk }
 {}
 
-/// A walk of the left strings of a cut may be cut again: the done entries of both, with what is left at last, are a cut of the
-/// first starts.
+/// A walk of the left strings of a cut may be cut again. The done entries of both, with the strings that are left at last, are
+/// a cut of the first starts.
 pub fn cut_goes_on()
     ensures { CutGoesOn }
 {}
 
-/// No left string of a cut is equal to or under another, so that a walk can start from them, and nothing that was done is
-/// equal to or under one.
+/// No left string of a cut is equal to or under another, so that a walk can start from them. No done path is equal to or under
+/// a left string.
 pub fn left_is_apart()
     ensures { LeftIsApart }
 {}

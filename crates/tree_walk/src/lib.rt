@@ -1,10 +1,13 @@
 //! The walk of trees of files by ranks: every path at and under the starts, in path order.
 //!
-//! - [`walk`] looks at the starts and at all that is under them, and gives a [`WalkReport`]: the entries as a list in path
-//!   order, what each rank did, the events of the run where they are kept, and how the number of entries rose.
-//! - [`roots_of`] makes starts of any paths: it drops what is equal to or under another, so that nothing is walked twice.
-//! - A [`WalkJob`] is what one rank does with a path: it asks the files what stands there, and the names in a directory or the
-//!   text of a link, keeps the entry and pushes the children. The ranks of [`circle_run`] hand paths to each other in any order.
+//! - [`walk`] looks at the starts and at all paths under them, and gives a [`WalkReport`]. The report has the entries as a
+//!   list in path order, and the share of each rank. It also has the events of the run, if they are kept, and the growing
+//!   number of entries.
+//! - [`roots_of`] makes starts of any paths. It drops each path that is equal to or under another, so that no path is walked
+//!   twice.
+//! - A [`WalkJob`] is the work of one rank. The rank asks the files for the stat of a path, and then for the names in a
+//!   directory or the text of a link. It keeps the entry and pushes the children. The ranks of [`circle_run`] hand paths to
+//!   each other in any order.
 //!
 //! ```text
 //! let starts = roots_of(words)?;
@@ -13,45 +16,59 @@
 //! // ..
 //! ```
 //!
-//! Where the options have a stop the walk may be [`Walked::Cut`]: then the report has what was done and what is left, a
-//! checkpoint from which another walk goes on, with any number of ranks.
+//! If the options have a stop, the walk may be [`Walked::Cut`]. Then the report has the entries that are done and the paths
+//! that are left. They are a checkpoint from which another walk goes on, with any number of ranks.
 //!
-//! What fails is no error: the entry of the path says so by its mark, and the files have counted it. A list of more than
-//! [`MAX_ENTRIES`] entries is refused, as is want of memory.
+//! A failed call is not an error of the walk: the mark of the path's entry names it, and the files have counted it. The walk
+//! refuses a list of more than [`MAX_ENTRIES`] entries, and it ends with an error if it is out of memory.
 //!
-//! Proved, over any files and whatever the order in which paths are handled: where the files tell their tree, the list is
-//! the recursive walk of the starts, with the failed answers that its marks name; over all files each path stands in the
-//! list once, in path order, is a start or under one, has its mark by an answer that a reader gave, and each failed answer was
-//! counted; each fine link has the text that was read. This follows from the balance of the run alone: each path was handled as
-//! often as it was a start or was pushed. So the list is the same for every number of ranks, split and seed.
+//! Proved, over any files and for every order in which the ranks handle paths:
 //!
-//! Proved of what a report tells beside its list: some whole run by the options was made in which the ranks handle just the
-//! paths of the list, each once; the shares are its counts, and with a trace the events are its own. Where the files tell their
-//! tree, the ranks push in it the children that the recursive walk goes on with. All that the ranks handled is as much as the
-//! list has, what all gave all took, and the numbers of progress rise to the number of entries, by the thousand where there is
-//! one rank.
+//! - If the files tell their tree, the list is the recursive walk of the starts, with the failed answers that its marks name.
+//! - Over all files each path of the list comes once, in path order, and is a start or under one.
+//! - Each entry has its mark by an answer that a reader gave, and each fine link has the text that was read. The files
+//!   counted each failed answer.
+//! - This follows from the balance of the run alone: each path was handled as often as it was a start or was pushed. So the
+//!   list is the same for every number of ranks, split and seed.
 //!
-//! Proved of a walk that was cut: where the files tell their tree, what was done and what is left is a cut of the recursive
-//! walk: the entries done are its own, and their paths and the left strings are, as often, the starts and the children of those
-//! entries. Over all files the done paths and the left strings all differ. No rank handled more strings than the stop says, one
-//! handled as many, and a string is left.
+//! Proved of the rest of a report:
 //!
-//! Only tested: that each path is asked for its stat once, each directory for its names once, and each link for its text once.
-//! Over files that change, what is no directory any more when it is asked for its names has the mark `Changed`, and so has what
-//! is no link any more when it is asked for its text.
+//! - On one host and without a stop, the ranks made some whole run by the options. In it they handle exactly the paths of
+//!   the list, each once. The shares are the counts of that run, and with a trace the events are its own.
+//! - If the files tell their tree, the ranks push the children with which the recursive walk goes on.
+//! - All ranks together handled as many paths as the list has, and all gave as many as all took.
+//! - The numbers of progress rise to the number of entries, and by the thousand if there is one rank.
 //!
-//! That a walk ends is not proved: the runtime that works it off may wait.
+//! Proved of a walk that was cut:
 //!
-//! The recursive walk has laws of its own, each the contract of a function that does nothing: [`walk_is_recursive`],
-//! [`walk_ascends`], [`walk_has_each_path_once`], [`walk_finds_all`], [`walk_lists_all`], [`walk_without_faults_is_fine`],
-//! [`entries_are_told`], [`entries_have_parents`], [`parents_are_listed`]. So have the roots: [`roots_are_unique`]. And so has a cut of the walk, which is
-//! some entries of it and the strings that are left: a walk of these goes on, and with the entries is the whole
-//! ([`restart_is_walk`], [`cut_goes_on`], [`left_is_apart`]).
+//! - If the files tell their tree, the done entries and the left paths are a cut of the recursive walk. The done entries are
+//!   entries of that walk. Their paths and the left paths are, as often, the starts and the children of those entries.
+//! - Over all files the done paths and the left paths all differ.
+//! - No rank handled more paths than the stop says, one rank handled as many, and a path is left.
 //!
-//! Definitions stand in `specs/`: `Walk` (the recursive walk and failed answers), `Roots`, `Told` (what entries tell of the tree),
-//! `Answered` (the answers by which an entry has its mark and its text), `Found` (what a walk gives), `Cut` (what one that was
-//! cut gives, and how another goes on), `Traced` (what events, shares and progress tell), `Held` (what a job keeps), and `Looking`
-//! (what the files' answers make of a path), which no public clause cites.
+//! Only tested: the walk asks once for the stat of each path, the names of each directory and the text of each link. Over
+//! files that change, a directory may be another kind of entry when the walk asks for its names. Then its entry has the mark
+//! `Changed`. So has the entry of a link that is another kind of entry when the walk asks for its text.
+//!
+//! That a walk ends is not proved: the runtime that runs its threads may wait.
+//!
+//! The recursive walk has laws of its own, each the contract of a function that does nothing. They are
+//! [`walk_is_recursive`], [`walk_ascends`], [`walk_has_each_path_once`], [`walk_finds_all`], [`walk_lists_all`],
+//! [`walk_without_faults_is_fine`], [`entries_are_told`], [`entries_have_parents`] and [`parents_are_listed`]. The roots
+//! have the law [`roots_are_unique`]. A cut of the walk is some of its entries and the paths that are left. A walk of these
+//! paths goes on, and with the entries it is the whole walk ([`restart_is_walk`], [`cut_goes_on`], [`left_is_apart`]).
+//!
+//! The directory `specs/` has the definitions:
+//!
+//! - `Walk`: the recursive walk and its failed answers;
+//! - `Roots`: the roots of given paths;
+//! - `Told`: the facts of the tree that entries give;
+//! - `Answered`: the answers by which an entry has its mark and its text;
+//! - `Found`: the result of a walk;
+//! - `Cut`: the result of a walk that was cut, and how another walk goes on;
+//! - `Traced`: the events, the shares and the progress;
+//! - `Held`: the entries that a job keeps;
+//! - `Looking`: an entry by the answers of the files, which no public clause cites.
 #![tactic(auto)]
 
 mod errors;

@@ -1,4 +1,4 @@
-//! What a job asks of one path.
+//! The calls by which a job asks the files about one path.
 ghost use Rattle.std.specs.Prelude.{◌≡◌, ◌++◌, map, OnOk, IfOk};
 ghost use Rattle.path_text.specs.Path.{joined};
 ghost use Rattle.outside.specs.Count.{RoseBy};
@@ -16,8 +16,8 @@ use path_text::{JoinError, OutOfMemory, Path};
 use rank_queue::Batch;
 use std::alloc::Global;
 
-// Looks at one path, by one stat, and then a directory by one listing and a link by one reading of its text: its entry, and the
-// names below it.
+// Looks at one path by one stat, and then at a directory by one listing or at a link by one reading of its text. Gives the
+// entry and the names below it.
 pub fn look<R: Tree>(
     alloc: Global,
     reader: &mut R,
@@ -77,8 +77,8 @@ fn bare(path: Path, mark: Mark) -> Entry
     }
 }
 
-// The entry of a link, by the answer of its reading; none where no memory was found. Where its text failed nothing is told of it,
-// and what is no link any more has changed.
+// The entry of a link, by the answer of its reading; none if that is out of memory. If the reading failed, the entry has no
+// stat and no text. If the path is not a link any more, it has changed.
 fn by_link(entry: Entry, answer: Result<LinkText, LinkError>) -> Option<Entry>
     ensures { result ≡ by_link entry answer }
 {
@@ -92,7 +92,7 @@ fn by_link(entry: Entry, answer: Result<LinkText, LinkError>) -> Option<Entry>
     Some(entry)
 }
 
-// The entry of a directory and the names below it, by the answer of its listing; none where no memory was found.
+// The entry of a directory and the names below it, by the answer of its listing; none if that is out of memory.
 fn by_list(
     alloc: Global,
     entry: Entry,
@@ -114,7 +114,7 @@ fn by_list(
     Some((entry, Listing::make(alloc)))
 }
 
-// Puts the paths of the children behind what is there.
+// Puts the paths of the children behind the paths that are there.
 pub fn push_children(path: &Path, listing: &Listing, fresh: &mut Batch) -> Result<(), OutOfMemory>
     requires { AreNames path.now listing.now.0 }
     ensures { OnOk result (fresh.new ≡ fresh.old ++ map (joined path.now) listing.now.0) }

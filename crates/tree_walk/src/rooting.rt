@@ -10,7 +10,7 @@ pub fn roots_of(paths: Vec<Path>) -> Result<Vec<Path>, OutOfMemory>
 {
     let mut roots = paths;
     roots.sort()?;
-    // What is under a root follows it directly, so one pass is enough.
+    // The paths under a root follow it directly, so one pass is enough.
     roots.dedup_by(|path, root| is_in(path, root));
     Ok(roots)
 }

@@ -31,8 +31,8 @@ use std::thread::Threads;
 /// The most entries that a list may have.
 pub const MAX_ENTRIES: usize = 4_194_304;
 
-/// Walks the trees at the starts, of which none is equal to or under another. All readers are taken back, but that after
-/// `OutOfMemory` some may have been dropped. Each entry has its mark by an answer that a reader gave, and each fine link has the
+/// Walks the trees at the starts, of which none is equal to or under another. The walk gives all readers back, but after
+/// `OutOfMemory` it may have dropped some. Each entry has its mark by an answer that a reader gave, and each fine link has the
 /// text that was read.
 pub fn walk<W: Threads + Wait + Sync, G: Ground>(
     rt: &W,
@@ -48,31 +48,39 @@ where
     requires trace { options.now.trace ≡ true → (options.now.hosts ≡ 1) × (options.now.stop_after ≡ None) }
     requires width { (2 ≤ options.now.width) × (options.now.width ≤ 64) }
     requires apart { Apart starts.items }
-    ensures found { IfOk result (λ report. report.walked ≡ Walked.Whole → IsFound (G.tree ground.old) starts.items (G.count ground.old) (G.count ground.new) report.list) }
+    ensures found { IfOk result (λ report. report.walked ≡ Walked.Whole
+        → IsFound (G.tree ground.old) starts.items (G.count ground.old) (G.count ground.new) report.list) }
     ensures answered { IfOk result (λ report. All (IsAnswered G.Reader.gives) (found_in report.walked report.list)) }
     ensures few { IfOk result (λ report. length (found_in report.walked report.list) ≤ max_entries) }
-    ensures too_many { IfErr result (λ e. IfTooMany e (IsTooMany options.now.stop_after (G.tree ground.old) starts.items (G.count ground.old) (G.count ground.new))) }
+    ensures too_many { IfErr result (λ e. IfTooMany e
+        (IsTooMany options.now.stop_after (G.tree ground.old) starts.items (G.count ground.old) (G.count ground.new))) }
     ensures whole { IfOk result (λ report. options.now.stop_after ≡ None → report.walked ≡ Walked.Whole) }
 
-    // A cut is what was done and what is left, by rank, and a string is left. Then some rank handled as many as the stop says, and with a
-    // stop none handles more.
-    ensures cut { IfOk result (λ report. IfCut report.walked (λ cut. IsCutFound (G.tree ground.old) starts.items (G.count ground.old) (G.count ground.new) cut.done (all_left cut.left.items))) }
+    // A cut has the entries that are done and the strings that are left, by rank, and a string is left. Then some rank
+    // handled as many as the stop says, and with a stop none handles more.
+    ensures cut { IfOk result (λ report. IfCut report.walked
+        (λ cut. IsCutFound (G.tree ground.old) starts.items (G.count ground.old) (G.count ground.new) cut.done (all_left cut.left.items))) }
     ensures empty { IfOk result (λ report. IfCut report.walked (λ cut. report.list ≡ [])) }
     ensures lists { IfOk result (λ report. IfCut report.walked (λ cut. length cut.left.items ≡ options.now.ranks)) }
     ensures some_left { IfOk result (λ report. IfCut report.walked (λ cut. 0 < length (all_left cut.left.items))) }
     ensures reached { IfOk result (λ report. IfCut report.walked (λ cut. IfSome options.now.stop_after (λ k. Any (λ s. s.handled ≡ k) report.shares.items))) }
     ensures bound { IfOk result (λ report. IfSome options.now.stop_after (λ k. All (λ s. s.handled ≤ k) report.shares.items)) }
 
-    // What the ranks did: all that they handled is what was found, and what all gave all took. Counts stop at their greatest.
+    // The shares: the ranks handled as many paths as entries were found, and all gave as many as all took. Counts stop at
+    // their greatest.
     ensures shares { IfOk result (λ report. sum_by (λ s. s.handled) report.shares.items ≡ length (found_in report.walked report.list)) }
     ensures by_rank { IfOk result (λ report. length report.shares.items ≡ options.now.ranks) }
-    ensures moved { IfOk result (λ report. min (sum_by (λ s. s.given) report.shares.items) (2 ^ 128 - 1) ≡ min (sum_by (λ s. s.taken) report.shares.items) (2 ^ 128 - 1)) }
+    ensures moved { IfOk result (λ report. min (sum_by (λ s. s.given) report.shares.items) (2 ^ 128 - 1)
+        ≡ min (sum_by (λ s. s.taken) report.shares.items) (2 ^ 128 - 1)) }
 
-    // On one host and without a stop some whole run was made that gives the list: the shares are its counts, and with a trace the events are
-    // its own. Where the files tell their tree, a trace is a run of the recursive walk.
-    ensures ran { IfOk result (λ report. options.now.hosts ≡ 1 → options.now.stop_after ≡ None → WasWalked (G.tree ground.old) options.now starts.items report.list report.shares.items report.events.items) }
-    ensures traced { IfOk result (λ report. options.now.trace ≡ true → IfSome (G.tree ground.old) (λ files. IsTracedWalk files options.now starts.items report.list report.events.items)) }
-    ensures counts { IfOk result (λ report. options.now.trace ≡ true → report.shares.items ≡ map (share_in report.events.items) (range_with_len 0 options.now.ranks)) }
+    // On one host and without a stop the ranks made some whole run that gives the list. The shares are its counts, and with a
+    // trace the events are its own. If the files tell their tree, a trace is a run of the recursive walk.
+    ensures ran { IfOk result (λ report. options.now.hosts ≡ 1 → options.now.stop_after ≡ None
+        → WasWalked (G.tree ground.old) options.now starts.items report.list report.shares.items report.events.items) }
+    ensures traced { IfOk result (λ report. options.now.trace ≡ true
+        → IfSome (G.tree ground.old) (λ files. IsTracedWalk files options.now starts.items report.list report.events.items)) }
+    ensures counts { IfOk result (λ report. options.now.trace ≡ true
+        → report.shares.items ≡ map (share_in report.events.items) (range_with_len 0 options.now.ranks)) }
     ensures untraced { IfOk result (λ report. options.now.trace ≡ false → report.events.items ≡ []) }
 
     ensures progress { IfOk result (λ report. IsProgressTo (length (found_in report.walked report.list)) options.now.ranks report.sums.items) }
@@ -87,7 +95,7 @@ where
     Ok(report)
 }
 
-// What the ranks find and do, however much it is.
+// The report of a walk, however many entries the ranks find.
 fn found<W: Threads + Wait + Sync, G: Ground>(
     rt: &W,
     alloc: Global,
@@ -105,26 +113,31 @@ where
     ensures found { IfOk result (λ r. r.walked ≡ Walked.Whole → IsFound (G.tree ground.old) starts.items (G.count ground.old) (G.count ground.new) r.list) }
     ensures answered { IfOk result (λ r. All (IsAnswered G.Reader.gives) (found_in r.walked r.list)) }
     ensures whole { IfOk result (λ r. options.now.stop_after ≡ None → r.walked ≡ Walked.Whole) }
-    ensures cut { IfOk result (λ r. IfCut r.walked (λ cut. IsCutFound (G.tree ground.old) starts.items (G.count ground.old) (G.count ground.new) cut.done (all_left cut.left.items))) }
+    ensures cut { IfOk result (λ r. IfCut r.walked
+        (λ cut. IsCutFound (G.tree ground.old) starts.items (G.count ground.old) (G.count ground.new) cut.done (all_left cut.left.items))) }
     ensures empty { IfOk result (λ r. IfCut r.walked (λ cut. r.list ≡ [])) }
     ensures lists { IfOk result (λ r. IfCut r.walked (λ cut. length cut.left.items ≡ options.now.ranks)) }
     ensures some_left { IfOk result (λ r. IfCut r.walked (λ cut. 0 < length (all_left cut.left.items))) }
     ensures reached { IfOk result (λ r. IfCut r.walked (λ cut. IfSome options.now.stop_after (λ k. Any (λ s. s.handled ≡ k) r.shares.items))) }
     ensures bound { IfOk result (λ r. IfSome options.now.stop_after (λ k. All (λ s. s.handled ≤ k) r.shares.items)) }
-    ensures shares { IfOk result (λ r. length (found_in r.walked r.list) < 2 ^ 64 → sum_by (λ s. s.handled) r.shares.items ≡ length (found_in r.walked r.list)) }
+    ensures shares { IfOk result (λ r. length (found_in r.walked r.list) < 2 ^ 64
+        → sum_by (λ s. s.handled) r.shares.items ≡ length (found_in r.walked r.list)) }
     ensures by_rank { IfOk result (λ r. length r.shares.items ≡ options.now.ranks) }
     ensures moved { IfOk result (λ r. min (sum_by (λ s. s.given) r.shares.items) (2 ^ 128 - 1) ≡ min (sum_by (λ s. s.taken) r.shares.items) (2 ^ 128 - 1)) }
-    ensures ran { IfOk result (λ r. options.now.hosts ≡ 1 → options.now.stop_after ≡ None → WasWalked (G.tree ground.old) options.now starts.items r.list r.shares.items r.events.items) }
-    ensures traced { IfOk result (λ r. options.now.trace ≡ true → IfSome (G.tree ground.old) (λ files. IsTracedWalk files options.now starts.items r.list r.events.items)) }
+    ensures ran { IfOk result (λ r. options.now.hosts ≡ 1 → options.now.stop_after ≡ None
+        → WasWalked (G.tree ground.old) options.now starts.items r.list r.shares.items r.events.items) }
+    ensures traced { IfOk result (λ r. options.now.trace ≡ true
+        → IfSome (G.tree ground.old) (λ files. IsTracedWalk files options.now starts.items r.list r.events.items)) }
     ensures counts { IfOk result (λ r. options.now.trace ≡ true → r.shares.items ≡ map (share_in r.events.items) (range_with_len 0 options.now.ranks)) }
     ensures untraced { IfOk result (λ r. options.now.trace ≡ false → r.events.items ≡ []) }
-    ensures progress { IfOk result (λ r. length (found_in r.walked r.list) < 2 ^ 56 → IsProgressTo (length (found_in r.walked r.list)) options.now.ranks r.sums.items) }
+    ensures progress { IfOk result (λ r. length (found_in r.walked r.list) < 2 ^ 56
+        → IsProgressTo (length (found_in r.walked r.list)) options.now.ranks r.sums.items) }
     ensures memory { IfErr result (λ e. e ≡ WalkError.OutOfMemory) }
     ensures same { G.tree ground.new ≡ G.tree ground.old }
     ensures area { G.area ground.new ≡ G.area ground.old }
     ensures count { RoseBy 0 (G.count ground.old) (G.count ground.new) }
 {
-    // The number of a stop is one of 64 bits.
+    // The number of a stop has 64 bits.
     let _most = options.stop_after.unwrap_or(u64::MAX);
     let jobs = made(alloc, ground, options.ranks)?;
     let finished = begin(rt, alloc, options, starts, jobs)?;
@@ -141,7 +154,7 @@ where
     })
 }
 
-// What was found is the list of a whole walk, or what was done before a cut where any string is left.
+// The found entries are the list of a whole walk or, if any string is left, the done entries of a cut.
 fn split(alloc: Global, found: FlatList, left: Vec<Vec<Path>>) -> (FlatList, Walked)
     ensures found { found_in result.1 result.0 ≡ found }
     ensures whole { result.1 ≡ Walked.Whole → all_left left.items ≡ [] }
@@ -185,7 +198,7 @@ fn made<G: Ground>(
     Ok(jobs)
 }
 
-// The list of all logs. The names that the jobs kept are dropped before, and where there are several hosts meanwhile.
+// The list of all logs. The names that the jobs kept are dropped before or, if there are several hosts, meanwhile.
 fn listed<W: Threads + Sync>(
     rt: &W,
     alloc: Global,
@@ -210,7 +223,7 @@ fn listed<W: Threads + Sync>(
     list
 }
 
-// The entries of each job, whose readers go back, and the names that it kept.
+// The entries of each job and the names that it kept. The readers go back to the files.
 fn opened<G: Ground>(
     alloc: Global,
     ground: &mut G,

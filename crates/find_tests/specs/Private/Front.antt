@@ -1,4 +1,4 @@
--- How far the pieces before the first `*` match a text, and what that says of the whole. Our own.
+-- How far the pieces before the first `*` match a text, and the conclusion for the whole. Our own.
 use Rattle.std.specs.Prelude.{◌≡◌, ℕ, ◌<◌, ◌≤◌, Bool, true, false, List, [], ◌∷◌, length}
 use Rattle.std.specs.Str.{chars}
 use Rattle.find_tests.specs.declared.matching.Front.{Front}
@@ -13,7 +13,7 @@ abbrev pub takes_first : Class → List ℕ → Bool
 takes_first class [] = false
 takes_first class (c ∷ text) = takes class c
 
--- the pieces match the text as `*` and what stands behind it match the rest, also where a `*` stands before them
+-- the pieces match the text as `*` and the pieces after it match the rest, also if a `*` is before them
 pub record IsCarried (pieces : List Piece) (text : List ℕ) (behind : List Piece) (rest : List ℕ) : Type 0 where
   pub alone : matches pieces (chars text) ≡ matches (AnyText ∷ behind) (chars rest)
   pub starred : matches (AnyText ∷ pieces) (chars text) ≡ matches (AnyText ∷ behind) (chars rest)
