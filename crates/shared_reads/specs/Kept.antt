@@ -1,4 +1,4 @@
--- What workers found, and how many failed reads it tells. Our own.
+-- The outcomes of workers, and how many failed reads they report. Our own.
 use Rattle.std.specs.Prelude.{◌≡◌, ℕ, ◌<◌, List, ◌++◌, length, Option, Some, None, All, Vec, slice_index_or}
 use Rattle.std.specs.declared.alloc.Global.{Global}
 use Rattle.std.specs.List.{sum_by}
@@ -6,15 +6,15 @@ use Rattle.shared_reads.specs.declared.keeping.Found.{Found}
 use Rattle.shared_reads.specs.declared.keeping.Kept.{Kept}
 
 module _ {O : Type 0} where
-  -- what was found is so of its place
+  -- a found outcome is one that its place may have
   abbrev pub IsTold : (ℕ → O → Type 0) → Found O → Type 0
   IsTold P f = P f.place f.outcome
 
-  -- all that was found is
+  -- so is each found outcome
   abbrev pub Holds : (ℕ → O → Type 0) → Kept O → Type 0
   Holds P kept = All (λ list. All (IsTold P) list.items) kept.lists.items
 
-  -- ---- what is given out
+  -- ---- the outcomes that are given out
 
   -- an outcome for a place is in a list
   pub record Stands (place : ℕ) (outcome : O) (found : List (Found O)) : Type 0 where
@@ -28,7 +28,7 @@ module _ {O : Type 0} where
     pub inside : of < length kept.lists.items
     pub own : (d : Vec (Found O) Global) → Stands place outcome (slice_index_or kept.lists.items of d).items
 
-  -- the end of a list was let go
+  -- the end of a list was dropped
   pub record IsCut (found found' : List (Found O)) : Type 0 where
     pub later : List (Found O)
     pub are : found ≡ found' ++ later
@@ -42,15 +42,15 @@ module _ {O : Type 0} where
   -- ---- failed reads
 
   module _ (faults : O → ℕ) where
-    -- how many failed reads an outcome tells, if there is one
+    -- how many failed reads an outcome reports, if there is one
     abbrev pub faults_of : Option O → ℕ
     faults_of None = 0
     faults_of (Some outcome) = faults outcome
 
-    -- and all that one worker found
+    -- and all outcomes of one worker
     abbrev pub all_faults : List (Found O) → ℕ
     all_faults found = sum_by (λ f. faults f.outcome) found
 
-    -- and all that is kept
+    -- and all kept outcomes
     abbrev pub held : Kept O → ℕ
     held kept = sum_by (λ list. all_faults list.items) kept.lists.items

@@ -9,9 +9,9 @@ use std::alloc::Global;
 /// Two buffers, each for one piece of a file.
 #[derive(Drop)]
 pub struct Desk {
-    /// The first one.
+    /// The first buffer.
     pub ours: Vec<u8>,
-    /// The second one.
+    /// The second buffer.
     pub theirs: Vec<u8>,
 }
 

@@ -9,7 +9,7 @@ use crate::sharing::Worker;
 use path_text::OutOfMemory;
 use std::alloc::Global;
 
-// So many desks.
+// This many desks.
 pub(crate) fn desks(alloc: Global, number: usize) -> Result<Vec<Desk>, OutOfMemory>
     ensures number { IfOk result (λ desks. length desks.items ≡ number) }
     ensures room { IfOk result (λ desks. All HasRoom desks.items) }
@@ -53,7 +53,7 @@ pub(crate) fn hired<R: Drop, O: Drop>(
     Ok(workers)
 }
 
-// The readers go back to where they were, and what the workers found is kept.
+// The readers go back to their positions, and the outcomes of the workers are kept.
 #[tactic(auto, using(crate::proofs::Hired::moved))]
 pub(crate) fn dismissed<R: Drop, O: Drop>(
     mut workers: Vec<Worker<R, O>>,

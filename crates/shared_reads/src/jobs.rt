@@ -1,4 +1,4 @@
-//! What readers share.
+//! The work that readers share.
 ghost use Rattle.std.specs.Prelude.{◌≡◌, ◌<◌, ℕ, Option, IfOk, IfSome};
 ghost use Rattle.outside.specs.Count.{RoseBy};
 ghost use Rattle.shared_reads.specs.Desks.{HasRoom};
@@ -8,24 +8,24 @@ use crate::desks::Desk;
 use outside::Tree;
 use path_text::OutOfMemory;
 
-/// Something that is read for each of some places, by any reader.
+/// Work at some places, for each of which any reader can read.
 pub trait Job<R: Tree, O> {
     ghost use Rattle.outside.specs.Tree.{Files};
 
     /// How many places there are.
     ghost places: { Self → ℕ };
 
-    /// Which outcomes a place may have, by a reader that may tell a tree.
+    /// The outcomes that a place may have, by a reader that may tell a tree.
     ghost told: { Self → Option Files → ℕ → O → Type 0 };
 
-    /// How many failed reads an outcome tells.
+    /// How many failed reads an outcome reports.
     ghost faults: { O → ℕ };
 
     /// How many places there are.
     fn len(&self) -> usize
         ensures { result ≡ places self.now };
 
-    /// Reads for a place. `None` is where there is nothing to be read.
+    /// Reads for a place. It gives `None` if there is nothing to read.
     fn read(&self, place: usize, reader: &mut R, desk: &mut Desk) -> Result<Option<O>, OutOfMemory>
         requires inside { place < places self.now }
         requires room { HasRoom desk.old }

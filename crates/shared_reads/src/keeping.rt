@@ -1,10 +1,10 @@
-//! What workers found.
+//! The outcomes of workers.
 ghost use Rattle.std.specs.Prelude.{◌≡◌, ℕ, ◌+◌, ◌≤◌, ◌++◌, ◌∷◌, [], OnErr, OnOk, IfSome};
 ghost use Rattle.shared_reads.specs.Kept.{Stands, IsKept, IsCut, AreCut, held, faults_of, all_faults};
 
 use path_text::OutOfMemory;
 
-/// What reading for a place came to.
+/// The outcome of reading for a place.
 #[derive(Drop)]
 pub struct Found<O> {
     /// The place.
@@ -13,7 +13,7 @@ pub struct Found<O> {
     pub outcome: O,
 }
 
-/// What all workers found, each in the order in which it did.
+/// The outcomes of all workers, those of each in the order in which it found them.
 #[derive(Drop)]
 pub struct Kept<O> {
     /// A list for each worker.
@@ -21,8 +21,8 @@ pub struct Kept<O> {
 }
 
 impl<O: Drop> Kept<O> {
-    /// What was found for a place, if it was kept. All that was found for later places is let go, so the last place is asked for
-    /// first.
+    /// The outcome for a place, if it was kept. The call drops the outcomes for later places, so a caller asks for the last
+    /// place first.
     pub fn take(&mut self, place: usize) -> Option<O>
         ensures kept { IfSome result (λ outcome. IsKept place outcome self.old) }
         ensures cut { AreCut self.old self.new }
@@ -37,7 +37,7 @@ impl<O: Drop> Kept<O> {
     }
 }
 
-// What one worker found for a place.
+// The outcome of one worker for a place.
 fn take_last<O: Drop>(list: &mut Vec<Found<O>>, place: usize) -> Option<O>
     ensures stands { IfSome result (λ outcome. Stands place outcome list.old.items) }
     ensures cut { IsCut list.old.items list.new.items }
@@ -57,7 +57,7 @@ fn take_last<O: Drop>(list: &mut Vec<Found<O>>, place: usize) -> Option<O>
     None
 }
 
-// Puts what was found behind the rest.
+// Puts an outcome after the rest.
 pub(crate) fn keep<O: Drop>(list: &mut Vec<Found<O>>, found: Found<O>) -> Result<(), OutOfMemory>
     ensures ok { OnOk result (list.new.items ≡ list.old.items ++ found ∷ []) }
     ensures err { OnErr result (list.new.items ≡ list.old.items) }
@@ -67,7 +67,8 @@ pub(crate) fn keep<O: Drop>(list: &mut Vec<Found<O>>, found: Found<O>) -> Result
     Ok(())
 }
 
-/// Makes room for one more. The list grows by an eighth, and by 65,600 at most, so that it takes little more than it has.
+/// Makes room for one more item. The list grows by an eighth, and by 65,600 items at most, so it takes little more memory
+/// than its items need.
 pub fn make_room<T: Drop>(list: &mut Vec<T>) -> Result<(), OutOfMemory>
     ensures { list.new.items ≡ list.old.items }
 {

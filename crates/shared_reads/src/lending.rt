@@ -6,7 +6,7 @@ use outside::Ground;
 use path_text::OutOfMemory;
 use std::alloc::Global;
 
-/// So many readers of the files as they are.
+/// This many readers of the files as they are.
 pub fn readers_of<G: Ground>(
     alloc: Global,
     files: &mut G,
@@ -26,7 +26,7 @@ pub fn readers_of<G: Ground>(
     Ok(readers)
 }
 
-/// Takes all readers back, and so adds their counts.
+/// Takes all readers back, and so adds their counts to the count of the files.
 pub fn take_back<G: Ground>(files: &mut G, readers: Vec<G::Reader>)
     ensures same { G.tree files.new ≡ G.tree files.old }
     ensures area { G.area files.new ≡ G.area files.old }

@@ -1,10 +1,10 @@
 //! Work that readers of files share, in threads.
 //!
-//! - A [`Job`] has places. What is to be read for each of them a reader reads at a [`Desk`], and it comes to an outcome.
-//! - [`read_all`] hires workers, each with a reader and a desk of its own. A worker takes the next place that none has taken, by a
-//!   shared count, so that one large file does not keep the others waiting. All readers come back to where they were.
-//! - [`Kept`] has what the workers found. [`Kept::take`] gives it out by its place, from the last place down. Where a worker had no
-//!   memory for an outcome there is none, and the caller reads for that place.
+//! - A [`Job`] has places. A reader at a [`Desk`] reads for a place, and the reading gives an outcome.
+//! - [`read_all`] hires workers, each with a reader and a desk of its own. A worker takes the next place that none has taken,
+//!   by a shared count. So one large file does not keep the others waiting. All readers come back to their positions.
+//! - [`Kept`] has the outcomes of the workers. [`Kept::take`] gives them out by place, from the last place down. If a worker
+//!   had no memory for an outcome, there is none, and the caller reads for that place.
 //! - [`readers_of`] makes readers of files, and [`take_back`] gives the files their counts.
 //!
 //! ```text
@@ -17,14 +17,14 @@
 //! }
 //! ```
 //!
-//! # What is proved
+//! # Proved
 //!
-//! An outcome that is given out for a place is one that the job may come to there, as the job's own relation says, over the tree
-//! that the readers tell. The failed reads of all outcomes that are kept are at most as many as the readers' counts rose together,
-//! or one of these stands at its end. No count falls, and each reader comes back to its place and tells what it told.
+//! The relation of the job says which outcomes a place may have, over the tree that the readers tell. [`Kept`] gives out for a
+//! place only such an outcome. The kept outcomes report at most as many failed reads as the readers' counts rose together, or
+//! one of these counts is at its end. No count falls. Each reader comes back to its position and tells the same tree.
 //!
-//! Nothing rests on the shared count: were a place taken twice, one of its outcomes would be let go. Not claimed: that threads ran
-//! side by side, that each place was taken, and that want of memory comes only where it was refused.
+//! Nothing rests on the shared count: if two workers took one place, one of its outcomes would be dropped. Not claimed: that
+//! threads ran side by side, that each place was taken, and that out of memory comes only if memory was refused.
 #![tactic(auto)]
 
 mod desks;

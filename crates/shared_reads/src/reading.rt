@@ -13,9 +13,9 @@ use path_text::OutOfMemory;
 use std::alloc::Global;
 use std::thread::Threads;
 
-/// Reads for the places of a job, in as many threads as hosts at most, each with a reader and a desk of its own. All readers are
-/// there again afterwards, in their order, also where memory was wanting. Beside what it answers it takes a desk and some hundred
-/// bytes for each thread.
+/// Reads for the places of a job, in as many threads as hosts at most, each with a reader and a desk of its own. All readers
+/// are there again afterwards, in their order, even if the call was out of memory. Besides the outcomes it takes memory for a
+/// desk and for some hundred bytes for each thread.
 pub fn read_all<W: Threads + Sync, R: Tree + Send + Drop, O: Send + Drop, J: Job<R, O> + Sync>(
     rt: &W,
     alloc: Global,
@@ -41,7 +41,7 @@ pub fn read_all<W: Threads + Sync, R: Tree + Send + Drop, O: Send + Drop, J: Job
     Ok(kept)
 }
 
-// How many workers there are use for: no more than threads, than readers, and than places.
+// How many workers are of use: no more than threads, than readers, and than places.
 fn worker_count(hosts: u32, readers: usize, places: usize) -> usize
     requires hosts { 1 ≤ hosts }
     requires readers { 1 ≤ readers }

@@ -1,4 +1,4 @@
-//! Workers that share the places of a job, in threads of their own. Each takes the next place that is left.
+//! Workers that share the places of a job, in threads of their own. Each takes the next place that none has taken.
 ghost use Rattle.std.specs.Prelude.{◌≡◌, ℕ, ◌<◌, [], length, All, slice_index_or};
 ghost use Rattle.shared_reads.specs.Desks.{HasRoom};
 ghost use Rattle.shared_reads.specs.Private.Sharing.{IsIdle, IsWorked};
@@ -13,7 +13,7 @@ use std::sync::atomic::Ordering::SeqCst;
 use std::thread;
 use std::thread::Threads;
 
-// A reader at a desk, and what it found.
+// A reader at a desk, and the outcomes that it found.
 #[derive(Drop)]
 pub(crate) struct Worker<R, O> {
     pub(crate) reader: R,
@@ -22,7 +22,7 @@ pub(crate) struct Worker<R, O> {
 }
 
 impl<R: Tree, O: Drop> Worker<R, O> {
-    // Reads for places, each time for the next one that no worker has taken. It stops where memory is wanting.
+    // Reads for places, each time for the next one that no worker has taken. It stops if it is out of memory.
     pub(crate) fn work<J: Job<R, O>>(&mut self, next: &AtomicU64, job: &J)
         requires { IsIdle self.old }
         ensures { IsWorked R.tree R.count (J.told job.now) J.faults self.old self.new }
@@ -43,7 +43,8 @@ impl<R: Tree, O: Drop> Worker<R, O> {
     fn read_at<J: Job<R, O>>(&mut self, place: usize, job: &J) -> Result<(), OutOfMemory>
         requires inside { place < J.places job.now }
         requires room { HasRoom self.old.desk }
-        ensures on { (before : Worker R O) → IsWorked R.tree R.count (J.told job.now) J.faults before self.old → IsWorked R.tree R.count (J.told job.now) J.faults before self.new }
+        ensures on { (before : Worker R O) → IsWorked R.tree R.count (J.told job.now) J.faults before self.old
+            → IsWorked R.tree R.count (J.told job.now) J.faults before self.new }
         ensures room { HasRoom self.new.desk }
     {
         if let Some(outcome) = job.read(place, &mut self.reader, &mut self.desk)? {
@@ -62,7 +63,8 @@ pub(crate) fn work_all<W: Threads + Sync, R: Tree + Send, O: Send + Drop, J: Job
 )
     requires hosts { 0 < hosts }
     requires idle { All IsIdle workers.old }
-    ensures { (k : ℕ) (d : Worker R O) → k < length workers.old → IsWorked R.tree R.count (J.told job.now) J.faults (slice_index_or workers.old k d) (slice_index_or workers.new k d) }
+    ensures { (k : ℕ) (d : Worker R O) → k < length workers.old
+        → IsWorked R.tree R.count (J.told job.now) J.faults (slice_index_or workers.old k d) (slice_index_or workers.new k d) }
 {
     let next = AtomicU64::new(0);
     thread::for_each_mut(rt, workers, hosts, &|_, worker| worker.work(&next, job));

@@ -13,7 +13,7 @@ use Rattle.tree_cmp.specs.Readers.{HaveCauses}
 use Rattle.tree_cmp.specs.Private.Reading.{ShowsMissing}
 use Rattle.tree_cmp.specs.Private.Sharing.{IsOf, IsSettled}
 use Rattle.tree_cmp.specs.Private.Parts.{side_missed, missed_at, missed_by, findings_of}
-use Rattle.tree_cmp.proofs.Finding.{of_map, side_is}
+use Rattle.tree_cmp.proofs.OneRow.{of_map, side_is}
 
 module _ {S : Type 0} (gives : Asks S) (tree : Option Files) (left right : List ℕ) where
   cause : (why : Missing) (d : Draft) → IsSettled gives tree left right d → (dest : Bool) → d.outcome ≡ Some (outcome.Missed dest why)

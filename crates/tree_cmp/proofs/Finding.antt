@@ -1,26 +1,20 @@
 -- The findings that settled rows make are those of the two sides.
-use Rattle.std.proofs.Common.{◌≡◌, ℕ, ◌+◌, Bool, true, false, not, ◌&&◌, ◌||◌, List, [], ◌∷◌, ◌++◌, map, length, refl, sym, subst, ap}
-use Rattle.std.proofs.Common.{◌∙◌, arith, cond, eqb, Option, Some, None, is_some, IfSome, IsTrue, All}
-use Rattle.std.specs.Prelude.{◌==◌}
-use Rattle.std.specs.List.{AllByRecursion, list_any, filter_map, cons_option, find}
+use Rattle.std.proofs.Common.{◌≡◌, ℕ, ◌+◌, Bool, true, false, not, ◌||◌, List, [], ◌∷◌, ◌++◌, map, refl, sym, subst, ap}
+use Rattle.std.proofs.Common.{◌∙◌, cond, eqb, Option, Some, None, is_some, IfSome, All}
+use Rattle.std.specs.List.{AllByRecursion, list_any, filter_map, cons_option}
 use Rattle.std.specs.List.Sorted.{IsStrictlySortedBy}
 use Rattle.std.specs.FinMap.{get}
 use Rattle.std.specs.Option.{option_map}
 use Rattle.std.specs.Cmp.Lexicographic.{pointwise, bytes_decides}
 use Rattle.std.specs.declared.cmp.Ordering.TheVariants.{Less}
-use Rattle.std.proofs.lemmas.Bool.{false≢true}
-use Rattle.std.proofs.lemmas.Bool.Decides.{nat_tests}
 use Rattle.std.proofs.lemmas.List.Elements.{recursion_from_All, All-from_recursion, All-append}
 use Rattle.std.proofs.lemmas.List.Folds.{list_any-append}
-use Rattle.std.proofs.lemmas.List.Sums.{sum_by-cons}
-use Rattle.path_text.specs.Order.{path_cmp, is_within}
+use Rattle.path_text.specs.Order.{path_cmp}
 use Rattle.path_text.specs.Graft.{below_of, grafted, GraftUndoesBelow}
 use Rattle.outside.specs.Asked.{Asks}
-use Rattle.outside.specs.Tree.{Files, Node, Body, stat_of, kind_of, size_of, is_file_body, bytes_of}
-use Rattle.outside.specs.declared.trees.Kind.TheVariants as kind
-use Rattle.outside.specs.declared.trees.Stat.{Stat}
+use Rattle.outside.specs.Tree.{Files}
 use Rattle.flat_list.specs.declared.entries.Entry.{Entry}
-use Rattle.flat_list.specs.Entries.{is_kind, size_by}
+use Rattle.flat_list.specs.Entries.{size_by}
 use Rattle.tree_cmp.specs.declared.items.Item.{Item}
 use Rattle.tree_cmp.specs.declared.drafts.Draft.{Draft}
 use Rattle.tree_cmp.specs.declared.reading.Missing.{Missing}
@@ -29,204 +23,20 @@ use Rattle.tree_cmp.specs.declared.reading.Outcome.{Outcome}
 use Rattle.tree_cmp.specs.declared.reading.Outcome.TheVariants as outcome
 use Rattle.tree_cmp.specs.declared.rows.Missed.{Missed}
 use Rattle.tree_cmp.specs.declared.rows.Row.{Row}
-use Rattle.tree_cmp.specs.Sides.{Side, IsSide, is_gone, entry_at, is_shown}
-use Rattle.tree_cmp.specs.Rows.{stat_at, is_read, are_files, sizes, unread, kinds, exist_of, two_of, has_value, same_bytes, IsContent, IsRow, row_path}
+use Rattle.tree_cmp.specs.Sides.{Side, IsSide, entry_at, is_shown}
+use Rattle.tree_cmp.specs.Rows.{stat_at, is_read, sizes, unread, kinds, exist_of, same_bytes, IsRow, row_path}
 use Rattle.tree_cmp.specs.Rows.{is_missed, WasToBeRead, IsComparison}
 use Rattle.tree_cmp.specs.Readers.{StatsTold}
 use Rattle.tree_cmp.specs.Private.Items.{items_of, at, to_read, links_at, content_before, draft_of, AreDrafts, paths}
 use Rattle.tree_cmp.specs.Private.Steps.{is_row}
 use Rattle.tree_cmp.specs.Private.Reading.{IsFileOf, Told}
-use Rattle.tree_cmp.specs.Private.Sharing.{ToldAt, IsOf, IsSettled, unsettled, some_counts, blames}
-use Rattle.tree_cmp.specs.Private.Parts.{content_by, row_by, side_missed, missed_at, missed_by, findings_of}
+use Rattle.tree_cmp.specs.Private.Sharing.{ToldAt, IsOf, IsSettled, unsettled}
+use Rattle.tree_cmp.specs.Private.Parts.{row_by, side_missed, missed_at, missed_by, findings_of}
 use Rattle.tree_cmp.proofs.Sided.{some-items, stat-items, shown-items}
 use Rattle.tree_cmp.proofs.Under.{not_itself, not_true}
 use Rattle.tree_cmp.proofs.Taken.{rows_there}
-
-both : (a b : Bool) → (a && b) ≡ true → (a ≡ true) × (b ≡ true)
-both true b e = (refl, e)
-both false b e = absurd (false≢true e)
-
--- ---- what an entry that is found is
-
-found_entry : (p : Entry → Bool) (es : List Entry) (e : Entry) → find p es ≡ Some e → (p e ≡ true) × ((P : Entry → Type 0) → AllByRecursion P es → P e)
-found_entry p [] e h = absurd cc
-found_entry p (x ∷ es) e h =
-    elim (p x) as (λ b. p x ≡ b → cond b (Some x) (find p es) ≡ Some e → (p e ≡ true) × ((P : Entry → Type 0) → AllByRecursion P (x ∷ es) → P e)) [
-      | true ↦ λ t g. let s : x ≡ e = cc in (subst (λ y. p y ≡ true) s t, λ P all. subst P s all.0)
-      | false ↦ λ t g. let r = found_entry p es e g in (r.0, λ P all. r.1 P all.1)
-    ] refl h
-
--- an entry at a path below the top of a side
-record Stands (s : Side) (p : List ℕ) (e : Entry) : Type 0 where
-  path : below_of e.path s.top ≡ p
-  whole : grafted s.top p ≡ e.path
-
-stands : GraftUndoesBelow → (s : Side) → IsSide s → (p : List ℕ) (e : Entry) → entry_at s p ≡ Some e → Stands s p e
-stands law s is p e h =
-    let f = found_entry (λ e. not (is_gone e.mark) && pointwise eqb (below_of e.path s.top) p) s.entries e h in
-    let path = (bytes_decides (below_of e.path s.top) p).0 (both (not (is_gone e.mark)) (pointwise eqb (below_of e.path s.top) p) f.0).1 in
-    record {
-      path = path;
-      whole = ap (grafted s.top) (sym path)
-          ∙ law e.path s.top (f.1 (λ e. IsTrue (is_within e.path s.top))
-          (recursion_from_All (λ (e : Entry). IsTrue (is_within e.path s.top)) s.entries is.within));
-    }
-
-stat_told : (files : Files) (s : Side) → StatsTold files s.entries → (p : List ℕ) (e : Entry) → entry_at s p ≡ Some e
-    → IfSome e.stat (λ stat. option_map stat_of (get files e.path) ≡ Some stat)
-stat_told files s told p e h =
-    (found_entry (λ e. not (is_gone e.mark) && pointwise eqb (below_of e.path s.top) p) s.entries e h).1
-    (λ e. IfSome e.stat (λ stat. option_map stat_of (get files e.path) ≡ Some stat))
-    (recursion_from_All (λ (e : Entry). IfSome e.stat (λ stat. option_map stat_of (get files e.path) ≡ Some stat)) s.entries told)
-
--- ---- files as they were told
-
-file_body : (b : Body) → is_kind kind.File (kind_of b) ≡ true → (is_file_body b ≡ true) × (length (bytes_of b) ≡ size_of b)
-file_body (Body.dir far) e = absurd (false≢true e)
-file_body (Body.file bytes) e = (refl, refl)
-file_body (Body.link text) e = absurd (false≢true e)
-file_body Body.other e = absurd (false≢true e)
-
-file_of : (node : Option Node) (s : Stat) → option_map stat_of node ≡ Some s → is_kind kind.File s.kind ≡ true → IsFileOf node s.size
-file_of None s e h = absurd cc
-file_of (Some n) s e h =
-    let same : stat_of n ≡ s = cc in
-    let f = file_body n.body (subst (λ (t : Stat). is_kind kind.File t.kind ≡ true) (sym same) h) in
-    record { is_file = f.0; size = f.1 ∙ ap (λ (t : Stat). t.size) same }
-
--- ---- two files that are to be read
-
-record AreRead (s t : Option Stat) : Type 0 where
-  one : Stat
-  other : Stat
-  one_is : s ≡ Some one
-  other_is : t ≡ Some other
-  one_file : is_kind kind.File one.kind ≡ true
-  other_file : is_kind kind.File other.kind ≡ true
-  same : one.size ≡ other.size
-
-same_number : (m n : ℕ) → (m == n) ≡ true → m ≡ n
-same_number m n e = grind (arith, nat_tests)
-
-are_read : (s t : Option Stat) → is_read s t ≡ true → AreRead s t
-are_read None t h = absurd (false≢true h)
-are_read (Some s) None h = absurd (false≢true h)
-are_read (Some s) (Some t) h =
-    let a = both (are_files s t) (s.size == t.size && not (s.size == 0)) h in
-    let f = both (is_kind kind.File s.kind) (is_kind kind.File t.kind) a.0 in
-    let n = both (s.size == t.size) (not (s.size == 0)) a.1 in
-    record { one = s; other = t; one_is = refl; other_is = refl; one_file = f.0; other_file = f.1; same = same_number s.size t.size n.0 }
-
-record AreEntries (a b : Option Entry) : Type 0 where
-  one : Entry
-  other : Entry
-  one_is : a ≡ Some one
-  other_is : b ≡ Some other
-
-are_entries : (a b : Option Entry) → is_read (stat_at a) (stat_at b) ≡ true → AreEntries a b
-are_entries None b h = absurd (false≢true h)
-are_entries (Some d) None h = absurd (never d.stat h)
-  where
-    never : (s : Option Stat) → is_read s None ≡ true → ⊥
-    never None h = false≢true h
-    never (Some s) h = false≢true h
-are_entries (Some d) (Some e) h = record { one = d; other = e; one_is = refl; other_is = refl }
-
-file_at : GraftUndoesBelow → (files : Files) (s : Side) → IsSide s → StatsTold files s.entries → (p : List ℕ) (e : Entry)
-    → entry_at s p ≡ Some e → (stat : Stat) → e.stat ≡ Some stat → is_kind kind.File stat.kind ≡ true
-    → IsFileOf (get files (grafted s.top p)) stat.size
-file_at law files s is told p e at stat has file =
-    subst (λ q. IsFileOf (get files q) stat.size) (sym (Stands.whole (stands law s is p e at)))
-    (file_of (get files e.path) stat
-    (subst (λ o. IfSome o (λ stat. option_map stat_of (get files e.path) ≡ Some stat)) has (stat_told files s told p e at)) file)
-
--- ---- a row
-
-abbrev gave_nothing : Option Outcome → Bool
-gave_nothing None = false
-gave_nothing (Some (outcome.Same same)) = false
-gave_nothing (Some (outcome.Missed dest why)) = true
-
-value_of_two : (b : Bool) → has_value (two_of b) ≡ true
-value_of_two true = refl
-value_of_two false = refl
-
-read_some : (s t : Option Stat) → is_read s t ≡ true → is_some (to_read s t) ≡ true
-read_some s t e = λ i. is_some (cond (e i) (Some (size_by s)) None)
-
-unread_none : (s t : Option Stat) → is_read s t ≡ false → is_some (to_read s t) ≡ false
-unread_none s t e = λ i. is_some (cond (e i) (Some (size_by s)) None)
-
-true_not_false : true ≡ false → ⊥
-true_not_false e = false≢true (sym e)
-
-content_row : (tree : Option Files) (a b : Option Entry) (o : Option Outcome) (c : Rattle.tree_cmp.specs.declared.rows.Two.Two) (m : Bool)
-    → c ≡ unread a b → is_some (to_read (stat_at a) (stat_at b)) ≡ is_some o → m ≡ gave_nothing o →
-    ((x : Bool) → o ≡ Some (outcome.Same x) → IfSome tree (λ files. x ≡ same_bytes files a b)) → IsContent tree m a b (content_by c o)
-content_row tree a b None c m e u g t =
-    let never : is_read (stat_at a) (stat_at b) ≡ true → ⊥ = λ r. true_not_false (sym (read_some (stat_at a) (stat_at b) r) ∙ u) in
-    record { not_read = λ r. e; unknown = λ r x. absurd (never r); known = λ r x. absurd (never r); told = λ r x. absurd (never r) }
-content_row tree a b (Some (outcome.Same x)) c m e u g t =
-    record {
-      not_read = λ r. absurd (true_not_false (sym u ∙ unread_none (stat_at a) (stat_at b) r));
-      unknown = λ r y. absurd (true_not_false (sym y ∙ g));
-      known = λ r y. value_of_two x;
-      told = λ r y. same_two tree (t x refl);
-    }
-  where
-    same_two : (tree : Option Files) → IfSome tree (λ files. x ≡ same_bytes files a b) → IfSome tree (λ files. two_of x ≡ two_of (same_bytes files a b))
-    same_two None h = tt
-    same_two (Some files) h = ap two_of h
-content_row tree a b (Some (outcome.Missed dest why)) c m e u g t =
-    record {
-      not_read = λ r. absurd (true_not_false (sym u ∙ unread_none (stat_at a) (stat_at b) r));
-      unknown = λ r y. refl;
-      known = λ r y. absurd (true_not_false (sym g ∙ y));
-      told = λ r y. absurd (true_not_false (sym g ∙ y));
-    }
-
--- ---- sides that were missed
-
-pub of_map : (f : Bool → Missed) (o : Option Bool) (m : Missed) → option_map f o ≡ Some m → (dest : Bool) × (o ≡ Some dest) × (m ≡ f dest)
-of_map f None m e = absurd cc
-of_map f (Some dest) m e = let s : f dest ≡ m = cc in (dest, refl, sym s)
-
-pub side_is : (why : Missing) (o : Option Outcome) (dest : Bool) → side_missed why o ≡ Some dest → o ≡ Some (outcome.Missed dest why)
-side_is why None dest e = absurd cc
-side_is why (Some (outcome.Same x)) dest e = absurd cc
-side_is missing.Failed (Some (outcome.Missed d missing.Failed)) dest e = let s : d ≡ dest = cc in ap (λ b. Some (outcome.Missed b missing.Failed)) s
-side_is missing.Failed (Some (outcome.Missed d missing.Changed)) dest e = absurd cc
-side_is missing.Changed (Some (outcome.Missed d missing.Failed)) dest e = absurd cc
-side_is missing.Changed (Some (outcome.Missed d missing.Changed)) dest e = let s : d ≡ dest = cc in ap (λ b. Some (outcome.Missed b missing.Changed)) s
-
-not_both_missed : (f : Bool → Missed) (o : Option Outcome) (m : Missed) → option_map f (side_missed missing.Failed o) ≡ Some m
-    → is_some (option_map f (side_missed missing.Changed o)) ≡ false
-not_both_missed f None m e = refl
-not_both_missed f (Some (outcome.Same x)) m e = refl
-not_both_missed f (Some (outcome.Missed d missing.Failed)) m e = refl
-not_both_missed f (Some (outcome.Missed d missing.Changed)) m e = absurd cc
-
-one_or_other : (f : Bool → Missed) (o : Option Outcome)
-    → (is_some (option_map f (side_missed missing.Failed o)) || is_some (option_map f (side_missed missing.Changed o))) ≡ gave_nothing o
-one_or_other f None = refl
-one_or_other f (Some (outcome.Same x)) = refl
-one_or_other f (Some (outcome.Missed d missing.Failed)) = refl
-one_or_other f (Some (outcome.Missed d missing.Changed)) = refl
-
-one_failed : (f : Bool → Missed) (o : Option Outcome) (rest : List Missed)
-    → length (cons_option (option_map f (side_missed missing.Failed o)) rest) ≡ some_counts o + length rest
-one_failed f None rest = omega arith
-one_failed f (Some (outcome.Same x)) rest = omega arith
-one_failed f (Some (outcome.Missed d missing.Failed)) rest = omega arith
-one_failed f (Some (outcome.Missed d missing.Changed)) rest = omega arith
-
--- as many reads failed as faults were told
-pub failed_count : (left right : List ℕ) (drafts : List Draft) → length (filter_map (missed_by missing.Failed left right) drafts) ≡ blames drafts
-failed_count left right [] = refl
-failed_count left right (d ∷ drafts) =
-    let one = one_failed (missed_at left right d.row.path) d.outcome (filter_map (missed_by missing.Failed left right) drafts) in
-    let h = failed_count left right drafts in
-    one ∙ ap (λ n. some_counts d.outcome + n) h ∙ sym (sum_by-cons (λ (x : Draft). some_counts x.outcome) d drafts)
+use Rattle.tree_cmp.proofs.OneRow.{Stands, stands, file_at, AreRead, are_read, AreEntries, are_entries}
+use Rattle.tree_cmp.proofs.OneRow.{gave_nothing, true_not_false, unread_none, content_row, of_map, side_is, not_both_missed, one_or_other}
 
 -- ---- rows as they were
 
@@ -270,8 +80,8 @@ module _ (law : GraftUndoesBelow) {S : Type 0} (gives : Asks S) (tree : Option F
   abbrev R : List Item
   R = items_of r.top r.entries
 
-  settled_row : (d : Draft) → unsettled d ≡ draft_of (links_at l r d.row.path) d.row.path (at d.row.path L) (at d.row.path R) → is_shown l r d.row.path ≡ true
-      → IsSettled gives tree l.top r.top d → Settled d
+  settled_row : (d : Draft) → unsettled d ≡ draft_of (links_at l r d.row.path) d.row.path (at d.row.path L) (at d.row.path R)
+      → is_shown l r d.row.path ≡ true → IsSettled gives tree l.top r.top d → Settled d
   settled_row d e s o =
       let p = d.row.path in
       let ll = stat-items l.top p l.entries in
@@ -287,7 +97,8 @@ module _ (law : GraftUndoesBelow) {S : Type 0} (gives : Asks S) (tree : Option F
       }
 
   -- an outcome is of two files that were to be read
-  was_read : (d : Draft) → Settled d → (o : Outcome) → d.outcome ≡ Some o → is_read (stat_at (entry_at l d.row.path)) (stat_at (entry_at r d.row.path)) ≡ true
+  was_read : (d : Draft) → Settled d → (o : Outcome) → d.outcome ≡ Some o
+      → is_read (stat_at (entry_at l d.row.path)) (stat_at (entry_at r d.row.path)) ≡ true
   was_read d s o e =
       elim (is_read (stat_at (entry_at l d.row.path)) (stat_at (entry_at r d.row.path))) as
       (λ b. is_read (stat_at (entry_at l d.row.path)) (stat_at (entry_at r d.row.path)) ≡ b → b ≡ true) [
@@ -404,7 +215,8 @@ module _ (law : GraftUndoesBelow) {S : Type 0} (gives : Asks S) (tree : Option F
     none_missed p (d ∷ ds) b g =
         elim (f d) as (λ o. f d ≡ o → is_missed l r (cons_option o (filter_map f ds)) p ≡ false) [
           | None ↦ λ e. none_missed p ds b.1 g.1
-          | Some m ↦ λ e. ap (λ t. t || is_missed l r (filter_map f ds) p) (other_row p d.row.path (row_path l r m) b.0 (g.0 m e)) ∙ none_missed p ds b.1 g.1
+          | Some m ↦ λ e.
+              ap (λ t. t || is_missed l r (filter_map f ds) p) (other_row p d.row.path (row_path l r m) b.0 (g.0 m e)) ∙ none_missed p ds b.1 g.1
         ] refl
 
     later_missed : (d : Draft) (all ds : List Draft) → ((m : Missed) → f d ≡ Some m → row_path l r m ≡ d.row.path)
@@ -459,7 +271,8 @@ module _ (law : GraftUndoesBelow) {S : Type 0} (gives : Asks S) (tree : Option F
       (cons_option o (filter_map (missed_by missing.Failed l.top r.top) ds))) [
         | None ↦ λ e. apart_from missed ds h.1 g.1
         | Some m ↦ λ e. (
-          ap (is_missed l r missed) (IsMiss.row (missed_is missing.Failed d h.0 m e)) ∙ g.0 ∙ not_both_missed (missed_at l.top r.top d.row.path) d.outcome m e,
+          ap (is_missed l r missed) (IsMiss.row (missed_is missing.Failed d h.0 m e)) ∙ g.0
+              ∙ not_both_missed (missed_at l.top r.top d.row.path) d.outcome m e,
           apart_from missed ds h.1 g.1,
         )
       ] refl
@@ -514,11 +327,13 @@ module _ (law : GraftUndoesBelow) {S : Type 0} (gives : Asks S) (tree : Option F
       AllByRecursion (λ d. is_missed l r (F ++ C) d.row.path ≡ gave_nothing d.outcome) ds
   nothing_here F C [] h g = tt
   nothing_here F C (d ∷ ds) h g = (
-    list_any-append (λ m. pointwise eqb (row_path l r m) d.row.path) F C ∙ (λ i. h.0 i || g.0 i) ∙ one_or_other (missed_at l.top r.top d.row.path) d.outcome,
+    list_any-append (λ m. pointwise eqb (row_path l r m) d.row.path) F C ∙ (λ i. h.0 i || g.0 i)
+        ∙ one_or_other (missed_at l.top r.top d.row.path) d.outcome,
     nothing_here F C ds h.1 g.1,
   )
 
-  all_settled : (ds : List Draft) → AllByRecursion (λ d. unsettled d ≡ draft_of (links_at l r d.row.path) d.row.path (at d.row.path L) (at d.row.path R)) ds
+  all_settled : (ds : List Draft)
+      → AllByRecursion (λ d. unsettled d ≡ draft_of (links_at l r d.row.path) d.row.path (at d.row.path L) (at d.row.path R)) ds
       → AllByRecursion (λ d. is_shown l r d.row.path ≡ true) ds → AllByRecursion (IsSettled gives tree l.top r.top) ds → AllByRecursion Settled ds
   all_settled [] h g o = tt
   all_settled (d ∷ ds) h g o = (settled_row d h.0 g.0 o.0, all_settled ds h.1 g.1 o.1)
@@ -536,7 +351,8 @@ module _ (law : GraftUndoesBelow) {S : Type 0} (gives : Asks S) (tree : Option F
       (map unsettled drafts) are.each) in
       let has : (p : List ℕ) → is_row p drafts ≡ is_shown l r p = λ p. sym (is_row-unsettled p drafts) ∙ are.shown p
       ∙ shown-items l.top r.top p l.entries r.entries in
-      let all = all_settled drafts each (are_shown drafts has drafts (rows_there drafts)) (recursion_from_All (IsSettled gives tree l.top r.top) drafts settled) in
+      let all = all_settled drafts each (are_shown drafts has drafts (rows_there drafts))
+      (recursion_from_All (IsSettled gives tree l.top r.top) drafts settled) in
       let sorted : IsStrictlySortedBy path_cmp (paths drafts) = subst (IsStrictlySortedBy path_cmp) (paths-unsettled drafts) are.ascend in
       let failed = follows missing.Failed drafts all in
       let changed = follows missing.Changed drafts all in

@@ -11,5 +11,6 @@ pub mod Pieces
 pub mod Sided
 pub mod Placed
 pub mod Parts
+pub mod OneRow
 pub mod Finding
 pub mod Causes

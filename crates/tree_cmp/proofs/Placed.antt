@@ -1,5 +1,6 @@
 -- Outcomes are put beside the rows, from the last one on.
-use Rattle.std.proofs.Common.{◌≡◌, ℕ, ◌+◌, ◌-◌, ◌<◌, ◌≤◌, List, [], ◌∷◌, map, length, set, get_or, get_or-set_same, get_or-set_other, length-set, refl, sym, subst}
+use Rattle.std.proofs.Common.{◌≡◌, ℕ, ◌+◌, ◌-◌, ◌<◌, ◌≤◌, List, [], ◌∷◌, map, length, refl, sym, subst}
+use Rattle.std.proofs.Common.{set, get_or, get_or-set_same, get_or-set_other, length-set}
 use Rattle.std.proofs.Common.{ap, ◌∙◌, arith, zero, suc, Option, Some, None, IfSome, All}
 use Rattle.std.proofs.lemmas.List.Sums.{sum_by-set}
 use Rattle.std.proofs.lemmas.List.{get_or-map, get_or_default}
@@ -50,7 +51,8 @@ pub unread_at : (drafts was : List Draft) (k : ℕ) (y : Draft) → map unsettle
     → y ≡ get_or drafts k y → get_or drafts k y ≡ get_or was k y → unsettled y ≡ y
 unread_at drafts was k y e inside long at front =
     let there : y ≡ get_or was k y = at ∙ front in
-    let still : get_or was k (unsettled y) ≡ unsettled (get_or was k y) = sym (ap (λ ds. get_or ds k (unsettled y)) e) ∙ get_or-map unsettled was k y (unsettled y) (omega arith) in
+    let still : get_or was k (unsettled y) ≡ unsettled (get_or was k y) = sym (ap (λ ds. get_or ds k (unsettled y)) e)
+    ∙ get_or-map unsettled was k y (unsettled y) (omega arith) in
     ap unsettled there ∙ sym still ∙ get_or_default was k (unsettled y) y (omega arith) ∙ sym there
 
 -- what was kept for a place is of its row

@@ -1,4 +1,4 @@
--- The readers of a comparison: the tree that they tell, their counts of faults, and what they answered where a read gave nothing. Our own.
+-- The readers of a comparison: the tree that they tell, their counts of faults, and their answers to reads that gave nothing. Our own.
 use Rattle.std.specs.Prelude.{◌≡◌, ℕ, List, [], ◌∷◌, Option, Some, None, Ok, Err, ◌⊎◌, IfSome, All}
 use Rattle.std.specs.FinMap.{get}
 use Rattle.std.specs.Option.{option_map}
@@ -35,7 +35,7 @@ pub record ShowsChange {S : Type 0} (gives : Asks S) (path : List ℕ) : Type 0 
   pub after : S
   pub read : LastRead gives path at (Ok 0) after ⊎ LastRead gives path at (Err NotFile) after
 
--- what is named as failed or changed was asked for at this very path, and answered so
+-- a read asked for each file that is named as failed or changed at this very path, and got that answer
 pub record HaveCauses {S : Type 0} (gives : Asks S) (found : Findings) : Type 0 where
   pub failed : All (λ m. ShowsFailure gives m.path) found.failed
   pub changed : All (λ m. ShowsChange gives m.path) found.changed

@@ -1,4 +1,4 @@
--- What the two sides of a comparison have. After the two lists that mpiFileUtils' dcmp makes of its paths; that nothing is told below a
+-- The two sides of a comparison. After the two lists that mpiFileUtils' dcmp makes of its paths; that nothing is compared below a
 -- path whose children are not all known is our own.
 use Rattle.std.specs.Prelude.{ℕ, Bool, true, false, not, ◌||◌, ◌&&◌, ◌==◌, List, Option, is_some, nat_eq, IsTrue, All}
 use Rattle.std.specs.List.{find, list_any}
@@ -32,7 +32,7 @@ is_gone mark.ListFailed = false
 is_gone mark.Gone = true
 is_gone mark.Changed = false
 
--- what is in it was not told
+-- its children were not listed
 abbrev pub is_closed : Mark → Bool
 is_closed mark.Fine = false
 is_closed mark.StatFailed = true
@@ -44,7 +44,7 @@ is_closed mark.Changed = true
 abbrev pub is_partial : Entry → Bool
 is_partial e = is_closed e.mark || not (e.far == 0)
 
--- what a side has at a path below its top: the entry there, unless it is gone
+-- the entry that a side has at a path below its top, unless it is gone
 abbrev pub entry_at : Side → List ℕ → Option Entry
 entry_at s p = find (λ e. not (is_gone e.mark) && pointwise nat_eq (below_of e.path s.top) p) s.entries
 

@@ -1,4 +1,4 @@
-//! What a comparison found.
+//! The findings of a comparison.
 ghost use Rattle.std.specs.Prelude.{◌≡◌, ◌<◌, ◌==◌, ◌++◌, [], length, Some, slice_get, IfOk, OnOk, map};
 ghost use Rattle.std.specs.List.{filter_map, cons_option};
 ghost use Rattle.tree_cmp.specs.Private.Parts.{content_by, row_by, side_missed, missed_at, missed_by, findings_of};
@@ -11,7 +11,7 @@ use path_text::Path;
 use std::alloc::Global;
 use std::marker::Model;
 
-/// What a comparison found: seen as its rows, the files whose reads failed, and those that reads showed to have changed.
+/// The findings of a comparison. Their value is the rows, the files whose reads failed, and the files that reads showed to have changed.
 #[derive(Debug, Drop)]
 pub struct Compared {
     rows: Vec<Row>,
@@ -28,7 +28,7 @@ impl Model for Compared {
 }
 
 impl Compared {
-    // What the rows make, once their files were read.
+    // The findings that the rows make after their files are read.
     pub(crate) fn of(
         alloc: Global,
         drafts: Vec<Draft>,
@@ -54,7 +54,7 @@ impl Compared {
         self.rows.len()
     }
 
-    /// Whether there are none.
+    /// Whether there are no rows.
     pub fn is_empty(&self) -> bool
         ensures { result ≡ (length self.now.rows == 0) }
     {
@@ -76,7 +76,7 @@ impl Compared {
         &self.failed
     }
 
-    /// The files of which a read found less than their stat had told, or no file, in the order of the rows.
+    /// The files of which a read found fewer bytes than their stat gives, or no file, in the order of the rows.
     pub fn changed(&self) -> &[Missed]
         ensures { result.now ≡ self.now.changed }
     {

@@ -1,4 +1,4 @@
-//! Two lists compared.
+//! The comparison of two lists.
 ghost use Rattle.std.specs.Prelude.{◌≡◌, ◌<◌, ◌≤◌, length, map, IfOk, OnOk, IfSome, All};
 ghost use Rattle.tree_cmp.specs.Sides.{side, IsSide};
 ghost use Rattle.tree_cmp.specs.Rows.{IsComparison};
@@ -18,10 +18,10 @@ use shared_reads::Desk;
 use std::alloc::Global;
 use std::thread::Threads;
 
-/// Compares two lists, each of a walk from its top. Two links are compared by the texts that the lists have; no reader is asked for
-/// them. The files of one size that both sides have are read, the source's first, up to the first piece that differs; files without
-/// bytes are not. `hosts`, 1 to 64, is how many threads read at most, each with a
-/// reader of its own. All readers are there again afterwards, in their order, also where memory was wanting.
+/// Compares two lists, each of a walk from its top. It compares two links by the texts that the lists have, and asks no reader for
+/// them. It reads the files that both sides have with one size, the source's first, up to the first piece that differs. It does not
+/// read files without bytes. `hosts`, 1 to 64, is how many threads read at most, each with a reader of its own. Afterwards `readers`
+/// has all readers in their order again, also if memory runs out.
 pub fn compare<W: Threads + Sync, R: Tree + Send + Drop>(
     rt: &W,
     alloc: Global,
@@ -51,7 +51,7 @@ pub fn compare<W: Threads + Sync, R: Tree + Send + Drop>(
     Compared::of(alloc, drafts, left_top, right_top)
 }
 
-// Reads the files of all rows that have some to be read.
+// Reads the files of all rows whose files are to be read.
 fn read_all<W: Threads + Sync, R: Tree + Send + Drop>(
     rt: &W,
     alloc: Global,

@@ -1,7 +1,8 @@
-//! Conditions on a row, and the texts that say them.
+//! Conditions on a row, and their texts.
 ghost use Rattle.std.specs.Prelude.{◌≡◌, ◌+◌, ◌<◌, ◌==◌, ◌^◌, not, length, IfSome};
 ghost use Rattle.std.specs.List.{position};
-ghost use Rattle.tree_cmp.specs.Expressions.{only_src, only_dest, on_both, agrees, differs, value_of, meets, exist_in, two_in, or_bad_state, condition_in, condition_reading};
+ghost use Rattle.tree_cmp.specs.Expressions.{only_src, only_dest, on_both, agrees, differs, value_of, meets};
+ghost use Rattle.tree_cmp.specs.Expressions.{exist_in, two_in, or_bad_state, condition_in, condition_reading};
 
 use crate::errors::ExprError;
 use crate::rows::{Exist, Row, Two};
@@ -14,20 +15,20 @@ pub(crate) enum Aspect {
     Content,
 }
 
-/// What is asked of a row.
+/// A condition on a row.
 #[derive(Clone, Copy, Debug, Drop, PartialEq, Eq)]
 pub(crate) enum Condition {
-    /// The path is on the source's side alone.
+    /// Its path is on the source's side alone.
     OnlySrc,
     /// It is on the destination's side alone.
     OnlyDest,
     /// It is on one side alone.
     OnOneSide,
-    /// It is on both.
+    /// It is on both sides.
     OnBoth,
-    /// The two agree in this.
+    /// The two sides agree in this field.
     Agree(Aspect),
-    /// They differ in it.
+    /// They differ in this field.
     Differ(Aspect),
 }
 
@@ -87,7 +88,7 @@ fn differs(two: Two) -> bool
     matches!(two, Two::Differ)
 }
 
-// The condition that a text says, which stands at this place.
+// The condition that a text gives. The text begins at this place of the expression.
 pub(crate) fn condition_at(at: usize, text: &[u8]) -> Result<Condition, ExprError>
     requires { at + length text.now < 2 ^ 64 }
     ensures { result ≡ condition_reading at text.now }
@@ -104,7 +105,7 @@ fn place_of_equals(text: &[u8]) -> Option<usize>
     text.iter().position(|b| *b == b'=')
 }
 
-// The condition of a field and a state, which stand at these places.
+// The condition of a field and a state, which begin at these places.
 fn condition_in(
     at: usize,
     behind: usize,

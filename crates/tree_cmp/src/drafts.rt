@@ -12,17 +12,17 @@ use crate::rows::{Exist, Row, Two};
 use outside::{Kind, LinkText, Stat};
 use path_text::Path;
 
-// A row, how many bytes of each of its two files are to be read, and what reading them came to.
+// A row, how many bytes of each of its two files are to be read, and the outcome of reading them.
 #[derive(Debug, Drop)]
 pub(crate) struct Draft {
-    // Until the files are read, its content says whether two links agree, and stands as its size of all else.
+    // Until the files are read, its content says whether two links agree, and is the same as its size for all else.
     pub(crate) row: Row,
     pub(crate) unread: Option<u64>,
     pub(crate) outcome: Option<Outcome>,
 }
 
 impl Draft {
-    // The row of what the sides have at a path, where it is known whether two links agree.
+    // The row of the items that the sides have at a path. `links` says whether two links agree.
     pub(crate) fn of(a: Option<Item>, b: Option<Item>, links: Two) -> Draft
         requires { (is_some a || is_some b) ≡ true }
         ensures draft { result ≡ draft_of links (path_of a b) a b }
@@ -78,7 +78,7 @@ fn item_stat(item: &Option<Item>) -> Option<Stat>
     }
 }
 
-// Whether two agree, where both are there.
+// Whether two values agree, if there are two.
 pub(crate) fn two_of(same: bool) -> Two
     ensures { result ≡ two_of same }
 {
@@ -134,7 +134,7 @@ fn content_before(links: Two, s: Option<Stat>, t: Option<Stat>) -> Two
     }
 }
 
-// Whether the texts of two links agree, where both are known.
+// Whether the texts of two links agree, if both are known.
 pub(crate) fn texts(a: &Option<LinkText>, b: &Option<LinkText>) -> Two
     ensures { result ≡ texts a.now b.now }
 {
@@ -144,7 +144,7 @@ pub(crate) fn texts(a: &Option<LinkText>, b: &Option<LinkText>) -> Two
     }
 }
 
-// How many bytes of two files are to be read: all, where there are some and both have as many.
+// How many bytes of each of two files are to be read: all, if both have the same number and it is not 0.
 fn to_read(s: Option<Stat>, t: Option<Stat>) -> Option<u64>
     ensures { result ≡ to_read s t }
 {

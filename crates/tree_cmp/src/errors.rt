@@ -1,12 +1,12 @@
-//! What can be wanting.
+//! The errors of a comparison, and of the text of an expression.
 use path_text::{JoinError, OutOfMemory};
 use std::alloc::{AllocError, AllocFailed};
 use thiserror::Error;
 
-/// Why lists are not compared.
+/// Why a comparison stops without findings.
 #[derive(Clone, Copy, Debug, Drop, PartialEq, Eq, Error)]
 pub enum CmpError {
-    /// No memory was found.
+    /// Memory runs out.
     #[error("out of memory")]
     OutOfMemory,
 }
@@ -29,26 +29,26 @@ impl<T: Drop> From<AllocFailed<T>> for CmpError {
     }
 }
 
-/// A path that is put back on the top under which it was found is not too long, so that memory alone can be wanting.
+/// A path that is joined again to its own top is not too long, so the one cause is that memory runs out.
 impl From<JoinError> for CmpError {
     fn from(_: JoinError) -> Self {
         CmpError::OutOfMemory
     }
 }
 
-/// Why a text is no expression.
+/// Why a text is not an expression.
 #[derive(Clone, Copy, Debug, Drop, PartialEq, Eq, Error)]
 pub enum ExprError {
-    /// The condition that begins at this byte has no `=`, or what stands before it is no field.
+    /// The condition that begins at this byte has no `=`, or the word before its `=` is not a field.
     #[error("no field at byte {0}")]
     BadField(usize),
-    /// What stands behind a `=`, from this byte on, is no state of the field.
+    /// The word after a `=`, which begins at this byte, is not a state of the field.
     #[error("no state at byte {0}")]
     BadState(usize),
     /// The text is empty.
     #[error("no expression")]
     Empty,
-    /// No memory was found.
+    /// Memory runs out.
     #[error("out of memory")]
     OutOfMemory,
 }

@@ -1,5 +1,6 @@
-//! Expressions that ask of a row.
-ghost use Rattle.std.specs.Prelude.{◌≡◌, ◌⊎◌, ◌+◌, ◌<◌, ◌==◌, ◌^◌, ◌∷◌, [], length, take, drop, map, Ok, Err, IfOk, IfErr, IfSome, IfNone};
+//! Expressions over a row.
+ghost use Rattle.std.specs.Prelude.{◌≡◌, ◌⊎◌, ◌+◌, ◌<◌, ◌==◌, ◌^◌, ◌∷◌, [], length, take, drop, map};
+ghost use Rattle.std.specs.Prelude.{Ok, Err, IfOk, IfErr, IfSome, IfNone};
 ghost use Rattle.std.specs.List.{list_all, list_any, slice_split, position};
 ghost use Rattle.tree_cmp.specs.Expressions.{holds, meets, expr_reading, terms_reading, term_reading};
 
@@ -9,8 +10,8 @@ use crate::rows::Row;
 use std::alloc::Global;
 use std::marker::Model;
 
-/// What is asked of a row: that all conditions of one term or another hold. It is seen as the list of its terms, each the list of
-/// its conditions.
+/// A test of a row. It holds if all conditions of at least one of its terms hold. Its value is the list of its terms, each the list
+/// of its conditions.
 #[derive(Debug, Drop)]
 pub struct Expr {
     terms: Vec<Vec<Condition>>,
@@ -46,9 +47,9 @@ fn all_met(term: &[Condition], row: &Row) -> bool
     term.iter().all(|condition| condition.is_met(row))
 }
 
-/// The expression that a text says, or its first offence from the left. An expression is one or more terms divided by `,`,
-/// and a term one or more conditions divided by `@`. A condition is `FIELD=STATE`: `EXIST` with `ONLY_SRC`, `ONLY_DEST`,
-/// `DIFFER` or `COMMON`, or `TYPE`, `SIZE` or `CONTENT` with `DIFFER` or `COMMON`.
+/// Reads the expression of a text, or gives the first error from the left. An expression is one or more terms divided by `,`, and a
+/// term is one or more conditions divided by `@`. A condition is `FIELD=STATE`: `EXIST` with `ONLY_SRC`, `ONLY_DEST`, `DIFFER` or
+/// `COMMON`, or `TYPE`, `SIZE` or `CONTENT` with `DIFFER` or `COMMON`.
 pub fn parse_expr(alloc: Global, text: &str) -> Result<Expr, ExprError>
     ensures ok { IfOk result (λ expr. expr_reading text.now ≡ Ok expr) }
     ensures refused { IfErr result (λ e. (expr_reading text.now ≡ Err e) ⊎ (e ≡ ExprError.OutOfMemory)) }
@@ -78,7 +79,7 @@ fn terms_in(alloc: Global, text: &[u8]) -> Result<Vec<Vec<Condition>>, ExprError
     Ok(terms)
 }
 
-// The conditions of a term that stands at this place, divided by `@`.
+// The conditions of a term that begins at this place, divided by `@`.
 fn term_at(alloc: Global, at: usize, text: &[u8]) -> Result<Vec<Condition>, ExprError>
     requires { at + length text.now < 2 ^ 63 }
     ensures ok { IfOk result (λ term. term_reading at (slice_split (λ b. b == 64) text.now) ≡ Ok term.items) }

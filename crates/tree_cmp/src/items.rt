@@ -9,7 +9,7 @@ use flat_list::{Cursor, Entry, Mark};
 use outside::Stat;
 use path_text::{OutOfMemory, Path};
 
-// What a side has at a path below its top. The text of a link stays in the list.
+// An entry of a side, by its path below the top. The text of a link stays in the list.
 #[derive(Debug, Drop)]
 pub(crate) struct Item {
     pub(crate) path: Path,

@@ -2,17 +2,17 @@
 ghost use Rattle.tree_cmp.specs.Laws.{FaultsAreTold};
 ghost use Rattle.tree_cmp.specs.Worked.{WorkedExpressions, WorkedRows};
 
-/// What the definition says of two small trees, as it is worked out by hand.
+/// The definition's answers for two small trees, worked out by hand.
 pub fn worked_rows()
     ensures { WorkedRows }
 {}
 
-/// What some texts say as expressions, as it is worked out by hand.
+/// The expressions of some texts, worked out by hand.
 pub fn worked_expressions()
     ensures { WorkedExpressions }
 {}
 
-/// Where no count of the readers rose, and none stands at its end, no read failed.
+/// If no count of the readers rose, and no count is at its end, no read failed.
 pub fn faults_are_told()
     ensures { FaultsAreTold }
 {}

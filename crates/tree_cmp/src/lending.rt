@@ -1,4 +1,4 @@
-//! Two lists compared, with readers that files lend.
+//! The comparison of two lists with readers that the files lend.
 ghost use Rattle.std.specs.Prelude.{◌≡◌, ◌≤◌, length, IfOk, IfSome};
 ghost use Rattle.outside.specs.Count.{RoseBy};
 ghost use Rattle.tree_cmp.specs.Readers.{HaveCauses, StatsTold};
@@ -15,8 +15,8 @@ use shared_reads::{readers_of, take_back};
 use std::alloc::Global;
 use std::thread::Threads;
 
-/// Compares two lists as [`compare`] does, with a reader of the files for each host, 1 to 64. All readers are taken back, also where
-/// memory was wanting, and so the files count what the readers counted.
+/// Compares two lists as [`compare`] does, with a reader of the files for each host. `hosts` is 1 to 64. The files take back all
+/// readers, also if memory runs out, and so count the faults that the readers counted.
 pub fn compare_files<T: Threads + Sync, G: Ground>(
     rt: &T,
     alloc: Global,

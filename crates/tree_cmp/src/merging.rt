@@ -1,10 +1,11 @@
-//! The two sides laid beside each other.
+//! The merge of the two sides.
 ghost use Rattle.std.specs.Prelude.{◌≡◌, ◌++◌, ◌||◌, true, OnOk, IfOk, IfSome, is_some, if◌then◌else◌, None, Some};
 ghost use Rattle.path_text.specs.Path.{refusal};
 ghost use Rattle.tree_cmp.specs.Sides.{side, IsSide};
 ghost use Rattle.tree_cmp.specs.Rows.{target_at, texts};
 ghost use Rattle.tree_cmp.specs.Private.Items.{items_of, links_at, AreDrafts};
-ghost use Rattle.tree_cmp.specs.Private.Steps.{ahead, current, side_of, IsSound, HasSoundEnds, left_of, order_by, path_of, is_partial_item, under_some, hidden_after, row_after, Ascend};
+ghost use Rattle.tree_cmp.specs.Private.Steps.{ahead, current, side_of, IsSound, HasSoundEnds, left_of, order_by, path_of, is_partial_item};
+ghost use Rattle.tree_cmp.specs.Private.Steps.{under_some, hidden_after, row_after, Ascend};
 
 use crate::drafts::{Draft, texts};
 use crate::items::{Feed, Item};
@@ -17,7 +18,7 @@ use std::alloc::Global;
 use std::cmp::Ordering;
 use std::mem;
 
-// A side of which the next item has been looked at.
+// A side and its next item.
 #[derive(Debug, Drop)]
 pub(crate) struct Ends<'a> {
     next: Option<Item>,
@@ -35,7 +36,7 @@ impl<'a> Ends<'a> {
         Ok(Ends { next, feed })
     }
 
-    // Takes the next item, where it is wanted.
+    // Takes the next item, if it is wanted.
     fn pop_if(&mut self, wanted: bool) -> Result<Option<Item>, OutOfMemory>
         requires { HasSoundEnds self.old }
         ensures sound { OnOk result (HasSoundEnds self.new) }
@@ -70,7 +71,8 @@ pub(crate) fn drafts_of(
 ) -> Result<Vec<Draft>, OutOfMemory>
     requires left { IsSide (side left_top.now left.now) }
     requires right { IsSide (side right_top.now right.now) }
-    ensures { IfOk result (λ drafts. AreDrafts (links_at (side left_top.now left.now) (side right_top.now right.now)) (items_of left_top.now left.now) (items_of right_top.now right.now) drafts.items) }
+    ensures { IfOk result (λ drafts. AreDrafts (links_at (side left_top.now left.now) (side right_top.now right.now))
+        (items_of left_top.now left.now) (items_of right_top.now right.now) drafts.items) }
 {
     below_keeps_order();
     let left = Feed {
@@ -110,7 +112,7 @@ fn merged<'a>(alloc: Global, left: Feed<'a>, right: Feed<'a>) -> Result<Vec<Draf
     Ok(drafts)
 }
 
-// Adds the row of what the sides have at a path, unless the path is hidden.
+// Adds the row of the items that the sides have at a path, unless the path is hidden.
 fn add(
     drafts: &mut Vec<Draft>,
     hidden: &mut Option<Path>,
@@ -135,11 +137,12 @@ fn add(
     Ok(())
 }
 
-// Whether the texts of two links agree, where the next item of both sides is a link.
+// Whether the texts of two links agree, if the next item of both sides is a link.
 fn links_of<'a>(left: &Ends<'a>, right: &Ends<'a>) -> Two
     requires left { HasSoundEnds left.now }
     requires right { HasSoundEnds right.now }
-    ensures { is_some left.now.next ≡ true → is_some right.now.next ≡ true → result ≡ texts (target_at (current left.now.feed)) (target_at (current right.now.feed)) }
+    ensures { is_some left.now.next ≡ true → is_some right.now.next ≡ true
+        → result ≡ texts (target_at (current left.now.feed)) (target_at (current right.now.feed)) }
 {
     if left.next.is_none() || right.next.is_none() {
         return Two::NoValue;

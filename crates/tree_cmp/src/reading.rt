@@ -15,7 +15,7 @@ use std::mem;
 pub(crate) enum Missing {
     // The outside failed.
     Failed,
-    // There were fewer bytes than told, or no file.
+    // There were fewer bytes than the stat gives, or no file.
     Changed,
 }
 
@@ -33,12 +33,12 @@ impl From<ReadError> for Missing {
     }
 }
 
-// What reading two files came to.
+// The outcome of reading two files.
 #[derive(Clone, Copy, Debug, Drop, PartialEq, Eq)]
 pub(crate) enum Outcome {
     // Whether the bytes are the same.
     Same(bool),
-    // A file was not read: the source's, or the destination's where it is true.
+    // A file was not read: the destination's if the first field is true, and else the source's.
     Missed(bool, Missing),
 }
 
@@ -80,7 +80,8 @@ pub(crate) fn same_bytes<R: Tree>(
 ) -> Outcome
     requires some { 0 < length ours.old }
     requires as_long { length theirs.old ≡ length ours.old }
-    ensures told { IfSome (R.tree reader.old) (λ files. IsFileOf (get files left.now) size → IsFileOf (get files right.now) size → Told (get files left.now) (get files right.now) result) }
+    ensures told { IfSome (R.tree reader.old) (λ files. IsFileOf (get files left.now) size → IsFileOf (get files right.now) size
+        → Told (get files left.now) (get files right.now) result) }
     ensures same { R.tree reader.new ≡ R.tree reader.old }
     ensures cause { RoseBy (counts result) (R.count reader.old) (R.count reader.new) }
     ensures shows { Shows R.gives left.now right.now result }

@@ -1,36 +1,36 @@
-//! What a comparison tells.
+//! The rows of a comparison, and the files that it did not read.
 use path_text::Path;
 
 /// On which side a path is.
 #[derive(Clone, Copy, Debug, Drop, PartialEq, Eq)]
 pub enum Exist {
-    /// On the source's alone.
+    /// On the source's side alone.
     OnlySrc,
-    /// On the destination's alone.
+    /// On the destination's side alone.
     OnlyDest,
-    /// On both.
+    /// On both sides.
     Common,
 }
 
-/// Whether two agree.
+/// Whether two values agree.
 #[derive(Clone, Copy, Debug, Drop, PartialEq, Eq)]
 pub enum Two {
-    /// They do.
+    /// They agree.
     Common,
-    /// They do not.
+    /// They differ.
     Differ,
-    /// There are not two to be compared, or one of them could not be read.
+    /// There are not two values, or one of them could not be read.
     NoValue,
 }
 
-/// What a comparison tells of a path.
+/// The comparison's answer for a path.
 #[derive(Debug, Drop)]
 pub struct Row {
     /// The path below the two tops, `/` for the tops themselves.
     pub path: Path,
     /// On which side it is.
     pub exist: Exist,
-    /// Whether the kinds agree, where both sides have a stat.
+    /// Whether the kinds agree, if both sides have a stat.
     pub kind: Two,
     /// Whether the sizes of two files agree.
     pub size: Two,
@@ -41,7 +41,7 @@ pub struct Row {
 /// A file that was to be read and was not.
 #[derive(Debug, Drop)]
 pub struct Missed {
-    /// Its path, with that of its side's top.
+    /// Its whole path, which begins with the path of its side's top.
     pub path: Path,
     /// Whether it is the destination's.
     pub dest: bool,

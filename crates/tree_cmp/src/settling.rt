@@ -1,4 +1,4 @@
-//! What workers found is put beside the rows.
+//! The outcomes that workers found come beside their rows.
 ghost use Rattle.std.specs.Prelude.{◌≡◌, map, All, OnOk, IfSome};
 ghost use Rattle.shared_reads.specs.Counts.{KeepsUp};
 ghost use Rattle.shared_reads.specs.Desks.{HasRoom};
@@ -14,7 +14,7 @@ use outside::Tree;
 use path_text::Path;
 use shared_reads::{Desk, Kept};
 
-// Puts what workers kept beside the rows, and lets the reader read what is left.
+// Puts the outcomes that workers kept beside their rows, and lets the reader read the files of the other rows.
 pub(crate) fn settle<R: Tree>(
     drafts: &mut Vec<Draft>,
     left: &Path,
@@ -40,7 +40,7 @@ pub(crate) fn settle<R: Tree>(
     Ok(())
 }
 
-// Puts an outcome beside a row, if its files are to be read: what a worker kept, or what the reader finds.
+// Puts an outcome beside a row, if its files are to be read: the one that a worker kept, or the one that the reader finds.
 fn settle_draft<R: Tree>(
     draft: &mut Draft,
     left: &Path,

@@ -13,7 +13,7 @@ use outside::Tree;
 use path_text::{OutOfMemory, Path};
 use shared_reads::{Desk, Job};
 
-// The rows whose files are to be read, and the two tops. A row has the place at which it stands.
+// The rows whose files are to be read, among all rows, and the two tops. A row's place is its index.
 #[derive(Drop)]
 pub(crate) struct Work<'a> {
     pub(crate) drafts: &'a [Draft],

@@ -13,7 +13,7 @@ pub record IsIdle {R O : Type 0} (w : Worker R O) : Type 0 where
   pub room : HasRoom w.desk
 
 module _ {R O : Type 0} (tree : R → Option Files) (count : R → ℕ) (told : Option Files → ℕ → O → Type 0) (faults : O → ℕ) where
-  -- what a worker comes to
+  -- the work of a worker: its outcomes, its reader and its desk afterwards
   pub record IsWorked (w w' : Worker R O) : Type 0 where
     pub found : All (IsTold (told (tree w.reader))) w'.found.items
     pub same : tree w'.reader ≡ tree w.reader

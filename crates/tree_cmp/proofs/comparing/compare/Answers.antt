@@ -5,7 +5,8 @@ use Rattle.tree_cmp.specs.Readers.{first_told, HaveCauses, RoseTogether}
 use Rattle.tree_cmp.specs.Private.Items.{items_of, links_at, AreDrafts}
 use Rattle.tree_cmp.specs.Private.Parts.{findings_of}
 use Rattle.tree_cmp.proofs.Counts.{NoneFell-same}
-use Rattle.tree_cmp.proofs.Finding.{comparison, fresh, failed_count}
+use Rattle.tree_cmp.proofs.Finding.{comparison, fresh}
+use Rattle.tree_cmp.proofs.OneRow.{failed_count}
 use Rattle.tree_cmp.proofs.Causes.{causes}
 use Rattle.tree_cmp.proofs.comparing.compare.Goals as goal
 

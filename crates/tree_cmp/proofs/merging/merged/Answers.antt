@@ -44,7 +44,8 @@ pub returns : goal.returns
 returns c =
     subst (λ k. AreDrafts k (ahead c.args.left) (ahead c.args.right) c.loop-right.drafts.items)
     (λ i. links_at (c.in_ok-left.ensures.side i) (c.in_ok-right.ensures.side i))
-    (ended (links_at (side_of c.in_ok-left.left.feed) (side_of c.in_ok-right.right.feed)) c.loop-right.hidden c.loop-right.left.next c.loop-right.right.next (ahead c.loop-right.left.feed) (ahead c.loop-right.right.feed)
+    (ended (links_at (side_of c.in_ok-left.left.feed) (side_of c.in_ok-right.right.feed))
+    c.loop-right.hidden c.loop-right.left.next c.loop-right.right.next (ahead c.loop-right.left.feed) (ahead c.loop-right.right.feed)
     (left_of c.in_ok-left.left) (left_of c.in_ok-right.right) (ahead c.args.left) (ahead c.args.right) c.loop-right.drafts.items
     c.if-is_some.ensures c.if-is_some-2.ensures c.loop-right.invariant.left.last c.loop-right.invariant.right.last
     c.loop-right.invariant.goes c.in_ok-left.ensures.same c.in_ok-right.ensures.same)

@@ -1,4 +1,5 @@
-use Rattle.std.proofs.Common.{rules, arith, ◌≡◌, ◌<◌, ◌≤◌, ◌+◌, ◌-◌, ℕ, length, length-set, get_or-set_other, ap, sym, subst, refl, ◌∙◌}
+use Rattle.std.proofs.Common.{rules, arith, ◌≡◌, ◌<◌, ◌≤◌, ◌+◌, ◌-◌, ℕ, length, ap, sym, subst, refl, ◌∙◌}
+use Rattle.std.proofs.Common.{length-set, get_or-set_other}
 use Rattle.shared_reads.specs.Kept.{IsKept}
 use Rattle.shared_reads.proofs.Counted.{kept_then, kept_less, kept_first}
 use Rattle.shared_reads.proofs.Taken.{holds_kept, holds_cut}
@@ -26,8 +27,8 @@ settle_draft-requires-clause-unread g c =
     let i = c.loop-place.invariant in
     let place = c.loop-place.place - 1 in
     let y = c.index_mut.result.now in
-    unread_at c.loop-place.drafts.items c.args.drafts.now.items place y c.requires.unread (let h = i.inside in omega arith) (sym i.as_many) c.index_mut.ensures.value
-    (i.front place y (omega arith))
+    unread_at c.loop-place.drafts.items c.args.drafts.now.items place y c.requires.unread (let h = i.inside in omega arith)
+    (sym i.as_many) c.index_mut.ensures.value (i.front place y (omega arith))
 
 pub settle_draft-requires-clause-told : goal.settle_draft-requires-clause-told
 settle_draft-requires-clause-told g c =
@@ -44,8 +45,8 @@ settle_draft-requires-clause-told g c =
 
 pub returns-in_err-settle_draft-clause-unsettled : goal.returns-in_err-settle_draft-clause-unsettled
 returns-in_err-settle_draft-clause-unsettled g c =
-    set_unsettled c.loop-place.drafts.items c.args.drafts.now.items (c.loop-place.place - 1) c.settle_draft.new.draft c.index_mut.result.now c.index_mut.result.now
-    c.loop-place.invariant.rows c.in_err-settle_draft.ensures.unsettled c.index_mut.ensures.value
+    set_unsettled c.loop-place.drafts.items c.args.drafts.now.items (c.loop-place.place - 1) c.settle_draft.new.draft
+    c.index_mut.result.now c.index_mut.result.now c.loop-place.invariant.rows c.in_err-settle_draft.ensures.unsettled c.index_mut.ensures.value
 
 pub returns-in_err-settle_draft-clause-counted : goal.returns-in_err-settle_draft-clause-counted
 returns-in_err-settle_draft-clause-counted g c =
