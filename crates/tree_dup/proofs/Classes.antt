@@ -8,24 +8,25 @@ use Rattle.std.proofs.lemmas.Bool.{false≢true}
 use Rattle.std.proofs.lemmas.List.{get_or_default, get_or-map, length-map}
 use Rattle.std.proofs.lemmas.List.Elements.{All-nil, All-head, All-tail, All-append, All-filter, All-map, filter_passes}
 use Rattle.std.proofs.lemmas.List.Sums.{count_by-le-length, length-filter, sum_by-cons}
-use Rattle.std.proofs.lemmas.List.Sorted.{All-permutation, length_permutation}
-use Rattle.sha2.specs.Sha256.{sha256}
+use Rattle.std.proofs.lemmas.List.Sorted.{All-permutation}
 use Rattle.path_text.specs.Order.{path_cmp}
 use Rattle.outside.specs.Asked.{Asks}
 use Rattle.outside.specs.Tree.{Files, content}
 use Rattle.flat_list.specs.declared.entries.Entry.{Entry}
 use Rattle.tree_dup.specs.Told.{Told, Grouping}
 use Rattle.tree_cmp.specs.Readers.{ShowsFailure, ShowsChange}
-use Rattle.tree_dup.specs.Grouping.{has, is_read, is_sized, HaveCauses}
+use Rattle.tree_dup.specs.Grouping.{has, is_read, is_sized, HaveCauses, ShowsWhole, AreWhole}
 use Rattle.tree_dup.specs.declared.filling.Missing.TheVariants.{Failed, Changed}
 use Rattle.tree_dup.specs.declared.runs.Standing.{Standing}
 use Rattle.tree_dup.specs.declared.runs.Standing.TheVariants.{Alike, Other, Missed}
 use Rattle.tree_dup.specs.declared.runs.File.{File}
+use Rattle.tree_dup.specs.Private.Hashing.{IsWhole}
 use Rattle.tree_dup.specs.Private.Dealing.{AreDealt}
 use Rattle.tree_dup.specs.Private.Piles.{times}
 use Rattle.tree_dup.specs.Private.Running.{HasContent, standing_alike, standing_other, standing_failed, standing_changed, is_alike, is_other, is_failed}
 use Rattle.tree_dup.specs.Private.Running.{is_changed}
-use Rattle.tree_dup.specs.Private.Running.{still, paths_of, IsThere, Stands, StandsTo, AreSettled, Shows, StandingShows, KeepsUp, failures, failures_of}
+use Rattle.shared_reads.specs.Counts.{KeepsUp}
+use Rattle.tree_dup.specs.Private.Running.{still, paths_of, IsThere, Stands, StandsTo, AreSettled, Shows, StandingShows, failures, failures_of}
 use Rattle.tree_dup.specs.Private.Sifting.{IsHashed, IsMade, HaveBytes, AreMissed, misses, piles_of}
 use Rattle.tree_dup.proofs.Piled.{one_if, times-cons, times-append, times-permutation, have}
 use Rattle.tree_dup.proofs.Parted.{AreParted, Differ, parted_divided}
@@ -111,8 +112,8 @@ all_still P to from files files' e h k d l =
 pub hashed_still : (tree : Option Files) (list : List Entry) (files files' : List File) → map still files' ≡ map still files →
     All (IsHashed tree list) files → All (IsHashed tree list) files'
 hashed_still tree list files files' = all_still (IsHashed tree list)
-    (λ f h. record { sized = h.sized; read = h.read; there = by tree f h.there; digest = h.digest })
-    (λ f h. record { sized = h.sized; read = h.read; there = back tree f h.there; digest = h.digest }) files files'
+    (λ f h. record { sized = h.sized; read = h.read; there = by tree f h.there; hash = h.hash })
+    (λ f h. record { sized = h.sized; read = h.read; there = back tree f h.there; hash = h.hash }) files files'
   where
     by : (t : Option Files) (f : File) → IfSome t (λ files. IsThere files f) → IfSome t (λ files. IsThere files (still f))
     by None f h = tt
@@ -122,12 +123,12 @@ hashed_still tree list files files' = all_still (IsHashed tree list)
     back None f h = tt
     back (Some t) f h = record { is_file = h.is_file; size = h.size }
 
-pub content_still : (size : ℕ) (digest : List ℕ) (files files' : List File) → map still files' ≡ map still files →
-    All (HasContent size digest) files → All (HasContent size digest) files'
-content_still size digest = all_still (HasContent size digest) (λ f h. record { of_size = h.of_size; of_digest = h.of_digest }) (λ f h. record {
+pub content_still : (size hash : ℕ) (files files' : List File) → map still files' ≡ map still files →
+    All (HasContent size hash) files → All (HasContent size hash) files'
+content_still size hash = all_still (HasContent size hash) (λ f h. record { of_size = h.of_size; of_hash = h.of_hash }) (λ f h. record {
   of_size =
       h.of_size;
-  of_digest = h.of_digest;
+  of_hash = h.of_hash;
 })
 
 no_still : (test : File → Bool) → ((f : File) → test (still f) ≡ false) → (files : List File) → filter test (map still files) ≡ []
@@ -137,23 +138,23 @@ no_still test never (f ∷ files) =
 
 -- ---- a run that was compared and dealt out
 
-pub record IsClass (tree : Option Files) (size : ℕ) (digest : List ℕ) (run run' : List File) (paths : List (List ℕ)) (left : List File)
+pub record IsClass (tree : Option Files) (size hash : ℕ) (digest : List ℕ) (run run' : List File) (paths : List (List ℕ)) (left : List File)
     (found found' : Grouping) : Type 0 where
-  pub all : All (HasContent size digest) run
+  pub all : All (HasContent size hash) run
   pub alike : map still run ≡ run
   pub same : map still run' ≡ map still run
   pub empty : size ≡ 0 → run' ≡ run
-  pub settled : IfSome tree (λ files. All (IsThere files) run → AreSettled files run')
+  pub settled : IfSome tree (λ files. All (IsThere files) run → AreSettled files digest run')
   pub dealt : AreDealt run' paths left found found'
 
-module _ (tree : Option Files) (list : List Entry) (size : ℕ) (digest : List ℕ) (run run' : List File) (paths : List (List ℕ)) (left : List File)
+module _ (tree : Option Files) (list : List Entry) (size hash : ℕ) (digest : List ℕ) (run run' : List File) (paths : List (List ℕ)) (left : List File)
     (found found' : Grouping)
-    (c : IsClass tree size digest run run' paths left found found') (hashed : All (IsHashed tree list) run) where
+    (c : IsClass tree size hash digest run run' paths left found found') (hashed : All (IsHashed tree list) run) where
   hashed' : All (IsHashed tree list) run'
   hashed' = hashed_still tree list run run' c.same hashed
 
-  content' : All (HasContent size digest) run'
-  content' = content_still size digest run run' c.same c.all
+  content' : All (HasContent size hash) run'
+  content' = content_still size hash run run' c.same c.all
 
   more_misses : (p : List ℕ) → misses found' p ≡ misses found p + (times p (paths_of (filter is_failed run')) + times p (paths_of (filter is_changed run')))
   more_misses p = omega (
@@ -176,17 +177,17 @@ module _ (tree : Option Files) (list : List Entry) (size : ℕ) (digest : List �
   )
 
   -- where the files tell their tree
-  settled : (t : Files) → tree ≡ Some t → AreSettled t run'
+  settled : (t : Files) → tree ≡ Some t → AreSettled t digest run'
   settled t e =
       let there : All (IsThere t) run = λ k d l. subst (λ o. IfSome o (λ files. IsThere files (get_or run k d))) e (hashed k d l).there in
-      subst (λ o. IfSome o (λ files. All (IsThere files) run → AreSettled files run')) e c.settled there
+      subst (λ o. IfSome o (λ files. All (IsThere files) run → AreSettled files digest run')) e c.settled there
 
-  have_lead : (t : Files) (s : AreSettled t run') → All (λ p. content (get t p) ≡ s.lead) (paths_of (filter is_alike run'))
+  have_lead : (t : Files) (s : AreSettled t digest run') → All (λ p. content (get t p) ≡ s.lead) (paths_of (filter is_alike run'))
   have_lead t s = All-map (λ p. content (get t p) ≡ s.lead) path_of (filter is_alike run')
       (λ k d l. alike_stands (get_or (filter is_alike run') k d).standing (content (get t (get_or (filter is_alike run') k d).path)) s.lead
       (filter_passes is_alike run' k d l) (All-filter is_alike (StandsTo t s.lead) run' s.each k d l))
 
-  have_others : (t : Files) (s : AreSettled t run') → All (λ p. content (get t p) ≡ s.lead → ⊥) (paths_of (filter is_other run'))
+  have_others : (t : Files) (s : AreSettled t digest run') → All (λ p. content (get t p) ≡ s.lead → ⊥) (paths_of (filter is_other run'))
   have_others t s = All-map (λ p. content (get t p) ≡ s.lead → ⊥) path_of (filter is_other run')
       (λ k d l. other_stands (get_or (filter is_other run') k d).standing (content (get t (get_or (filter is_other run') k d).path)) s.lead
       (filter_passes is_other run' k d l) (All-filter is_other (StandsTo t s.lead) run' s.each k d l))
@@ -224,7 +225,7 @@ module _ (tree : Option Files) (list : List Entry) (size : ℕ) (digest : List �
           (All-filter test (λ f. has (is_read list) list f.path ≡ true) run'
           (λ k d l. (hashed' k d l).read (let s = (content' k d l).of_size in omega (arith, s, e))))
 
-  none_changed : (t : Files) (s : AreSettled t run') → filter is_changed run' ≡ []
+  none_changed : (t : Files) (s : AreSettled t digest run') → filter is_changed run' ≡ []
   none_changed t s = by (filter is_changed run') (filter_passes is_changed run') (All-filter is_changed (StandsTo t s.lead) run' s.each)
     where
       by : (files : List File) → All (λ f. is_changed f ≡ true) files → All (StandsTo t s.lead) files → files ≡ []
@@ -255,26 +256,15 @@ module _ (tree : Option Files) (list : List Entry) (size : ℕ) (digest : List �
       twice (f ∷ files) = ap (λ fs. still f ∷ fs) (twice files)
 
   -- a group of those that have the bytes of the lead
-  class_told : (sorted : List (List ℕ)) → IsPermutation paths sorted → 0 < length sorted → (t : Files) → tree ≡ Some t → HaveBytes t digest sorted
-  class_told sorted moved some t e =
+  class_told : (sorted : List (List ℕ)) → IsPermutation paths sorted → (t : Files) → tree ≡ Some t → HaveBytes t digest sorted
+  class_told sorted moved t e =
       let s = settled t e in
       let same : All (λ p. content (get t p) ≡ s.lead) paths = subst (All (λ p. content (get t p) ≡ s.lead)) (sym c.dealt.alike) (have_lead t s) in
-      let many : 0 < length (filter is_alike run') =
-      omega (arith, length_permutation paths sorted moved, ap length c.dealt.alike, length-map (filter is_alike run') path_of) in
       record {
         bytes = s.lead;
         same = All-permutation (λ p. content (get t p) ≡ s.lead) paths sorted moved same;
-        digest = by (filter is_alike run') many
-            (All-filter is_alike (IsHashed tree list) run' hashed') (All-filter is_alike (HasContent size digest) run' content') (have_lead t s);
+        digest = s.digest_is;
       }
-    where
-      by : (files : List File) → 0 < length files → All (IsHashed tree list) files → All (HasContent size digest) files →
-          All (λ p. content (get t p) ≡ (settled t e).lead) (paths_of files) → digest ≡ sha256 (settled t e).lead
-      by [] l h g a = absurd (omega arith)
-      by (f ∷ files) l h g a =
-          sym (All-head (HasContent size digest) f files g).of_digest
-          ∙ subst (λ o. IfSome o (λ u. f.digest ≡ sha256 (content (get u f.path)))) e (All-head (IsHashed tree list) f files h).digest
-          ∙ ap sha256 (All-head (λ p. content (get t p) ≡ (settled t e).lead) f.path (paths_of files) a)
 
   pub class_made : (g : Told) → IsPermutation paths g.paths → IsSorted path_cmp g.paths → 2 ≤ length g.paths → g.size ≡ size → g.digest ≡ digest →
       IsMade tree list g
@@ -291,7 +281,7 @@ module _ (tree : Option Files) (list : List Entry) (size : ℕ) (digest : List �
     where
       by : (o : Option Files) → tree ≡ o → IfSome o (λ t. HaveBytes t g.digest g.paths)
       by None e = tt
-      by (Some t) e = subst (λ d. HaveBytes t d g.paths) (sym has_digest) (class_told g.paths moved (omega arith) t e)
+      by (Some t) e = subst (λ d. HaveBytes t d g.paths) (sym has_digest) (class_told g.paths moved t e)
 
 -- ---- what else is so of a class
 
@@ -304,12 +294,12 @@ pub left_alike : (run : List File) (paths : List (List ℕ)) (left : List File) 
 left_alike run paths left found found' d =
     subst (λ fs. map still fs ≡ fs) (sym d.others) (twice_still (filter is_other run))
 
-pub left_content : (size : ℕ) (digest : List ℕ) (run run' : List File) (paths : List (List ℕ)) (left : List File) (found found' : Grouping) →
-    map still run' ≡ map still run → All (HasContent size digest) run → AreDealt run' paths left found found' → All (HasContent size digest) left
-left_content size digest run run' paths left found found' e h d =
-    subst (All (HasContent size digest)) (sym d.others)
-    (content_still size digest (filter is_other run') (map still (filter is_other run')) (twice_still (filter is_other run'))
-    (All-filter is_other (HasContent size digest) run' (content_still size digest run run' e h)))
+pub left_content : (size hash : ℕ) (run run' : List File) (paths : List (List ℕ)) (left : List File) (found found' : Grouping) →
+    map still run' ≡ map still run → All (HasContent size hash) run → AreDealt run' paths left found found' → All (HasContent size hash) left
+left_content size hash run run' paths left found found' e h d =
+    subst (All (HasContent size hash)) (sym d.others)
+    (content_still size hash (filter is_other run') (map still (filter is_other run')) (twice_still (filter is_other run'))
+    (All-filter is_other (HasContent size hash) run' (content_still size hash run run' e h)))
 
 pub left_fewer : (run run' : List File) (paths : List (List ℕ)) (left : List File) (found found' : Grouping) (d : File) → map still run' ≡ map still run →
     0 < length run → is_other (get_or run' 0 d) ≡ false → AreDealt run' paths left found found' → length left < length run
@@ -373,7 +363,36 @@ class_causes gives run' paths left found found' all d h =
           (All-map (ShowsChange gives) path_of (filter is_changed run')
           (λ k d l. changed_shows gives (get_or (filter is_changed run') k d).path (get_or (filter is_changed run') k d).standing
           (filter_passes is_changed run' k d l) (All-filter is_changed (Shows gives) run' all k d l))));
+      whole = subst (All (AreWhole gives)) (sym d.groups) h.whole;
     }
+
+-- ---- files that were read whole
+
+whole_still : {S : Type 0} (gives : Asks S) (files files' : List File) → map still files' ≡ map still files → All (IsWhole gives) files →
+    All (IsWhole gives) files'
+whole_still gives = all_still (IsWhole gives) (λ f h. h) (λ f h. h)
+
+pub left_whole : {S : Type 0} (gives : Asks S) (run run' : List File) (paths : List (List ℕ)) (left : List File) (found found' : Grouping) →
+    map still run' ≡ map still run → All (IsWhole gives) run → AreDealt run' paths left found found' → All (IsWhole gives) left
+left_whole gives run run' paths left found found' e h d =
+    subst (All (IsWhole gives)) (sym d.others)
+    (whole_still gives (filter is_other run') (map still (filter is_other run')) (twice_still (filter is_other run'))
+    (All-filter is_other (IsWhole gives) run' (whole_still gives run run' e h)))
+
+-- those of a group
+pub class_whole : {S : Type 0} (gives : Asks S) (size : ℕ) (run run' : List File) (paths sorted : List (List ℕ)) (left : List File)
+    (found found' : Grouping) → map still run' ≡ map still run → All (λ f. f.size ≡ size) run → All (IsWhole gives) run →
+    AreDealt run' paths left found found' → IsPermutation paths sorted → 0 < size → All (ShowsWhole gives size) sorted
+class_whole gives size run run' paths sorted left found found' e sizes h d moved some =
+    All-permutation (ShowsWhole gives size) paths sorted moved
+    (subst (All (ShowsWhole gives size)) (sym d.alike)
+    (All-map (ShowsWhole gives size) path_of (filter is_alike run') (All-filter is_alike (λ f. ShowsWhole gives size f.path) run' each)))
+  where
+    each : All (λ f. ShowsWhole gives size f.path) run'
+    each k x l =
+        let f : File = get_or run' k x in
+        let of_size : f.size ≡ size = all_still (λ f. f.size ≡ size) (λ f h. h) (λ f h. h) run run' e sizes k x l in
+        subst (λ n. ShowsWhole gives n f.path) of_size (whole_still gives run run' e h k x l (omega (arith, of_size, some)))
 
 pub still_alike : (files : List File) → map still files ≡ files → All (λ f. f.standing ≡ Alike) files
 still_alike files e k d l =

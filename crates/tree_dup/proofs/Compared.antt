@@ -1,11 +1,12 @@
 -- Runs that workers compared.
 use Rattle.std.proofs.Common.{◌≡◌, ℕ, suc, ◌+◌, ◌<◌, ◌≤◌, false, List, [], ◌∷◌, length, map, take, drop, get_or, refl, sym, ap, subst, ◌∙◌}
-use Rattle.std.proofs.Common.{arith, All, IfSome, Option, Some, None, Vec, Global}
+use Rattle.std.proofs.Common.{arith, All, IfSome, Option, Some, None}
 use Rattle.std.proofs.lemmas.List.{length-take-le, length-drop, drop-take, take-take}
 use Rattle.std.proofs.lemmas.List.Sums.{sum_by-cons}
 use Rattle.outside.specs.Asked.{Asks}
 use Rattle.outside.specs.Tree.{Files}
 use Rattle.tree_dup.specs.declared.runs.File.{File}
+use Rattle.tree_dup.specs.declared.runs.Comparison.{Comparison}
 use Rattle.tree_dup.specs.declared.runs.Standing.{Standing}
 use Rattle.tree_dup.specs.declared.runs.Standing.TheVariants.{Alike}
 use Rattle.tree_dup.specs.Private.Running.{AreStandings, StandFrom, StandFor, standing_of, standing_other, faults_in, failures, failures_of, still}
@@ -13,7 +14,7 @@ use Rattle.tree_dup.specs.Private.Running.{Went, Shows, IsThere, AreSettled, is_
 use Rattle.tree_dup.proofs.Classes.{alike_shows, still_alike}
 
 none : File
-none = record { path = []; size = 0; digest = []; standing = Alike }
+none = record { path = []; size = 0; hash = 0; standing = Alike }
 
 pub twice_still : (files : List File) → map still (map still files) ≡ map still files
 twice_still [] = refl
@@ -30,12 +31,14 @@ faults_are (f ∷ files) =
     )
 
 pub same_run : (run' run new : List File) (standings : List Standing) → map standing_of run' ≡ standings → map still run' ≡ map still run →
-    length new ≡ length run → ((k : ℕ) (d : File) (s : Standing) → k < length run → get_or new k d ≡ record (get_or run k d) { standing = get_or standings k s }) →
+    length new ≡ length run →
+    ((k : ℕ) (d : File) (s : Standing) → k < length run → get_or new k d ≡ record (get_or run k d) { standing = get_or standings k s }) →
     new ≡ run'
 same_run run' run new standings are same long each = by run' run new standings are same long each
   where
     by : (run' run new : List File) (standings : List Standing) → map standing_of run' ≡ standings → map still run' ≡ map still run →
-        length new ≡ length run → ((k : ℕ) (d : File) (s : Standing) → k < length run → get_or new k d ≡ record (get_or run k d) { standing = get_or standings k s }) →
+        length new ≡ length run →
+        ((k : ℕ) (d : File) (s : Standing) → k < length run → get_or new k d ≡ record (get_or run k d) { standing = get_or standings k s }) →
         new ≡ run'
     by [] [] [] standings are same long each = refl
     by [] [] (x ∷ new) standings are same long each = absurd (omega arith)
@@ -60,36 +63,36 @@ run_at files whole start n e is inside =
 
 -- what a worker comes to with a run
 pub compared : {R : Type 0} (tree : R → Option Files) (count : R → ℕ) (gives : Asks R) (r r' : R) (size : ℕ) (base run run' : List File)
-    (standings : List Standing) → run ≡ base → map still base ≡ base → Went tree count gives r r' run run' →
-    IfSome (tree r) (λ files. All (IsThere files) run → AreSettled files run') → (size ≡ 0 → run' ≡ run) →
+    (digest : List ℕ) (standings : List Standing) → run ≡ base → map still base ≡ base → Went tree count gives r r' run run' →
+    IfSome (tree r) (λ files. All (IsThere files) run → AreSettled files digest run') → (size ≡ 0 → run' ≡ run) →
     ((d : File) → 0 < length run → is_other (get_or run 0 d) ≡ false → is_other (get_or run' 0 d) ≡ false) →
-    All (λ f. f.size ≡ size) base → 0 < length base → standings ≡ map standing_of run' → AreStandings (tree r) gives base standings
-compared tree count gives r r' size base run run' standings e alike went settled empty front sizes some are = record {
+    All (λ f. f.size ≡ size) base → 0 < length base → standings ≡ map standing_of run' → AreStandings (tree r) gives base digest standings
+compared tree count gives r r' size base run run' digest standings e alike went settled empty front sizes some are = record {
   run' = run';
   are = sym are;
   same = went.files ∙ ap (map still) e;
   shows = went.shows (subst (All (Shows gives)) (sym e) (alike_shows gives base alike));
-  settled = subst (λ fs. IfSome (tree r) (λ files. All (IsThere files) fs → AreSettled files run')) e settled;
+  settled = subst (λ fs. IfSome (tree r) (λ files. All (IsThere files) fs → AreSettled files digest run')) e settled;
   empty = λ z. empty (sym (sizes 0 none some) ∙ z 0 none some) ∙ e;
   front = λ d l. front d (omega (arith, l, ap (λ (fs : List File). length fs) e))
       (ap (λ fs. is_other (get_or fs 0 d)) e ∙ ap standing_other (still_alike base alike 0 d l));
 }
 
-pub stand_from : {S : Type 0} (tree : Option Files) (gives : Asks S) (files slice : List File) (place n : ℕ) (standings : List Standing) →
-    slice ≡ take n (drop place files) → n ≤ length (drop place files) → length standings ≡ length slice →
-    AreStandings tree gives (map still slice) standings → StandFrom tree gives files place standings
-stand_from tree gives files slice place n standings e inside as_many h =
-    let long : length standings ≡ n = as_many ∙ ap (λ (fs : List File). length fs) e ∙ length-take-le n (drop place files) inside in
-    subst (λ fs. AreStandings tree gives (map still fs) standings) (e ∙ (λ i. take (sym long i) (drop place files))) h
+pub stand_from : {S : Type 0} (tree : Option Files) (gives : Asks S) (files slice : List File) (place n : ℕ) (c : Comparison) →
+    slice ≡ take n (drop place files) → n ≤ length (drop place files) → length c.standings.items ≡ length slice →
+    AreStandings tree gives (map still slice) c.digest c.standings.items → StandFrom tree gives files place c
+stand_from tree gives files slice place n c e inside as_many h =
+    let long : length c.standings.items ≡ n = as_many ∙ ap (λ (fs : List File). length fs) e ∙ length-take-le n (drop place files) inside in
+    subst (λ fs. AreStandings tree gives (map still fs) c.digest c.standings.items) (e ∙ (λ i. take (sym long i) (drop place files))) h
 
 -- the standings of a run that was cut off the end
-pub stand_for : {S : Type 0} (tree : Option Files) (gives : Asks S) (files whole run : List File) (start : ℕ) (standings : Vec Standing Global) →
+pub stand_for : {S : Type 0} (tree : Option Files) (gives : Asks S) (files whole run : List File) (start : ℕ) (c : Comparison) →
     files ≡ take (length files) whole → run ≡ drop start files → start ≤ length files → map still run ≡ run →
-    StandFrom tree gives whole start standings.items → StandFor tree gives run standings
-stand_for tree gives files whole run start standings e is inside alike h = λ as_many.
-    let at : take (length standings.items) (drop start whole) ≡ drop start files =
-    run_at files whole start (length standings.items) e (as_many ∙ ap (λ (fs : List File). length fs) is) inside in
-    subst (λ fs. AreStandings tree gives fs standings.items) (ap (map still) (at ∙ sym is) ∙ alike) h
+    StandFrom tree gives whole start c → StandFor tree gives run c
+stand_for tree gives files whole run start c e is inside alike h = λ as_many.
+    let at : take (length c.standings.items) (drop start whole) ≡ drop start files =
+    run_at files whole start (length c.standings.items) e (as_many ∙ ap (λ (fs : List File). length fs) is) inside in
+    subst (λ fs. AreStandings tree gives fs c.digest c.standings.items) (ap (map still) (at ∙ sym is) ∙ alike) h
 
 -- the files that stay where a run is cut off the end
 pub front_cut : (files whole left : List File) (start : ℕ) → files ≡ take (length files) whole → left ≡ take start files → start ≤ length files →

@@ -13,22 +13,13 @@ use Rattle.outside.specs.Count.{RoseBy}
 use Rattle.outside.specs.Tree.{Files}
 use Rattle.tree_dup.specs.declared.filling.Missing.{Missing}
 use Rattle.tree_dup.specs.declared.filling.Missing.TheVariants.{Failed, Changed}
+use Rattle.shared_reads.proofs.Counted.{keeps_still, keeps_on}
 use Rattle.tree_dup.specs.declared.runs.File.{File}
 use Rattle.tree_dup.specs.declared.runs.Standing.{Standing}
 use Rattle.tree_dup.specs.declared.runs.Standing.TheVariants.{Alike, Other, Missed}
-use Rattle.tree_dup.specs.Private.Running.{KeepsUp, Moved, Went, Shows, StandingShows, standing_alike, failures, failures_of, is_alike, still}
+use Rattle.shared_reads.specs.Counts.{KeepsUp}
+use Rattle.tree_dup.specs.Private.Running.{Moved, Went, Shows, StandingShows, standing_alike, failures, failures_of, is_alike, still}
 use Rattle.tree_dup.proofs.Classes.{same_length}
-
-pub keeps_still : (n c : ℕ) → KeepsUp n n c c
-keeps_still n c = record { kept = omega arith; rose = λ h. omega arith }
-
-pub keeps_on : (a b c x y z : ℕ) → KeepsUp a b x y → KeepsUp b c y z → KeepsUp a c x z
-keeps_on a b c x y z f g =
-    let k = f.kept in
-    let l = g.kept in
-    let r = f.rose in
-    let s = g.rose in
-    record { kept = omega arith; rose = λ h. let r' = r (omega arith) in let s' = s h in omega arith }
 
 -- a fault is counted where a read failed
 pub rose_keeps : (why : Missing) (old new : ℕ) → RoseBy 0 old new → (why ≡ Failed → RoseBy 1 old new) → KeepsUp 0 (failures_of (Missed why)) old new

@@ -20,7 +20,7 @@ use Rattle.flat_list.specs.declared.entries.Entry.{Entry}
 use Rattle.tree_cmp.specs.Readers.{ShowsFailure, ShowsChange}
 use Rattle.tree_dup.specs.Told.{Told, Grouping}
 use Rattle.tree_dup.specs.Grouping.{has, is_candidate, is_read, is_missed, is_kept, is_in, are_together, first, first_path, same_bytes}
-use Rattle.tree_dup.specs.Grouping.{IsByBytes, IsGrouping, HaveCauses}
+use Rattle.tree_dup.specs.Grouping.{IsByBytes, IsGrouping, HaveCauses, AreWhole}
 use Rattle.tree_dup.specs.Private.Piles.{times, times_in, joints, joints_in}
 use Rattle.tree_dup.specs.Private.Sifting.{AreSifted, AreMissed, IsMade, HaveBytes, IsUndivided, candidates_in, misses, piles_of}
 use Rattle.tree_dup.proofs.Piled.{one_if, positive, positive_so, positive_back, positive-add, positive-min, any_is, any_counts, counts_any, none_any, have}
@@ -246,15 +246,18 @@ grouped tree list found found' up s g f c bg bf bc = record {
 
 -- ---- the answers of the reads
 
-pub causes_none : {S : Type 0} (gives : Asks S) (found : Grouping) → found.failed ≡ [] → found.changed ≡ [] → HaveCauses gives found
-causes_none gives found e f = record {
+pub causes_none : {S : Type 0} (gives : Asks S) (found : Grouping) → found.groups ≡ [] → found.failed ≡ [] → found.changed ≡ [] → HaveCauses gives found
+causes_none gives found g e f = record {
   failed = subst (All (ShowsFailure gives)) (sym e) (All-nil (ShowsFailure gives));
   changed = subst (All (ShowsChange gives)) (sym f) (All-nil (ShowsChange gives));
+  whole = subst (All (AreWhole gives)) (sym g) (All-nil (AreWhole gives));
 }
 
-pub causes_moved : {S : Type 0} (gives : Asks S) (found found' : Grouping) → IsPermutation found.failed found'.failed →
+pub causes_moved : {S : Type 0} (gives : Asks S) (found found' : Grouping) → IsPermutation found.groups found'.groups →
+    IsPermutation found.failed found'.failed →
     IsPermutation found.changed found'.changed → HaveCauses gives found → HaveCauses gives found'
-causes_moved gives found found' f c h = record {
+causes_moved gives found found' g f c h = record {
   failed = All-permutation (ShowsFailure gives) found.failed found'.failed f h.failed;
   changed = All-permutation (ShowsChange gives) found.changed found'.changed c h.changed;
+  whole = All-permutation (AreWhole gives) found.groups found'.groups g h.whole;
 }

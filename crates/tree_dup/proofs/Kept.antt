@@ -13,19 +13,19 @@ use Rattle.tree_dup.specs.Private.Sifting.{IsHashed, IsMade, AreMissed, AreSifte
 use Rattle.tree_dup.proofs.Parted.{AreParted, Piles, parted_left}
 use Rattle.tree_dup.proofs.Classes.{IsClass, class_parted, class_missed, class_made, left_hashed}
 
-module _ (tree : Option Files) (list : List Entry) (size : ℕ) (digest : List ℕ) (run run' : List File) (paths : List (List ℕ)) (left : List File)
+module _ (tree : Option Files) (list : List Entry) (size hash : ℕ) (digest : List ℕ) (run run' : List File) (paths : List (List ℕ)) (left : List File)
     (found found' : Grouping)
-    (c : IsClass tree size digest run run' paths left found found') (others : List (List File)) (s : AreSifted tree list (run ∷ others) found) where
+    (c : IsClass tree size hash digest run run' paths left found found') (others : List (List File)) (s : AreSifted tree list (run ∷ others) found) where
   hashed : All (IsHashed tree list) run
   hashed = All-head (λ pile. All (IsHashed tree list) pile) run others s.hashed
 
   rest : All (λ pile. All (IsHashed tree list) pile) (left ∷ others)
-  rest = All-cons (λ pile. All (IsHashed tree list) pile) left others (left_hashed tree list size digest run run' paths left found found' c hashed)
+  rest = All-cons (λ pile. All (IsHashed tree list) pile) left others (left_hashed tree list size hash digest run run' paths left found found' c hashed)
       (All-tail (λ pile. All (IsHashed tree list) pile) run others s.hashed)
 
   parted : (sorted : List (List ℕ)) → IsPermutation paths sorted →
       AreParted tree list (misses found') (piles_of found.groups ++ sorted ∷ (paths_of left ∷ map paths_of others))
-  parted sorted moved = class_parted tree list size digest run run' paths left found found' c hashed others sorted moved
+  parted sorted moved = class_parted tree list size hash digest run run' paths left found found' c hashed others sorted moved
       (record { once = s.once; undivided = s.undivided })
 
   -- one path or none
@@ -37,7 +37,7 @@ module _ (tree : Option Files) (list : List Entry) (size : ℕ) (digest : List �
       (parted_left tree list (misses found') (piles_of found.groups) paths (paths_of left ∷ map paths_of others) short (parted paths moved)) in
       record {
         hashed = rest;
-        missed = class_missed tree list size digest run run' paths left found found' c hashed s.missed;
+        missed = class_missed tree list size hash digest run run' paths left found found' c hashed s.missed;
         made = subst (All (IsMade tree list)) groups s.made;
         once = p.once;
         undivided = p.undivided;
@@ -52,13 +52,13 @@ module _ (tree : Option Files) (list : List Entry) (size : ℕ) (digest : List �
         hashed = rest;
         missed = record { failed = missed.failed; changed = missed.changed; unchanged = missed.unchanged };
         made = subst (λ gs. All (IsMade tree list) (gs ++ g ∷ [])) (sym c.dealt.groups) (All-push (IsMade tree list) found.groups g s.made
-            (class_made tree list size digest run run' paths left found found' c hashed g moved up some sized has_digest));
+            (class_made tree list size hash digest run run' paths left found found' c hashed g moved up some sized has_digest));
         once = there.once;
         undivided = there.undivided;
       })
     where
       missed : AreMissed tree list found'
-      missed = class_missed tree list size digest run run' paths left found found' c hashed s.missed
+      missed = class_missed tree list size hash digest run run' paths left found found' c hashed s.missed
 
       where_piles : piles_of (found'.groups ++ g ∷ []) ++ (paths_of left ∷ map paths_of others)
           ≡ piles_of found.groups ++ g.paths ∷ (paths_of left ∷ map paths_of others)

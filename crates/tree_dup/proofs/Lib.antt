@@ -2,7 +2,6 @@ mod Classes
 mod Compared
 mod Counted
 mod Dealt
-mod Done
 mod Entered
 mod Fed
 pub mod Few
@@ -19,3 +18,4 @@ mod Shown
 mod Sifted
 mod Stood
 mod Strict
+mod Written

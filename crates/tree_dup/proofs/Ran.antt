@@ -1,10 +1,11 @@
--- The last files of one size and one digest.
+-- The last files of one size and one hash.
 use Rattle.std.proofs.Common.{◌≡◌, ℕ, zero, suc, ◌+◌, ◌-◌, ◌<◌, ◌≤◌, Bool, true, false, ◌==◌, List, [], ◌∷◌, length, map, take, drop, get_or}
-use Rattle.std.proofs.Common.{All, IsSorted, refl, sym, ap, ◌∙◌, arith, subst, is_lt, nat_eq, nat_cmp, Ordering, Less, Equal, Greater, length-drop}
+use Rattle.std.proofs.Common.{All, IsSorted, refl, sym, ap, ◌∙◌, arith, subst, is_lt, nat_cmp, Ordering, Less, Equal, Greater, length-drop}
 use Rattle.std.specs.Cmp.{first_so, second_so}
-use Rattle.std.specs.Cmp.Lexicographic.{pointwise, slice_cmp, bytes_decides}
+use Rattle.std.specs.Cmp.Lexicographic.{slice_cmp}
 use Rattle.std.specs.FinMap.{slice_cmp-IsAntisymmetric, nat_cmp-IsAntisymmetric}
-use Rattle.std.specs.Ordering.{ordering_reverse}
+use Rattle.std.specs.Cmp.{IsStrictWeakOrder}
+use Rattle.std.specs.Ordering.{ordering_reverse, ordering_then}
 use Rattle.std.proofs.lemmas.Bool.{false≢true, eqb-true, eq-eqb}
 use Rattle.std.proofs.lemmas.Cmp.{nat_list_cmp_total}
 use Rattle.std.proofs.lemmas.List.{get_or_default, get_or-drop, get_or-take}
@@ -15,19 +16,19 @@ use Rattle.tree_dup.proofs.Sifted.{both_true}
 
 -- content by which files are in order
 abbrev pub key : File → List ℕ
-key f = f.size ∷ f.digest
+key f = f.size ∷ f.hash ∷ []
 
 same_key : (a b : File) → same_content a b ≡ true → key a ≡ key b
 same_key a b e =
-    let sizes : a.size ≡ b.size = eqb-true a.size b.size (first_so (a.size == b.size) (pointwise nat_eq a.digest b.digest) e) in
-    let digests : a.digest ≡ b.digest = (bytes_decides a.digest b.digest).0 (second_so (a.size == b.size) (pointwise nat_eq a.digest b.digest) e) in
-    λ i. sizes i ∷ digests i
+    let sizes : a.size ≡ b.size = eqb-true a.size b.size (first_so (a.size == b.size) (a.hash == b.hash) e) in
+    let hashes : a.hash ≡ b.hash = eqb-true a.hash b.hash (second_so (a.size == b.size) (a.hash == b.hash) e) in
+    λ i. sizes i ∷ hashes i ∷ []
 
 key_same : (a b : File) → key a ≡ key b → same_content a b ≡ true
 key_same a b e =
     let sizes : a.size ≡ b.size = cc in
-    let digests : a.digest ≡ b.digest = cc in
-    both_true (a.size == b.size) (pointwise nat_eq a.digest b.digest) (eq-eqb a.size b.size sizes) ((bytes_decides a.digest b.digest).1 digests)
+    let hashes : a.hash ≡ b.hash = cc in
+    both_true (a.size == b.size) (a.hash == b.hash) (eq-eqb a.size b.size sizes) (eq-eqb a.hash b.hash hashes)
 
 ties : (o p : Ordering) → o ≡ ordering_reverse p → is_lt o ≡ false → is_lt p ≡ false → o ≡ Equal
 ties Less p r e f = absurd (false≢true (sym e))
@@ -36,11 +37,25 @@ ties Greater Less r e f = absurd (false≢true (sym f))
 ties Greater Equal r e f = cc
 ties Greater Greater r e f = cc
 
+then_equal : (o : Ordering) → ordering_then o Equal ≡ o
+then_equal Less = refl
+then_equal Equal = refl
+then_equal Greater = refl
+
+-- the order by content is that of the keys
+same_cmp : (a b : File) → slice_cmp nat_cmp (key a) (key b) ≡ content_cmp a b
+same_cmp a b = ap (ordering_then (nat_cmp a.size b.size)) (then_equal (nat_cmp a.hash b.hash))
+
+pub content_ranks : IsStrictWeakOrder (λ (a b : File). is_lt (content_cmp a b))
+content_ranks =
+    subst (λ (lt : File → File → Bool). IsStrictWeakOrder lt) (λ i a b. is_lt (same_cmp a b i)) (ranks_by nat_list_cmp_total key)
+
 -- files of which neither comes before the other are of one content
 level : (a b : File) → is_lt (content_cmp a b) ≡ false → is_lt (content_cmp b a) ≡ false → key a ≡ key b
 level a b e f =
     slice_cmp-IsAntisymmetric nat_cmp-IsAntisymmetric (key a) (key b)
-    (ties (content_cmp a b) (content_cmp b a) (nat_list_cmp_total.antisymm (key a) (key b)) e f)
+    (same_cmp a b ∙ ties (content_cmp a b) (content_cmp b a)
+    (sym (same_cmp a b) ∙ nat_list_cmp_total.antisymm (key a) (key b) ∙ ap ordering_reverse (same_cmp b a)) e f)
 
 abbrev pub AreFrom : List File → ℕ → ℕ → Type 0
 AreFrom files start last = (k : ℕ) (d : File) → start ≤ k → k < length files → same_content (get_or files k d) (get_or files last d) ≡ true
@@ -69,20 +84,20 @@ last_run files start last x y up e l h stop = record {
   inside = omega arith;
   run = record {
     size = (get_or files last y).size;
-    digest = (get_or files last y).digest;
+    hash = (get_or files last y).hash;
     all = λ k d m.
         let here : same_content (get_or files (start + k) y) (get_or files last y) ≡ true =
         h (start + k) y (omega arith) (omega (arith, m, length-drop start files)) in
         let same : key (get_or files (start + k) y) ≡ key (get_or files last y) = same_key (get_or files (start + k) y) (get_or files last y) here in
         let at : get_or (drop start files) k d ≡ get_or files (start + k) y =
         get_or-drop start files k d ∙ get_or_default files (start + k) d y (omega (arith, m, length-drop start files)) in
-        subst (HasContent (get_or files last y).size (get_or files last y).digest) (sym at) (record { of_size = cc; of_digest = cc });
+        subst (HasContent (get_or files last y).size (get_or files last y).hash) (sym at) (record { of_size = cc; of_hash = cc });
   };
   others = λ j k d m n inside. by j k d m n inside (same_content (get_or files j d) (get_or files k d)) refl;
 }
   where
     far : (i j : ℕ) (d : File) → i ≤ j → j < length files → is_lt (content_cmp (get_or files j d) (get_or files i d)) ≡ false
-    far = sorted_far (λ a b. is_lt (content_cmp a b)) (ranks_by nat_list_cmp_total key) files up
+    far = sorted_far (λ a b. is_lt (content_cmp a b)) content_ranks files up
 
     by : (j k : ℕ) (d : File) → j < start → start ≤ k → k < length files → (b : Bool) → same_content (get_or files j d) (get_or files k d) ≡ b →
         same_content (get_or files j d) (get_or files k d) ≡ false
@@ -95,7 +110,8 @@ last_run files start last x y up e l h stop = record {
         let up_to : is_lt (content_cmp before (get_or files j d)) ≡ false = far j (start - 1) d (omega arith) (omega arith) in
         let from : is_lt (content_cmp (get_or files last d) before) ≡ false = far (start - 1) last d (omega arith) (omega arith) in
         let from' : is_lt (content_cmp (get_or files j d) before) ≡ false =
-        ap (λ (c : List ℕ). is_lt (slice_cmp nat_cmp c (key before))) one ∙ from in
+        ap is_lt (sym (same_cmp (get_or files j d) before)) ∙ ap (λ (c : List ℕ). is_lt (slice_cmp nat_cmp c (key before))) one
+        ∙ ap is_lt (same_cmp (get_or files last d) before) ∙ from in
         let same : key before ≡ key (get_or files last d) = level before (get_or files j d) up_to from' ∙ one in
         let x_is : get_or files (start - 1) d ≡ x = get_or_default files (start - 1) d x (omega arith) ∙ sym s.0 in
         let y_is : get_or files last d ≡ y = get_or_default files last d y (omega arith) ∙ sym s.1 in
@@ -136,14 +152,14 @@ still_drop n files e = map-drop_by n files ∙ ap (drop n) e
     map-drop_by (suc n) [] = refl
     map-drop_by (suc n) (x ∷ xs) = map-drop_by n xs
 
--- a run is of the size and the digest of any of its files
-pub run_of : (run : List File) (k : ℕ) (x : File) → k < length run → x ≡ get_or run k x → IsRun run → All (HasContent x.size x.digest) run
+-- a run is of the size and the hash of any of its files
+pub run_of : (run : List File) (k : ℕ) (x : File) → k < length run → x ≡ get_or run k x → IsRun run → All (HasContent x.size x.hash) run
 run_of run k x l e r j d m =
     let a = r.all k x l in
     let b = r.all j d m in
     let sizes : x.size ≡ r.size = ap (λ (f : File). f.size) e ∙ a.of_size in
-    let digests : x.digest ≡ r.digest = ap (λ (f : File). f.digest) e ∙ a.of_digest in
-    record { of_size = b.of_size ∙ sym sizes; of_digest = b.of_digest ∙ sym digests }
+    let hashes : x.hash ≡ r.hash = ap (λ (f : File). f.hash) e ∙ a.of_hash in
+    record { of_size = b.of_size ∙ sym sizes; of_hash = b.of_hash ∙ sym hashes }
 
 -- all files are of one content
 pub last_run_whole : (files : List File) (start : ℕ) → 0 < length files → IsSorted content_cmp files → start ≡ 0 → AreFrom files start (length files - 1) →

@@ -1,18 +1,17 @@
--- Files that are divided step by step: at first all candidates, then a run of one size and one digest, then those of other bytes.
+-- Files that are divided step by step: at first all candidates, then a run of one size and one hash, then those of other bytes.
 use Rattle.std.proofs.Common.{◌≡◌, ℕ, ◌+◌, ◌<◌, ◌≤◌, Bool, true, false, ◌&&◌, ◌==◌, List, [], ◌∷◌, ◌++◌, length, map, take, drop, get_or}
 use Rattle.std.proofs.Common.{Option, Some, None}
-use Rattle.std.proofs.Common.{IfSome, All, IsPermutation, refl, sym, ap, subst, ◌∙◌, arith, nat_eq, length-drop}
+use Rattle.std.proofs.Common.{IfSome, All, IsPermutation, refl, sym, ap, subst, ◌∙◌, arith, length-drop}
 use Rattle.std.specs.FinMap.{get}
-use Rattle.std.specs.Cmp.Lexicographic.{pointwise, bytes_decides}
 use Rattle.std.proofs.lemmas.Bool.{false≢true, eq-eqb}
 use Rattle.std.proofs.lemmas.List.{get_or_default, get_or-drop, get_or-take, length-map, map-append, length-take-le, take-append-drop}
 use Rattle.std.proofs.lemmas.List.Elements.{All-nil, All-cons, All-head, All-tail, All-take, All-drop, All-map}
 use Rattle.std.proofs.lemmas.List.Sorted.{All-permutation, IsPermutation-map}
-use Rattle.sha2.specs.Sha256.{sha256}
 use Rattle.outside.specs.Tree.{Files, content}
 use Rattle.flat_list.specs.declared.entries.Entry.{Entry}
 use Rattle.tree_dup.specs.Told.{Grouping}
 use Rattle.tree_dup.specs.declared.runs.File.{File}
+use Rattle.tree_dup.specs.Private.Hashing.{content_hash}
 use Rattle.tree_dup.specs.Private.Piles.{times}
 use Rattle.tree_dup.specs.Private.Running.{IsLastRun, paths_of, same_content}
 use Rattle.tree_dup.specs.Private.Sifting.{IsHashed, IsMade, AreSifted, AreHashed, candidates_in, misses, piles_of}
@@ -49,13 +48,13 @@ both_true true true e f = refl
 both_true true false e f = absurd (false≢true f)
 both_true false b e f = absurd (false≢true e)
 
--- files of the same bytes have one size and one digest
+-- files of the same bytes have one size and one hash
 same_files : (tree : Files) (list : List Entry) (f g : File) → IsHashed (Some tree) list f → IsHashed (Some tree) list g →
     content (get tree f.path) ≡ content (get tree g.path) → same_content f g ≡ true
 same_files tree list f g h k e =
     let sizes : f.size ≡ g.size = sym h.there.size ∙ ap length e ∙ k.there.size in
-    let digests : f.digest ≡ g.digest = h.digest ∙ ap sha256 e ∙ sym k.digest in
-    both_true (f.size == g.size) (pointwise nat_eq f.digest g.digest) (eq-eqb f.size g.size sizes) ((bytes_decides f.digest g.digest).1 digests)
+    let hashes : f.hash ≡ g.hash = h.hash ∙ ap content_hash e ∙ sym k.hash in
+    both_true (f.size == g.size) (f.hash == g.hash) (eq-eqb f.size g.size sizes) (eq-eqb f.hash g.hash hashes)
 
 -- of two piles of files, any two
 two_have : (P : List ℕ → List ℕ → Type 0) (p q : List ℕ) (xs ys : List File) →

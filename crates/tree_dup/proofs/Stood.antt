@@ -10,6 +10,9 @@ use Rattle.std.proofs.lemmas.List.Elements.{All-set}
 use Rattle.std.proofs.Math.Seq.{take-add, drop-append_seam, take-append_seam}
 use mathlib.Core.Logic.{dite}
 use native.Mathlib.Decide.{ℕ_discrete}
+use Rattle.sha2.specs.Hashers.{Holds256}
+use Rattle.sha2.specs.Sha256.{sha256}
+use Rattle.sha2.specs.declared.Sha256.{Sha256}
 use Rattle.outside.specs.Asked.{Asks}
 use Rattle.outside.specs.Count.{RoseBy}
 use Rattle.outside.specs.Tree.{Files, content}
@@ -19,7 +22,8 @@ use Rattle.tree_dup.specs.declared.runs.Standing.{Standing}
 use Rattle.tree_dup.specs.declared.runs.Standing.TheVariants.{Alike, Other, Missed}
 use Rattle.tree_dup.specs.declared.runs.File.{File}
 use Rattle.tree_dup.specs.Private.Reading.{Fills, IsShort, IsFileOf}
-use Rattle.tree_dup.specs.Private.Running.{KeepsUp, failures_of, StandingShows, standing_alike, is_alike, still, IsThere, Stands, StandsAt}
+use Rattle.shared_reads.specs.Counts.{KeepsUp}
+use Rattle.tree_dup.specs.Private.Running.{failures_of, StandingShows, standing_alike, is_alike, still, IsThere, Stands, StandsAt}
 use Rattle.tree_dup.specs.Private.Running.{AreDivided, AreSettled}
 use Rattle.tree_dup.proofs.Parted.{if_any, if_told, if_both}
 use Rattle.tree_dup.proofs.Classes.{all_still, still_alike}
@@ -167,11 +171,15 @@ half_more tree at room lead piece leader k files f ne in_files here h = record {
     long : (i : ℕ) → i < length (set files k f) → i < length files
     long i l = omega (arith, length-set files k f)
 
-pub half_all : (tree : Files) (at room : ℕ) (lead piece : List ℕ) (leader k : ℕ) (files : List File) → length files ≤ k → length lead ≡ at →
-    length piece ≡ room →
-    AreHalf tree at room lead piece leader k files → AreDivided tree (at + room) files
-half_all tree at room lead piece leader k files l e f h =
-    record { lead = lead ++ piece; long = omega (arith, length-append lead piece); each = λ i d inside. h.passed i d (omega arith) inside }
+pub half_all : (tree : Files) (at room : ℕ) (lead piece : List ℕ) (leader k : ℕ) (files : List File) (hasher : Sha256) → length files ≤ k →
+    length lead ≡ at → length piece ≡ room → Holds256 hasher (lead ++ piece) →
+    AreHalf tree at room lead piece leader k files → AreDivided tree (at + room) hasher files
+half_all tree at room lead piece leader k files hasher l e f held h = record {
+  lead = lead ++ piece;
+  held = held;
+  long = omega (arith, length-append lead piece);
+  each = λ i d inside. h.passed i d (omega arith) inside;
+}
 
 -- ---- before the first piece and after the last
 
@@ -181,23 +189,27 @@ there_still tree = all_still (IsThere tree) (λ f h. record { is_file = h.is_fil
 pub sizes_still : (size : ℕ) (files files' : List File) → map still files' ≡ map still files → All (λ f. f.size ≡ size) files → All (λ f. f.size ≡ size) files'
 sizes_still size = all_still (λ f. f.size ≡ size) (λ f h. h) (λ f h. h)
 
-pub divided_first : (told : Option Files) (files : List File) → map still files ≡ files → IfSome told (λ tree. All (IsThere tree) files →
-    AreDivided tree 0 files)
-divided_first told files e = if_any told (λ tree. All (IsThere tree) files → AreDivided tree 0 files)
+pub divided_first : (told : Option Files) (files : List File) (hasher : Sha256) → map still files ≡ files → Holds256 hasher [] →
+    IfSome told (λ tree. All (IsThere tree) files → AreDivided tree 0 hasher files)
+divided_first told files hasher e held = if_any told (λ tree. All (IsThere tree) files → AreDivided tree 0 hasher files)
     (λ tree there. record {
       lead = [];
+      held = held;
       long = refl;
       each = λ k d l. subst (λ s. Stands s [] []) (sym (still_alike files e k d l)) refl;
     })
 
-pub divided_last : (told : Option Files) (size at : ℕ) (run files : List File) → size ≤ at → map still files ≡ map still run → All (λ f. f.size ≡ size) run →
-    IfSome told (λ tree. All (IsThere tree) run → AreDivided tree at files) → IfSome told (λ tree. All (IsThere tree) run → AreSettled tree files)
-divided_last told size at run files l same sizes =
-    if_told told (λ tree. All (IsThere tree) run → AreDivided tree at files) (λ tree. All (IsThere tree) run → AreSettled tree files)
+pub divided_last : (told : Option Files) (size at : ℕ) (run files : List File) (hasher : Sha256) (digest : List ℕ) → size ≤ at →
+    map still files ≡ map still run → All (λ f. f.size ≡ size) run → ((m : List ℕ) → Holds256 hasher m → digest ≡ sha256 m) →
+    IfSome told (λ tree. All (IsThere tree) run → AreDivided tree at hasher files) →
+    IfSome told (λ tree. All (IsThere tree) run → AreSettled tree digest files)
+divided_last told size at run files hasher digest l same sizes ends =
+    if_told told (λ tree. All (IsThere tree) run → AreDivided tree at hasher files) (λ tree. All (IsThere tree) run → AreSettled tree digest files)
     (λ tree h there.
     let d = h there in
     record {
       lead = d.lead;
+      digest_is = ends d.lead d.held;
       each = λ k e inside.
           let f : File = get_or files k e in
           let has : length (content (get tree f.path)) ≡ f.size = (there_still tree run files same there k e inside).size in
@@ -299,26 +311,29 @@ half_told_more told now at room piece leader k was files f d same ne inside stil
     h (as_told (λ tree. IsThere tree (get_or files k d) → (bytes : List ℕ) → length bytes ≡ at → StandsAt tree at bytes (get_or files k d) →
     StandsAt tree (at + room) (bytes ++ piece) f) told now same new)
 
-pub half_told_all : (told : Option Files) (at room : ℕ) (piece : List ℕ) (leader k : ℕ) (was files : List File) → length files ≤ k → length piece ≡ room →
-    HalfTold told at room piece leader k was files → IfSome told (λ tree. All (IsThere tree) was → AreDivided tree at was → AreDivided tree (at + room) files)
-half_told_all told at room piece leader k was files l m =
+pub half_told_all : (told : Option Files) (at room : ℕ) (piece : List ℕ) (leader k : ℕ) (was files : List File) (old new : Sha256) →
+    length files ≤ k → length piece ≡ room → ((m : List ℕ) → Holds256 old m → Holds256 new (m ++ piece)) →
+    HalfTold told at room piece leader k was files →
+    IfSome told (λ tree. All (IsThere tree) was → AreDivided tree at old was → AreDivided tree (at + room) new files)
+half_told_all told at room piece leader k was files old new l m takes =
     if_told told
     (λ tree. All (IsThere tree) was → (bytes : List ℕ) → length bytes ≡ at → All (StandsAt tree at bytes) was → AreHalf tree at room bytes piece leader k files)
-    (λ tree. All (IsThere tree) was → AreDivided tree at was → AreDivided tree (at + room) files)
-    (λ tree h there d. half_all tree at room d.lead piece leader k files l d.long m (h there d.lead d.long d.each))
+    (λ tree. All (IsThere tree) was → AreDivided tree at old was → AreDivided tree (at + room) new files)
+    (λ tree h there d. half_all tree at room d.lead piece leader k files new l d.long m (takes d.lead d.held) (h there d.lead d.long d.each))
 
 -- a piece more of all files
-pub divided_more : (told now : Option Files) (at room : ℕ) (run was files : List File) → now ≡ told → map still was ≡ map still run →
-    IfSome told (λ tree. All (IsThere tree) run → AreDivided tree at was) →
-    IfSome now (λ tree. All (IsThere tree) was → AreDivided tree at was → AreDivided tree (at + room) files) →
-    IfSome told (λ tree. All (IsThere tree) run → AreDivided tree (at + room) files)
-divided_more told now at room run was files same stills h new =
+pub divided_more : (told now : Option Files) (at room : ℕ) (run was files : List File) (hasher hasher' : Sha256) → now ≡ told →
+    map still was ≡ map still run →
+    IfSome told (λ tree. All (IsThere tree) run → AreDivided tree at hasher was) →
+    IfSome now (λ tree. All (IsThere tree) was → AreDivided tree at hasher was → AreDivided tree (at + room) hasher' files) →
+    IfSome told (λ tree. All (IsThere tree) run → AreDivided tree (at + room) hasher' files)
+divided_more told now at room run was files hasher hasher' same stills h new =
     if_both told
-    (λ tree. All (IsThere tree) run → AreDivided tree at was)
-    (λ tree. All (IsThere tree) was → AreDivided tree at was → AreDivided tree (at + room) files)
-    (λ tree. All (IsThere tree) run → AreDivided tree (at + room) files)
+    (λ tree. All (IsThere tree) run → AreDivided tree at hasher was)
+    (λ tree. All (IsThere tree) was → AreDivided tree at hasher was → AreDivided tree (at + room) hasher' files)
+    (λ tree. All (IsThere tree) run → AreDivided tree (at + room) hasher' files)
     (λ tree old step there. step (there_still tree run was stills there) (old there))
-    h (as_told (λ tree. All (IsThere tree) was → AreDivided tree at was → AreDivided tree (at + room) files) told now same new)
+    h (as_told (λ tree. All (IsThere tree) was → AreDivided tree at hasher was → AreDivided tree (at + room) hasher' files) told now same new)
 
 -- ---- the standing that a piece gives
 

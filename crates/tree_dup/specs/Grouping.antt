@@ -1,11 +1,13 @@
 -- Files of equal content. The definition divides by bytes alone: no digest and no piece decides. Our own.
-use Rattle.std.specs.Prelude.{◌≡◌, ℕ, ◌≤◌, Bool, true, false, not, ◌&&◌, ◌==◌, List, [], ◌∷◌, ◌++◌, length, map, Option, IfSome, All, nat_eq, nat_lt}
+use Rattle.std.specs.Prelude.{◌≡◌, ℕ, ◌+◌, ◌<◌, ◌≤◌, Bool, true, false, not, ◌&&◌, ◌==◌, List, [], ◌∷◌, ◌++◌, length, map, Option, Ok}
+use Rattle.std.specs.Prelude.{IfSome, All, nat_eq, nat_lt}
 use Rattle.std.specs.FinMap.{get}
 use Rattle.std.specs.List.{list_any, count_by}
 use Rattle.std.specs.List.Sorted.{IsStrictlySortedBy}
 use Rattle.std.specs.Cmp.Lexicographic.{pointwise}
 use Rattle.sha2.specs.Sha256.{sha256}
 use Rattle.path_text.specs.Order.{path_cmp}
+use Rattle.outside.specs.Answered.{LastRead}
 use Rattle.outside.specs.Asked.{Asks}
 use Rattle.outside.specs.Tree.{Files, content}
 use Rattle.outside.specs.declared.trees.Kind.TheVariants as kind
@@ -66,9 +68,9 @@ pub record IsGroup (list : List Entry) (found : Grouping) (g : Told) : Type 0 wh
 abbrev pub same_bytes : Files → List ℕ → List ℕ → Bool
 same_bytes files p q = pointwise nat_eq (content (get files p)) (content (get files q))
 
--- what is so where the files tell their tree
+-- the groups, if the files tell their tree
 pub record IsByBytes (list : List Entry) (found : Grouping) (files : Files) : Type 0 where
-  -- two files are in one group exactly where their bytes are equal
+  -- two files are in one group exactly if their bytes are equal
   pub equal : (p q : List ℕ) → is_kept list found p ≡ true → is_kept list found q ≡ true → pointwise nat_eq p q ≡ false →
       are_together found.groups p q ≡ same_bytes files p q
   -- and a group has their digest
@@ -78,18 +80,32 @@ pub record IsByBytes (list : List Entry) (found : Grouping) (files : Files) : Ty
 
 -- the grouping of the files of a list, over files that may tell their tree
 pub record IsGrouping (tree : Option Files) (list : List Entry) (found : Grouping) : Type 0 where
-  -- what was missed stands in path order, each path once, and was to be read
+  -- the files that were missed are in path order, each path once, and were to be read
   pub failed_ascend : IsStrictlySortedBy path_cmp found.failed
   pub changed_ascend : IsStrictlySortedBy path_cmp found.changed
   pub apart : All (λ p. list_any (pointwise nat_eq p) found.changed ≡ false) found.failed
   pub to_be_read : All (λ p. has (is_read list) list p ≡ true) (found.failed ++ found.changed)
-  -- each path stands in one group at most, and the groups in the order of their first paths
+  -- each path is in one group at most, and the groups are in the order of their first paths
   pub each : All (IsGroup list found) found.groups
   pub once : (p : List ℕ) → count_by (is_in p) found.groups ≤ 1
   pub order : IsStrictlySortedBy path_cmp (map first_path found.groups)
   pub told : IfSome tree (IsByBytes list found)
 
--- what is named as failed or changed was asked for at this very path, and answered so
+-- some read of the file gave its last bytes, so it was read up to this size
+pub record ShowsWhole {S : Type 0} (gives : Asks S) (size : ℕ) (path : List ℕ) : Type 0 where
+  pub at : ℕ
+  pub bytes : ℕ
+  pub some : 0 < bytes
+  pub ends : at + bytes ≡ size
+  pub after : S
+  pub read : LastRead gives path at (Ok bytes) after
+
+-- each file of a group that has bytes was read up to its size, so one whose read ended early is not in it
+abbrev pub AreWhole : {S : Type 0} → Asks S → Told → Type 0
+AreWhole gives g = 0 < g.size → All (ShowsWhole gives g.size) g.paths
+
+-- a read asked for each file that is named as failed or changed at this very path, and got that answer; a file of a group was read whole
 pub record HaveCauses {S : Type 0} (gives : Asks S) (found : Grouping) : Type 0 where
   pub failed : All (ShowsFailure gives) found.failed
   pub changed : All (ShowsChange gives) found.changed
+  pub whole : All (AreWhole gives) found.groups

@@ -16,9 +16,10 @@ use shared_reads::make_room;
 use std::alloc::Global;
 use std::collections::HashMap;
 
-// The candidates in path order, as yet without their digests.
+// The candidates in path order, as yet without their hashes.
 pub(crate) fn candidates(alloc: Global, list: &FlatList) -> Result<Vec<File>, DupError>
-    ensures listed { IfOk result (λ files. (tree : Option Files) → IfSome tree (λ t. StatsTold t list.now) → AreListed tree list.now (length list.now) files.items) }
+    ensures listed { IfOk result (λ files. (tree : Option Files) → IfSome tree (λ t. StatsTold t list.now)
+        → AreListed tree list.now (length list.now) files.items) }
     ensures alike { IfOk result (λ files. map still files.items ≡ files.items) }
 {
     let counts = size_counts(alloc, list)?;
@@ -36,7 +37,8 @@ fn add_candidate(
     counts: &HashMap<u64, u8>,
     files: &mut Vec<File>,
 ) -> Result<(), DupError>
-    ensures on { OnOk result ((tree : Option Files) (list : List Entry) (at : ℕ) → AreCounts list counts.now → slice_get list at ≡ Some entry.now → IfSome tree (λ t. StatsTold t list) → AreListed tree list at files.old.items → AreListed tree list (at + 1) files.new.items) }
+    ensures on { OnOk result ((tree : Option Files) (list : List Entry) (at : ℕ) → AreCounts list counts.now → slice_get list at ≡ Some entry.now
+        → IfSome tree (λ t. StatsTold t list) → AreListed tree list at files.old.items → AreListed tree list (at + 1) files.new.items) }
     ensures alike { OnOk result (map still files.old.items ≡ files.old.items → map still files.new.items ≡ files.new.items) }
 {
     let Some(size) = shared_size(entry, counts) else {
@@ -49,7 +51,7 @@ fn add_candidate(
     Ok(())
 }
 
-// A candidate whose digest is not known.
+// A candidate whose hash is not known.
 fn unhashed(path: Path, size: u64) -> File
     ensures path { result.path ≡ path }
     ensures size { result.size ≡ size }
@@ -58,7 +60,7 @@ fn unhashed(path: Path, size: u64) -> File
     File {
         path,
         size,
-        digest: [0; 32],
+        hash: 0,
         standing: Standing::Alike,
     }
 }

@@ -1,4 +1,4 @@
-//! The files of a run, dealt out by what reading them came to.
+//! The files of a run, dealt out by their standings.
 ghost use Rattle.std.specs.Prelude.{IfOk, OnOk, List, [], ◌∷◌, ◌++◌};
 ghost use Rattle.tree_dup.specs.Told.{Grouping};
 ghost use Rattle.tree_dup.specs.Private.Dealing.{AreDealt};
@@ -10,7 +10,7 @@ use crate::runs::{File, Standing};
 use path_text::Path;
 use std::alloc::Global;
 
-// The paths of the files that have the bytes of the lead, and the files that have others. What was missed goes to the findings.
+// The paths of the files that have the bytes of the lead, and the files that have others. Files that were missed go to the findings.
 pub(crate) fn deal(
     alloc: Global,
     run: Vec<File>,
@@ -32,7 +32,8 @@ fn deal_file(
     others: &mut Vec<File>,
     found: &mut Groups,
 ) -> Result<(), DupError>
-    ensures { OnOk result ((run : List File) (before : Grouping) → AreDealt run paths.old.items others.old.items before found.old → AreDealt (run ++ file ∷ []) paths.new.items others.new.items before found.new) }
+    ensures { OnOk result ((run : List File) (before : Grouping) → AreDealt run paths.old.items others.old.items before found.old
+        → AreDealt (run ++ file ∷ []) paths.new.items others.new.items before found.new) }
 {
     match file.standing {
         Standing::Alike => Ok(paths.push(file.path)?),

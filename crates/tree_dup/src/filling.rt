@@ -2,6 +2,7 @@
 ghost use Rattle.std.specs.Prelude.{◌≡◌, ◌+◌, ◌^◌, ◌<◌, length, OnOk, IfErr, IfSome, IsErrOf};
 ghost use Rattle.std.specs.FinMap.{get};
 ghost use Rattle.outside.specs.Count.{RoseBy};
+ghost use Rattle.tree_dup.specs.Grouping.{ShowsWhole};
 ghost use Rattle.tree_dup.specs.Private.Reading.{Fills, IsShort, ShowsMissing};
 
 use outside::{ReadError, Tree};
@@ -12,7 +13,7 @@ use path_text::Path;
 pub(crate) enum Missing {
     // The outside failed.
     Failed,
-    // There were fewer bytes than told, or no file.
+    // There were fewer bytes than were asked for, or no file.
     Changed,
 }
 
@@ -45,6 +46,7 @@ pub(crate) fn fill<R: Tree>(
     ensures count { RoseBy 0 (R.count reader.old) (R.count reader.new) }
     ensures cause { IsErrOf result Missing.Failed → RoseBy 1 (R.count reader.old) (R.count reader.new) }
     ensures shows { IfErr result (ShowsMissing R.gives path.now) }
+    ensures whole { OnOk result (ShowsWhole R.gives (at + length into.new) path.now) }
 {
     let mut done = 0;
     while done < into.len() {

@@ -24,7 +24,8 @@ pub struct Group {
     pub paths: Vec<Path>,
 }
 
-/// Files grouped by their content: seen as the groups, the files whose reads failed, and those that reads showed to have changed.
+/// Files grouped by their content. Their value is the groups, the files whose reads failed, and the files that reads showed to have
+/// changed.
 #[derive(Debug, Drop)]
 pub struct Groups {
     groups: Vec<Group>,
@@ -97,7 +98,7 @@ impl Groups {
         self.groups.len()
     }
 
-    /// Whether there are none.
+    /// Whether there are no groups.
     pub fn is_empty(&self) -> bool
         ensures { result ≡ (length self.now.groups == 0) }
     {
@@ -119,7 +120,7 @@ impl Groups {
         &self.failed
     }
 
-    /// The files of which a read found less than their stat had told, or no file, in path order.
+    /// The files of which a read found fewer bytes than their stat gives, or no file, in path order.
     pub fn changed(&self) -> &[Path]
         ensures { result.now ≡ self.now.changed }
     {

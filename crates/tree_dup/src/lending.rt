@@ -1,4 +1,4 @@
-//! Files grouped, with readers that they lend.
+//! The grouping of files with readers that they lend.
 ghost use Rattle.std.specs.Prelude.{◌≡◌, ◌≤◌, length, IfOk, IfSome};
 ghost use Rattle.std.specs.List.Sorted.{IsStrictlySortedBy};
 ghost use Rattle.path_text.specs.Order.{path_cmp};
@@ -16,8 +16,8 @@ use shared_reads::{readers_of, take_back};
 use std::alloc::Global;
 use std::thread::Threads;
 
-/// Groups the files of a list as [`find_groups`] does, with a reader of them for each host, 1 to 64. All readers are taken back, also
-/// where memory was wanting, and so the files count what the readers counted.
+/// Groups the files of a list as [`find_groups`] does, with a reader of them for each host. `hosts` is 1 to 64. The files take back
+/// all readers, also if memory runs out, and so count the faults that the readers counted.
 pub fn group_files<T: Threads + Sync, G: Ground>(
     rt: &T,
     alloc: Global,

@@ -4,31 +4,31 @@ ghost use Rattle.outside.specs.Count.{RoseBy};
 ghost use Rattle.shared_reads.specs.Desks.{HasRoom};
 ghost use Rattle.tree_dup.specs.declared.runs.File.{File};
 ghost use Rattle.tree_dup.specs.declared.runs.Standing.{Standing};
-ghost use Rattle.tree_dup.specs.Private.Running.{AreStandings, StandFrom, faults_in, standing_of, still};
+ghost use Rattle.tree_dup.specs.Private.Running.{AreStandings, comparison_faults, standing_of, still};
 
 use crate::comparing::compare_run;
-use crate::runs::{File, Standing, same_content};
+use crate::runs::{Comparison, File, Standing, same_content};
 use outside::Tree;
 use path_text::OutOfMemory;
 use shared_reads::{Desk, Job};
 use std::alloc::Global;
 
-// Files in order by their content, whose runs are to be compared. A run has the place of its first file.
+// Files in order by their content, whose runs are to be compared. A run's place is that of its first file.
 #[derive(Drop)]
 pub(crate) struct Runs<'a> {
     pub(crate) alloc: Global,
     pub(crate) files: &'a [File],
 }
 
-impl<'a, R: Tree> Job<R, Vec<Standing>> for Runs<'a> {
+impl<'a, R: Tree> Job<R, Comparison> for Runs<'a> {
     ghost use Rattle.std.specs.Prelude.{length};
-    ghost use Rattle.tree_dup.specs.Private.Running.{StandFrom, faults_in};
+    ghost use Rattle.tree_dup.specs.Private.Running.{StandFrom, comparison_faults};
 
     ghost places = { λ job. length job.files.now };
 
-    ghost told = { λ job tree place standings. StandFrom tree R.gives job.files.now place standings.items };
+    ghost told = { λ job tree place c. StandFrom tree R.gives job.files.now place c };
 
-    ghost faults = { λ standings. faults_in standings.items };
+    ghost faults = { comparison_faults };
 
     fn len(&self) -> usize {
         self.files.len()
@@ -39,17 +39,17 @@ impl<'a, R: Tree> Job<R, Vec<Standing>> for Runs<'a> {
         place: usize,
         reader: &mut R,
         desk: &mut Desk,
-    ) -> Result<Option<Vec<Standing>>, OutOfMemory> {
+    ) -> Result<Option<Comparison>, OutOfMemory> {
         let end = run_end(self.files, place);
         if end - place < 2 {
             return Ok(None);
         }
-        let standings = compared(self.alloc, &self.files[place..end], reader, desk)?;
-        Ok(Some(standings))
+        let comparison = compared(self.alloc, &self.files[place..end], reader, desk)?;
+        Ok(Some(comparison))
     }
 }
 
-// Where the run ends that begins at a place. Where none begins there it is that place.
+// Where the run ends that begins at a place. If none begins there it is that place.
 fn run_end(files: &[File], place: usize) -> usize
     requires inside { place < length files.now }
     ensures from { place ≤ result }
@@ -66,27 +66,28 @@ fn run_end(files: &[File], place: usize) -> usize
     end
 }
 
-// The standings of the files of a run. It works on a copy, since workers share the files.
+// Compares the files of a run. It works on a copy, because workers share the files.
 fn compared<R: Tree>(
     alloc: Global,
     files: &[File],
     reader: &mut R,
     desk: &mut Desk,
-) -> Result<Vec<Standing>, OutOfMemory>
+) -> Result<Comparison, OutOfMemory>
     requires some { 0 < length files.now }
     requires sizes { (d : File) → All (λ f. f.size ≡ (slice_index_or files.now 0 d).size) files.now }
     requires room { HasRoom desk.old }
-    ensures standings { IfOk result (λ standings. AreStandings (R.tree reader.old) R.gives (map still files.now) standings.items) }
-    ensures as_many { IfOk result (λ standings. length standings.items ≡ length files.now) }
+    ensures standings { IfOk result (λ c. AreStandings (R.tree reader.old) R.gives (map still files.now) c.digest c.standings.items) }
+    ensures as_many { IfOk result (λ c. length c.standings.items ≡ length files.now) }
     ensures same { R.tree reader.new ≡ R.tree reader.old }
-    ensures cause { IfOk result (λ standings. RoseBy (faults_in standings.items) (R.count reader.old) (R.count reader.new)) }
+    ensures cause { IfOk result (λ c. RoseBy (comparison_faults c) (R.count reader.old) (R.count reader.new)) }
     ensures count { RoseBy 0 (R.count reader.old) (R.count reader.new) }
     ensures room { HasRoom desk.new }
 {
     let size = files[0].size;
     let mut run = copies(alloc, files)?;
-    compare_run(reader, &mut run, size, desk);
-    standings(alloc, &run)
+    let digest = compare_run(reader, &mut run, size, desk);
+    let standings = standings(alloc, &run)?;
+    Ok(Comparison { digest, standings })
 }
 
 // The files as they are before they are compared.
@@ -98,7 +99,7 @@ fn copies(alloc: Global, files: &[File]) -> Result<Vec<File>, OutOfMemory>
         run.push(File {
             path: file.path.copy()?,
             size: file.size,
-            digest: file.digest,
+            hash: file.hash,
             standing: Standing::Alike,
         })?;
     }
@@ -119,7 +120,8 @@ fn standings(alloc: Global, run: &[File]) -> Result<Vec<Standing>, OutOfMemory>
 pub(crate) fn stand(run: &mut Vec<File>, standings: &[Standing])
     requires as_many { length standings.now ≡ length run.old.items }
     ensures as_long { length run.new.items ≡ length run.old.items }
-    ensures each { (k : ℕ) (d : File) (s : Standing) → k < length run.old.items → slice_index_or run.new.items k d ≡ record (slice_index_or run.old.items k d) { standing = slice_index_or standings.now k s } }
+    ensures each { (k : ℕ) (d : File) (s : Standing) → k < length run.old.items
+        → slice_index_or run.new.items k d ≡ record (slice_index_or run.old.items k d) { standing = slice_index_or standings.now k s } }
 {
     for k in 0..run.len() {
         run[k].standing = standings[k];

@@ -10,7 +10,7 @@ use outside::Kind;
 use std::alloc::Global;
 use std::collections::HashMap;
 
-// How many files have each size. 255 stands for more too.
+// How many files have each size. 255 means 255 or more.
 pub(crate) fn size_counts(alloc: Global, list: &FlatList) -> Result<HashMap<u64, u8>, DupError>
     ensures { IfOk result (AreCounts list.now) }
 {
@@ -23,7 +23,8 @@ pub(crate) fn size_counts(alloc: Global, list: &FlatList) -> Result<HashMap<u64,
 }
 
 fn count_size(counts: &mut HashMap<u64, u8>, entry: &Entry) -> Result<(), DupError>
-    ensures { OnOk result ((size : ℕ) → counted counts.new size ≡ (if is_sized size entry.now then min (counted counts.old size + 1) 255 else counted counts.old size)) }
+    ensures { OnOk result ((size : ℕ) → counted counts.new size ≡ (if is_sized size entry.now then min
+        (counted counts.old size + 1) 255 else counted counts.old size)) }
 {
     let Some(size) = file_size(entry) else {
         return Ok(());

@@ -1,42 +1,44 @@
 -- Runs of files, and what reading the files of a run comes to. Our own.
 -- Only clauses of this crate's own functions cite this file.
-use Rattle.std.specs.Prelude.{◌≡◌, ◌≢◌, ℕ, ◌+◌, ◌-◌, ◌^◌, ◌<◌, ◌≤◌, Bool, true, false, ◌&&◌, ◌==◌, List, length, take, drop, map, Option, All, nat_eq}
-use Rattle.std.specs.Prelude.{slice_index_or, if◌then◌else◌, IfSome, Vec, sum}
-use Rattle.std.specs.declared.alloc.Global.{Global}
+use Rattle.std.specs.Prelude.{◌≡◌, ◌≢◌, ℕ, ◌<◌, ◌≤◌, Bool, true, false, ◌&&◌, ◌==◌, List, length, take, drop, map, Option, All}
+use Rattle.std.specs.Prelude.{slice_index_or, if◌then◌else◌, IfSome}
 use Rattle.std.specs.List.{sum_by}
 use Rattle.std.specs.FinMap.{get}
-use Rattle.std.specs.Cmp.Lexicographic.{pointwise, slice_cmp}
 use Rattle.std.specs.Ordering.{nat_cmp, ordering_then}
 use Rattle.std.specs.declared.cmp.Ordering.{Ordering}
+use Rattle.sha2.specs.Hashers.{Holds256}
+use Rattle.sha2.specs.Sha256.{sha256}
+use Rattle.sha2.specs.declared.Sha256.{Sha256}
 use Rattle.outside.specs.Asked.{Asks}
 use Rattle.outside.specs.Tree.{Files, content}
-use Rattle.tree_cmp.specs.Readers.{is_at_end}
+use Rattle.shared_reads.specs.Counts.{KeepsUp}
 use Rattle.tree_dup.specs.declared.filling.Missing.TheVariants as m
 use Rattle.tree_dup.specs.declared.runs.Standing.{Standing}
 use Rattle.tree_dup.specs.declared.runs.Standing.TheVariants as s
 use Rattle.tree_dup.specs.declared.runs.File.{File}
+use Rattle.tree_dup.specs.declared.runs.Comparison.{Comparison}
 use Rattle.tree_dup.specs.Private.Reading.{IsFileOf, ShowsMissing}
 
 -- ---- files by their content
 
 abbrev pub content_cmp : File → File → Ordering
-content_cmp a b = ordering_then (nat_cmp a.size b.size) (slice_cmp nat_cmp a.digest b.digest)
+content_cmp a b = ordering_then (nat_cmp a.size b.size) (nat_cmp a.hash b.hash)
 
 abbrev pub same_content : File → File → Bool
-same_content a b = a.size == b.size && pointwise nat_eq a.digest b.digest
+same_content a b = a.size == b.size && a.hash == b.hash
 
--- a file of this size and this digest
-pub record HasContent (size : ℕ) (digest : List ℕ) (f : File) : Type 0 where
+-- a file of this size and this hash
+pub record HasContent (size hash : ℕ) (f : File) : Type 0 where
   pub of_size : f.size ≡ size
-  pub of_digest : f.digest ≡ digest
+  pub of_hash : f.hash ≡ hash
 
--- files of one size and one digest
+-- files of one size and one hash
 pub record IsRun (files : List File) : Type 0 where
   pub size : ℕ
-  pub digest : List ℕ
-  pub all : All (HasContent size digest) files
+  pub hash : ℕ
+  pub all : All (HasContent size hash) files
 
--- from this place on the files are of the size and the digest of the last one, and none before is
+-- from this place on the files are of the size and the hash of the last one, and none before is
 pub record IsLastRun (files : List File) (start : ℕ) : Type 0 where
   pub inside : start < length files
   pub run : IsRun (drop start files)
@@ -101,11 +103,6 @@ StandingShows gives path (s.Missed why) = ShowsMissing gives path why
 abbrev pub Shows : {S : Type 0} → Asks S → File → Type 0
 Shows gives f = StandingShows gives f.path f.standing
 
--- the count went from old to new while the faults told went from before to after, or it stands at its end
-pub record KeepsUp (before after old new : ℕ) : Type 0 where
-  pub kept : old ≤ new
-  pub rose : new < 2 ^ 64 - 1 → old + after ≤ new + before
-
 -- ---- what is read of a run
 
 module _ {R : Type 0} (tree : R → Option Files) (count : R → ℕ) (gives : Asks R) where
@@ -145,15 +142,17 @@ StandsAt tree at lead f = Stands f.standing (take at (content (get tree f.path))
 abbrev pub StandsTo : Files → List ℕ → File → Type 0
 StandsTo tree lead f = Stands f.standing (content (get tree f.path)) lead
 
--- the files of a run are divided by their first bytes
-pub record AreDivided (tree : Files) (at : ℕ) (files : List File) : Type 0 where
+-- the files of a run are divided by their first bytes, and the hasher holds those of the lead
+pub record AreDivided (tree : Files) (at : ℕ) (hasher : Sha256) (files : List File) : Type 0 where
   pub lead : List ℕ
+  pub held : Holds256 hasher lead
   pub long : length lead ≡ at
   pub each : All (StandsAt tree at lead) files
 
--- the files of a run are divided by their bytes
-pub record AreSettled (tree : Files) (files : List File) : Type 0 where
+-- the files of a run are divided by their bytes, and this is the digest of the lead
+pub record AreSettled (tree : Files) (digest : List ℕ) (files : List File) : Type 0 where
   pub lead : List ℕ
+  pub digest_is : digest ≡ sha256 lead
   pub each : All (StandsTo tree lead) files
 
 -- ---- runs that workers compare
@@ -165,26 +164,25 @@ standing_of f = f.standing
 abbrev pub faults_in : List Standing → ℕ
 faults_in standings = sum_by failures_of standings
 
--- a run was compared, and its files came to these standings
-pub record AreStandings {S : Type 0} (tree : Option Files) (gives : Asks S) (run : List File) (standings : List Standing) : Type 0 where
+-- a run was compared, its lead has this digest, and its files came to these standings
+pub record AreStandings {S : Type 0} (tree : Option Files) (gives : Asks S) (run : List File) (digest : List ℕ) (standings : List Standing) : Type 0 where
   pub run' : List File
   pub are : map standing_of run' ≡ standings
   pub same : map still run' ≡ map still run
   pub shows : All (Shows gives) run'
-  pub settled : IfSome tree (λ files. All (IsThere files) run → AreSettled files run')
+  pub settled : IfSome tree (λ files. All (IsThere files) run → AreSettled files digest run')
   pub empty : All (λ f. f.size ≡ 0) run → run' ≡ run
   pub front : (d : File) → 0 < length run → is_other (slice_index_or run' 0 d) ≡ false
 
 -- the same of the run that begins at a place, and is as long as the standings
-abbrev pub StandFrom : {S : Type 0} → Option Files → Asks S → List File → ℕ → List Standing → Type 0
-StandFrom tree gives files place standings = AreStandings tree gives (map still (take (length standings) (drop place files))) standings
+abbrev pub StandFrom : {S : Type 0} → Option Files → Asks S → List File → ℕ → Comparison → Type 0
+StandFrom tree gives files place c =
+    AreStandings tree gives (map still (take (length c.standings.items) (drop place files))) c.digest c.standings.items
 
 -- the standings are those of the run, if they are as many
-abbrev pub StandFor : {S : Type 0} → Option Files → Asks S → List File → Vec Standing Global → Type 0
-StandFor tree gives run standings = length standings.items ≡ length run → AreStandings tree gives run standings.items
+abbrev pub StandFor : {S : Type 0} → Option Files → Asks S → List File → Comparison → Type 0
+StandFor tree gives run c = length c.standings.items ≡ length run → AreStandings tree gives run c.digest c.standings.items
 
--- ---- counts of several readers
-
--- the counts rose from old to new while the faults told went from before to after, or one of them stands at its end
-abbrev pub KeepUp : ℕ → ℕ → List ℕ → List ℕ → Type 0
-KeepUp before after old new = is_at_end new ≡ false → sum old + after ≤ sum new + before
+-- how many failed reads a comparison tells
+abbrev pub comparison_faults : Comparison → ℕ
+comparison_faults c = faults_in c.standings.items

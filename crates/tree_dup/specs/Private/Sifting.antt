@@ -12,6 +12,7 @@ use Rattle.flat_list.specs.declared.entries.Entry.{Entry}
 use Rattle.tree_dup.specs.Told.{Told, Grouping}
 use Rattle.tree_dup.specs.Grouping.{has, is_candidate, is_read, is_sized}
 use Rattle.tree_dup.specs.declared.runs.File.{File}
+use Rattle.tree_dup.specs.Private.Hashing.{content_hash}
 use Rattle.tree_dup.specs.Private.Piles.{times, times_in, joints_in}
 use Rattle.tree_dup.specs.Private.Running.{IsThere, paths_of}
 
@@ -32,13 +33,13 @@ pub record IsHashed (tree : Option Files) (list : List Entry) (f : File) : Type 
   pub sized : has (is_sized f.size) list f.path ≡ true
   pub read : 0 < f.size → has (is_read list) list f.path ≡ true
   pub there : IfSome tree (λ files. IsThere files f)
-  pub digest : IfSome tree (λ files. f.digest ≡ sha256 (content (get files f.path)))
+  pub hash : IfSome tree (λ files. f.hash ≡ content_hash (content (get files f.path)))
 
 -- all paths have these bytes
-pub record HaveBytes (files : Files) (hash : List ℕ) (paths : List (List ℕ)) : Type 0 where
+pub record HaveBytes (files : Files) (sum : List ℕ) (paths : List (List ℕ)) : Type 0 where
   pub bytes : List ℕ
   pub same : All (λ p. content (get files p) ≡ bytes) paths
-  pub digest : hash ≡ sha256 bytes
+  pub digest : sum ≡ sha256 bytes
 
 -- a group that is made
 pub record IsMade (tree : Option Files) (list : List Entry) (g : Told) : Type 0 where

@@ -13,7 +13,7 @@ pub loop-at-init : goal.loop-at-init
 loop-at-init g c = record {
   inside = omega arith;
   went = went_nowhere g.R.Tree.tree g.R.Tree.count g.R.Tree.gives c.args.reader.now c.args.files.now;
-  told = divided_first (g.R.Tree.tree c.args.reader.now) c.args.files.now c.requires.alike;
+  told = divided_first (g.R.Tree.tree c.args.reader.now) c.args.files.now c.new-hasher.result c.requires.alike c.new-hasher.ensures;
   empty = search rules;
   front = λ d l o. o;
   ours = search rules;
@@ -29,7 +29,7 @@ loop-at-preserved g c =
       went = went_on g.R.Tree.tree g.R.Tree.count g.R.Tree.gives c.args.reader.now c.loop-at.reader c.compare_piece.new.reader c.args.files.now c.loop-at.files
           c.compare_piece.new.files i.went e.went;
       told = divided_more (g.R.Tree.tree c.args.reader.now) (g.R.Tree.tree c.loop-at.reader) c.loop-at.at c.piece-room.result c.args.files.now c.loop-at.files
-          c.compare_piece.new.files i.went.same i.went.files i.told e.told;
+          c.compare_piece.new.files c.loop-at.hasher c.compare_piece.new.hasher i.went.same i.went.files i.told e.told;
       empty = λ z. absurd (omega (arith, z, c.piece-room.ensures.some));
       front = λ d l o. e.front d (omega (arith, same_length c.args.files.now c.loop-at.files i.went.files)) (i.front d l o);
       ours = search rules;
@@ -41,8 +41,8 @@ returns g c =
     let i = c.loop-at.invariant in
     record {
       went = i.went;
-      settled = divided_last (g.R.Tree.tree c.args.reader.now) c.args.size c.loop-at.at c.args.files.now c.loop-at.files (omega arith) i.went.files
-          c.requires.sizes i.told;
+      settled = divided_last (g.R.Tree.tree c.args.reader.now) c.args.size c.loop-at.at c.args.files.now c.loop-at.files c.loop-at.hasher c.finalize.result
+          (omega arith) i.went.files c.requires.sizes c.finalize.ensures i.told;
       empty = λ z. i.empty (omega (arith, z, i.inside));
       front = i.front;
     }

@@ -63,6 +63,6 @@ returns g c =
     record {
       went = i.went;
       told = half_told_all (g.R.Tree.tree c.args.reader.now) c.args.at c.args.room c.next_lead-lead.new.into c.next_lead-lead.result c.loop-k.k
-          c.args.files.now c.loop-k.files (omega arith) (search rules) i.told;
+          c.args.files.now c.loop-k.files c.args.hasher.now c.update.new.self (omega arith) (search rules) c.update.ensures i.told;
       front = i.front;
     }

@@ -1,7 +1,7 @@
 use Rattle.std.proofs.Common.{arith, ◌≡◌, ◌++◌, length, map, take, drop, get_or, ap, sym, subst, ◌∙◌, List, All, IfSome}
 use Rattle.tree_dup.specs.declared.runs.File.{File}
 use Rattle.tree_dup.specs.Private.Running.{Went, IsThere, AreSettled, is_other, still}
-use Rattle.tree_dup.proofs.Done.{written}
+use Rattle.tree_dup.proofs.Written.{written}
 use Rattle.tree_dup.proofs.comparing.compare_run.Goals as goal
 
 pub compare_all-requires-clause-alike : goal.compare_all-requires-clause-alike
@@ -27,8 +27,10 @@ returns-clause-settled g c =
     let back : take c.args.run.now.len (new ++ drop (length new) c.args.run.now.items) ≡ new =
     written c.args.run.now.len new c.args.run.now.items (omega (arith, c.compare_all.auto.files, c.deref_mut.ensures.len))
     (omega (arith, ap length c.deref_mut.ensures.value, c.deref_mut.ensures.len)) in
-    subst (λ (fs : List File). IfSome (g.R.Tree.tree c.args.reader.now) (λ tree. All (IsThere tree) c.args.run.now.items → AreSettled tree fs)) (sym back)
-    (subst (λ (fs : List File). IfSome (g.R.Tree.tree c.args.reader.now) (λ tree. All (IsThere tree) fs → AreSettled tree new)) c.deref_mut.ensures.value
+    let told = g.R.Tree.tree c.args.reader.now in
+    let digest = c.compare_all.result in
+    subst (λ (fs : List File). IfSome told (λ tree. All (IsThere tree) c.args.run.now.items → AreSettled tree digest fs)) (sym back)
+    (subst (λ (fs : List File). IfSome told (λ tree. All (IsThere tree) fs → AreSettled tree digest new)) c.deref_mut.ensures.value
     c.compare_all.ensures.settled)
 
 pub returns-clause-empty : goal.returns-clause-empty

@@ -1,16 +1,11 @@
 use Rattle.std.specs.Prelude.{slice_index_or}
-use Rattle.std.proofs.Common.{rules, ◌≡◌, ℕ, length, map, ap, sym, subst, refl, ◌∙◌, IfSome, All, Vec, Global}
+use Rattle.std.proofs.Common.{rules, ◌≡◌, length, map, ap, sym, subst, refl, ◌∙◌, IfSome, All}
 use Rattle.shared_reads.specs.Kept.{faults_of}
-use Rattle.tree_dup.specs.declared.runs.Standing.{Standing}
-use Rattle.tree_dup.specs.Private.Running.{AreStandings, StandFor, Shows, IsThere, AreSettled, faults_in, failures, is_other, still}
+use Rattle.tree_dup.specs.Private.Running.{AreStandings, StandFor, Shows, IsThere, AreSettled, comparison_faults, faults_in, failures, is_other, still}
 use Rattle.tree_dup.proofs.Classes.{none_fails}
 use Rattle.tree_dup.proofs.Compared.{same_run, faults_are, sizes_none}
 use Rattle.tree_dup.proofs.Counted.{kept_none, told_before}
 use Rattle.tree_dup.proofs.grouping.compare_first.Goals as goal
-
--- the failed reads that some standings tell
-abbrev F : Vec Standing Global → ℕ
-F standings = faults_in standings.items
 
 pub returns-then-len : goal.returns-then-len
 returns-then-len g c =
@@ -18,17 +13,18 @@ returns-then-len g c =
     let gives = g.R.Tree.gives in
     let run = c.args.run.now.items in
     let new = c.stand.new.run.items in
-    let standings = c.in-Some.standings in
-    let as_many : length standings.items ≡ length run = search rules in
-    let s : AreStandings tree gives run standings.items = subst (λ o. IfSome o (StandFor tree gives run)) c.in-Some.is c.requires.told as_many in
+    let compared = c.in-Some.comparison in
+    let as_many : length compared.standings.items ≡ length run = search rules in
+    let s : AreStandings tree gives run compared.digest compared.standings.items =
+    subst (λ o. IfSome o (StandFor tree gives run)) c.in-Some.is c.requires.told as_many in
     let is : new ≡ s.run' =
     same_run s.run' run new c.deref.result.now (s.are ∙ sym c.deref.ensures.value) s.same c.stand.ensures.as_long c.stand.ensures.each in
     record {
       same = refl;
       files = ap (map still) is ∙ s.same;
-      counted = told_before _ _ _ (ap (faults_of F) c.in-Some.is ∙ ap faults_in (sym s.are) ∙ faults_are s.run' ∙ ap failures (sym is));
+      counted = told_before _ _ _ (ap (faults_of comparison_faults) c.in-Some.is ∙ ap faults_in (sym s.are) ∙ faults_are s.run' ∙ ap failures (sym is));
       shows = subst (All (Shows gives)) (sym is) s.shows;
-      settled = subst (λ fs. IfSome tree (λ files. All (IsThere files) run → AreSettled files fs)) (sym is) s.settled;
+      settled = subst (λ fs. IfSome tree (λ files. All (IsThere files) run → AreSettled files compared.digest fs)) (sym is) s.settled;
       empty = λ z. is ∙ s.empty (sizes_none c.args.size run z c.requires.sizes);
       front = λ d. ap (λ fs. is_other (slice_index_or fs 0 d)) is ∙ s.front d c.requires.some;
       room = c.requires.room;
@@ -36,4 +32,5 @@ returns-then-len g c =
 
 pub returns-clause-counted : goal.returns-clause-counted
 returns-clause-counted g c =
-    kept_none _ _ _ _ (ap failures (sym c.requires.alike) ∙ none_fails c.args.run.now.items) c.compare_run.ensures.went.counted (faults_of F c.args.compared)
+    kept_none _ _ _ _ (ap failures (sym c.requires.alike) ∙ none_fails c.args.run.now.items) c.compare_run.ensures.went.counted
+    (faults_of comparison_faults c.args.compared)

@@ -1,21 +1,16 @@
-use Rattle.std.proofs.Common.{rules, arith, ap, sym, subst, ◌∙◌, IfSome, ℕ, Vec, Global}
+use Rattle.std.proofs.Common.{rules, arith, ap, sym, subst, ◌∙◌, IfSome}
 use Rattle.shared_reads.specs.Kept.{faults_of}
-use Rattle.tree_dup.specs.declared.runs.Standing.{Standing}
-use Rattle.tree_dup.specs.Private.Running.{StandFor, faults_in}
-use Rattle.tree_dup.proofs.Counted.{kept_then, kept_less}
-use Rattle.tree_dup.proofs.Gone.{keeps_still}
+use Rattle.tree_dup.specs.Private.Running.{StandFor, comparison_faults}
+use Rattle.shared_reads.proofs.Counted.{keeps_still, kept_less, kept_rose}
+use Rattle.tree_dup.proofs.Counted.{kept_then}
 use Rattle.tree_dup.proofs.Sifted.{sifted_left, sifted_as}
-use Rattle.tree_dup.proofs.Done.{kept_rose}
 use Rattle.tree_dup.proofs.grouping.divide.Goals as goal
-
--- the failed reads that some standings tell
-abbrev F : Vec Standing Global → ℕ
-F standings = faults_in standings.items
 
 pub loop-alloc-init : goal.loop-alloc-init
 loop-alloc-init g c = record {
   run = c.requires.run;
   alike = c.requires.alike;
+  whole = c.requires.whole;
   told = c.requires.told;
   sifted = λ list others s. s;
   counted = keeps_still _ _;
@@ -31,10 +26,11 @@ loop-alloc-preserved g c =
     record {
       run = e.run;
       alike = e.alike;
+      whole = e.whole;
       told = subst (λ o. IfSome o (StandFor (g.R.Tree.tree c.args.reader.now) g.R.Tree.gives c.in_ok-run.run'.items)) (sym c.take.ensures.after) tt;
       sifted = λ list others s. sifted_as _ _ list _ _ _ _ i.same (e.sifted list others) (i.sifted list others s);
-      counted = kept_then _ _ _ _ (faults_of F c.take.result) _ _ _ _ i.counted
-          (omega (arith, ap (faults_of F) c.take.ensures.value, ap (faults_of F) c.take.ensures.after)) e.counted;
+      counted = kept_then _ _ _ _ (faults_of comparison_faults c.take.result) _ _ _ _ i.counted
+          (omega (arith, ap (faults_of comparison_faults) c.take.ensures.value, ap (faults_of comparison_faults) c.take.ensures.after)) e.counted;
       causes = λ h. e.causes (i.causes h);
       same = e.same ∙ i.same;
       room = e.room;

@@ -1,10 +1,12 @@
-use Rattle.std.proofs.Common.{◌≡◌, ◌+◌, List, ◌∷◌, length, map, IfSome}
+use Rattle.std.proofs.Common.{◌≡◌, ◌+◌, List, ◌∷◌, length, map, All, IfSome}
 use Rattle.flat_list.specs.declared.entries.Entry.{Entry}
 use Rattle.tree_dup.specs.Grouping.{HaveCauses}
 use Rattle.tree_dup.specs.declared.runs.File.{File}
 use Rattle.shared_reads.specs.Desks.{HasRoom}
 use Rattle.shared_reads.specs.Kept.{faults_of}
-use Rattle.tree_dup.specs.Private.Running.{StandFor, faults_in, IsRun, KeepsUp, still}
+use Rattle.tree_dup.specs.Private.Hashing.{IsWhole}
+use Rattle.shared_reads.specs.Counts.{KeepsUp}
+use Rattle.tree_dup.specs.Private.Running.{StandFor, comparison_faults, IsRun, still}
 use Rattle.tree_dup.specs.Private.Sifting.{AreSifted}
 use Rattle.tree_dup.proofs.grouping.divide.Given as goal
 
@@ -14,11 +16,12 @@ invariant-loop-alloc g l =
     record {
       run : IsRun l.run.items;
       alike : map still l.run.items ≡ l.run.items;
+      whole : All (IsWhole reader.gives) l.run.items;
       sifted : (list : List Entry) (others : List (List File)) → AreSifted (reader.tree l.fn.reader) list (l.fn.run.items ∷ others) l.fn.found →
           AreSifted (reader.tree l.fn.reader) list (l.run.items ∷ others) l.found;
       told : IfSome l.compared (StandFor (reader.tree l.fn.reader) reader.gives l.run.items);
-      counted : KeepsUp (length l.fn.found.failed + faults_of (λ standings. faults_in standings.items) l.fn.compared)
-          (length l.found.failed + faults_of (λ standings. faults_in standings.items) l.compared) (reader.count l.fn.reader) (reader.count l.reader);
+      counted : KeepsUp (length l.fn.found.failed + faults_of comparison_faults l.fn.compared)
+          (length l.found.failed + faults_of comparison_faults l.compared) (reader.count l.fn.reader) (reader.count l.reader);
       causes : HaveCauses reader.gives l.fn.found → HaveCauses reader.gives l.found;
       same : reader.tree l.reader ≡ reader.tree l.fn.reader;
       room : HasRoom l.desk;

@@ -1,28 +1,25 @@
-use Rattle.std.proofs.Common.{arith, ◌≡◌, ℕ, [], ◌∷◌, length, map, take, drop, refl, sym, subst, ◌∙◌, List, IsSorted, Vec, Global}
+use Rattle.std.proofs.Common.{arith, ◌≡◌, [], ◌∷◌, length, map, take, drop, refl, sym, subst, ◌∙◌, List, All, IsSorted}
 use Rattle.std.proofs.lemmas.List.{take_all}
+use Rattle.std.proofs.lemmas.List.Elements.{All-take, All-drop}
 use Rattle.std.proofs.lemmas.Bool.{eqb-true}
 use Rattle.shared_reads.specs.Kept.{IsKept, faults_of}
+use Rattle.shared_reads.proofs.Counted.{keeps_still, kept_less, kept_rose}
 use Rattle.shared_reads.proofs.Taken.{holds_kept, holds_cut}
 use Rattle.tree_dup.specs.declared.runs.File.{File}
-use Rattle.tree_dup.specs.declared.runs.Standing.{Standing}
-use Rattle.tree_dup.specs.Private.Running.{IsRun, IsLastRun, StandFrom, StandFor, content_cmp, faults_in, still}
+use Rattle.tree_dup.specs.Private.Hashing.{IsWhole}
+use Rattle.tree_dup.specs.Private.Running.{IsRun, IsLastRun, StandFrom, StandFor, comparison_faults, content_cmp, still}
 use Rattle.tree_dup.specs.Private.Sifting.{AreSifted}
-use Rattle.tree_dup.proofs.Done.{kept_rose}
-use Rattle.tree_dup.proofs.Gone.{keeps_still}
-use Rattle.tree_dup.proofs.Counted.{kept_then, kept_less}
+use Rattle.tree_dup.proofs.Counted.{kept_then}
 use Rattle.tree_dup.proofs.Compared.{front_cut, stand_for, if_some}
 use Rattle.tree_dup.proofs.Ran.{sorted_take, still_take, still_drop}
 use Rattle.tree_dup.proofs.Sifted.{sifted_cut, sifted_left, sifted_as}
 use Rattle.tree_dup.proofs.grouping.divide_all.Goals as goal
 
--- the failed reads that some standings tell
-abbrev F : Vec Standing Global → ℕ
-F standings = faults_in standings.items
-
 pub loop-alloc-init : goal.loop-alloc-init
 loop-alloc-init g c = record {
   sorted = c.requires.sorted;
   alike = c.requires.alike;
+  whole = c.requires.whole;
   sifted = λ list s. s;
   front = sym (take_all (length c.args.files.items) c.args.files.items (omega arith));
   told = c.requires.told;
@@ -45,6 +42,7 @@ loop-alloc-preserved g c =
     record {
       sorted = subst (IsSorted content_cmp) (sym front) (sorted_take files start i.sorted);
       alike = subst (λ (fs : List File). map still fs ≡ fs) (sym front) (still_take start files i.alike);
+      whole = subst (All (IsWhole g.R.Tree.gives)) (sym front) (All-take (IsWhole g.R.Tree.gives) start files i.whole);
       sifted = λ list s. sifted_as tree (g.R.Tree.tree c.loop-alloc.reader) list (c.in_ok-run.run'.items ∷ (c.split_off.new.self.items ∷ []))
           (c.split_off.new.self.items ∷ []) c.loop-alloc.found c.divide.new.found i.same
           (e.sifted list (c.split_off.new.self.items ∷ []))
@@ -52,9 +50,9 @@ loop-alloc-preserved g c =
           (subst (λ (fs : List File). AreSifted tree list (fs ∷ (take start files ∷ [])) c.loop-alloc.found) (sym run)
           (sifted_cut tree list files [] start c.loop-alloc.found last (i.sifted list s))));
       front = front_cut files c.args.files.items c.split_off.new.self.items start i.front front (omega (arith, last.inside));
-      told = holds_cut (λ place standings. StandFrom tree g.R.Tree.gives c.args.files.items place standings.items) c.loop-alloc.kept c.take.new.self
+      told = holds_cut (StandFrom tree g.R.Tree.gives c.args.files.items) c.loop-alloc.kept c.take.new.self
           c.take.ensures.cut i.told;
-      counted = kept_then _ _ _ _ (faults_of F c.take.result) _ _ _ _ i.counted (c.take.ensures.held F) e.counted;
+      counted = kept_then _ _ _ _ (faults_of comparison_faults c.take.result) _ _ _ _ i.counted (c.take.ensures.held comparison_faults) e.counted;
       causes = λ h. e.causes (i.causes h);
       same = e.same ∙ i.same;
       room = e.room;
@@ -70,6 +68,11 @@ divide-requires-clause-alike g c =
     subst (λ (fs : List File). map still fs ≡ fs) (sym c.in_ok-run.ensures.tail)
     (still_drop c.last_run-start.result c.loop-alloc.files.items c.loop-alloc.invariant.alike)
 
+pub divide-requires-clause-whole : goal.divide-requires-clause-whole
+divide-requires-clause-whole g c =
+    subst (All (IsWhole g.R.Tree.gives)) (sym c.in_ok-run.ensures.tail)
+    (All-drop (IsWhole g.R.Tree.gives) c.last_run-start.result c.loop-alloc.files.items c.loop-alloc.invariant.whole)
+
 pub divide-requires-clause-told : goal.divide-requires-clause-told
 divide-requires-clause-told g c =
     let i = c.loop-alloc.invariant in
@@ -78,11 +81,12 @@ divide-requires-clause-told g c =
     let tree = g.R.Tree.tree c.args.reader.now in
     let run : c.in_ok-run.run'.items ≡ drop start files = c.in_ok-run.ensures.tail in
     let last : IsLastRun files start = subst (λ (fs : List File). IsLastRun fs start) c.deref.ensures.value c.last_run-start.ensures in
-    if_some c.take.result (λ standings. IsKept start standings c.loop-alloc.kept) (StandFor (g.R.Tree.tree c.loop-alloc.reader) g.R.Tree.gives c.in_ok-run.run'.items)
+    if_some c.take.result (λ standings. IsKept start standings c.loop-alloc.kept)
+    (StandFor (g.R.Tree.tree c.loop-alloc.reader) g.R.Tree.gives c.in_ok-run.run'.items)
     (λ standings there. subst (λ t. StandFor t g.R.Tree.gives c.in_ok-run.run'.items standings) (sym i.same)
     (stand_for tree g.R.Tree.gives files c.args.files.items c.in_ok-run.run'.items start standings i.front run (omega (arith, last.inside))
     (subst (λ (fs : List File). map still fs ≡ fs) (sym run) (still_drop start files i.alike))
-    (holds_kept (λ place standings. StandFrom tree g.R.Tree.gives c.args.files.items place standings.items) start standings c.loop-alloc.kept i.told there)))
+    (holds_kept (StandFrom tree g.R.Tree.gives c.args.files.items) start standings c.loop-alloc.kept i.told there)))
     c.take.ensures.kept
 
 pub last_run-start-requires-clause-sorted : goal.last_run-start-requires-clause-sorted

@@ -1,9 +1,11 @@
-use Rattle.std.proofs.Common.{◌≡◌, ◌+◌, List, [], ◌∷◌, length, map, take, IsSorted}
+use Rattle.std.proofs.Common.{◌≡◌, ◌+◌, List, [], ◌∷◌, length, map, take, All, IsSorted}
 use Rattle.flat_list.specs.declared.entries.Entry.{Entry}
 use Rattle.tree_dup.specs.Grouping.{HaveCauses}
 use Rattle.shared_reads.specs.Desks.{HasRoom}
 use Rattle.shared_reads.specs.Kept.{Holds, held}
-use Rattle.tree_dup.specs.Private.Running.{StandFrom, faults_in, KeepsUp, content_cmp, still}
+use Rattle.tree_dup.specs.Private.Hashing.{IsWhole}
+use Rattle.shared_reads.specs.Counts.{KeepsUp}
+use Rattle.tree_dup.specs.Private.Running.{StandFrom, comparison_faults, content_cmp, still}
 use Rattle.tree_dup.specs.Private.Sifting.{AreSifted}
 use Rattle.tree_dup.proofs.grouping.divide_all.Given as goal
 
@@ -13,12 +15,13 @@ invariant-loop-alloc g l =
     record {
       sorted : IsSorted content_cmp l.files.items;
       alike : map still l.files.items ≡ l.files.items;
+      whole : All (IsWhole reader.gives) l.files.items;
       sifted : (list : List Entry) → AreSifted (reader.tree l.fn.reader) list (l.fn.files.items ∷ []) l.fn.found →
           AreSifted (reader.tree l.fn.reader) list (l.files.items ∷ []) l.found;
       front : l.files.items ≡ take (length l.files.items) l.fn.files.items;
-      told : Holds (λ place standings. StandFrom (reader.tree l.fn.reader) reader.gives l.fn.files.items place standings.items) l.kept;
-      counted : KeepsUp (length l.fn.found.failed + held (λ standings. faults_in standings.items) l.fn.kept)
-          (length l.found.failed + held (λ standings. faults_in standings.items) l.kept) (reader.count l.fn.reader) (reader.count l.reader);
+      told : Holds (StandFrom (reader.tree l.fn.reader) reader.gives l.fn.files.items) l.kept;
+      counted : KeepsUp (length l.fn.found.failed + held comparison_faults l.fn.kept)
+          (length l.found.failed + held comparison_faults l.kept) (reader.count l.fn.reader) (reader.count l.reader);
       causes : HaveCauses reader.gives l.fn.found → HaveCauses reader.gives l.found;
       same : reader.tree l.reader ≡ reader.tree l.fn.reader;
       room : HasRoom l.desk;

@@ -1,20 +1,19 @@
 use Rattle.std.proofs.Common.{rules, length, map, ap, sym, subst, ◌∙◌}
 use Rattle.std.specs.Ordering.{is_lt}
-use Rattle.std.proofs.lemmas.Cmp.{nat_list_cmp_total}
-use Rattle.std.proofs.lemmas.List.Sorted.{ranks_by, answers_always, length_permutation}
+use Rattle.std.proofs.lemmas.List.Sorted.{All-permutation, answers_always, length_permutation}
+use Rattle.shared_reads.proofs.Counted.{kept_on, fell_fell, fell_same}
 use Rattle.tree_cmp.specs.Readers.{first_told, RoseTogether}
 use Rattle.tree_dup.specs.declared.runs.File.{File}
+use Rattle.tree_dup.specs.Private.Hashing.{IsWhole}
 use Rattle.tree_dup.specs.Private.Running.{content_cmp}
 use Rattle.tree_dup.proofs.Classes.{alike_moved}
-use Rattle.tree_dup.proofs.Counted.{kept_on, fell_fell}
-use Rattle.tree_dup.proofs.Done.{none_fell}
 use Rattle.tree_dup.proofs.Grouped.{grouped, causes_moved}
-use Rattle.tree_dup.proofs.Ran.{key}
+use Rattle.tree_dup.proofs.Ran.{content_ranks}
 use Rattle.tree_dup.proofs.Sifted.{sifted_first, sifted_as}
 use Rattle.tree_dup.proofs.grouping.find_groups.Goals as goal
 
 pub returns-in_err-files-clause-none_fell : goal.returns-in_err-files-clause-none_fell
-returns-in_err-files-clause-none_fell g c = none_fell g.R.Tree.count c.args.readers.now.items
+returns-in_err-files-clause-none_fell g c = fell_same (map g.R.Tree.count c.args.readers.now.items)
 
 pub returns-in_err-divide_shared-clause-none_fell : goal.returns-in_err-divide_shared-clause-none_fell
 returns-in_err-divide_shared-clause-none_fell g c =
@@ -23,12 +22,17 @@ returns-in_err-divide_shared-clause-none_fell g c =
 
 pub divide_shared-requires-clause-sorted : goal.divide_shared-requires-clause-sorted
 divide_shared-requires-clause-sorted g c = λ κs within.
-    c.sort_unstable_by.ensures.sorted (λ (x y : File). is_lt (content_cmp x y)) (ranks_by nat_list_cmp_total key)
+    c.sort_unstable_by.ensures.sorted (λ (x y : File). is_lt (content_cmp x y)) content_ranks
     (answers_always _ _ _ (λ f a r f' k. search rules))
 
 pub divide_shared-requires-clause-alike : goal.divide_shared-requires-clause-alike
 divide_shared-requires-clause-alike g c = λ κs within.
     alike_moved c.hash_shared.new.files.items c.sort_unstable_by.new.self.items c.sort_unstable_by.ensures.permutation c.in_ok-hash_shared.ensures.alike
+
+pub divide_shared-requires-clause-whole : goal.divide_shared-requires-clause-whole
+divide_shared-requires-clause-whole g c = λ κs within.
+    All-permutation (IsWhole g.R.Tree.gives) c.hash_shared.new.files.items c.sort_unstable_by.new.self.items c.sort_unstable_by.ensures.permutation
+    c.in_ok-hash_shared.ensures.whole
 
 pub returns : goal.returns
 returns g c =
@@ -48,7 +52,7 @@ returns g c =
           (sym (length_permutation c.divide_shared.new.found.failed c.sort.new.self.failed s.failed))
           (kept_on (length c.divide_shared.new.found.failed) (counts c.args.readers.now.items) (counts c.hash_shared.new.readers.items)
           (counts c.divide_shared.new.readers.items) (length c.hash_shared.new.found.failed) h.counted d.counted d.none_fell);
-      causes = causes_moved g.R.Tree.gives c.divide_shared.new.found c.sort.new.self s.failed s.changed (d.causes h.causes);
+      causes = causes_moved g.R.Tree.gives c.divide_shared.new.found c.sort.new.self s.groups s.failed s.changed (d.causes h.causes);
       none_fell = fell_fell (counts c.args.readers.now.items) (counts c.hash_shared.new.readers.items) (counts c.divide_shared.new.readers.items)
           h.none_fell d.none_fell;
       same = d.same ∙ h.same;

@@ -1,57 +1,39 @@
-use Rattle.std.proofs.Common.{◌≡◌, ◌<◌, ◌≤◌, List, length, map, get_or, ap, sym, subst, ◌∙◌, OnOk}
+use Rattle.std.proofs.Common.{List, length, map, OnOk, subst}
 use Rattle.flat_list.specs.declared.entries.Entry.{Entry}
 use Rattle.shared_reads.specs.Kept.{Holds, held}
-use Rattle.tree_cmp.specs.Readers.{first_told}
+use Rattle.shared_reads.proofs.Counted.{fell_same}
 use Rattle.tree_dup.specs.declared.runs.File.{File}
-use Rattle.tree_dup.specs.Private.Hashing.{AreDigests, hash_faults}
-use Rattle.tree_dup.specs.Private.Running.{KeepsUp}
+use Rattle.tree_dup.specs.Private.Hashing.{AreHashes, hash_faults}
 use Rattle.tree_dup.specs.Private.Sifting.{AreListed, AreHashed}
-use Rattle.tree_dup.proofs.Counted.{fell_shared, all_tell, still_some, on_one, then_fell, then_rose}
-use Rattle.tree_dup.proofs.Done.{first_tree, first_same, none_fell}
+use Rattle.tree_dup.proofs.Counted.{IsFirst, holds_told, tells, same_told, none_falls, rise_on, on_one}
 use Rattle.tree_dup.proofs.grouping.hash_shared.Goals as goal
 
-pub returns-in_err-desk-clause-none_fell : goal.returns-in_err-desk-clause-none_fell
-returns-in_err-desk-clause-none_fell g c = none_fell g.R.Tree.count c.args.readers.now.items
-
-pub returns-in_err-kept-clause-none_fell : goal.returns-in_err-kept-clause-none_fell
-returns-in_err-kept-clause-none_fell g c = fell_shared _ _ c.in_err-kept.ensures.none_fell
+pub returns-in_err-buffer-clause-none_fell : goal.returns-in_err-buffer-clause-none_fell
+returns-in_err-buffer-clause-none_fell g c = fell_same (map g.R.Tree.count c.args.readers.now.items)
 
 pub hash_all-requires-clause-told : goal.hash_all-requires-clause-told
 hash_all-requires-clause-told g c =
-    let tree = g.R.Tree.tree in
-    let readers = c.args.readers.now.items in
-    let others = c.read_all.new.readers.items in
     let e = c.in_ok-kept.ensures in
-    let told = first_told (map tree readers) in
-    let some : 0 < length others = still_some tree readers others e.same c.requires.some in
-    let first : tree c.index_mut.result.now ≡ told =
-    ap tree c.index_mut.ensures.value ∙ first_tree tree others c.index_mut.result.now some ∙ ap first_told e.same in
-    subst (λ (fs : List File). Holds (AreDigests (tree c.index_mut.result.now) g.R.Tree.gives fs) c.in_ok-kept.kept) c.deref.ensures.value
-    (subst (λ t. Holds (AreDigests t g.R.Tree.gives c.deref.result.now) c.in_ok-kept.kept) (sym first)
-    (e.told told (all_tell tree readers c.requires.trees)))
+    let first : IsFirst g.R.Tree.tree c.args.readers.now.items c.read_all.new.readers.items c.index_mut.result.now =
+    record { some = c.requires.some; same = e.same; at = c.index_mut.ensures.value } in
+    holds_told first (λ told (files : List File). Holds (AreHashes told g.R.Tree.gives files) c.in_ok-kept.kept) c.deref.result.now c.args.files.now.items
+    c.deref.ensures.value c.requires.trees e.told
 
 pub returns : goal.returns
 returns g c =
-    let tree = g.R.Tree.tree in
-    let count = g.R.Tree.count in
-    let readers = c.args.readers.now.items in
-    let others = c.read_all.new.readers.items in
     let e = c.in_ok-kept.ensures in
     let h = c.hash_all.ensures in
-    let x = c.index_mut.result.now in
     let y = c.hash_all.new.reader in
-    let told = first_told (map tree readers) in
-    let some : 0 < length others = still_some tree readers others e.same c.requires.some in
-    let value : x ≡ get_or others 0 x = c.index_mut.ensures.value in
-    let first : tree x ≡ told = ap tree value ∙ first_tree tree others x some ∙ ap first_told e.same in
-    let kept : count (get_or others 0 x) ≤ count y = subst (λ n. n ≤ count y) (ap count value) h.count.kept in
+    let first : IsFirst g.R.Tree.tree c.args.readers.now.items c.read_all.new.readers.items c.index_mut.result.now =
+    record { some = c.requires.some; same = e.same; at = c.index_mut.ensures.value } in
     record {
-      hashed = subst (λ t. OnOk c.hash_all.result ((list : List Entry) → AreListed t list (length list) c.args.files.now.items → AreHashed t list c.hash_all.new.files.items c.hash_all.new.found)) first h.hashed;
+      hashed = subst (λ t. OnOk c.hash_all.result ((list : List Entry) → AreListed t list (length list) c.args.files.now.items →
+          AreHashed t list c.hash_all.new.files.items c.hash_all.new.found)) (tells first) h.hashed;
       alike = h.alike;
+      whole = h.whole;
       counted = on_one c.hash_all.result _ _
-          (λ k. then_rose count readers others x y some e.none_fell kept (length c.hash_all.new.found.failed) (held hash_faults c.in_ok-kept.kept) e.counted
-          (subst (λ n. KeepsUp (held hash_faults c.in_ok-kept.kept) (length c.hash_all.new.found.failed) n (count y)) (ap count value) k)) h.counted;
+          (rise_on first g.R.Tree.count y e.none_fell h.count (length c.hash_all.new.found.failed) (held hash_faults c.in_ok-kept.kept) e.counted) h.counted;
       causes = h.causes;
-      none_fell = then_fell count readers others x y some e.none_fell kept;
-      same = first_same tree others x y some (h.same ∙ ap tree value) ∙ e.same;
+      none_fell = none_falls first g.R.Tree.count y e.none_fell h.count;
+      same = same_told first y h.same;
     }

@@ -4,8 +4,8 @@ use Rattle.shared_reads.specs.Kept.{Holds, held}
 use Rattle.tree_dup.specs.Grouping.{HaveCauses}
 use Rattle.tree_dup.specs.declared.runs.File.{File}
 use Rattle.tree_dup.specs.declared.runs.Standing.TheVariants.{Alike}
-use Rattle.tree_dup.specs.Private.Hashing.{AreDigests, hash_faults}
-use Rattle.tree_dup.specs.Private.Running.{KeepsUp}
+use Rattle.tree_dup.specs.Private.Hashing.{AreHashes, IsWhole, hash_faults}
+use Rattle.shared_reads.specs.Counts.{KeepsUp}
 use Rattle.tree_dup.specs.Private.Sifting.{AreListed}
 use Rattle.tree_dup.proofs.Hashed.{AreHashedFrom}
 use Rattle.tree_dup.proofs.hashing.hash_all.Given as goal
@@ -17,9 +17,10 @@ invariant-loop-place g l =
     record {
       inside : l.place ≤ length l.files.items;
       front : (j : ℕ) (d : File) → j < l.place → get_or l.files.items j d ≡ get_or l.fn.files.items j d;
-      told : Holds (AreDigests tree reader.gives l.fn.files.items) l.kept;
+      told : Holds (AreHashes tree reader.gives l.fn.files.items) l.kept;
       hashed : (list : List Entry) → AreListed tree list (length list) l.fn.files.items → AreHashedFrom tree list l.place l.files.items l.found;
       alike : All (λ f. f.standing ≡ Alike) l.files.items;
+      whole : (j : ℕ) (d : File) → l.place ≤ j → j < length l.files.items → IsWhole reader.gives (get_or l.files.items j d);
       counted : KeepsUp (held hash_faults l.fn.kept) (length l.found.failed + held hash_faults l.kept) (reader.count l.fn.reader) (reader.count l.reader);
       causes : HaveCauses reader.gives l.found;
       same : reader.tree l.reader ≡ tree;

@@ -1,11 +1,11 @@
-use Rattle.tree_dup.proofs.Hashed.{digest_faults}
+use Rattle.tree_dup.proofs.Hashed.{faults_of_hash}
 use Rattle.tree_dup.proofs.hashing.hash_of.Goals as goal
 
 pub returns : goal.returns
 returns g c =
-    let e = c.digest_of.ensures in
+    let e = c.read_hash.ensures in
     record {
-      digest = record { digest = e.told; unchanged = e.changed; empty = e.empty; shows = e.shows };
+      hash = record { told = e.told; unchanged = e.changed; empty = e.empty; shows = e.shows; whole = e.whole };
       same = e.same;
-      cause = digest_faults c.digest_of.result _ _ e.count e.cause;
+      cause = faults_of_hash c.read_hash.result _ _ e.count e.cause;
     }

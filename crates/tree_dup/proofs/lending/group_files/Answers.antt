@@ -4,7 +4,7 @@ use Rattle.outside.specs.Count.{RoseBy}
 use Rattle.tree_cmp.specs.Readers.{StatsTold}
 use Rattle.tree_cmp.proofs.Counted.{first_is, alike, counted}
 use Rattle.tree_dup.specs.Grouping.{IsGrouping}
-use Rattle.tree_dup.proofs.Done.{if_ok}
+use Rattle.tree_dup.proofs.Counted.{if_ok}
 use Rattle.tree_dup.proofs.lending.group_files.Goals as goal
 
 pub find_groups-found-requires-clause-alike : goal.find_groups-found-requires-clause-alike
