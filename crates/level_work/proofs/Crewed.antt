@@ -87,7 +87,7 @@ module _ {A P D : Type 0} (tree : P → Option Files) (area : P → Area) (part_
         ),
       )
 
-  worked_like : Like lots lots'
+  pub worked_like : Like lots lots'
   worked_like i lot' at = let w = before_work i lot' at in record { it = w.lot; here = w.here; same = ap (λ v. v.items) (sym w.did.keeps.places) }
 
   worked_back : Like lots' lots

@@ -1,24 +1,30 @@
 -- How the items of a level are dealt.
 use Rattle.std.proofs.Common.{◌≡◌, ◌⊎◌, inl, inr, ⊎_elim, ℕ, zero, suc, ◌+◌, ◌<◌, ◌≤◌, Bool, true, false, List, [], ◌∷◌, ◌++◌, length, map, Some, None}
-use Rattle.std.proofs.Common.{refl, ap, ◌∙◌, sym, subst, arith, eqb, nat_lt, slice_get}
+use Rattle.std.proofs.Common.{refl, ap, ◌∙◌, sym, subst, arith, eqb, nat_eq, nat_lt, slice_get, cond, take, ◌%◌}
 use Rattle.std.specs.Prelude.{slice_set}
 use Rattle.std.proofs.lemmas.Bool.{false≢true}
+use Rattle.std.proofs.lemmas.Bool.Decides.{nat_tests}
+use Rattle.std.proofs.lemmas.List.{length_push}
+use Rattle.std.proofs.lemmas.List.Sums.{sum_by-append}
 use Rattle.std.proofs.lemmas.Option.{slice_get_within}
+use Rattle.std.specs.List.{count_by}
 use Rattle.path_text.specs.Order.{is_within, TopsAreNested}
 use Rattle.path_text.specs.Path.{level_of, parent_of, refusal}
 use Rattle.path_text.proofs.Levels.{under_deeper}
 use Rattle.path_text.proofs.Within.{same_or_under, some_bytes}
+use Rattle.level_work.specs.Fates.{is_on, place_of}
 use Rattle.level_work.specs.Levels.{AreItems, FailsWith, HasFailedParent}
 use Rattle.level_work.specs.Chain.{AllBelow, level_at}
 use Rattle.level_work.specs.Private.Crews.{InLot, Dealt, AreShares, SameSeats}
 use Rattle.level_work.specs.Private.Dealing.{IsAmong, Knows, AreOnLevel, AreByLevel, AreFailed, has_path, In, DealtTo, DealsOne, left_out, dealt_to}
+use Rattle.level_work.specs.Private.Dealing.{AreInTurn}
 use Rattle.level_work.specs.declared.items.Item.{Item}
 use Rattle.level_work.specs.declared.items.Fate.{Fate}
 use Rattle.level_work.specs.declared.items.Order.{Order}
 use Rattle.level_work.specs.declared.items.Order.TheVariants as order
 use Rattle.level_work.specs.declared.lots.Lot.{Lot}
 use Rattle.level_work.proofs.Crewed.{map_get}
-use Rattle.level_work.proofs.Giving.{get_set_same, get_set_other, get_end, get_front, length_set, map_set}
+use Rattle.level_work.proofs.Giving.{get_set_same, get_set_other, get_end, get_front, length_set, map_set, split_take_suc}
 use Rattle.level_work.proofs.Leases.{Written, written_here, written_there, written, same_number, other_number, is_less, not_less}
 use Rattle.level_work.proofs.Working.{same_some, get_more}
 
@@ -179,6 +185,15 @@ module _ {A P : Type 0} where
       last : (t : ℕ) → t < n + 1 → n ≤ t → n ≡ t
       last t l m = omega (arith, l, m)
 
+  -- no share has a place
+  pub turn_none : (places : List ℕ) (lots : List (Lot A P)) → ((i : ℕ) (lot : Lot A P) → slice_get lots i ≡ Some lot → lot.places.items ≡ [])
+      → AreInTurn places lots
+  turn_none places lots empty i j k t e at = absurd (nothing e.lot.places.items (empty i e.lot e.is_lot) e.at)
+    where
+      nothing : (xs : List ℕ) → xs ≡ [] → slice_get xs j ≡ Some k → ⊥
+      nothing [] e s = cc
+      nothing (x ∷ xs) e s = cc
+
   pub all_dealt : (o : Order) (level n : ℕ) (items : List Item) (fates : List Fate) (places : List ℕ) (lots : List (Lot A P)) → TopsAreNested
       → AreItems items → AreOnLevel (length items) level items places → length places ≤ n →
       DealtTo n o items fates places lots → AreShares o level items fates lots
@@ -210,6 +225,38 @@ module _ {A P : Type 0} where
 
 -- the places by level
 
+count_next : (p : Item → Bool) (items : List Item) (n : ℕ) (x : Item) → slice_get items n ≡ Some x
+    → count_by p (take (n + 1) items) ≡ count_by p (take n items) + cond (p x) 1 0
+count_next p items n x e = ap (λ m. count_by p (take m items)) (more n) ∙ ap (count_by p) (split_take_suc items n x e)
+    ∙ sum_by-append (λ y. cond (p y) 1 0) (take n items) (x ∷ []) ∙ ap (λ m. count_by p (take n items) + m) (none_plus (cond (p x) 1 0))
+  where
+    none_plus : (m : ℕ) → 0 + m ≡ m
+    none_plus m = omega arith
+
+    more : (m : ℕ) → m + 1 ≡ suc m
+    more m = omega arith
+
+-- an item more on the level, and one on another level
+counted_on : (level : ℕ) (items : List Item) (n : ℕ) (x : Item) → slice_get items n ≡ Some x → level_of x.path ≡ level
+    → count_by (is_on level) (take (n + 1) items) ≡ count_by (is_on level) (take n items) + 1
+counted_on level items n x e on = count_next (is_on level) items n x e
+    ∙ ap {B = ℕ} (λ b. count_by (is_on level) (take n items) + cond b 1 0) (same_true (level_of x.path) level on)
+  where
+    same_true : (a b : ℕ) → a ≡ b → nat_eq a b ≡ true
+    same_true a b e = grind (arith, nat_tests)
+
+counted_off : (level : ℕ) (items : List Item) (n : ℕ) (x : Item) → slice_get items n ≡ Some x → (level_of x.path ≡ level → ⊥)
+    → count_by (is_on level) (take (n + 1) items) ≡ count_by (is_on level) (take n items)
+counted_off level items n x e off = count_next (is_on level) items n x e
+    ∙ ap {B = ℕ} (λ b. count_by (is_on level) (take n items) + cond b 1 0) (other_false (level_of x.path) level off)
+    ∙ plus_none (count_by (is_on level) (take n items))
+  where
+    other_false : (a b : ℕ) → (a ≡ b → ⊥) → nat_eq a b ≡ false
+    other_false a b n = grind (arith, nat_tests)
+
+    plus_none : (m : ℕ) → m + 0 ≡ m
+    plus_none m = omega arith
+
 record Mapped {X Y : Type 0} (f : X → Y) (xs : List X) (i : ℕ) (y : Y) : Type 0 where
   it : X
   is_it : slice_get xs i ≡ Some it
@@ -225,7 +272,14 @@ pub no_levels : {V : Type 0} (f : V → List ℕ) (items : List Item) (levels : 
 no_levels f items levels empty l places e = let m = mapped f levels l places e in by places (sym m.same ∙ empty l m.it m.is_it)
   where
     by : (places : List ℕ) → places ≡ [] → AreOnLevel 0 l items places
-    by [] s = record { on_level = λ j k x e is. cc; below = λ j k e. cc; once = λ i j k e h. cc; all = λ k x less is lev. absurd (omega (arith, less)) }
+    by [] s = record {
+      on_level = λ j k x e is. cc;
+      below = λ j k e. cc;
+      once = λ i j k e h. cc;
+      all = λ k x less is lev. absurd (omega (arith, less));
+      many = refl;
+      turn = λ t k e. cc;
+    }
     by (p ∷ ps) s = cc
 
 pub one_place_more : {V : Type 0} (f : V → List ℕ) (n level : ℕ) (items : List Item) (x : Item) (levels : List V) (v v' : V)
@@ -247,6 +301,8 @@ one_place_more f n level items x levels v v' at lev has more w l places e = by (
             | true ↦ λ s. inl (same_number k n s)
             | false ↦ λ s. inr (smaller k less (other_number k n s))
           ] refl);
+      many = length_push (f v) n ∙ ap (λ m. m + 1) d.many ∙ sym (counted_on level items n x at (sym lev));
+      turn = λ t k e'. case_turn t k (get_more (f v) n t k e');
     }
       where
         d : AreOnLevel n level items (f v)
@@ -273,6 +329,10 @@ one_place_more f n level items x levels v v' at lev has more w l places e = by (
         case_once i j k (inr a) (inl b) = absurd (let s = d.below j k b in omega (arith, s, a.1))
         case_once i j k (inr a) (inr b) = a.0 ∙ sym b.0
 
+        case_turn : (t k : ℕ) → (slice_get (f v) t ≡ Some k) ⊎ ((t ≡ length (f v)) × (n ≡ k)) → t ≡ place_of items level k
+        case_turn t k (inl old) = d.turn t k old
+        case_turn t k (inr new) = new.0 ∙ d.many ∙ ap (place_of items level) new.1
+
         case_all : (k : ℕ) (y : Item) → slice_get items k ≡ Some y → level_of y.path ≡ level → (k ≡ n) ⊎ (k < n)
             → IsAmong (length (f v ++ n ∷ [])) (f v ++ n ∷ []) k
         case_all k y is le (inl s) = let e' = get_end (f v) n ∙ ap Some (sym s) in
@@ -295,6 +355,8 @@ one_place_more f n level items x levels v v' at lev has more w l places e = by (
             | true ↦ λ s. d.all k y (is_less k n s) is le
             | false ↦ λ s. absurd (off (sym le ∙ ap (λ (z : Item). level_of z.path) (item k y (let q = not_less k n s in omega (arith, q, less)) is) ∙ sym lev))
           ] refl;
+          many = d.many ∙ sym (counted_off l items n x at (λ s. off (sym s ∙ sym lev)));
+          turn = d.turn;
         }
           where
             d : AreOnLevel n l items places
@@ -347,18 +409,29 @@ pub seats_here : {A P : Type 0} (lots : List (Lot A P)) → SameSeats lots lots
 seats_here lots = record { len = refl; actor = refl; part = refl }
 
 -- one place more is dealt
-module _ {A P : Type 0} (o : Order) (items : List Item) (fates : List Fate) (places : List ℕ) (lots next : List (Lot A P)) (n k : ℕ)
+module _ {A P : Type 0} (o : Order) (items : List Item) (fates : List Fate) (places : List ℕ) (lots next : List (Lot A P)) (n k i : ℕ)
     (at : slice_get places n ≡ Some k) (unique : (a b c : ℕ) → slice_get places a ≡ Some c → slice_get places b ≡ Some c → a ≡ b) where
-  pub dealt_on : DealsOne o items fates k lots next → DealtTo n o items fates places lots → DealtTo (n + 1) o items fates places next
+  pub dealt_on : DealsOne o items fates k i lots next → DealtTo n o items fates places lots → DealtTo (n + 1) o items fates places next
   dealt_on (left_out fails same) d = subst (DealtTo (n + 1) o items fates places) (sym same) (dealt_skip o items fates places lots n k at fails d)
-  dealt_on (dealt_to i lot new at' can more fates' lost same) d =
+  dealt_on (dealt_to lot new at' can more fates' lost same) d =
       subst (DealtTo (n + 1) o items fates places) (sym same) (dealt_more o items fates places lots n i k lot new at' more at unique d can)
 
-  pub fresh_on : DealsOne o items fates k lots next
+  pub turn_on : DealsOne o items fates k i lots next → DealtTo n o items fates places lots → i ≡ n % length lots → AreInTurn places lots
+      → AreInTurn places next
+  turn_on (left_out fails same) d is turn = subst (AreInTurn places) (sym same) turn
+  turn_on (dealt_to lot new at' can more fates' lost same) d is turn = subst (AreInTurn places) (sym same)
+      (λ j t m s e here. by j t m s here (taken o items fates places lots n i k lot new at' more at unique d j t m e)
+      ∙ ap (λ l. s % l) (sym (length_set lots i new)))
+    where
+      by : (j t m s : ℕ) → slice_get places s ≡ Some m → Taken lots i k lot j t m → j ≡ s % length lots
+      by j t m s here (was_in e) = turn j t m s e here
+      by j t m s here (put_in to last new') = to ∙ is ∙ ap (λ p. p % length lots) (unique n s k at (here ∙ ap Some new'))
+
+  pub fresh_on : DealsOne o items fates k i lots next
       → ((j : ℕ) (l : Lot A P) → slice_get lots j ≡ Some l → (l.fates.items ≡ []) × (l.lost ≡ false)) → (j : ℕ) (l : Lot A P)
       → slice_get next j ≡ Some l → (l.fates.items ≡ []) × (l.lost ≡ false)
   fresh_on (left_out fails same) fresh j l e = fresh j l (ap (λ ls. slice_get ls j) (sym same) ∙ e)
-  fresh_on (dealt_to i lot new at' can more fates' lost same) fresh j l e =
+  fresh_on (dealt_to lot new at' can more fates' lost same) fresh j l e =
       all_fresh i lots lot new at' fates' lost fresh j l (ap (λ ls. slice_get ls j) (sym same) ∙ e)
 
 -- the paths that failed say what is left out

@@ -23,7 +23,7 @@ use Rattle.level_work.proofs.Working.{same_some, get_more}
 more : (i : ℕ) → i + 1 ≡ suc i
 more i = omega arith
 
-split_take_suc : {X : Type 0} (xs : List X) (i : ℕ) (x : X) → slice_get xs i ≡ Some x → take (suc i) xs ≡ take i xs ++ x ∷ []
+pub split_take_suc : {X : Type 0} (xs : List X) (i : ℕ) (x : X) → slice_get xs i ≡ Some x → take (suc i) xs ≡ take i xs ++ x ∷ []
 split_take_suc [] i x e = cc
 split_take_suc (y ∷ xs) zero x e = ap (λ z. z ∷ []) (same_some y x e)
 split_take_suc (y ∷ xs) (suc i) x e = ap (λ r. y ∷ r) (split_take_suc xs i x e)

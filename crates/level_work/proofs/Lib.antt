@@ -18,3 +18,4 @@ pub mod Stores
 pub mod Turning
 pub mod Hands
 pub mod Sets
+pub mod Coming

@@ -1,4 +1,4 @@
--- What is done at one path. Our own.
+-- Deeds at one path. Our own.
 use Rattle.std.specs.Prelude.{⊤, ◌≡◌, ℕ, true, List, Some, IfOk, slice_get, Result}
 use Rattle.std.specs.FinMap.{get, retain_keys}
 use Rattle.path_text.specs.Order.{is_within}
@@ -13,7 +13,7 @@ use Rattle.level_work.specs.declared.items.Fate.TheVariants as fate
 use Rattle.level_work.specs.declared.items.Order.{Order}
 use Rattle.level_work.specs.declared.items.Order.TheVariants as order
 
--- what is done at a path with an entry: a relation of a fate and of the nodes at and under the path, before and after
+-- a deed at a path with an entry: a relation of a fate and of the nodes at and under the path, before and after
 abbrev pub Deed : Type 1
 Deed = List ℕ → Entry → Fate → Files → Files → Type 0
 
@@ -33,8 +33,8 @@ Alike shown = (i j : ℕ) (d e : _) → slice_get shown i ≡ Some d → slice_g
 abbrev pub AllShow : {D : Type 0} → D → List D → Type 0
 AllShow d shown = (i : ℕ) (e : _) → slice_get shown i ≡ Some e → e ≡ d
 
--- From the top down an item in which others stand comes to `Done` only where it is a directory then. This is asked of nodes that are as
--- they were before the call, since what an act keeps may be a directory for that reason alone
+-- From the top down an item that holds others comes to `Done` only if it is a directory then. This is asked of nodes that are as
+-- they were before the call. For a node that an act keeps may be a directory for that reason alone
 abbrev pub MakesDirs : Order → Deed → List Item → Files → Type 0
 MakesDirs order.TopDown deed items before = (j k : ℕ) (y x : Item) (b a : Files) → slice_get items j ≡ Some y → slice_get items k ≡ Some x →
     y.path ≡ parent_of x.path → get b y.path ≡ get before y.path → deed y.path y.entry fate.Done b a → is_dir (get a y.path) ≡ true

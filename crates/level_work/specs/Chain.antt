@@ -27,12 +27,12 @@ abbrev pub level_at : Order → ℕ → ℕ → ℕ
 level_at order.TopDown top turn = turn
 level_at order.BottomUp top turn = top - 1 - turn
 
--- whether the items of a level are done, where from the top down those of the levels below t are, and from the bottom up those from t on
+-- whether the items of a level are done: from the top down those of the levels below t are, from the bottom up those from t on
 abbrev pub is_done : Order → ℕ → ℕ → Bool
 is_done order.TopDown t level = nat_lt level t
 is_done order.BottomUp t level = nat_le t level
 
--- what the work on one level does
+-- the work on one level
 pub record OneLevel (deed : Deed) (level : ℕ) (items : List Item) (fates : List Fate) (old new : Files) : Type 0 where
   pub others : (q : List ℕ)
       → ((k : ℕ) (x : Item) → slice_get items k ≡ Some x → level_of x.path ≡ level → pointwise nat_eq q x.path ≡ false)
@@ -46,11 +46,12 @@ pub record OneLevel (deed : Deed) (level : ℕ) (items : List Item) (fates : Lis
 abbrev pub is_done_path : Order → ℕ → List Item → List ℕ → Bool
 is_done_path o t items q = list_any (λ item. pointwise nat_eq q item.path && is_done o t (level_of item.path)) items
 
--- the map once some levels are done: what is left at the paths of their items, and else what was there before
+-- the map once some levels are done: at the paths of their items as afterwards, at all others as before
 unfoldable pub stage : Order → ℕ → List Item → Files → Files → Files
 stage o t items before after = put_all (entries (retain_keys after (is_done_path o t items))) (retain_keys before (λ q. not (is_done_path o t items q)))
 
--- one map after each level: the first level starts from the map before, the last of them is the map after, and each level does its deeds from one to the next
+-- one map after each level: the first level starts from the map before, and the last of them is the map after. Each level does its
+-- deeds from one to the next
 pub record IsChain (deed : Deed) (o : Order) (top : ℕ) (items : List Item) (fates : List Fate) (before after : Files) : Type 0 where
   pub first : stage o (mark_at o top 0) items before after ≡ before
   pub last : stage o (mark_at o top top) items before after ≡ after

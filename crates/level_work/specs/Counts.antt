@@ -18,10 +18,10 @@ pub record NoneFell (old new : List ℕ) : Type 0 where
   pub len : length new ≡ length old
   pub kept : (i m n : ℕ) → slice_get old i ≡ Some m → slice_get new i ≡ Some n → m ≤ n
 
--- none of these counts stands at its end
+-- none of these counts is at its largest value
 abbrev pub NoneAtEnd : List ℕ → Type 0
 NoneAtEnd counts = (i k : ℕ) → slice_get counts i ≡ Some k → k < 2 ^ 64 - 1
 
--- so many failures were counted by the ground and the actors together, unless one of their counts stands at its end
+-- the ground and the actors together counted so many failures, unless one of their counts is at its largest value
 pub record BlamedAll (n ground : ℕ) (actors : List ℕ) (ground' : ℕ) (actors' : List ℕ) : Type 0 where
   pub rose : ground' < 2 ^ 64 - 1 → NoneAtEnd actors' → ground + sum actors + n ≤ ground' + sum actors'

@@ -1,4 +1,5 @@
--- Work on items level by level: what each item finds and leaves, which items are not touched, and what is left of all. Our own.
+-- Work on items level by level: the nodes that each item finds and leaves, the items that are not touched, and the map after all.
+-- Our own.
 use Rattle.std.specs.Prelude.{◌≡◌, ◌≢◌, ◌↔◌, ℕ, Bool, true, false, List, nat_eq, Option, Some, None, slice_get}
 use Rattle.std.specs.List.{list_any}
 use Rattle.std.specs.FinMap.{get, insert, remove}
@@ -21,7 +22,7 @@ pub record AreItems (items : List Item) : Type 0 where
 abbrev pub is_item : List Item → List ℕ → Bool
 is_item items q = list_any (λ item. pointwise nat_eq q item.path) items
 
--- where the items stand: in a directory, and from the top down it may also be another item
+-- where the items are: in a directory, and from the top down it may also be another item
 abbrev pub StandIn : Order → List Item → Files → Type 0
 StandIn order.TopDown items files = (k : ℕ) (x : Item) → slice_get items k ≡ Some x → is_item items (parent_of x.path) ≡ false
     → is_dir (get files (parent_of x.path)) ≡ true
@@ -32,8 +33,8 @@ abbrev pub with_at : List ℕ → Option Node → Files → Files
 with_at path None files = remove files path
 with_at path (Some node) files = insert files path node
 
--- What an item finds at and under its path as its level begins, and what it leaves there, told by the maps before and after all
--- levels. From the top down nothing under the path was touched yet; from the bottom up all under it was.
+-- The nodes at and under an item's path as its level begins, and those that it leaves there, by the maps before and after all
+-- levels. From the top down nothing under the path was touched yet. From the bottom up all under it was.
 abbrev pub found : Order → List ℕ → Files → Files → Files
 found order.TopDown path before after = at_and_under path before
 found order.BottomUp path before after = with_at path (get before path) (at_and_under path after)
@@ -47,16 +48,16 @@ pub record HasFate (deed : Deed) (o : Order) (before after : Files) (item : Item
   pub touched : f ≢ fate.ParentFailed → deed item.path item.entry f (found o item.path before after) (left o item.path before after)
   pub untouched : f ≡ fate.ParentFailed → get after item.path ≡ get before item.path
 
--- every path that is no item is as before
+-- every path that is not an item is as before
 abbrev pub SameButItems : List Item → Files → Files → Type 0
 SameButItems items before after = (q : List ℕ) → is_item items q ≡ false → get after q ≡ get before q
 
--- all levels: each path that is no item is as before, and each item has its fate
+-- all levels: each path that is not an item is as before, and each item has its fate
 pub record Acted (deed : Deed) (o : Order) (items : List Item) (fates : List Fate) (before after : Files) : Type 0 where
   pub others : SameButItems items before after
   pub each : (k : ℕ) (item : Item) (f : Fate) → slice_get items k ≡ Some item → slice_get fates k ≡ Some f → HasFate deed o before after item f
 
--- an item stands under another one that did not come to `Done`
+-- an item is under another one that did not come to `Done`
 pub record HasFailedParent (items : List Item) (fates : List Fate) (x : Item) : Type 0 where
   pub place : ℕ
   pub item : Item
@@ -70,7 +71,7 @@ abbrev pub FailsWith : Order → List Item → List Fate → Item → Type 0
 FailsWith order.TopDown items fates x = HasFailedParent items fates x
 FailsWith order.BottomUp items fates x = ⊥
 
--- exactly the items under one that did not come to `Done` are told so
+-- exactly the items under one that did not come to `Done` have the fate `ParentFailed`
 abbrev pub ParentsFail : Order → List Item → List Fate → Type 0
 ParentsFail o items fates = (k : ℕ) (x : Item) (f : Fate) → slice_get items k ≡ Some x → slice_get fates k ≡ Some f
     → (f ≡ fate.ParentFailed) ↔ FailsWith o items fates x

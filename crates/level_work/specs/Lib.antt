@@ -3,3 +3,4 @@ pub mod Levels
 pub mod Counts
 pub mod Chain
 pub mod Private
+pub mod Fates

@@ -7,3 +7,4 @@ pub mod Leasing
 pub mod Dealing
 pub mod Storing
 pub mod Turns
+pub mod Coming

@@ -6,6 +6,7 @@ ghost use Rattle.level_work.specs.Acts.{AllShow};
 ghost use Rattle.level_work.specs.Counts.{is_failed};
 ghost use Rattle.level_work.specs.Levels.{AreItems};
 ghost use Rattle.level_work.specs.Chain.{OneLevel};
+ghost use Rattle.level_work.specs.Private.Coming.{LevelCame};
 ghost use Rattle.level_work.specs.Private.Steps.{CanStep, SameButLevel, TellsLevel};
 ghost use Rattle.level_work.specs.Private.Crews.{AtHome, BlamedMore, SameActors};
 ghost use Rattle.level_work.specs.Private.Dealing.{AreOnLevel, Knows};
@@ -13,6 +14,7 @@ ghost use Rattle.level_work.specs.Private.Dealing.{AreOnLevel, Knows};
 use crate::acts::Act;
 use crate::dealing::deal;
 use crate::failures::Paths;
+use crate::hosts::Hosts;
 use crate::items::{Fate, Item, Order};
 use crate::leasing::{give_all, lease_all};
 use crate::lots::{Lot, work_all};
@@ -22,10 +24,7 @@ use path_text::OutOfMemory;
 use std::alloc::Global;
 use std::thread::Threads;
 
-// A level with fewer items runs on the calling thread alone.
-const FEW: usize = 256;
-
-// One level by all actors, in up to `hosts` threads: its shares are dealt, all leased, worked on, and all given back.
+// All actors work on one level, in as many threads as it is worth. Its shares are dealt, leased, worked on, and given back.
 pub(crate) fn one_level<R: Threads + Sync, G: Ground, A: Act<G::Part> + Send>(
     rt: &R,
     alloc: Global,
@@ -37,11 +36,11 @@ pub(crate) fn one_level<R: Threads + Sync, G: Ground, A: Act<G::Part> + Send>(
     order: Order,
     level: usize,
     places: &[usize],
-    hosts: u32,
+    hosts: Hosts,
 ) -> Result<(), OutOfMemory>
 where
     G::Part: Send,
-    requires hosts { 1 ≤ hosts }
+    requires hosts { 1 ≤ hosts.most }
     requires area { G.area ground.old ≡ nothing_lent }
     requires some { 0 < length lots.old }
     requires home { AtHome lots.old }
@@ -59,6 +58,8 @@ where
     ensures told { OnOk result ((d : A.Plain) → AllShow d (map (λ lot. A.plain lot.actor) lots.old) → IfSome (G.tree ground.old) (λ old. IfSome (G.tree ground.new) (OneLevel (A.deed d) level items.now fates.new old))) }
     ensures blamed { OnOk result (BlamedMore (count_by is_failed fates.old) (count_by is_failed fates.new) (G.count ground.old) (map (λ lot. A.count lot.actor) lots.old) (G.count ground.new) (map (λ lot. A.count lot.actor) lots.new)) }
     ensures rest { OnErr result (IfSome (G.tree ground.old) (λ old. IfSome (G.tree ground.new) (SameButLevel level items.now old))) }
+    ensures who { map (λ lot. A.who lot.actor) lots.new ≡ map (λ lot. A.who lot.actor) lots.old }
+    ensures came { OnOk result (LevelCame A.may_come (map (λ lot. A.who lot.actor) lots.old) items.now fates.new level) }
 {
     deal(items, fates, failed, order, level, places, lots)?;
     match lease_all(alloc, ground, items, order, level, fates, lots) {
@@ -68,7 +69,7 @@ where
             return Err(refused);
         }
     }
-    work_all(rt, alloc, items, lots, threads_for(places.len(), hosts));
+    work_all(rt, alloc, items, lots, hosts.threads_for(items, places));
     give_all(ground, lots);
     if any_lost(lots) {
         return Err(OutOfMemory);
@@ -77,15 +78,7 @@ where
     Ok(())
 }
 
-// How many threads a level with so many items is worth.
-fn threads_for(count: usize, hosts: u32) -> usize
-    requires { 1 ≤ hosts }
-    ensures { 0 < result }
-{
-    if count < FEW { 1 } else { hosts as usize }
-}
-
-// Whether an actor found no memory.
+// Whether an actor is out of memory.
 fn any_lost<A, P>(lots: &[Lot<A, P>]) -> bool
     ensures { result ≡ false → (i : ℕ) (lot : Lot A P) → slice_get lots.now i ≡ Some lot → lot.lost ≡ false }
 {

@@ -5,7 +5,7 @@ ghost use Rattle.outside.specs.Tree.{is_root};
 ghost use Rattle.level_work.specs.Levels.{AreItems, FailsWith};
 ghost use Rattle.level_work.specs.Chain.{AllBelow};
 ghost use Rattle.level_work.specs.Private.Crews.{AreShares, SameSeats};
-ghost use Rattle.level_work.specs.Private.Dealing.{AreByLevel, AreOnLevel, DealsOne, Knows};
+ghost use Rattle.level_work.specs.Private.Dealing.{AreByLevel, AreInTurn, AreOnLevel, DealsOne, Knows};
 
 use crate::failures::Paths;
 use crate::items::{Fate, Item, Order};
@@ -50,7 +50,7 @@ fn no_places(alloc: Global, count: usize) -> Result<Vec<Vec<usize>>, OutOfMemory
     Ok(levels)
 }
 
-// Deals the items of a level whose parent did not fail: the item k of them to the lot k mod the number of lots.
+// Deals the items of a level whose parent did not fail: item k of them goes to the lot k mod the number of lots.
 pub(crate) fn deal<A, P>(
     items: &[Item],
     fates: &[Fate],
@@ -66,6 +66,7 @@ pub(crate) fn deal<A, P>(
     requires knows { Knows order items.now fates.now failed.now.set.keys }
     ensures seats { SameSeats lots.old lots.new }
     ensures shares { OnOk result (AreShares order level items.now fates.now lots.new) }
+    ensures turn { OnOk result (AreInTurn places.now lots.new) }
     ensures fresh { OnOk result ((i : ℕ) (lot : Lot A P) → slice_get lots.new i ≡ Some lot → (lot.fates.items ≡ []) × (lot.lost ≡ false)) }
 {
     tops_are_nested();
@@ -92,7 +93,7 @@ fn deal_one<A, P>(
     requires items { AreItems items.now }
     requires knows { Knows order items.now fates.now failed.now.set.keys }
     ensures seats { SameSeats lots.old lots.new }
-    ensures dealt { OnOk result (DealsOne order items.now fates.now k lots.old lots.new) }
+    ensures dealt { OnOk result (DealsOne order items.now fates.now k i lots.old lots.new) }
 {
     if is_left_out(items, fates, failed, order, k)? {
         return Ok(());
@@ -134,7 +135,7 @@ fn take<A, P>(lot: &mut Lot<A, P>, k: usize) -> Result<(), OutOfMemory>
     Ok(())
 }
 
-// Whether the item at a place stands under one that did not come to `Done`.
+// Whether the item at a place is under one that did not come to `Done`.
 fn is_left_out(
     items: &[Item],
     fates: &[Fate],

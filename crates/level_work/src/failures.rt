@@ -16,7 +16,7 @@ pub(crate) struct Paths {
 }
 
 impl Paths {
-    // None yet. It takes no memory.
+    // None yet. This takes no memory.
     pub(crate) fn none(alloc: Global) -> Paths
         ensures { result.set.keys ≡ [] }
     {
@@ -25,7 +25,7 @@ impl Paths {
         }
     }
 
-    // Whether the path over this one is among them. Where there are none no memory is taken.
+    // Whether the parent of this path is among them. If there are none, this takes no memory.
     pub(crate) fn has_parent_of(&self, path: &Path) -> Result<bool, OutOfMemory>
         requires { is_root path.now ≡ false }
         ensures { IfOk result (λ has. has ≡ has_path self.now.set.keys (parent_of path.now)) }

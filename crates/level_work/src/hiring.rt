@@ -1,4 +1,4 @@
-//! Actors become lots, and actors again.
+//! Actors become lots, and lots become actors again.
 ghost use Rattle.std.specs.Prelude.{◌≡◌, ◌≤◌, [], None, length, map, IfOk, OnOk, OnErr};
 ghost use Rattle.std.specs.Vec.{vec_len, vec_capacity};
 ghost use Rattle.level_work.specs.Private.Crews.{AtHome};
@@ -8,7 +8,7 @@ use path_text::OutOfMemory;
 use std::alloc::Global;
 use std::mem;
 
-// A lot without a share for each actor. Room for all of them is left behind.
+// A lot without a share for each actor. The actors' list keeps room for all of them.
 pub(crate) fn hired<A: Drop, P: Drop>(
     alloc: Global,
     actors: &mut Vec<A>,

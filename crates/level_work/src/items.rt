@@ -1,4 +1,4 @@
-//! Items, the order of their levels, and what became of them.
+//! Items, the order of their levels, and their fates.
 use flat_list::Entry;
 use path_text::Path;
 
@@ -11,20 +11,20 @@ pub enum Order {
     BottomUp,
 }
 
-/// What became of an item. Each act says by its relation what its fates mean; `ParentFailed` is no act's.
+/// The outcome of an item. Each act says by its relation what its fates mean. No act gives `ParentFailed`.
 #[derive(Clone, Copy, Debug, Drop, PartialEq, Eq)]
 pub enum Fate {
-    /// What was to be done is done.
+    /// The act did it.
     Done,
-    /// The outside failed, and has counted it.
+    /// A call to the outside failed, and the outside counted it.
     Failed,
-    /// What stands there is in the way.
+    /// The node at the path is in the way.
     Conflict,
-    /// Nothing is done at an item like this.
+    /// The act does nothing at an item like this.
     Skipped,
-    /// The item over it did not come to `Done`, and it was not touched.
+    /// The item above it did not come to `Done`, and this one was not touched.
     ParentFailed,
-    /// What stands there is not what its entry told.
+    /// The node at the path differs from its entry.
     Changed,
     /// The directory has a child.
     NotEmpty,
@@ -32,11 +32,11 @@ pub enum Fate {
     TooLong,
 }
 
-/// A path at which something is done, with what is told of it. The entry may be of another path.
+/// A path at which an actor acts, with an entry for the act. The entry may be of another path.
 #[derive(Debug, Drop)]
 pub struct Item {
-    /// Where something is done.
+    /// The path at which an actor acts.
     pub path: Path,
-    /// What the act is told.
+    /// The entry that the act gets.
     pub entry: Entry,
 }

@@ -5,6 +5,7 @@ ghost use Rattle.std.specs.List.{count_by};
 ghost use Rattle.outside.specs.Writes.{nothing_lent};
 ghost use Rattle.level_work.specs.Acts.{Alike, AllShow, MakesDirs};
 ghost use Rattle.level_work.specs.Counts.{BlamedAll, NoneFell, is_failed};
+ghost use Rattle.level_work.specs.Fates.{EachMayCome};
 ghost use Rattle.level_work.specs.Levels.{Acted, AreItems, ParentsFail, SameButItems, StandIn};
 ghost use Rattle.level_work.specs.Chain.{AllBelow, level_at};
 ghost use Rattle.level_work.specs.Private.Crews.{AtHome, BlamedMore, SameActors};
@@ -15,6 +16,7 @@ use crate::crews::one_level;
 use crate::dealing::places_by_level;
 use crate::failures::Paths;
 use crate::hiring::{dismissed, hired};
+use crate::hosts::Hosts;
 use crate::items::{Fate, Item, Order};
 use crate::lots::Lot;
 use crate::outcomes::Outcome;
@@ -24,9 +26,9 @@ use path_text::OutOfMemory;
 use std::alloc::Global;
 use std::thread::Threads;
 
-/// Acts at each item, level by level. The items of a level are dealt to the actors in turn, each actor's share is leased, all
-/// shares are worked in up to `hosts` threads, and all parts are given back, also where memory was wanting. From the top down
-/// an item under one that did not come to `Done` is not touched. All actors are there again afterwards, in their order.
+/// Acts at each item, level by level. It deals the items of a level to the actors in turn and leases each actor's share. Up to
+/// `hosts.most` threads work on the shares. Then it gives all parts back, also if it is out of memory. From the top down an item
+/// under one that did not come to `Done` is not touched. Afterwards all actors are there again, in their order.
 pub fn on_levels<R: Threads + Sync, G: Ground, A: Act<G::Part> + Send + Drop>(
     rt: &R,
     alloc: Global,
@@ -34,11 +36,11 @@ pub fn on_levels<R: Threads + Sync, G: Ground, A: Act<G::Part> + Send + Drop>(
     order: Order,
     ground: &mut G,
     actors: &mut Vec<A>,
-    hosts: u32,
+    hosts: Hosts,
 ) -> Result<Outcome, OutOfMemory>
 where
     G::Part: Send,
-    requires hosts { 1 ≤ hosts }
+    requires hosts { 1 ≤ hosts.most }
     requires home { G.area ground.old ≡ nothing_lent }
     requires some { 0 < length actors.old.items }
     requires alike { Alike (map A.plain actors.old.items) }
@@ -48,12 +50,14 @@ where
     ensures home { G.area ground.new ≡ nothing_lent }
     ensures tells { is_some (G.tree ground.new) ≡ is_some (G.tree ground.old) }
     ensures plain { map A.plain actors.new.items ≡ map A.plain actors.old.items }
+    ensures who { map A.who actors.new.items ≡ map A.who actors.old.items }
     ensures kept { G.count ground.old ≤ G.count ground.new }
     ensures none_fell { NoneFell (map A.count actors.old.items) (map A.count actors.new.items) }
     ensures len { IfOk result (λ fates. length fates ≡ length items.now) }
     ensures failed { IfOk result (ParentsFail order items.now) }
     ensures told { IfOk result (λ fates. (d : A.Plain) → AllShow d (map A.plain actors.old.items) → IfSome (G.tree ground.old) (λ before. IfSome (G.tree ground.new) (Acted (A.deed d) order items.now fates before))) }
     ensures blamed { IfOk result (λ fates. BlamedAll (count_by is_failed fates) (G.count ground.old) (map A.count actors.old.items) (G.count ground.new) (map A.count actors.new.items)) }
+    ensures each_may_come { IfOk result (EachMayCome A.may_come (map A.who actors.old.items) items.now) }
     ensures rest { OnErr result (IfSome (G.tree ground.old) (λ before. IfSome (G.tree ground.new) (SameButItems items.now before))) }
 {
     let levels = places_by_level(alloc, items)?;
@@ -72,11 +76,11 @@ fn all_levels<R: Threads + Sync, G: Ground, A: Act<G::Part> + Send + Drop>(
     items: &[Item],
     order: Order,
     levels: &[Vec<usize>],
-    hosts: u32,
+    hosts: Hosts,
 ) -> Result<Outcome, OutOfMemory>
 where
     G::Part: Send,
-    requires hosts { 1 ≤ hosts }
+    requires hosts { 1 ≤ hosts.most }
     requires area { G.area ground.old ≡ nothing_lent }
     requires some { 0 < length lots.old }
     requires home { AtHome lots.old }
@@ -94,6 +98,8 @@ where
     ensures failed { IfOk result (ParentsFail order items.now) }
     ensures told { IfOk result (λ fates. (d : A.Plain) → AllShow d (map (λ lot. A.plain lot.actor) lots.old) → IfSome (G.tree ground.old) (λ before. IfSome (G.tree ground.new) (Acted (A.deed d) order items.now fates before))) }
     ensures blamed { IfOk result (λ fates. BlamedMore 0 (count_by is_failed fates) (G.count ground.old) (map (λ lot. A.count lot.actor) lots.old) (G.count ground.new) (map (λ lot. A.count lot.actor) lots.new)) }
+    ensures who { map (λ lot. A.who lot.actor) lots.new ≡ map (λ lot. A.who lot.actor) lots.old }
+    ensures each_may_come { IfOk result (EachMayCome A.may_come (map (λ lot. A.who lot.actor) lots.old) items.now) }
     ensures rest { OnErr result (IfSome (G.tree ground.old) (λ before. IfSome (G.tree ground.new) (SameButItems items.now before))) }
 {
     let mut fates = no_fates(alloc, items.len())?;
@@ -103,7 +109,7 @@ where
     Ok(Outcome { fates })
 }
 
-// The same, with the fates in a list that has room for all.
+// Works on all levels, with the fates in a list that has room for all.
 fn run_levels<R: Threads + Sync, G: Ground, A: Act<G::Part> + Send + Drop>(
     rt: &R,
     alloc: Global,
@@ -113,11 +119,11 @@ fn run_levels<R: Threads + Sync, G: Ground, A: Act<G::Part> + Send + Drop>(
     order: Order,
     levels: &[Vec<usize>],
     fates: &mut [Fate],
-    hosts: u32,
+    hosts: Hosts,
 ) -> Result<(), OutOfMemory>
 where
     G::Part: Send,
-    requires hosts { 1 ≤ hosts }
+    requires hosts { 1 ≤ hosts.most }
     requires area { G.area ground.old ≡ nothing_lent }
     requires some { 0 < length lots.old }
     requires home { AtHome lots.old }
@@ -137,6 +143,8 @@ where
     ensures failed { OnOk result (ParentsFail order items.now fates.new) }
     ensures told { OnOk result ((d : A.Plain) → AllShow d (map (λ lot. A.plain lot.actor) lots.old) → IfSome (G.tree ground.old) (λ before. IfSome (G.tree ground.new) (Acted (A.deed d) order items.now fates.new before))) }
     ensures blamed { OnOk result (BlamedMore 0 (count_by is_failed fates.new) (G.count ground.old) (map (λ lot. A.count lot.actor) lots.old) (G.count ground.new) (map (λ lot. A.count lot.actor) lots.new)) }
+    ensures who { map (λ lot. A.who lot.actor) lots.new ≡ map (λ lot. A.who lot.actor) lots.old }
+    ensures each_may_come { OnOk result (EachMayCome A.may_come (map (λ lot. A.who lot.actor) lots.old) items.now fates.new) }
     ensures rest { OnErr result (IfSome (G.tree ground.old) (λ before. IfSome (G.tree ground.new) (SameButItems items.now before))) }
 {
     let mut failed = Paths::none(alloc);

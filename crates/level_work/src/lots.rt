@@ -2,7 +2,8 @@
 ghost use Rattle.std.specs.Prelude.{◌≡◌, ◌≢◌, ◌⊎◌, ◌+◌, ◌<◌, ℕ, false, length, Some, OnOk, OnErr, IfOk, IfSome, IsTrue, is_some, slice_get, slice_index_or};
 ghost use Rattle.outside.specs.Count.{RoseBy};
 ghost use Rattle.outside.specs.Writes.{is_top, is_open};
-ghost use Rattle.level_work.specs.Private.Lots.{part_tree, part_area, part_count, IsAt, Ready, Stepped, Stopped, HasWorked};
+ghost use Rattle.level_work.specs.Private.Coming.{IsWorked, OneCame};
+ghost use Rattle.level_work.specs.Private.Lots.{part_tree, part_area, part_count, IsAt, Ready, Stepped, Stopped};
 
 use crate::acts::Act;
 use crate::items::{Fate, Item};
@@ -12,7 +13,7 @@ use std::alloc::Global;
 use std::thread;
 use std::thread::Threads;
 
-// An actor with the part that it writes, the places of its items, and their fates so far. It is lost where no memory was found.
+// An actor with the part that it writes, the places of its items, and their fates so far. It is lost if it is out of memory.
 #[derive(Drop)]
 pub(crate) struct Lot<A, P> {
     pub(crate) actor: A,
@@ -34,6 +35,8 @@ impl<A, P> Lot<A, P> {
         requires open { (x : _) → IsAt items.now self.old.places.items j x → IsTrue (is_open (part_area P.area self.old.part) x.path) }
         ensures ok { OnOk result (Stepped (part_tree P.tree) (part_area P.area) (part_count P.count) A.plain A.count A.deed items.now j self.old self.new) }
         ensures err { OnErr result (Stopped (part_tree P.tree) (part_area P.area) (part_count P.count) A.plain A.count A.deed items.now j self.old self.new) }
+        ensures came { OnOk result (OneCame A.who A.may_come items.now j self.old self.new) }
+        ensures who { A.who self.new.actor ≡ A.who self.old.actor }
     {
         let item = &items[self.places[j]];
         let Some(part) = &mut self.part else {
@@ -44,13 +47,13 @@ impl<A, P> Lot<A, P> {
         Ok(())
     }
 
-    // Acts on its items in turn, until no memory is found.
+    // Acts on its items in turn, until it is out of memory.
     pub(crate) fn work(&mut self, alloc: Global, items: &[Item])
     where
         P: Plot,
         A: Act<P>,
         requires { Ready (part_area P.area) items.now self.old }
-        ensures { HasWorked (part_tree P.tree) (part_area P.area) (part_count P.count) A.plain A.count A.deed items.now self.old self.new }
+        ensures { IsWorked (part_tree P.tree) (part_area P.area) (part_count P.count) A.plain A.count A.deed A.who A.may_come items.now self.old self.new }
     {
         for j in 0..self.places.len() {
             match self.act_on(alloc, items, j) {
@@ -74,7 +77,13 @@ pub(crate) fn work_all<R: Threads + Sync, P: Plot + Send, A: Act<P> + Send>(
 )
     requires hosts { 0 < hosts }
     requires ready { (i : ℕ) (lot : _) → i < length lots.old → lot ≡ slice_index_or lots.old i lot → Ready (part_area P.area) items.now lot }
-    ensures { (i : ℕ) (d : _) → i < length lots.old → HasWorked (part_tree P.tree) (part_area P.area) (part_count P.count) A.plain A.count A.deed items.now (slice_index_or lots.old i d) (slice_index_or lots.new i d) }
+    ensures { (i : ℕ) (d : _) → i < length lots.old → IsWorked (part_tree P.tree) (part_area P.area) (part_count P.count) A.plain A.count A.deed A.who A.may_come items.now (slice_index_or lots.old i d) (slice_index_or lots.new i d) }
 {
-    thread::for_each_mut(rt, lots, hosts, &|_, lot| lot.work(alloc, items));
+    let work = |_: usize, lot: &mut Lot<A, P>|
+        requires { Ready (part_area P.area) items.now lot.old }
+        ensures { IsWorked (part_tree P.tree) (part_area P.area) (part_count P.count) A.plain A.count A.deed A.who A.may_come items.entry.now lot.old lot.new }
+    {
+        lot.work(alloc, items);
+    };
+    thread::for_each_mut(rt, lots, hosts, &work);
 }

@@ -63,7 +63,7 @@ fn store_share<A, P>(lot: &Lot<A, P>, fates: &mut [Fate])
     }
 }
 
-// Adds the paths of the items of a level that did not come to `Done`. From the bottom up nobody asks for them.
+// Adds the paths of the items of a level that did not come to `Done`. From the bottom up nobody needs them.
 pub(crate) fn note(
     items: &[Item],
     order: Order,

@@ -7,3 +7,4 @@ pub mod Removal
 pub mod Removes
 pub mod Rows
 pub mod Whole
+pub mod Causes

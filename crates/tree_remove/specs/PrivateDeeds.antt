@@ -1,4 +1,4 @@
--- What a removal does at one path. Only the contracts of this crate's own parts cite it.
+-- A removal at one path. Only the contracts of this crate's own parts cite it.
 use Rattle.std.specs.Prelude.{⊤, ◌≡◌, ◌⊎◌, ℕ, List, length, if◌then◌else◌, map, Option, Some, None}
 use Rattle.std.specs.FinMap.{get, remove}
 use Rattle.outside.specs.declared.plots.WriteError.{WriteError}
@@ -13,11 +13,11 @@ use Rattle.level_work.specs.declared.items.Item.{Item}
 use Rattle.level_work.specs.declared.items.Fate.{Fate}
 use Rattle.level_work.specs.declared.items.Fate.TheVariants as fate
 
--- why what stands at the path can't be removed as what the entry tells
+-- why the node at the path can't be removed as the entry says
 abbrev pub removal_refusal : Entry → Files → List ℕ → Option WriteError
 removal_refusal entry files path = if is_of kind.Dir entry.stat then remove_dir_refusal files path else remove_file_refusal (get files path)
 
--- the fate that a refusal means; want of memory means none
+-- the fate that a refusal means; a refusal for lack of memory means none
 abbrev pub told_fate : WriteError → Fate
 told_fate write.Failed = fate.Failed
 told_fate write.NotEmpty = fate.NotEmpty
@@ -27,7 +27,7 @@ told_fate write.Exists = fate.Changed
 told_fate write.NoParent = fate.Changed
 told_fate write.OutOfMemory = fate.Changed
 
--- which fate a removal may have, and what it leaves at and under its path
+-- which fate a removal may have, and the nodes that it leaves at and under its path
 abbrev pub Removal : Deed
 Removal path entry fate.Done before after = (removal_refusal entry before path ≡ None) × (after ≡ remove before path)
 Removal path entry fate.NotEmpty before after = (removal_refusal entry before path ≡ Some write.NotEmpty) × (after ≡ before)

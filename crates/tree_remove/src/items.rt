@@ -8,7 +8,7 @@ use level_work::Item;
 use path_text::OutOfMemory;
 use std::alloc::Global;
 
-/// The item of each entry, at its own path. Each path of a list is a path, which the list does not tell of itself.
+/// The item of each entry, at its own path. Each path of a list is a path, which the list's contract does not say.
 pub(crate) fn items_of(alloc: Global, list: &FlatList) -> Result<Vec<Item>, OutOfMemory>
     ensures items { IfOk result (λ items. items.items ≡ items_of list.now) }
     ensures valid { IfOk result (λ items. All (λ e. refusal e.path ≡ None) list.now) }
@@ -22,7 +22,7 @@ pub(crate) fn items_of(alloc: Global, list: &FlatList) -> Result<Vec<Item>, OutO
     Ok(items)
 }
 
-// Each path is one.
+// Each path of the list is a path.
 fn see_paths(list: &FlatList) -> Result<(), OutOfMemory>
     ensures { OnOk result (All (λ e. refusal e.path ≡ None) list.now) }
 {

@@ -1,24 +1,31 @@
 //! The removal of chosen paths.
 //!
-//! [`remove`] takes a list of entries and removes what they tell, the deepest level first, by work on levels ([`level_work`]): a
-//! directory by `remove_dir`, all else by `remove_file`, one call an entry and no look beside it. It answers a [`RemoveReport`]:
-//! the paths with their fates, and how many are gone.
+//! [`remove`] takes a list of entries and removes their nodes, the deepest level first, by work on levels ([`level_work`]). It
+//! removes a directory by `remove_dir` and all else by `remove_file`, with one call an entry and no look beside it. It answers a
+//! [`RemoveReport`]: the paths with their fates, and how many are gone.
 //!
-//! - `removals` has the call, and `reports` what it answers.
+//! - `removals` has the call, and `reports` its answer.
 //! - `unlinking` has the act at one path, and `items` the entries as items.
-//! - `laws` has when all that was chosen goes.
+//! - `laws` says when all chosen paths go.
 //!
-//! A directory goes where it is empty once all that was chosen under it is gone; else its fate is `NotEmpty`. Nothing that was not
-//! chosen is removed to empty it. `Failed` is the fate of a path whose removal failed, and `Changed` that of one where something
-//! else stands than its entry tells; where the files tell their tree, and the entries are those of a walk of it, none has that.
+//! A directory goes if it is empty once all chosen paths under it are gone; else its fate is `NotEmpty`. No other path is removed
+//! to empty it. A path whose removal failed has the fate `Failed`. A path has the fate `Changed` if its node differs from its
+//! entry. No path has that fate if the files show their tree and the entries are those of a walk of it.
 //!
-//! Proved: where the files tell their tree, [`remove`] meets the relation of `specs/Removing`. A path with the fate `Done` is gone;
-//! one with `NotEmpty` is the directory that it was, with a child whose path is too long or with something under it; every path
-//! that was not chosen is as before; and a chosen path whose own removal did not fail goes exactly where no child of it has too
-//! long a path and all that is under it goes. Over all files the failed removals are no more than the files counted. After want of
-//! memory every path that was not chosen is as before. Definitions for this crate's own contracts stand in `specs/PrivateDeeds`.
+//! # What is proved
 //!
-//! Not claimed: what stands at the path of a removal that failed, and at the chosen paths after want of memory.
+//! If the files show their tree, [`remove`] meets the relation of `specs/Removing`:
+//!
+//! - A path with the fate `Done` is gone.
+//! - A path with the fate `NotEmpty` is the same directory as before. A node is under it, or a child of it has too long a path.
+//! - Every path that was not chosen is as before.
+//! - A chosen path whose own removal did not fail goes exactly if no child of it has too long a path and all nodes under it go.
+//!
+//! Over all files the failed removals are at most as many as the files counted. The fate of each path is the one that the answer to
+//! its removal means. If the call is out of memory, every path that was not chosen is as before. `specs/PrivateDeeds` has the
+//! definitions for this crate's own contracts.
+//!
+//! Not claimed: the node at the path of a removal that failed, and the nodes at the chosen paths if the call is out of memory.
 #![tactic(auto)]
 
 mod items;

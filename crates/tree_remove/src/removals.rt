@@ -5,20 +5,23 @@ ghost use Rattle.outside.specs.Count.{RoseBy};
 ghost use Rattle.outside.specs.Writes.{nothing_lent};
 ghost use Rattle.flat_list.specs.Spelling.{paths};
 ghost use Rattle.level_work.specs.Counts.{is_failed};
-ghost use Rattle.tree_remove.specs.Removing.{AreChosen, AreThere, Removed, SameButChosen, is_done};
+ghost use Rattle.tree_remove.specs.Removing.{AreChosen, AreThere, HaveCauses, Removed, SameButChosen, is_done};
 
 use crate::items::items_of;
 use crate::reports::RemoveReport;
 use crate::unlinking::Remove;
 use flat_list::FlatList;
-use level_work::{Fate, Item, Order, Outcome, on_levels};
+use level_work::{Fate, Hosts, Item, Order, Outcome, on_levels};
 use outside::{Ground, Plot, nodes_are_under_directories};
 use path_text::{OutOfMemory, Path};
 use std::alloc::Global;
 use std::thread::Threads;
 
-/// Removes what the entries tell, the deepest first: directories as such, and all else as files. The entries of a level are
-/// dealt to as many actors as there are hosts, and no more than there are ranks; each works in a thread of its own.
+// A level of so many items is worth several threads, whatever its bytes. `bench/level_threads.py` measures when they begin to gain.
+const MANY: usize = 64;
+
+/// Removes the nodes of the entries, the deepest first: directories as such, and all else as files. It deals the entries of a level
+/// to as many actors as there are hosts, but to no more than there are ranks. Each actor works in a thread of its own.
 pub fn remove<R: Threads + Sync, G: Ground>(
     rt: &R,
     alloc: Global,
@@ -38,19 +41,25 @@ where
     ensures gone { IfOk result (λ report. report.1 ≡ count_by (λ row. is_done row.1) report.0) }
     ensures told { IfOk result (λ report. IfSome (G.tree ground.old) (λ before. IfSome (G.tree ground.new) (Removed report.0 before))) }
     ensures blamed { IfOk result (λ report. RoseBy (count_by (λ row. is_failed row.1) report.0) (G.count ground.old) (G.count ground.new)) }
+    ensures causes { IfOk result (λ report. HaveCauses G.Part.gives chosen.now report.0) }
     ensures rest { IfSome (G.tree ground.old) (λ before. IfSome (G.tree ground.new) (SameButChosen (paths chosen.now) before)) }
     ensures tells { is_some (G.tree ground.new) ≡ is_some (G.tree ground.old) }
     ensures lent { G.area ground.new ≡ nothing_lent }
     ensures count { RoseBy 0 (G.count ground.old) (G.count ground.new) }
 {
     nodes_are_under_directories();
-    // The call tells that the nodes are a tree, before and after.
+    // The call shows that the nodes are a tree, before and after.
     let _faults = ground.faults();
     let items = items_of(alloc, chosen)?;
     // Several actors in one thread would go through each directory as often as there are of them.
     let mut removers = removers(alloc, ranks.min(hosts))?;
     let order = Order::BottomUp;
-    let fates = on_levels(rt, alloc, &items, order, ground, &mut removers, hosts)?;
+    let worth = Hosts {
+        most: hosts,
+        items: MANY,
+        bytes: u64::MAX,
+    };
+    let fates = on_levels(rt, alloc, &items, order, ground, &mut removers, worth)?;
     let _faults = ground.faults();
     let rows = rows_of(alloc, items, &fates)?;
     Ok(RemoveReport { rows })

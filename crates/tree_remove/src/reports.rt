@@ -1,4 +1,4 @@
-//! What became of chosen paths.
+//! The fates of chosen paths.
 ghost use Rattle.std.specs.Prelude.{◌≡◌, ◌+◌, ◌<◌, length, Some, slice_get, if◌then◌else◌};
 ghost use Rattle.tree_remove.specs.Removing.{is_done};
 ghost use Rattle.std.specs.List.{count_by};
@@ -8,7 +8,7 @@ use level_work::Fate;
 use path_text::Path;
 use std::marker::Model;
 
-/// What became of chosen paths, seen as the paths with their fates, in path order, and how many of them are gone.
+/// The fates of chosen paths, seen as the paths with their fates, in path order, and how many of them are gone.
 #[derive(Debug, Drop)]
 pub struct RemoveReport {
     pub(crate) rows: Vec<(Path, Fate)>,
@@ -76,7 +76,7 @@ fn number_gone(rows: &[(Path, Fate)]) -> u64
     gone
 }
 
-// How many are gone with one of this fate.
+// The number of gone paths, with one of this fate too.
 fn with_fate(gone: u64, fate: Fate) -> u64
     requires { gone < 18446744073709551615 }
     ensures { result ≡ (if is_done fate then gone + 1 else gone) }

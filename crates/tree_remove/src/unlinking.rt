@@ -1,10 +1,11 @@
 //! The act that removes.
-ghost use Rattle.std.specs.Prelude.{◌≡◌, ◌≢◌, ◌⊎◌, false, IsTrue, IfOk, IfErr, IfSome, IsErrOf, is_some};
+ghost use Rattle.std.specs.Prelude.{◌≡◌, ◌≢◌, ◌⊎◌, false, IsTrue, IfOk, IfErr, IfSome, Some, Err, IsErrOf, is_some};
 ghost use Rattle.std.specs.FinMap as map;
 ghost use Rattle.outside.specs.Count.{RoseBy};
 ghost use Rattle.outside.specs.Writes.{is_open, Answers, may_empty};
 ghost use Rattle.flat_list.specs.Entries.{is_of};
 ghost use Rattle.tree_remove.specs.PrivateDeeds.{removal_refusal, told_fate};
+ghost use Rattle.tree_remove.specs.Removing.{fate_told, removal_of};
 
 use flat_list::Entry;
 use level_work::{Act, Fate};
@@ -12,12 +13,13 @@ use outside::{Kind, Plot, WriteError};
 use path_text::{OutOfMemory, Path};
 use std::alloc::Global;
 
-/// Removes what an entry tells.
+/// Removes the node of an entry.
 #[derive(Debug, Drop)]
 pub(crate) struct Remove;
 
 impl<P: Plot> Act<P> for Remove {
     ghost use Rattle.tree_remove.specs.PrivateDeeds.{Removal};
+    ghost use Rattle.tree_remove.specs.Removing.{ShowsFate};
 
     ghost Plain = { Unit {0} };
 
@@ -26,6 +28,12 @@ impl<P: Plot> Act<P> for Remove {
     ghost count = { λ _. 0 };
 
     ghost deed = { λ _. Removal };
+
+    ghost Who = { Unit {0} };
+
+    ghost who = { λ _. tt };
+
+    ghost may_come = { λ _. ShowsFate P.gives };
 
     fn faults(&self) -> u64 {
         0
@@ -45,7 +53,7 @@ impl<P: Plot> Act<P> for Remove {
     }
 }
 
-// Whether the entry tells a directory.
+// Whether the entry is of a directory.
 fn is_told_dir(entry: &Entry) -> bool
     ensures { result ≡ is_of Kind.Dir entry.now.stat }
 {
@@ -55,7 +63,7 @@ fn is_told_dir(entry: &Entry) -> bool
     }
 }
 
-// Removes what the entry tells.
+// Removes the node of the entry.
 fn removed<P: Plot>(
     alloc: Global,
     part: &mut P,
@@ -69,6 +77,7 @@ fn removed<P: Plot>(
     ensures count { RoseBy 0 (P.count part.old) (P.count part.new) }
     ensures cause { IsErrOf result WriteError.Failed → RoseBy 1 (P.count part.old) (P.count part.new) }
     ensures named { IfErr result (λ e. IsTrue (may_empty e)) }
+    ensures given { P.gives part.old path.now (removal_of entry.now) result part.new }
 {
     if is_told_dir(entry) {
         part.remove_dir(alloc, path)
@@ -79,7 +88,8 @@ fn removed<P: Plot>(
 
 // The fate that a refusal means.
 fn fate_of(refused: WriteError) -> Result<Fate, OutOfMemory>
-    ensures { IfOk result (λ f. (f ≡ told_fate refused) × (refused ≢ WriteError.OutOfMemory)) }
+    ensures told { IfOk result (λ f. (f ≡ told_fate refused) × (refused ≢ WriteError.OutOfMemory)) }
+    ensures means { IfOk result (λ f. fate_told (Err refused) ≡ Some f) }
 {
     match refused {
         WriteError::OutOfMemory => Err(OutOfMemory),

@@ -83,13 +83,13 @@ module _ {A P : Type 0} where
       pub paths : (i : ℕ) (lot : Lot A P) → slice_get lots i ≡ Some lot → ArePaths items lot.places.items (tops_of (area lot.part))
 
   module _ (tree : Option P → Option Files) (area : Option P → Area) where
-    -- what is out and what is left are together what was there before
+    -- the parts that are out and the rest are together the map before
     pub record AreOut (lots : List (Lot A P)) (before rest : Files) : Type 0 where
       pub left : (q : List ℕ) → InNone area lots q → get rest q ≡ get before q
       pub out : (i : ℕ) (lot : Lot A P) (own : Files) (q : List ℕ) → slice_get lots i ≡ Some lot → tree lot.part ≡ Some own
           → in_tops (tops_of (area lot.part)) q ≡ true → get own q ≡ get before q
 
-    -- where what stands at a path comes from, once all parts are back
+    -- the source of the node at a path, once all parts are back
     pub data Comes (lots : List (Lot A P)) (rest after : Files) (q : List ℕ) : Type 0 where
       stays : InNone area lots q → get after q ≡ get rest q → Comes lots rest after q
       comes : (i : ℕ) (lot : Lot A P) (own : Files) → slice_get lots i ≡ Some lot → tree lot.part ≡ Some own
@@ -118,7 +118,8 @@ module _ {A P : Type 0} where
 abbrev pub ShowAll : {A D : Type 0} → (A → D) → D → List A → Type 0
 ShowAll plain d actors = (i : ℕ) (a : _) → slice_get actors i ≡ Some a → plain a ≡ d
 
--- The failures told rose from m to n at most as much as the count of the ground and those of the actors together, unless one of these stands at its end
+-- The failures rose from m to n at most as much as the count of the ground and those of the actors together. This holds unless one
+-- of these is at its largest value
 pub record BlamedMore (m n : ℕ) (ground : ℕ) (actors : List ℕ) (ground' : ℕ) (actors' : List ℕ) : Type 0 where
   pub ground_kept : ground ≤ ground'
   pub kept : (i k k' : ℕ) → slice_get actors i ≡ Some k → slice_get actors' i ≡ Some k' → k ≤ k'

@@ -1,8 +1,9 @@
 -- The places of the items of each level, how they are dealt, and the paths that failed. Our own.
-use Rattle.std.specs.Prelude.{⊤, ◌≡◌, ◌≢◌, ◌⊎◌, ℕ, ◌<◌, Bool, true, List, [], ◌∷◌, ◌++◌, length, nat_eq, Some, slice_get, slice_set}
-use Rattle.std.specs.List.{list_any}
+use Rattle.std.specs.Prelude.{⊤, ◌≡◌, ◌≢◌, ◌⊎◌, ℕ, ◌<◌, ◌%◌, Bool, true, List, [], ◌∷◌, ◌++◌, length, nat_eq, take, Some, slice_get, slice_set}
+use Rattle.std.specs.List.{list_any, count_by}
 use Rattle.std.specs.Cmp.Lexicographic.{pointwise}
 use Rattle.path_text.specs.Path.{level_of}
+use Rattle.level_work.specs.Fates.{is_on, place_of}
 use Rattle.level_work.specs.Levels.{FailsWith}
 use Rattle.level_work.specs.Private.Crews.{Dealt}
 use Rattle.level_work.specs.declared.items.Item.{Item}
@@ -24,6 +25,8 @@ pub record AreOnLevel (n level : ℕ) (items : List Item) (places : List ℕ) : 
   pub below : (j k : ℕ) → slice_get places j ≡ Some k → k < n
   pub once : (i j k : ℕ) → slice_get places i ≡ Some k → slice_get places j ≡ Some k → i ≡ j
   pub all : (k : ℕ) (x : Item) → k < n → slice_get items k ≡ Some x → level_of x.path ≡ level → IsAmong (length places) places k
+  pub many : length places ≡ count_by (is_on level) (take n items)
+  pub turn : (t k : ℕ) → slice_get places t ≡ Some k → t ≡ place_of items level k
 
 -- the same, of each level
 abbrev pub AreByLevel : ℕ → List Item → List (List ℕ) → Type 0
@@ -57,7 +60,7 @@ abbrev pub IsFresh : ℕ → List Item → List Fate → Type 0
 IsFresh level items fates = (k : ℕ) (x : Item) (f : Fate) → slice_get items k ≡ Some x → slice_get fates k ≡ Some f → level_of x.path ≡ level → f ≡ fate.Done
 
 module _ {A P : Type 0} where
-  -- the number k stands at place j of share i
+  -- the number k is at place j of share i
   pub record In (lots : List (Lot A P)) (i j k : ℕ) : Type 0 where
     pub lot : Lot A P
     pub is_lot : slice_get lots i ≡ Some lot
@@ -70,10 +73,14 @@ module _ {A P : Type 0} where
     pub once : (i j s t k : ℕ) → In lots i j k → In lots s t k → (i ≡ s) × (j ≡ t)
     pub all : (t k : ℕ) (x : Item) → t < n → slice_get places t ≡ Some k → slice_get items k ≡ Some x → FailsWith o items fates x ⊎ Dealt lots k
 
-  -- the item at place k is left out, since its parent failed, or dealt to one lot
-  pub data DealsOne (o : Order) (items : List Item) (fates : List Fate) (k : ℕ) (lots next : List (Lot A P)) : Type 0 where
-    left_out : ((x : Item) → slice_get items k ≡ Some x → FailsWith o items fates x) → next ≡ lots → DealsOne o items fates k lots next
-    dealt_to : (i : ℕ) (lot new : Lot A P) → slice_get lots i ≡ Some lot
+  -- the item at place k is left out, since its parent failed, or dealt to the lot i
+  pub data DealsOne (o : Order) (items : List Item) (fates : List Fate) (k i : ℕ) (lots next : List (Lot A P)) : Type 0 where
+    left_out : ((x : Item) → slice_get items k ≡ Some x → FailsWith o items fates x) → next ≡ lots → DealsOne o items fates k i lots next
+    dealt_to : (lot new : Lot A P) → slice_get lots i ≡ Some lot
         → ((x : Item) → slice_get items k ≡ Some x → FailsWith o items fates x → ⊥) → new.places.items ≡ lot.places.items ++ k ∷ []
         → new.fates ≡ lot.fates → new.lost ≡ lot.lost →
-        next ≡ slice_set lots i new → DealsOne o items fates k lots next
+        next ≡ slice_set lots i new → DealsOne o items fates k i lots next
+
+  -- the number at place t of these is in the share t mod the number of shares
+  abbrev pub AreInTurn : List ℕ → List (Lot A P) → Type 0
+  AreInTurn places lots = (i j k t : ℕ) → In lots i j k → slice_get places t ≡ Some k → i ≡ t % length lots

@@ -39,13 +39,13 @@ pub record WorkedOn (deed : Deed) (items : List Item) (places : List ℕ) (fates
   pub others : SameButFirst (length fates) items places before after
   pub each : DoneByEach deed items places fates before after
 
--- so many failures were counted by the one or the other, or a count stands at its end
+-- the one or the other counted so many failures, or a count is at its largest value
 pub record Blamed (n : ℕ) (p a p' a' : ℕ) : Type 0 where
   pub part : p ≤ p'
   pub actor : a ≤ a'
   pub some : p' < 2 ^ 64 - 1 → a' < 2 ^ 64 - 1 → p + a + n ≤ p' + a'
 
--- what a part shows, where there is one
+-- what a part shows, if there is one
 abbrev pub part_tree : {P : Type 0} → (P → Option Files) → Option P → Option Files
 part_tree tree None = None
 part_tree tree (Some p) = tree p
@@ -70,7 +70,7 @@ module _ {A P : Type 0} (area : Option P → Area) where
 
 module _ {A P D : Type 0} (tree : Option P → Option Files) (area : Option P → Area) (part_count : Option P → ℕ) (plain : A → D)
     (count : A → ℕ) (deed : D → Deed) where
-  -- what no work on a share changes
+  -- the fields that no work on a share changes
   pub record Keeps (lot lot' : Lot A P) : Type 0 where
     pub places : lot'.places ≡ lot.places
     pub same_area : area lot'.part ≡ area lot.part
@@ -89,7 +89,7 @@ module _ {A P D : Type 0} (tree : Option P → Option Files) (area : Option P �
     pub told : (x : Item) → IsAt items lot.places.items j x
         → IfSome (tree lot.part) (λ before. IfSome (tree lot'.part) (IsDone (deed (plain lot.actor)) x.path x.entry (Ok now) before))
 
-  -- no memory was found at the item at place j
+  -- the actor was out of memory at the item at place j
   pub record Stopped (items : List Item) (j : ℕ) (lot lot' : Lot A P) : Type 0 where
     pub keeps : Keeps lot lot'
     pub lost : lot'.lost ≡ lot.lost

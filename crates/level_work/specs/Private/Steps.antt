@@ -25,7 +25,7 @@ abbrev pub CanStep : Order → ℕ → List Item → List Fate → Files → Typ
 CanStep o level items fates files = (k : ℕ) (x : Item) → slice_get items k ≡ Some x → level_of x.path ≡ level
     → (FailsWith o items fates x → ⊥) → is_dir (get files (parent_of x.path)) ≡ true
 
--- the fates after one level more: those of its items are told, and the others stay
+-- the fates after one level more: those of its items are by the deed, and the others stay
 pub record TellsLevel (o : Order) (level : ℕ) (items : List Item) (old new : List Fate) : Type 0 where
   pub len : length new ≡ length old
   pub others : (k : ℕ) (x : Item) → slice_get items k ≡ Some x → level_of x.path ≢ level → slice_get new k ≡ slice_get old k

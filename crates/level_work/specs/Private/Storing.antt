@@ -10,7 +10,7 @@ use Rattle.level_work.specs.declared.lots.Lot.{Lot}
 use Rattle.level_work.specs.declared.items.Order.{Order}
 use Rattle.level_work.specs.declared.items.Order.TheVariants as order
 
--- the items at the first n places are told that their parent failed
+-- the items at the first n places have the fate `ParentFailed`
 pub record IsLeftOut (n : ℕ) (places : List ℕ) (old new : List Fate) : Type 0 where
   pub len : length new ≡ length old
   pub others : (k : ℕ) → (IsAmong n places k → ⊥) → slice_get new k ≡ slice_get old k

@@ -1,12 +1,13 @@
-use Rattle.std.proofs.Common.{arith}
+use Rattle.std.proofs.Common.{arith, rules}
 use Rattle.std.proofs.lemmas.Option.{slice_get-get_or}
-use Rattle.level_work.proofs.Deals.{dealt_none, dealt_on, fresh_on, seats_on, all_dealt}
+use Rattle.level_work.proofs.Deals.{dealt_none, dealt_on, fresh_on, turn_none, turn_on, seats_on, all_dealt}
 use Rattle.level_work.proofs.dealing.deal.Goals as goal
 
 pub loop-t-init : goal.loop-t-init
 loop-t-init g c = record {
   seats = c.clear.ensures.seats;
   dealt = dealt_none _ _ _ _ _ (λ i lot at. (c.clear.ensures.empty i lot at).0);
+  turn = turn_none c.args.places.now _ (λ i lot at. (c.clear.ensures.empty i lot at).0);
   fresh = λ i lot at. ((c.clear.ensures.empty i lot at).1, (c.clear.ensures.empty i lot at).2);
 }
 
@@ -21,9 +22,11 @@ loop-t-preserved g c =
     let at = slice_get-get_or c.args.places.now c.loop-t.t 0 c.loop-t-test.true in
     record {
       seats = seats_on _ _ _ c.loop-t.invariant.seats c.deal_one.ensures.seats;
-      dealt = dealt_on c.args.order c.args.items.now c.args.fates.now c.args.places.now c.loop-t.lots c.deal_one.new.lots c.loop-t.t _ at
+      dealt = dealt_on c.args.order c.args.items.now c.args.fates.now c.args.places.now c.loop-t.lots c.deal_one.new.lots c.loop-t.t _ _ at
           c.requires.places.once c.in_ok-deal_one.ensures.dealt c.loop-t.invariant.dealt;
-      fresh = fresh_on c.args.order c.args.items.now c.args.fates.now c.args.places.now c.loop-t.lots c.deal_one.new.lots c.loop-t.t _ at
+      turn = turn_on c.args.order c.args.items.now c.args.fates.now c.args.places.now c.loop-t.lots c.deal_one.new.lots c.loop-t.t _ _ at
+          c.requires.places.once c.in_ok-deal_one.ensures.dealt c.loop-t.invariant.dealt (search rules) c.loop-t.invariant.turn;
+      fresh = fresh_on c.args.order c.args.items.now c.args.fates.now c.args.places.now c.loop-t.lots c.deal_one.new.lots c.loop-t.t _ _ at
           c.requires.places.once c.in_ok-deal_one.ensures.dealt c.loop-t.invariant.fresh;
     }
 

@@ -1,6 +1,6 @@
 use Rattle.std.proofs.Common.{◌≡◌, ℕ, [], Some, false, slice_get}
 use Rattle.level_work.specs.Private.Crews.{SameSeats}
-use Rattle.level_work.specs.Private.Dealing.{DealtTo}
+use Rattle.level_work.specs.Private.Dealing.{AreInTurn, DealtTo}
 use Rattle.level_work.specs.declared.lots.Lot.{Lot}
 use Rattle.level_work.proofs.dealing.deal.Given as goal
 
@@ -8,5 +8,6 @@ abbrev pub invariant-loop-t : goal.invariant-loop-t
 invariant-loop-t g l = record {
   seats : SameSeats l.fn.lots l.lots;
   dealt : DealtTo l.t l.order l.items l.fates l.places l.lots;
+  turn : AreInTurn l.places l.lots;
   fresh : (i : ℕ) (lot : Lot _ _) → slice_get l.lots i ≡ Some lot → (lot.fates.items ≡ []) × (lot.lost ≡ false);
 }

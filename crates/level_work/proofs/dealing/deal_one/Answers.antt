@@ -13,5 +13,5 @@ returns-clause-seats g c =
 pub returns-clause-dealt : goal.returns-clause-dealt
 returns-clause-dealt g c =
     on_ok c.take.result _ _ (λ more.
-    dealt_to c.args.i _ c.take.new.lot (slice_get-get_or c.args.lots.now c.args.i c.index-lots-i.result c.requires.lot)
+    dealt_to _ c.take.new.lot (slice_get-get_or c.args.lots.now c.args.i c.index-lots-i.result c.requires.lot)
     (c.in_ok-is_left_out.ensures.dealt c.if-branch.false) more c.take.ensures.fates c.take.ensures.lost refl) c.take.ensures.places

@@ -1,7 +1,9 @@
-use Rattle.std.proofs.Common.{◌≡◌, ℕ, Some, IfSome, sym, subst, arith, slice_get}
+use Rattle.std.proofs.Common.{◌≡◌, ℕ, map, Some, IfSome, sym, subst, arith, slice_get}
+use Rattle.level_work.specs.Fates.{EachMayCome}
 use Rattle.level_work.specs.Levels.{Acted, ParentsFail}
 use Rattle.level_work.specs.declared.items.Fate.{Fate}
 use Rattle.level_work.specs.declared.items.Fate.TheVariants as fate
+use Rattle.level_work.specs.declared.lots.Lot.{Lot}
 use Rattle.level_work.proofs.Hands.{written_back}
 use Rattle.level_work.proofs.levels.all_levels.Goals as goal
 
@@ -25,3 +27,10 @@ returns-clause-told g c =
     (sym (written_back c.in_ok-fates.fates.len c.run_levels.new.fates c.in_ok-fates.fates.items
     (omega (arith, c.in_ok-run_levels.ensures.len, c.in_ok-fates.ensures.len, c.in_ok-fates.fates.ok.0))
     (omega (arith, c.in_ok-fates.fates.ok.0)))) (c.in_ok-run_levels.ensures.told d show)
+
+pub returns-clause-each_may_come : goal.returns-clause-each_may_come
+returns-clause-each_may_come g c =
+    subst (EachMayCome g.A.Act.may_come (map (λ (lot : Lot _ _). g.A.Act.who lot.actor) c.args.lots.now) c.args.items.now)
+    (sym (written_back c.in_ok-fates.fates.len c.run_levels.new.fates c.in_ok-fates.fates.items
+    (omega (arith, c.in_ok-run_levels.ensures.len, c.in_ok-fates.ensures.len, c.in_ok-fates.fates.ok.0))
+    (omega (arith, c.in_ok-fates.fates.ok.0)))) c.in_ok-run_levels.ensures.each_may_come

@@ -1,7 +1,10 @@
-use Rattle.std.proofs.Common.{map, ap, ◌∙◌, sym, subst, arith}
+use Rattle.std.proofs.Common.{ℕ, Vec, Global, length, map, ap, ◌∙◌, sym, subst, arith}
+use Rattle.std.specs.Prelude.{IfOk}
 use Rattle.std.specs.List.{count_by}
 use Rattle.level_work.specs.Acts.{Alike, AllShow}
 use Rattle.level_work.specs.Counts.{BlamedAll, NoneFell, is_failed}
+use Rattle.level_work.specs.Fates.{EachMayCome}
+use Rattle.level_work.specs.Private.Dealing.{AreByLevel}
 use Rattle.level_work.specs.declared.lots.Lot.{Lot}
 use Rattle.level_work.proofs.Hands.{if_ok, written_back}
 use Rattle.level_work.proofs.Turning.{of_actors, same_length, none_fell, all_blamed}
@@ -76,3 +79,28 @@ returns-clause-blamed g c =
     (map (λ (l : Lot _ _). g.A.Act.count l.actor) c.deref_mut.result.now) (g.G.Plot.count c.all_levels-outcome.new.ground))
     (sym (ap (map g.A.Act.count) back ∙ of_actors g.A.Act.count c.all_levels-outcome.new.lots))
     (all_blamed _ _ _ _ _ h))) c.all_levels-outcome.ensures.blamed
+
+pub returns-clause-who : goal.returns-clause-who
+returns-clause-who g c =
+    let back = (c.dismissed.ensures
+    ∙ ap (map (λ (l : Lot _ _). l.actor)) (written_back c.in_ok-lots.lots.len c.all_levels-outcome.new.lots c.in_ok-lots.lots.items
+    (omega (
+      arith,
+      same_length g.A.Act.plain g.A.Act.count c.deref_mut.result.now c.all_levels-outcome.new.lots
+          c.all_levels-outcome.ensures.actors,
+      c.deref_mut.ensures.len,
+    )) (omega (arith, c.in_ok-lots.lots.ok.0)))) in
+    ap (map g.A.Act.who) back ∙ of_actors g.A.Act.who c.all_levels-outcome.new.lots ∙ c.all_levels-outcome.ensures.who
+    ∙ sym (ap (map g.A.Act.who) (sym c.in_ok-lots.ensures.actors) ∙ of_actors g.A.Act.who c.in_ok-lots.lots.items
+    ∙ ap (map (λ (l : Lot _ _). g.A.Act.who l.actor)) (sym c.deref_mut.ensures.value))
+
+pub returns-clause-each_may_come : goal.returns-clause-each_may_come
+returns-clause-each_may_come g c =
+    subst (λ actors. IfOk c.all_levels-outcome.result (λ fates. EachMayCome g.A.Act.may_come actors c.args.items.now fates))
+    (sym (ap (map g.A.Act.who) (sym c.in_ok-lots.ensures.actors) ∙ of_actors g.A.Act.who c.in_ok-lots.lots.items
+    ∙ ap (map (λ (l : Lot _ _). g.A.Act.who l.actor)) (sym c.deref_mut.ensures.value))) c.all_levels-outcome.ensures.each_may_come
+
+pub all_levels-outcome-requires-clause-places : goal.all_levels-outcome-requires-clause-places
+all_levels-outcome-requires-clause-places g c κs within =
+    subst (λ levels. AreByLevel (length c.args.items.now) c.args.items.now (map (λ (places : Vec ℕ Global). places.items) levels))
+    (sym c.deref.ensures.value) c.in_ok-levels.ensures.places

@@ -2,7 +2,10 @@ use Rattle.std.proofs.Common.{◌≡◌, ◌∙◌, refl, ap, sym, subst, length
 use Rattle.std.specs.List.{count_by, zip}
 use Rattle.outside.specs.Parts.{IsTreeIn}
 use Rattle.level_work.specs.Counts.{is_failed}
-use Rattle.tree_remove.specs.Removing.{Removed}
+use Rattle.level_work.specs.Levels.{ParentsFail}
+use Rattle.level_work.specs.declared.items.Order.TheVariants as order
+use Rattle.tree_remove.specs.Removing.{HaveCauses, Removed}
+use Rattle.tree_remove.proofs.Causes.{AllShow, causes}
 use Rattle.tree_remove.proofs.Removes.{stands_in, fit, rest_of, acted_rest, row_paths, removed, rose_by}
 use Rattle.tree_remove.proofs.Rows.{count_paths}
 use Rattle.tree_remove.proofs.removals.remove.Goals as goal
@@ -61,3 +64,13 @@ returns-clause-rest g c =
 pub returns-in_err-rows-clause-rest : goal.returns-in_err-rows-clause-rest
 returns-in_err-rows-clause-rest g c =
     acted_rest c.args.chosen.now _ _ _ _ (c.deref.ensures.value ∙ c.in_ok-items.ensures.items) (c.in_ok-fates.ensures.told tt (λ i e at. refl))
+
+pub returns-clause-causes : goal.returns-clause-causes
+returns-clause-causes g c =
+    let same = c.deref.ensures.value ∙ c.in_ok-items.ensures.items in
+    subst (HaveCauses g.G.Part.Plot.gives c.args.chosen.now)
+    (ap (λ xs. zip (map (λ x. x.path) xs) c.in_ok-fates.fates) (sym c.in_ok-items.ensures.items) ∙ sym c.in_ok-rows.ensures)
+    (causes g.G.Part.Plot.gives c.args.chosen.now c.in_ok-fates.fates (c.in_ok-fates.ensures.len ∙ ap length same)
+    (subst (λ xs. ParentsFail order.BottomUp xs c.in_ok-fates.fates) same c.in_ok-fates.ensures.failed)
+    (subst (λ xs. AllShow g.G.Part.Plot.gives xs c.in_ok-fates.fates) same
+    (λ k x f at has off. (c.in_ok-fates.ensures.each_may_come k x f at has off).may)))
