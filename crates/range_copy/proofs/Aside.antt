@@ -1,8 +1,8 @@
 -- The targets of large files are no sources, no parents of targets, and no other entry's targets.
-use Rattle.std.proofs.Common.{◌≡◌, ◌≢◌, ◌⊎◌, inl, inr, ⊎_elim, ℕ, zero, suc, ◌<◌, ◌≤◌, Bool, true, false, not, cond, ◌||◌, ◌&&◌, List, [], ◌∷◌, ◌++◌, map}
-use Rattle.std.proofs.Common.{length, Option, Some, None, IfSome, refl, ap, ◌∙◌, sym, subst, arith, nat_eq, is_some, slice_get}
+use Rattle.std.proofs.Common.{◌≡◌, ℕ, zero, suc, Bool, true, false, cond, ◌||◌, List, [], ◌∷◌, ◌++◌, map}
+use Rattle.std.proofs.Common.{Some, None, refl, ap, ◌∙◌, sym, subst, nat_eq, slice_get}
 use Rattle.std.proofs.lemmas.Bool.{false≢true, or_parts}
-use Rattle.std.specs.List.{All, AllByRecursion, list_any}
+use Rattle.std.specs.List.{AllByRecursion, list_any}
 use Rattle.std.specs.Cmp.Lexicographic.{pointwise, bytes_decides}
 use Rattle.std.specs.declared.cmp.Ordering.TheVariants.{Less}
 use Rattle.path_text.specs.Order.{is_within, path_cmp}
@@ -11,9 +11,8 @@ use Rattle.path_text.specs.Graft.{below_of}
 use Rattle.path_text.proofs.Moved.{below_undoes_graft}
 use Rattle.path_text.proofs.Parts.{below_made}
 use Rattle.path_text.proofs.Under.{one_way}
-use Rattle.outside.specs.Tree.{is_root}
 use Rattle.flat_list.specs.declared.entries.Entry.{Entry}
-use Rattle.tree_copy.specs.Copying.{ends_of, target_of}
+use Rattle.tree_copy.specs.Copying.{target_of}
 use Rattle.tree_copy.specs.Placing.{IsPair, overlap}
 use Rattle.tree_copy.specs.declared.pairs.Pair.{Pair}
 use Rattle.tree_copy.proofs.Ends.{Fine, Goes, all_at, at_of, meets, no_root, one_over, one_path}
@@ -92,7 +91,8 @@ once (x ∷ es) s (suc j) (suc k) e f a b same = ap suc (once es s.1 j k e f a b
 
 module _ (pairs : List Pair) (f : Fine pairs) where
   -- a small entry's target is no large file's
-  pub aside : (e : Entry) → Known pairs e → (ls : List Entry) → AllByRecursion (Known pairs) ls → AllByRecursion (λ l. pointwise nat_eq e.path l.path ≡ false) ls →
+  pub aside : (e : Entry) → Known pairs e → (ls : List Entry) → AllByRecursion (Known pairs) ls →
+      AllByRecursion (λ l. pointwise nat_eq e.path l.path ≡ false) ls →
       is_target_of pairs ls (target_of pairs e.path) ≡ false
   aside e k [] ks off = refl
   aside e k (l ∷ ls) ks off =
@@ -106,7 +106,8 @@ module _ (pairs : List Pair) (f : Fine pairs) where
       AllByRecursion (λ e. is_target_of pairs (large_of piece es) (target_of pairs e.path) ≡ false) (small_of piece es)
   all_aside piece es s k =
       let ls = large_all (Known pairs) piece es k in
-      Rattle.range_copy.proofs.Parted.together (Known pairs) (λ (e : Entry). AllByRecursion (λ (l : Entry). pointwise nat_eq e.path l.path ≡ false) (large_of piece es))
+      Rattle.range_copy.proofs.Parted.together (Known pairs)
+      (λ (e : Entry). AllByRecursion (λ (l : Entry). pointwise nat_eq e.path l.path ≡ false) (large_of piece es))
       (λ (e : Entry). is_target_of pairs (large_of piece es) (target_of pairs e.path) ≡ false) (small_of piece es)
       (λ e h o. aside e h (large_of piece es) ls o) (small_all (Known pairs) piece es k) (other_paths piece es s)
 

@@ -1,10 +1,9 @@
 -- A law of copies: the entries of two parts, whose targets stand apart, copied one part after the other, are copied as all of them are at once.
 -- It speaks of the entries, their targets and the maps alone.
-use Rattle.std.proofs.Common.{◌≡◌, ◌⊎◌, inl, inr, ℕ, ◌<◌, Bool, true, false, cond, ◌||◌, List, [], ◌∷◌, Option, Some, None, IfSome, refl, ap, ◌∙◌, sym, subst, nat_eq}
-use Rattle.std.proofs.lemmas.Bool.{false≢true, or_parts}
+use Rattle.std.proofs.Common.{◌≡◌, ◌⊎◌, ℕ, true, false, cond, List, [], ◌∷◌, Option, IfSome}
+use Rattle.std.proofs.Common.{refl, ◌∙◌, sym, subst}
 use Rattle.std.specs.FinMap.{get}
-use Rattle.std.specs.List.{AllByRecursion, AllZip, list_any}
-use Rattle.std.specs.Cmp.Lexicographic.{pointwise}
+use Rattle.std.specs.List.{AllByRecursion}
 use Rattle.outside.specs.Tree.{Files, Node}
 use Rattle.flat_list.specs.declared.entries.Entry.{Entry}
 use Rattle.level_work.specs.declared.items.Fate.{Fate}

@@ -1,40 +1,32 @@
 -- The small entries of a list fit the tree as all of them do, and where their copy is done the large ones can be made.
-use Rattle.std.proofs.Common.{◌≡◌, ◌≢◌, ◌⊎◌, inl, inr, ℕ, zero, suc, ◌<◌, ◌≤◌, Bool, true, false, not, cond, ◌||◌, ◌&&◌, List, [], ◌∷◌, ◌++◌, map, length}
-use Rattle.std.proofs.Common.{Option, Some, None, IfSome, refl, ap, ◌∙◌, sym, subst, arith, nat_eq, nat_lt, is_some, slice_get}
+use Rattle.std.proofs.Common.{◌≡◌, ◌⊎◌, inl, inr, ℕ, Bool, true, false, not, cond, ◌||◌, ◌&&◌, List, [], ◌∷◌, map}
+use Rattle.std.proofs.Common.{Option, Some, None, IfSome, refl, ap, ◌∙◌, sym, subst, nat_eq, is_some}
 use Rattle.std.proofs.lemmas.Bool.{false≢true, or_parts}
-use Rattle.std.proofs.lemmas.Bool.Decides.{nat_tests}
 use Rattle.std.proofs.lemmas.List.Elements.{All-from_recursion, recursion_from_All}
-use Rattle.std.specs.Prelude.{is_none, nat_le}
 use Rattle.std.specs.FinMap.{get}
-use Rattle.std.specs.List.{All, AllByRecursion, filter, list_any, zip}
+use Rattle.std.specs.List.{All, AllByRecursion, list_any, zip}
 use Rattle.std.specs.Option.{option_map}
 use Rattle.std.specs.Cmp.Lexicographic.{pointwise, bytes_decides}
-use Rattle.std.specs.declared.cmp.Ordering.TheVariants.{Less}
 use Rattle.path_text.specs.Graft.{ParentMovesToo}
-use Rattle.path_text.specs.Order.{IsPreorder, ParentIsOver, UnderIsContiguous, is_under, is_within, path_cmp}
+use Rattle.path_text.specs.Order.{IsPreorder, ParentIsOver, UnderIsContiguous, is_under, is_within}
 use Rattle.path_text.specs.Path.{parent_of, refusal}
-use Rattle.path_text.proofs.Parents.{parent_under}
-use Rattle.path_text.proofs.Under.{one_way}
-use Rattle.path_text.proofs.Within.{tops_are_nested, under_longer}
 use Rattle.outside.specs.Parts.{UnderDirectories}
 use Rattle.outside.specs.Tree.{Files, IsTree, Node, Body, dir, file, link, other, is_dir, is_root, kind_of, link_at, stat_of}
-use Rattle.outside.specs.declared.trees.Kind.{Kind}
 use Rattle.outside.specs.declared.trees.Kind.TheVariants as kind
 use Rattle.outside.specs.declared.trees.Stat.{Stat}
-use Rattle.flat_list.specs.Entries.{is_kind, is_of}
+use Rattle.flat_list.specs.Entries.{is_kind}
 use Rattle.flat_list.specs.Spelling.{paths}
 use Rattle.flat_list.specs.declared.entries.Entry.{Entry}
 use Rattle.level_work.specs.declared.items.Fate.{Fate}
 use Rattle.level_work.specs.declared.items.Fate.TheVariants as fate
-use Rattle.tree_copy.specs.Copying.{CanCopy, Copied, FitsTree, IsCopied, IsCopyOf, IsLeft, SameButTargets, clashes, due, early, ends_of, is_done}
+use Rattle.tree_copy.specs.Copying.{FitsTree, IsCopied, IsCopyOf, clashes, due, early, is_done}
 use Rattle.tree_copy.specs.Copying.{is_target, is_untold, may_fail, or_else, target_of, treated}
-use Rattle.tree_copy.specs.Placing.{IsPair, overlap}
 use Rattle.tree_copy.specs.declared.pairs.Pair.{Pair}
-use Rattle.tree_copy.proofs.Ends.{Fine, Goes, all_at, goes, no_root, one_path}
+use Rattle.tree_copy.proofs.Ends.{Fine, Goes, goes}
 use Rattle.tree_copy.proofs.Fits.{told_dir, told_there}
 use Rattle.range_copy.specs.PrivateLarge.{is_target_of}
-use Rattle.range_copy.specs.PrivateParts.{is_large, large_of, small_of}
-use Rattle.range_copy.proofs.Parted.{Ascend, ascends, large_all, large_ascend, none_under, off_by, over_target, small_all, target_in_parts}
+use Rattle.range_copy.specs.PrivateParts.{large_of, small_of}
+use Rattle.range_copy.proofs.Parted.{Ascend, large_all, none_under, off_by, over_target, small_all, target_in_parts}
 use Rattle.range_copy.proofs.Parted.{together, treated_small, weaker}
 
 -- what is known of each entry
@@ -84,7 +76,8 @@ module _ (moves : ParentMovesToo) (over : ParentIsOver) (order : IsPreorder) (ne
       let off = turned (λ (e l : Entry). is_under e.path l.path ≡ false) es (large_of piece es) (none_under order near piece es s valid) in
       let ls = large_all (Known pairs) piece es k in
       together (Known pairs) (λ (e : Entry). AllByRecursion (λ (l : Entry). is_under e.path l.path ≡ false) (large_of piece es))
-      (λ (e : Entry). is_target_of pairs (large_of piece es) (parent_of (target_of pairs e.path)) ≡ false) es (λ e h o. no_parent e h (large_of piece es) ls o) k off
+      (λ (e : Entry). is_target_of pairs (large_of piece es) (parent_of (target_of pairs e.path)) ≡ false) es
+      (λ e h o. no_parent e h (large_of piece es) ls o) k off
 
 -- the small ones fit the tree
 
@@ -165,7 +158,8 @@ module _ (moves : ParentMovesToo) (over : ParentIsOver) (pairs : List Pair) (f :
 
   -- one entry over another is a directory then, if it was copied
   over_dir : (e p : Entry) → Known pairs e → Known pairs p → is_some e.stat ≡ true → is_some p.stat ≡ true → IsTold e → IsTold p →
-      target_of pairs p.path ≡ parent_of (target_of pairs e.path) → IsCopied before mid pairs rows p fate.Done → is_dir (get mid (target_of pairs p.path)) ≡ true
+      target_of pairs p.path ≡ parent_of (target_of pairs e.path) → IsCopied before mid pairs rows p fate.Done →
+      is_dir (get mid (target_of pairs p.path)) ≡ true
   over_dir e p ke kp se sp te tp is copied =
       let under = over_target moves over pairs f e.path p.path ke.0 kp.0 ke.1 kp.1 is in
       let there = told_there (get before e.path) e.stat se te in

@@ -1,31 +1,28 @@
 -- The large files, copied one after the other.
-use Rattle.std.proofs.Common.{◌≡◌, ℕ, zero, suc, ◌+◌, ◌*◌, ◌<◌, ◌≤◌, Bool, true, false, cond, ◌||◌, List, [], ◌∷◌, ◌++◌, length, take, Option, Some, None, IfSome}
+use Rattle.std.proofs.Common.{◌≡◌, ℕ, zero, suc, ◌+◌, ◌*◌, ◌<◌, ◌≤◌, Bool, true, false, cond, ◌||◌, List, [], ◌∷◌, ◌++◌}
+use Rattle.std.proofs.Common.{length, take, Option, Some, None, IfSome}
 use Rattle.std.proofs.Common.{refl, ap, ◌∙◌, sym, subst, arith, nat_eq, get_or, is_some, slice_get, length-append}
 use Rattle.std.proofs.lemmas.Bool.{false≢true, or_parts}
 use Rattle.std.proofs.lemmas.Slice.Zip.{all_zipped_more}
 use Rattle.std.proofs.lemmas.List.Folds.{list_any-append}
 use Rattle.std.proofs.lemmas.List.Sums.{sum_by-cons}
 use Rattle.std.proofs.lemmas.Option.{slice_get-get_or}
-use Rattle.std.specs.Prelude.{nat_le}
-use Rattle.std.specs.FinMap.{get}
-use Rattle.std.specs.List.{AllByRecursion, AllZip, count_by, list_any, sum_by, zip}
+use Rattle.std.specs.List.{AllByRecursion, count_by, list_any, sum_by, zip}
 use Rattle.std.specs.Cmp.Lexicographic.{pointwise}
 use Rattle.path_text.specs.Path.{parent_of}
 use Rattle.outside.specs.Count.{RoseBy}
-use Rattle.outside.specs.Tree.{Files, content, is_dir, is_file, is_root}
+use Rattle.outside.specs.Tree.{Files, content, is_dir, is_file}
 use Rattle.outside.specs.Writes.{SameBut}
-use Rattle.flat_list.specs.Entries.{size_by}
 use Rattle.flat_list.specs.declared.entries.Entry.{Entry}
 use Rattle.level_work.specs.Counts.{is_failed}
 use Rattle.level_work.specs.declared.items.Fate.{Fate}
 use Rattle.tree_copy.specs.Copying.{IsCopied, IsEarly, is_done, target_of}
 use Rattle.tree_copy.specs.declared.pairs.Pair.{Pair}
 use Rattle.tree_copy.proofs.Ends.{at_of}
-use Rattle.range_copy.specs.Large.{IsSource}
 use Rattle.range_copy.specs.PrivateLarge.{AreApart, AreFailed, AreRows, CanMake, IsRow, SameButFor, bytes_over, gain, is_target_of}
-use Rattle.range_copy.proofs.Composed.{AreCopied, StandApart, both_copied}
+use Rattle.range_copy.proofs.Composed.{StandApart, both_copied}
 use Rattle.tree_copy.proofs.Puts.{both_told, mapped}
-use Rattle.range_copy.proofs.Parted.{off_by, turned_off}
+use Rattle.range_copy.proofs.Parted.{off_by}
 use Rattle.range_copy.proofs.Rows.{Row, Told}
 
 -- what is so at every place before one
@@ -85,7 +82,8 @@ module _ (pairs : List Pair) (large : List Entry) (apart : AreApart pairs large)
     stand = λ short fine off. ap is_dir (same (parent_of (target_of pairs e.path)) no_parent) ∙ c.stand short fine off;
   }
 
-  pub still_makes : (failed : List (List ℕ)) (t t1 : Option Files) → is_some t1 ≡ is_some t → IfSome t (λ before. IfSome t1 (SameButFor pairs (take k large) before)) →
+  pub still_makes : (failed : List (List ℕ)) (t t1 : Option Files) → is_some t1 ≡ is_some t →
+      IfSome t (λ before. IfSome t1 (SameButFor pairs (take k large) before)) →
       IfSome t (CanMake pairs failed e) → IfSome t1 (CanMake pairs failed e)
   still_makes failed None None s same c = tt
   still_makes failed None (Some now) s same c = absurd (false≢true (sym s))
@@ -235,7 +233,8 @@ rose_more own p f x y z h g = subst (λ n. RoseBy n x z) (sym (sum_more (λ (row
     (rose_both (count_by (λ (row : Row). is_failed row.1) own) (cond (is_failed f) 1 0) x y z h g)
 
 pub rose_none : (own : List Row) (x : ℕ) → own ≡ [] → RoseBy (count_by (λ row. is_failed row.1) own) x x
-rose_none own x empty = subst (λ rows. RoseBy (count_by (λ (row : Row). is_failed row.1) rows) x x) (sym empty) (record { kept = omega arith; rose = omega arith })
+rose_none own x empty =
+    subst (λ rows. RoseBy (count_by (λ (row : Row). is_failed row.1) rows) x x) (sym empty) (record { kept = omega arith; rose = omega arith })
 
 pub rose_any : (a x y : ℕ) → RoseBy a x y → RoseBy 0 x y
 rose_any a x y h = let k = h.kept in record { kept = k; rose = omega arith }

@@ -1,5 +1,6 @@
 -- Spans that have their ranges, one behind the other, are the file.
-use Rattle.std.proofs.Common.{◌≡◌, ℕ, ◌-◌, true, List, [], ◌∷◌, ◌++◌, map, length, take, drop, Option, Some, None, IfSome, refl, ap, ◌∙◌, is_some}
+use Rattle.std.proofs.Common.{◌≡◌, ℕ, ◌-◌, true, List, [], ◌∷◌, ◌++◌, map, length, take, drop, Option, Some, None, IfSome, refl, ap}
+use Rattle.std.proofs.Common.{◌∙◌, is_some}
 use Rattle.std.proofs.lemmas.Bool.{false≢true}
 use Rattle.std.specs.FinMap.{get}
 use Rattle.std.specs.List.{AllByRecursion}
@@ -9,10 +10,10 @@ use Rattle.range_copy.specs.PrivateFilling.{HasRange}
 use Rattle.range_copy.specs.Ranges.{end_of, joined, ranges_from}
 use Rattle.range_copy.proofs.Cover.{cover}
 
-head_of : {X : Type 0} (x y : X) (xs ys : List X) → (x ∷ xs) ≡ (y ∷ ys) → x ≡ y
+pub head_of : {X : Type 0} (x y : X) (xs ys : List X) → (x ∷ xs) ≡ (y ∷ ys) → x ≡ y
 head_of x y xs ys e = cc
 
-tail_of : {X : Type 0} (x y : X) (xs ys : List X) → (x ∷ xs) ≡ (y ∷ ys) → xs ≡ ys
+pub tail_of : {X : Type 0} (x y : X) (xs ys : List X) → (x ∷ xs) ≡ (y ∷ ys) → xs ≡ ys
 tail_of x y xs ys e = cc
 
 module _ {S : Type 0} (piece : S → Piece) (holds : S → Option (List ℕ)) (path source : List ℕ) (files : Files) where

@@ -1,4 +1,5 @@
 pub mod Aside
+pub mod Caused
 pub mod Composed
 pub mod Counted
 pub mod Cover
@@ -16,7 +17,9 @@ pub mod Outcomes
 pub mod Parted
 pub mod Passed
 pub mod Rejoined
+pub mod Reported
 pub mod Rows
+pub mod Showing
 pub mod Tried
 pub mod Widened
 pub mod Worked

@@ -1,6 +1,7 @@
 -- An empty file that is made at a path, in place of none or of a file.
-use Rattle.std.proofs.Common.{◌≡◌, ℕ, Bool, true, false, not, cond, ◌||◌, ◌&&◌, List, [], Option, Some, None, IfSome, refl, ap, ◌∙◌, sym, arith, nat_eq}
-use Rattle.std.proofs.Common.{is_some, length}
+use Rattle.std.proofs.Common.{◌≡◌, ℕ, Bool, true, false, not, cond, ◌||◌, ◌&&◌, List, [], Option, Some, None, IfSome, refl, ap, ◌∙◌}
+use Rattle.std.proofs.Common.{sym, subst, arith}
+use Rattle.std.proofs.Common.{is_some, length, nat_eq}
 use Rattle.std.specs.Prelude.{Result, Ok, Err, IfOk, IsTrue}
 use Rattle.std.proofs.lemmas.Bool.{false≢true}
 use Rattle.std.specs.FinMap.{get, insert}
@@ -9,14 +10,14 @@ use Rattle.path_text.specs.Path.{parent_of, refusal}
 use Rattle.path_text.proofs.Parents.{parent_under}
 use Rattle.path_text.proofs.Within.{under_longer}
 use Rattle.outside.specs.Tree.{Files, is_dir, is_root}
-use Rattle.outside.specs.Writes.{Area, SameBut, in_area, is_open, is_top, make_refusal, new_file}
+use Rattle.outside.specs.Writes.{Area, in_area, is_open, is_top, make_refusal, new_file}
 use Rattle.outside.specs.declared.plots.WriteError.TheVariants as write
 use Rattle.tree_copy.proofs.Places.{Gone}
 use Rattle.tree_copy.proofs.Puts.{answered, both_told, free, put_here, put_others}
 use Rattle.range_copy.specs.declared.came.Came.{Came}
 use Rattle.range_copy.specs.declared.came.Came.TheVariants as came
 use Rattle.range_copy.specs.declared.cutting.RangeError.{RangeError}
-use Rattle.range_copy.specs.PrivatePlacing.{Leaves, MadeAs, ReplacedAs}
+use Rattle.range_copy.specs.PrivatePlacing.{Leaves, MadeAs, ReplacedAs, freed}
 
 pub made : (area : Area) (p : List ℕ) (t t' : Option Files) →
     IfSome t (λ files. (make_refusal area files p ≡ None) × (t' ≡ Some (insert files p (new_file [])))) →
@@ -54,18 +55,18 @@ stands_still area p (Some files) (Some after) v o e stand gone =
     ap is_dir (gone.others (parent_of p) (parent_off p v (low area p o))) ∙ stand
 
 -- and then an empty file was made there, or it was not
-pub replaced : (p : List ℕ) (r : Result Came RangeError) (t0 t1 t2 : Option Files) → is_some t1 ≡ is_some t0 → IfSome t0 (λ a. IfSome t1 (Gone p a)) →
-    IfSome t1 (λ b. IfSome t2 (Leaves MadeAs p r b)) → IfSome t0 (λ a. IfSome t2 (Leaves ReplacedAs p r a))
-replaced p r t0 t1 t2 e g m =
-    both_told (Gone p) (Leaves MadeAs p r) (Leaves ReplacedAs p r) t0 t1 t2 e
-    (λ a b c gone made. record { others = λ q off. made.others q off ∙ gone.others q off; meant = by a b c gone.none r made.meant }) g m
+pub replaced : (p : List ℕ) (r r' : Result Came RangeError) → r' ≡ freed r → (t0 t1 t2 : Option Files) → is_some t1 ≡ is_some t0 →
+    IfSome t0 (λ a. IfSome t1 (Gone p a)) → IfSome t1 (λ b. IfSome t2 (Leaves MadeAs p r b)) → IfSome t0 (λ a. IfSome t2 (Leaves ReplacedAs p r' a))
+replaced p r r' is t0 t1 t2 e g m =
+    both_told (Gone p) (Leaves MadeAs p r) (Leaves ReplacedAs p r') t0 t1 t2 e
+    (λ a b c gone made. record {
+      others = λ q off. made.others q off ∙ gone.others q off;
+      meant = subst (λ r. IfOk r (λ f. ReplacedAs p f a c)) (sym is) (by a b c gone.none r made.meant);
+    }) g m
   where
-    one : (a b c : Files) → get b p ≡ None → (f : Came) → MadeAs p f b c → ReplacedAs p f a c
-    one a b c n came.Done h = h.1
-    one a b c n came.Failed h = tt
-    one a b c n came.Conflict h = absurd (false≢true (sym (ap is_some n) ∙ h.0))
-    one a b c n came.Changed h = absurd h
-
-    by : (a b c : Files) → get b p ≡ None → (r : Result Came RangeError) → IfOk r (λ f. MadeAs p f b c) → IfOk r (λ f. ReplacedAs p f a c)
-    by a b c n (Ok f) h = one a b c n f h
+    by : (a b c : Files) → get b p ≡ None → (r : Result Came RangeError) → IfOk r (λ f. MadeAs p f b c) → IfOk (freed r) (λ f. ReplacedAs p f a c)
+    by a b c n (Ok came.Done) h = h.1
+    by a b c n (Ok came.Failed) h = tt
+    by a b c n (Ok came.Conflict) h = absurd (false≢true (sym (ap is_some n) ∙ h.0))
+    by a b c n (Ok came.Changed) h = absurd h
     by a b c n (Err e) h = tt

@@ -1,6 +1,7 @@
 -- The targets of the rows that did not come to `Done`, row by row.
-use Rattle.std.proofs.Common.{◌≡◌, ℕ, zero, suc, ◌+◌, ◌<◌, ◌≤◌, Bool, true, false, not, cond, ◌||◌, ◌&&◌, List, [], ◌∷◌, ◌++◌, length, take, Option, Some, None, refl, ap}
-use Rattle.std.proofs.Common.{◌∙◌, sym, subst, arith, nat_eq, slice_get}
+use Rattle.std.proofs.Common.{◌≡◌, ℕ, zero, suc, ◌+◌, Bool, true, false, not, cond, ◌||◌, ◌&&◌, List, [], ◌∷◌, ◌++◌}
+use Rattle.std.proofs.Common.{length, take, Option, Some, None, refl, ap}
+use Rattle.std.proofs.Common.{◌∙◌, sym, arith, nat_eq, slice_get}
 use Rattle.std.proofs.lemmas.Bool.{false≢true}
 use Rattle.std.proofs.lemmas.List.Folds.{list_any-append}
 use Rattle.std.specs.Prelude.{nat_le, Result, Ok, Err, OnOk}
@@ -60,7 +61,8 @@ noted_long pairs rows paths p f is h q short =
     let off = off_by (pointwise nat_eq (target_of pairs p) q) (λ same.
     let e = (bytes_decides (target_of pairs p) q).0 same in
     false≢true (sym (too_long pairs p is) ∙ ap (λ t. nat_le (length t) 4095) e ∙ short)) in
-    h q short ∙ sym (failed_more pairs rows p f q ∙ ap (λ b. failed_at pairs rows q || ((b && not (is_done f)) || false)) off ∙ or_none (failed_at pairs rows q))
+    h q short
+    ∙ sym (failed_more pairs rows p f q ∙ ap (λ b. failed_at pairs rows q || ((b && not (is_done f)) || false)) off ∙ or_none (failed_at pairs rows q))
 
 pub noted_more : (pairs : List Pair) (rows : List Row) (paths now : List (List ℕ)) (p t : List ℕ) (f : Fate) → is_done f ≡ false →
     fitting_target pairs p ≡ Some t → ((q : List ℕ) → has_path now q ≡ (pointwise nat_eq q t || has_path paths q)) → AreFailed pairs rows paths →
@@ -76,7 +78,8 @@ noted_more pairs rows paths now p t f off is more h q short =
 
 -- a row at its place
 
-row_is : (row : Option Row) (p : List ℕ) (f : Fate) → option_map (λ (r : Row). r.0) row ≡ Some p → option_map (λ (r : Row). r.1) row ≡ Some f → row ≡ Some (p, f)
+row_is : (row : Option Row) (p : List ℕ) (f : Fate) →
+    option_map (λ (r : Row). r.0) row ≡ Some p → option_map (λ (r : Row). r.1) row ≡ Some f → row ≡ Some (p, f)
 row_is None p f a b = cc
 row_is (Some row) p f a b = let first : row.0 ≡ p = cc in let second : row.1 ≡ f = cc in λ i. Some (first i, second i)
 

@@ -1,12 +1,10 @@
 -- The parts of a list: nothing stands under a large file, and no target of a large file is another entry's, or the parent of one.
-use Rattle.std.proofs.Common.{◌≡◌, ◌≢◌, ◌⊎◌, inl, inr, ⊎_elim, ℕ, zero, suc, ◌<◌, ◌≤◌, Bool, true, false, not, cond, ◌||◌, ◌&&◌, List, [], ◌∷◌, ◌++◌, map}
-use Rattle.std.proofs.Common.{length, Option, Some, None, IfSome, refl, ap, ◌∙◌, sym, subst, arith, nat_eq, is_some, slice_get}
-use Rattle.std.proofs.lemmas.Bool.{false≢true, or_parts}
+use Rattle.std.proofs.Common.{◌≡◌, ◌≢◌, ⊎_elim, ℕ, Bool, true, false, not, cond, ◌||◌, ◌&&◌, List, [], ◌∷◌, map}
+use Rattle.std.proofs.Common.{length, Option, Some, None, refl, ap, ◌∙◌, sym, subst, arith, nat_eq, is_some}
+use Rattle.std.proofs.lemmas.Bool.{false≢true}
 use Rattle.std.proofs.lemmas.List.Elements.{All-from_recursion, recursion_from_All}
-use Rattle.std.specs.FinMap.{get}
-use Rattle.std.specs.List.{All, AllByRecursion, filter, list_any}
+use Rattle.std.specs.List.{AllByRecursion, list_any}
 use Rattle.std.specs.List.Sorted.{IsStrictlySortedBy}
-use Rattle.std.specs.Option.{option_map}
 use Rattle.std.specs.Cmp.Lexicographic.{pointwise, bytes_decides}
 use Rattle.std.specs.declared.cmp.Ordering.TheVariants.{Less}
 use Rattle.path_text.specs.Graft.{ParentMovesToo, below_of, grafted}
@@ -16,16 +14,16 @@ use Rattle.path_text.proofs.Carried.{grafted_itself}
 use Rattle.path_text.proofs.Parents.{parent_under}
 use Rattle.path_text.proofs.Under.{one_way}
 use Rattle.path_text.proofs.Within.{same_or_under, some_bytes, under_longer}
-use Rattle.outside.specs.Tree.{Files, is_dir, is_root, link_at, stat_of}
+use Rattle.outside.specs.Tree.{is_root}
 use Rattle.outside.specs.declared.trees.Kind.TheVariants as kind
 use Rattle.outside.specs.declared.trees.Stat.{Stat}
-use Rattle.flat_list.specs.Entries.{is_of, size_by}
+use Rattle.flat_list.specs.Entries.{is_of}
 use Rattle.flat_list.specs.Spelling.{paths}
 use Rattle.flat_list.specs.declared.entries.Entry.{Entry}
-use Rattle.tree_copy.specs.Copying.{CanCopy, FitsTree, ends_of, is_target, target_of, treated}
+use Rattle.tree_copy.specs.Copying.{CanCopy, is_target, target_of, treated}
 use Rattle.tree_copy.specs.declared.pairs.Pair.{Pair}
-use Rattle.tree_copy.specs.Placing.{IsPair, overlap}
-use Rattle.tree_copy.proofs.Ends.{Fine, Goes, all_at, goes, no_root, one_path, target_by, under_kept}
+use Rattle.tree_copy.specs.Placing.{IsPair}
+use Rattle.tree_copy.proofs.Ends.{Fine, Goes, all_at, no_root, one_path, target_by, under_kept}
 use Rattle.range_copy.specs.PrivateLarge.{is_target_of}
 use Rattle.range_copy.specs.PrivateParts.{exceeds, has_under, is_large, large_of, small_of}
 

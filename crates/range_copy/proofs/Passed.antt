@@ -1,7 +1,7 @@
 -- A list is parted entry by entry, and the rows of its parts are merged row by row.
-use Rattle.std.proofs.Common.{◌≡◌, ℕ, ◌≤◌, Bool, true, false, not, cond, ◌&&◌, List, [], ◌∷◌, ◌++◌, length, drop, Option, Some, None, IfSome, refl, ap, ◌∙◌, sym, subst, arith, is_some}
+use Rattle.std.proofs.Common.{◌≡◌, ℕ, ◌≤◌, Bool, true, false, not, cond, ◌&&◌, List, [], ◌∷◌, ◌++◌}
+use Rattle.std.proofs.Common.{length, drop, Option, Some, None, IfSome, refl, ap, ◌∙◌, sym, subst, is_some}
 use Rattle.std.proofs.Common.{append_assoc, append-nil, drop_of_length-le}
-use Rattle.std.proofs.lemmas.Bool.{false≢true}
 use Rattle.std.proofs.lemmas.List.{nil_from_length}
 use Rattle.std.specs.Vec.Iter.{into_iter_items, into_iter_steps}
 use Rattle.std.specs.declared.vec.IntoIter.{IntoIter}
@@ -74,7 +74,8 @@ none_over (Some e) = refl
 
 -- before the first entry, and behind the last one
 
-pub at_start : (piece : ℕ) (parts : Parts) (list : List Entry) → parts.small ≡ [] → parts.large.items ≡ [] → parts.marks.items ≡ [] → ArePartsOf piece parts list list
+pub at_start : (piece : ℕ) (parts : Parts) (list : List Entry) → parts.small ≡ [] → parts.large.items ≡ [] → parts.marks.items ≡ [] →
+    ArePartsOf piece parts list list
 at_start piece parts list small large marks = record {
   small = ap (λ xs. xs ++ small_of piece list) small;
   large = ap (λ xs. xs ++ large_of piece list) large;

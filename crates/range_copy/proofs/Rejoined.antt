@@ -1,6 +1,6 @@
 -- A file that was out in spans is back: it has the bytes of the source, and nothing else has changed.
-use Rattle.std.proofs.Common.{◌≡◌, ℕ, Bool, true, false, not, cond, ◌||◌, List, [], ◌∷◌, map, Option, Some, None, IfSome, refl, ap, ◌∙◌, sym}
-use Rattle.std.proofs.Common.{subst, arith, is_some, nat_eq}
+use Rattle.std.proofs.Common.{◌≡◌, ℕ, Bool, true, false, not, cond, ◌||◌, List, [], ◌∷◌, ◌++◌, map, Option, Some, None, IfSome}
+use Rattle.std.proofs.Common.{refl, ap, ◌∙◌, sym, subst, arith, is_some, nat_eq}
 use Rattle.std.specs.Prelude.{IfOk}
 use Rattle.std.proofs.lemmas.Bool.{false≢true}
 use Rattle.std.proofs.lemmas.List.Elements.{All-from_recursion}
@@ -16,12 +16,13 @@ use Rattle.outside.specs.Parts.{UnderDirectories}
 use Rattle.outside.specs.Spans.{IsRejoined, Piece, are_cuts, area_cut, cuts_at, cuts_in, joined_bytes, pieces, zeros_of}
 use Rattle.outside.specs.Tree.{Files, IsTree, Node, Body, dir, file, link, other, content, is_dir, is_file}
 use Rattle.outside.specs.Writes.{Area, SameBut, new_file, nothing_lent}
-use Rattle.range_copy.specs.Large.{HasBytes, IsSource}
+use Rattle.range_copy.specs.Large.{HasBytes, IsSource, SpansComeBack}
 use Rattle.range_copy.specs.PrivateFilling.{HasRange, IsShort}
 use Rattle.range_copy.specs.PrivateTurns.{FilledAs, came_of}
-use Rattle.range_copy.specs.Ranges.{end_of}
+use Rattle.range_copy.specs.Ranges.{end_of, joined, ranges_of}
 use Rattle.range_copy.specs.declared.filled.Filled.{Filled}
 use Rattle.range_copy.specs.declared.filled.Filled.TheVariants as filled
+use Rattle.range_copy.proofs.Cover.{cover}
 use Rattle.range_copy.proofs.Joined.{joined_all}
 
 -- nothing stands under what is no directory
@@ -62,6 +63,18 @@ one_rejoined law p bytes before after v tree tree' empty r q off =
           none_under law p q after v tree' u (file_no_dir (get after p) r.is_file)
           ∙ sym (none_under law p q before v tree u (ap is_dir empty))
     ] refl
+
+-- the law: spans that have the ranges of some bytes come back as a file of these bytes
+
+told_ranges : (ranges : List (List ℕ)) → joined_bytes (map (λ range. Some range) ranges) ≡ joined ranges
+told_ranges [] = refl
+told_ranges (one ∷ ranges) = ap (λ rest. one ++ rest) (told_ranges ranges)
+
+pub come_back : UnderDirectories → SpansComeBack
+come_back law path cuts bytes before after v tree tree' empty are whole r = (
+  record { is_file = r.is_file; same = r.same ∙ told_ranges (ranges_of cuts bytes) ∙ cover cuts bytes are whole },
+  one_rejoined law path (joined_bytes (map (λ range. Some range) (ranges_of cuts bytes))) before after v tree tree' empty r,
+)
 
 -- what is known of the three trees: before the lease, while the file is out, and when it is back
 pub record Came (p bytes : List ℕ) (t t1 t2 : Option Files) : Type 0 where

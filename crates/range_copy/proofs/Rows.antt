@@ -1,9 +1,9 @@
 -- The rows of small entries and of large files, brought together.
 use Rattle.std.proofs.Common.{◌≡◌, ℕ, ◌+◌, Bool, true, false, not, cond, ◌||◌, ◌&&◌, List, [], ◌∷◌, map, refl, ap, ◌∙◌, sym, subst, arith, nat_eq, is_some}
-use Rattle.std.proofs.lemmas.Bool.{false≢true, or_parts}
+use Rattle.std.proofs.lemmas.Bool.{or_parts}
 use Rattle.std.proofs.lemmas.List.Elements.{All-from_recursion}
 use Rattle.std.proofs.lemmas.List.Sums.{sum_by-cons}
-use Rattle.std.specs.List.{All, AllByRecursion, AllZip, count_by, list_any, sum_by, zip}
+use Rattle.std.specs.List.{All, AllByRecursion, count_by, sum_by, zip}
 use Rattle.std.specs.Cmp.Lexicographic.{pointwise}
 use Rattle.flat_list.specs.Spelling.{paths}
 use Rattle.flat_list.specs.declared.entries.Entry.{Entry}
@@ -165,14 +165,16 @@ merged_count p P piece = by_parts (Counting p P) piece none wide slim
     wide e all small large marks h srows [] s l = absurd l
     wide e all small large marks h srows (row ∷ lrows) s l =
         let r = h srows lrows s l.1 in
-        omega (arith, r, sum_by-cons (λ (row : Row). cond (p row.1) 1 0) row (merged marks srows lrows), sum_by-cons (λ (row : Row). cond (p row.1) 1 0) row lrows)
+        let one : Row → ℕ = λ row. cond (p row.1) 1 0 in
+        omega (arith, r, sum_by-cons one row (merged marks srows lrows), sum_by-cons one row lrows)
 
     slim : (e : Entry) (all small large : List Entry) (marks : List Bool) → Counting p P all small large marks →
         Counting p P (e ∷ all) (e ∷ small) large (false ∷ marks)
     slim e all small large marks h [] lrows s l = absurd s
     slim e all small large marks h (row ∷ srows) lrows s l =
         let r = h srows lrows s.1 l in
-        omega (arith, r, sum_by-cons (λ (row : Row). cond (p row.1) 1 0) row (merged marks srows lrows), sum_by-cons (λ (row : Row). cond (p row.1) 1 0) row srows)
+        let one : Row → ℕ = λ row. cond (p row.1) 1 0 in
+        omega (arith, r, sum_by-cons one row (merged marks srows lrows), sum_by-cons one row srows)
 
 abbrev Summing : (Told → ℕ) → (Entry → Fate → Type 0) → Between
 Summing w P all small large marks = (srows lrows : List Row) → AreRows P small srows → AreRows P large lrows →
@@ -180,7 +182,8 @@ Summing w P all small large marks = (srows lrows : List Row) → AreRows P small
 
 pub merged_sum : (w : Told → ℕ) (P : Entry → Fate → Type 0) (piece : ℕ) (es : List Entry) (srows lrows : List Row) →
     AreRows P (treated (small_of piece es)) srows → AreRows P (large_of piece es) lrows →
-    sum_by w (zip (treated es) (merged (marks_of piece es) srows lrows)) ≡ sum_by w (zip (treated (small_of piece es)) srows) + sum_by w (zip (large_of piece es) lrows)
+    sum_by w (zip (treated es) (merged (marks_of piece es) srows lrows))
+    ≡ sum_by w (zip (treated (small_of piece es)) srows) + sum_by w (zip (large_of piece es) lrows)
 merged_sum w P piece = by_parts (Summing w P) piece none wide slim
   where
     none : Summing w P [] [] [] []

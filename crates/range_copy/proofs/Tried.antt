@@ -1,6 +1,7 @@
 -- The fate of one large file, and what it says.
-use Rattle.std.proofs.Common.{◌≡◌, ◌⊎◌, inl, inr, ℕ, ◌<◌, ◌≤◌, Bool, true, false, not, cond, ◌||◌, ◌&&◌, List, [], ◌∷◌, length, Option, Some, None, IfSome, refl, ap}
-use Rattle.std.proofs.Common.{◌∙◌, sym, subst, arith, nat_eq, nat_lt, is_some}
+use Rattle.std.proofs.Common.{◌≡◌, inl, inr, ℕ, ◌<◌, ◌≤◌, Bool, true, false, not, cond, ◌&&◌, List}
+use Rattle.std.proofs.Common.{length, Option, Some, None, IfSome, refl, ap}
+use Rattle.std.proofs.Common.{◌∙◌, sym, subst, arith, nat_lt}
 use Rattle.std.proofs.lemmas.Bool.{false≢true}
 use Rattle.std.proofs.lemmas.Bool.Decides.{nat_tests}
 use Rattle.std.specs.Prelude.{is_none, nat_le}
@@ -18,7 +19,8 @@ use Rattle.flat_list.specs.declared.entries.Entry.{Entry}
 use Rattle.level_work.specs.Counts.{is_failed}
 use Rattle.level_work.specs.declared.items.Fate.{Fate}
 use Rattle.level_work.specs.declared.items.Fate.TheVariants as fate
-use Rattle.tree_copy.specs.Copying.{IsCopied, IsCopyOf, IsEarly, IsLeft, body_of, clashes, early, is_done, is_tried, is_untold, may_fail, parent_failed, target_of}
+use Rattle.tree_copy.specs.Copying.{IsCopied, IsCopyOf, IsEarly, body_of}
+use Rattle.tree_copy.specs.Copying.{clashes, early, is_done, is_tried, is_untold, may_fail, parent_failed, target_of}
 use Rattle.tree_copy.specs.declared.pairs.Pair.{Pair}
 use Rattle.range_copy.specs.Large.{HasBytes, IsSource, in_way}
 use Rattle.range_copy.specs.Large as large
@@ -26,7 +28,7 @@ use Rattle.range_copy.specs.PrivateLarge.{AreFailed, CanMake, fate_of, fitting_t
 use Rattle.range_copy.specs.PrivateParts.{exceeds}
 use Rattle.range_copy.specs.declared.came.Came.{Came}
 use Rattle.range_copy.specs.declared.came.Came.TheVariants as came
-use Rattle.range_copy.proofs.Composed.{IsDue, due_by}
+use Rattle.range_copy.proofs.Composed.{due_by}
 use Rattle.tree_copy.proofs.Puts.{mapped}
 use Rattle.range_copy.proofs.Rows.{Row}
 
@@ -93,7 +95,8 @@ only_file kind.Dir h = absurd (false≢true h)
 only_file kind.Link h = absurd (false≢true h)
 only_file kind.Other h = absurd (false≢true h)
 
-of_kind : (k : Kind) → ((l : Kind) → is_kind kind.File l ≡ true → is_kind k l ≡ false) → (stat : Option Stat) → is_of kind.File stat ≡ true → is_of k stat ≡ false
+of_kind : (k : Kind) → ((l : Kind) → is_kind kind.File l ≡ true → is_kind k l ≡ false) → (stat : Option Stat) →
+    is_of kind.File stat ≡ true → is_of k stat ≡ false
 of_kind k h None f = refl
 of_kind k h (Some s) f = h s.kind f
 
@@ -141,7 +144,8 @@ module _ (pairs : List Pair) (rows : List Row) (failed : List (List ℕ)) (are :
   told_text = ap (λ b. b && is_none e.target) (of_kind kind.Link no_link e.stat is_a_file)
 
   pub early_long : nat_le (length (target_of pairs e.path)) 4095 ≡ false → early pairs rows e ≡ Some fate.TooLong
-  early_long l = ap (λ b. early_by b (parent_failed pairs rows (target_of pairs e.path)) (is_of kind.Other e.stat)) (long_by (length (target_of pairs e.path)) l)
+  early_long l =
+      ap (λ b. early_by b (parent_failed pairs rows (target_of pairs e.path)) (is_of kind.Other e.stat)) (long_by (length (target_of pairs e.path)) l)
 
   -- whether the entry over it failed
   by_set : nat_le (length (target_of pairs e.path)) 4095 ≡ true → refusal (target_of pairs e.path) ≡ None → is_root (target_of pairs e.path) ≡ false →

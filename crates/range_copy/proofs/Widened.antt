@@ -1,11 +1,12 @@
 -- The copy of a list whose large files are copied after all else: what its parts need, and what is so of all entries then.
-use Rattle.std.proofs.Common.{◌≡◌, ◌⊎◌, inl, inr, ℕ, ◌+◌, ◌<◌, ◌≤◌, Bool, true, false, not, cond, ◌||◌, ◌&&◌, List, [], ◌∷◌, map, length, Option, Some, None, IfSome}
+use Rattle.std.proofs.Common.{◌≡◌, ◌⊎◌, ℕ, true, false, cond, ◌||◌, ◌&&◌, List, [], ◌∷◌}
+use Rattle.std.proofs.Common.{map, length, Option, Some, None, IfSome}
 use Rattle.std.proofs.Common.{refl, ap, ◌∙◌, sym, subst, arith, nat_eq, nat_lt, is_some}
 use Rattle.std.proofs.lemmas.Bool.{false≢true, or_parts}
 use Rattle.std.proofs.lemmas.List.Elements.{All-from_recursion, recursion_from_All}
-use Rattle.std.specs.Prelude.{nat_le, Result, Ok, Err, IfOk}
+use Rattle.std.specs.Prelude.{nat_le}
 use Rattle.std.specs.FinMap.{get}
-use Rattle.std.specs.List.{All, AllByRecursion, count_by, list_any, sum_by, zip}
+use Rattle.std.specs.List.{All, AllByRecursion, list_any, zip}
 use Rattle.std.specs.Option.{option_map}
 use Rattle.std.specs.Cmp.Lexicographic.{pointwise}
 use Rattle.path_text.specs.Order.{is_within}
@@ -15,33 +16,29 @@ use Rattle.path_text.proofs.Parents.{parent_is_over, parent_under}
 use Rattle.path_text.proofs.Preordered.{preorder}
 use Rattle.path_text.proofs.Under.{contiguous}
 use Rattle.path_text.proofs.Within.{under_longer}
-use Rattle.outside.specs.Count.{RoseBy}
 use Rattle.outside.specs.Parts.{UnderDirectories}
 use Rattle.outside.specs.Tree.{Body, Files, IsTree, Node, content, dir, file, is_dir, is_file, link, other, stat_of}
 use Rattle.outside.specs.declared.trees.Kind.TheVariants as kind
 use Rattle.outside.specs.declared.trees.Stat.{Stat}
-use Rattle.flat_list.specs.Entries.{bytes_by, is_kind, is_of, size_by}
+use Rattle.flat_list.specs.Entries.{is_kind, is_of, size_by}
 use Rattle.flat_list.specs.Spelling.{paths}
 use Rattle.flat_list.specs.declared.entries.Entry.{Entry}
-use Rattle.level_work.specs.Counts.{is_failed}
-use Rattle.level_work.specs.declared.items.Fate.{Fate}
-use Rattle.tree_copy.specs.Copying.{AreEarly, CanCopy, Copied, FitsTree, IsCopied, IsEarly, SameButTargets, bytes_copied, early, is_done, is_target}
+use Rattle.tree_copy.specs.Copying.{AreEarly, CanCopy, Copied, FitsTree, IsCopied, IsEarly, SameButTargets, early, is_done, is_target}
 use Rattle.tree_copy.specs.Copying.{is_tried, is_untold, target_of, treated}
 use Rattle.tree_copy.specs.Placing.{IsPair}
 use Rattle.tree_copy.specs.declared.pairs.Pair.{Pair}
 use Rattle.tree_copy.proofs.Ends.{Fine, no_root}
 use Rattle.tree_copy.proofs.Off.{targets_are_apart}
 use Rattle.range_copy.specs.Large.{IsSource}
-use Rattle.range_copy.specs.PrivateLarge.{AreApart, AreFailed, AreRows, CanMake, SameButFor, bytes_over, failed_at, has_path, is_target_of}
+use Rattle.range_copy.specs.PrivateLarge.{AreApart, AreFailed, AreRows, CanMake, SameButFor, has_path, is_target_of}
 use Rattle.range_copy.specs.PrivateParts.{exceeds, large_of, marks_of, merged, small_of}
 use Rattle.range_copy.proofs.Aside.{all_aside, are_apart, aside, other_paths}
-use Rattle.range_copy.proofs.Composed.{AreCopied, StandApart, both_copied, copied_by}
-use Rattle.range_copy.proofs.Fitted.{Copying, Free, Known, fits_small, free_all, known_all, parent_done, treated_all, turned}
-use Rattle.range_copy.proofs.Folded.{rose_both}
+use Rattle.range_copy.proofs.Composed.{StandApart, both_copied, copied_by}
+use Rattle.range_copy.proofs.Fitted.{Free, Known, fits_small, free_all, known_all, parent_done, treated_all, turned}
 use Rattle.tree_copy.proofs.Puts.{both_told, mapped}
-use Rattle.range_copy.proofs.Parted.{Ascend, all_exceed, any_map, ascends, can_small, large_all, large_ascend, off_by, small_all, target_in_parts, together}
+use Rattle.range_copy.proofs.Parted.{Ascend, all_exceed, any_map, ascends, can_small, large_all, large_ascend, small_all, target_in_parts, together}
 use Rattle.range_copy.proofs.Parted.{treated_large, turned_off, weaker}
-use Rattle.range_copy.proofs.Rows.{Row, Told, merged_count, merged_failed, merged_rows, merged_sum, row_paths, rows_told, rows_with, told_rows}
+use Rattle.range_copy.proofs.Rows.{Row, Told, merged_failed, merged_rows, rows_told, rows_with, told_rows}
 use Rattle.range_copy.proofs.Tried.{early_by, is_file_of, less_too}
 
 abbrev InSource : List Pair → Entry → Type 0
@@ -179,11 +176,16 @@ module _ (list : List Entry) (pairs : List Pair) (g : Given list pairs) (piece :
 
     stats : (es : List Entry) → AllByRecursion (λ (p : Entry). is_some p.stat ≡ true) (treated es)
     stats [] = tt
-    stats (e ∷ es) = let more = stats es in elim (is_some e.stat) as (λ b. is_some e.stat ≡ b → AllByRecursion (λ (p : Entry). is_some p.stat ≡ true) (cond b (e ∷ treated es) (treated es)))
+    stats (e ∷ es) =
+        let more = stats es in
+        elim (is_some e.stat) as (λ b. is_some e.stat ≡ b →
+        AllByRecursion (λ (p : Entry). is_some p.stat ≡ true) (cond b (e ∷ treated es) (treated es)))
         [ true ↦ λ s. (s, more) | false ↦ λ s. more ] refl
 
     settled : AllByRecursion Settled (treated (small_of piece list))
-    settled = together (λ (p : Entry). is_some p.stat ≡ true) (λ p. Known pairs p × IsTold before p) Settled (treated (small_of piece list)) (λ p s k. (s, k.0, k.1))
+    settled =
+        together (λ (p : Entry). is_some p.stat ≡ true) (λ p. Known pairs p × IsTold before p) Settled (treated (small_of piece list))
+        (λ p s k. (s, k.0, k.1))
         (stats (small_of piece list))
         (together (Known pairs) (IsTold before) (λ p. Known pairs p × IsTold before p) (treated (small_of piece list)) (λ p k t. (k, t)) small_known
         (treated_all (IsTold before) (small_of piece list) (small_all (IsTold before) piece list told_all)))
@@ -207,11 +209,13 @@ module _ (list : List Entry) (pairs : List Pair) (g : Given list pairs) (piece :
         by None h = absurd (false≢true h)
         by (Some s) h = refl
 
-    parent_stands : (l : Entry) → Ready l → nat_le (length (target_of pairs l.path)) 4095 ≡ true → has_path failed (parent_of (target_of pairs l.path)) ≡ false →
+    parent_stands : (l : Entry) → Ready l → nat_le (length (target_of pairs l.path)) 4095 ≡ true →
+        has_path failed (parent_of (target_of pairs l.path)) ≡ false →
         nat_le (length (parent_of (target_of pairs l.path))) 4095 ≡ true → is_dir (get mid (parent_of (target_of pairs l.path))) ≡ true
     parent_stands l r short off up =
         elim (is_target_of pairs (treated (small_of piece list)) (parent_of (target_of pairs l.path))) as (λ b.
-        is_target_of pairs (treated (small_of piece list)) (parent_of (target_of pairs l.path)) ≡ b → is_dir (get mid (parent_of (target_of pairs l.path))) ≡ true) [
+        is_target_of pairs (treated (small_of piece list)) (parent_of (target_of pairs l.path)) ≡ b →
+        is_dir (get mid (parent_of (target_of pairs l.path))) ≡ true) [
           | true ↦ λ there. parent_done parent_moves_too parent_is_over pairs fine before mid srows (record { law = law; tree = tree }) l r.known
               (has_stat_of l r.exceed) r.told (treated (small_of piece list)) srows same settled
               (recursion_from_All (λ (one : Told). IsCopied before mid pairs srows one.0 one.1.1) (zip (treated (small_of piece list)) srows) copied.each) there
@@ -233,7 +237,8 @@ module _ (list : List Entry) (pairs : List Pair) (g : Given list pairs) (piece :
         together (λ l. Known pairs l × (exceeds piece l ≡ true)) (λ l. (IsTold before l × Free pairs (large_of piece list) l) × Stands l
         × (is_target_of pairs (treated (small_of piece list)) l.path ≡ false)) Ready (large_of piece list)
         (λ l k t. record { known = k.0; exceed = k.1; told = t.0.0; free = t.0.1; stand = t.1; off = t.2 }) own
-        (together (λ l. IsTold before l × Free pairs (large_of piece list) l) (λ l. Stands l × (is_target_of pairs (treated (small_of piece list)) l.path ≡ false))
+        (together (λ l. IsTold before l × Free pairs (large_of piece list) l)
+        (λ l. Stands l × (is_target_of pairs (treated (small_of piece list)) l.path ≡ false))
         (λ l. (IsTold before l × Free pairs (large_of piece list) l) × Stands l × (is_target_of pairs (treated (small_of piece list)) l.path ≡ false))
         (large_of piece list) (λ l t s. (t, s.0, s.1)) told stand)
 
@@ -274,18 +279,20 @@ module _ (list : List Entry) (pairs : List Pair) (g : Given list pairs) (piece :
 
   both_but : (a b c : Files) → SameButTargets pairs (small_of piece list) a b → SameButFor pairs (large_of piece list) b c → SameButTargets pairs list a c
   both_but a b c h i q off =
-      let parts = or_parts (is_target pairs (small_of piece list) q) (is_target_of pairs (large_of piece list) q) (sym (target_in_parts pairs piece list q) ∙ off) in
+      let parts = or_parts (is_target pairs (small_of piece list) q) (is_target_of pairs (large_of piece list) q)
+      (sym (target_in_parts pairs piece list q) ∙ off) in
       i q parts.1 ∙ h q parts.0
 
   pub rest_both : (t t1 t2 : Option Files) → is_some t1 ≡ is_some t → IfSome t (λ a. IfSome t1 (SameButTargets pairs (small_of piece list) a)) →
       IfSome t1 (λ b. IfSome t2 (SameButFor pairs (large_of piece list) b)) → IfSome t (λ a. IfSome t2 (SameButTargets pairs list a))
-  rest_both t t1 t2 s = both_told (SameButTargets pairs (small_of piece list)) (SameButFor pairs (large_of piece list)) (SameButTargets pairs list) t t1 t2 s both_but
+  rest_both t t1 t2 s =
+      both_told (SameButTargets pairs (small_of piece list)) (SameButFor pairs (large_of piece list)) (SameButTargets pairs list) t t1 t2 s both_but
 
   -- what is so of all entries, by the rows of both parts
 
   module _ (srows lrows : List Row) (same : map (λ row. row.0) srows ≡ paths (treated (small_of piece list)))
       (early_s : AreEarly (small_of piece list) pairs srows) (early_l : AreRows (IsEarly pairs srows) (large_of piece list) lrows) where
-    small_early : AreRows (IsEarly pairs srows) (treated (small_of piece list)) srows
+    pub small_early : AreRows (IsEarly pairs srows) (treated (small_of piece list)) srows
     small_early = told_rows (IsEarly pairs srows) (treated (small_of piece list)) srows same
         (recursion_from_All (λ (one : Told). IsEarly pairs srows one.0 one.1.1) (zip (treated (small_of piece list)) srows) early_s)
 
@@ -298,7 +305,7 @@ module _ (list : List Entry) (pairs : List Pair) (g : Given list pairs) (piece :
         ap (λ b. early_by (nat_lt 4095 (length (target_of pairs e.path))) b (is_of kind.Other e.stat))
         (merged_failed pairs (parent_of (target_of pairs e.path)) (IsEarly pairs srows) piece list srows lrows small_early early_l off)
 
-    rows_early : AreRows (IsEarly pairs (merged (marks_of piece list) srows lrows)) (treated list) (merged (marks_of piece list) srows lrows)
+    pub rows_early : AreRows (IsEarly pairs (merged (marks_of piece list) srows lrows)) (treated list) (merged (marks_of piece list) srows lrows)
     rows_early = rows_with (Free pairs (large_of piece list)) (IsEarly pairs srows) (IsEarly pairs (merged (marks_of piece list) srows lrows)) (treated list)
         (merged (marks_of piece list) srows lrows)
         (λ e f off h. subst (λ o. (o ≡ Some f) ⊎ ((o ≡ None) × (is_tried f ≡ true) × ((is_untold e && is_done f) ≡ false))) (sym (early_same e off)) h)
@@ -323,7 +330,7 @@ module _ (list : List Entry) (pairs : List Pair) (g : Given list pairs) (piece :
               (merged_rows (IsCopied before after pairs srows) piece list srows lrows both.first both.second));
         }
 
-    copied_told : (t t1 t2 : Option Files) → is_some t1 ≡ is_some t → IfSome t (λ a. IfSome t1 (Copied (small_of piece list) pairs srows a)) →
+    pub copied_told : (t t1 t2 : Option Files) → is_some t1 ≡ is_some t → IfSome t (λ a. IfSome t1 (Copied (small_of piece list) pairs srows a)) →
         IfSome t1 (λ b. IfSome t2 (λ c. AreRows (IsCopied b c pairs srows) (large_of piece list) lrows)) →
         IfSome t1 (λ b. IfSome t2 (SameButFor pairs (large_of piece list) b)) →
         IfSome t (λ a. IfSome t2 (Copied list pairs (merged (marks_of piece list) srows lrows) a))
@@ -331,68 +338,3 @@ module _ (list : List Entry) (pairs : List Pair) (g : Given list pairs) (piece :
     copied_told (Some a) None t2 s c each others = absurd (false≢true s)
     copied_told (Some a) (Some b) None s c each others = tt
     copied_told (Some a) (Some b) (Some d) s c each others = both_told_copied a b d c each others
-
-  -- what both parts told, by the files and the counts of faults before them, between them and after them
-  pub record Ran (small large : List Entry) (srows lrows : List Row) (scopied lcopied sbytes lbytes : ℕ) (t t1 t2 : Option Files) (n n1 n2 : ℕ) : Type 0 where
-    pub same : map (λ row. row.0) srows ≡ paths (treated small)
-    pub early_s : AreEarly small pairs srows
-    pub told_s : IfSome t (λ before. IfSome t1 (Copied small pairs srows before))
-    pub copied_s : scopied ≡ count_by (λ row. is_done row.1) srows
-    pub bytes_s : sbytes ≡ bytes_copied small srows
-    pub blamed_s : RoseBy (count_by (λ row. is_failed row.1) srows) n n1
-    pub tells_s : is_some t1 ≡ is_some t
-    pub early_l : AreRows (IsEarly pairs srows) large lrows
-    pub told_l : IfSome t1 (λ before. IfSome t2 (λ after. AreRows (IsCopied before after pairs srows) large lrows))
-    pub copied_l : lcopied ≡ count_by (λ row. is_done row.1) lrows
-    pub bytes_l : lbytes ≡ bytes_over large lrows
-    pub blamed_l : RoseBy (count_by (λ row. is_failed row.1) lrows) n1 n2
-    pub rest_l : IfSome t1 (λ before. IfSome t2 (SameButFor pairs large before))
-
-  -- what the report says
-  pub record Reported (report : List Row × ℕ × ℕ) (t t2 : Option Files) (n n2 : ℕ) : Type 0 where
-    pub paths : map (λ row. row.0) report.0 ≡ paths (treated list)
-    pub early : AreEarly list pairs report.0
-    pub told : IfSome t (λ before. IfSome t2 (Copied list pairs report.0 before))
-    pub copied : report.1 ≡ count_by (λ row. is_done row.1) report.0
-    pub bytes : report.2 ≡ bytes_copied list report.0
-    pub blamed : RoseBy (count_by (λ row. is_failed row.1) report.0) n n2
-
-  reported : (srows lrows : List Row) (scopied lcopied sbytes lbytes : ℕ) (t t1 t2 : Option Files) (n n1 n2 : ℕ) →
-      Ran (small_of piece list) (large_of piece list) srows lrows scopied lcopied sbytes lbytes t t1 t2 n n1 n2 → (report : List Row × ℕ × ℕ) →
-      report.0 ≡ merged (marks_of piece list) srows lrows → report.1 ≡ scopied + lcopied → report.2 ≡ sbytes + lbytes → Reported report t t2 n n2
-  reported srows lrows scopied lcopied sbytes lbytes t t1 t2 n n1 n2 r report rows copied bytes =
-      let slim = small_early srows lrows r.same r.early_s r.early_l in
-      let Early : Entry → Fate → Type 0 = IsEarly pairs srows in
-      record {
-        paths = ap (map (λ (row : Row). row.0)) rows
-            ∙ row_paths Early (treated list) (merged (marks_of piece list) srows lrows) (merged_rows Early piece list srows lrows slim r.early_l);
-        early = subst (AreEarly list pairs) (sym rows)
-            (rows_told (IsEarly pairs (merged (marks_of piece list) srows lrows)) (treated list) (merged (marks_of piece list) srows lrows)
-            (rows_early srows lrows r.same r.early_s r.early_l));
-        told = subst (λ own. IfSome t (λ before. IfSome t2 (Copied list pairs own before))) (sym rows)
-            (copied_told srows lrows r.same r.early_s r.early_l t t1 t2 r.tells_s r.told_s r.told_l r.rest_l);
-        copied = copied ∙ (λ i. r.copied_s i + r.copied_l i) ∙ sym (merged_count is_done Early piece list srows lrows slim r.early_l)
-            ∙ ap (count_by (λ (row : Row). is_done row.1)) (sym rows);
-        bytes = bytes ∙ (λ i. r.bytes_s i + r.bytes_l i)
-            ∙ sym (merged_sum (λ (one : Told). cond (is_done one.1.1) (bytes_by one.0.stat) 0) Early piece list srows lrows slim r.early_l)
-            ∙ ap (bytes_copied list) (sym rows);
-        blamed = subst (λ own. RoseBy (count_by (λ (row : Row). is_failed row.1) own) n n2) (sym rows)
-            (subst (λ m. RoseBy m n n2) (sym (merged_count is_failed Early piece list srows lrows slim r.early_l))
-            (rose_both (count_by (λ (row : Row). is_failed row.1) srows) (count_by (λ (row : Row). is_failed row.1) lrows) n n1 n2 r.blamed_s r.blamed_l));
-      }
-
-  -- the same, by the parts as they were told
-  pub reported_by : (small large : List Entry) (marks : List Bool) → small ≡ small_of piece list → large ≡ large_of piece list → marks ≡ marks_of piece list →
-      (srows lrows : List Row) (scopied lcopied sbytes lbytes : ℕ) (t t1 t2 : Option Files) (n n1 n2 : ℕ) →
-      Ran small large srows lrows scopied lcopied sbytes lbytes t t1 t2 n n1 n2 → (report : List Row × ℕ × ℕ) → report.0 ≡ merged marks srows lrows →
-      report.1 ≡ scopied + lcopied → report.2 ≡ sbytes + lbytes → Reported report t t2 n n2
-  reported_by small large marks s l m srows lrows scopied lcopied sbytes lbytes t t1 t2 n n1 n2 r report rows copied bytes =
-      reported srows lrows scopied lcopied sbytes lbytes t t1 t2 n n1 n2
-      (subst (λ es. Ran es (large_of piece list) srows lrows scopied lcopied sbytes lbytes t t1 t2 n n1 n2) s
-      (subst (λ es. Ran small es srows lrows scopied lcopied sbytes lbytes t t1 t2 n n1 n2) l r)) report
-      (rows ∙ ap (λ ms. merged ms srows lrows) m) copied bytes
-
--- three facts of a result that together give a fourth
-pub of_three : {X E : Type 0} (P Q R S : X → Type 0) (r : Result X E) → ((x : X) → P x → Q x → R x → S x) → IfOk r P → IfOk r Q → IfOk r R → IfOk r S
-of_three P Q R S (Ok x) h p q r = h x p q r
-of_three P Q R S (Err e) h p q r = tt

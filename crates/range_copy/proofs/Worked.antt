@@ -1,5 +1,6 @@
 -- Fillers at work on their spans, turn after turn.
-use Rattle.std.proofs.Common.{◌≡◌, ◌⊎◌, inl, inr, ℕ, zero, suc, ◌+◌, ◌*◌, ◌<◌, List, [], ◌∷◌, ◌++◌, map, length, Option, IfSome, refl, ap, ◌∙◌, sym}
+use Rattle.std.proofs.Common.{◌≡◌, ◌⊎◌, inl, inr, ℕ, zero, suc, ◌+◌, ◌*◌, ◌<◌, List, [], ◌∷◌, ◌++◌, map, length, Option}
+use Rattle.std.proofs.Common.{IfSome, refl, ap, ◌∙◌, sym}
 use Rattle.std.proofs.Common.{subst, arith, is_some, append_assoc, append-nil, length-append}
 use Rattle.std.specs.Prelude.{slice_index_or}
 use Rattle.std.specs.List.{AllByRecursion}
@@ -30,7 +31,7 @@ pub by_hands : {T S : Type 0} (P : T × Filled → Type 0) (xs ys : List (Filler
     AllByRecursion (λ one. P (hand_of one)) xs → AllByRecursion (λ one. P (hand_of one)) ys
 by_hands P xs ys e h = hands_back P ys (subst (AllByRecursion P) (sym e) (hands_there P xs h))
 
-idle_none : {T S : Type 0} (fillers : List (Filler T S)) → AreIdle fillers → spans_of fillers ≡ []
+pub idle_none : {T S : Type 0} (fillers : List (Filler T S)) → AreIdle fillers → spans_of fillers ≡ []
 idle_none [] h = refl
 idle_none (one ∷ rest) h = ap (λ l. span_of l ++ spans_of rest) h.0 ∙ idle_none rest h.1
 

@@ -1,4 +1,4 @@
--- How the spans of a file are filled, each by the reader that it is dealt to. Only the contracts of this crate's own parts cite it.
+-- The work on the spans of a file, each by the reader that it is dealt to. Only the contracts of this crate's own parts cite it.
 use Rattle.std.specs.Prelude.{◌≡◌, ◌⊎◌, ℕ, ◌+◌, ◌≤◌, ◌<◌, true, List, [], ◌∷◌, ◌++◌, map, length, reverse, take, drop}
 use Rattle.std.specs.Prelude.{Option, Some, None, is_some, IfSome}
 use Rattle.std.specs.List.{AllByRecursion, sum_by}
@@ -9,7 +9,7 @@ use Rattle.range_copy.specs.declared.fillers.Filler.{Filler}
 use Rattle.range_copy.specs.declared.filled.Filled.TheVariants as filled
 use Rattle.range_copy.specs.declared.loads.Load.{Load}
 
--- these are so many bytes of a file, from a place on
+-- so many bytes of a file, from a place on
 abbrev pub IsRange : ℕ → ℕ → List ℕ → List ℕ → Type 0
 IsRange start size file bytes = bytes ≡ take size (drop start file)
 
@@ -35,7 +35,7 @@ abbrev pub spans_of : {T S : Type 0} → List (Filler T S) → List S
 spans_of [] = []
 spans_of (one ∷ rest) = span_of one.load ++ spans_of rest
 
--- a load tells where its span begins and how many bytes it has, and ends inside a file of so many bytes
+-- a load has the start and the size of its span, and ends inside a file of so many bytes
 pub record IsLoad {S : Type 0} (piece : S → Piece) (total : ℕ) (load : Load S) : Type 0 where
   pub start : load.start ≡ (piece load.span).start
   pub size : load.size ≡ (piece load.span).size
@@ -44,12 +44,12 @@ pub record IsLoad {S : Type 0} (piece : S → Piece) (total : ℕ) (load : Load 
 abbrev pub AreLoads : {S : Type 0} → (S → Piece) → ℕ → List (Load S) → Type 0
 AreLoads piece total loads = AllByRecursion (IsLoad piece total) loads
 
--- a span has the bytes of the file that it shows, where both are told
+-- a span has its range of the file's bytes, if both show their bytes
 abbrev pub HasRange : {S : Type 0} → (S → Piece) → (S → Option (List ℕ)) → List ℕ → Option Files → S → Type 0
 HasRange piece holds source seen span =
     IfSome seen (λ files. IfSome (holds span) (IsRange (piece span).start (piece span).size (content (get files source))))
 
--- what is dealt to a filler is a load, if it is anything
+-- a filler has a load, or none
 abbrev pub IsReady : {T S : Type 0} → (S → Piece) → ℕ → Filler T S → Type 0
 IsReady piece total one = IfSome one.load (IsLoad piece total)
 

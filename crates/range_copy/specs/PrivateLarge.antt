@@ -1,7 +1,8 @@
--- How the large files of a list are copied, once all else is. Only the contracts of this crate's own parts cite it.
-use Rattle.std.specs.Prelude.{◌≡◌, ℕ, Bool, true, false, not, ◌&&◌, List, length, Option, Some, None, if◌then◌else◌, nat_eq, nat_le, nat_lt, slice_get}
+-- The copy of the large files of a list, once all else is copied. Only the contracts of this crate's own parts cite it.
+use Rattle.std.specs.Prelude.{◌≡◌, ℕ, Bool, true, false, not, ◌&&◌, List, length, Option, Some, None, if◌then◌else◌, nat_eq, nat_le}
+use Rattle.std.specs.Prelude.{slice_get}
 use Rattle.std.specs.FinMap.{get}
-use Rattle.std.specs.List.{AllByRecursion, AllZip, list_any, sum_by, zip}
+use Rattle.std.specs.List.{AllZip, list_any, sum_by, zip}
 use Rattle.std.specs.Cmp.Lexicographic.{pointwise}
 use Rattle.path_text.specs.Path.{parent_of, refusal}
 use Rattle.outside.specs.Tree.{Files, is_dir, is_root}
@@ -9,7 +10,7 @@ use Rattle.flat_list.specs.Entries.{bytes_by, size_by}
 use Rattle.flat_list.specs.declared.entries.Entry.{Entry}
 use Rattle.level_work.specs.declared.items.Fate.{Fate}
 use Rattle.level_work.specs.declared.items.Fate.TheVariants as fate
-use Rattle.tree_copy.specs.Copying.{IsCopied, is_done, target_of}
+use Rattle.tree_copy.specs.Copying.{is_done, target_of}
 use Rattle.tree_copy.specs.declared.pairs.Pair.{Pair}
 use Rattle.range_copy.specs.Large.{IsSource}
 use Rattle.range_copy.specs.declared.came.Came.{Came}
@@ -19,9 +20,12 @@ use Rattle.range_copy.specs.declared.came.Came.TheVariants as came
 abbrev pub has_path : List (List ℕ) → List ℕ → Bool
 has_path paths q = list_any (pointwise nat_eq q) paths
 
--- the target of a path, if it is no longer than a path may be
+-- a path, if it is not longer than a path may be
+abbrev pub fitting : List ℕ → Option (List ℕ)
+fitting path = if nat_le (length path) 4095 then Some path else None
+
 abbrev pub fitting_target : List Pair → List ℕ → Option (List ℕ)
-fitting_target pairs path = if nat_le (length (target_of pairs path)) 4095 then Some (target_of pairs path) else None
+fitting_target pairs path = fitting (target_of pairs path)
 
 -- the target of an entry that did not come to `Done`
 abbrev pub failed_at : List Pair → List (List ℕ × Fate) → List ℕ → Bool
@@ -44,7 +48,7 @@ IsRow P e row = (row.0 ≡ e.path) × P e row.1
 abbrev pub AreRows : (Entry → Fate → Type 0) → List Entry → List (List ℕ × Fate) → Type 0
 AreRows P es rows = AllZip (IsRow P) es rows
 
--- the bytes of the files that were copied, by the sizes that their entries tell
+-- the bytes of the copied files, by the sizes of their entries
 abbrev pub gain : Entry → Fate → ℕ
 gain e f = if is_done f then bytes_by e.stat else 0
 
@@ -59,7 +63,7 @@ is_target_of pairs es q = list_any (λ e. pointwise nat_eq q (target_of pairs e.
 abbrev pub SameButFor : List Pair → List Entry → Files → Files → Type 0
 SameButFor pairs es before after = (q : List ℕ) → is_target_of pairs es q ≡ false → get after q ≡ get before q
 
--- a large file can be copied: its source is as told, and the parent of its target is a directory, if that one was copied
+-- a large file can be copied: its source is as its entry says, and its target's parent is a directory, if that one was copied
 pub record CanMake (pairs : List Pair) (failed : List (List ℕ)) (e : Entry) (files : Files) : Type 0 where
   pub source : IsSource e.path (size_by e.stat) files
   pub stand : nat_le (length (target_of pairs e.path)) 4095 ≡ true → refusal (target_of pairs e.path) ≡ None
@@ -67,7 +71,8 @@ pub record CanMake (pairs : List Pair) (failed : List (List ℕ)) (e : Entry) (f
 
 -- no file's target is a source, the parent of a target, or the target of another one
 pub record AreApart (pairs : List Pair) (large : List Entry) : Type 0 where
-  pub sources : (i j : ℕ) (e l : Entry) → slice_get large i ≡ Some e → slice_get large j ≡ Some l → pointwise nat_eq e.path (target_of pairs l.path) ≡ false
+  pub sources : (i j : ℕ) (e l : Entry) → slice_get large i ≡ Some e → slice_get large j ≡ Some l →
+      pointwise nat_eq e.path (target_of pairs l.path) ≡ false
   pub parents : (i j : ℕ) (e l : Entry) → slice_get large i ≡ Some e → slice_get large j ≡ Some l
       → pointwise nat_eq (parent_of (target_of pairs e.path)) (target_of pairs l.path) ≡ false
   pub distinct : (i j : ℕ) (e l : Entry) → slice_get large i ≡ Some e → slice_get large j ≡ Some l

@@ -1,4 +1,4 @@
--- How an empty file comes to stand at a target. Only the contracts of this crate's own parts cite it.
+-- The steps that make an empty file at a target. Only the contracts of this crate's own parts cite it.
 use Rattle.std.specs.Prelude.{⊤, ◌≡◌, ℕ, true, false, List, [], Option, Some, None, is_some, Result, Ok, Err, IfOk}
 use Rattle.std.specs.FinMap.{get}
 use Rattle.outside.specs.Tree.{Files, Node, is_file}
@@ -11,12 +11,13 @@ use Rattle.range_copy.specs.declared.cutting.RangeError.{RangeError}
 use Rattle.range_copy.specs.declared.cutting.RangeError.TheVariants as range
 use Rattle.range_copy.specs.Large.{in_way}
 
--- what a step means for the trees before and after it, by what it came to; no other path changes
-pub record Leaves (means : List ℕ → Came → Files → Files → Type 0) (path : List ℕ) (result : Result Came RangeError) (before after : Files) : Type 0 where
+-- the meaning of a step for the trees before and after it, by its outcome; no other path changes
+pub record Leaves (means : List ℕ → Came → Files → Files → Type 0) (path : List ℕ) (result : Result Came RangeError)
+    (before after : Files) : Type 0 where
   pub others : SameBut path before after
   pub meant : IfOk result (λ c. means path c before after)
 
--- an empty file was made where nothing was; `Conflict` says that something was there
+-- an empty file was made at a free path; `Conflict` says that a node was there
 abbrev pub MadeAs : List ℕ → Came → Files → Files → Type 0
 MadeAs path came.Done before after = (get before path ≡ None) × (get after path ≡ Some (new_file []))
 MadeAs path came.Conflict before after = (is_some (get before path) ≡ true) × (after ≡ before)
@@ -37,14 +38,14 @@ PlacedAs path came.Conflict before after = (in_way (get before path) ≡ true) �
 PlacedAs path came.Failed before after = ⊤
 PlacedAs path came.Changed before after = ⊥
 
--- a look told that a file is there, that something else is, or that nothing is
+-- a look found a file, another node, or none
 abbrev pub LooksLike : Option Node → Came → Type 0
 LooksLike found came.Done = is_file found ≡ true
 LooksLike found came.Conflict = in_way found ≡ true
 LooksLike found came.Failed = ⊤
 LooksLike found came.Changed = found ≡ None
 
--- what a refusal means
+-- the outcome that a refusal means
 abbrev pub refused_as : WriteError → Result Came RangeError
 refused_as write.Exists = Ok came.Conflict
 refused_as write.Failed = Ok came.Failed
@@ -53,3 +54,11 @@ refused_as write.NoParent = Ok came.Changed
 refused_as write.WrongKind = Ok came.Changed
 refused_as write.NotEmpty = Ok came.Changed
 refused_as write.Absent = Ok came.Changed
+
+-- the outcome at a path whose old file was removed: a node that is there again is a change
+abbrev pub freed : Result Came RangeError → Result Came RangeError
+freed (Ok came.Done) = Ok came.Done
+freed (Ok came.Failed) = Ok came.Failed
+freed (Ok came.Conflict) = Ok came.Changed
+freed (Ok came.Changed) = Ok came.Changed
+freed (Err error) = Err error

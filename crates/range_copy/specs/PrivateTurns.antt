@@ -1,5 +1,6 @@
 -- Spans that go through the hands of fillers in turns. Only the contracts of this crate's own parts cite it.
-use Rattle.std.specs.Prelude.{⊤, ◌≡◌, ℕ, ◌+◌, ◌<◌, ◌≤◌, List, [], ◌∷◌, ◌++◌, map, length, Option, None, is_some, IfSome, Result, Ok, Err}
+use Rattle.std.specs.Prelude.{⊤, ◌≡◌, ℕ, ◌+◌, ◌<◌, ◌≤◌, List, [], ◌∷◌, ◌++◌, map, length, Option, None, is_some, IfSome}
+use Rattle.std.specs.Prelude.{Result, Ok, Err}
 use Rattle.std.specs.List.{AllByRecursion, sum_by}
 use Rattle.outside.specs.Tree.{Files, Node}
 use Rattle.outside.specs.Spans.{Piece}
@@ -18,15 +19,15 @@ use Rattle.range_copy.specs.declared.loads.Load.{Load}
 abbrev pub AreIdle : {T S : Type 0} → List (Filler T S) → Type 0
 AreIdle fillers = AllByRecursion (λ one. one.load ≡ None) fillers
 
--- the work of all has come to `Done` so far
+-- the work of all is `Done` so far
 abbrev pub AreDone : {T S : Type 0} → List (Filler T S) → Type 0
 AreDone fillers = AllByRecursion (λ one. one.filled ≡ filled.Done) fillers
 
--- the readers of all tell this
+-- the readers of all show this tree
 abbrev pub AllSee : {T S : Type 0} → (T → Option Files) → Option Files → List (Filler T S) → Type 0
 AllSee tree seen fillers = AllByRecursion (λ one. tree one.reader ≡ seen) fillers
 
--- where one found the file changed, the file that is told is too short
+-- if one found the file changed, the file in the tree is too short
 abbrev pub AreShort : {T S : Type 0} → List ℕ → ℕ → Option Files → List (Filler T S) → Type 0
 AreShort source total seen fillers = AllByRecursion (λ one. one.filled ≡ filled.Changed → IfSome seen (IsShort source total)) fillers
 
@@ -44,7 +45,7 @@ faults_of reader_count span_count fillers spans = reader_faults reader_count fil
 abbrev pub AreFresh : {T S : Type 0} → (T → ℕ) → List (Filler T S) → Type 0
 AreFresh reader_count fillers = AllByRecursion (IsFresh reader_count) fillers
 
--- where the work of one has failed, something was counted
+-- if the work of one failed, a failure was counted
 abbrev pub AreBlamed : {T S : Type 0} → ℕ → List (Filler T S) → Type 0
 AreBlamed faults fillers = AllByRecursion (λ one. one.filled ≡ filled.Failed → 1 ≤ faults) fillers
 
@@ -55,7 +56,7 @@ first_of filled.Failed rest = filled.Failed
 first_of filled.Changed rest = filled.Changed
 first_of filled.Lost rest = filled.Lost
 
--- what the work of all has come to
+-- the outcome of the work of all
 abbrev pub outcome_of : {T S : Type 0} → List (Filler T S) → Filled
 outcome_of [] = filled.Done
 outcome_of (one ∷ rest) = first_of one.filled (outcome_of rest)
@@ -64,7 +65,7 @@ outcome_of (one ∷ rest) = first_of one.filled (outcome_of rest)
 abbrev pub hand_of : {T S : Type 0} → Filler T S → T × Filled
 hand_of one = (one.reader, one.filled)
 
--- a turn: the spans of all are put with those that are done, and each gets the next one
+-- a turn: the spans of all go to those that are done, and each filler gets the next one
 pub record IsTurn {T S : Type 0} (piece : S → Piece) (total : ℕ) (fillers : List (Filler T S)) (loads : List (Load S)) (done : List S)
     (fillers' : List (Filler T S)) (loads' : List (Load S)) (done' : List S) : Type 0 where
   pub taken : done' ≡ done ++ spans_of fillers
@@ -82,14 +83,14 @@ pub record AreFilled {T S : Type 0} (tree : T → Option Files) (piece : S → P
   pub ranges : (seen : Option Files) → AllSee tree seen fillers → AreDone fillers' → AllByRecursion (HasRange piece holds source seen) done
   pub short : (seen : Option Files) → AllSee tree seen fillers → AreShort source total seen fillers'
 
--- what the work of all means for the file
+-- the outcome of the file by that of the work of all
 abbrev pub came_of : Filled → Result Came RangeError
 came_of filled.Done = Ok came.Done
 came_of filled.Failed = Ok came.Failed
 came_of filled.Changed = Ok came.Changed
 came_of filled.Lost = Err range.OutOfMemory
 
--- what stands at the target once its spans are back
+-- the node at the target once its spans are back
 abbrev pub FilledAs : List ℕ → Option Node → Came → Type 0
 FilledAs bytes found came.Done = HasBytes bytes found
 FilledAs bytes found came.Failed = ⊤

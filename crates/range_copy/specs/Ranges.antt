@@ -1,5 +1,6 @@
 -- A file cut into consecutive ranges that cover it. Our own.
-use Rattle.std.specs.Prelude.{◌≡◌, ℕ, zero, suc, ◌+◌, ◌-◌, ◌/◌, true, List, [], ◌∷◌, ◌++◌, length, take, drop, if◌then◌else◌, nat_lt}
+use Rattle.std.specs.Prelude.{◌≡◌, ℕ, zero, suc, ◌+◌, ◌-◌, ◌/◌, true, List, [], ◌∷◌, ◌++◌, length, take, drop}
+use Rattle.std.specs.Prelude.{if◌then◌else◌, nat_lt}
 use Rattle.outside.specs.Spans.{are_cuts}
 
 -- how many bytes a range has: those of a piece, or as many as make 4,096 ranges of the file
@@ -27,7 +28,7 @@ abbrev pub ranges_of : List ℕ → List ℕ → List (List ℕ)
 ranges_of [] bytes = []
 ranges_of (first ∷ cuts) bytes = ranges_from first cuts bytes
 
--- one behind the other
+-- one after the other
 abbrev pub joined : List (List ℕ) → List ℕ
 joined [] = []
 joined (one ∷ rest) = one ++ joined rest
@@ -40,6 +41,6 @@ abbrev pub end_of : List ℕ → ℕ
 end_of [] = 0
 end_of (first ∷ cuts) = last_of first cuts
 
--- the ranges of a file that is cut from its start to its end, one behind the other, are its bytes
+-- the ranges of a file that is cut from its start to its end, one after the other, are its bytes
 abbrev pub RangesCover : Type 0
 RangesCover = (cuts bytes : List ℕ) → are_cuts cuts ≡ true → end_of cuts ≡ length bytes → joined (ranges_of cuts bytes) ≡ bytes

@@ -1,14 +1,14 @@
-//! What the copy of a file comes to.
+//! The outcome of the copy of a file.
 
-// What the copy of a file by ranges came to.
+// The outcome of the copy of a file by ranges.
 #[derive(Clone, Copy, Debug, Drop, PartialEq, Eq)]
 pub(crate) enum Came {
     // The target has the bytes of the source.
     Done,
-    // The outside failed, and the files have counted it.
+    // A call to the outside failed, and the files have counted it.
     Failed,
-    // What stands at the target is in the way, and stays.
+    // The node at the target is in the way, and stays.
     Conflict,
-    // What stands there is not what was told.
+    // The node there differs from its entry.
     Changed,
 }

@@ -1,4 +1,4 @@
-//! One large file is copied by ranges.
+//! Copies one large file by ranges.
 ghost use Rattle.std.specs.Prelude.{◌≡◌, ◌⊎◌, ◌+◌, ◌-◌, ◌^◌, ◌<◌, ◌≤◌, true, false, length, min, IfOk, IfSome, IsTrue, is_some};
 ghost use Rattle.std.specs.FinMap.{get};
 ghost use Rattle.path_text.specs.Path.{parent_of};
@@ -6,7 +6,10 @@ ghost use Rattle.outside.specs.Count.{RoseBy};
 ghost use Rattle.outside.specs.Spans.{are_cuts};
 ghost use Rattle.outside.specs.Tree.{content, is_dir, is_root};
 ghost use Rattle.outside.specs.Writes.{SameBut, nothing_lent};
+ghost use Rattle.tree_copy.specs.Causes.{ShowsSpans};
 ghost use Rattle.range_copy.specs.Large.{IsLeft, IsSource};
+ghost use Rattle.range_copy.specs.PrivateLarge.{fate_of};
+ghost use Rattle.range_copy.specs.PrivateShowing.{AreFreshBy};
 ghost use Rattle.range_copy.specs.PrivateTurns.{AllSee, AreFresh, AreIdle, reader_faults};
 ghost use Rattle.range_copy.specs.Ranges.{end_of};
 
@@ -21,8 +24,8 @@ use path_text::Path;
 use std::alloc::Global;
 use std::thread::Threads;
 
-// Copies one file to a target whose parent is a directory. An old file there is removed, and what is no file stays. The bytes are
-// written by spans, which `ranges` tells: span `k` by the reader `k` mod `ranks`, in so many threads as `hosts` says.
+// Copies one file to a target whose parent is a directory. It removes an old file there; a node that is not a file stays. It writes
+// the bytes by the spans of `ranges`. The reader `k` mod `ranks` fills span `k`, in up to `hosts` threads.
 pub(crate) fn copy_file<R: Threads + Sync, G: Wide>(
     rt: &R,
     alloc: Global,
@@ -45,8 +48,10 @@ where
     requires root { is_root target.now ≡ false }
     requires source { IfSome (G.tree ground.old) (IsSource source.now size) }
     requires stand { IfSome (G.tree ground.old) (λ before. is_dir (get before (parent_of target.now)) ≡ true) }
-    ensures told { IfOk result (λ came. IfSome (G.tree ground.old) (λ before. IfSome (G.tree ground.new) (λ after. IsLeft (content (get before source.now)) (get before target.now) (get after target.now) came))) }
+    ensures told { IfOk result (λ came. IfSome (G.tree ground.old) (λ before. IfSome (G.tree ground.new) (λ after.
+        IsLeft (content (get before source.now)) (get before target.now) (get after target.now) came))) }
     ensures cause { IfOk result (λ came. came ≡ Came.Failed → RoseBy 1 (G.count ground.old) (G.count ground.new)) }
+    ensures shown { IfOk result (λ came. ShowsSpans G.Reader.gives G.gives G.area G.count source.now target.now size (fate_of came)) }
     ensures others { IfSome (G.tree ground.old) (λ before. IfSome (G.tree ground.new) (SameBut target.now before)) }
     ensures tells { is_some (G.tree ground.new) ≡ is_some (G.tree ground.old) }
     ensures lent { G.area ground.new ≡ nothing_lent }
@@ -72,7 +77,7 @@ where
     came
 }
 
-// How many fillers work. More than there are ranges would have nothing to do.
+// How many fillers work: no more than there are ranges.
 fn number_of_fillers(ranks: u32, cuts: &[u64]) -> usize
     requires ranks { 1 ≤ ranks }
     requires cuts { IsTrue (are_cuts cuts.now) }
@@ -97,6 +102,7 @@ fn hired<G: Wide>(
     ensures see { IfOk result (λ fillers. AllSee G.Reader.tree (G.tree ground.old) fillers.items) }
     ensures idle { IfOk result (λ fillers. AreIdle fillers.items) }
     ensures fresh { IfOk result (λ fillers. AreFresh G.Reader.count fillers.items) }
+    ensures shown { IfOk result (λ fillers. AreFreshBy G.Reader.gives source.now fillers.items) }
     ensures same { G.tree ground.new ≡ G.tree ground.old }
     ensures area { G.area ground.new ≡ G.area ground.old }
     ensures count { G.count ground.new ≡ G.count ground.old }
@@ -108,7 +114,7 @@ fn hired<G: Wide>(
     Ok(fillers)
 }
 
-// Makes the target and fills it. Where a reader can't read the source, nothing is touched.
+// Makes the target and fills it. If a reader can't read the source, nothing is touched.
 fn copied<R: Threads + Sync, G: Wide>(
     rt: &R,
     alloc: Global,
@@ -131,11 +137,15 @@ where
     requires some { 0 < length fillers.old }
     requires idle { AreIdle fillers.old }
     requires fresh { AreFresh G.Reader.count fillers.old }
+    requires shown { AreFreshBy G.Reader.gives source.now fillers.old }
     requires see { AllSee G.Reader.tree (G.tree ground.old) fillers.old }
     requires source { IfSome (G.tree ground.old) (IsSource source.now size) }
     requires stand { IfSome (G.tree ground.old) (λ before. is_dir (get before (parent_of target.now)) ≡ true) }
-    ensures told { IfOk result (λ came. IfSome (G.tree ground.old) (λ before. IfSome (G.tree ground.new) (λ after. IsLeft (content (get before source.now)) (get before target.now) (get after target.now) came))) }
-    ensures cause { IfOk result (λ came. came ≡ Came.Failed → (RoseBy 1 (G.count ground.old) (G.count ground.new)) ⊎ (1 ≤ reader_faults G.Reader.count fillers.new)) }
+    ensures told { IfOk result (λ came. IfSome (G.tree ground.old) (λ before. IfSome (G.tree ground.new) (λ after.
+        IsLeft (content (get before source.now)) (get before target.now) (get after target.now) came))) }
+    ensures cause { IfOk result (λ came. came ≡ Came.Failed →
+        (RoseBy 1 (G.count ground.old) (G.count ground.new)) ⊎ (1 ≤ reader_faults G.Reader.count fillers.new)) }
+    ensures shown { IfOk result (λ came. ShowsSpans G.Reader.gives G.gives G.area G.count source.now target.now size (fate_of came)) }
     ensures others { IfSome (G.tree ground.old) (λ before. IfSome (G.tree ground.new) (SameBut target.now before)) }
     ensures tells { is_some (G.tree ground.new) ≡ is_some (G.tree ground.old) }
     ensures lent { G.area ground.new ≡ nothing_lent }
@@ -154,7 +164,7 @@ where
     }
 }
 
-// Takes all readers back, and so adds their counts.
+// Takes all readers back, which adds their counts.
 fn take_back<G: Wide>(ground: &mut G, fillers: Vec<Filler<G::Reader, G::Span>>)
     ensures same { G.tree ground.new ≡ G.tree ground.old }
     ensures area { G.area ground.new ≡ G.area ground.old }

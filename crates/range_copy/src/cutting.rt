@@ -1,4 +1,4 @@
-//! Where files are cut.
+//! The cuts of a file.
 ghost use Rattle.std.specs.Prelude.{◌≡◌, ◌<◌, ◌≤◌, ◌*◌, ◌+◌, ◌-◌, ◌/◌, length, IfOk, IsTrue};
 ghost use Rattle.outside.specs.Spans.{are_cuts};
 ghost use Rattle.range_copy.specs.Ranges.{end_of, range_cuts, step_of};
@@ -7,10 +7,10 @@ use path_text::OutOfMemory;
 use std::alloc::{AllocError, AllocFailed, Global};
 use thiserror::Error;
 
-/// Why no ranges are told, or nothing is copied.
+/// Why there are no ranges, or nothing is copied.
 #[derive(Clone, Copy, Debug, Drop, PartialEq, Eq, Error)]
 pub enum RangeError {
-    /// No memory was found.
+    /// Out of memory.
     #[error("out of memory")]
     OutOfMemory,
 }
@@ -48,11 +48,11 @@ impl From<OutOfMemory> for RangeError {
     }
 }
 
-// The most ranges that a file is cut in.
+// The largest number of ranges of a file.
 const MOST: u64 = 4096;
 
-/// Where a file of this size is cut in ranges: at 0, at each multiple below the size of the piece, or of as many bytes as make 4,096
-/// ranges of it, and at the size.
+/// The cuts of a file of this size. They are 0, the multiples of a step below the size, and the size. The step is the piece, or, if
+/// that is less, the number of bytes that makes 4,096 ranges of the file.
 pub fn ranges(alloc: Global, size: u64, piece: u64) -> Result<Vec<u64>, RangeError>
     requires piece { 1 ≤ piece }
     requires larger { piece < size }

@@ -1,5 +1,5 @@
 //! The targets of entries that were not copied.
-ghost use Rattle.std.specs.Prelude.{◌≡◌, ◌||◌, ◌∷◌, ◌++◌, ℕ, List, [], Some, None, true, false, All, IfOk, IfSome, OnOk, if◌then◌else◌, length, nat_eq, nat_le};
+ghost use Rattle.std.specs.Prelude.{◌≡◌, ◌||◌, ◌∷◌, ◌++◌, ℕ, List, [], None, true, false, All, IfOk, IfSome, OnOk, nat_eq};
 ghost use Rattle.std.specs.List.{list_any};
 ghost use Rattle.std.specs.Cmp.Lexicographic.{pointwise};
 ghost use Rattle.path_text.specs.Graft.{below_of, grafted};
@@ -8,7 +8,7 @@ ghost use Rattle.path_text.specs.Path.{parent_of, refusal};
 ghost use Rattle.outside.specs.Tree.{is_root};
 ghost use Rattle.level_work.specs.declared.items.Fate.{Fate};
 ghost use Rattle.tree_copy.specs.Copying.{is_done};
-ghost use Rattle.range_copy.specs.PrivateLarge.{AreFailed, fitting_target, has_path};
+ghost use Rattle.range_copy.specs.PrivateLarge.{AreFailed, fitting, fitting_target, has_path};
 
 use crate::cutting::RangeError;
 use level_work::Fate;
@@ -24,7 +24,7 @@ pub(crate) struct Paths {
 }
 
 impl Paths {
-    // Whether the path over this one is among them. Where there are none no memory is taken.
+    // Whether the parent of this path is among them. If there are none, this takes no memory.
     pub(crate) fn has_parent_of(&self, path: &Path) -> Result<bool, RangeError>
         requires { is_root path.now ≡ false }
         ensures { IfOk result (λ has. has ≡ has_path self.now.set.keys (parent_of path.now)) }
@@ -32,7 +32,7 @@ impl Paths {
         if self.set.is_empty() {
             return Ok(false);
         }
-        let _ = path.text(); // tells that it is a path
+        let _ = path.text(); // shows that it is a path
         let Some(parent) = path.parent()? else {
             unreachable!()
         };
@@ -75,7 +75,8 @@ pub(crate) fn failed_targets(
 // Notes the target of a path, if its entry did not come to `Done`.
 fn note(failed: &mut Paths, path: &Path, fate: Fate, pairs: &[Pair]) -> Result<(), RangeError>
     requires { list_any (λ pair. is_within path.now pair.source) pairs.now ≡ true }
-    ensures { (rows : List (List ℕ × Fate)) → AreFailed pairs.now rows failed.old.set.keys → OnOk result (AreFailed pairs.now (rows ++ (path.now, fate) ∷ []) failed.new.set.keys) }
+    ensures { (rows : List (List ℕ × Fate)) → AreFailed pairs.now rows failed.old.set.keys →
+        OnOk result (AreFailed pairs.now (rows ++ (path.now, fate) ∷ []) failed.new.set.keys) }
 {
     if is_done(fate) {
         return Ok(());
@@ -106,16 +107,16 @@ pub(crate) fn target_of(path: &Path, pairs: &[Pair]) -> Result<Option<Path>, Ran
     unreachable!()
 }
 
-// Where the pair sends a path, unless that is too long.
+// The target of a path by the pair, unless that is too long.
 fn moved(path: &Path, pair: &Pair) -> Result<Option<Path>, RangeError>
     requires { is_within path.now pair.now.source ≡ true }
-    ensures told { IfOk result (λ target. target ≡ (if nat_le (length (grafted pair.now.target (below_of path.now pair.now.source))) 4095 then Some (grafted pair.now.target (below_of path.now pair.now.source)) else None)) }
+    ensures told { IfOk result (λ target. target ≡ fitting (grafted pair.now.target (below_of path.now pair.now.source))) }
     ensures path { IfOk result (λ target. IfSome target (λ p. refusal p ≡ None)) }
 {
     let below = path.below(&pair.source)?;
     match Path::graft(&pair.target, &below) {
         Ok(target) => {
-            let _ = target.text(); // tells that it is a path
+            let _ = target.text(); // shows that it is a path
             Ok(Some(target))
         }
         Err(JoinError::TooLong) => Ok(None),

@@ -1,14 +1,14 @@
-//! What the copy of a range comes to.
+//! The outcome of the copy of a range.
 
-/// What the copy of a range came to.
+/// The outcome of the copy of a range.
 #[derive(Clone, Copy, Debug, Drop, PartialEq, Eq)]
 pub(crate) enum Filled {
     // The span has the bytes.
     Done,
-    // The outside failed, and the reader or the span has counted it.
+    // A call to the outside failed, and the reader or the span has counted it.
     Failed,
-    // The file ended before the range did, or is no file.
+    // The file ended before the range did, or is not a file.
     Changed,
-    // No memory was found.
+    // Out of memory.
     Lost,
 }

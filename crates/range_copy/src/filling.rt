@@ -1,9 +1,12 @@
-//! A span is filled with the bytes of its range.
+//! Fills a span with the bytes of its range.
 ghost use Rattle.std.specs.Prelude.{◌≡◌, ◌⊎◌, ◌+◌, ◌^◌, ◌≤◌, ◌<◌, length, IfSome, is_some};
 ghost use Rattle.std.specs.FinMap.{get};
 ghost use Rattle.outside.specs.Count.{RoseBy};
 ghost use Rattle.outside.specs.Tree.{content};
+ghost use Rattle.tree_copy.specs.Causes.{IsReadTo};
 ghost use Rattle.range_copy.specs.PrivateFilling.{HasCounted, HasWorked, IsRange, IsReady, IsShort};
+ghost use Rattle.range_copy.specs.PrivateReading.{FilledBy};
+ghost use Rattle.range_copy.specs.PrivateShowing.{HasShown};
 
 use crate::filled::Filled;
 use crate::fillers::Filler;
@@ -11,11 +14,12 @@ use outside::{ReadError, Span, SpanError, Tree};
 use path_text::Path;
 
 impl<T: Tree, S: Span> Filler<T, S> {
-    // Fills its span, if it has one, with the bytes of a file of so many bytes. Where its work has come to nothing it rests.
+    // Fills its span, if it has one, with the bytes of a file of so many bytes. It does nothing once its work has not come to `Done`.
     pub(crate) fn work(&mut self, source: &Path, total: u64)
         requires { IsReady S.piece total self.old }
         ensures worked { HasWorked T.tree S.piece S.holds source.now total self.old self.new }
         ensures counted { HasCounted T.count S.count self.old self.new }
+        ensures shown { HasShown T.gives S.piece S.count source.now self.old self.new }
     {
         if self.filled != Filled::Done {
             return;
@@ -34,7 +38,7 @@ impl<T: Tree, S: Span> Filler<T, S> {
     }
 }
 
-// Copies the bytes of a file from the place where the span begins, as many as it has, in pieces that the buffer holds.
+// Copies the bytes of a file from the start of the span, as many as the span has, in pieces that the buffer holds.
 fn fill_span<T: Tree, S: Span>(
     reader: &mut T,
     buffer: &mut [u8],
@@ -55,8 +59,10 @@ fn fill_span<T: Tree, S: Span>(
     ensures len { length buffer.new ≡ length buffer.old }
     ensures count { T.count reader.old ≤ T.count reader.new }
     ensures cause { result ≡ Filled.Failed → (RoseBy 1 (T.count reader.old) (T.count reader.new)) ⊎ (RoseBy 1 (S.count span.old) (S.count span.new)) }
+    ensures read { result ≡ Filled.Done → (size ≡ 0) ⊎ IsReadTo T.gives source.now (start + size) }
+    ensures shown { FilledBy T.gives source.now (S.count span.new) result }
 {
-    // The call tells that the span has as many bytes as it shows.
+    // The call shows that the span has as many bytes as its size.
     let _faults = span.faults();
     let mut at = 0u64;
     while at < size {
@@ -79,7 +85,7 @@ fn fill_span<T: Tree, S: Span>(
     Filled::Done
 }
 
-// How many bytes to read next: what is left, or a whole buffer.
+// How many bytes to read next: all that are left, or a whole buffer.
 fn piece(left: u64, room: usize) -> usize
     requires left { 0 < left }
     requires room { 0 < room }

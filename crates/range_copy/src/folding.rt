@@ -8,6 +8,7 @@ ghost use Rattle.outside.specs.Writes.{SameBut, nothing_lent};
 ghost use Rattle.flat_list.specs.Entries.{size_by};
 ghost use Rattle.level_work.specs.Counts.{is_failed};
 ghost use Rattle.level_work.specs.declared.items.Fate.{Fate};
+ghost use Rattle.tree_copy.specs.Causes.{HasCause};
 ghost use Rattle.tree_copy.specs.Copying.{IsCopied, IsEarly, is_done, target_of};
 ghost use Rattle.range_copy.specs.PrivateLarge.{AreApart, AreFailed, AreRows, CanMake, SameButFor, bytes_over, fate_of, gain};
 ghost use Rattle.range_copy.specs.PrivateParts.{exceeds};
@@ -24,7 +25,7 @@ use std::alloc::Global;
 use std::thread::Threads;
 use tree_copy::Pair;
 
-// What became of large files: their paths with their fates, and the numbers of a report.
+// The fates of large files, with their paths, and the numbers of a report.
 #[derive(Drop)]
 pub(crate) struct Tally {
     pub(crate) rows: Vec<(Path, Fate)>,
@@ -55,10 +56,14 @@ where
     requires in_source { AllByRecursion (λ e. list_any (λ pair. is_within e.path pair.source) pairs.now ≡ true) large.now }
     requires apart { AreApart pairs.now large.now }
     requires makes { IfSome (G.tree ground.old) (λ files. AllByRecursion (λ e. CanMake pairs.now failed.now.set.keys e files) large.now) }
-    ensures early { (rows : List (List ℕ × Fate)) → AreFailed pairs.now rows failed.now.set.keys → IfOk result (λ tally. AreRows (IsEarly pairs.now rows) large.now tally.rows.items) }
-    ensures told { (rows : List (List ℕ × Fate)) → AreFailed pairs.now rows failed.now.set.keys → IfOk result (λ tally. IfSome (G.tree ground.old) (λ before. IfSome (G.tree ground.new) (λ after. AreRows (IsCopied before after pairs.now rows) large.now tally.rows.items))) }
+    ensures early { (rows : List (List ℕ × Fate)) → AreFailed pairs.now rows failed.now.set.keys →
+        IfOk result (λ tally. AreRows (IsEarly pairs.now rows) large.now tally.rows.items) }
+    ensures told { (rows : List (List ℕ × Fate)) → AreFailed pairs.now rows failed.now.set.keys →
+        IfOk result (λ tally. IfSome (G.tree ground.old) (λ before. IfSome (G.tree ground.new) (λ after.
+        AreRows (IsCopied before after pairs.now rows) large.now tally.rows.items))) }
     ensures copied { IfOk result (λ tally. tally.copied ≡ count_by (λ row. is_done row.1) tally.rows.items) }
     ensures bytes { IfOk result (λ tally. tally.bytes ≡ bytes_over large.now tally.rows.items) }
+    ensures shown { IfOk result (λ tally. AreRows (HasCause G.Reader.gives G.Part.gives G.gives G.area G.count pairs.now) large.now tally.rows.items) }
     ensures blamed { IfOk result (λ tally. RoseBy (count_by (λ row. is_failed row.1) tally.rows.items) (G.count ground.old) (G.count ground.new)) }
     ensures rest { IfSome (G.tree ground.old) (λ before. IfSome (G.tree ground.new) (SameButFor pairs.now large.now before)) }
     ensures tells { is_some (G.tree ground.new) ≡ is_some (G.tree ground.old) }
@@ -103,7 +108,10 @@ where
     requires low { is_root (target_of pairs.now entry.now.path) ≡ false }
     requires makes { IfSome (G.tree ground.old) (CanMake pairs.now failed.now.set.keys entry.now) }
     ensures early { (rows : List (List ℕ × Fate)) → AreFailed pairs.now rows failed.now.set.keys → IfOk result (IsEarly pairs.now rows entry.now) }
-    ensures told { (rows : List (List ℕ × Fate)) → AreFailed pairs.now rows failed.now.set.keys → IfOk result (λ fate. IfSome (G.tree ground.old) (λ before. IfSome (G.tree ground.new) (λ after. IsCopied before after pairs.now rows entry.now fate))) }
+    ensures told { (rows : List (List ℕ × Fate)) → AreFailed pairs.now rows failed.now.set.keys →
+        IfOk result (λ fate. IfSome (G.tree ground.old) (λ before. IfSome (G.tree ground.new) (λ after.
+        IsCopied before after pairs.now rows entry.now fate))) }
+    ensures shown { IfOk result (HasCause G.Reader.gives G.Part.gives G.gives G.area G.count pairs.now entry.now) }
     ensures cause { IfOk result (λ fate. RoseBy (if is_failed fate then 1 else 0) (G.count ground.old) (G.count ground.new)) }
     ensures others { IfSome (G.tree ground.old) (λ before. IfSome (G.tree ground.new) (SameBut (target_of pairs.now entry.now.path) before)) }
     ensures tells { is_some (G.tree ground.new) ≡ is_some (G.tree ground.old) }
@@ -133,7 +141,7 @@ where
     Ok(fate_of(came))
 }
 
-// How many bytes the entry tells.
+// The entry's size.
 fn size_of(entry: &Entry) -> u64
     ensures { result ≡ size_by entry.now.stat }
 {

@@ -15,7 +15,7 @@ pub(crate) struct Load<S> {
     pub(crate) size: u64,
 }
 
-// Puts the spans with their places where there is room for them. The first span comes last, so that loads are taken from the end.
+// Puts the spans with their places into a list with room for them. The first span comes last, so that loads are taken from the end.
 pub(crate) fn load_all<S: Span + Drop>(mut spans: Vec<S>, cuts: &[u64], loads: &mut Vec<Load<S>>)
     requires empty { loads.old.items ≡ [] }
     requires room { vec_len spans ≤ vec_capacity loads.old }

@@ -5,7 +5,6 @@ ghost use Rattle.range_copy.specs.PrivateParts.{merged, row_of};
 
 use crate::cutting::RangeError;
 use crate::folding::Tally;
-use crate::reports::WideReport;
 use level_work::Fate;
 use path_text::Path;
 use std::alloc::Global;
@@ -18,7 +17,7 @@ pub(crate) fn report_of(
     marks: &[bool],
     small: CopyReport,
     large: Tally,
-) -> Result<WideReport, RangeError>
+) -> Result<CopyReport, RangeError>
     ensures rows { IfOk result (λ report. report.0 ≡ merged marks.now small.0 large.rows.items) }
     ensures copied { IfOk result (λ report. report.1 ≡ small.1 + large.copied) }
     ensures bytes { IfOk result (λ report. report.2 ≡ small.2 + large.bytes) }
@@ -31,11 +30,7 @@ pub(crate) fn report_of(
         return Err(RangeError::OutOfMemory);
     };
     let rows = merge(alloc, marks, small.into_rows(), large.rows)?;
-    Ok(WideReport {
-        rows,
-        copied,
-        bytes,
-    })
+    Ok(CopyReport::make(rows, copied, bytes))
 }
 
 // The rows of both parts in the order of the list.
@@ -63,7 +58,8 @@ fn next_of(
     small: &mut IntoIter<(Path, Fate), Global>,
     large: &mut IntoIter<(Path, Fate), Global>,
 ) -> Option<(Path, Fate)>
-    ensures { (marks : List Bool) → merged (mark ∷ marks) (into_iter_items small.old) (into_iter_items large.old) ≡ row_of result ++ merged marks (into_iter_items small.new) (into_iter_items large.new) }
+    ensures { (marks : List Bool) → merged (mark ∷ marks) (into_iter_items small.old) (into_iter_items large.old)
+        ≡ row_of result ++ merged marks (into_iter_items small.new) (into_iter_items large.new) }
 {
     if mark {
         return large.next();
@@ -71,7 +67,7 @@ fn next_of(
     small.next()
 }
 
-// Puts a row behind the others, if there is one.
+// Puts a row after the others, if there is one.
 fn push(rows: &mut Vec<(Path, Fate)>, next: Option<(Path, Fate)>) -> Result<(), RangeError>
     ensures { OnOk result (rows.new.items ≡ rows.old.items ++ row_of next) }
 {

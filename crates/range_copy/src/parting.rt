@@ -17,8 +17,8 @@ pub(crate) struct Parts {
     pub(crate) marks: Vec<bool>,
 }
 
-// The parts of a list. Large is a file with more bytes than a piece has, if the next entry does not stand under it. Each path is
-// one, which the list does not tell of itself.
+// The parts of a list. A file with more bytes than a piece is large, unless the next entry is under it. Each path of the list is a
+// path, which the list's contract does not say.
 pub(crate) fn apart(alloc: Global, list: &FlatList, piece: u64) -> Result<Parts, RangeError>
     ensures small { IfOk result (λ parts. parts.small ≡ small_of piece list.now) }
     ensures large { IfOk result (λ parts. parts.large.items ≡ large_of piece list.now) }
@@ -47,11 +47,12 @@ fn pass(
     piece: u64,
 ) -> Result<Option<Entry>, RangeError>
     requires held { IfSome held (λ e. exceeds piece e ≡ true) }
-    ensures parts { (rest all : List Entry) → ArePartsOf piece parts.old (held_of held ++ entry.now ∷ rest) all → IfOk result (λ next. ArePartsOf piece parts.new (held_of next ++ rest) all) }
+    ensures parts { (rest all : List Entry) → ArePartsOf piece parts.old (held_of held ++ entry.now ∷ rest) all →
+        IfOk result (λ next. ArePartsOf piece parts.new (held_of next ++ rest) all) }
     ensures held { IfOk result (λ next. IfSome next (λ e. exceeds piece e ≡ true)) }
     ensures path { refusal entry.now.path ≡ None }
 {
-    let _ = entry.path.text(); // tells that it is a path
+    let _ = entry.path.text(); // shows that it is a path
     let over = stands_under(entry, &held);
     settle(parts, held, over)?;
     if exceeds(entry, piece) {
@@ -61,7 +62,7 @@ fn pass(
     Ok(None)
 }
 
-// Whether the entry stands under the one that was held back.
+// Whether the entry is under the one that was held back.
 fn stands_under(entry: &Entry, held: &Option<Entry>) -> bool
     ensures { (rest : List Entry) → result ≡ is_over held.now (entry.now ∷ rest) }
 {
@@ -71,9 +72,10 @@ fn stands_under(entry: &Entry, held: &Option<Entry>) -> bool
     }
 }
 
-// Puts an entry that was held back into its part: with the large ones, unless the next one stands under it.
+// Puts an entry that was held back into its part: with the large ones, unless the next one is under it.
 fn settle(parts: &mut Parts, held: Option<Entry>, over: bool) -> Result<(), RangeError>
-    ensures { (piece : ℕ) (rest all : List Entry) → IfSome held (λ e. exceeds piece e ≡ true) → over ≡ is_over held rest → ArePartsOf piece parts.old (held_of held ++ rest) all → OnOk result (ArePartsOf piece parts.new rest all) }
+    ensures { (piece : ℕ) (rest all : List Entry) → IfSome held (λ e. exceeds piece e ≡ true) → over ≡ is_over held rest →
+        ArePartsOf piece parts.old (held_of held ++ rest) all → OnOk result (ArePartsOf piece parts.new rest all) }
 {
     let Some(last) = held else {
         return Ok(());
@@ -86,7 +88,8 @@ fn settle(parts: &mut Parts, held: Option<Entry>, over: bool) -> Result<(), Rang
 
 // Puts an entry with the small ones.
 fn keep(parts: &mut Parts, entry: &Entry) -> Result<(), RangeError>
-    ensures { (piece : ℕ) (rest all : List Entry) → is_large piece entry.now rest ≡ false → ArePartsOf piece parts.old (entry.now ∷ rest) all → OnOk result (ArePartsOf piece parts.new rest all) }
+    ensures { (piece : ℕ) (rest all : List Entry) → is_large piece entry.now rest ≡ false →
+        ArePartsOf piece parts.old (entry.now ∷ rest) all → OnOk result (ArePartsOf piece parts.new rest all) }
 {
     parts.small.add(entry)?;
     if entry.stat.is_none() {
@@ -98,7 +101,8 @@ fn keep(parts: &mut Parts, entry: &Entry) -> Result<(), RangeError>
 
 // Puts an entry with the large ones.
 fn lead(parts: &mut Parts, entry: Entry) -> Result<(), RangeError>
-    ensures { (piece : ℕ) (rest all : List Entry) → is_large piece entry rest ≡ true → ArePartsOf piece parts.old (entry ∷ rest) all → OnOk result (ArePartsOf piece parts.new rest all) }
+    ensures { (piece : ℕ) (rest all : List Entry) → is_large piece entry rest ≡ true →
+        ArePartsOf piece parts.old (entry ∷ rest) all → OnOk result (ArePartsOf piece parts.new rest all) }
 {
     parts.large.push(entry)?;
     parts.marks.push(true)?;

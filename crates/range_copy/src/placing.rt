@@ -1,11 +1,14 @@
-//! An empty file comes to stand at a target, in place of none or of a file.
+//! Makes an empty file at a target, in place of none or of a file.
 ghost use Rattle.std.specs.Prelude.{◌≡◌, true, IfOk, IfSome, IsTrue, is_some};
 ghost use Rattle.std.specs.FinMap.{get};
 ghost use Rattle.path_text.specs.Path.{parent_of};
 ghost use Rattle.outside.specs.Count.{RoseBy};
 ghost use Rattle.outside.specs.Tree.{is_dir, is_file};
 ghost use Rattle.outside.specs.Writes.{is_open};
-ghost use Rattle.range_copy.specs.PrivatePlacing.{Leaves, LooksLike, MadeAs, PlacedAs, ReplacedAs, refused_as};
+ghost use Rattle.tree_copy.specs.Causes.{LookMeans};
+ghost use Rattle.range_copy.specs.PrivateLarge.{fate_of};
+ghost use Rattle.range_copy.specs.PrivatePlacing.{Leaves, LooksLike, MadeAs, PlacedAs, ReplacedAs, freed, refused_as};
+ghost use Rattle.range_copy.specs.PrivateShowing.{MadeBy, PlacedBy, ReplacedBy};
 
 use crate::came::Came;
 use crate::cutting::RangeError;
@@ -13,7 +16,7 @@ use outside::{Failed, Ground, Kind, Plot, Stat, Tree, WriteError};
 use path_text::Path;
 use std::alloc::Global;
 
-// Makes an empty file at the path, in place of none or of a file. What is there is looked at before it is removed.
+// Makes an empty file at the path, in place of none or of a file. It looks at the old node before it removes it.
 pub(crate) fn placed<G: Ground>(
     alloc: Global,
     ground: &mut G,
@@ -26,6 +29,7 @@ pub(crate) fn placed<G: Ground>(
     ensures area { G.area ground.new ≡ G.area ground.old }
     ensures count { RoseBy 0 (G.count ground.old) (G.count ground.new) }
     ensures cause { IfOk result (λ came. came ≡ Came.Failed → RoseBy 1 (G.count ground.old) (G.count ground.new)) }
+    ensures shown { IfOk result (PlacedBy G.Reader.gives G.gives path.now ground.new) }
 {
     match made(alloc, ground, path)? {
         Came::Done => Ok(Came::Done),
@@ -35,7 +39,7 @@ pub(crate) fn placed<G: Ground>(
     }
 }
 
-// Makes an empty file at the path, if nothing is there; else it answers `Conflict`.
+// Makes an empty file at the path, if no node is there; else it answers `Conflict`.
 fn made<G: Ground>(alloc: Global, ground: &mut G, path: &Path) -> Result<Came, RangeError>
     requires open { IsTrue (is_open (G.area ground.old) path.now) }
     requires stand { IfSome (G.tree ground.old) (λ before. is_dir (get before (parent_of path.now)) ≡ true) }
@@ -44,6 +48,7 @@ fn made<G: Ground>(alloc: Global, ground: &mut G, path: &Path) -> Result<Came, R
     ensures area { G.area ground.new ≡ G.area ground.old }
     ensures count { RoseBy 0 (G.count ground.old) (G.count ground.new) }
     ensures cause { IfOk result (λ came. came ≡ Came.Failed → RoseBy 1 (G.count ground.old) (G.count ground.new)) }
+    ensures shown { IfOk result (MadeBy G.gives path.now ground.old ground.new) }
 {
     match ground.make_file(alloc, path) {
         Ok(()) => Ok(Came::Done),
@@ -61,6 +66,7 @@ fn placed_over<G: Ground>(alloc: Global, ground: &mut G, path: &Path) -> Result<
     ensures area { G.area ground.new ≡ G.area ground.old }
     ensures count { RoseBy 0 (G.count ground.old) (G.count ground.new) }
     ensures cause { IfOk result (λ came. came ≡ Came.Failed → RoseBy 1 (G.count ground.old) (G.count ground.new)) }
+    ensures shown { IfOk result (PlacedBy G.Reader.gives G.gives path.now ground.new) }
 {
     match look(alloc, ground, path)? {
         Came::Done => replaced(alloc, ground, path),
@@ -77,6 +83,7 @@ fn look<G: Ground>(alloc: Global, ground: &mut G, path: &Path) -> Result<Came, R
     ensures area { G.area ground.new ≡ G.area ground.old }
     ensures count { RoseBy 0 (G.count ground.old) (G.count ground.new) }
     ensures cause { IfOk result (λ came. came ≡ Came.Failed → RoseBy 1 (G.count ground.old) (G.count ground.new)) }
+    ensures shown { IfOk result (λ came. LookMeans G.Reader.gives path.now Kind.File (fate_of came)) }
 {
     // The count of faults is a number of 64 bits.
     let _faults = ground.faults();
@@ -89,6 +96,7 @@ fn look<G: Ground>(alloc: Global, ground: &mut G, path: &Path) -> Result<Came, R
 fn seen<R: Tree>(reader: &mut R, path: &Path) -> Came
     ensures told { IfSome (R.tree reader.old) (λ files. LooksLike (get files path.now) result) }
     ensures cause { result ≡ Came.Failed → RoseBy 1 (R.count reader.old) (R.count reader.new) }
+    ensures shown { LookMeans R.gives path.now Kind.File (fate_of result) }
 {
     let Ok(answer) = reader.stat(path) else {
         return Came::Failed;
@@ -114,15 +122,29 @@ fn replaced<G: Ground>(alloc: Global, ground: &mut G, path: &Path) -> Result<Cam
     ensures area { G.area ground.new ≡ G.area ground.old }
     ensures count { RoseBy 0 (G.count ground.old) (G.count ground.new) }
     ensures cause { IfOk result (λ came. came ≡ Came.Failed → RoseBy 1 (G.count ground.old) (G.count ground.new)) }
+    ensures shown { IfOk result (ReplacedBy G.gives path.now ground.new) }
 {
-    let _ = path.text(); // tells that it is a path
+    let _ = path.text(); // shows that it is a path
     match ground.remove_file(alloc, path) {
-        Ok(()) => made(alloc, ground, path),
+        Ok(()) => freed(made(alloc, ground, path)),
         Err(refused) => refused_as(refused),
     }
 }
 
-// What a refusal means.
+// The outcome at a path whose old file was removed: a node that is there again is a change.
+fn freed(made: Result<Came, RangeError>) -> Result<Came, RangeError>
+    ensures { result ≡ freed made }
+{
+    match made {
+        Ok(Came::Done) => Ok(Came::Done),
+        Ok(Came::Failed) => Ok(Came::Failed),
+        Ok(Came::Conflict) => Ok(Came::Changed),
+        Ok(Came::Changed) => Ok(Came::Changed),
+        Err(error) => Err(error),
+    }
+}
+
+// The outcome that a refusal means.
 fn refused_as(refused: WriteError) -> Result<Came, RangeError>
     ensures { result ≡ refused_as refused }
 {

@@ -1,12 +1,17 @@
-//! The bytes of a file are written by spans.
+//! Writes the bytes of a file by spans.
 ghost use Rattle.std.specs.Prelude.{◌≡◌, ◌⊎◌, ◌+◌, ◌<◌, ◌≤◌, List, [], Option, Some, false, length, map, IfOk, IfSome, IsTrue, is_some};
 ghost use Rattle.std.specs.FinMap.{get};
+ghost use Rattle.std.specs.List.{sum_by};
 ghost use Rattle.std.specs.Vec.{vec_capacity};
+ghost use Rattle.outside.specs.Asked as asked;
 ghost use Rattle.outside.specs.Count.{RoseBy};
 ghost use Rattle.outside.specs.Spans.{are_cuts, pieces};
 ghost use Rattle.outside.specs.Tree.{Files, content, is_root};
 ghost use Rattle.outside.specs.Writes.{SameBut, new_file, nothing_lent};
+ghost use Rattle.tree_copy.specs.Causes.{IsWritten, ShowsSpans};
 ghost use Rattle.range_copy.specs.Large.{IsSource};
+ghost use Rattle.range_copy.specs.PrivateLarge.{fate_of};
+ghost use Rattle.range_copy.specs.PrivateShowing.{AreFilledBy, AreRead};
 ghost use Rattle.range_copy.specs.PrivateTurns.{AllSee, AreBlamed, AreDone, AreFilled, AreIdle, FilledAs, came_of, faults_of, outcome_of, reader_faults};
 ghost use Rattle.range_copy.specs.Ranges.{end_of};
 
@@ -45,16 +50,21 @@ where
     requires idle { AreIdle fillers.old }
     requires fine { AreDone fillers.old }
     requires empty { IfSome (G.tree ground.old) (λ files. get files target.now ≡ Some (new_file [])) }
-    ensures told { (seen : Option Files) → AllSee G.Reader.tree seen fillers.old → IfSome seen (IsSource source.now size) → IfOk result (λ came. IfSome seen (λ files. IfSome (G.tree ground.new) (λ after. FilledAs (content (get files source.now)) (get after target.now) came))) }
-    ensures cause { IfOk result (λ came. came ≡ Came.Failed → (RoseBy 1 (G.count ground.old) (G.count ground.new)) ⊎ (1 ≤ reader_faults G.Reader.count fillers.new)) }
+    requires made { IsWritten G.gives target.now asked.make_file ground.old }
+    ensures told { (seen : Option Files) → AllSee G.Reader.tree seen fillers.old → IfSome seen (IsSource source.now size) →
+        IfOk result (λ came. IfSome seen (λ files. IfSome (G.tree ground.new) (λ after.
+        FilledAs (content (get files source.now)) (get after target.now) came))) }
+    ensures cause { IfOk result (λ came. came ≡ Came.Failed →
+        (RoseBy 1 (G.count ground.old) (G.count ground.new)) ⊎ (1 ≤ reader_faults G.Reader.count fillers.new)) }
+    ensures shown { IfOk result (λ came. ShowsSpans G.Reader.gives G.gives G.area G.count source.now target.now size (fate_of came)) }
     ensures others { IfSome (G.tree ground.old) (λ before. IfSome (G.tree ground.new) (SameBut target.now before)) }
     ensures tells { is_some (G.tree ground.new) ≡ is_some (G.tree ground.old) }
     ensures lent { G.area ground.new ≡ nothing_lent }
     ensures count { RoseBy 0 (G.count ground.old) (G.count ground.new) }
 {
     nodes_are_under_directories();
-    let _ = target.text(); // tells that it is a path
-    let _faults = ground.faults(); // tells that the nodes are a tree
+    let _ = target.text(); // shows that it is a path
+    let _faults = ground.faults(); // shows that the nodes are a tree
     let loads = Vec::with_capacity(alloc, cuts.len())?;
     let done = Vec::with_capacity(alloc, cuts.len())?;
     let spans = match ground.lease_spans(alloc, target, cuts) {
@@ -96,6 +106,8 @@ fn fill_spans<R: Threads + Sync, T: Tree + Send + Drop, S: Span + Send + Drop>(
     requires done_room { length cuts.now ≤ vec_capacity done }
     ensures filled { AreFilled T.tree S.piece S.holds source.now total fillers.old spans.items fillers.new result.items }
     ensures blamed { AreBlamed (faults_of T.count S.count fillers.new result.items) fillers.new }
+    ensures read { AreDone fillers.new → AreRead T.gives S.piece source.now result.items }
+    ensures shown { AreFilledBy T.gives source.now (sum_by S.count result.items) fillers.new }
 {
     let mut loads = loads;
     let mut done = done;
@@ -104,7 +116,7 @@ fn fill_spans<R: Threads + Sync, T: Tree + Send + Drop, S: Span + Send + Drop>(
     done
 }
 
-// What the work of all has come to: the first that is not `Done`.
+// The outcome of the work of all: the first that is not `Done`.
 pub(crate) fn outcome<T, S>(fillers: &[Filler<T, S>]) -> Filled
     ensures { result ≡ outcome_of fillers.now }
 {
@@ -116,7 +128,7 @@ pub(crate) fn outcome<T, S>(fillers: &[Filler<T, S>]) -> Filled
     Filled::Done
 }
 
-// What that means for the file.
+// The outcome of the file.
 fn came_of(filled: Filled) -> Result<Came, RangeError>
     ensures { result ≡ came_of filled }
 {

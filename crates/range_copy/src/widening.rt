@@ -5,6 +5,7 @@ ghost use Rattle.outside.specs.Count.{RoseBy};
 ghost use Rattle.outside.specs.Writes.{nothing_lent};
 ghost use Rattle.flat_list.specs.Spelling.{paths};
 ghost use Rattle.level_work.specs.Counts.{is_failed};
+ghost use Rattle.tree_copy.specs.Causes.{HaveCauses};
 ghost use Rattle.tree_copy.specs.Copying.{AreEarly, CanCopy, Copied, FitsTree, SameButTargets, bytes_copied, is_done, treated};
 ghost use Rattle.tree_copy.specs.Placing.{IsPair};
 
@@ -13,15 +14,14 @@ use crate::failing::failed_targets;
 use crate::folding::copy_each;
 use crate::merging::report_of;
 use crate::parting::apart;
-use crate::reports::WideReport;
 use flat_list::FlatList;
 use outside::{Plot, Wide, nodes_are_under_directories};
 use std::alloc::Global;
 use std::thread::Threads;
-use tree_copy::{Pair, copy};
+use tree_copy::{CopyReport, Pair, copy};
 
-/// Copies each entry that has a stat to its target, as [`copy`] does. Files with more bytes than a piece has are written by ranges,
-/// one file after the other, once all else is copied; but not a file under which another entry stands.
+/// Copies each entry that has a stat to its target, as [`copy`] does. Once all else is copied, it writes the files with more bytes
+/// than a piece by ranges, one file after the other. It does not write a file so if another entry is under it.
 pub fn copy_wide<R: Threads + Sync, G: Wide>(
     rt: &R,
     alloc: Global,
@@ -31,7 +31,7 @@ pub fn copy_wide<R: Threads + Sync, G: Wide>(
     ground: &mut G,
     ranks: u32,
     hosts: u32,
-) -> Result<WideReport, RangeError>
+) -> Result<CopyReport, RangeError>
 where
     G::Reader: Send,
     G::Part: Send,
@@ -48,13 +48,14 @@ where
     ensures copied { IfOk result (λ report. report.1 ≡ count_by (λ row. is_done row.1) report.0) }
     ensures bytes { IfOk result (λ report. report.2 ≡ bytes_copied list.now report.0) }
     ensures blamed { IfOk result (λ report. RoseBy (count_by (λ row. is_failed row.1) report.0) (G.count ground.old) (G.count ground.new)) }
+    ensures causes { IfOk result (λ report. HaveCauses G.Reader.gives G.Part.gives G.gives G.area G.count list.now pairs.now report.0) }
     ensures rest { IfSome (G.tree ground.old) (λ before. IfSome (G.tree ground.new) (SameButTargets pairs.now list.now before)) }
     ensures tells { is_some (G.tree ground.new) ≡ is_some (G.tree ground.old) }
     ensures lent { G.area ground.new ≡ nothing_lent }
     ensures count { RoseBy 0 (G.count ground.old) (G.count ground.new) }
 {
     nodes_are_under_directories();
-    // The call tells that the nodes are a tree.
+    // The call shows that the nodes are a tree.
     let _faults = ground.faults();
     see_pairs(pairs);
     let parts = apart(alloc, list, piece)?;

@@ -1,5 +1,6 @@
 -- The act of a copy: what its steps come to at and under the path, and what it does by the entry's kind.
-use Rattle.std.proofs.Common.{◌≡◌, ◌⊎◌, inl, inr, ℕ, Bool, true, false, List, [], Option, Some, None, IfSome, refl, ap, ◌∙◌, sym, subst, is_some}
+use Rattle.std.proofs.Common.{◌≡◌, ◌⊎◌, inl, inr, ℕ, Bool, true, false, List, [], Option, Some, None, IfSome, refl, ap, ◌∙◌, sym, subst}
+use Rattle.std.proofs.Common.{is_some}
 use Rattle.std.specs.Prelude.{Result, Ok, Err, IfOk}
 use Rattle.std.proofs.lemmas.Bool.{false≢true}
 use Rattle.std.specs.FinMap.{get}
@@ -18,7 +19,7 @@ use Rattle.tree_copy.specs.PrivateActs.{ByReader, Filled, IsDirMade, IsFilled, I
 use Rattle.tree_copy.specs.PrivateDeeds.{CopyKind, CopyLink, CopyOne, CopyTold, Differ, LinkBy, MakeDir, MakeFile, is_link}
 use Rattle.tree_copy.proofs.Puts.{get_here, mapped}
 
-done_is : (f : Fate) → is_done f ≡ true → f ≡ fate.Done
+pub done_is : (f : Fate) → is_done f ≡ true → f ≡ fate.Done
 done_is fate.Done e = refl
 done_is fate.Failed e = absurd (false≢true e)
 done_is fate.Conflict e = absurd (false≢true e)
@@ -59,7 +60,8 @@ both_steps seen p entry fate.Skipped a b c l w = w
 both_steps seen p entry fate.ParentFailed a b c l w = w
 both_steps seen p entry fate.TooLong a b c l w = w
 
-after_both : (told : Option Files) (p : List ℕ) (entry : Entry) (r : Result Fate OutOfMemory) (a b c : Files) → IsPlaced (new_file []) is_file told p (Ok fate.Done) a b →
+after_both : (told : Option Files) (p : List ℕ) (entry : Entry) (r : Result Fate OutOfMemory) (a b c : Files) →
+    IsPlaced (new_file []) is_file told p (Ok fate.Done) a b →
     SameBut p b c → IfSome told (λ seen. IsFilled seen entry.path p (size_by entry.stat) r c) → IsDone (ByReader MakeFile told) p entry r a c
 after_both told p entry r a b c u o v = record { others = λ q off. o q off ∙ u.others q off; answers = by told r u.answers v }
   where
@@ -70,7 +72,8 @@ after_both told p entry r a b c u o v = record { others = λ q off. o q off ∙ 
     by None (Ok f) l w = tt
     by (Some seen) (Ok f) l w = both_steps seen p entry f a b c l w
 
-pub file_filled : (told : Option Files) (p : List ℕ) (entry : Entry) (f : Fate) (r : Result Fate OutOfMemory) (t0 t1 t2 : Option Files) → is_done f ≡ true →
+pub file_filled : (told : Option Files) (p : List ℕ) (entry : Entry) (f : Fate) (r : Result Fate OutOfMemory) (t0 t1 t2 : Option Files) →
+    is_done f ≡ true →
     is_some t1 ≡ is_some t0 → IfSome t0 (λ a. IfSome t1 (IsPlaced (new_file []) is_file told p (Ok f) a)) → IfSome t1 (λ b. IfSome t2 (SameBut p b)) →
     IfSome told (λ seen. IfSome t2 (IsFilled seen entry.path p (size_by entry.stat) r)) →
     IfSome t0 (λ a. IfSome t2 (IsDone (ByReader MakeFile told) p entry r a))
@@ -87,7 +90,8 @@ file_filled told p entry f r (Some a) (Some b) (Some c) e tells u o v =
 
 -- a file that is not made, since something is in its way
 pub file_refused : (told : Option Files) (p : List ℕ) (entry : Entry) (f : Fate) (t0 t1 : Option Files) → is_done f ≡ false →
-    IfSome t0 (λ a. IfSome t1 (IsPlaced (new_file []) is_file told p (Ok f) a)) → IfSome t0 (λ a. IfSome t1 (IsDone (ByReader MakeFile told) p entry (Ok f) a))
+    IfSome t0 (λ a. IfSome t1 (IsPlaced (new_file []) is_file told p (Ok f) a)) →
+    IfSome t0 (λ a. IfSome t1 (IsDone (ByReader MakeFile told) p entry (Ok f) a))
 file_refused told p entry f t0 t1 off = mapped (IsPlaced (new_file []) is_file told p (Ok f)) (IsDone (ByReader MakeFile told) p entry (Ok f)) t0 t1
     (λ a b u. record { others = u.others; answers = by a b told f off u.answers })
   where
@@ -134,12 +138,14 @@ link_placed text seen p entry f a b e l =
     by fate.ParentFailed l = l
     by fate.TooLong l = l
 
-pub link_told : (told : Option Files) (p text : List ℕ) (entry : Entry) (r : Result Fate OutOfMemory) (t0 t1 : Option Files) → entry.target ≡ Some text →
+pub link_told : (told : Option Files) (p text : List ℕ) (entry : Entry) (r : Result Fate OutOfMemory) (t0 t1 : Option Files) →
+    entry.target ≡ Some text →
     IfSome t0 (λ a. IfSome t1 (IsPlaced (new_link text) is_link told p r a)) → IfSome t0 (λ a. IfSome t1 (IsDone (ByReader CopyLink told) p entry r a))
 link_told told p text entry r t0 t1 e = mapped (IsPlaced (new_link text) is_link told p r) (IsDone (ByReader CopyLink told) p entry r) t0 t1
     (λ a b u. record { others = u.others; answers = by told r a b u.answers })
   where
-    by : (told : Option Files) (r : Result Fate OutOfMemory) (a b : Files) → IfOk r (λ f. IfSome told (λ seen. Placed (new_link text) is_link seen p f a b)) →
+    by : (told : Option Files) (r : Result Fate OutOfMemory) (a b : Files) →
+        IfOk r (λ f. IfSome told (λ seen. Placed (new_link text) is_link seen p f a b)) →
         IfOk r (λ f. ByReader CopyLink told p entry f (at_and_under p a) (at_and_under p b))
     by told (Err x) a b l = tt
     by None (Ok f) a b l = tt

@@ -1,5 +1,6 @@
 -- Work from the top down by copiers copies: each entry has the fate that is due, and its target what that fate says.
-use Rattle.std.proofs.Common.{◌≡◌, ◌≢◌, ◌⊎◌, inl, inr, ℕ, ◌<◌, Bool, true, false, not, cond, ◌&&◌, List, [], ◌∷◌, length, take, Option, Some, None}
+use Rattle.std.proofs.Common.{◌≡◌, ◌≢◌, ◌⊎◌, inl, inr, ℕ, ◌<◌, Bool, true, false, not, cond, ◌&&◌, List, [], ◌∷◌, length}
+use Rattle.std.proofs.Common.{take, Option, Some, None}
 use Rattle.std.proofs.Common.{IfSome, refl, ap, ◌∙◌, sym, subst, arith, nat_eq, is_some}
 use Rattle.std.specs.Prelude.{is_none}
 use Rattle.std.proofs.lemmas.Bool.{false≢true}
@@ -38,7 +39,8 @@ use Rattle.tree_copy.proofs.Fits.{far_no_item, no_item, no_room_of}
 
 get_here : (p : List ℕ) (files : Files) → get (at_and_under p files) p ≡ get files p
 get_here p files =
-    get-retain_keys files (λ q. is_within q p) p (λ x e. ap (λ y. is_within y p) (sym (path_cmp_same p x e))) ∙ ap (λ b. cond b (get files p) None) (itself p)
+    get-retain_keys files (λ q. is_within q p) p (λ x e. ap (λ y. is_within y p) (sym (path_cmp_same p x e)))
+    ∙ ap (λ b. cond b (get files p) None) (itself p)
 
 same_path : (p : List ℕ) → pointwise nat_eq p p ≡ true
 same_path p = (bytes_decides p p).1 refl
@@ -147,8 +149,11 @@ module _ (before after : Files) (e : Entry) (p : List ℕ) where
   dir_told fate.Done off (inl d) =
       let none : get before p ≡ None = sym (get_here p before) ∙ d.0 in
       let is : get after p ≡ Some empty_dir = sym (left_here p before after) ∙ ap (λ m. get m p) d.1
-      ∙ put_here p empty_dir (found order.TopDown p before after) in
-      (ap (clash kind.Dir) none, refl, subst (λ o. IsCopyOf kind.Dir (get before e.path) o (get after p)) (sym none) (ap (option_map (λ (n : Node). n.body)) is))
+      ∙ put_here p empty_dir (found order.TopDown p before after) in (
+        ap (clash kind.Dir) none,
+        refl,
+        subst (λ o. IsCopyOf kind.Dir (get before e.path) o (get after p)) (sym none) (ap (option_map (λ (n : Node). n.body)) is),
+      )
   dir_told fate.Done off (inr d) =
       let some = there d.0 in (
         dir_clash (get before p) some ∙ ap not d.1,
@@ -195,7 +200,8 @@ module _ (before after : Files) (e : Entry) (p : List ℕ) where
   link_free (inl n) = ap (clash kind.Link) n
   link_free (inr l) = link_clash (get before p) (link_some (get before p) l) ∙ ap not l
 
-  was : (get (found order.TopDown p before after) p ≡ None) ⊎ (is_link (get before p) ≡ true) → (get before p ≡ None) ⊎ (is_link (get before p) ≡ true)
+  was : (get (found order.TopDown p before after) p ≡ None) ⊎ (is_link (get before p) ≡ true) →
+      (get before p ≡ None) ⊎ (is_link (get before p) ≡ true)
   was (inl n) = inl (sym (get_here p before) ∙ n)
   was (inr l) = inr l
 
@@ -283,7 +289,8 @@ module _ (before after : Files) (pairs : List Pair) (rows : List (List ℕ × Fa
       ∙ ap (λ b. free_fate b (is_untold e)) (clashes_by e.stat stat k (get before (target_of pairs e.path)) has is)
       ∙ ap (free_fate (clash k (get before (target_of pairs e.path)))) free
 
-  copied_by : (stat : Stat) (k : Kind) (u : Bool) → e.stat ≡ Some stat → stat.kind ≡ k → is_untold e ≡ u → early pairs rows e ≡ None → (g : Fate) →
+  copied_by : (stat : Stat) (k : Kind) (u : Bool) → e.stat ≡ Some stat → stat.kind ≡ k → is_untold e ≡ u → early pairs rows e ≡ None →
+      (g : Fate) →
       Told u k (get before e.path) (get before (target_of pairs e.path)) (get after (target_of pairs e.path)) g →
       IsCopied before after pairs rows e (settled_by false g)
   copied_by stat k u has is free now fate.Done t = record {
@@ -402,7 +409,8 @@ firsts P [] ys h = tt
 firsts P (x ∷ xs) [] h = tt
 firsts P (x ∷ xs) (y ∷ ys) h = (h.0, firsts P xs ys h.1)
 
-together : {X : Type 0} (P Q R : X → Type 0) (xs : List X) → ((x : X) → P x → Q x → R x) → AllByRecursion P xs → AllByRecursion Q xs → AllByRecursion R xs
+together : {X : Type 0} (P Q R : X → Type 0) (xs : List X) → ((x : X) → P x → Q x → R x) → AllByRecursion P xs → AllByRecursion Q xs →
+    AllByRecursion R xs
 together P Q R [] h p q = tt
 together P Q R (x ∷ xs) h p q = (h x p.0 q.0, together P Q R xs h p.1 q.1)
 

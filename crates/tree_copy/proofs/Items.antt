@@ -55,6 +55,12 @@ pub record IsFound (pairs : List Pair) (e : Entry) (none : Bool) (k : ℕ) (p : 
   pub read : p ≡ get_or pairs k p
   pub within : IfSome (slice_get pairs k) (λ pair. is_within e.path pair.source ≡ true)
 
+pub found : (pairs : List Pair) (e : Entry) (none : Bool) (k : ℕ) (p : Pair) → overlap (ends_of pairs) ≡ false → All IsPair pairs → none ≡ false →
+    is_some e.stat ≡ not none → k < length pairs → p ≡ get_or pairs k p → IfSome (slice_get pairs k) (λ pair. is_within e.path pair.source ≡ true) →
+    IsFound pairs e none k p
+found pairs e none k p apart valid off is_none inside read within =
+    record { apart = apart; valid = valid; off = off; is_none = is_none; inside = inside; read = read; within = within }
+
 pub added_by : (pairs : List Pair) (e : Entry) (none : Bool) (k : ℕ) (p : Pair) → IsFound pairs e none k p → (target : Option (List ℕ)) →
     target ≡ short_target p e.path → Added pairs e target
 added_by pairs e none k p f target is =

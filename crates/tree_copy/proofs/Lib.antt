@@ -17,4 +17,5 @@ pub mod Places
 pub mod Puts
 pub mod Readers
 pub mod Reported
+pub mod Shown
 pub mod Tallies

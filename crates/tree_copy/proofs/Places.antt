@@ -20,12 +20,14 @@ pub record Gone (path : List ℕ) (before after : Files) : Type 0 where
   pub others : SameBut path before after
   pub none : get after path ≡ None
 
-pub removed_only : (p : List ℕ) (t t' : Option Files) → IfSome t (λ files. (remove_file_refusal (get files p) ≡ None) × (t' ≡ Some (remove files p))) →
+pub removed_only : (p : List ℕ) (t t' : Option Files) →
+    IfSome t (λ files. (remove_file_refusal (get files p) ≡ None) × (t' ≡ Some (remove files p))) →
     IfSome t (λ files. IfSome t' (Gone p files))
 removed_only p t t' = answered (λ files. remove_file_refusal (get files p)) (λ files. remove files p) (Gone p) t t'
     (λ files r. record { others = gone_others p files; none = gone_here p files })
 
-pub replaced_done : (n : Node) (p : List ℕ) (area : Area) (t0 t1 t2 : Option Files) → is_some t1 ≡ is_some t0 → IfSome t0 (λ a. IfSome t1 (Gone p a)) →
+pub replaced_done : (n : Node) (p : List ℕ) (area : Area) (t0 t1 t2 : Option Files) → is_some t1 ≡ is_some t0 →
+    IfSome t0 (λ a. IfSome t1 (Gone p a)) →
     IfSome t1 (λ b. (make_refusal area b p ≡ None) × (t2 ≡ Some (insert b p n))) → IfSome t0 (λ a. IfSome t2 (IsReplaced n p (Ok fate.Done) a))
 replaced_done n p area t0 t1 t2 tells g m =
     both_told (Gone p) (IsReplaced n p (Ok fate.Done)) (IsReplaced n p (Ok fate.Done)) t0 t1 t2 tells
@@ -38,15 +40,18 @@ record Lost (path : List ℕ) (result : Result Fate OutOfMemory) (between after 
   others : SameBut path between after
   answers : IfOk result (λ f. f ≡ fate.Failed)
 
-not_refused : (area : Area) (p : List ℕ) (b : Files) (x : WriteError) → is_top area p ≡ true → get b p ≡ None → make_refusal area b p ≡ Some x → ⊥
+not_refused : (area : Area) (p : List ℕ) (b : Files) (x : WriteError) → is_top area p ≡ true → get b p ≡ None →
+    make_refusal area b p ≡ Some x → ⊥
 not_refused area p b x top none e = by (get b p) (is_top area p) (is_dir (get b (parent_of p))) none top e
   where
-    by : (o : Option Node) (t d : Bool) → o ≡ None → t ≡ true → cond (is_some o) (Some write.Exists) (cond (t || d) None (Some write.NoParent)) ≡ Some x → ⊥
+    by : (o : Option Node) (t d : Bool) → o ≡ None → t ≡ true →
+        cond (is_some o) (Some write.Exists) (cond (t || d) None (Some write.NoParent)) ≡ Some x → ⊥
     by None true d none top e = cc
     by None false d none top e = cc
     by (Some n) t d none top e = cc
 
-refused : (n : Node) (p : List ℕ) (area : Area) (x : WriteError) (r : Result Fate OutOfMemory) (b : Files) (t2 : Option Files) → is_top area p ≡ true → get b p ≡ None →
+refused : (n : Node) (p : List ℕ) (area : Area) (x : WriteError) (r : Result Fate OutOfMemory) (b : Files) (t2 : Option Files) →
+    is_top area p ≡ true → get b p ≡ None →
     TellsFate x r → Answers p (make_refusal area b p) b (insert b p n) (Err x) t2 → IfSome t2 (Lost p r b)
 refused n p area write.Failed r b None top none f a = tt
 refused n p area write.Failed r b (Some c) top none f a = record { others = a; answers = by r f }
@@ -65,7 +70,8 @@ refused n p area write.WrongKind r b t2 top none f a = absurd (not_refused area 
 refused n p area write.NotEmpty r b t2 top none f a = absurd (not_refused area p b write.NotEmpty top none a.0)
 refused n p area write.Absent r b t2 top none f a = absurd (not_refused area p b write.Absent top none a.0)
 
-pub replaced_lost : (n : Node) (p : List ℕ) (area : Area) (x : WriteError) (r : Result Fate OutOfMemory) (t0 t1 t2 : Option Files) → is_some t1 ≡ is_some t0 →
+pub replaced_lost : (n : Node) (p : List ℕ) (area : Area) (x : WriteError) (r : Result Fate OutOfMemory) (t0 t1 t2 : Option Files) →
+    is_some t1 ≡ is_some t0 →
     IsTrue (is_top area p) → TellsFate x r → IfSome t0 (λ a. IfSome t1 (Gone p a)) →
     IfSome t1 (λ b. Answers p (make_refusal area b p) b (insert b p n) (Err x) t2) → IfSome t0 (λ a. IfSome t2 (IsReplaced n p r a))
 replaced_lost n p area x r None t1 t2 tells top f g m = tt

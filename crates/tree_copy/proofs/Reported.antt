@@ -1,5 +1,6 @@
 -- What a copy reports, from what its parts tell.
-use Rattle.std.proofs.Common.{◌≡◌, ◌∙◌, ℕ, ◌≤◌, Bool, true, false, cond, List, [], ◌∷◌, map, length, Option, Some, None, IfSome, refl, ap, sym, subst}
+use Rattle.std.proofs.Common.{◌≡◌, ◌∙◌, ℕ, ◌≤◌, Bool, true, false, cond, List, [], ◌∷◌, map, length, Option, Some, None, IfSome}
+use Rattle.std.proofs.Common.{refl, ap, sym, subst}
 use Rattle.std.proofs.Common.{arith, slice_get}
 use Rattle.std.proofs.lemmas.List.{length-map}
 use Rattle.std.proofs.lemmas.List.Sums.{length-filter, sum_by-cons}
@@ -7,10 +8,11 @@ use Rattle.std.proofs.lemmas.Slice.Zip.{firsts-zip}
 use Rattle.std.specs.Prelude.{Result, Ok, Err, IfOk}
 use Rattle.std.specs.List.{All, AllByRecursion, count_by, sum_by, zip}
 use Rattle.path_text.specs.Path.{refusal, parent_of}
+use Rattle.outside.specs.Asked.{Asks, Writes}
 use Rattle.outside.specs.Count.{RoseBy}
 use Rattle.outside.specs.Parts.{IsTreeIn, UnderDirectories}
 use Rattle.outside.specs.Tree.{Files}
-use Rattle.outside.specs.Writes.{nothing_lent}
+use Rattle.outside.specs.Writes.{Area, nothing_lent}
 use Rattle.flat_list.specs.declared.entries.Entry.{Entry}
 use Rattle.flat_list.specs.Entries.{bytes_by}
 use Rattle.flat_list.specs.Spelling.{paths}
@@ -22,14 +24,17 @@ use Rattle.level_work.specs.declared.items.Fate.{Fate}
 use Rattle.level_work.specs.declared.items.Fate.TheVariants as fate
 use Rattle.level_work.specs.declared.items.Order.TheVariants as order
 use Rattle.tree_copy.specs.declared.pairs.Pair.{Pair}
+use Rattle.tree_copy.specs.Causes.{HaveCauses}
 use Rattle.tree_copy.specs.Copying.{AreEarly, CanCopy, Copied, FitsTree, SameButTargets, bytes_copied, is_done, treated}
 use Rattle.tree_copy.specs.Placing.{IsPair}
+use Rattle.tree_copy.specs.PrivateActs.{AllMayCopy}
 use Rattle.tree_copy.specs.PrivateDeeds.{CopyOne}
 use Rattle.tree_copy.specs.PrivateSettling.{any_odd, bytes_of, fates_of, fitting, gain, has_room, is_other, items_of, placed_of}
 use Rattle.tree_copy.specs.PrivateSettling.{rest_of, settled_by}
 use Rattle.tree_copy.proofs.Comes.{Comes, Row, all_come, are_early, are_marks, items_are, items_by, rows_by}
 use Rattle.tree_copy.proofs.Copies.{copied, others}
 use Rattle.tree_copy.proofs.Fits.{Known, are_items, makes_dirs, parent_short, stand_in}
+use Rattle.tree_copy.proofs.Shown.{all_even, all_shown, items_have_stats}
 use Rattle.tree_copy.proofs.Tallies.{fates_len}
 
 -- the items that were made, under the name by which they were passed on
@@ -40,6 +45,12 @@ pub record Made (list : List Entry) (pairs : List Pair) (made items : List Item)
   pub paths : All (λ x. refusal x.path ≡ None) made
   pub are : made ≡ items_of pairs list
   pub same : items ≡ made
+
+-- by what is known of each part
+pub all_made : (list : List Entry) (pairs : List Pair) (made items : List Item) → CanCopy list pairs → All (λ e. refusal e.path ≡ None) list →
+    All IsPair pairs → All (λ x. refusal x.path ≡ None) made → made ≡ items_of pairs list → items ≡ made → Made list pairs made items
+all_made list pairs made items can valid ends paths are same =
+    record { can = can; valid = valid; ends = ends; paths = paths; are = are; same = same }
 
 module _ (list : List Entry) (pairs : List Pair) (made items : List Item) (m : Made list pairs made items) where
   known : Known list pairs
@@ -96,10 +107,12 @@ pub fitted : (list : List Entry) (pairs : List Pair) (items : List Item) (fits :
     fits ≡ map (has_room pairs) (treated list) →
     map (λ x. x.entry.path) items ≡ fitting fits (paths (treated list))
 fitted list pairs items fits are marks =
-    ap (map (λ (x : Item). x.entry.path)) (are ∙ sym (items_are pairs (treated list))) ∙ fit_paths pairs (map (has_room pairs) (treated list)) (treated list)
+    ap (map (λ (x : Item). x.entry.path)) (are ∙ sym (items_are pairs (treated list)))
+    ∙ fit_paths pairs (map (has_room pairs) (treated list)) (treated list)
     ∙ ap (λ m. fitting m (paths (treated list))) (sym marks)
 
-pub marks_len : (list : List Entry) (pairs : List Pair) (fits : List Bool) → fits ≡ map (has_room pairs) (treated list) → length fits ≡ length (treated list)
+pub marks_len : (list : List Entry) (pairs : List Pair) (fits : List Bool) → fits ≡ map (has_room pairs) (treated list) →
+    length fits ≡ length (treated list)
 marks_len list pairs fits marks = ap length marks ∙ length-map (treated list) (has_room pairs)
 
 -- what is known once the fates are settled
@@ -109,13 +122,24 @@ pub record Run (list : List Entry) (pairs : List Pair) (made items : List Item) 
   pub len : length outs ≡ length items
   pub fail : ParentsFail order.TopDown items outs
 
-module _ (list : List Entry) (pairs : List Pair) (made items : List Item) (fits : List Bool) (outs : List Fate) (r : Run list pairs made items fits outs)
-    (even : any_odd fits (treated list) outs ≡ false) where
+pub all_run : (list : List Entry) (pairs : List Pair) (made items : List Item) (fits marks : List Bool) (outs : List Fate) → Made list pairs made items →
+    fits ≡ marks → marks ≡ map (has_room pairs) (treated list) → length outs ≡ length items → ParentsFail order.TopDown items outs →
+    Run list pairs made items fits outs
+all_run list pairs made items fits marks outs given same are len fail = record { given = given; marks = same ∙ are; len = len; fail = fail }
+
+module _ {R S : Type 0} (asks : Asks R) (gives : Writes S) (list : List Entry) (pairs : List Pair) (made items : List Item) (fits : List Bool)
+    (outs : List Fate) (r : Run list pairs made items fits outs) (may : AllMayCopy asks gives items outs) where
   by_marks : items_by pairs fits (treated list) ≡ items_of pairs list
   by_marks = ap (λ m. items_by pairs m (treated list)) r.marks ∙ items_are pairs (treated list)
 
   same_items : items ≡ items_by pairs fits (treated list)
   same_items = r.given.same ∙ r.given.are ∙ sym by_marks
+
+  may_come : AllMayCopy asks gives (items_by pairs fits (treated list)) outs
+  may_come = subst (λ xs. AllMayCopy asks gives xs outs) same_items may
+
+  even : any_odd fits (treated list) outs ≡ false
+  even = all_even asks gives pairs fits (treated list) outs (r.len ∙ ap length same_items) may_come
 
   come : AllByRecursion (λ (one : Row). Comes pairs (rows_by fits (treated list) outs) (items_by pairs fits (treated list)) outs one.0 one.1.1)
       (zip (treated list) (rows_by fits (treated list) outs))
@@ -130,7 +154,14 @@ module _ (list : List Entry) (pairs : List Pair) (made items : List Item) (fits 
   early = are_early pairs (rows_by fits (treated list) outs) (items_by pairs fits (treated list)) outs
       (zip (treated list) (rows_by fits (treated list) outs)) come
 
-  pub told : (t t' : Option Files) → IfSome t (FitsTree list pairs) → IfSome t (λ before. IfSome t' (Acted (CopyOne before) order.TopDown items outs before)) →
+  pub causes : {G : Type 0} (own : Writes G) (area : G → Area) (count : G → ℕ) →
+      HaveCauses asks gives own area count list pairs (rows_by fits (treated list) outs)
+  causes own area count = all_shown asks gives pairs own area count (rows_by fits (treated list) outs) (items_by pairs fits (treated list)) outs
+      (λ k x at. items_have_stats pairs list k x (ap (λ xs. slice_get xs k) (sym by_marks) ∙ at)) may_come
+      (zip (treated list) (rows_by fits (treated list) outs)) come
+
+  pub told : (t t' : Option Files) → IfSome t (FitsTree list pairs) →
+      IfSome t (λ before. IfSome t' (Acted (CopyOne before) order.TopDown items outs before)) →
       IfSome t (λ before. IfSome t' (Copied list pairs (rows_by fits (treated list) outs) before))
   told None t' f h = tt
   told (Some before) None f h = tt
@@ -140,13 +171,20 @@ module _ (list : List Entry) (pairs : List Pair) (made items : List Item) (fits 
 
 -- the numbers
 
-count_rows : (p : Fate → Bool) (ks : List (List ℕ)) (fates : List Fate) → length fates ≡ length ks → count_by p fates ≡ count_by (λ row. p row.1) (zip ks fates)
+count_rows : (p : Fate → Bool) (ks : List (List ℕ)) (fates : List Fate) → length fates ≡ length ks →
+    count_by p fates ≡ count_by (λ row. p row.1) (zip ks fates)
 count_rows p [] [] len = refl
 count_rows p [] (f ∷ fates) len = absurd (omega (arith, len))
 count_rows p (q ∷ ks) [] len = absurd (omega (arith, len))
 count_rows p (q ∷ ks) (f ∷ fates) len =
     let rest = count_rows p ks fates (omega (arith, len)) in
-    omega (arith, rest, sum_by-cons (λ (x : Fate). cond (p x) 1 0) f fates, sum_by-cons (λ (row : List ℕ × Fate). cond (p row.1) 1 0) (q, f) (zip ks fates))
+    omega (
+      arith,
+      rest,
+      sum_by-cons (λ (x : Fate). cond (p x) 1 0) f fates,
+      sum_by-cons (λ (row : List ℕ × Fate). cond (p row.1) 1 0) (q, f)
+          (zip ks fates),
+    )
 
 bytes_rows : (es : List Entry) (fates : List Fate) → length fates ≡ length es →
     bytes_of es fates ≡ sum_by (λ (one : Row). cond (is_done one.1.1) (bytes_by one.0.stat) 0) (zip es (zip (paths es) fates))
@@ -210,7 +248,8 @@ module _ (list : List Entry) (fits : List Bool) (outs : List Fate) (len : length
   pub all_bytes : bytes_of (treated list) (fates_of fits (treated list) outs) ≡ bytes_copied list (rows_by fits (treated list) outs)
   all_bytes = bytes_rows (treated list) (fates_of fits (treated list) outs) (fates_len fits (treated list) outs len)
 
-  pub rose : (old new : ℕ) → RoseBy (count_by is_failed outs) old new → RoseBy (count_by (λ row. is_failed row.1) (rows_by fits (treated list) outs)) old new
+  pub rose : (old new : ℕ) → RoseBy (count_by is_failed outs) old new →
+      RoseBy (count_by (λ row. is_failed row.1) (rows_by fits (treated list) outs)) old new
   rose old new r =
       let fewer = failed_fewer fits (treated list) outs in
       let same = count_rows is_failed (paths (treated list)) (fates_of fits (treated list) outs) fates_count in

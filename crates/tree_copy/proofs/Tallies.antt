@@ -13,7 +13,6 @@ use Rattle.std.proofs.Common.{
   true,
   false,
   cond,
-  ◌||◌,
   List,
   [],
   ◌∷◌,
@@ -47,7 +46,7 @@ use Rattle.flat_list.specs.Spelling.{paths}
 use Rattle.level_work.specs.declared.items.Fate.{Fate}
 use Rattle.level_work.specs.declared.items.Fate.TheVariants as fate
 use Rattle.tree_copy.specs.Copying.{is_done, treated}
-use Rattle.tree_copy.specs.PrivateSettling.{any_odd, bytes_of, fates_of, fitting, gain, is_odd, rest_of, settled}
+use Rattle.tree_copy.specs.PrivateSettling.{bytes_of, fates_of, fitting, gain, rest_of, settled}
 
 -- ---- the paths and the fates of rows
 
@@ -78,7 +77,6 @@ pub record Tallied (all : List Entry) (fits : List Bool) (outs : List Fate) (res
   pub fates_are : fates ++ fates_of marks rest left ≡ fates_of fits all outs
   pub marks_len : length marks ≡ length rest
   pub left_len : length left ≡ count_by (λ m. m) marks
-  pub even : any_odd marks rest left ≡ any_odd fits all outs
   pub copied_is : copied ≡ count_by is_done fates
   pub bytes_are : bytes + bytes_of rest (fates_of marks rest left) ≡ bytes_of all (fates_of fits all outs)
   pub few : copied ≤ length fates
@@ -119,9 +117,9 @@ few_more false c c' n n' e d l = omega (arith, e, d, l)
 module _ (all : List Entry) (fits : List Bool) (outs : List Fate) where
   pub passed_fit : (e : Entry) (f g : Fate) (rest : List Entry) (marks : List Bool) (left : List Fate) (told told' : List (List ℕ))
       (fates fates' : List Fate) (copied copied' bytes bytes' : ℕ) →
-      Tallied all fits outs (e ∷ rest) (true ∷ marks) (g ∷ left) told fates copied bytes → f ≡ settled e g → is_odd e g ≡ false →
+      Tallied all fits outs (e ∷ rest) (true ∷ marks) (g ∷ left) told fates copied bytes → f ≡ settled e g →
       IsNoted e f told fates copied bytes told' fates' copied' bytes' → Tallied all fits outs rest marks left told' fates' copied' bytes'
-  passed_fit e f g rest marks left told told' fates fates' copied copied' bytes bytes' t is odd n =
+  passed_fit e f g rest marks left told told' fates fates' copied copied' bytes bytes' t is n =
       let len : length fates' ≡ length fates + 1 = ap length n.fates_is ∙ length-append fates (f ∷ []) in
       record {
         paths_are = ap (λ r. r ++ paths rest) n.told_is ∙ append_assoc told (e.path ∷ []) (paths rest) ∙ t.paths_are;
@@ -129,7 +127,6 @@ module _ (all : List Entry) (fits : List Bool) (outs : List Fate) where
             ∙ ap (λ h. fates ++ h ∷ fates_of marks rest left) is ∙ t.fates_are;
         marks_len = let l = t.marks_len in omega (arith, l);
         left_len = let l = t.left_len in omega (arith, l, sum_by-cons (λ (m : Bool). cond m 1 0) true marks);
-        even = sym (ap (λ b. b || any_odd marks rest left) odd) ∙ t.even;
         copied_is = n.copied_is ∙ ap (λ c. cond (is_done f) (c + 1) c) t.copied_is ∙ sym (count_more is_done fates f) ∙ ap (count_by is_done) (sym n.fates_is);
         bytes_are =
             let b = t.bytes_are in
@@ -151,7 +148,6 @@ module _ (all : List Entry) (fits : List Bool) (outs : List Fate) where
             ∙ ap (λ h. fates ++ h ∷ fates_of marks rest left) is ∙ t.fates_are;
         marks_len = let l = t.marks_len in omega (arith, l);
         left_len = let l = t.left_len in omega (arith, l, sum_by-cons (λ (m : Bool). cond m 1 0) false marks);
-        even = t.even;
         copied_is = n.copied_is ∙ ap (λ c. cond (is_done f) (c + 1) c) t.copied_is ∙ sym (count_more is_done fates f) ∙ ap (count_by is_done) (sym n.fates_is);
         bytes_are =
             let b = t.bytes_are in
@@ -196,7 +192,6 @@ goes_on xs k n e l = omega (arith, e, l, length-drop k xs)
 -- what the fate of an entry is known by
 pub record IsFate (e : Entry) (outs : List Fate) (place : ℕ) (fit : Bool) (f : Fate) : Type 0 where
   pub fits : fit ≡ true → (g : Fate) → slice_get outs place ≡ Some g → f ≡ settled e g
-  pub even : fit ≡ true → (g : Fate) → slice_get outs place ≡ Some g → is_odd e g ≡ false
   pub long : fit ≡ false → f ≡ fate.TooLong
 
 module _ (all : List Entry) (fits : List Bool) (outs : List Fate) where
@@ -228,7 +223,7 @@ module _ (all : List Entry) (fits : List Bool) (outs : List Fate) where
       passed_fit all fits outs e f g.0 (treated rest) (drop at' fits) (drop place' outs) told told' fates fates' copied copied' bytes bytes'
       (subst (λ os. Tallied all fits outs (e ∷ treated rest) (true ∷ drop at' fits) os told fates copied bytes) (drop_at outs place g.0 g.1
       ∙ ap (λ m. g.0 ∷ drop m outs) (sym next)) u)
-      (known.fits refl g.0 g.1) (known.even refl g.0 g.1) n
+      (known.fits refl g.0 g.1) n
   passed rest now e at at' place place' false f told told' fates fates' copied copied' bytes bytes' is some has known next one n t =
       let marks = drop_at fits at false has ∙ ap (λ m. false ∷ drop m fits) (sym one) in
       let u : Tallied all fits outs (e ∷ treated rest) (false ∷ drop at' fits) (drop place' outs) told fates copied bytes =
@@ -249,7 +244,6 @@ fates_len (false ∷ marks) (e ∷ es) left l = let h = fates_len marks es left 
 pub record Ended (all : List Entry) (fits : List Bool) (outs : List Fate) (told : List (List ℕ)) (fates : List Fate) (copied bytes : ℕ) : Type 0 where
   pub paths_are : told ≡ paths all
   pub fates_are : fates ≡ fates_of fits all outs
-  pub even : any_odd fits all outs ≡ false
   pub copied_is : copied ≡ count_by is_done (fates_of fits all outs)
   pub bytes_are : bytes ≡ bytes_of all (fates_of fits all outs)
   pub len : length fates ≡ length told
@@ -268,7 +262,6 @@ ended all fits outs rest marks left told fates copied bytes len none t =
         record {
           paths_are = paths_are;
           fates_are = fates_are;
-          even = sym t.even;
           copied_is = t.copied_is ∙ ap (count_by is_done) fates_are;
           bytes_are = let b = t.bytes_are in omega (arith, b);
           len = ap length fates_are ∙ fates_len fits all outs len ∙ sym (ap length paths_are ∙ length-map all (λ (e : Entry). e.path));

@@ -1,4 +1,4 @@
--- What is so of targets, and when every entry is copied. Our own.
+-- Laws of targets, and when every entry is copied. Our own.
 use Rattle.std.specs.Prelude.{◌≡◌, ℕ, ◌<◌, ◌≤◌, Bool, true, false, List, length, map, None, Ok, All}
 use Rattle.std.specs.FinMap.{get}
 use Rattle.std.specs.List.{list_any, count_by}
@@ -16,7 +16,7 @@ use Rattle.tree_copy.specs.Copying.{CanCopy, Copied, clashes, ends_of, is_target
 use Rattle.tree_copy.specs.Placing.{IsPair, overlap, placed}
 use Rattle.tree_copy.specs.declared.pairs.Pair.{Pair}
 
--- no target is `/`, which is the only path of one byte: neither of paths that stand apart, nor of those that were placed
+-- no target is `/`, which is the only path of one byte: neither of pairs that are apart, nor of those that were placed
 pub record TargetsAreLong : Type 0 where
   pub of_apart : (pairs : List Pair) → overlap (ends_of pairs) ≡ false → All IsPair pairs → All (λ pair. 1 < length pair.target) pairs
   pub of_placed : (in_dir over_dir : Bool) (dest : List ℕ) (sources : List (List ℕ)) (pairs : List Pair) → refusal dest ≡ None →
@@ -26,7 +26,7 @@ pub record TargetsAreLong : Type 0 where
 abbrev pub is_in_source : List Pair → List ℕ → Bool
 is_in_source pairs path = list_any (λ pair. is_within path pair.source) pairs
 
--- where pairs stand apart, no path of a source is a target, and no two of them have one target
+-- if pairs are apart, no path of a source is a target, and no two of them have one target
 pub record TargetsAreApart : Type 0 where
   pub off_sources : (list : List Entry) (pairs : List Pair) (path : List ℕ) → CanCopy list pairs → All IsPair pairs →
       All (λ e. refusal e.path ≡ None) list → is_in_source pairs path ≡ true → is_target pairs list path ≡ false
@@ -34,13 +34,13 @@ pub record TargetsAreApart : Type 0 where
       refusal other ≡ None → is_in_source pairs path ≡ true → is_in_source pairs other ≡ true →
       target_of pairs path ≡ target_of pairs other → path ≡ other
 
--- an entry that can be copied: no other, whose target is not too long, and where nothing of another kind stands
+-- an entry that can be copied: its kind is not `Other`, its target is not too long, and no node of another kind is there
 pub record IsFineEntry (files : Files) (pairs : List Pair) (e : Entry) : Type 0 where
   pub kind : is_of kind.Other e.stat ≡ false
   pub short : length (target_of pairs e.path) ≤ 4095
   pub free : clashes e.stat (get files (target_of pairs e.path)) ≡ false
 
--- where no copy failed, every entry that can be copied comes to `Done`, if all of them can, and the text of each link is known
+-- if no copy failed, every entry comes to `Done`, provided that all can be copied and the text of each link is known
 abbrev pub FineEntriesAreCopied : Type 0
 FineEntriesAreCopied =
     (list : List Entry) (pairs : List Pair) (rows : List (List ℕ × Fate)) (before after : Files) →

@@ -1,3 +1,4 @@
+pub mod Causes
 pub mod Copying
 pub mod Laws
 pub mod Looking

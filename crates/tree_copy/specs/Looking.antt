@@ -13,7 +13,7 @@ pub record LookFailed {S : Type 0} (gives : Asks S) (path : List ℕ) (old new :
   pub counted : RoseBy 1 old new
   pub asked : StatMeans gives path dir_told None before after
 
--- why a look told nothing
+-- why a look failed
 abbrev pub LookStopped : {S : Type 0} → Asks S → List ℕ → ℕ → ℕ → S → S → PlaceError → Type 0
 LookStopped gives path old new before after (place.Failed at) = (at ≡ path) × LookFailed gives path old new before after
 LookStopped gives path old new before after place.OutOfMemory = ⊤

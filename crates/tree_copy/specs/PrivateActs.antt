@@ -1,22 +1,27 @@
--- What the steps of a copy at one path answer and leave. Only the contracts of this crate's own parts cite it.
-use Rattle.std.specs.Prelude.{⊤, ◌≡◌, ◌≢◌, ◌⊎◌, ℕ, ◌<◌, Bool, true, false, List, length, if◌then◌else◌, Option}
-use Rattle.std.specs.Prelude.{Some, None, is_some, IfOk, IfSome, Result, Ok}
+-- The answers of the steps of a copy at one path, and the nodes that they leave. Only the contracts of this crate's own parts cite
+-- it.
+use Rattle.std.specs.Prelude.{⊤, ◌≡◌, ◌≢◌, ◌⊎◌, ◌||◌, ℕ, ◌<◌, Bool, true, false, List, length, if◌then◌else◌, Option}
+use Rattle.std.specs.Prelude.{Some, None, is_none, is_some, IfOk, IfSome, Result, Ok, slice_get}
 use Rattle.std.specs.FinMap.{get}
 use Rattle.path_text.specs.declared.errors.OutOfMemory.{OutOfMemory}
+use Rattle.outside.specs.Asked.{Asks, Write, Writes}
 use Rattle.outside.specs.Tree.{Files, Node, is_dir, content}
 use Rattle.outside.specs.Writes.{SameBut, new_file}
 use Rattle.outside.specs.declared.plots.WriteError.{WriteError}
 use Rattle.outside.specs.declared.plots.WriteError.TheVariants as write
 use Rattle.outside.specs.declared.trees.Kind.{Kind}
+use Rattle.outside.specs.declared.trees.Kind.TheVariants as kind
 use Rattle.outside.specs.declared.trees.Stat.{Stat}
 use Rattle.flat_list.specs.declared.entries.Entry.{Entry}
-use Rattle.flat_list.specs.Entries.{is_kind}
+use Rattle.flat_list.specs.Entries.{is_kind, is_of}
 use Rattle.level_work.specs.Acts.{Deed, IsDone}
+use Rattle.level_work.specs.declared.items.Item.{Item}
 use Rattle.level_work.specs.declared.items.Fate.{Fate}
 use Rattle.level_work.specs.declared.items.Fate.TheVariants as fate
+use Rattle.tree_copy.specs.Causes.{EndsAt, LookMeans, ReadMeans, RefusalMeans, Shows, ShowsWhy, WasWritten}
 use Rattle.tree_copy.specs.PrivateDeeds.{Differ, Holds, MakeDir, is_link}
 
--- a deed by the tree that a reader tells; where it tells none, nothing is said
+-- a deed by the tree that a reader shows; if it shows none, nothing is said
 abbrev pub ByReader : (Files → Deed) → Option Files → Deed
 ByReader deed told path entry f before after = IfSome told (λ seen. deed seen path entry f before after)
 
@@ -47,12 +52,12 @@ told_fate write.OutOfMemory = fate.Changed
 abbrev pub TellsFate : WriteError → Result Fate OutOfMemory → Type 0
 TellsFate refused result = IfOk result (λ f. (f ≡ told_fate refused) × (refused ≢ write.OutOfMemory))
 
--- what a look at a path that is taken means, where a node of this kind is wanted: it is there, another one is in the way, or none is there
+-- the fate that a look at a taken path means, if a node of this kind is needed
 abbrev pub look_fate : Kind → Option Stat → Fate
 look_fate wanted None = fate.Changed
 look_fate wanted (Some stat) = if is_kind wanted stat.kind then fate.Done else fate.Conflict
 
--- what stood at the path is gone, and this node is there
+-- the old node at the path is gone, and this node is there
 abbrev pub MadeAnew : Node → List ℕ → Fate → Files → Files → Type 0
 MadeAnew node path fate.Done before after = get after path ≡ Some node
 MadeAnew node path fate.Changed before after = is_dir (get before path) ≡ true
@@ -85,7 +90,7 @@ pub record IsPlaced (node : Node) (is_old : Option Node → Bool) (told : Option
   pub answers : IfOk result (λ f. IfSome told (λ seen. Placed node is_old seen path f before after))
   pub there : result ≡ Ok fate.Done → get after path ≡ Some node
 
--- a look told whether something is in the way of a link that is not made
+-- a look showed whether a node is in the way of a link that is not made
 abbrev pub Spared : Files → List ℕ → Fate → Type 0
 Spared seen path fate.Conflict = (is_some (get seen path) ≡ true) × (is_link (get seen path) ≡ false)
 Spared seen path fate.Changed = (get seen path ≡ None) ⊎ (is_link (get seen path) ≡ true)
@@ -115,3 +120,31 @@ pub record HasFile (path : List ℕ) (size : ℕ) (now : Files) : Type 0 where
   pub bytes : List ℕ
   pub has : get now path ≡ Some (new_file bytes)
   pub len : length bytes ≡ size
+
+-- the answers if a node was made in place of none or of an old one
+abbrev pub ShowsPlaced : {R S : Type 0} → Asks R → Writes S → List ℕ → Entry → Kind → Write → Fate → Type 0
+ShowsPlaced asks gives target e k make f =
+    ((f ≡ fate.Done) × WasWritten gives target make) ⊎ ((f ≢ fate.Done) × ShowsWhy asks gives target e k f)
+
+-- the answers if a node was made in place of an old one
+abbrev pub ShowsReplaced : {S : Type 0} → Writes S → List ℕ → Write → Fate → Type 0
+ShowsReplaced gives target make f = ((f ≡ fate.Done) × WasWritten gives target make) ⊎ RefusalMeans gives target f
+
+-- the answers if a file that was made was filled
+abbrev pub ShowsFilled : {R S : Type 0} → Asks R → Writes S → (source target : List ℕ) → ℕ → Fate → Type 0
+ShowsFilled asks gives source target size f = ((f ≡ fate.Done) × EndsAt gives target size) ⊎ (ReadMeans asks source f ⊎ RefusalMeans gives target f)
+
+-- the answers if a link is not made
+abbrev pub ShowsSpared : {R : Type 0} → Asks R → List ℕ → Fate → Type 0
+ShowsSpared asks target f =
+    ((f ≢ fate.Done) × LookMeans asks target kind.Link f) ⊎ ((f ≡ fate.Changed) × LookMeans asks target kind.Link fate.Done)
+
+-- the fates that may come to an entry: a node of the kind `Other` is skipped, and all others have evidence of their fate
+abbrev pub MayCopy : {R S : Type 0} → Asks R → Writes S → List ℕ → Entry → Fate → Type 0
+MayCopy asks gives target e f =
+    (((is_none e.stat || is_of kind.Other e.stat) ≡ true) × (f ≡ fate.Skipped)) ⊎ Shows asks gives target e f e.stat
+
+-- the same of all items whose parent did not fail
+abbrev pub AllMayCopy : {R S : Type 0} → Asks R → Writes S → List Item → List Fate → Type 0
+AllMayCopy asks gives items fates =
+    (k : ℕ) (x : Item) (f : Fate) → slice_get items k ≡ Some x → slice_get fates k ≡ Some f → f ≢ fate.ParentFailed → MayCopy asks gives x.path x.entry f

@@ -1,4 +1,4 @@
--- What a copy does at one target. Only the contracts of this crate's own parts cite it.
+-- The deeds of a copy at one target. Only the contracts of this crate's own parts cite it.
 use Rattle.std.specs.Prelude.{⊤, ◌≡◌, ◌⊎◌, ℕ, ◌<◌, ◌≤◌, Bool, true, false, List, length, take, Option, Some, None, is_some}
 use Rattle.std.specs.FinMap.{get, insert}
 use Rattle.outside.specs.Tree.{Files, Node, is_dir, is_file, content, link_at}
@@ -10,7 +10,7 @@ use Rattle.flat_list.specs.Entries.{size_by}
 use Rattle.level_work.specs.Acts.{Deed}
 use Rattle.level_work.specs.declared.items.Fate.TheVariants as fate
 
--- A directory is made, or the one that is there is kept. `seen` is the tree that the actor's reader tells
+-- A directory is made, or the one that is there is kept. `seen` is the tree that the actor's reader shows
 abbrev pub MakeDir : Files → Deed
 MakeDir seen path entry fate.Done before after =
     ((get before path ≡ None) × (after ≡ insert before path empty_dir))
@@ -24,7 +24,7 @@ MakeDir seen path entry fate.Skipped before after = ⊥
 MakeDir seen path entry fate.ParentFailed before after = ⊥
 MakeDir seen path entry fate.TooLong before after = ⊥
 
--- so many bytes from the front of the source stand in the file at the path
+-- so many bytes from the front of the source are in the file at the path
 pub record Holds (seen : Files) (source path : List ℕ) (size : ℕ) (now : Files) : Type 0 where
   pub inside : size ≤ length (content (get seen source))
   pub has : get now path ≡ Some (new_file (take size (content (get seen source))))
@@ -32,13 +32,13 @@ pub record Holds (seen : Files) (source path : List ℕ) (size : ℕ) (now : Fil
 abbrev pub is_link : Option Node → Bool
 is_link node = is_some (link_at node)
 
--- what the reader and the part tell of the path contradicts each other: for the one a node is there, and for the other none; or for
--- the one a directory, and for the other what is to be made anew
+-- The reader and the part contradict each other about the path. A node is there for the one, and none for the other. Or a directory
+-- is there for the one, and for the other a node that is to be made anew
 abbrev pub Differ : (Option Node → Bool) → Files → List ℕ → Files → Type 0
 Differ is_old seen path before =
     (is_some (get before path) ≡ true) × ((get seen path ≡ None) ⊎ ((is_dir (get before path) ≡ true) × (is_old (get seen path) ≡ true)))
 
--- a file is made anew, with as many bytes of the source as the entry tells
+-- a file is made anew, with the bytes of the source up to the entry's size
 abbrev pub MakeFile : Files → Deed
 MakeFile seen path entry fate.Done before after =
     ((get before path ≡ None) ⊎ (is_file (get seen path) ≡ true)) × Holds seen entry.path path (size_by entry.stat) after
@@ -64,7 +64,7 @@ MakeLink text seen path entry fate.Skipped before after = ⊥
 MakeLink text seen path entry fate.ParentFailed before after = ⊥
 MakeLink text seen path entry fate.TooLong before after = ⊥
 
--- a link whose text is not known is not made. What is of another kind is in its way
+-- a link whose text is not known is not made. A node of another kind is in its way
 abbrev pub LeaveLink : Files → Deed
 LeaveLink seen path entry fate.Conflict before after = (is_some (get seen path) ≡ true) × (is_link (get seen path) ≡ false) × (after ≡ before)
 LeaveLink seen path entry fate.Changed before after = ((get seen path ≡ None) ⊎ (is_link (get seen path) ≡ true)) × (after ≡ before)
@@ -82,7 +82,7 @@ LinkBy (Some text) seen = MakeLink text seen
 abbrev pub CopyLink : Files → Deed
 CopyLink seen path entry f before after = LinkBy entry.target seen path entry f before after
 
--- what is no directory, file or link is not copied
+-- a node that is not a directory, file or link is not copied
 abbrev pub PassOver : Deed
 PassOver path entry fate.Skipped before after = after ≡ before
 PassOver path entry fate.Done before after = ⊥
@@ -103,6 +103,6 @@ abbrev pub CopyTold : Option Stat → Files → Deed
 CopyTold None seen = PassOver
 CopyTold (Some stat) seen = CopyKind stat.kind seen
 
--- what an entry tells is made anew at the path
+-- the entry's node is made anew at the path
 abbrev pub CopyOne : Files → Deed
 CopyOne seen path entry f before after = CopyTold entry.stat seen path entry f before after

@@ -1,4 +1,5 @@
--- How entries become items of work at their targets, and fates of items those of entries. Only the contracts of this crate's own parts cite it.
+-- Entries become items of work at their targets, and fates of items become those of entries. Only the contracts of this crate's own
+-- parts cite it.
 use Rattle.std.specs.Prelude.{ℕ, ◌+◌, Bool, true, false, ◌&&◌, ◌||◌, List, [], ◌∷◌, length, map, if◌then◌else◌, nat_le}
 use Rattle.std.specs.List.{filter}
 use Rattle.outside.specs.declared.trees.Kind.TheVariants as kind
@@ -25,11 +26,11 @@ placed_of pairs list = filter (has_room pairs) (treated list)
 abbrev pub items_of : List Pair → List Entry → List Item
 items_of pairs list = map (item_of pairs) (placed_of pairs list)
 
--- what is no directory, file or link is not copied
+-- a node that is not a directory, file or link is not copied
 abbrev pub is_other : Entry → Bool
 is_other e = is_of kind.Other e.stat
 
--- the fate of an entry by that of its item: an other is passed over, and fates that no copy has mean that something changed
+-- the fate of an entry by that of its item. An other node is skipped, and fates that no copy has become `Changed`
 abbrev pub settled_by : Bool → Fate → Fate
 settled_by false fate.Done = fate.Done
 settled_by false fate.Failed = fate.Failed
@@ -51,11 +52,11 @@ settled_by true fate.TooLong = fate.Skipped
 abbrev pub settled : Entry → Fate → Fate
 settled e f = settled_by (is_other e) f
 
--- an other, or a link whose text is not known, that is said to be copied, which no copy says
+-- an other node, or a link whose text is not known, with the fate `Done`, which no copy gives
 abbrev pub is_odd : Entry → Fate → Bool
 is_odd e f = is_done f && (is_other e || is_untold e)
 
--- the first fate, and where none is left one that is never read
+-- the first fate, and if none is left, one that is never read
 abbrev pub first_of : List Fate → Fate
 first_of [] = fate.Skipped
 first_of (f ∷ fates) = f

@@ -13,8 +13,7 @@ use std::alloc::Global;
 // How many bytes of a file are read at once.
 const PIECE: usize = 65536;
 
-// Copies what an entry tells to a path: a directory is made, a file with the bytes that its reader reads, and a link with the text
-// that the entry tells.
+// Copies an entry to a path. It makes a directory, a file with the bytes that its reader reads, or a link with the entry's text.
 #[derive(Drop)]
 pub(crate) struct Copier<R> {
     pub(crate) reader: R,
@@ -44,6 +43,7 @@ impl<R: Drop> Copier<R> {
 impl<P: Plot, R: Tree> Act<P> for Copier<R> {
     ghost use Rattle.std.specs.Prelude.{Option, IfSome};
     ghost use Rattle.outside.specs.Tree.{Files};
+    ghost use Rattle.tree_copy.specs.PrivateActs.{MayCopy};
     ghost use Rattle.tree_copy.specs.PrivateDeeds.{CopyOne};
 
     ghost Plain = { Option Files };
@@ -53,6 +53,12 @@ impl<P: Plot, R: Tree> Act<P> for Copier<R> {
     ghost count = { λ a. R.count a.reader };
 
     ghost deed = { λ t path entry f before after. IfSome t (λ seen. CopyOne seen path entry f before after) };
+
+    ghost Who = { Unit {0} };
+
+    ghost who = { λ _. tt };
+
+    ghost may_come = { λ _. MayCopy R.gives P.gives };
 
     fn faults(&self) -> u64 {
         self.reader.faults()

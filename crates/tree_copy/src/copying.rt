@@ -5,6 +5,7 @@ ghost use Rattle.outside.specs.Count.{RoseBy};
 ghost use Rattle.outside.specs.Writes.{nothing_lent};
 ghost use Rattle.flat_list.specs.Spelling.{paths};
 ghost use Rattle.level_work.specs.Counts.{is_failed};
+ghost use Rattle.tree_copy.specs.Causes.{HaveCauses};
 ghost use Rattle.tree_copy.specs.Copying.{AreEarly, CanCopy, Copied, FitsTree, SameButTargets, bytes_copied, is_done, treated};
 
 use crate::pairs::Pair;
@@ -18,7 +19,8 @@ use path_text::OutOfMemory;
 use std::alloc::Global;
 use std::thread::Threads;
 
-/// Copies each entry that has a stat to its target.
+/// Copies each entry that has a stat to its target, by parts of the ground. The clause `causes` also names a file that the ground
+/// itself lends in spans, so that `copy_wide` of `range_copy` has the same clause. A `Ground` alone can't lend one.
 pub fn copy<R: Threads + Sync, G: Ground>(
     rt: &R,
     alloc: Global,
@@ -42,13 +44,14 @@ where
     ensures copied { IfOk result (λ report. report.1 ≡ count_by (λ row. is_done row.1) report.0) }
     ensures bytes { IfOk result (λ report. report.2 ≡ bytes_copied list.now report.0) }
     ensures blamed { IfOk result (λ report. RoseBy (count_by (λ row. is_failed row.1) report.0) (G.count ground.old) (G.count ground.new)) }
+    ensures causes { IfOk result (λ report. HaveCauses G.Reader.gives G.Part.gives G.gives G.area G.count list.now pairs.now report.0) }
     ensures rest { IfSome (G.tree ground.old) (λ before. IfSome (G.tree ground.new) (SameButTargets pairs.now list.now before)) }
     ensures tells { is_some (G.tree ground.new) ≡ is_some (G.tree ground.old) }
     ensures lent { G.area ground.new ≡ nothing_lent }
     ensures count { RoseBy 0 (G.count ground.old) (G.count ground.new) }
 {
     nodes_are_under_directories();
-    // The call tells that the nodes are a tree.
+    // The call shows that the nodes are a tree.
     let _faults = ground.faults();
     let Placed { items, fits } = place_all(alloc, list, pairs)?;
     let outcome = work(rt, alloc, &items, ground, ranks, hosts)?;

@@ -1,13 +1,16 @@
-//! A file is made anew, and filled with the bytes of its source.
+//! Makes a file anew and fills it with the bytes of its source.
 ghost use Rattle.std.specs.Prelude.{◌≡◌, ◌≢◌, ◌⊎◌, ◌≤◌, ◌<◌, [], Some, true, length, IsTrue, IfOk, IfSome, is_some};
 ghost use Rattle.std.specs.FinMap.{get};
 ghost use Rattle.outside.specs.Count.{RoseBy};
 ghost use Rattle.outside.specs.Tree.{is_file};
 ghost use Rattle.outside.specs.Writes.{is_top, is_open, new_file, SameBut};
+ghost use Rattle.outside.specs.Asked as asked;
+ghost use Rattle.flat_list.specs.declared.entries.Entry.{Entry};
 ghost use Rattle.flat_list.specs.Entries.{size_by};
 ghost use Rattle.level_work.specs.Acts.{IsDone};
+ghost use Rattle.tree_copy.specs.Causes.{ShowsFate, WasWritten};
 ghost use Rattle.tree_copy.specs.Copying.{is_done};
-ghost use Rattle.tree_copy.specs.PrivateActs.{ByReader, IsFilled, IsPlaced, IsReplaced};
+ghost use Rattle.tree_copy.specs.PrivateActs.{ByReader, IsFilled, IsPlaced, IsReplaced, ShowsFilled, ShowsPlaced, ShowsReplaced};
 ghost use Rattle.tree_copy.specs.PrivateDeeds.{MakeFile};
 
 use crate::making::{fate_of, is_taken, look};
@@ -17,7 +20,7 @@ use outside::{Kind, Plot, ReadError, Tree};
 use path_text::{OutOfMemory, Path};
 use std::alloc::Global;
 
-// Makes a file anew at the path, with as many bytes of the entry's path as the entry tells.
+// Makes a file anew at the path, with the bytes of the entry's path up to the entry's size.
 pub(crate) fn file_made<P: Plot, R: Tree>(
     alloc: Global,
     reader: &mut R,
@@ -38,6 +41,7 @@ pub(crate) fn file_made<P: Plot, R: Tree>(
     ensures count { RoseBy 0 (P.count part.old) (P.count part.new) }
     ensures reader_count { RoseBy 0 (R.count reader.old) (R.count reader.new) }
     ensures cause { IfOk result (λ fate. fate ≡ Fate.Failed → (RoseBy 1 (P.count part.old) (P.count part.new)) ⊎ (RoseBy 1 (R.count reader.old) (R.count reader.new))) }
+    ensures shown { IfOk result (ShowsFate R.gives P.gives path.now entry.now Kind.File) }
 {
     let size = size_of(entry);
     let fate = placed(alloc, reader, buffer, part, &entry.path, path)?;
@@ -48,7 +52,7 @@ pub(crate) fn file_made<P: Plot, R: Tree>(
     }
 }
 
-// How many bytes the entry tells.
+// The entry's size.
 fn size_of(entry: &Entry) -> u64
     ensures { result ≡ size_by entry.now.stat }
 {
@@ -64,7 +68,7 @@ fn is_done(fate: Fate) -> bool
     fate == Fate::Done
 }
 
-// Makes an empty file at the path, in place of none or of a file. What is there is looked at before it is removed.
+// Makes an empty file at the path, in place of none or of a file. It looks at the old node before it removes it.
 fn placed<P: Plot, R: Tree>(
     alloc: Global,
     reader: &mut R,
@@ -85,6 +89,7 @@ fn placed<P: Plot, R: Tree>(
     ensures count { RoseBy 0 (P.count part.old) (P.count part.new) }
     ensures reader_count { RoseBy 0 (R.count reader.old) (R.count reader.new) }
     ensures cause { IfOk result (λ fate. fate ≡ Fate.Failed → (RoseBy 1 (P.count part.old) (P.count part.new)) ⊎ (RoseBy 1 (R.count reader.old) (R.count reader.new))) }
+    ensures shown { (e : Entry) → e.path ≡ source.now → IfOk result (ShowsPlaced R.gives P.gives path.now e Kind.File asked.make_file) }
 {
     match part.make_file(alloc, path) {
         Ok(()) => Ok(Fate::Done),
@@ -98,8 +103,8 @@ fn placed<P: Plot, R: Tree>(
     }
 }
 
-// Makes an empty file at a path that is taken, in place of a file. The source is read from before that is removed: on a disk it may
-// be the same file by another name, whose bytes then stay with the reader that has it open.
+// Makes an empty file at a path that is taken, in place of a file. It reads from the source before it removes that file. On a disk
+// the two may be the same file by another name, whose bytes then stay with the reader that has it open.
 fn placed_over<P: Plot, R: Tree>(
     alloc: Global,
     reader: &mut R,
@@ -121,6 +126,7 @@ fn placed_over<P: Plot, R: Tree>(
     ensures count { RoseBy 0 (P.count part.old) (P.count part.new) }
     ensures reader_count { RoseBy 0 (R.count reader.old) (R.count reader.new) }
     ensures cause { IfOk result (λ fate. fate ≡ Fate.Failed → (RoseBy 1 (P.count part.old) (P.count part.new)) ⊎ (RoseBy 1 (R.count reader.old) (R.count reader.new))) }
+    ensures shown { (e : Entry) → e.path ≡ source.now → IfOk result (ShowsPlaced R.gives P.gives path.now e Kind.File asked.make_file) }
 {
     let seen = look(reader, path, Kind::File);
     if !is_done(seen) {
@@ -133,7 +139,7 @@ fn placed_over<P: Plot, R: Tree>(
     }
 }
 
-// Removes a file and makes an empty one in its place. Something stands there.
+// Removes a file and makes an empty one in its place. A node is there.
 fn replaced<P: Plot>(alloc: Global, part: &mut P, path: &Path) -> Result<Fate, OutOfMemory>
     requires top { IsTrue (is_top (P.area part.old) path.now) }
     requires open { IsTrue (is_open (P.area part.old) path.now) }
@@ -144,6 +150,7 @@ fn replaced<P: Plot>(alloc: Global, part: &mut P, path: &Path) -> Result<Fate, O
     ensures area { P.area part.new ≡ P.area part.old }
     ensures count { RoseBy 0 (P.count part.old) (P.count part.new) }
     ensures cause { IfOk result (λ fate. fate ≡ Fate.Failed → RoseBy 1 (P.count part.old) (P.count part.new)) }
+    ensures shown { IfOk result (ShowsReplaced P.gives path.now asked.make_file) }
 {
     match part.remove_file(alloc, path) {
         Ok(()) => {}
@@ -168,6 +175,7 @@ fn filled<P: Plot, R: Tree>(
     requires open { IsTrue (is_open (P.area part.old) path.now) }
     requires buffer { 0 < length buffer.old }
     requires empty { IfSome (P.tree part.old) (λ before. get before path.now ≡ Some (new_file [])) }
+    requires made { WasWritten P.gives path.now asked.make_file }
     ensures told { IfSome (R.tree reader.old) (λ seen. IfSome (P.tree part.new) (IsFilled seen source.now path.now size result)) }
     ensures others { IfSome (P.tree part.old) (λ before. IfSome (P.tree part.new) (SameBut path.now before)) }
     ensures named { IfOk result (λ fate. fate ≢ Fate.ParentFailed) }
@@ -178,6 +186,7 @@ fn filled<P: Plot, R: Tree>(
     ensures count { RoseBy 0 (P.count part.old) (P.count part.new) }
     ensures reader_count { RoseBy 0 (R.count reader.old) (R.count reader.new) }
     ensures cause { IfOk result (λ fate. fate ≡ Fate.Failed → (RoseBy 1 (P.count part.old) (P.count part.new)) ⊎ (RoseBy 1 (R.count reader.old) (R.count reader.new))) }
+    ensures shown { IfOk result (ShowsFilled R.gives P.gives source.now path.now size) }
 {
     let mut at = 0u64;
     while at < size {
@@ -199,7 +208,7 @@ fn filled<P: Plot, R: Tree>(
     Ok(Fate::Done)
 }
 
-// How many bytes to read next: what is left, or a whole buffer.
+// How many bytes to read next: all that are left, or a whole buffer.
 fn piece(left: u64, room: usize) -> usize
     requires left { 0 < left }
     requires room { 0 < room }

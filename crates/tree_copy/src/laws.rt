@@ -2,7 +2,7 @@
 ghost use Rattle.tree_copy.specs.Laws.{FineEntriesAreCopied, TargetsAreApart, TargetsAreLong};
 ghost use Rattle.tree_copy.specs.Placing.{PlacedAreApart};
 
-/// Of the pairs that [`place`](crate::place) answers no source or target is within another, and the targets are all in the
+/// Of the pairs that [`place`](crate::place) answers, no source or target is within another. The targets are all in the
 /// destination, or the only one is the destination.
 pub fn placed_are_apart()
     ensures { PlacedAreApart }
@@ -18,7 +18,7 @@ pub fn targets_are_apart()
     ensures { TargetsAreApart }
 {}
 
-/// Where nothing stands against the copy of any entry, and none failed, all of them come to `Done`.
+/// If nothing prevents the copy of any entry, and none failed, all of them come to `Done`.
 pub fn fine_entries_are_copied()
     ensures { FineEntriesAreCopied }
 {}

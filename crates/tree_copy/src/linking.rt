@@ -1,10 +1,13 @@
-//! A link is made anew, with the text that its entry tells.
+//! Makes a link anew, with the text of its entry.
 ghost use Rattle.std.specs.Prelude.{◌≡◌, ◌≢◌, ◌⊎◌, Some, true, IsTrue, IfOk, IfSome, is_some};
 ghost use Rattle.std.specs.FinMap.{get};
 ghost use Rattle.outside.specs.Count.{RoseBy};
 ghost use Rattle.outside.specs.Writes.{is_top, is_open, new_link};
+ghost use Rattle.outside.specs.Asked as asked;
+ghost use Rattle.flat_list.specs.declared.entries.Entry.{Entry};
 ghost use Rattle.level_work.specs.Acts.{IsDone};
-ghost use Rattle.tree_copy.specs.PrivateActs.{ByReader, IsPlaced, IsReplaced, Spared};
+ghost use Rattle.tree_copy.specs.Causes.{ShowsFate};
+ghost use Rattle.tree_copy.specs.PrivateActs.{ByReader, IsPlaced, IsReplaced, ShowsPlaced, ShowsReplaced, ShowsSpared, Spared};
 ghost use Rattle.tree_copy.specs.PrivateDeeds.{CopyLink, is_link};
 
 use crate::making::{fate_of, is_taken, look};
@@ -14,7 +17,7 @@ use outside::{Kind, LinkText, Plot, Tree};
 use path_text::{OutOfMemory, Path};
 use std::alloc::Global;
 
-// Makes a link anew at the path, with the text that the entry tells. Where it tells none, the reader alone looks at the path.
+// Makes a link anew at the path, with the text of the entry. If the entry has none, the reader alone looks at the path.
 pub(crate) fn link_made<P: Plot, R: Tree>(
     alloc: Global,
     reader: &mut R,
@@ -32,6 +35,7 @@ pub(crate) fn link_made<P: Plot, R: Tree>(
     ensures count { RoseBy 0 (P.count part.old) (P.count part.new) }
     ensures reader_count { RoseBy 0 (R.count reader.old) (R.count reader.new) }
     ensures cause { IfOk result (λ fate. fate ≡ Fate.Failed → (RoseBy 1 (P.count part.old) (P.count part.new)) ⊎ (RoseBy 1 (R.count reader.old) (R.count reader.new))) }
+    ensures shown { IfOk result (ShowsFate R.gives P.gives path.now entry.now Kind.Link) }
 {
     match &entry.target {
         Some(text) => placed(alloc, reader, part, path, text),
@@ -39,7 +43,7 @@ pub(crate) fn link_made<P: Plot, R: Tree>(
     }
 }
 
-// Makes a link with this text at the path, in place of none or of a link. What is there is looked at before it is removed.
+// Makes a link with this text at the path, in place of none or of a link. It looks at the old node before it removes it.
 fn placed<P: Plot, R: Tree>(
     alloc: Global,
     reader: &mut R,
@@ -57,6 +61,7 @@ fn placed<P: Plot, R: Tree>(
     ensures count { RoseBy 0 (P.count part.old) (P.count part.new) }
     ensures reader_count { RoseBy 0 (R.count reader.old) (R.count reader.new) }
     ensures cause { IfOk result (λ fate. fate ≡ Fate.Failed → (RoseBy 1 (P.count part.old) (P.count part.new)) ⊎ (RoseBy 1 (R.count reader.old) (R.count reader.new))) }
+    ensures shown { (e : Entry) → IfOk result (ShowsPlaced R.gives P.gives path.now e Kind.Link (asked.make_link text.now)) }
 {
     match part.make_link(alloc, path, text) {
         Ok(()) => Ok(Fate::Done),
@@ -90,6 +95,7 @@ fn placed_over<P: Plot, R: Tree>(
     ensures count { RoseBy 0 (P.count part.old) (P.count part.new) }
     ensures reader_count { RoseBy 0 (R.count reader.old) (R.count reader.new) }
     ensures cause { IfOk result (λ fate. fate ≡ Fate.Failed → (RoseBy 1 (P.count part.old) (P.count part.new)) ⊎ (RoseBy 1 (R.count reader.old) (R.count reader.new))) }
+    ensures shown { (e : Entry) → IfOk result (ShowsPlaced R.gives P.gives path.now e Kind.Link (asked.make_link text.now)) }
 {
     match look(reader, path, Kind::Link) {
         Fate::Done => replaced(alloc, part, path, text),
@@ -97,7 +103,7 @@ fn placed_over<P: Plot, R: Tree>(
     }
 }
 
-// Removes a link and makes one with this text in its place. Something stands there.
+// Removes a link and makes one with this text in its place. A node is there.
 fn replaced<P: Plot>(
     alloc: Global,
     part: &mut P,
@@ -113,6 +119,7 @@ fn replaced<P: Plot>(
     ensures area { P.area part.new ≡ P.area part.old }
     ensures count { RoseBy 0 (P.count part.old) (P.count part.new) }
     ensures cause { IfOk result (λ fate. fate ≡ Fate.Failed → RoseBy 1 (P.count part.old) (P.count part.new)) }
+    ensures shown { IfOk result (ShowsReplaced P.gives path.now (asked.make_link text.now)) }
 {
     match part.remove_file(alloc, path) {
         Ok(()) => {}
@@ -131,6 +138,7 @@ fn spared<R: Tree>(reader: &mut R, path: &Path) -> Fate
     ensures count { RoseBy 0 (R.count reader.old) (R.count reader.new) }
     ensures cause { result ≡ Fate.Failed → RoseBy 1 (R.count reader.old) (R.count reader.new) }
     ensures named { result ≢ Fate.ParentFailed }
+    ensures shown { ShowsSpared R.gives path.now result }
 {
     match look(reader, path, Kind::Link) {
         Fate::Done => Fate::Changed,

@@ -1,19 +1,21 @@
-//! A directory is made, or the one that is there is kept.
-ghost use Rattle.std.specs.Prelude.{◌≡◌, ◌≢◌, ◌⊎◌, IsTrue, IfOk, IfSome, is_some};
+//! Makes a directory, or keeps the one that is there.
+ghost use Rattle.std.specs.Prelude.{◌≡◌, ◌≢◌, ◌⊎◌, if◌then◌else◌, Some, IsTrue, IfOk, IfSome, is_some};
 ghost use Rattle.std.specs.FinMap.{get};
 ghost use Rattle.std.specs.Option.{option_map};
 ghost use Rattle.outside.specs.Count.{RoseBy};
 ghost use Rattle.outside.specs.Tree.{stat_of};
 ghost use Rattle.outside.specs.Writes.{is_top, is_open};
+ghost use Rattle.flat_list.specs.declared.entries.Entry.{Entry};
 ghost use Rattle.flat_list.specs.Entries.{is_kind};
+ghost use Rattle.tree_copy.specs.Causes.{LookMeans, ShowsFate, refusal_means};
 ghost use Rattle.tree_copy.specs.PrivateActs.{IsDirMade, TellsFate, is_taken, look_fate};
 
 use level_work::Fate;
-use outside::{Kind, Plot, Tree, WriteError};
+use outside::{Failed, Kind, Plot, Tree, WriteError};
 use path_text::{OutOfMemory, Path};
 use std::alloc::Global;
 
-// Makes a directory at the path. Only where something is there already does the reader look at it.
+// Makes a directory at the path. The reader looks at the path only if a node is there already.
 pub(crate) fn dir_made<P: Plot, R: Tree>(
     alloc: Global,
     reader: &mut R,
@@ -30,6 +32,7 @@ pub(crate) fn dir_made<P: Plot, R: Tree>(
     ensures count { RoseBy 0 (P.count part.old) (P.count part.new) }
     ensures reader_count { RoseBy 0 (R.count reader.old) (R.count reader.new) }
     ensures cause { IfOk result (λ fate. fate ≡ Fate.Failed → (RoseBy 1 (P.count part.old) (P.count part.new)) ⊎ (RoseBy 1 (R.count reader.old) (R.count reader.new))) }
+    ensures shown { (e : Entry) → IfOk result (ShowsFate R.gives P.gives path.now e Kind.Dir) }
 {
     match part.make_dir(alloc, path) {
         Ok(()) => Ok(Fate::Done),
@@ -43,21 +46,27 @@ pub(crate) fn dir_made<P: Plot, R: Tree>(
     }
 }
 
-// What a look at a path that is taken means, where a node of this kind is wanted: `Done` where one is there.
+// The fate that a look at a taken path means, if a node of this kind is needed: `Done` if one is there.
 pub(crate) fn look<R: Tree>(reader: &mut R, path: &Path, wanted: Kind) -> Fate
     ensures told { IfSome (R.tree reader.old) (λ seen. (result ≡ Fate.Failed) ⊎ (result ≡ look_fate wanted (option_map stat_of (get seen path.now)))) }
     ensures same { R.tree reader.new ≡ R.tree reader.old }
     ensures count { RoseBy 0 (R.count reader.old) (R.count reader.new) }
     ensures cause { result ≡ Fate.Failed → RoseBy 1 (R.count reader.old) (R.count reader.new) }
     ensures named { result ≢ Fate.ParentFailed }
+    ensures shown { LookMeans R.gives path.now wanted result }
 {
-    let Ok(answer) = reader.stat(path) else {
-        return Fate::Failed;
-    };
-    let Some(stat) = answer else {
-        return Fate::Changed;
-    };
-    if is_kind(wanted, stat.kind) {
+    match reader.stat(path) {
+        Err(Failed) => Fate::Failed,
+        Ok(None) => Fate::Changed,
+        Ok(Some(stat)) => found(wanted, stat.kind),
+    }
+}
+
+// The fate that a node of this kind means.
+fn found(wanted: Kind, kind: Kind) -> Fate
+    ensures { result ≡ (if is_kind wanted kind then Fate.Done else Fate.Conflict) }
+{
+    if is_kind(wanted, kind) {
         Fate::Done
     } else {
         Fate::Conflict
@@ -82,6 +91,7 @@ pub(crate) fn fate_of(refused: WriteError) -> Result<Fate, OutOfMemory>
     ensures told { TellsFate refused result }
     ensures named { IfOk result (λ fate. fate ≢ Fate.ParentFailed) }
     ensures cause { IfOk result (λ fate. fate ≡ Fate.Failed → refused ≡ WriteError.Failed) }
+    ensures means { IfOk result (λ fate. refusal_means refused ≡ Some fate) }
 {
     match refused {
         WriteError::OutOfMemory => Err(OutOfMemory),

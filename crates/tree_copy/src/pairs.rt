@@ -6,9 +6,9 @@ use thiserror::Error;
 /// A source, and the path to which it is copied.
 #[derive(Debug, Drop)]
 pub struct Pair {
-    /// What is copied.
+    /// The path that is copied.
     pub source: Path,
-    /// Where it goes.
+    /// The path to which it is copied.
     pub target: Path,
 }
 
@@ -18,13 +18,13 @@ pub enum PlaceError {
     /// Two of all sources and targets are equal, or one is under another.
     #[error("sources and targets overlap")]
     Overlap,
-    /// The destination is no directory, or not in one, or a target would be too long.
+    /// The destination is not a directory, or not in one, or a target would be too long.
     #[error("the destination is no directory")]
     NoDest,
     /// The look at this path failed.
     #[error("the look at the destination failed")]
     Failed(Path),
-    /// No memory was found.
+    /// Out of memory.
     #[error("out of memory")]
     OutOfMemory,
 }

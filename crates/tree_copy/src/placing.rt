@@ -1,4 +1,4 @@
-//! Where each source goes.
+//! The target of each source.
 ghost use Rattle.std.specs.Prelude.{◌≡◌, ◌≤◌, ◌<◌, ◌||◌, ◌++◌, if◌then◌else◌, false, true, length, map, None, Ok, Err, OnOk, IfNone, IfSome, IfOk, IfErr, IsErrOf, MatchOption};
 ghost use Rattle.std.specs.FinMap.{get};
 ghost use Rattle.std.specs.List.{list_any};
@@ -15,9 +15,9 @@ use outside::{Failed, Kind, Stat, Tree};
 use path_text::{JoinError, OutOfMemory, Path};
 use std::alloc::Global;
 
-/// Pairs each source with its target, in the order of the sources. The destination is looked at once, and its parent once
-/// where one source goes to what is no directory. The first look that fails is told, and else an overlap before a lack of
-/// targets.
+/// Pairs each source with its target, in the order of the sources. It looks at the destination once. It looks at the destination's
+/// parent once if there is one source and the destination is not a directory. The first look that fails is the error; after it an
+/// overlap comes before a lack of targets.
 pub fn place<R: Tree>(
     alloc: Global,
     reader: &mut R,
@@ -32,7 +32,7 @@ pub fn place<R: Tree>(
     ensures count { RoseBy 0 (R.count reader.old) (R.count reader.new) }
     ensures counted { IfErr result (IsCounted dest.now (R.count reader.old) (R.count reader.new)) }
 
-    // Over all files, also those that tell no tree, by what the reader answered.
+    // By the reader's answers, over all files, also over files that show no tree.
     ensures ended { IfOk result (λ pairs. Placed R.gives sources.now dest.now (Ok pairs.items) reader.old reader.new) }
     ensures stopped { IfErr result (PlaceStopped R.gives sources.now dest.now reader.old reader.new) }
 {
@@ -79,7 +79,7 @@ fn look_over<R: Tree>(reader: &mut R, dest: &Path) -> Result<bool, PlaceError>
     }
 }
 
-// Whether a directory is at the path, where the look does not fail.
+// Whether a directory is at the path, if the look does not fail.
 fn is_dir_at<R: Tree>(reader: &mut R, path: &Path) -> Option<bool>
     ensures told { IfSome result (λ is. IfSome (R.tree reader.old) (λ files. is ≡ is_dir (get files path.now))) }
     ensures valid { IfSome (R.tree reader.old) IsTree }
@@ -91,7 +91,7 @@ fn is_dir_at<R: Tree>(reader: &mut R, path: &Path) -> Option<bool>
     by_stat(reader.stat(path))
 }
 
-// What the answer of `stat` says of a directory.
+// Whether the answer of `stat` is a directory.
 fn by_stat(told: Result<Option<Stat>, Failed>) -> Option<bool>
     ensures { result ≡ dir_told told }
 {
@@ -116,7 +116,7 @@ fn is_root(path: &Path) -> bool
     path.text() == "/"
 }
 
-// Pairs the sources with their targets, once it is known what is a directory.
+// Pairs the sources with their targets, once it is known which paths are directories.
 fn decided(
     alloc: Global,
     sources: &[Path],
@@ -133,7 +133,7 @@ fn decided(
     }
 }
 
-// The pairs, unless some ends overlap, or no directory is there for the targets.
+// The pairs, unless some sources or targets overlap, or no directory is there for the targets.
 fn apart(
     sources: &[Path],
     pairs: Vec<Pair>,
@@ -162,7 +162,7 @@ fn without_targets(sources: &[Path]) -> PlaceError
     }
 }
 
-// The sources with their targets, where each has one.
+// The sources with their targets, if each has one.
 fn paired(
     alloc: Global,
     sources: &[Path],

@@ -1,4 +1,4 @@
-//! What became of the entries that were copied.
+//! The report of a copy.
 ghost use Rattle.std.specs.Prelude.{◌≡◌, ◌<◌, length, Some, slice_get};
 ghost use Rattle.std.specs.Option.{option_map};
 
@@ -6,8 +6,8 @@ use level_work::Fate;
 use path_text::Path;
 use std::marker::Model;
 
-/// What became of the entries that were copied, seen as their paths with their fates, in path order; how many of them came to
-/// `Done`; and how many bytes the copied files have.
+/// The report of a copy, seen as three parts. The first has the paths of the entries with their fates, in path order. The others are
+/// the number of entries that came to `Done`, and the number of bytes of the copied files.
 #[derive(Debug, Drop)]
 pub struct CopyReport {
     pub(crate) rows: Vec<(Path, Fate)>,
@@ -25,6 +25,17 @@ impl Model for CopyReport {
 }
 
 impl CopyReport {
+    /// A report of these paths with their fates, and of these numbers of copied entries and bytes.
+    pub fn make(rows: Vec<(Path, Fate)>, copied: u64, bytes: u128) -> CopyReport
+        ensures { result ≡ (rows.items, copied, bytes) }
+    {
+        CopyReport {
+            rows,
+            copied,
+            bytes,
+        }
+    }
+
     /// How many entries were to be copied.
     pub fn len(&self) -> usize
         ensures { result ≡ length self.now.0 }
@@ -63,7 +74,7 @@ impl CopyReport {
         self.copied
     }
 
-    /// How many bytes the files have that were copied, by the sizes that their entries tell.
+    /// The number of bytes of the copied files, by the sizes of their entries.
     pub fn bytes(&self) -> u128
         ensures { result ≡ self.now.2 }
     {

@@ -4,8 +4,8 @@ ghost use Rattle.std.specs.List.{count_by, zip};
 ghost use Rattle.std.specs.Vec.Iter.{into_iter_items, into_iter_len};
 ghost use Rattle.flat_list.specs.Entries.{is_of};
 ghost use Rattle.flat_list.specs.Spelling.{paths};
-ghost use Rattle.tree_copy.specs.Copying.{is_done, is_untold, treated};
-ghost use Rattle.tree_copy.specs.PrivateSettling.{any_odd, bytes_of, fates_of, fitting, gain, is_odd, is_other, settled, settled_by};
+ghost use Rattle.tree_copy.specs.Copying.{is_done, treated};
+ghost use Rattle.tree_copy.specs.PrivateSettling.{bytes_of, fates_of, fitting, gain, is_other, settled, settled_by};
 
 use crate::reports::CopyReport;
 use flat_list::{Entry, FlatList};
@@ -15,7 +15,7 @@ use path_text::{OutOfMemory, Path};
 use std::alloc::Global;
 use std::vec::IntoIter;
 
-// What is known of the entries that were passed: their paths with their fates, and the numbers of a report.
+// The passed entries: their paths with their fates, and the numbers of a report.
 #[derive(Drop)]
 struct Tally {
     rows: Vec<(Path, Fate)>,
@@ -23,8 +23,8 @@ struct Tally {
     bytes: u128,
 }
 
-/// The report on the entries of a list: `fits` says which of those with a stat have an item, and the outcome has the fates of
-/// the items. The paths of the items go into the report.
+/// The report on the entries of a list. `fits` says which of the entries with a stat have an item, and the outcome has the fates
+/// of the items. The paths of the items go into the report.
 pub(crate) fn settle(
     alloc: Global,
     list: &FlatList,
@@ -36,7 +36,6 @@ pub(crate) fn settle(
     requires fits { length fits.now ≡ length (treated list.now) }
     requires len { length outcome.now ≡ count_by (λ fit. fit) fits.now }
     ensures rows { IfOk result (λ report. report.0 ≡ zip (paths (treated list.now)) (fates_of fits.now (treated list.now) outcome.now)) }
-    ensures even { IfOk result (λ report. any_odd fits.now (treated list.now) outcome.now ≡ false) }
     ensures copied { IfOk result (λ report. report.1 ≡ count_by is_done (fates_of fits.now (treated list.now) outcome.now)) }
     ensures bytes { IfOk result (λ report. report.2 ≡ bytes_of (treated list.now) (fates_of fits.now (treated list.now) outcome.now)) }
 {
@@ -54,7 +53,7 @@ pub(crate) fn settle(
             continue;
         }
         let fit = fits[tally.rows.len()];
-        let fate = fate_of(entry, fit, outcome, place)?;
+        let fate = fate_of(entry, fit, outcome, place);
         place = place_after(place, fit);
         let path = path_of(entry, fit, &mut items)?;
         note(&mut tally, path, entry, fate)?;
@@ -66,7 +65,7 @@ pub(crate) fn settle(
     })
 }
 
-// The path of an entry: that of the next item, where the entry has one, and else a copy.
+// The path of an entry: that of the next item, if the entry has one, and else a copy.
 fn path_of(
     entry: &Entry,
     fit: bool,
@@ -96,34 +95,23 @@ fn place_after(place: usize, fit: bool) -> usize
     if fit { place + 1 } else { place }
 }
 
-// The fate of an entry, whose item is the one at the place if it has one. No act says that it copied what is no directory, file
-// or link, or a link whose text is not known. If one did, the fates of all entries could not be told: no report is made then.
-fn fate_of(entry: &Entry, fit: bool, outcome: &Outcome, place: usize) -> Result<Fate, OutOfMemory>
+// The fate of an entry. Its item, if it has one, is the one at the place.
+fn fate_of(entry: &Entry, fit: bool, outcome: &Outcome, place: usize) -> Fate
     requires { fit ≡ true → place < length outcome.now }
-    ensures fits { IfOk result (λ fate. fit ≡ true → (f : _) → slice_get outcome.now place ≡ Some f → fate ≡ settled entry.now f) }
-    ensures even { IfOk result (λ fate. fit ≡ true → (f : _) → slice_get outcome.now place ≡ Some f → is_odd entry.now f ≡ false) }
-    ensures long { IfOk result (λ fate. fit ≡ false → fate ≡ Fate.TooLong) }
+    ensures fits { fit ≡ true → (f : _) → slice_get outcome.now place ≡ Some f → result ≡ settled entry.now f }
+    ensures long { fit ≡ false → result ≡ Fate.TooLong }
 {
-    if !fit {
-        return Ok(Fate::TooLong);
+    if fit {
+        settled_by(is_other(entry), outcome.fate(place))
+    } else {
+        Fate::TooLong
     }
-    let fate = outcome.fate(place);
-    if is_odd(entry, fate) {
-        return Err(OutOfMemory);
-    }
-    Ok(settled_by(is_other(entry), fate))
 }
 
 fn is_other(entry: &Entry) -> bool
     ensures { result ≡ is_other entry.now }
 {
     is_of(Kind::Other, entry)
-}
-
-fn is_untold(entry: &Entry) -> bool
-    ensures { result ≡ is_untold entry.now }
-{
-    is_of(Kind::Link, entry) && entry.target.is_none()
 }
 
 fn is_of(kind: Kind, entry: &Entry) -> bool
@@ -133,12 +121,6 @@ fn is_of(kind: Kind, entry: &Entry) -> bool
         Some(stat) => kind == stat.kind,
         None => false,
     }
-}
-
-fn is_odd(entry: &Entry, fate: Fate) -> bool
-    ensures { result ≡ is_odd entry.now fate }
-{
-    is_done(fate) && (is_other(entry) || is_untold(entry))
 }
 
 fn is_done(fate: Fate) -> bool

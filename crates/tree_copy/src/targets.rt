@@ -14,15 +14,15 @@ use level_work::Item;
 use path_text::{JoinError, OutOfMemory, Path};
 use std::alloc::Global;
 
-// The items, and which of the entries with a stat have one: those whose target is not too long.
+// The items, and which of the entries with a stat have one. These are the entries whose target is not too long.
 #[derive(Drop)]
 pub(crate) struct Placed {
     pub(crate) items: Vec<Item>,
     pub(crate) fits: Vec<bool>,
 }
 
-/// The item of each entry with a stat, at its target, in the order of the list. Each path of the list and of a pair is a
-/// path, which they do not tell of themselves.
+/// The item of each entry with a stat, at its target, in the order of the list. Each path of the list and of a pair is a path,
+/// which the contracts of their types do not say.
 pub(crate) fn place_all(
     alloc: Global,
     list: &FlatList,
@@ -59,7 +59,7 @@ fn see_pairs(pairs: &[Pair])
     }
 }
 
-// Each path is one.
+// Each path of the list is a path.
 fn see_paths(list: &FlatList) -> Result<(), OutOfMemory>
     ensures { OnOk result (All (λ e. refusal e.path ≡ None) list.now) }
 {
@@ -70,8 +70,8 @@ fn see_paths(list: &FlatList) -> Result<(), OutOfMemory>
     Ok(())
 }
 
-// Adds an entry, if it has a stat. The pair of the entry before is tried first, since all under one source stand together; the
-// place of the entry's own pair is given back.
+// Adds an entry, if it has a stat. It tries the pair of the entry before first, since all entries under one source follow each
+// other. It answers the place of the entry's own pair.
 fn add(
     placed: &mut Placed,
     entry: &Entry,
@@ -98,7 +98,7 @@ fn add(
     Ok(k)
 }
 
-// The place of the pair whose source the path is within; `last` is tried first.
+// The place of the pair whose source the path is within. It tries `last` first.
 fn pair_of(path: &Path, pairs: &[Pair], last: usize) -> usize
     requires { list_any (λ pair. is_within path.now pair.source) pairs.now ≡ true }
     ensures inside { result < length pairs.now }
@@ -115,7 +115,7 @@ fn pair_of(path: &Path, pairs: &[Pair], last: usize) -> usize
     unreachable!()
 }
 
-// Where the pair sends a path, unless that is too long.
+// The target of a path by the pair, unless that is too long.
 fn target_of(path: &Path, pair: &Pair) -> Result<Option<Path>, OutOfMemory>
     requires { is_within path.now pair.now.source ≡ true }
     ensures told { IfOk result (λ target. target ≡ (if nat_le (length (grafted pair.now.target (below_of path.now pair.now.source))) 4095 then Some (grafted pair.now.target (below_of path.now pair.now.source)) else None)) }

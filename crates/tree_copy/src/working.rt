@@ -1,4 +1,4 @@
-//! The work at all items, with readers that are taken back.
+//! The work on all items. The readers are taken back.
 ghost use Rattle.std.specs.Prelude.{◌≡◌, ◌-◌, ◌+◌, ◌^◌, ◌<◌, ◌≤◌, [], All, length, map, min, IfOk, IfSome, OnErr, is_some};
 ghost use Rattle.std.specs.List.{count_by, sum_by};
 ghost use Rattle.outside.specs.Count.{RoseBy};
@@ -6,17 +6,23 @@ ghost use Rattle.outside.specs.Writes.{nothing_lent};
 ghost use Rattle.level_work.specs.Acts.{MakesDirs};
 ghost use Rattle.level_work.specs.Counts.{is_failed};
 ghost use Rattle.level_work.specs.Levels.{Acted, AreItems, ParentsFail, SameButItems, StandIn};
+ghost use Rattle.tree_copy.specs.PrivateActs.{AllMayCopy};
 ghost use Rattle.tree_copy.specs.PrivateDeeds.{CopyOne};
 
 use crate::acting::Copier;
-use level_work::{Item, Order, Outcome, on_levels};
+use level_work::{Hosts, Item, Order, Outcome, on_levels};
 use outside::{Ground, Plot, Tree};
 use path_text::OutOfMemory;
 use std::alloc::Global;
 use std::thread::Threads;
 
-/// Copies what the items tell, from the top down, by as many copiers as there are hosts, and no more than there are ranks. Their
-/// readers look at the files as they are at the start, and all of them are taken back.
+// A level of so many items or bytes is worth several threads. `bench/level_threads.py` measures when they begin to gain.
+const MANY_ITEMS: usize = 32;
+
+const MANY_BYTES: u64 = 524288;
+
+/// Copies the items, from the top down, by as many copiers as there are hosts, but by no more than there are ranks. Their readers
+/// look at the files as they are at the start, and all readers are taken back.
 pub(crate) fn work<R: Threads + Sync, G: Ground>(
     rt: &R,
     alloc: Global,
@@ -41,6 +47,7 @@ where
     ensures told { IfOk result (λ fates. IfSome (G.tree ground.old) (λ before. IfSome (G.tree ground.new) (Acted (CopyOne before) Order.TopDown items.now fates before))) }
     ensures blamed { IfOk result (λ fates. RoseBy (count_by is_failed fates) (G.count ground.old) (G.count ground.new)) }
     ensures count { RoseBy 0 (G.count ground.old) (G.count ground.new) }
+    ensures each_may_come { IfOk result (AllMayCopy G.Reader.gives G.Part.gives items.now) }
     ensures rest { OnErr result (IfSome (G.tree ground.old) (λ before. IfSome (G.tree ground.new) (SameButItems items.now before))) }
 {
     // The count of faults is a number of 64 bits.
@@ -48,7 +55,12 @@ where
     let number = number_of_copiers(ranks, hosts);
     let mut copiers = copiers_of(alloc, ground, number)?;
     let order = Order::TopDown;
-    let outcome = on_levels(rt, alloc, items, order, ground, &mut copiers, hosts);
+    let worth = Hosts {
+        most: hosts,
+        items: MANY_ITEMS,
+        bytes: MANY_BYTES,
+    };
+    let outcome = on_levels(rt, alloc, items, order, ground, &mut copiers, worth);
     let _faults = ground.faults();
     take_back(ground, copiers);
     outcome
@@ -83,7 +95,7 @@ fn copiers_of<G: Ground>(
     Ok(copiers)
 }
 
-// Takes all readers back, and so adds their counts.
+// Takes all readers back, which adds their counts.
 fn take_back<G: Ground>(ground: &mut G, copiers: Vec<Copier<G::Reader>>)
     ensures same { G.tree ground.new ≡ G.tree ground.old }
     ensures area { G.area ground.new ≡ G.area ground.old }

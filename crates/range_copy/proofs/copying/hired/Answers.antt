@@ -1,6 +1,8 @@
 use Rattle.std.proofs.Common.{arith, ap, sym, subst, ◌∙◌, ◌∷◌, [], ◌≡◌, None, length, length-append}
 use Rattle.range_copy.specs.PrivateFilling.{IsFresh}
 use Rattle.range_copy.specs.PrivateTurns.{AllSee, AreFresh, AreIdle}
+use Rattle.range_copy.specs.PrivateReading.{IsFreshBy}
+use Rattle.range_copy.specs.PrivateShowing.{AreFreshBy}
 use Rattle.range_copy.proofs.Loaded.{all_push}
 use Rattle.range_copy.proofs.copying.hired.Goals as goal
 
@@ -17,6 +19,8 @@ loop-alloc-preserved g c =
           (c.in_ok-make.ensures.same ∙ c.in_ok-reader.ensures.told ∙ i.same));
       fresh = subst (AreFresh g.G.Reader.Tree.count) (sym c.in_ok-push.ensures.items)
           (all_push (IsFresh g.G.Reader.Tree.count) items one i.fresh c.in_ok-make.ensures.fresh);
+      shown = subst (AreFreshBy g.G.Reader.Tree.gives c.args.source.now) (sym c.in_ok-push.ensures.items)
+          (all_push (λ f. IsFreshBy g.G.Reader.Tree.gives c.args.source.now f.filled) items one i.shown c.in_ok-make.ensures.shown);
       idle = subst AreIdle (sym c.in_ok-push.ensures.items) (all_push (λ f. f.load ≡ None) items one i.idle c.in_ok-make.ensures.idle);
       same = c.in_ok-reader.ensures.same ∙ i.same;
       area = c.in_ok-reader.ensures.area ∙ i.area;

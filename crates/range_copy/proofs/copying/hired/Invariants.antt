@@ -1,5 +1,6 @@
 use Rattle.std.proofs.Common.{◌≡◌, ◌-◌, ◌≤◌, length}
 use Rattle.range_copy.specs.PrivateTurns.{AllSee, AreFresh, AreIdle}
+use Rattle.range_copy.specs.PrivateShowing.{AreFreshBy}
 use Rattle.range_copy.proofs.copying.hired.Given as goal
 
 -- the fillers so far
@@ -8,6 +9,7 @@ invariant-loop-alloc g l = record {
   inside : length l.fillers.items ≤ l.number;
   see : AllSee g.G.Reader.Tree.tree (g.G.Plot.tree l.fn.ground) l.fillers.items;
   fresh : AreFresh g.G.Reader.Tree.count l.fillers.items;
+  shown : AreFreshBy g.G.Reader.Tree.gives l.source l.fillers.items;
   idle : AreIdle l.fillers.items;
   same : g.G.Plot.tree l.ground ≡ g.G.Plot.tree l.fn.ground;
   area : g.G.Plot.area l.ground ≡ g.G.Plot.area l.fn.ground;

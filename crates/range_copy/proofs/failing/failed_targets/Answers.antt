@@ -1,4 +1,4 @@
-use Rattle.std.proofs.Common.{◌≡◌, ◌+◌, subst, sym, take, true}
+use Rattle.std.proofs.Common.{◌≡◌, subst, sym, take, true}
 use Rattle.std.specs.List.{list_any}
 use Rattle.path_text.specs.Order.{is_within}
 use Rattle.tree_copy.proofs.Ends.{all_at}

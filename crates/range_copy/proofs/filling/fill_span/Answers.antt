@@ -32,6 +32,13 @@ loop-at-preserved g c =
       size = as_long _ _ c.read.new.into at count c.args.size most inside wrote so.size;
       front = more _ _ _ c.args.source.now c.read.new.into c.args.start at count c.args.size most inside reads wrote so.size
           so.front;
+      read = inr (record {
+        at = c.args.start + at;
+        many = count;
+        after = c.read.new.self;
+        read = record { before = c.loop-at.reader; given = c.in-Ok.ensures.given };
+        ends = omega arith;
+      });
     }
 
 pub returns-in-Err-Failed-clause-cause : goal.returns-in-Err-Failed-clause-cause
@@ -41,3 +48,8 @@ returns-in-Err-Failed-clause-cause g c =
 pub returns-in-Err-Failed-write-clause-cause : goal.returns-in-Err-Failed-write-clause-cause
 returns-in-Err-Failed-write-clause-cause g c =
     λ e. inr (rose_after _ _ _ c.loop-at.invariant.span_count (c.in-Err-Failed-write.ensures.cause (ap Err c.in-Err-Failed-write.field-0-is)))
+
+pub returns-in-Err-Failed-write-clause-shown : goal.returns-in-Err-Failed-write-clause-shown
+returns-in-Err-Failed-write-clause-shown g c =
+    let rose = c.in-Err-Failed-write.ensures.cause (ap Err c.in-Err-Failed-write.field-0-is) in
+    inr (omega (arith, rose.rose))

@@ -1,6 +1,7 @@
-use Rattle.std.proofs.Common.{◌≡◌, ◌-◌, ◌≤◌, length, IfSome, is_some}
+use Rattle.std.proofs.Common.{◌≡◌, ◌⊎◌, ◌+◌, ◌-◌, ◌≤◌, length, IfSome, is_some}
 use Rattle.std.specs.FinMap.{get}
 use Rattle.outside.specs.Tree.{content}
+use Rattle.tree_copy.specs.Causes.{IsReadTo}
 use Rattle.range_copy.proofs.Fills.{HasFront}
 use Rattle.range_copy.proofs.filling.fill_span.Given as goal
 
@@ -15,6 +16,7 @@ invariant-loop-at g l = record {
   span_count : g.S.Span.count l.fn.span ≤ g.S.Span.count l.span;
   size : IfSome (g.S.Span.holds l.span) (λ bytes. length bytes ≡ l.size);
   front : IfSome (g.T.Tree.tree l.fn.reader) (λ files. IfSome (g.S.Span.holds l.span) (HasFront l.start l.at (content (get files l.source))));
+  read : (l.at ≡ 0) ⊎ IsReadTo g.T.Tree.gives l.source (l.start + l.at);
 }
 
 abbrev pub decreases-loop-at : goal.decreases-loop-at

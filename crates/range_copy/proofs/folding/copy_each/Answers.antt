@@ -1,14 +1,23 @@
-use Rattle.std.proofs.Common.{◌≡◌, ◌∙◌, ◌+◌, ◌++◌, ◌∷◌, [], ap, arith, is_some, length, refl, subst, sym, take, true, IfSome, length-take}
+use Rattle.std.proofs.Common.{◌≡◌, ◌∙◌, ◌+◌, ◌++◌, ◌∷◌, [], ap, arith, refl, subst, sym, take, true, IfSome, length-take}
 use Rattle.std.proofs.lemmas.List.{take_all, take_more}
-use Rattle.std.specs.List.{list_any}
+use Rattle.std.proofs.lemmas.Slice.Zip.{all_zipped_more}
+use Rattle.std.specs.List.{count_by, list_any}
 use Rattle.path_text.specs.Order.{is_within}
-use Rattle.tree_copy.specs.Copying.{IsCopied, IsEarly}
+use Rattle.outside.specs.Count.{RoseBy}
+use Rattle.outside.specs.Writes.{SameBut}
+use Rattle.flat_list.specs.declared.entries.Entry.{Entry}
+use Rattle.level_work.specs.Counts.{is_failed}
+use Rattle.level_work.specs.declared.items.Fate.{Fate}
+use Rattle.tree_copy.specs.Copying.{IsCopied, IsEarly, target_of}
 use Rattle.tree_copy.proofs.Ends.{at_of}
-use Rattle.range_copy.specs.PrivateLarge.{AreRows, SameButFor}
+use Rattle.tree_copy.specs.Causes.{HasCause}
+use Rattle.range_copy.specs.PrivateLarge.{AreRows, IsRow, SameButFor, bytes_over}
 use Rattle.range_copy.specs.PrivateParts.{exceeds}
 use Rattle.range_copy.proofs.Folded.{Folded, Numbers, OneMore, folded_more, folded_none, make_at, next_apart, numbers_more, numbers_none, rest_more, rest_whole}
 use Rattle.range_copy.proofs.Folded.{place_of, rose_any, rose_more, rose_none, rose_two, still_makes}
+use Rattle.range_copy.proofs.folding.copy_each.Given as given
 use Rattle.range_copy.proofs.folding.copy_each.Goals as goal
+use Rattle.range_copy.proofs.folding.copy_each.Goals.{After-copy_one}
 
 pub loop-entry-init : goal.loop-entry-init
 loop-entry-init g c =
@@ -19,6 +28,8 @@ loop-entry-init g c =
       folded = folded_none c.args.pairs.now c.args.failed.now.set.keys rows t t none refl;
       numbers = numbers_none rows none;
       blamed = rose_none rows (g.G.Plot.count c.args.ground.now) none;
+      shown = subst (AreRows (HasCause g.G.Reader.Tree.gives g.G.Part.Plot.gives g.G.Plot.gives g.G.Plot.area g.G.Plot.count c.args.pairs.now) [])
+          (sym none) tt;
       lent = c.requires.lent;
     }
 
@@ -88,6 +99,9 @@ loop-entry-preserved g c =
     let more : take (k + 1) large ≡ take k large ++ e ∷ [] = take_more large k e c.loop-entry-test.true
     ∙ ap (λ x. take k large ++ x ∷ []) (sym c.entry-item.is)
     in
+    let cause : Entry → Fate → Type 0 =
+    HasCause g.G.Reader.Tree.gives g.G.Part.Plot.gives g.G.Plot.gives g.G.Plot.area g.G.Plot.count pairs
+    in
     let one : OneMore pairs failed e fate t1 t2 = record {
       early = c.in_ok-fate.ensures.early;
       told = c.in_ok-fate.ensures.told;
@@ -102,15 +116,22 @@ loop-entry-preserved g c =
           (subst (λ rows. Numbers (take k large ++ e ∷ []) rows c.note.new.tally.copied c.note.new.tally.bytes) (sym c.in_ok-note.ensures.rows)
           (numbers_more (take k large) own e fate c.loop-entry.tally.copied c.loop-entry.tally.bytes c.note.new.tally.copied c.note.new.tally.bytes
           i.numbers c.in_ok-note.ensures.copied c.in_ok-note.ensures.bytes c.in_ok-note.ensures.small));
-      blamed = subst (λ rows. Rattle.outside.specs.Count.RoseBy (Rattle.std.specs.List.count_by (λ row. Rattle.level_work.specs.Counts.is_failed row.1) rows)
+      blamed = subst (λ rows. RoseBy (count_by (λ row. is_failed row.1) rows)
           (g.G.Plot.count c.args.ground.now) (g.G.Plot.count c.copy_one.new.ground)) (sym c.in_ok-note.ensures.rows)
           (rose_more own e.path fate (g.G.Plot.count c.args.ground.now) (g.G.Plot.count c.loop-entry.ground) (g.G.Plot.count c.copy_one.new.ground)
           i.blamed c.in_ok-fate.ensures.cause);
+      shown = subst (λ es. AreRows cause es c.note.new.tally.rows.items) (sym more)
+          (subst (AreRows cause (take k large ++ e ∷ [])) (sym c.in_ok-note.ensures.rows)
+          (all_zipped_more (IsRow cause) (take k large) own e (e.path, fate) i.shown (refl, c.in_ok-fate.ensures.shown)));
       lent = c.in_ok-fate.ensures.lent;
     }
 
-pub returns-in_err-fate-clause-rest : goal.returns-in_err-fate-clause-rest
-returns-in_err-fate-clause-rest g c =
+-- after one file more, every path but the targets is as before
+rest_then : (g : given.Over) (c : After-copy_one g) →
+    IfSome (g.G.Plot.tree c.loop-entry.ground) (λ before. IfSome (g.G.Plot.tree c.copy_one.new.ground)
+    (SameBut (target_of c.args.pairs.now c.entry-item.result.path) before)) →
+    IfSome (g.G.Plot.tree c.args.ground.now) (λ before. IfSome (g.G.Plot.tree c.copy_one.new.ground) (SameButFor c.args.pairs.now c.args.large.now before))
+rest_then g c others =
     let pairs = c.args.pairs.now in
     let large = c.args.large.now in
     let k = c.loop-entry.entry-index in
@@ -122,7 +143,10 @@ returns-in_err-fate-clause-rest g c =
     ∙ ap (λ x. take k large ++ x ∷ []) (sym c.entry-item.is)
     in
     rest_whole pairs large (k + 1) t t2 (subst (λ es. IfSome t (λ a. IfSome t2 (SameButFor pairs es a))) (sym more)
-    (rest_more pairs (take k large) e t (g.G.Plot.tree c.loop-entry.ground) t2 i.folded.tells i.folded.rest c.in_err-fate.ensures.others))
+    (rest_more pairs (take k large) e t (g.G.Plot.tree c.loop-entry.ground) t2 i.folded.tells i.folded.rest others))
+
+pub returns-in_err-fate-clause-rest : goal.returns-in_err-fate-clause-rest
+returns-in_err-fate-clause-rest g c = rest_then g (goal.at.returns-in_err-fate-clause-rest g c).After-copy_one c.in_err-fate.ensures.others
 
 pub returns-in_err-fate-clause-tells : goal.returns-in_err-fate-clause-tells
 returns-in_err-fate-clause-tells g c = c.in_err-fate.ensures.tells ∙ c.loop-entry.invariant.folded.tells
@@ -131,19 +155,7 @@ pub returns-in_err-fate-clause-count : goal.returns-in_err-fate-clause-count
 returns-in_err-fate-clause-count g c = rose_two _ _ _ (rose_any _ _ _ c.loop-entry.invariant.blamed) c.in_err-fate.ensures.count
 
 pub returns-in_err-note-clause-rest : goal.returns-in_err-note-clause-rest
-returns-in_err-note-clause-rest g c =
-    let pairs = c.args.pairs.now in
-    let large = c.args.large.now in
-    let k = c.loop-entry.entry-index in
-    let e = c.entry-item.result in
-    let i = c.loop-entry.invariant in
-    let t = g.G.Plot.tree c.args.ground.now in
-    let t2 = g.G.Plot.tree c.copy_one.new.ground in
-    let more : take (k + 1) large ≡ take k large ++ e ∷ [] = take_more large k e c.loop-entry-test.true
-    ∙ ap (λ x. take k large ++ x ∷ []) (sym c.entry-item.is)
-    in
-    rest_whole pairs large (k + 1) t t2 (subst (λ es. IfSome t (λ a. IfSome t2 (SameButFor pairs es a))) (sym more)
-    (rest_more pairs (take k large) e t (g.G.Plot.tree c.loop-entry.ground) t2 i.folded.tells i.folded.rest c.in_ok-fate.ensures.others))
+returns-in_err-note-clause-rest g c = rest_then g (goal.at.returns-in_err-note-clause-rest g c).After-copy_one c.in_ok-fate.ensures.others
 
 pub returns-in_err-note-clause-tells : goal.returns-in_err-note-clause-tells
 returns-in_err-note-clause-tells g c = c.in_ok-fate.ensures.tells ∙ c.loop-entry.invariant.folded.tells
@@ -164,12 +176,18 @@ returns-clause-told g c rows are =
     (λ after. AreRows (IsCopied before after c.args.pairs.now rows) es c.loop-entry.tally.rows.items)))
     (take_all c.loop-entry.entry-index c.args.large.now (omega (arith, c.loop-entry-test.false))) (i.folded.told rows are)
 
+pub returns-clause-shown : goal.returns-clause-shown
+returns-clause-shown g c =
+    subst (λ es. AreRows (HasCause g.G.Reader.Tree.gives g.G.Part.Plot.gives g.G.Plot.gives g.G.Plot.area g.G.Plot.count c.args.pairs.now) es
+    c.loop-entry.tally.rows.items)
+    (take_all c.loop-entry.entry-index c.args.large.now (omega (arith, c.loop-entry-test.false))) c.loop-entry.invariant.shown
+
 pub returns-clause-copied : goal.returns-clause-copied
 returns-clause-copied g c = c.loop-entry.invariant.numbers.copied_is
 
 pub returns-clause-bytes : goal.returns-clause-bytes
 returns-clause-bytes g c =
-    subst (λ es. c.loop-entry.tally.bytes ≡ Rattle.range_copy.specs.PrivateLarge.bytes_over es c.loop-entry.tally.rows.items)
+    subst (λ es. c.loop-entry.tally.bytes ≡ bytes_over es c.loop-entry.tally.rows.items)
     (take_all c.loop-entry.entry-index c.args.large.now (omega (arith, c.loop-entry-test.false))) c.loop-entry.invariant.numbers.bytes_are
 
 pub returns-clause-rest : goal.returns-clause-rest

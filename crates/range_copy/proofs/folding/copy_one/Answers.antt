@@ -1,13 +1,19 @@
-use Rattle.std.proofs.Common.{◌≡◌, ◌∙◌, ◌<◌, ap, cond, inl, refl, subst, sym, IfSome, None}
+use Rattle.std.proofs.Common.{◌≡◌, ◌∙◌, ◌<◌, cond, inl, refl, subst, sym, IfSome, None}
+use Rattle.std.proofs.lemmas.Bool.{false≢true}
 use Rattle.path_text.specs.Path.{refusal}
 use Rattle.outside.specs.Count.{RoseBy}
 use Rattle.outside.specs.Writes.{SameBut}
 use Rattle.level_work.specs.Counts.{is_failed}
 use Rattle.level_work.specs.declared.items.Fate.TheVariants as fate
-use Rattle.tree_copy.specs.Copying.{IsCopied, IsEarly}
-use Rattle.range_copy.proofs.Tried.{cause_of, copied_there, early_long, exceeds_by, long_copied, lost_copied, lost_there, no_root_there, none_there, parent_there}
+use Rattle.tree_copy.specs.Causes.{HasCause}
+use Rattle.tree_copy.specs.Copying.{IsCopied, IsEarly, target_of}
+use Rattle.range_copy.proofs.Showing.{cause_there}
+use Rattle.range_copy.proofs.Tried.{cause_of, copied_there, early_long, exceeds_by, long_copied}
+use Rattle.range_copy.proofs.Tried.{lost_copied, lost_there, no_root_there, none_there, parent_there}
 use Rattle.range_copy.proofs.Tried.{same_target, source_there, too_long, tried_early, unchanged}
+use Rattle.range_copy.proofs.folding.copy_one.Given as given
 use Rattle.range_copy.proofs.folding.copy_one.Goals as goal
+use Rattle.range_copy.proofs.folding.copy_one.Goals.{After-copy_file}
 
 pub returns-in_default-clause-early : goal.returns-in_default-clause-early
 returns-in_default-clause-early g c rows are =
@@ -65,15 +71,22 @@ copy_file-requires-clause-stand g c κs within =
     parent_there c.args.pairs.now c.args.failed.now.set.keys c.args.piece c.args.entry.now c.requires.large c.in-Some.target is valid c.requires.low
     (g.G.Plot.tree c.args.ground.now) (sym c.in_ok-has_parent_of.ensures ∙ c.if-branch.false) c.requires.makes
 
-pub returns-in_err-came-clause-others : goal.returns-in_err-came-clause-others
-returns-in_err-came-clause-others g c =
+-- every path but the target is as before
+others_then : (g : given.Over) (c : After-copy_file g) →
+    IfSome (g.G.Plot.tree c.args.ground.now) (λ before. IfSome (g.G.Plot.tree c.copy_file.new.ground) (SameBut c.in-Some.target before)) →
+    IfSome (g.G.Plot.tree c.args.ground.now) (λ before. IfSome (g.G.Plot.tree c.copy_file.new.ground)
+    (SameBut (target_of c.args.pairs.now c.args.entry.now.path) before))
+others_then g c others =
     let is = sym c.in_ok-target.ensures.told ∙ c.in-Some.is in
     let valid = subst (λ o. IfSome o (λ p. refusal p ≡ None)) c.in-Some.is c.in_ok-target.ensures.path in
     let t = g.G.Plot.tree c.args.ground.now in
     let t1 = g.G.Plot.tree c.copy_file.new.ground in
     subst (λ p. IfSome t (λ before. IfSome t1 (SameBut p before)))
     (same_target c.args.pairs.now c.args.failed.now.set.keys c.args.piece c.args.entry.now c.requires.large c.in-Some.target is valid c.requires.low)
-    c.in_err-came.ensures.others
+    others
+
+pub returns-in_err-came-clause-others : goal.returns-in_err-came-clause-others
+returns-in_err-came-clause-others g c = others_then g (goal.at.returns-in_err-came-clause-others g c).After-copy_file c.in_err-came.ensures.others
 
 pub returns-clause-early : goal.returns-clause-early
 returns-clause-early g c rows are =
@@ -94,17 +107,29 @@ returns-clause-told g c rows are =
     (copied_there c.args.pairs.now c.args.failed.now.set.keys c.args.piece c.args.entry.now c.requires.large c.in-Some.target is valid c.requires.low rows are
     t t1 c.in_ok-came.came (sym c.in_ok-has_parent_of.ensures ∙ c.if-branch.false) c.in_ok-came.ensures.told)
 
+pub returns-in_default-clause-shown : goal.returns-in_default-clause-shown
+returns-in_default-clause-shown g c = λ on. absurd (false≢true on)
+
+pub returns-then-branch-clause-shown : goal.returns-then-branch-clause-shown
+returns-then-branch-clause-shown g c = λ on. absurd (false≢true on)
+
+pub returns-clause-shown : goal.returns-clause-shown
+returns-clause-shown g c =
+    let is = sym c.in_ok-target.ensures.told ∙ c.in-Some.is in
+    let valid = subst (λ o. IfSome o (λ p. refusal p ≡ None)) c.in-Some.is c.in_ok-target.ensures.path in
+    let asks = g.G.Reader.Tree.gives in
+    let gives = g.G.Part.Plot.gives in
+    subst (HasCause asks gives g.G.Plot.gives g.G.Plot.area g.G.Plot.count c.args.pairs.now c.args.entry.now) (sym c.fate_of.ensures)
+    (cause_there asks g.G.Plot.gives g.G.Plot.area g.G.Plot.count c.args.entry.now.path c.in-Some.target c.size_of-size.result gives c.args.pairs.now
+    c.args.piece c.args.entry.now _ c.requires.large refl
+    (same_target c.args.pairs.now c.args.failed.now.set.keys c.args.piece c.args.entry.now c.requires.large c.in-Some.target is valid c.requires.low)
+    c.size_of-size.ensures c.in_ok-came.ensures.shown)
+
 pub returns-clause-cause : goal.returns-clause-cause
 returns-clause-cause g c =
     subst (λ f. RoseBy (cond (is_failed f) 1 0) (g.G.Plot.count c.args.ground.now) (g.G.Plot.count c.copy_file.new.ground)) (sym c.fate_of.ensures)
-    (cause_of c.in_ok-came.came (g.G.Plot.count c.args.ground.now) (g.G.Plot.count c.copy_file.new.ground) c.in_ok-came.ensures.cause c.in_ok-came.ensures.count)
+    (cause_of c.in_ok-came.came (g.G.Plot.count c.args.ground.now) (g.G.Plot.count c.copy_file.new.ground)
+    c.in_ok-came.ensures.cause c.in_ok-came.ensures.count)
 
 pub returns-clause-others : goal.returns-clause-others
-returns-clause-others g c =
-    let is = sym c.in_ok-target.ensures.told ∙ c.in-Some.is in
-    let valid = subst (λ o. IfSome o (λ p. refusal p ≡ None)) c.in-Some.is c.in_ok-target.ensures.path in
-    let t = g.G.Plot.tree c.args.ground.now in
-    let t1 = g.G.Plot.tree c.copy_file.new.ground in
-    subst (λ p. IfSome t (λ before. IfSome t1 (SameBut p before)))
-    (same_target c.args.pairs.now c.args.failed.now.set.keys c.args.piece c.args.entry.now c.requires.large c.in-Some.target is valid c.requires.low)
-    c.in_ok-came.ensures.others
+returns-clause-others g c = others_then g (goal.at.returns-clause-others g c).After-copy_file c.in_ok-came.ensures.others

@@ -5,9 +5,10 @@ use Rattle.path_text.specs.Path.{refusal}
 use Rattle.flat_list.specs.declared.entries.Entry.{Entry}
 use Rattle.flat_list.proofs.Turns.{no_more}
 use Rattle.tree_copy.proofs.Tallies.{moved_on, next_of}
-use Rattle.range_copy.specs.PrivateParts.{ArePartsOf, held_of}
+use Rattle.range_copy.specs.PrivateParts.{ArePartsOf, held_of, large_of, marks_of, small_of}
 use Rattle.range_copy.proofs.Passed.{at_last, none_over, whole}
 use Rattle.range_copy.proofs.parting.apart.Goals as goal
+use Rattle.range_copy.proofs.parting.apart.Goals.{In_ok-settle}
 
 pub loop-cursor-preserved : goal.loop-cursor-preserved
 loop-cursor-preserved c =
@@ -32,26 +33,24 @@ loop-cursor-preserved c =
       valid = subst (All Valid) (sym last) (All-append Valid (take k list) (e ∷ []) i.valid (All-cons Valid e [] c.in_ok-held.ensures.path (All-nil Valid)));
     }
 
-pub returns-clause-small : goal.returns-clause-small
-returns-clause-small c =
+-- the parts are told, once the entry that was held back is in its part
+parted : (c : In_ok-settle) → (c.settle.new.parts.small ≡ small_of c.args.piece c.args.list.now)
+    × (c.settle.new.parts.large.items ≡ large_of c.args.piece c.args.list.now)
+    × (c.settle.new.parts.marks.items ≡ marks_of c.args.piece c.args.list.now)
+parted c =
     let i = c.loop-cursor.invariant in
     let over = no_more c.args.list.now c.loop-cursor.cursor c.in_ok-advance.field-0 i.of_list c.in_ok-advance.ensures.answer c.if-branch.false in
-    (whole c.args.piece c.settle.new.parts c.args.list.now (c.in_ok-settle.ensures c.args.piece [] c.args.list.now i.held (none_over c.loop-cursor.held)
-    (at_last c.args.piece c.loop-cursor.parts c.loop-cursor.held c.loop-cursor.cursor.1 c.args.list.now over i.parts))).0
+    whole c.args.piece c.settle.new.parts c.args.list.now (c.in_ok-settle.ensures c.args.piece [] c.args.list.now i.held (none_over c.loop-cursor.held)
+    (at_last c.args.piece c.loop-cursor.parts c.loop-cursor.held c.loop-cursor.cursor.1 c.args.list.now over i.parts))
+
+pub returns-clause-small : goal.returns-clause-small
+returns-clause-small c = (parted (goal.at.returns-clause-small c).In_ok-settle).0
 
 pub returns-clause-large : goal.returns-clause-large
-returns-clause-large c =
-    let i = c.loop-cursor.invariant in
-    let over = no_more c.args.list.now c.loop-cursor.cursor c.in_ok-advance.field-0 i.of_list c.in_ok-advance.ensures.answer c.if-branch.false in
-    (whole c.args.piece c.settle.new.parts c.args.list.now (c.in_ok-settle.ensures c.args.piece [] c.args.list.now i.held (none_over c.loop-cursor.held)
-    (at_last c.args.piece c.loop-cursor.parts c.loop-cursor.held c.loop-cursor.cursor.1 c.args.list.now over i.parts))).1
+returns-clause-large c = (parted (goal.at.returns-clause-large c).In_ok-settle).1
 
 pub returns-clause-marks : goal.returns-clause-marks
-returns-clause-marks c =
-    let i = c.loop-cursor.invariant in
-    let over = no_more c.args.list.now c.loop-cursor.cursor c.in_ok-advance.field-0 i.of_list c.in_ok-advance.ensures.answer c.if-branch.false in
-    (whole c.args.piece c.settle.new.parts c.args.list.now (c.in_ok-settle.ensures c.args.piece [] c.args.list.now i.held (none_over c.loop-cursor.held)
-    (at_last c.args.piece c.loop-cursor.parts c.loop-cursor.held c.loop-cursor.cursor.1 c.args.list.now over i.parts))).2
+returns-clause-marks c = (parted (goal.at.returns-clause-marks c).In_ok-settle).2
 
 pub returns-clause-paths : goal.returns-clause-paths
 returns-clause-paths c =

@@ -1,15 +1,19 @@
-use Rattle.std.proofs.Common.{◌≡◌, ap, sym, subst, ◌∙◌, Some}
+use Rattle.std.proofs.Common.{◌≡◌, ap, refl, sym, subst, ◌∙◌, Some}
+use Rattle.std.specs.Prelude.{Err}
 use Rattle.std.specs.List.{sum_by}
 use Rattle.outside.specs.Parts.{IsTreeIn}
 use Rattle.range_copy.specs.PrivateTurns.{came_of, faults_of, reader_faults}
 use Rattle.std.specs.Option.{option_map}
 use Rattle.outside.specs.Spans.{area_cut, pieces}
 use Rattle.range_copy.specs.PrivateFilling.{IsShort}
+use Rattle.range_copy.specs.PrivateReading.{FilledBy}
 use Rattle.std.specs.Prelude.{IfSome, ◌≤◌}
 use Rattle.range_copy.specs.declared.filled.Filled.TheVariants as filled
 use Rattle.range_copy.proofs.Counted.{back_counted, cause_told}
 use Rattle.range_copy.proofs.Ended.{as_came, empty_now, open_now}
 use Rattle.range_copy.proofs.Outcomes.{outcome_by, outcome_done}
+use Rattle.tree_copy.specs.Causes.{by_count}
+use Rattle.range_copy.proofs.Showing.{outcome_shown, read_cuts, rose_back, spans_shown, was_spanned}
 use Rattle.range_copy.proofs.Rejoined.{all_alike, came_told, has_bytes, is_out, is_whole, new_alike, others, still_alike}
 use Rattle.range_copy.proofs.spanning.spanned.Goals as goal
 
@@ -67,6 +71,40 @@ returns-clause-cause g c =
   where
     never : filled.Done ≡ filled.Failed → ⊥
     never e = cc
+
+pub returns-in-Err-Failed-clause-shown : goal.returns-in-Err-Failed-clause-shown
+returns-in-Err-Failed-clause-shown g c = by_count refl (record {
+  made = c.args.ground.now;
+  after = c.lease_spans.new.self;
+  written = c.requires.made;
+  rose = c.in-Err-Failed.ensures.cause (ap Err c.in-Err-Failed.field-0-is);
+})
+
+pub returns-clause-shown : goal.returns-clause-shown
+returns-clause-shown g c =
+    let asks = g.G.Reader.Tree.gives in
+    let count = g.G.Plot.count in
+    let piece = g.G.Span.Span.piece in
+    let source = c.args.source.now in
+    let target = c.args.target.now in
+    let cuts = c.args.cuts.now in
+    let fillers = c.fill_spans-filled.new.fillers in
+    let done = c.fill_spans-filled.result.items in
+    let faults = sum_by g.G.Span.Span.count done in
+    let out = is_out (g.G.Plot.area c.lease_spans.new.self) target cuts (c.in-Ok.ensures.area ∙ ap (area_cut target cuts) c.requires.lent) in
+    spans_shown asks g.G.Plot.gives g.G.Plot.area count source target c.args.size faults c.outcome.result c.came_of.result c.came_of.ensures
+    (subst (FilledBy asks source faults) (sym c.outcome.ensures) (outcome_shown asks source faults fillers c.fill_spans-filled.ensures.shown))
+    (λ e. was_spanned asks g.G.Plot.gives g.G.Plot.area count source target c.args.size c.args.ground.now c.lease_spans.new.self cuts
+    c.requires.made out c.requires.cuts c.requires.whole
+    (read_cuts asks piece g.G.Span.Span.count source target cuts done (c.fill_spans-filled.ensures.filled.pieces ∙ c.in-Ok.ensures.pieces)
+    c.requires.cuts (c.fill_spans-filled.ensures.read (outcome_done fillers (sym c.outcome.ensures ∙ e)))))
+    (λ some. record {
+      made = c.args.ground.now;
+      after = c.give_back_spans.new.self;
+      written = c.requires.made;
+      rose = rose_back faults (count c.args.ground.now) (count c.lease_spans.new.self) (count c.give_back_spans.new.self) some
+          c.lease_spans.ensures.count.kept c.give_back_spans.ensures.rises c.give_back_spans.ensures.count;
+    })
 
 pub returns-clause-others : goal.returns-clause-others
 returns-clause-others g c =

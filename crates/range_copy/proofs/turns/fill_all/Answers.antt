@@ -2,6 +2,8 @@ use Rattle.std.proofs.Common.{◌≡◌, arith, ap, length, length-append}
 use Rattle.std.proofs.lemmas.List.Elements.{All-from_recursion}
 use Rattle.range_copy.specs.PrivateFilling.{HasCounted, HasWorked, IsReady, spans_left, spans_of}
 use Rattle.range_copy.proofs.Counted.{blamed_ends, blamed_turns, blamed_works, none_blamed}
+use Rattle.range_copy.specs.PrivateShowing.{HasShown}
+use Rattle.range_copy.proofs.Showing.{none_shown, read_ends, read_starts, read_turns, read_works, shown_ends, shown_turns, shown_works}
 use Rattle.range_copy.proofs.Worked.{as_many, empty_of, filling_ends, filling_starts, filling_turns, filling_works, many_left, paired, shrinks, worked_many}
 use Rattle.range_copy.proofs.turns.fill_all.Goals as goal
 
@@ -10,6 +12,9 @@ loop-fillers-init g c = record {
   filling = filling_starts g.T.Tree.tree g.S.Span.piece g.S.Span.holds c.args.source.now c.args.total c.args.fillers.now c.args.loads.items
       c.args.done.now.items c.requires.idle c.requires.fine c.requires.empty c.requires.loads;
   blamed = none_blamed _ c.args.fillers.now c.requires.fine;
+  read = read_starts g.T.Tree.gives g.S.Span.piece g.S.Span.count c.args.source.now c.args.fillers.now c.args.done.now.items c.requires.idle
+      c.requires.empty;
+  shown = none_shown g.T.Tree.gives g.S.Span.piece g.S.Span.count c.args.source.now _ c.args.fillers.now c.requires.fine;
   some = c.requires.some;
   room = omega arith;
 }
@@ -35,6 +40,8 @@ loop-fillers-preserved g c =
     let w = paired (HasWorked g.T.Tree.tree g.S.Span.piece g.S.Span.holds c.args.source.now c.args.total) c.turn.new.fillers c.work_all.new.fillers
     (omega (arith, c.work_all.auto.fillers)) c.work_all.ensures.worked in
     let t = c.turn.ensures.turn c.args.total i.filling.are_loads in
+    let shown = paired (HasShown g.T.Tree.gives g.S.Span.piece g.S.Span.count c.args.source.now) c.turn.new.fillers c.work_all.new.fillers
+    (omega (arith, c.work_all.auto.fillers)) c.work_all.ensures.shown in
     let counted = paired (HasCounted g.T.Tree.count g.S.Span.count) c.turn.new.fillers c.work_all.new.fillers
     (omega (arith, c.work_all.auto.fillers)) c.work_all.ensures.counted in
     record {
@@ -43,6 +50,12 @@ loop-fillers-preserved g c =
       blamed = blamed_works g.T.Tree.count g.S.Span.count c.turn.new.fillers c.work_all.new.fillers c.turn.new.done.items
           (blamed_turns g.T.Tree.count g.S.Span.count c.loop-fillers.fillers c.turn.new.fillers c.loop-fillers.done.items c.turn.new.done.items
           t.hands t.taken i.blamed) counted;
+      read = read_works g.T.Tree.gives g.S.Span.piece g.S.Span.count c.args.source.now c.turn.new.fillers c.work_all.new.fillers c.turn.new.done.items
+          (read_turns g.T.Tree.gives g.S.Span.piece g.S.Span.count c.args.source.now c.loop-fillers.fillers c.turn.new.fillers
+          c.loop-fillers.done.items c.turn.new.done.items t.hands t.taken i.read) shown;
+      shown = shown_works g.T.Tree.gives g.S.Span.piece g.S.Span.count c.args.source.now c.turn.new.fillers c.work_all.new.fillers c.turn.new.done.items
+          (shown_turns g.T.Tree.gives g.S.Span.piece g.S.Span.count c.args.source.now c.loop-fillers.fillers c.turn.new.fillers
+          c.loop-fillers.done.items c.turn.new.done.items t.hands t.taken i.shown) shown;
       some = omega (arith, i.some, c.turn.auto.fillers, c.work_all.auto.fillers);
       room = omega (arith, c.turn.ensures.room, i.room);
     }
@@ -92,3 +105,35 @@ returns-clause-blamed g c =
       c.loop-fillers.done.ok.0,
     ) in
     blamed_ends g.T.Tree.count g.S.Span.count c.loop-fillers.fillers c.loop-fillers.done.items (empty_of _ none) i.blamed
+
+pub returns-clause-read : goal.returns-clause-read
+returns-clause-read g c =
+    let i = c.loop-fillers.invariant in
+    let many = as_many g.T.Tree.tree g.S.Span.piece g.S.Span.holds c.args.source.now c.args.total c.args.fillers.now (spans_left c.args.loads.items)
+    c.loop-fillers.fillers c.loop-fillers.loads.items c.loop-fillers.done.items _ i.filling in
+    let none : length (spans_of c.loop-fillers.fillers) ≡ 0 = omega (
+      arith,
+      many,
+      many_left c.args.loads.items,
+      c.loop-fillers-test.false,
+      c.len-count.ensures,
+      c.args.loads.ok.0,
+      c.loop-fillers.done.ok.0,
+    ) in
+    read_ends g.T.Tree.gives g.S.Span.piece g.S.Span.count c.args.source.now c.loop-fillers.fillers c.loop-fillers.done.items (empty_of _ none) i.read
+
+pub returns-clause-shown : goal.returns-clause-shown
+returns-clause-shown g c =
+    let i = c.loop-fillers.invariant in
+    let many = as_many g.T.Tree.tree g.S.Span.piece g.S.Span.holds c.args.source.now c.args.total c.args.fillers.now (spans_left c.args.loads.items)
+    c.loop-fillers.fillers c.loop-fillers.loads.items c.loop-fillers.done.items _ i.filling in
+    let none : length (spans_of c.loop-fillers.fillers) ≡ 0 = omega (
+      arith,
+      many,
+      many_left c.args.loads.items,
+      c.loop-fillers-test.false,
+      c.len-count.ensures,
+      c.args.loads.ok.0,
+      c.loop-fillers.done.ok.0,
+    ) in
+    shown_ends g.T.Tree.gives g.S.Span.piece g.S.Span.count c.args.source.now c.loop-fillers.fillers c.loop-fillers.done.items (empty_of _ none) i.shown

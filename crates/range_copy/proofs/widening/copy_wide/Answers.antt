@@ -1,95 +1,71 @@
-use Rattle.std.proofs.Common.{◌≡◌, ◌∙◌, ◌+◌, ap, map, subst, sym, All, IfSome}
-use Rattle.std.specs.List.{AllByRecursion, count_by, list_any}
-use Rattle.path_text.specs.Order.{is_within}
-use Rattle.outside.specs.Count.{RoseBy}
+use Rattle.std.proofs.Common.{◌∙◌, subst, IfSome}
+use Rattle.std.specs.Prelude.{IfOk}
 use Rattle.outside.specs.Parts.{IsTreeIn}
-use Rattle.flat_list.specs.Spelling.{paths}
-use Rattle.level_work.specs.Counts.{is_failed}
-use Rattle.tree_copy.specs.Copying.{AreEarly, CanCopy, Copied, FitsTree, SameButTargets, bytes_copied, is_done, treated}
-use Rattle.range_copy.specs.PrivateLarge.{AreApart, CanMake, SameButFor}
-use Rattle.range_copy.specs.PrivateParts.{exceeds, merged}
+use Rattle.range_copy.proofs.Caused.{caused}
 use Rattle.range_copy.proofs.Folded.{rose_two}
-use Rattle.range_copy.proofs.Widened.{Given, Ran, Reported, large_apart, large_exceed, large_sourced, makes, of_three, reported_by, rest_both, rest_small}
-use Rattle.range_copy.proofs.Widened.{small_can, small_fit, small_sourced}
+use Rattle.range_copy.proofs.Reported.{Reported, all_reported, apart_second, can_first, exceed_second, fit_first, if_so, makes_second}
+use Rattle.range_copy.proofs.Reported.{rest_first, rest_second, rows_in_source, source_second}
+use Rattle.range_copy.proofs.Widened.{Given}
+use Rattle.range_copy.proofs.widening.copy_wide.Given as given
 use Rattle.range_copy.proofs.widening.copy_wide.Goals as goal
+use Rattle.range_copy.proofs.widening.copy_wide.Goals.{After-report_of, In_ok-parts}
+
+-- what is known of the list and its pairs once the list is in parts
+known : (g : given.Over) (c : In_ok-parts g) → Given c.args.list.now c.args.pairs.now
+known g c = record { can = c.requires.list; ends = c.see_pairs.ensures; valid = c.in_ok-parts.ensures.paths }
 
 pub copy-requires-clause-list : goal.copy-requires-clause-list
 copy-requires-clause-list g c κs within =
-    let given : Given c.args.list.now c.args.pairs.now = record { can = c.requires.list; ends = c.see_pairs.ensures; valid = c.in_ok-parts.ensures.paths } in
-    subst (λ es. CanCopy es c.args.pairs.now) (sym c.in_ok-parts.ensures.small) (small_can c.args.list.now c.args.pairs.now given c.args.piece)
+    can_first _ _ (known g (goal.at.copy-requires-clause-list g c).In_ok-parts) c.args.piece _ c.in_ok-parts.ensures.small
 
 pub copy-requires-clause-fits : goal.copy-requires-clause-fits
 copy-requires-clause-fits g c κs within =
-    let given : Given c.args.list.now c.args.pairs.now = record { can = c.requires.list; ends = c.see_pairs.ensures; valid = c.in_ok-parts.ensures.paths } in
-    let t = g.G.Plot.tree c.args.ground.now in
-    subst (λ es. IfSome t (FitsTree es c.args.pairs.now)) (sym c.in_ok-parts.ensures.small)
-    (small_fit c.args.list.now c.args.pairs.now given c.args.piece t c.requires.fits)
+    fit_first _ _ (known g (goal.at.copy-requires-clause-fits g c).In_ok-parts) c.args.piece _ c.in_ok-parts.ensures.small
+    (g.G.Plot.tree c.args.ground.now) c.requires.fits
 
 pub returns-in_err-small-clause-rest : goal.returns-in_err-small-clause-rest
 returns-in_err-small-clause-rest g c =
-    let given : Given c.args.list.now c.args.pairs.now = record { can = c.requires.list; ends = c.see_pairs.ensures; valid = c.in_ok-parts.ensures.paths } in
-    let t = g.G.Plot.tree c.args.ground.now in
-    let t1 = g.G.Plot.tree c.copy.new.ground in
-    rest_small c.args.list.now c.args.pairs.now given c.args.piece t t1
-    (subst (λ es. IfSome t (λ before. IfSome t1 (SameButTargets c.args.pairs.now es before))) c.in_ok-parts.ensures.small c.in_err-small.ensures.rest)
+    rest_first _ _ (known g (goal.at.returns-in_err-small-clause-rest g c).In_ok-parts) c.args.piece _ c.in_ok-parts.ensures.small
+    (g.G.Plot.tree c.args.ground.now) (g.G.Plot.tree c.copy.new.ground) c.in_err-small.ensures.rest
 
 pub failed_targets-requires : goal.failed_targets-requires
 failed_targets-requires g c =
-    let given : Given c.args.list.now c.args.pairs.now = record { can = c.requires.list; ends = c.see_pairs.ensures; valid = c.in_ok-parts.ensures.paths } in
-    small_sourced c.args.list.now c.args.pairs.now given c.args.piece c.in_ok-small.small.0
-    (c.in_ok-small.ensures.paths ∙ ap (λ es. paths (treated es)) c.in_ok-parts.ensures.small)
+    rows_in_source _ _ (known g (goal.at.failed_targets-requires g c).In_ok-parts) c.args.piece _ c.in_ok-parts.ensures.small
+    c.in_ok-small.small.0 c.in_ok-small.ensures.paths
 
 pub returns-in_err-failed-clause-rest : goal.returns-in_err-failed-clause-rest
 returns-in_err-failed-clause-rest g c =
-    let given : Given c.args.list.now c.args.pairs.now = record { can = c.requires.list; ends = c.see_pairs.ensures; valid = c.in_ok-parts.ensures.paths } in
-    let t = g.G.Plot.tree c.args.ground.now in
-    let t1 = g.G.Plot.tree c.copy.new.ground in
-    rest_small c.args.list.now c.args.pairs.now given c.args.piece t t1
-    (subst (λ es. IfSome t (λ before. IfSome t1 (SameButTargets c.args.pairs.now es before))) c.in_ok-parts.ensures.small c.in_ok-small.ensures.rest)
+    rest_first _ _ (known g (goal.at.returns-in_err-failed-clause-rest g c).In_ok-parts) c.args.piece _ c.in_ok-parts.ensures.small
+    (g.G.Plot.tree c.args.ground.now) (g.G.Plot.tree c.copy.new.ground) c.in_ok-small.ensures.rest
 
 pub copy_each-requires-clause-large : goal.copy_each-requires-clause-large
 copy_each-requires-clause-large g c κs within =
-    let given : Given c.args.list.now c.args.pairs.now = record { can = c.requires.list; ends = c.see_pairs.ensures; valid = c.in_ok-parts.ensures.paths } in
-    subst (AllByRecursion (λ e. exceeds c.args.piece e ≡ Rattle.std.proofs.Common.true)) (sym (c.deref.ensures.value ∙ c.in_ok-parts.ensures.large))
-    (large_exceed c.args.list.now c.args.pairs.now given c.args.piece)
+    exceed_second _ _ (known g (goal.at.copy_each-requires-clause-large g c).In_ok-parts) c.args.piece _ c.in_ok-parts.ensures.small
+    _ (c.deref.ensures.value ∙ c.in_ok-parts.ensures.large)
 
 pub copy_each-requires-clause-in_source : goal.copy_each-requires-clause-in_source
 copy_each-requires-clause-in_source g c κs within =
-    let given : Given c.args.list.now c.args.pairs.now = record { can = c.requires.list; ends = c.see_pairs.ensures; valid = c.in_ok-parts.ensures.paths } in
-    subst (AllByRecursion (λ e. list_any (λ pair. is_within e.path pair.source) c.args.pairs.now ≡ Rattle.std.proofs.Common.true))
-    (sym (c.deref.ensures.value ∙ c.in_ok-parts.ensures.large)) (large_sourced c.args.list.now c.args.pairs.now given c.args.piece)
+    source_second _ _ (known g (goal.at.copy_each-requires-clause-in_source g c).In_ok-parts) c.args.piece _ c.in_ok-parts.ensures.small
+    _ (c.deref.ensures.value ∙ c.in_ok-parts.ensures.large)
 
 pub copy_each-requires-clause-apart : goal.copy_each-requires-clause-apart
 copy_each-requires-clause-apart g c κs within =
-    let given : Given c.args.list.now c.args.pairs.now = record { can = c.requires.list; ends = c.see_pairs.ensures; valid = c.in_ok-parts.ensures.paths } in
-    subst (AreApart c.args.pairs.now) (sym (c.deref.ensures.value ∙ c.in_ok-parts.ensures.large))
-    (large_apart c.args.list.now c.args.pairs.now given c.args.piece)
+    apart_second _ _ (known g (goal.at.copy_each-requires-clause-apart g c).In_ok-parts) c.args.piece _ c.in_ok-parts.ensures.small
+    _ (c.deref.ensures.value ∙ c.in_ok-parts.ensures.large)
 
 pub copy_each-requires-clause-makes : goal.copy_each-requires-clause-makes
 copy_each-requires-clause-makes g c κs within =
-    let given : Given c.args.list.now c.args.pairs.now = record { can = c.requires.list; ends = c.see_pairs.ensures; valid = c.in_ok-parts.ensures.paths } in
-    let pairs = c.args.pairs.now in
-    let failed = c.in_ok-failed.failed.set.keys in
     let t = g.G.Plot.tree c.args.ground.now in
-    let t1 = g.G.Plot.tree c.copy.new.ground in
-    let tree = subst (λ a. IfSome t (IsTreeIn a)) c.requires.lent c.faults-faults.ensures.valid in
-    subst (λ es. IfSome t1 (λ files. AllByRecursion (λ e. CanMake pairs failed e files) es)) (sym (c.deref.ensures.value ∙ c.in_ok-parts.ensures.large))
-    (makes c.args.list.now pairs given c.args.piece c.nodes_are_under_directories.ensures t t1 tree c.requires.fits c.in_ok-small.small.0
-    (c.in_ok-small.ensures.paths ∙ ap (λ es. paths (treated es)) c.in_ok-parts.ensures.small) c.in_ok-small.ensures.tells
-    (subst (λ es. IfSome t (λ before. IfSome t1 (Copied es pairs c.in_ok-small.small.0 before))) c.in_ok-parts.ensures.small c.in_ok-small.ensures.told)
-    failed c.in_ok-failed.ensures)
+    makes_second _ _ (known g (goal.at.copy_each-requires-clause-makes g c).In_ok-parts) c.args.piece _ c.in_ok-parts.ensures.small
+    _ (c.deref.ensures.value ∙ c.in_ok-parts.ensures.large) c.nodes_are_under_directories.ensures t (g.G.Plot.tree c.copy.new.ground)
+    (subst (λ a. IfSome t (IsTreeIn a)) c.requires.lent c.faults-faults.ensures.valid) c.requires.fits c.in_ok-small.small.0
+    c.in_ok-small.ensures.paths c.in_ok-small.ensures.tells c.in_ok-small.ensures.told c.in_ok-failed.failed.set.keys c.in_ok-failed.ensures
 
 pub returns-in_err-large-clause-rest : goal.returns-in_err-large-clause-rest
 returns-in_err-large-clause-rest g c =
-    let given : Given c.args.list.now c.args.pairs.now = record { can = c.requires.list; ends = c.see_pairs.ensures; valid = c.in_ok-parts.ensures.paths } in
-    let pairs = c.args.pairs.now in
-    let t = g.G.Plot.tree c.args.ground.now in
-    let t1 = g.G.Plot.tree c.copy.new.ground in
-    let t2 = g.G.Plot.tree c.copy_each.new.ground in
-    rest_both c.args.list.now pairs given c.args.piece t t1 t2 c.in_ok-small.ensures.tells
-    (subst (λ es. IfSome t (λ before. IfSome t1 (SameButTargets pairs es before))) c.in_ok-parts.ensures.small c.in_ok-small.ensures.rest)
-    (subst (λ es. IfSome t1 (λ before. IfSome t2 (SameButFor pairs es before))) (c.deref.ensures.value ∙ c.in_ok-parts.ensures.large)
-    c.in_err-large.ensures.rest)
+    rest_second _ _ (known g (goal.at.returns-in_err-large-clause-rest g c).In_ok-parts) c.args.piece _ c.in_ok-parts.ensures.small
+    _ (c.deref.ensures.value ∙ c.in_ok-parts.ensures.large) (g.G.Plot.tree c.args.ground.now) (g.G.Plot.tree c.copy.new.ground)
+    (g.G.Plot.tree c.copy_each.new.ground) c.in_ok-small.ensures.tells c.in_ok-small.ensures.rest c.in_err-large.ensures.rest
 
 pub returns-in_err-large-clause-tells : goal.returns-in_err-large-clause-tells
 returns-in_err-large-clause-tells g c = c.in_err-large.ensures.tells ∙ c.in_ok-small.ensures.tells
@@ -97,206 +73,69 @@ returns-in_err-large-clause-tells g c = c.in_err-large.ensures.tells ∙ c.in_ok
 pub returns-in_err-large-clause-count : goal.returns-in_err-large-clause-count
 returns-in_err-large-clause-count g c = rose_two _ _ _ c.in_ok-small.ensures.count c.in_err-large.ensures.count
 
-pub returns-clause-rest : goal.returns-clause-rest
-returns-clause-rest g c =
-    let given : Given c.args.list.now c.args.pairs.now = record { can = c.requires.list; ends = c.see_pairs.ensures; valid = c.in_ok-parts.ensures.paths } in
-    let pairs = c.args.pairs.now in
-    let t = g.G.Plot.tree c.args.ground.now in
-    let t1 = g.G.Plot.tree c.copy.new.ground in
-    let t2 = g.G.Plot.tree c.copy_each.new.ground in
-    rest_both c.args.list.now pairs given c.args.piece t t1 t2 c.in_ok-small.ensures.tells
-    (subst (λ es. IfSome t (λ before. IfSome t1 (SameButTargets pairs es before))) c.in_ok-parts.ensures.small c.in_ok-small.ensures.rest)
-    (subst (λ es. IfSome t1 (λ before. IfSome t2 (SameButFor pairs es before))) (c.deref.ensures.value ∙ c.in_ok-parts.ensures.large)
-    c.in_ok-large.ensures.rest)
-
 pub returns-clause-tells : goal.returns-clause-tells
 returns-clause-tells g c = c.in_ok-large.ensures.tells ∙ c.in_ok-small.ensures.tells
 
 pub returns-clause-count : goal.returns-clause-count
 returns-clause-count g c = rose_two _ _ _ c.in_ok-small.ensures.count c.in_ok-large.ensures.count
 
+pub returns-clause-rest : goal.returns-clause-rest
+returns-clause-rest g c =
+    rest_second _ _ (known g (goal.at.returns-clause-rest g c).In_ok-parts) c.args.piece _ c.in_ok-parts.ensures.small
+    _ (c.deref.ensures.value ∙ c.in_ok-parts.ensures.large) (g.G.Plot.tree c.args.ground.now) (g.G.Plot.tree c.copy.new.ground)
+    (g.G.Plot.tree c.copy_each.new.ground) c.in_ok-small.ensures.tells c.in_ok-small.ensures.rest c.in_ok-large.ensures.rest
+
+-- what the report says
+said : (g : given.Over) (c : After-report_of g) → IfOk c.report_of.result (Reported c.args.list.now c.args.pairs.now
+    (g.G.Plot.tree c.args.ground.now) (g.G.Plot.tree c.copy_each.new.ground) (g.G.Plot.count c.args.ground.now) (g.G.Plot.count c.copy_each.new.ground))
+said g c =
+    let small = c.in_ok-small in
+    let large = c.in_ok-large in
+    all_reported c.args.list.now c.args.pairs.now
+    (record { can = c.requires.list; ends = c.see_pairs.ensures; valid = c.in_ok-parts.ensures.paths }) c.args.piece small.small large.large
+    (g.G.Plot.tree c.args.ground.now) (g.G.Plot.tree c.copy.new.ground) (g.G.Plot.tree c.copy_each.new.ground)
+    (g.G.Plot.count c.args.ground.now) (g.G.Plot.count c.copy.new.ground) (g.G.Plot.count c.copy_each.new.ground)
+    c.in_ok-parts.parts.small c.deref.result.now c.deref-2.result.now c.in_ok-parts.ensures.small
+    (c.deref.ensures.value ∙ c.in_ok-parts.ensures.large) (c.deref-2.ensures.value ∙ c.in_ok-parts.ensures.marks)
+    (record {
+      same = small.ensures.paths;
+      early_s = small.ensures.early;
+      told_s = small.ensures.told;
+      copied_s = small.ensures.copied;
+      bytes_s = small.ensures.bytes;
+      blamed_s = small.ensures.blamed;
+      tells_s = small.ensures.tells;
+      early_l = large.ensures.early small.small.0 c.in_ok-failed.ensures;
+      told_l = large.ensures.told small.small.0 c.in_ok-failed.ensures;
+      copied_l = large.ensures.copied;
+      bytes_l = large.ensures.bytes;
+      blamed_l = large.ensures.blamed;
+      rest_l = large.ensures.rest;
+    }) c.report_of.result c.report_of.ensures.rows c.report_of.ensures.copied c.report_of.ensures.bytes
+
 pub returns-clause-paths : goal.returns-clause-paths
-returns-clause-paths g c =
-    let given : Given c.args.list.now c.args.pairs.now = record { can = c.requires.list; ends = c.see_pairs.ensures; valid = c.in_ok-parts.ensures.paths } in
-    let small = c.in_ok-small.small in
-    let large = c.in_ok-large.large in
-    let t = g.G.Plot.tree c.args.ground.now in
-    let t1 = g.G.Plot.tree c.copy.new.ground in
-    let t2 = g.G.Plot.tree c.copy_each.new.ground in
-    let ran : Ran c.args.list.now c.args.pairs.now given c.args.piece c.in_ok-parts.parts.small c.deref.result.now small.0 large.rows.items small.1 large.copied
-    small.2 large.bytes t t1 t2 (g.G.Plot.count c.args.ground.now) (g.G.Plot.count c.copy.new.ground) (g.G.Plot.count c.copy_each.new.ground) = record {
-      same = c.in_ok-small.ensures.paths;
-      early_s = c.in_ok-small.ensures.early;
-      told_s = c.in_ok-small.ensures.told;
-      copied_s = c.in_ok-small.ensures.copied;
-      bytes_s = c.in_ok-small.ensures.bytes;
-      blamed_s = c.in_ok-small.ensures.blamed;
-      tells_s = c.in_ok-small.ensures.tells;
-      early_l = c.in_ok-large.ensures.early small.0 c.in_ok-failed.ensures;
-      told_l = c.in_ok-large.ensures.told small.0 c.in_ok-failed.ensures;
-      copied_l = c.in_ok-large.ensures.copied;
-      bytes_l = c.in_ok-large.ensures.bytes;
-      blamed_l = c.in_ok-large.ensures.blamed;
-      rest_l = c.in_ok-large.ensures.rest;
-    } in
-    of_three _ _ _ _ c.report_of.result
-    (λ report rows copied bytes. (reported_by c.args.list.now c.args.pairs.now given c.args.piece c.in_ok-parts.parts.small c.deref.result.now c.deref-2.result.now
-    c.in_ok-parts.ensures.small (c.deref.ensures.value ∙ c.in_ok-parts.ensures.large) (c.deref-2.ensures.value ∙ c.in_ok-parts.ensures.marks)
-    small.0 large.rows.items small.1 large.copied small.2 large.bytes t t1 t2 (g.G.Plot.count c.args.ground.now) (g.G.Plot.count c.copy.new.ground)
-    (g.G.Plot.count c.copy_each.new.ground) ran report rows copied bytes).paths)
-    c.report_of.ensures.rows c.report_of.ensures.copied c.report_of.ensures.bytes
+returns-clause-paths g c = if_so _ _ c.report_of.result (λ report r. r.paths) (said g (goal.at.returns-clause-paths g c).After-report_of)
 
 pub returns-clause-early : goal.returns-clause-early
-returns-clause-early g c =
-    let given : Given c.args.list.now c.args.pairs.now = record { can = c.requires.list; ends = c.see_pairs.ensures; valid = c.in_ok-parts.ensures.paths } in
-    let small = c.in_ok-small.small in
-    let large = c.in_ok-large.large in
-    let t = g.G.Plot.tree c.args.ground.now in
-    let t1 = g.G.Plot.tree c.copy.new.ground in
-    let t2 = g.G.Plot.tree c.copy_each.new.ground in
-    let ran : Ran c.args.list.now c.args.pairs.now given c.args.piece c.in_ok-parts.parts.small c.deref.result.now small.0 large.rows.items small.1 large.copied
-    small.2 large.bytes t t1 t2 (g.G.Plot.count c.args.ground.now) (g.G.Plot.count c.copy.new.ground) (g.G.Plot.count c.copy_each.new.ground) = record {
-      same = c.in_ok-small.ensures.paths;
-      early_s = c.in_ok-small.ensures.early;
-      told_s = c.in_ok-small.ensures.told;
-      copied_s = c.in_ok-small.ensures.copied;
-      bytes_s = c.in_ok-small.ensures.bytes;
-      blamed_s = c.in_ok-small.ensures.blamed;
-      tells_s = c.in_ok-small.ensures.tells;
-      early_l = c.in_ok-large.ensures.early small.0 c.in_ok-failed.ensures;
-      told_l = c.in_ok-large.ensures.told small.0 c.in_ok-failed.ensures;
-      copied_l = c.in_ok-large.ensures.copied;
-      bytes_l = c.in_ok-large.ensures.bytes;
-      blamed_l = c.in_ok-large.ensures.blamed;
-      rest_l = c.in_ok-large.ensures.rest;
-    } in
-    of_three _ _ _ _ c.report_of.result
-    (λ report rows copied bytes. (reported_by c.args.list.now c.args.pairs.now given c.args.piece c.in_ok-parts.parts.small c.deref.result.now c.deref-2.result.now
-    c.in_ok-parts.ensures.small (c.deref.ensures.value ∙ c.in_ok-parts.ensures.large) (c.deref-2.ensures.value ∙ c.in_ok-parts.ensures.marks)
-    small.0 large.rows.items small.1 large.copied small.2 large.bytes t t1 t2 (g.G.Plot.count c.args.ground.now) (g.G.Plot.count c.copy.new.ground)
-    (g.G.Plot.count c.copy_each.new.ground) ran report rows copied bytes).early)
-    c.report_of.ensures.rows c.report_of.ensures.copied c.report_of.ensures.bytes
+returns-clause-early g c = if_so _ _ c.report_of.result (λ report r. r.early) (said g (goal.at.returns-clause-early g c).After-report_of)
 
 pub returns-clause-told : goal.returns-clause-told
-returns-clause-told g c =
-    let given : Given c.args.list.now c.args.pairs.now = record { can = c.requires.list; ends = c.see_pairs.ensures; valid = c.in_ok-parts.ensures.paths } in
-    let small = c.in_ok-small.small in
-    let large = c.in_ok-large.large in
-    let t = g.G.Plot.tree c.args.ground.now in
-    let t1 = g.G.Plot.tree c.copy.new.ground in
-    let t2 = g.G.Plot.tree c.copy_each.new.ground in
-    let ran : Ran c.args.list.now c.args.pairs.now given c.args.piece c.in_ok-parts.parts.small c.deref.result.now small.0 large.rows.items small.1 large.copied
-    small.2 large.bytes t t1 t2 (g.G.Plot.count c.args.ground.now) (g.G.Plot.count c.copy.new.ground) (g.G.Plot.count c.copy_each.new.ground) = record {
-      same = c.in_ok-small.ensures.paths;
-      early_s = c.in_ok-small.ensures.early;
-      told_s = c.in_ok-small.ensures.told;
-      copied_s = c.in_ok-small.ensures.copied;
-      bytes_s = c.in_ok-small.ensures.bytes;
-      blamed_s = c.in_ok-small.ensures.blamed;
-      tells_s = c.in_ok-small.ensures.tells;
-      early_l = c.in_ok-large.ensures.early small.0 c.in_ok-failed.ensures;
-      told_l = c.in_ok-large.ensures.told small.0 c.in_ok-failed.ensures;
-      copied_l = c.in_ok-large.ensures.copied;
-      bytes_l = c.in_ok-large.ensures.bytes;
-      blamed_l = c.in_ok-large.ensures.blamed;
-      rest_l = c.in_ok-large.ensures.rest;
-    } in
-    of_three _ _ _ _ c.report_of.result
-    (λ report rows copied bytes. (reported_by c.args.list.now c.args.pairs.now given c.args.piece c.in_ok-parts.parts.small c.deref.result.now c.deref-2.result.now
-    c.in_ok-parts.ensures.small (c.deref.ensures.value ∙ c.in_ok-parts.ensures.large) (c.deref-2.ensures.value ∙ c.in_ok-parts.ensures.marks)
-    small.0 large.rows.items small.1 large.copied small.2 large.bytes t t1 t2 (g.G.Plot.count c.args.ground.now) (g.G.Plot.count c.copy.new.ground)
-    (g.G.Plot.count c.copy_each.new.ground) ran report rows copied bytes).told)
-    c.report_of.ensures.rows c.report_of.ensures.copied c.report_of.ensures.bytes
+returns-clause-told g c = if_so _ _ c.report_of.result (λ report r. r.told) (said g (goal.at.returns-clause-told g c).After-report_of)
 
 pub returns-clause-copied : goal.returns-clause-copied
-returns-clause-copied g c =
-    let given : Given c.args.list.now c.args.pairs.now = record { can = c.requires.list; ends = c.see_pairs.ensures; valid = c.in_ok-parts.ensures.paths } in
-    let small = c.in_ok-small.small in
-    let large = c.in_ok-large.large in
-    let t = g.G.Plot.tree c.args.ground.now in
-    let t1 = g.G.Plot.tree c.copy.new.ground in
-    let t2 = g.G.Plot.tree c.copy_each.new.ground in
-    let ran : Ran c.args.list.now c.args.pairs.now given c.args.piece c.in_ok-parts.parts.small c.deref.result.now small.0 large.rows.items small.1 large.copied
-    small.2 large.bytes t t1 t2 (g.G.Plot.count c.args.ground.now) (g.G.Plot.count c.copy.new.ground) (g.G.Plot.count c.copy_each.new.ground) = record {
-      same = c.in_ok-small.ensures.paths;
-      early_s = c.in_ok-small.ensures.early;
-      told_s = c.in_ok-small.ensures.told;
-      copied_s = c.in_ok-small.ensures.copied;
-      bytes_s = c.in_ok-small.ensures.bytes;
-      blamed_s = c.in_ok-small.ensures.blamed;
-      tells_s = c.in_ok-small.ensures.tells;
-      early_l = c.in_ok-large.ensures.early small.0 c.in_ok-failed.ensures;
-      told_l = c.in_ok-large.ensures.told small.0 c.in_ok-failed.ensures;
-      copied_l = c.in_ok-large.ensures.copied;
-      bytes_l = c.in_ok-large.ensures.bytes;
-      blamed_l = c.in_ok-large.ensures.blamed;
-      rest_l = c.in_ok-large.ensures.rest;
-    } in
-    of_three _ _ _ _ c.report_of.result
-    (λ report rows copied bytes. (reported_by c.args.list.now c.args.pairs.now given c.args.piece c.in_ok-parts.parts.small c.deref.result.now c.deref-2.result.now
-    c.in_ok-parts.ensures.small (c.deref.ensures.value ∙ c.in_ok-parts.ensures.large) (c.deref-2.ensures.value ∙ c.in_ok-parts.ensures.marks)
-    small.0 large.rows.items small.1 large.copied small.2 large.bytes t t1 t2 (g.G.Plot.count c.args.ground.now) (g.G.Plot.count c.copy.new.ground)
-    (g.G.Plot.count c.copy_each.new.ground) ran report rows copied bytes).copied)
-    c.report_of.ensures.rows c.report_of.ensures.copied c.report_of.ensures.bytes
+returns-clause-copied g c = if_so _ _ c.report_of.result (λ report r. r.copied) (said g (goal.at.returns-clause-copied g c).After-report_of)
 
 pub returns-clause-bytes : goal.returns-clause-bytes
-returns-clause-bytes g c =
-    let given : Given c.args.list.now c.args.pairs.now = record { can = c.requires.list; ends = c.see_pairs.ensures; valid = c.in_ok-parts.ensures.paths } in
-    let small = c.in_ok-small.small in
-    let large = c.in_ok-large.large in
-    let t = g.G.Plot.tree c.args.ground.now in
-    let t1 = g.G.Plot.tree c.copy.new.ground in
-    let t2 = g.G.Plot.tree c.copy_each.new.ground in
-    let ran : Ran c.args.list.now c.args.pairs.now given c.args.piece c.in_ok-parts.parts.small c.deref.result.now small.0 large.rows.items small.1 large.copied
-    small.2 large.bytes t t1 t2 (g.G.Plot.count c.args.ground.now) (g.G.Plot.count c.copy.new.ground) (g.G.Plot.count c.copy_each.new.ground) = record {
-      same = c.in_ok-small.ensures.paths;
-      early_s = c.in_ok-small.ensures.early;
-      told_s = c.in_ok-small.ensures.told;
-      copied_s = c.in_ok-small.ensures.copied;
-      bytes_s = c.in_ok-small.ensures.bytes;
-      blamed_s = c.in_ok-small.ensures.blamed;
-      tells_s = c.in_ok-small.ensures.tells;
-      early_l = c.in_ok-large.ensures.early small.0 c.in_ok-failed.ensures;
-      told_l = c.in_ok-large.ensures.told small.0 c.in_ok-failed.ensures;
-      copied_l = c.in_ok-large.ensures.copied;
-      bytes_l = c.in_ok-large.ensures.bytes;
-      blamed_l = c.in_ok-large.ensures.blamed;
-      rest_l = c.in_ok-large.ensures.rest;
-    } in
-    of_three _ _ _ _ c.report_of.result
-    (λ report rows copied bytes. (reported_by c.args.list.now c.args.pairs.now given c.args.piece c.in_ok-parts.parts.small c.deref.result.now c.deref-2.result.now
-    c.in_ok-parts.ensures.small (c.deref.ensures.value ∙ c.in_ok-parts.ensures.large) (c.deref-2.ensures.value ∙ c.in_ok-parts.ensures.marks)
-    small.0 large.rows.items small.1 large.copied small.2 large.bytes t t1 t2 (g.G.Plot.count c.args.ground.now) (g.G.Plot.count c.copy.new.ground)
-    (g.G.Plot.count c.copy_each.new.ground) ran report rows copied bytes).bytes)
-    c.report_of.ensures.rows c.report_of.ensures.copied c.report_of.ensures.bytes
+returns-clause-bytes g c = if_so _ _ c.report_of.result (λ report r. r.bytes) (said g (goal.at.returns-clause-bytes g c).After-report_of)
 
 pub returns-clause-blamed : goal.returns-clause-blamed
-returns-clause-blamed g c =
-    let given : Given c.args.list.now c.args.pairs.now = record { can = c.requires.list; ends = c.see_pairs.ensures; valid = c.in_ok-parts.ensures.paths } in
-    let small = c.in_ok-small.small in
-    let large = c.in_ok-large.large in
-    let t = g.G.Plot.tree c.args.ground.now in
-    let t1 = g.G.Plot.tree c.copy.new.ground in
-    let t2 = g.G.Plot.tree c.copy_each.new.ground in
-    let ran : Ran c.args.list.now c.args.pairs.now given c.args.piece c.in_ok-parts.parts.small c.deref.result.now small.0 large.rows.items small.1 large.copied
-    small.2 large.bytes t t1 t2 (g.G.Plot.count c.args.ground.now) (g.G.Plot.count c.copy.new.ground) (g.G.Plot.count c.copy_each.new.ground) = record {
-      same = c.in_ok-small.ensures.paths;
-      early_s = c.in_ok-small.ensures.early;
-      told_s = c.in_ok-small.ensures.told;
-      copied_s = c.in_ok-small.ensures.copied;
-      bytes_s = c.in_ok-small.ensures.bytes;
-      blamed_s = c.in_ok-small.ensures.blamed;
-      tells_s = c.in_ok-small.ensures.tells;
-      early_l = c.in_ok-large.ensures.early small.0 c.in_ok-failed.ensures;
-      told_l = c.in_ok-large.ensures.told small.0 c.in_ok-failed.ensures;
-      copied_l = c.in_ok-large.ensures.copied;
-      bytes_l = c.in_ok-large.ensures.bytes;
-      blamed_l = c.in_ok-large.ensures.blamed;
-      rest_l = c.in_ok-large.ensures.rest;
-    } in
-    of_three _ _ _ _ c.report_of.result
-    (λ report rows copied bytes. (reported_by c.args.list.now c.args.pairs.now given c.args.piece c.in_ok-parts.parts.small c.deref.result.now c.deref-2.result.now
-    c.in_ok-parts.ensures.small (c.deref.ensures.value ∙ c.in_ok-parts.ensures.large) (c.deref-2.ensures.value ∙ c.in_ok-parts.ensures.marks)
-    small.0 large.rows.items small.1 large.copied small.2 large.bytes t t1 t2 (g.G.Plot.count c.args.ground.now) (g.G.Plot.count c.copy.new.ground)
-    (g.G.Plot.count c.copy_each.new.ground) ran report rows copied bytes).blamed)
-    c.report_of.ensures.rows c.report_of.ensures.copied c.report_of.ensures.bytes
+returns-clause-blamed g c = if_so _ _ c.report_of.result (λ report r. r.blamed) (said g (goal.at.returns-clause-blamed g c).After-report_of)
+
+pub returns-clause-causes : goal.returns-clause-causes
+returns-clause-causes g c =
+    let small = c.in_ok-small in
+    let large = c.in_ok-large in
+    if_so _ _ c.report_of.result (λ report is. caused g.G.Reader.Tree.gives g.G.Part.Plot.gives g.G.Plot.gives g.G.Plot.area g.G.Plot.count
+    c.args.list.now c.args.pairs.now c.args.piece c.in_ok-parts.parts.small c.deref.result.now c.deref-2.result.now small.small.0 large.large.rows.items
+    report.0 c.in_ok-parts.ensures.small (c.deref.ensures.value ∙ c.in_ok-parts.ensures.large) (c.deref-2.ensures.value ∙ c.in_ok-parts.ensures.marks)
+    small.ensures.paths small.ensures.causes large.ensures.shown is) c.report_of.ensures.rows

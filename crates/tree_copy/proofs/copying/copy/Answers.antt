@@ -3,52 +3,38 @@ use Rattle.std.specs.List.{count_by}
 use Rattle.outside.specs.Count.{RoseBy}
 use Rattle.outside.specs.Parts.{IsTreeIn}
 use Rattle.level_work.specs.Counts.{is_failed}
+use Rattle.tree_copy.specs.Causes.{HaveCauses}
 use Rattle.tree_copy.specs.Copying.{AreEarly, Copied, bytes_copied, is_done}
 use Rattle.tree_copy.proofs.Readers.{if_ok}
-use Rattle.tree_copy.proofs.Reported.{Run, acted_rest, all_bytes, both_ok, dirs, done_rows, early, fit, fitted, marked, marks_len, rest, rose}
+use Rattle.tree_copy.proofs.Reported.{acted_rest, all_made, all_run, all_bytes, both_ok, causes, dirs, done_rows, early, fit, fitted}
+use Rattle.tree_copy.proofs.Reported.{marked, marks_len, rest, rose}
 use Rattle.tree_copy.proofs.Reported.{row_paths, stand, told}
 use Rattle.tree_copy.proofs.copying.copy.Goals as goal
 
 pub work-requires-clause-items : goal.work-requires-clause-items
-work-requires-clause-items g c κs within = fit c.args.list.now c.args.pairs.now c.in_ok-items.field-0.items.items c.deref.result.now (record {
-  can = c.requires.list;
-  valid = c.in_ok-items.ensures.valid;
-  ends = c.in_ok-items.ensures.pairs;
-  paths = c.in_ok-items.ensures.paths;
-  are = c.in_ok-items.ensures.items;
-  same = c.deref.ensures.value;
-})
+work-requires-clause-items g c κs within = fit
+    _ _ _ _
+    (all_made _ _ _ _ c.requires.list c.in_ok-items.ensures.valid c.in_ok-items.ensures.pairs c.in_ok-items.ensures.paths c.in_ok-items.ensures.items
+    c.deref.ensures.value)
 
 pub work-requires-clause-stand : goal.work-requires-clause-stand
-work-requires-clause-stand g c κs within = stand c.args.list.now c.args.pairs.now c.in_ok-items.field-0.items.items c.deref.result.now (record {
-  can = c.requires.list;
-  valid = c.in_ok-items.ensures.valid;
-  ends = c.in_ok-items.ensures.pairs;
-  paths = c.in_ok-items.ensures.paths;
-  are = c.in_ok-items.ensures.items;
-  same = c.deref.ensures.value;
-}) (g.G.Plot.tree c.args.ground.now) c.requires.fits
+work-requires-clause-stand g c κs within = stand
+    _ _ _ _
+    (all_made _ _ _ _ c.requires.list c.in_ok-items.ensures.valid c.in_ok-items.ensures.pairs c.in_ok-items.ensures.paths c.in_ok-items.ensures.items
+    c.deref.ensures.value) (g.G.Plot.tree c.args.ground.now) c.requires.fits
 
 pub work-requires-clause-dirs : goal.work-requires-clause-dirs
-work-requires-clause-dirs g c κs within = dirs c.args.list.now c.args.pairs.now c.in_ok-items.field-0.items.items c.deref.result.now (record {
-  can = c.requires.list;
-  valid = c.in_ok-items.ensures.valid;
-  ends = c.in_ok-items.ensures.pairs;
-  paths = c.in_ok-items.ensures.paths;
-  are = c.in_ok-items.ensures.items;
-  same = c.deref.ensures.value;
-}) c.nodes_are_under_directories.ensures (g.G.Plot.tree c.args.ground.now)
+work-requires-clause-dirs g c κs within = dirs
+    _ _ _ _
+    (all_made _ _ _ _ c.requires.list c.in_ok-items.ensures.valid c.in_ok-items.ensures.pairs c.in_ok-items.ensures.paths c.in_ok-items.ensures.items
+    c.deref.ensures.value) c.nodes_are_under_directories.ensures (g.G.Plot.tree c.args.ground.now)
     (subst (λ a. IfSome (g.G.Plot.tree c.args.ground.now) (IsTreeIn a)) c.requires.lent c.faults-faults.ensures.valid) c.requires.fits
 
 pub returns-in_err-outcome-clause-rest : goal.returns-in_err-outcome-clause-rest
-returns-in_err-outcome-clause-rest g c = rest c.args.list.now c.args.pairs.now c.in_ok-items.field-0.items.items c.deref.result.now (record {
-  can = c.requires.list;
-  valid = c.in_ok-items.ensures.valid;
-  ends = c.in_ok-items.ensures.pairs;
-  paths = c.in_ok-items.ensures.paths;
-  are = c.in_ok-items.ensures.items;
-  same = c.deref.ensures.value;
-}) (g.G.Plot.tree c.args.ground.now) (g.G.Plot.tree c.work.new.ground) c.in_err-outcome.ensures.rest
+returns-in_err-outcome-clause-rest g c = rest
+    _ _ _ _
+    (all_made _ _ _ _ c.requires.list c.in_ok-items.ensures.valid c.in_ok-items.ensures.pairs c.in_ok-items.ensures.paths c.in_ok-items.ensures.items
+    c.deref.ensures.value) (g.G.Plot.tree c.args.ground.now) (g.G.Plot.tree c.work.new.ground) c.in_err-outcome.ensures.rest
 
 pub settle-requires-clause-items : goal.settle-requires-clause-items
 settle-requires-clause-items g c =
@@ -61,14 +47,10 @@ settle-requires-clause-len g c = marked c.args.list.now c.args.pairs.now c.deref
     (c.deref-2.ensures.value ∙ c.in_ok-items.ensures.fits) c.in_ok-outcome.ensures.len
 
 pub returns-clause-rest : goal.returns-clause-rest
-returns-clause-rest g c = acted_rest c.args.list.now c.args.pairs.now c.in_ok-items.field-0.items.items c.deref.result.now (record {
-  can = c.requires.list;
-  valid = c.in_ok-items.ensures.valid;
-  ends = c.in_ok-items.ensures.pairs;
-  paths = c.in_ok-items.ensures.paths;
-  are = c.in_ok-items.ensures.items;
-  same = c.deref.ensures.value;
-}) c.in_ok-outcome.outcome (g.G.Plot.tree c.args.ground.now) (g.G.Plot.tree c.work.new.ground) c.in_ok-outcome.ensures.told
+returns-clause-rest g c = acted_rest
+    _ _ _ _
+    (all_made _ _ _ _ c.requires.list c.in_ok-items.ensures.valid c.in_ok-items.ensures.pairs c.in_ok-items.ensures.paths c.in_ok-items.ensures.items
+    c.deref.ensures.value) c.in_ok-outcome.outcome (g.G.Plot.tree c.args.ground.now) (g.G.Plot.tree c.work.new.ground) c.in_ok-outcome.ensures.told
 
 pub returns-clause-paths : goal.returns-clause-paths
 returns-clause-paths g c =
@@ -78,45 +60,35 @@ returns-clause-paths g c =
 
 pub returns-clause-early : goal.returns-clause-early
 returns-clause-early g c =
-    let run : Run c.args.list.now c.args.pairs.now c.in_ok-items.field-0.items.items c.deref.result.now c.deref-2.result.now c.in_ok-outcome.outcome = record {
-      given = record {
-        can = c.requires.list;
-        valid = c.in_ok-items.ensures.valid;
-        ends = c.in_ok-items.ensures.pairs;
-        paths = c.in_ok-items.ensures.paths;
-        are = c.in_ok-items.ensures.items;
-        same = c.deref.ensures.value;
-      };
-      marks = c.deref-2.ensures.value ∙ c.in_ok-items.ensures.fits;
-      len = c.in_ok-outcome.ensures.len;
-      fail = c.in_ok-outcome.ensures.failed;
-    } in
-    both_ok _ _ _ c.settle.result (λ report rows even. subst (AreEarly c.args.list.now c.args.pairs.now) (sym rows)
-    (early c.args.list.now c.args.pairs.now c.in_ok-items.field-0.items.items c.deref.result.now c.deref-2.result.now c.in_ok-outcome.outcome run even))
-    c.settle.ensures.rows c.settle.ensures.even
+    let run = all_run c.args.list.now c.args.pairs.now c.in_ok-items.field-0.items.items c.deref.result.now c.deref-2.result.now _ c.in_ok-outcome.outcome
+    (all_made _ _ _ _ c.requires.list c.in_ok-items.ensures.valid c.in_ok-items.ensures.pairs c.in_ok-items.ensures.paths c.in_ok-items.ensures.items
+    c.deref.ensures.value) c.deref-2.ensures.value c.in_ok-items.ensures.fits c.in_ok-outcome.ensures.len c.in_ok-outcome.ensures.failed in
+    if_ok _ _ c.settle.result (λ report rows. subst (AreEarly c.args.list.now c.args.pairs.now) (sym rows)
+    (early g.G.Reader.Tree.gives g.G.Part.Plot.gives _ _ _ _ _ _ run c.in_ok-outcome.ensures.each_may_come))
+    c.settle.ensures.rows
+
+pub returns-clause-causes : goal.returns-clause-causes
+returns-clause-causes g c =
+    let run = all_run c.args.list.now c.args.pairs.now c.in_ok-items.field-0.items.items c.deref.result.now c.deref-2.result.now _ c.in_ok-outcome.outcome
+    (all_made _ _ _ _ c.requires.list c.in_ok-items.ensures.valid c.in_ok-items.ensures.pairs c.in_ok-items.ensures.paths c.in_ok-items.ensures.items
+    c.deref.ensures.value) c.deref-2.ensures.value c.in_ok-items.ensures.fits c.in_ok-outcome.ensures.len c.in_ok-outcome.ensures.failed in
+    if_ok _ _ c.settle.result
+    (λ report rows. subst (HaveCauses g.G.Reader.Tree.gives g.G.Part.Plot.gives g.G.Plot.gives g.G.Plot.area g.G.Plot.count c.args.list.now c.args.pairs.now)
+    (sym rows)
+    (causes g.G.Reader.Tree.gives g.G.Part.Plot.gives _ _ _ _ _ _ run c.in_ok-outcome.ensures.each_may_come g.G.Plot.gives g.G.Plot.area g.G.Plot.count))
+    c.settle.ensures.rows
 
 pub returns-clause-told : goal.returns-clause-told
 returns-clause-told g c =
-    let run : Run c.args.list.now c.args.pairs.now c.in_ok-items.field-0.items.items c.deref.result.now c.deref-2.result.now c.in_ok-outcome.outcome = record {
-      given = record {
-        can = c.requires.list;
-        valid = c.in_ok-items.ensures.valid;
-        ends = c.in_ok-items.ensures.pairs;
-        paths = c.in_ok-items.ensures.paths;
-        are = c.in_ok-items.ensures.items;
-        same = c.deref.ensures.value;
-      };
-      marks = c.deref-2.ensures.value ∙ c.in_ok-items.ensures.fits;
-      len = c.in_ok-outcome.ensures.len;
-      fail = c.in_ok-outcome.ensures.failed;
-    } in
-    both_ok _ _ _ c.settle.result
-    (λ report rows even. subst
+    let run = all_run c.args.list.now c.args.pairs.now c.in_ok-items.field-0.items.items c.deref.result.now c.deref-2.result.now _ c.in_ok-outcome.outcome
+    (all_made _ _ _ _ c.requires.list c.in_ok-items.ensures.valid c.in_ok-items.ensures.pairs c.in_ok-items.ensures.paths c.in_ok-items.ensures.items
+    c.deref.ensures.value) c.deref-2.ensures.value c.in_ok-items.ensures.fits c.in_ok-outcome.ensures.len c.in_ok-outcome.ensures.failed in
+    if_ok _ _ c.settle.result
+    (λ report rows. subst
     (λ r. IfSome (g.G.Plot.tree c.args.ground.now)
     (λ before. IfSome (g.G.Plot.tree c.work.new.ground) (Copied c.args.list.now c.args.pairs.now r before))) (sym rows)
-    (told c.args.list.now c.args.pairs.now c.in_ok-items.field-0.items.items c.deref.result.now c.deref-2.result.now c.in_ok-outcome.outcome run even
+    (told g.G.Reader.Tree.gives g.G.Part.Plot.gives _ _ _ _ _ _ run c.in_ok-outcome.ensures.each_may_come
     (g.G.Plot.tree c.args.ground.now) (g.G.Plot.tree c.work.new.ground) c.requires.fits c.in_ok-outcome.ensures.told)) c.settle.ensures.rows
-    c.settle.ensures.even
 
 pub returns-clause-copied : goal.returns-clause-copied
 returns-clause-copied g c =

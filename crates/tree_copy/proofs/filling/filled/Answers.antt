@@ -1,7 +1,10 @@
-use Rattle.std.proofs.Common.{rules, ◌≤◌, subst, ◌∙◌, arith, length, take, drop, IfSome}
+use Rattle.std.proofs.Common.{rules, ◌+◌, ◌≤◌, ap, inl, inr, refl, subst, sym, ◌∙◌, arith, length, take, drop, IfSome}
 use Rattle.std.proofs.lemmas.List.{length-take-le, take-append-le}
+use Rattle.outside.specs.Asked as asked
 use Rattle.outside.specs.Tree.{Reads}
+use Rattle.tree_copy.specs.Causes.{WasWritten}
 use Rattle.tree_copy.proofs.Fills.{Wrote, file_more, others_more, holds_more}
+use Rattle.tree_copy.proofs.Shown.{written}
 use Rattle.tree_copy.proofs.filling.filled.Goals as goal
 
 pub loop-at-preserved : goal.loop-at-preserved
@@ -28,4 +31,12 @@ loop-at-preserved g c =
         size = file_more path _ at count _ _ (length-take-le count c.read.new.into most) c.write_at.ensures.tells before.size wrote;
         bytes = holds_more c.args.source.now path c.read.new.into at count _ _ _ reads c.write_at.ensures.tells before.bytes wrote;
       },
+      inr (
+        at,
+        take count c.read.new.into,
+        ap (λ n. at + n) (length-take-le count c.read.new.into most),
+        subst (λ bytes. WasWritten g.P.Plot.gives path (asked.write_at at bytes))
+            (take-append-le count c.read.new.into (drop c.piece-most.result c.loop-at.buffer) most)
+            (written g.P.Plot.gives path _ _ _ c.in-Ok-write_at.ensures.given),
+      ),
     )

@@ -2,6 +2,7 @@ use Rattle.std.proofs.Common.{◌-◌, ◌≡◌, ◌≤◌, ℕ, List, Option, 
 use Rattle.outside.specs.Count.{RoseBy}
 use Rattle.outside.specs.Tree.{Files}
 use Rattle.outside.specs.Writes.{SameBut}
+use Rattle.tree_copy.specs.Causes.{EndsAt}
 use Rattle.tree_copy.specs.PrivateActs.{HasFile}
 use Rattle.tree_copy.specs.PrivateDeeds.{Holds}
 use Rattle.tree_copy.proofs.filling.filled.Given as goal
@@ -19,6 +20,7 @@ invariant-loop-at g l =
     × (length l.buffer ≡ length l.fn.buffer) × RoseBy 0 (g.P.Plot.count l.fn.part) (g.P.Plot.count l.part)
     × RoseBy 0 (g.R.Tree.count l.fn.reader) (g.R.Tree.count l.reader)
     × SoFar (g.R.Tree.tree l.fn.reader) (g.P.Plot.tree l.fn.part) (g.P.Plot.tree l.part) l.source l.path l.at
+    × EndsAt g.P.Plot.gives l.path l.at
 
 abbrev pub decreases-loop-at : goal.decreases-loop-at
 decreases-loop-at g l = l.size - l.at

@@ -1,4 +1,5 @@
-use Rattle.std.proofs.Common.{◌≡◌, ◌∙◌, ◌+◌, ap, arith, length, drop, sym, not, false, subst, get_or, map, ◌∷◌, ◌++◌, [], length-append, Some}
+use Rattle.std.proofs.Common.{◌≡◌, ◌∙◌, ◌+◌, ap, arith, length, drop, sym, not, false, subst, get_or, map, ◌∷◌, ◌++◌, []}
+use Rattle.std.proofs.Common.{length-append, Some}
 use Rattle.std.proofs.lemmas.List.{length-map}
 use Rattle.std.specs.Vec.Iter.{into_iter_items}
 use Rattle.flat_list.specs.Spelling.{paths}
@@ -57,8 +58,8 @@ bounds-fits-len c =
     in
     omega (arith, here, c.len.ensures, c.loop-cursor.tally.rows.ok.0)
 
-pub fate_of-requires : goal.fate_of-requires
-fate_of-requires c = λ on.
+pub fate_of-fate-requires : goal.fate_of-fate-requires
+fate_of-fate-requires c = λ on.
     let at = moved_on c.loop-cursor.cursor c.advance.new.self c.in_ok-advance.field-0 c.in_ok-advance.ensures.passed c.if-branch.true in
     let next = next_of c.args.list.now c.advance.new.self.0 c.loop-cursor.cursor.1 c.advance.new.self.1 c.entry-entry.result.now
     (at.0 ∙ c.loop-cursor.invariant.of_list) c.entry-entry.ensures.at at.1 in
@@ -123,13 +124,13 @@ loop-cursor-preserved c =
     let left = c.loop-cursor.invariant.left ∙ ap (λ n. fitting (drop n c.args.fits.now) (paths (treated (drop c.loop-cursor.cursor.1 c.args.list.now))))
     (sym len) in
     let one : length c.note.new.tally.rows.items ≡ c.len.result + 1 =
-    omega (arith, len, ap length c.in_ok-note.ensures.rows, length-append c.loop-cursor.tally.rows.items ((c.in_ok-path.path, c.in_ok-fate.fate) ∷ [])) in
+    omega (arith, len, ap length c.in_ok-note.ensures.rows, length-append c.loop-cursor.tally.rows.items ((c.in_ok-path.path, c.fate_of-fate.result) ∷ [])) in
     let lead = path_step c.args.fits.now c.len.result (length c.note.new.tally.rows.items) (get_or c.args.fits.now c.len.result false)
     (drop c.loop-cursor.cursor.1 c.args.list.now) (drop c.advance.new.self.1 c.args.list.now) c.entry-entry.result.now c.in_ok-path.path
     (map (λ x. x.entry.path) (into_iter_items c.loop-cursor.items)) (map (λ x. x.entry.path) (into_iter_items c.path_of.new.items)) next some mark one left
     c.in_ok-path.ensures.taken c.in_ok-path.ensures.copied (λ off. ap (map (λ x. x.entry.path)) (c.in_ok-path.ensures.kept off))
     in
-    let noted : IsNoted c.entry-entry.result.now c.in_ok-fate.fate (firsts c.loop-cursor.tally.rows.items) (seconds c.loop-cursor.tally.rows.items)
+    let noted : IsNoted c.entry-entry.result.now c.fate_of-fate.result (firsts c.loop-cursor.tally.rows.items) (seconds c.loop-cursor.tally.rows.items)
     c.loop-cursor.tally.copied c.loop-cursor.tally.bytes
     (firsts c.note.new.tally.rows.items) (seconds c.note.new.tally.rows.items) c.note.new.tally.copied c.note.new.tally.bytes = record {
       told_is = (row_more _ _ _ _ c.in_ok-note.ensures.rows).0 ∙ ap (λ p. firsts c.loop-cursor.tally.rows.items ++ p ∷ []) lead.0;
@@ -138,10 +139,10 @@ loop-cursor-preserved c =
       bytes_is = c.in_ok-note.ensures.bytes;
       gain_small = c.in_ok-note.ensures.small;
     } in
-    let known : IsFate c.entry-entry.result.now c.args.outcome.now c.loop-cursor.place (get_or c.args.fits.now c.len.result false) c.in_ok-fate.fate = record {
-      fits = c.in_ok-fate.ensures.fits;
-      even = c.in_ok-fate.ensures.even;
-      long = c.in_ok-fate.ensures.long;
+    let known : IsFate c.entry-entry.result.now c.args.outcome.now c.loop-cursor.place (get_or c.args.fits.now c.len.result false)
+    c.fate_of-fate.result = record {
+      fits = c.fate_of-fate.ensures.fits;
+      long = c.fate_of-fate.ensures.long;
     } in
     record {
       of_list = at.0 ∙ c.loop-cursor.invariant.of_list;
@@ -152,7 +153,7 @@ loop-cursor-preserved c =
       so_far = passed list c.args.fits.now c.args.outcome.now (drop c.advance.new.self.1 c.args.list.now) (drop c.loop-cursor.cursor.1 c.args.list.now)
           c.entry-entry.result.now
           c.len.result (length c.note.new.tally.rows.items) c.loop-cursor.place c.place_after-place.result (get_or c.args.fits.now c.len.result false)
-          c.in_ok-fate.fate _ _ _ _ _ _ _ _
+          c.fate_of-fate.result _ _ _ _ _ _ _ _
           next some mark known c.place_after-place.ensures one noted before;
       left = lead.1;
       left_len = c.in_ok-path.ensures.len c.loop-cursor.invariant.left_len;
@@ -163,10 +164,6 @@ returns-clause-rows c =
     let end = at_end c.args.list.now c.args.fits.now c.args.outcome.now c.loop-cursor.cursor c.in_ok-advance.field-0 _ _ _ _ _ _
     c.requires.fits c.loop-cursor.invariant.of_list c.in_ok-advance.ensures.answer c.if-branch.false c.loop-cursor.invariant.so_far in
     both_parts _ ∙ (λ i. zip (end.paths_are i) (end.fates_are i))
-
-pub returns-clause-even : goal.returns-clause-even
-returns-clause-even c = (at_end c.args.list.now c.args.fits.now c.args.outcome.now c.loop-cursor.cursor c.in_ok-advance.field-0 _ _ _ _ _ _
-    c.requires.fits c.loop-cursor.invariant.of_list c.in_ok-advance.ensures.answer c.if-branch.false c.loop-cursor.invariant.so_far).even
 
 pub returns-clause-copied : goal.returns-clause-copied
 returns-clause-copied c = (at_end c.args.list.now c.args.fits.now c.args.outcome.now c.loop-cursor.cursor c.in_ok-advance.field-0 _ _ _ _ _ _

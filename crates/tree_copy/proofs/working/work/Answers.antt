@@ -30,3 +30,7 @@ returns-clause-blamed g c =
     (count c.copiers_of.new.ground) (count c.on_levels-outcome.new.ground) (count c.take_back.new.ground) c.in_ok-copiers.ensures.count
     c.in_ok-copiers.ensures.zero c.on_levels-outcome.ensures.kept
     c.take_back.ensures.kept (c.take_back.ensures.count below) h) c.on_levels-outcome.ensures.blamed
+
+pub returns-clause-each_may_come : goal.returns-clause-each_may_come
+returns-clause-each_may_come g c =
+    if_ok _ _ c.on_levels-outcome.result (λ fates each k x f at has off. (each k x f at has off).may) c.on_levels-outcome.ensures.each_may_come
