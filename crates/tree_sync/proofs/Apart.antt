@@ -33,18 +33,13 @@ use Rattle.tree_remove.specs.Removing.{AreChosen, AreThere, SameButChosen}
 use Rattle.tree_copy.specs.declared.pairs.Pair.{Pair}
 use Rattle.tree_copy.specs.Copying.{CanCopy, SameButTargets, is_target, target_of, targets_of, treated}
 use Rattle.tree_copy.specs.Placing.{overlap}
-use Rattle.tree_sync.specs.Syncing.{CanSync, AreTold, SameOutside, chosen_of, copied_of, is_both, is_chosen, is_common, is_copied, is_differ}
+use Rattle.tree_sync.specs.PrivateSteps.{Known}
+use Rattle.tree_sync.specs.Syncing.{AreTold, SameOutside, chosen_of, copied_of, is_both, is_chosen, is_common, is_copied, is_differ}
 use Rattle.tree_sync.specs.Syncing.{is_foreign}
 use Rattle.tree_sync.specs.Syncing.{is_only_dest, is_there, row_at}
 use Rattle.tree_sync.proofs.Kept.{kept_ascends}
 use Rattle.tree_sync.proofs.Members.{of_kept}
 use Rattle.tree_sync.proofs.Sided.{IsTold, StatTold, all_told, valid_of}
-
--- the lists and the pair can be synced
-pub record Known (pair : Pair) (source dest : List Entry) : Type 0 where
-  pub can : CanSync pair source dest
-  pub from : refusal pair.source ≡ None
-  pub to : refusal pair.target ≡ None
 
 pub ascends_kept : (b : Bool) (p : Entry → Bool) (es : List Entry) → IsStrictlySortedBy path_cmp (paths es) →
     IsStrictlySortedBy path_cmp (paths (cond b (filter p es) []))

@@ -19,8 +19,9 @@ use Rattle.tree_cmp.specs.Rows.{Findings, IsComparison, IsRow, is_missed, kinds,
 use Rattle.tree_cmp.specs.Sides.{Side, side, entry_at}
 use Rattle.tree_remove.specs.Removing.{SameButChosen}
 use Rattle.tree_copy.specs.declared.pairs.Pair.{Pair}
+use Rattle.tree_sync.specs.PrivateSteps.{Known}
 use Rattle.tree_sync.specs.Syncing.{FitsSync, chosen_of, is_both, is_common, row_at}
-use Rattle.tree_sync.proofs.Apart.{Known, kept_not_chosen}
+use Rattle.tree_sync.proofs.Apart.{kept_not_chosen}
 use Rattle.tree_sync.proofs.Members.{found_by}
 use Rattle.tree_sync.proofs.Sided.{Has, Stands, has_at, has_node}
 

@@ -29,13 +29,14 @@ use Rattle.tree_cmp.specs.Sides.{Side, side, entry_at, is_gone, is_hidden}
 use Rattle.tree_remove.specs.Removing.{SameButChosen, WasChosen}
 use Rattle.tree_copy.specs.declared.pairs.Pair.{Pair}
 use Rattle.tree_copy.specs.Copying.{IsCopied, IsCopyOf, clashes, is_target, target_of, treated}
+use Rattle.tree_sync.specs.PrivateSteps.{Known}
 use Rattle.tree_sync.specs.Laws.{AreAlike, IsEqual, MayHaveMore, WasSynced, below_top, is_noted, noted}
 use Rattle.tree_sync.specs.Results.{Results}
 use Rattle.tree_sync.specs.Syncing.{AreCopied, AreRemoved, agrees, chosen_of, copied_of, has_other, is_chosen, is_common, is_copied}
 use Rattle.tree_sync.specs.Syncing.{is_differ}
 use Rattle.tree_sync.specs.Syncing.{is_foreign, is_masked, is_only_dest, is_there, row_at}
 use Rattle.tree_sync.proofs.Alike.{CopyAt, alike_by, copy_alike, file_size, free_of}
-use Rattle.tree_sync.proofs.Apart.{Known, goes_to, none_goes, not_chosen, outside_copied, source_off}
+use Rattle.tree_sync.proofs.Apart.{goes_to, none_goes, not_chosen, outside_copied, source_off}
 use Rattle.tree_sync.proofs.Both.{HaveBoth, Removal, Says, have_both, kind_eq, row_says}
 use Rattle.tree_sync.proofs.Contents.{files_same, links_same, others_say}
 use Rattle.tree_sync.proofs.Fits.{agreed}

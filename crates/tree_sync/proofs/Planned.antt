@@ -18,6 +18,26 @@ pub record IsMissed (found : Findings) (plan : Plan) : Type 0 where
 
 module _ (pair : Pair) (source dest : List Entry) (delete : Bool) (tree : Option Files) (found : Findings)
     (compared : IsComparison tree (side pair.source source) (side pair.target dest) found) (plan : Plan) (missed : IsMissed found plan) where
+  -- without an entry of the source's top there is nothing to do
+  pub empty_plan : false ≡ is_there (side pair.source source) → plan.kept ≡ 0 → plan.copied ≡ [] → plan.chosen ≡ [] →
+      IsPlan pair source dest delete tree plan
+  empty_plan away kept copied chosen =
+      let l = side pair.source source in
+      let r = side pair.target dest in
+      record {
+        found = found;
+        compared = compared;
+        kept = kept ∙ ap (λ b. length (cond b (filter (is_kept l found.rows) source) [])) away;
+        copied = copied ∙ ap (λ b. cond b (filter (is_copied l found.rows) source) []) away;
+        chosen = chosen ∙ ap (λ b. cond b (filter (is_chosen l r found.rows) dest) []) (and_none delete ∙ ap (λ x. delete && x) away);
+        failed = missed.failed;
+        changed = missed.changed;
+      }
+    where
+      and_none : (d : Bool) → false ≡ (d && false)
+      and_none true = refl
+      and_none false = refl
+
   pub full_plan : true ≡ is_there (side pair.source source) → (division : Division) → IsDivision (side pair.source source) found.rows division →
       plan.kept ≡ division.kept → plan.copied ≡ division.copied →
       plan.chosen ≡ cond delete (filter (is_chosen_off division.masks.items (side pair.target dest) found.rows) dest) [] →

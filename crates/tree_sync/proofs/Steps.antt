@@ -18,10 +18,10 @@ use Rattle.tree_remove.specs.Removing.{AreChosen, AreThere, SameButChosen}
 use Rattle.tree_copy.specs.declared.pairs.Pair.{Pair}
 use Rattle.tree_copy.specs.Copying.{AreEarly, CanCopy, Copied, FitsTree, SameButTargets, treated}
 use Rattle.tree_sync.specs.declared.planning.Plan.{Plan}
-use Rattle.tree_sync.specs.PrivateSteps.{IsPlan, results_of}
+use Rattle.tree_sync.specs.PrivateSteps.{Begun, results_of}
 use Rattle.tree_sync.specs.Results.{Results}
 use Rattle.tree_sync.specs.Syncing.{AreCopied, AreRemoved, FitsSync, ReadsShow, SameOutside, Synced, chosen_of, copied_of}
-use Rattle.tree_sync.proofs.Apart.{Known, can_copy, can_remove, chosen_there, outside_copied, outside_removed}
+use Rattle.tree_sync.proofs.Apart.{can_copy, can_remove, chosen_there, outside_copied, outside_removed}
 use Rattle.tree_sync.proofs.Fits.{fits_copy}
 
 weaker : {X : Type 0} (P Q : X → Type 0) → ((x : X) → P x → Q x) → (o : Option X) → IfSome o P → IfSome o Q
@@ -44,16 +44,7 @@ reads_show gives found failed changed f c h = record {
   changed = subst (All (ShowsChange gives)) (sym c) (All-map (ShowsChange gives) (λ m. m.path) found.changed h.changed);
 }
 
--- a plan, and the facts where it begins
-pub record Begun (pair : Pair) (source dest : List Entry) (delete : Bool) (tree now : Option Files) (plan : Plan) : Type 0 where
-  pub law : NodesHavePaths
-  pub known : Known pair source dest
-  pub fits : IfSome tree (FitsSync pair source dest)
-  pub are_trees : IfSome tree IsTree
-  pub is_plan : IsPlan pair source dest delete tree plan
-  pub same : now ≡ tree
-
-module _ (pair : Pair) (source dest : List Entry) (delete : Bool) (tree now : Option Files) (plan : Plan)
+module _ {pair : Pair} {source dest : List Entry} {delete : Bool} {tree now : Option Files} {plan : Plan}
     (b : Begun pair source dest delete tree now plan) where
   abbrev found : Findings
   found = b.is_plan.found

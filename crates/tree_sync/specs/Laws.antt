@@ -20,7 +20,7 @@ use Rattle.tree_sync.specs.Syncing.{AreTold, CanSync, FitsSync, Synced, is_both,
 
 -- ---- the paths that are named, below the tops
 
--- the entry of a path of which not all was told. A path that is gone is on no side
+-- the entry of a path of which not all is known. A path that is gone is on neither side
 abbrev pub is_noted : Entry → Bool
 is_noted e = not (is_gone e.mark) && (not (is_some e.stat && is_fine e.mark) || not (e.unnamed == 0 && e.far == 0))
 
@@ -46,7 +46,7 @@ is_under_some paths p = list_any (is_within p) paths
 
 -- ---- a list that leaves nothing out off the paths that it names
 
--- where something stands and nothing over it is noted, the side has an entry with a stat
+-- if a node is there and no path above it is noted, the side has an entry with a stat
 abbrev pub IsWhole : Side → Files → Type 0
 IsWhole s files = (p : List ℕ) → refusal p ≡ None → is_some (get files (grafted s.top p)) ≡ true → is_under_some (noted s) p ≡ false →
     is_some (stat_at (entry_at s p)) ≡ true
@@ -59,7 +59,7 @@ pub record AreAlike (n m : Node) : Type 0 where
   pub bytes : bytes_of m.body ≡ bytes_of n.body
   pub text : text_of m.body ≡ text_of n.body
 
--- the destination may have more than the source where nothing is to be removed, and else nothing more
+-- without `delete` the destination may have more than the source, with it nothing more
 abbrev pub MayHaveMore : Bool → Type 0
 MayHaveMore true = ⊥
 MayHaveMore false = ⊤
@@ -70,7 +70,7 @@ IsEqual delete (Some n) (Some m) = AreAlike n m
 IsEqual delete None None = ⊤
 IsEqual delete None (Some m) = MayHaveMore delete
 
--- a sync from the lists of two walks that leave nothing out, of a source that is there, over files that tell their tree
+-- a sync from the lists of two walks that leave nothing out, of a source that is there, over files that show their tree
 pub record WasSynced (pair : Pair) (source dest : List Entry) (delete : Bool) (done : Results) (before after : Files) : Type 0 where
   pub can : CanSync pair source dest
   pub from : refusal pair.source ≡ None
@@ -91,8 +91,8 @@ SyncMakesEqual = (pair : Pair) (source dest : List Entry) (delete : Bool) (done 
 
 -- ---- the law of rows
 
--- a list of a walk of the tree in which no answer failed: it tells the tree, each entry that is not gone has a stat, and each node has
--- an entry
+-- a list of a walk of the tree in which no answer failed: it describes the tree, each entry that is not gone has a stat, and each
+-- node has an entry
 pub record IsFullList (top : List ℕ) (list : List Entry) (files : Files) : Type 0 where
   pub is_side : IsSide (side top list)
   pub told : AreTold files list
@@ -106,7 +106,7 @@ pub record WasCompared (pair : Pair) (after : Files) (source dest : List Entry) 
   pub right : IsFullList pair.target dest after
   pub compared : IsComparison (Some after) (side pair.source source) (side pair.target dest) found
 
--- a row shows no difference, but that the destination alone may have the path where nothing was to be removed
+-- a row shows no difference, but that without `delete` the destination alone may have the path
 pub record AgreesAfter (delete : Bool) (row : Row) : Type 0 where
   pub exist : (is_both row.exist || (not delete && is_only_dest row.exist)) ≡ true
   pub kind : is_both row.exist ≡ true → is_common row.kind ≡ true

@@ -10,16 +10,16 @@ use Rattle.tree_copy.specs.declared.pairs.PlaceError.{PlaceError}
 use Rattle.tree_copy.specs.declared.pairs.PlaceError.TheVariants as place
 use Rattle.tree_copy.specs.Placing.{overlap, dir_told}
 
--- why it can't be, if it can't: the two overlap, or no directory is there for the destination; `over_dir` says that there is one
+-- why it can't be, if it can't: the two overlap, or the destination's parent is not a directory. `over_dir` says that it is one
 abbrev pub sync_placed : Bool → List ℕ → List ℕ → Result (Unit {0}) PlaceError
 sync_placed over_dir source dest =
     if overlap (source ∷ dest ∷ []) then Err place.Overlap else if over_dir then Ok tt else Err place.NoDest
 
--- the same over files that are told
+-- the same over files that show their tree
 abbrev pub sync_placed_over : Files → List ℕ → List ℕ → Result (Unit {0}) PlaceError
 sync_placed_over files source dest = sync_placed (is_dir (get files (parent_of dest))) source dest
 
--- an overlap, or that no directory is there, is told where it is due. Nothing is due of a look that failed, and of want of memory
+-- an overlap or a missing directory is the error if it is due. A look that failed and a lack of memory need no cause here
 abbrev pub IsSyncWhy : Result (Unit {0}) PlaceError → PlaceError → Type 0
 IsSyncWhy due place.Overlap = due ≡ Err place.Overlap
 IsSyncWhy due place.NoDest = due ≡ Err place.NoDest
@@ -33,7 +33,7 @@ IsLookCounted dest old new place.Overlap = ⊤
 IsLookCounted dest old new place.NoDest = ⊤
 IsLookCounted dest old new place.OutOfMemory = ⊤
 
--- why it can't be, by the answer of the one look. An overlap is told without one, and nothing else is told where the two overlap
+-- why it can't be, by the answer of the one look. An overlap needs no look, and it is the only error if the two overlap
 abbrev pub SyncPlaceStopped : {S : Type 0} → Asks S → List ℕ → List ℕ → S → S → PlaceError → Type 0
 SyncPlaceStopped gives source dest before after place.Overlap = (overlap (source ∷ dest ∷ []) ≡ true) × (after ≡ before)
 SyncPlaceStopped gives source dest before after place.NoDest =

@@ -57,7 +57,7 @@ is_differ two.Differ = true
 is_differ two.Common = false
 is_differ two.NoValue = false
 
--- both sides have the path, as one kind, and where it is no directory with one content: the bytes of files, or the texts of links
+-- both sides have the path, with one kind, and, unless it is a directory, with one content: the bytes of files or the texts of links
 abbrev pub agrees : Option Stat → Option Row → Bool
 agrees stat None = false
 agrees stat (Some row) = is_both row.exist && (is_common row.kind && (is_of kind.Dir stat || is_common row.content))
@@ -66,11 +66,11 @@ agrees stat (Some row) = is_both row.exist && (is_common row.kind && (is_of kind
 abbrev pub is_kept : Side → List Row → Entry → Bool
 is_kept l rows e = is_some e.stat && agrees e.stat (row_at rows (below_of e.path l.top))
 
--- and one that it has not
+-- and one that it does not have
 abbrev pub is_copied : Side → List Row → Entry → Bool
 is_copied l rows e = is_some e.stat && not (agrees e.stat (row_at rows (below_of e.path l.top)))
 
--- the source has something there that is never copied
+-- the source has a node there that is never copied
 abbrev pub has_other : Entry → Bool
 has_other e = not (is_gone e.mark) && is_of kind.Other e.stat
 
@@ -78,7 +78,7 @@ has_other e = not (is_gone e.mark) && is_of kind.Other e.stat
 abbrev pub is_masked : Side → List ℕ → Bool
 is_masked l p = list_any (λ e. has_other e && is_within p (below_of e.path l.top)) l.entries
 
--- the source has nothing at the path, or something of another kind
+-- the source has no node at the path, or one of another kind
 abbrev pub is_foreign : Option Row → Bool
 is_foreign None = false
 is_foreign (Some row) = is_only_dest row.exist || is_differ row.kind
@@ -88,7 +88,7 @@ abbrev pub is_chosen : Side → Side → List Row → Entry → Bool
 is_chosen l r rows e =
     is_some e.stat && (is_foreign (row_at rows (below_of e.path r.top)) && not (is_masked l (below_of e.path r.top)))
 
--- ---- the entries that are kept, removed and copied: none, where the source itself has no stat
+-- ---- the entries that are kept, removed and copied: none, if the source itself has no stat
 
 abbrev pub is_there : Side → Bool
 is_there l = list_any (λ e. pointwise nat_eq e.path l.top && is_some e.stat) l.entries
@@ -110,15 +110,15 @@ pub record AreRemoved (chosen : List Entry) (rows : List (List ℕ × Fate)) (be
   pub tells : is_some after ≡ is_some before
   pub removed : IfSome before (λ old. IfSome after (Removed rows old))
 
--- the entries were copied to where the pair tells
+-- the entries were copied to their targets by the pair
 pub record AreCopied (list : List Entry) (pair : Pair) (rows : List (List ℕ × Fate)) (before after : Option Files) : Type 0 where
   pub paths : map (λ row. row.0) rows ≡ paths (treated list)
   pub early : AreEarly list (pair ∷ []) rows
   pub tells : is_some after ≡ is_some before
   pub copied : IfSome before (λ old. IfSome after (Copied list (pair ∷ []) rows old))
 
--- the sync: by a comparison of the two lists, the entries that do not belong there were removed, and then those that were wanting were
--- copied, from the tree that the removal had left
+-- the sync, by a comparison of the two lists: the entries that do not belong there were removed. Then those that the destination
+-- lacks were copied, from the tree that the removal left
 pub record Synced (pair : Pair) (source dest : List Entry) (delete : Bool) (done : Results) (before after : Option Files) : Type 0 where
   pub found : Findings
   pub compared : IsComparison before (side pair.source source) (side pair.target dest) found
@@ -129,7 +129,7 @@ pub record Synced (pair : Pair) (source dest : List Entry) (delete : Bool) (done
   pub removed : AreRemoved (chosen_of delete (side pair.source source) (side pair.target dest) found.rows) done.removals before between
   pub copied : AreCopied (copied_of (side pair.source source) found.rows) pair done.copies between after
 
--- some read of each file that is named as failed, or as changed, gave nothing
+-- some read of each file that is named as failed or changed gave nothing
 pub record ReadsShow {S : Type 0} (gives : Asks S) (unread altered : List (List ℕ)) : Type 0 where
   pub failed : All (ShowsFailure gives) unread
   pub changed : All (ShowsChange gives) altered
@@ -146,16 +146,16 @@ pub record CanSync (pair : Pair) (source dest : List Entry) : Type 0 where
   pub right : IsSide (side pair.target dest)
   pub apart : overlap (ends_of (pair ∷ [])) ≡ false
 
--- the entries tell the nodes at their paths: the stats, and the texts of links
+-- the entries describe the nodes at their paths: the stats, and the texts of links
 pub record AreTold (files : Files) (entries : List Entry) : Type 0 where
   pub stats : StatsTold files entries
   pub targets : All (λ e. IfSome e.target (λ text. link_at (get files e.path) ≡ Some text)) entries
 
--- a directory is listed over the entry
+-- the list has a directory above the entry
 abbrev pub has_parent : List Entry → Entry → Bool
 has_parent list e = list_any (λ d. pointwise nat_eq d.path (parent_of e.path) && is_of kind.Dir d.stat) list
 
--- the entries tell the tree, those of the source stand under their directories, and the target stands in a directory
+-- the entries describe the tree, those of the source are under their directories, and the target is in a directory
 pub record FitsSync (pair : Pair) (source dest : List Entry) (files : Files) : Type 0 where
   pub left : AreTold files source
   pub right : AreTold files dest

@@ -13,7 +13,7 @@ use path_text::{Path, below_keeps_order, under_is_contiguous};
 use std::alloc::Global;
 use tree_cmp::Compared;
 
-/// The entries of the destination that are removed: those that do not belong there, where it is asked to, and else none.
+/// The entries of the destination that are removed: with `delete` those that do not belong there, and else none.
 pub(crate) fn chosen(
     alloc: Global,
     dest: &FlatList,

@@ -20,7 +20,7 @@ use tree_cmp::Compared;
 pub(crate) struct Division {
     // How many of them the destination has.
     pub(crate) kept: u64,
-    // Those that it has not.
+    // Those that it does not have.
     pub(crate) copied: FlatList,
     // The paths below the top at which the source has a node that is never copied.
     pub(crate) masks: Vec<Path>,
@@ -82,7 +82,7 @@ pub(crate) fn divided(
     })
 }
 
-// How many are kept with one entry more.
+// The number of kept entries with one entry more.
 fn with_kept(kept: u64, entry: &Entry, agrees: bool) -> u64
     requires { kept + 1 < 18446744073709551616 }
     ensures { result ≡ (if is_some entry.now.stat && agrees then kept + 1 else kept) }
@@ -94,7 +94,7 @@ fn with_kept(kept: u64, entry: &Entry, agrees: bool) -> u64
     }
 }
 
-// Adds an entry with a stat that the destination has not.
+// Adds an entry with a stat that the destination does not have.
 fn add_wanting(list: &mut FlatList, entry: &Entry, agrees: bool) -> Result<(), SyncError>
     ensures { OnOk result (list.new ≡ list.old ++ (if is_some entry.now.stat && not agrees then entry.now ∷ [] else [])) }
 {

@@ -4,10 +4,10 @@ use std::alloc::{AllocError, AllocFailed};
 use thiserror::Error;
 use tree_cmp::CmpError;
 
-/// Why nothing more is synced.
+/// Why a sync ends early.
 #[derive(Clone, Copy, Debug, Drop, PartialEq, Eq, Error)]
 pub enum SyncError {
-    /// No memory was found.
+    /// Out of memory.
     #[error("out of memory")]
     OutOfMemory,
 }

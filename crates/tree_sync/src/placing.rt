@@ -10,8 +10,8 @@ use outside::{Failed, Kind, Stat, Tree};
 use path_text::Path;
 use tree_copy::PlaceError;
 
-/// Whether the source can be synced to the destination: neither is the other or under it, and the parent of the destination is a
-/// directory. An overlap is told without a look; else the parent is looked at once.
+/// Whether the source can be synced to the destination. Neither may be the other or under it, and the parent of the destination must
+/// be a directory. An overlap costs no look; else it looks at the parent once.
 pub fn sync_place<R: Tree>(reader: &mut R, source: &Path, dest: &Path) -> Result<(), PlaceError>
     ensures told { OnOk result (IfSome (R.tree reader.old) (λ files. sync_placed_over files source.now dest.now ≡ Ok tt)) }
     ensures why { IfErr result (λ e. IfSome (R.tree reader.old) (λ files. IsSyncWhy (sync_placed_over files source.now dest.now) e)) }
@@ -20,7 +20,7 @@ pub fn sync_place<R: Tree>(reader: &mut R, source: &Path, dest: &Path) -> Result
     ensures count { RoseBy 0 (R.count reader.old) (R.count reader.new) }
     ensures counted { IfErr result (IsLookCounted dest.now (R.count reader.old) (R.count reader.new)) }
 
-    // Over all files, also those that tell no tree, by the answers of the reader.
+    // By the reader's answers, over all files, also over files that show no tree.
     ensures ended { OnOk result (StatMeans R.gives (parent_of dest.now) dir_told (Some true) reader.old reader.new) }
     ensures stopped { IfErr result (SyncPlaceStopped R.gives source.now dest.now reader.old reader.new) }
 {
@@ -47,7 +47,7 @@ fn meet(source: &Path, dest: &Path) -> bool
     source.is_within(dest) || dest.is_within(source)
 }
 
-// Whether the answer of `stat` tells a directory; nothing where it failed.
+// Whether the answer of `stat` is a directory; nothing if it failed.
 fn by_stat(told: Result<Option<Stat>, Failed>) -> Option<bool>
     ensures { result ≡ dir_told told }
 {

@@ -1,16 +1,15 @@
 //! The plan of a sync, by a comparison of both lists.
 ghost use Rattle.std.specs.Prelude.{◌≡◌, ◌≤◌, length, map, IfOk, IfSome};
 ghost use Rattle.outside.specs.Count.{RoseBy};
-ghost use Rattle.tree_cmp.specs.Readers.{StatsTold};
-ghost use Rattle.tree_cmp.specs.Sides.{side, IsSide};
-ghost use Rattle.tree_sync.specs.PrivateSteps.{IsPlan};
-ghost use Rattle.tree_sync.specs.Syncing.{ReadsShow};
+ghost use Rattle.outside.specs.Writes.{nothing_lent};
+ghost use Rattle.tree_sync.specs.PrivateSteps.{Begun};
+ghost use Rattle.tree_sync.specs.Syncing.{CanSync, FitsSync, ReadsShow};
 
 use crate::choosing::chosen;
 use crate::dividing::{Division, divided, is_there};
 use crate::errors::SyncError;
 use flat_list::FlatList;
-use outside::Ground;
+use outside::{Ground, Plot, nodes_have_paths};
 use path_text::Path;
 use std::alloc::Global;
 use std::thread::Threads;
@@ -32,7 +31,7 @@ pub(crate) struct Plan {
     pub(crate) changed: Vec<Path>,
 }
 
-/// Compares the two lists and plans the work. Of the comparison it keeps the files that could not be read.
+/// Compares the two lists and plans the work. It keeps the comparison's files that could not be read.
 pub(crate) fn make_plan<T: Threads + Sync, G: Ground>(
     rt: &T,
     alloc: Global,
@@ -46,19 +45,21 @@ pub(crate) fn make_plan<T: Threads + Sync, G: Ground>(
 where
     G::Reader: Send,
     requires hosts { (1 ≤ hosts) × (hosts ≤ 64) }
-    requires left { IsSide (side pair.now.source source.now) }
-    requires right { IsSide (side pair.now.target dest.now) }
-    requires left_told { IfSome (G.tree files.old) (λ tree. StatsTold tree source.now) }
-    requires right_told { IfSome (G.tree files.old) (λ tree. StatsTold tree dest.now) }
-    ensures plan { IfOk result (IsPlan pair.now source.now dest.now delete (G.tree files.old)) }
+    requires lent { G.area files.old ≡ nothing_lent }
+    requires can { CanSync pair.now source.now dest.now }
+    requires fits { IfSome (G.tree files.old) (FitsSync pair.now source.now dest.now) }
+    ensures begun { IfOk result (Begun pair.now source.now dest.now delete (G.tree files.old) (G.tree files.new)) }
     ensures counted { IfOk result (λ plan. RoseBy (length plan.failed.items) (G.count files.old) (G.count files.new)) }
     ensures causes { IfOk result (λ plan. ReadsShow G.Reader.gives plan.failed.items plan.changed.items) }
     ensures same { G.tree files.new ≡ G.tree files.old }
     ensures area { G.area files.new ≡ G.area files.old }
     ensures count { RoseBy 0 (G.count files.old) (G.count files.new) }
 {
-    let from = &pair.source;
-    let to = &pair.target;
+    nodes_have_paths();
+    let _faults = files.faults(); // gives the proof that the nodes are a tree
+    let (from, to) = (&pair.source, &pair.target);
+    let _ = from.text(); // gives the proof that it is a path
+    let _ = to.text();
     let found = compare_files(rt, alloc, source, from, dest, to, files, hosts)?;
     let failed = paths_of(alloc, found.failed())?;
     let changed = paths_of(alloc, found.changed())?;

@@ -11,8 +11,8 @@ use std::marker::Model;
 use tree_copy::CopyReport;
 use tree_remove::RemoveReport;
 
-/// The report of a sync: the fates of the copies by the paths of the source, and those of the removals by those of the destination;
-/// how many entries were kept; and the files whose reads failed, or showed a change.
+/// The report of a sync. It has the fates of the copies by the paths of the source, and those of the removals by the paths of the
+/// destination. It also has the number of kept entries, and the files whose reads failed or showed a change.
 #[derive(Debug, Drop)]
 pub struct SyncReport {
     copies: Vec<(Path, Fate)>,
@@ -86,7 +86,7 @@ impl SyncReport {
         &self.failed
     }
 
-    /// The files of which a read found less than their stat had told, or no file, in the order of the rows of the comparison.
+    /// The files of which a read found fewer bytes than their stat's size, or no file, in the order of the rows of the comparison.
     pub fn changed(&self) -> &[Path]
         ensures { result.now ≡ self.now.changed }
     {
@@ -94,7 +94,7 @@ impl SyncReport {
     }
 }
 
-// How many of them came to `Done`.
+// The number of rows that came to `Done`.
 fn count_done(rows: &[(Path, Fate)]) -> u64
     ensures { result ≡ count_by (λ row. is_done row.1) rows.now }
 {

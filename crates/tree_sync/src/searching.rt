@@ -1,4 +1,4 @@
-//! Searches through rows and paths that ascend, which go on from where they came to.
+//! Searches through ascending rows and paths, each of which goes on from its last place.
 ghost use Rattle.std.specs.Prelude.{◌≡◌, ◌<◌, true, None, length};
 ghost use Rattle.std.specs.List.{list_any};
 ghost use Rattle.std.specs.List.Sorted.{IsStrictlySortedBy};
@@ -12,8 +12,8 @@ use path_text::{Path, path_order_is_preorder};
 use std::cmp::Ordering;
 use tree_cmp::Compared;
 
-/// Goes on among the rows, from a place whose rows before it all come before the path that is sought: to the first that does
-/// not come before it, and whether it is the row of that path.
+/// Searches the rows from a place on, if all rows before that place come before the path. It answers the place of the first row that
+/// does not come before the path, and whether it is the row of that path.
 pub(crate) fn seek_row(found: &Compared, from: usize, sought: &Path) -> (usize, bool)
     requires ascend { IsStrictlySortedBy path_cmp (row_paths found.now.rows) }
     requires passed { IsPassed (row_paths found.now.rows) from sought.now }
@@ -31,8 +31,8 @@ pub(crate) fn seek_row(found: &Compared, from: usize, sought: &Path) -> (usize, 
     (found.len(), false)
 }
 
-/// Goes on among paths that ascend: past those that come before the path that is sought, where it is not under them; and
-/// whether the sought one is one of all, or under one.
+/// Searches ascending paths from a place on: it goes past those that come before the path and that the path is not under. It also
+/// answers whether the path is one of all, or under one.
 pub(crate) fn seek_mask(masks: &[Path], from: usize, sought: &Path) -> (usize, bool)
     requires ascend { IsStrictlySortedBy path_cmp masks.now }
     requires cleared { IsCleared masks.now from sought.now }

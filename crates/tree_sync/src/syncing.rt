@@ -10,15 +10,15 @@ use crate::errors::SyncError;
 use crate::planning::make_plan;
 use crate::reports::SyncReport;
 use flat_list::FlatList;
-use outside::{Ground, Plot, nodes_have_paths};
+use outside::Ground;
 use std::alloc::Global;
 use std::slice;
 use std::thread::Threads;
 use tree_copy::{Pair, copy};
 use tree_remove::remove;
 
-/// Makes the tree at the pair's target equal to the tree at its source, by the lists of the walks of both. It compares them, removes
-/// the target's entries that do not belong there, where it is asked to, and copies the entries that it lacks.
+/// Makes the tree at the pair's target equal to the tree at its source, by the lists of the walks of both. It compares them. With
+/// `delete` it removes the target's entries that do not belong there. Then it copies the entries that the target lacks.
 pub fn sync<R: Threads + Sync, G: Ground>(
     rt: &R,
     alloc: Global,
@@ -46,11 +46,6 @@ where
     ensures lent { G.area ground.new ≡ nothing_lent }
     ensures count { RoseBy 0 (G.count ground.old) (G.count ground.new) }
 {
-    nodes_have_paths();
-    // The call tells that the nodes are a tree.
-    let _faults = ground.faults();
-    let _ = pair.source.text(); // tells that it is a path
-    let _ = pair.target.text();
     let plan = make_plan(rt, alloc, source, dest, pair, delete, ground, hosts)?;
     let removed = remove(rt, alloc, &plan.chosen, ground, ranks, hosts)?;
     let pairs = slice::from_ref(pair);

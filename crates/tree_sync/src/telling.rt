@@ -38,7 +38,7 @@ fn is_foreign(row: &Row) -> bool
     row.exist == Exist::OnlyDest || row.kind == Two::Differ
 }
 
-/// Whether the entry tells a node that is never copied.
+/// Whether the entry is of a node that is never copied.
 pub(crate) fn has_other(entry: &Entry) -> bool
     ensures { result ≡ has_other entry.now }
 {

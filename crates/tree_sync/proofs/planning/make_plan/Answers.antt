@@ -1,13 +1,43 @@
-use Rattle.std.proofs.Common.{◌≡◌, ◌∙◌, [], ap, cond, filter, map, refl, subst, sym}
+use Rattle.std.proofs.Common.{◌≡◌, ◌∙◌, [], IfSome, ap, cond, filter, map, refl, subst, sym}
 use Rattle.std.specs.List.Sorted.{IsStrictlySortedBy}
 use Rattle.path_text.specs.Order.{path_cmp}
 use Rattle.path_text.proofs.Moved.{below_keeps_order}
+use Rattle.outside.specs.Parts.{IsTreeIn}
 use Rattle.tree_cmp.specs.Sides.{side}
 use Rattle.tree_sync.specs.PrivateSteps.{is_chosen_off, masks_of}
 use Rattle.tree_sync.proofs.Kept.{masks_ascend}
-use Rattle.tree_sync.proofs.Planned.{full_plan}
-use Rattle.tree_sync.proofs.Steps.{reads_show}
+use Rattle.tree_sync.proofs.Planned.{empty_plan, full_plan}
+use Rattle.tree_sync.proofs.Steps.{left_told, reads_show, right_told}
 use Rattle.tree_sync.proofs.planning.make_plan.Goals as goal
+
+pub compare_files-requires-clause-left_told : goal.compare_files-requires-clause-left_told
+compare_files-requires-clause-left_told g c κs within =
+    left_told c.args.pair.now c.args.source.now c.args.dest.now (g.G.Plot.tree c.args.files.now) c.requires.fits
+
+pub compare_files-requires-clause-right_told : goal.compare_files-requires-clause-right_told
+compare_files-requires-clause-right_told g c κs within =
+    right_told c.args.pair.now c.args.source.now c.args.dest.now (g.G.Plot.tree c.args.files.now) c.requires.fits
+
+pub returns-then-not-branch-clause-begun : goal.returns-then-not-branch-clause-begun
+returns-then-not-branch-clause-begun g c = record {
+  law = c.nodes_have_paths.ensures;
+  known = record { can = c.requires.can; from = c.text.ensures.valid; to = c.text-2.ensures.valid };
+  fits = c.requires.fits;
+  are_trees = subst (λ a. IfSome (g.G.Plot.tree c.args.files.now) (IsTreeIn a)) c.requires.lent c.faults-faults.ensures.valid;
+  is_plan =
+      empty_plan c.args.pair.now c.args.source.now c.args.dest.now c.args.delete (g.G.Plot.tree c.args.files.now) c.in_ok-found.found
+      c.in_ok-found.ensures.found (record {
+        kept = 0;
+        copied = c.make.result;
+        chosen = c.make-then-not-branch.result;
+        failed = c.in_ok-failed.failed;
+        changed = c.in_ok-changed.changed;
+      }) (record {
+        failed = c.in_ok-failed.ensures ∙ ap (map (λ m. m.path)) c.failed.ensures;
+        changed = c.in_ok-changed.ensures ∙ ap (map (λ m. m.path)) c.changed.ensures;
+      }) (sym c.if-not-branch.true ∙ c.in_ok-is_there.ensures) refl c.make.ensures c.make-then-not-branch.ensures;
+  same = c.in_ok-found.ensures.same;
+}
 
 pub returns-then-not-branch-clause-causes : goal.returns-then-not-branch-clause-causes
 returns-then-not-branch-clause-causes g c =
@@ -19,18 +49,26 @@ pub chosen-requires-clause-masks : goal.chosen-requires-clause-masks
 chosen-requires-clause-masks g c =
     let l = side c.args.pair.now.source c.args.source.now in
     let are : c.deref.result.now ≡ masks_of l = c.deref.ensures.value ∙ c.in_ok-kept.ensures.masks in
-    subst (IsStrictlySortedBy path_cmp) (sym are) (masks_ascend below_keeps_order l c.requires.left)
+    subst (IsStrictlySortedBy path_cmp) (sym are) (masks_ascend below_keeps_order l c.requires.can.left)
 
-pub returns-clause-plan : goal.returns-clause-plan
-returns-clause-plan g c =
+pub returns-clause-begun : goal.returns-clause-begun
+returns-clause-begun g c =
     let r = side c.args.pair.now.target c.args.dest.now in
-    full_plan c.args.pair.now c.args.source.now c.args.dest.now c.args.delete (g.G.Plot.tree c.args.files.now) c.in_ok-found.found
-    c.in_ok-found.ensures.found _ (record {
-      failed = c.in_ok-failed.ensures ∙ ap (map (λ m. m.path)) c.failed.ensures;
-      changed = c.in_ok-changed.ensures ∙ ap (map (λ m. m.path)) c.changed.ensures;
-    }) (sym c.if-not-branch.false ∙ c.in_ok-is_there.ensures) c.in_ok-kept.field-0 c.in_ok-kept.ensures refl refl
-    (c.in_ok-chosen.ensures ∙ ap (λ masks. cond c.args.delete (filter (is_chosen_off masks r c.in_ok-found.found.rows) c.args.dest.now) [])
-    c.deref.ensures.value)
+    record {
+      law = c.nodes_have_paths.ensures;
+      known = record { can = c.requires.can; from = c.text.ensures.valid; to = c.text-2.ensures.valid };
+      fits = c.requires.fits;
+      are_trees = subst (λ a. IfSome (g.G.Plot.tree c.args.files.now) (IsTreeIn a)) c.requires.lent c.faults-faults.ensures.valid;
+      is_plan =
+          full_plan c.args.pair.now c.args.source.now c.args.dest.now c.args.delete (g.G.Plot.tree c.args.files.now) c.in_ok-found.found
+          c.in_ok-found.ensures.found _ (record {
+            failed = c.in_ok-failed.ensures ∙ ap (map (λ m. m.path)) c.failed.ensures;
+            changed = c.in_ok-changed.ensures ∙ ap (map (λ m. m.path)) c.changed.ensures;
+          }) (sym c.if-not-branch.false ∙ c.in_ok-is_there.ensures) c.in_ok-kept.field-0 c.in_ok-kept.ensures refl refl
+          (c.in_ok-chosen.ensures ∙ ap (λ masks. cond c.args.delete (filter (is_chosen_off masks r c.in_ok-found.found.rows) c.args.dest.now) [])
+          c.deref.ensures.value);
+      same = c.in_ok-found.ensures.same;
+    }
 
 pub returns-clause-causes : goal.returns-clause-causes
 returns-clause-causes g c =

@@ -1,123 +1,49 @@
 use Rattle.std.proofs.Common.{sym, subst, IfSome}
-use Rattle.outside.specs.Parts.{IsTreeIn}
 use Rattle.tree_copy.specs.Copying.{CanCopy, FitsTree, SameButTargets}
 use Rattle.tree_sync.specs.Results.{Results}
 use Rattle.tree_sync.specs.Syncing.{ReadsShow}
-use Rattle.tree_sync.proofs.Steps.{blamed_by, copied_by, is_sync, left_told, plan_chosen, plan_copied, plan_fits, plan_there}
-use Rattle.tree_sync.proofs.Steps.{rest_copied, rest_removed, right_told}
+use Rattle.tree_sync.proofs.Steps.{blamed_by, copied_by, is_sync, plan_chosen, plan_copied, plan_fits, plan_there, rest_copied, rest_removed}
 use Rattle.tree_sync.proofs.syncing.sync.Goals as goal
-
-pub make_plan-requires-clause-left_told : goal.make_plan-requires-clause-left_told
-make_plan-requires-clause-left_told g c κs within =
-    left_told c.args.pair.now c.args.source.now c.args.dest.now (g.G.Plot.tree c.args.ground.now) c.requires.fits
-
-pub make_plan-requires-clause-right_told : goal.make_plan-requires-clause-right_told
-make_plan-requires-clause-right_told g c κs within =
-    right_told c.args.pair.now c.args.source.now c.args.dest.now (g.G.Plot.tree c.args.ground.now) c.requires.fits
 
 pub remove-requires-clause-chosen : goal.remove-requires-clause-chosen
 remove-requires-clause-chosen g c κs within =
-    plan_chosen c.args.pair.now c.args.source.now c.args.dest.now c.args.delete (g.G.Plot.tree c.args.ground.now)
-    (g.G.Plot.tree c.make_plan.new.files) c.in_ok-plan.plan (record {
-      law = c.nodes_have_paths.ensures;
-      known = record { can = c.requires.can; from = c.text.ensures.valid; to = c.text-2.ensures.valid };
-      fits = c.requires.fits;
-      are_trees = subst (λ a. IfSome (g.G.Plot.tree c.args.ground.now) (IsTreeIn a)) c.requires.lent c.faults-faults.ensures.valid;
-      is_plan = c.in_ok-plan.ensures.plan;
-      same = c.in_ok-plan.ensures.same;
-    })
+    plan_chosen c.in_ok-plan.ensures.begun
 
 pub remove-requires-clause-there : goal.remove-requires-clause-there
 remove-requires-clause-there g c κs within =
-    plan_there c.args.pair.now c.args.source.now c.args.dest.now c.args.delete (g.G.Plot.tree c.args.ground.now)
-    (g.G.Plot.tree c.make_plan.new.files) c.in_ok-plan.plan (record {
-      law = c.nodes_have_paths.ensures;
-      known = record { can = c.requires.can; from = c.text.ensures.valid; to = c.text-2.ensures.valid };
-      fits = c.requires.fits;
-      are_trees = subst (λ a. IfSome (g.G.Plot.tree c.args.ground.now) (IsTreeIn a)) c.requires.lent c.faults-faults.ensures.valid;
-      is_plan = c.in_ok-plan.ensures.plan;
-      same = c.in_ok-plan.ensures.same;
-    })
+    plan_there c.in_ok-plan.ensures.begun
 
 pub copy-requires-clause-list : goal.copy-requires-clause-list
 copy-requires-clause-list g c κs within =
     subst (CanCopy c.in_ok-plan.plan.copied) (sym c.from_ref-pairs.ensures.value)
-    (plan_copied c.args.pair.now c.args.source.now c.args.dest.now c.args.delete (g.G.Plot.tree c.args.ground.now)
-    (g.G.Plot.tree c.make_plan.new.files) c.in_ok-plan.plan (record {
-      law = c.nodes_have_paths.ensures;
-      known = record { can = c.requires.can; from = c.text.ensures.valid; to = c.text-2.ensures.valid };
-      fits = c.requires.fits;
-      are_trees = subst (λ a. IfSome (g.G.Plot.tree c.args.ground.now) (IsTreeIn a)) c.requires.lent c.faults-faults.ensures.valid;
-      is_plan = c.in_ok-plan.ensures.plan;
-      same = c.in_ok-plan.ensures.same;
-    }))
+    (plan_copied c.in_ok-plan.ensures.begun)
 
 pub copy-requires-clause-fits : goal.copy-requires-clause-fits
 copy-requires-clause-fits g c κs within =
     subst (λ ps. IfSome (g.G.Plot.tree c.remove.new.ground) (FitsTree c.in_ok-plan.plan.copied ps)) (sym c.from_ref-pairs.ensures.value)
-    (plan_fits c.args.pair.now c.args.source.now c.args.dest.now c.args.delete (g.G.Plot.tree c.args.ground.now)
-    (g.G.Plot.tree c.make_plan.new.files) c.in_ok-plan.plan (record {
-      law = c.nodes_have_paths.ensures;
-      known = record { can = c.requires.can; from = c.text.ensures.valid; to = c.text-2.ensures.valid };
-      fits = c.requires.fits;
-      are_trees = subst (λ a. IfSome (g.G.Plot.tree c.args.ground.now) (IsTreeIn a)) c.requires.lent c.faults-faults.ensures.valid;
-      is_plan = c.in_ok-plan.ensures.plan;
-      same = c.in_ok-plan.ensures.same;
-    }) (g.G.Plot.tree c.remove.new.ground) c.in_ok-removed.ensures.tells c.in_ok-removed.ensures.rest)
+    (plan_fits c.in_ok-plan.ensures.begun (g.G.Plot.tree c.remove.new.ground) c.in_ok-removed.ensures.tells c.in_ok-removed.ensures.rest)
 
 pub returns-in_err-removed-clause-rest : goal.returns-in_err-removed-clause-rest
 returns-in_err-removed-clause-rest g c =
-    rest_removed c.args.pair.now c.args.source.now c.args.dest.now c.args.delete (g.G.Plot.tree c.args.ground.now)
-    (g.G.Plot.tree c.make_plan.new.files) c.in_ok-plan.plan (record {
-      law = c.nodes_have_paths.ensures;
-      known = record { can = c.requires.can; from = c.text.ensures.valid; to = c.text-2.ensures.valid };
-      fits = c.requires.fits;
-      are_trees = subst (λ a. IfSome (g.G.Plot.tree c.args.ground.now) (IsTreeIn a)) c.requires.lent c.faults-faults.ensures.valid;
-      is_plan = c.in_ok-plan.ensures.plan;
-      same = c.in_ok-plan.ensures.same;
-    }) (g.G.Plot.tree c.remove.new.ground) c.in_err-removed.ensures.rest
+    rest_removed c.in_ok-plan.ensures.begun (g.G.Plot.tree c.remove.new.ground) c.in_err-removed.ensures.rest
 
 pub returns-in_err-copied-clause-rest : goal.returns-in_err-copied-clause-rest
 returns-in_err-copied-clause-rest g c =
-    rest_copied c.args.pair.now c.args.source.now c.args.dest.now c.args.delete (g.G.Plot.tree c.args.ground.now)
-    (g.G.Plot.tree c.make_plan.new.files) c.in_ok-plan.plan (record {
-      law = c.nodes_have_paths.ensures;
-      known = record { can = c.requires.can; from = c.text.ensures.valid; to = c.text-2.ensures.valid };
-      fits = c.requires.fits;
-      are_trees = subst (λ a. IfSome (g.G.Plot.tree c.args.ground.now) (IsTreeIn a)) c.requires.lent c.faults-faults.ensures.valid;
-      is_plan = c.in_ok-plan.ensures.plan;
-      same = c.in_ok-plan.ensures.same;
-    }) (g.G.Plot.tree c.remove.new.ground) (g.G.Plot.tree c.copy.new.ground)
+    rest_copied c.in_ok-plan.ensures.begun (g.G.Plot.tree c.remove.new.ground) (g.G.Plot.tree c.copy.new.ground)
     c.in_ok-removed.ensures.tells c.in_ok-removed.ensures.rest (subst (λ ps. IfSome (g.G.Plot.tree c.remove.new.ground)
     (λ before. IfSome (g.G.Plot.tree c.copy.new.ground) (SameButTargets ps c.in_ok-plan.plan.copied before))) c.from_ref-pairs.ensures.value
     c.in_err-copied.ensures.rest)
 
 pub returns-clause-rest : goal.returns-clause-rest
 returns-clause-rest g c =
-    rest_copied c.args.pair.now c.args.source.now c.args.dest.now c.args.delete (g.G.Plot.tree c.args.ground.now)
-    (g.G.Plot.tree c.make_plan.new.files) c.in_ok-plan.plan (record {
-      law = c.nodes_have_paths.ensures;
-      known = record { can = c.requires.can; from = c.text.ensures.valid; to = c.text-2.ensures.valid };
-      fits = c.requires.fits;
-      are_trees = subst (λ a. IfSome (g.G.Plot.tree c.args.ground.now) (IsTreeIn a)) c.requires.lent c.faults-faults.ensures.valid;
-      is_plan = c.in_ok-plan.ensures.plan;
-      same = c.in_ok-plan.ensures.same;
-    }) (g.G.Plot.tree c.remove.new.ground) (g.G.Plot.tree c.copy.new.ground)
+    rest_copied c.in_ok-plan.ensures.begun (g.G.Plot.tree c.remove.new.ground) (g.G.Plot.tree c.copy.new.ground)
     c.in_ok-removed.ensures.tells c.in_ok-removed.ensures.rest (subst (λ ps. IfSome (g.G.Plot.tree c.remove.new.ground)
     (λ before. IfSome (g.G.Plot.tree c.copy.new.ground) (SameButTargets ps c.in_ok-plan.plan.copied before))) c.from_ref-pairs.ensures.value
     c.in_ok-copied.ensures.rest)
 
 pub returns-clause-synced : goal.returns-clause-synced
 returns-clause-synced g c =
-    is_sync c.args.pair.now c.args.source.now c.args.dest.now c.args.delete (g.G.Plot.tree c.args.ground.now)
-    (g.G.Plot.tree c.make_plan.new.files) c.in_ok-plan.plan (record {
-      law = c.nodes_have_paths.ensures;
-      known = record { can = c.requires.can; from = c.text.ensures.valid; to = c.text-2.ensures.valid };
-      fits = c.requires.fits;
-      are_trees = subst (λ a. IfSome (g.G.Plot.tree c.args.ground.now) (IsTreeIn a)) c.requires.lent c.faults-faults.ensures.valid;
-      is_plan = c.in_ok-plan.ensures.plan;
-      same = c.in_ok-plan.ensures.same;
-    }) c.of.result c.in_ok-removed.removed.0 c.in_ok-copied.copied.0
+    is_sync c.in_ok-plan.ensures.begun c.of.result c.in_ok-removed.removed.0 c.in_ok-copied.copied.0
     (g.G.Plot.tree c.remove.new.ground) (g.G.Plot.tree c.copy.new.ground) c.of.ensures
     (record { paths = c.in_ok-removed.ensures.paths; tells = c.in_ok-removed.ensures.tells; removed = c.in_ok-removed.ensures.told })
     (copied_by c.in_ok-plan.plan.copied c.args.pair.now _ c.in_ok-copied.copied.0 (g.G.Plot.tree c.remove.new.ground) (g.G.Plot.tree c.copy.new.ground)
