@@ -1,20 +1,20 @@
-//! How a run ends: its status, the texts that it prints, or the one line that says why it prints none.
+//! How a run ends: its status, and the texts that it prints, or the one line that says why it prints none.
 //!
-//! Each tool makes a [`Report`], which is both of its texts and how many failures they name, or a [`Stop`], which is why there is
-//! none. [`Report::put`] prints the first, and [`end_stopped`] ends a run by the second; [`end_refused`] ends one whose words are
-//! refused. Each answers a [`Status`], which is the program's exit status.
+//! Each tool makes a [`Report`], which has both of its texts and the number of failures in them. Or it makes a [`Stop`], the
+//! reason why there is no report. [`Report::put`] prints a report, and [`end_stopped`] ends a run by a stop. [`end_refused`]
+//! ends a run whose words are refused. Each answers a [`Status`], the program's exit status.
 //!
 //! - `statuses` has the statuses and their numbers.
 //! - `stops` has the reasons to stop.
 //! - `reports` has the texts, and prints them.
-//! - `telling` has the one line of a run that prints no listing.
+//! - `telling` has the one line of a run that prints no list.
 //!
-//! Proved, for any two sinks: with status 0 or 1 both hold their text; with status 4 the one that failed holds a prefix of it, and
-//! after a fault of `out` nothing goes to `notes`; where no sink fails, a report that names nothing ends with status 0. A run that
-//! stopped ends with the status of its reason and its line, or for want of memory with that line.
+//! Proved, for any two sinks: with status 0 or 1 both hold their text. With status 4 the one that failed holds a prefix of it, and
+//! after a fault of `out` nothing goes to `notes`. If no sink fails, a report without failures ends with status 0. A run that
+//! stopped ends with the status of its reason and its line. If it is out of memory for that, it ends with the line of status 3.
 //!
-//! `specs/Sides` has what a run has to do with, `specs/Ends` what the sinks hold when it ends, `specs/Statuses` the numbers,
-//! `specs/Lines` the lines, `specs/Stops` the status and the line of each reason.
+//! `specs/Sides` has the files and sinks of a run, and `specs/Ends` the contents of the sinks at its end. `specs/Statuses` has
+//! the numbers, `specs/Lines` the lines, and `specs/Stops` the status and the line of each reason.
 #![tactic(auto)]
 
 mod reports;

@@ -1,4 +1,4 @@
-//! What is to be printed once all is done.
+//! The texts that are printed when all work is done.
 ghost use Rattle.std.specs.Prelude.{◌≡◌, ◌⊎◌, ◌<◌};
 ghost use Rattle.outside.specs.Count.{RoseBy, StoodStill};
 ghost use Rattle.run_report.specs.Ends.{Grew, GrewBySome, Printed};
@@ -8,31 +8,36 @@ use crate::statuses::Status;
 use outside::{Sink, put_all};
 use tool_text::Text;
 
-/// Both texts of a run that did all it was asked for.
+/// Both texts of a run that did all its work.
 #[derive(Drop)]
 pub struct Report {
-    /// How many failures the notes name.
+    /// The number of failures in the notes.
     pub failed: u64,
-    /// The text of the listing.
+    /// The text for standard output.
     pub out: Text,
-    /// What is told beside it, and the failures.
+    /// The text for standard error: the reports on the walk, and the failures.
     pub notes: Text,
 }
 
 impl Report {
     /// Writes both texts. Nothing goes to `notes` after a fault of `out`.
     pub fn put<O: Sink, E: Sink>(&self, out: &mut O, notes: &mut E) -> Status
-        ensures done { result ≡ Status.Done → (self.now.failed ≡ 0) × Printed self.now (stream_of (O.text out.old) (O.count out.old)) (stream_of (O.text out.new) (O.count out.new))
+        ensures done { result ≡ Status.Done → (self.now.failed ≡ 0)
+            × Printed self.now (stream_of (O.text out.old) (O.count out.old)) (stream_of (O.text out.new) (O.count out.new))
             (stream_of (E.text notes.old) (E.count notes.old)) (stream_of (E.text notes.new) (E.count notes.new)) }
-        ensures named { result ≡ Status.Named → (0 < self.now.failed) × Printed self.now (stream_of (O.text out.old) (O.count out.old)) (stream_of (O.text out.new) (O.count out.new))
+        ensures named { result ≡ Status.Named → (0 < self.now.failed)
+            × Printed self.now (stream_of (O.text out.old) (O.count out.old)) (stream_of (O.text out.new) (O.count out.new))
             (stream_of (E.text notes.old) (E.count notes.old)) (stream_of (E.text notes.new) (E.count notes.new)) }
-        ensures sink { result ≡ Status.Sink → (RoseBy 1 (O.count out.old) (O.count out.new) × GrewBySome self.now.out (stream_of (O.text out.old) (O.count out.old)) (stream_of (O.text out.new) (O.count out.new)) × (notes.new ≡ notes.old))
-            ⊎ (RoseBy 1 (E.count notes.old) (E.count notes.new) × Grew self.now.out (stream_of (O.text out.old) (O.count out.old)) (stream_of (O.text out.new) (O.count out.new))
+        ensures sink { result ≡ Status.Sink → (RoseBy 1 (O.count out.old) (O.count out.new)
+            × GrewBySome self.now.out (stream_of (O.text out.old) (O.count out.old)) (stream_of (O.text out.new) (O.count out.new)) × (notes.new ≡ notes.old))
+            ⊎ (RoseBy 1 (E.count notes.old) (E.count notes.new)
+            × Grew self.now.out (stream_of (O.text out.old) (O.count out.old)) (stream_of (O.text out.new) (O.count out.new))
             × GrewBySome self.now.notes (stream_of (E.text notes.old) (E.count notes.old)) (stream_of (E.text notes.new) (E.count notes.new))) }
         ensures which { (result ≡ Status.Done) ⊎ ((result ≡ Status.Named) ⊎ (result ≡ Status.Sink)) }
 
-        // Where no sink fails, a report that names nothing ends well.
-        ensures fine { self.now.failed ≡ 0 → StoodStill (O.count out.old) (O.count out.new) → StoodStill (E.count notes.old) (E.count notes.new) → result ≡ Status.Done }
+        // If no sink fails, a report without failures ends well.
+        ensures fine { self.now.failed ≡ 0 → StoodStill (O.count out.old) (O.count out.new) → StoodStill (E.count notes.old) (E.count notes.new)
+            → result ≡ Status.Done }
         ensures counts { RoseBy 0 (O.count out.old) (O.count out.new) × RoseBy 0 (E.count notes.old) (E.count notes.new) }
     {
         if put_all(out, self.out.bytes()).is_err() {

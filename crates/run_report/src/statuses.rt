@@ -1,23 +1,23 @@
 //! How a run ends.
 
-/// How a run ended. The program's exit status is its number.
+/// How a run ended. Its number is the program's exit status.
 #[derive(Clone, Copy, Debug, Drop, PartialEq, Eq)]
 pub enum Status {
-    /// All was done and nothing is to be named.
+    /// All was done, without a failure.
     Done,
-    /// All was done, and the notes name what could not be looked at.
+    /// All was done, and the notes name the paths that failed.
     Named,
     /// The words were refused, or the destination of dcp or dsync was.
     Words,
-    /// No memory was found.
+    /// The run is out of memory.
     Memory,
     /// A sink failed.
     Sink,
-    /// The list has more entries than a list may have.
+    /// There are more entries than a list may have.
     TooMany,
-    /// The walk stopped when it was to, and its lists are written.
+    /// The walk stopped as asked, and its checkpoint is written.
     Stopped,
-    /// The file that was to be read is no list file.
+    /// The file to be read is not a list file.
     Damaged,
     /// A list file could not be read, or could not be written.
     ListFile,
@@ -27,7 +27,7 @@ impl Status {
     ghost use Rattle.std.specs.Prelude.{◌≡◌};
     ghost use Rattle.run_report.specs.Statuses.{number_of};
 
-    /// The number that the program ends with.
+    /// The exit status of the program.
     pub const fn number(self) -> u8
         ensures { result ≡ number_of self }
     {

@@ -1,39 +1,39 @@
-//! Why a run stops before it prints its listing.
+//! Why a run stops before it prints its list.
 use path_text::{OutOfMemory, Path};
 
-/// Why a list file can't be read or written.
+/// Why a list file could not be read or written.
 #[derive(Clone, Copy, Debug, Drop, PartialEq, Eq)]
 pub enum Trouble {
-    /// No file is there to be read.
+    /// There is no file to read.
     Absent,
     /// No file can be there.
     NoPlace,
-    /// The files failed.
+    /// The files reported an error.
     Fault,
 }
 
-/// Why a run stops before it prints its listing.
+/// Why a run stops before it prints its list.
 #[derive(Debug, Drop)]
 pub enum Stop {
-    /// No memory was found.
+    /// The run is out of memory.
     OutOfMemory,
-    /// Of the sources and the targets of dcp or dsync two are equal, or one stands under another.
+    /// Two of the sources and the targets of dcp or dsync are equal, or one is below another.
     Overlap,
-    /// A copy of several sources is to go to what is no directory; or no directory is there to hold a target, or its path would be
-    /// too long.
+    /// The destination of several sources is not a directory. Or there is no directory for a target, or the target's path would
+    /// be too long.
     NoDirectory,
-    /// The list has more entries than a list may have.
+    /// There are more entries than a list may have.
     TooMany,
-    /// The walk stopped after it had handled so many strings, and left so many: its lists are written.
+    /// The walk stopped, and its checkpoint is written.
     Stopped {
-        /// How many strings were handled.
+        /// The number of strings that were handled.
         handled: u64,
-        /// How many are left.
+        /// The number of those that are left.
         left: u64,
     },
-    /// The file at the path is no list file, which its line of this number, the first being 1, is the first to show.
+    /// The file at the path is not a list file. Its first bad line has this number, counted from 1.
     Damaged(Path, u64),
-    /// The list file at the path can't be read or written.
+    /// The list file at the path could not be read or written.
     ListFile(Trouble, Path),
 }
 

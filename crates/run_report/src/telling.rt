@@ -1,4 +1,4 @@
-//! The one line of a run that prints no listing.
+//! The one line of a run that prints no list.
 ghost use Rattle.std.specs.Prelude.{◌≡◌, ◌++◌, ◌∷◌, [], codes, Some, IfOk, OnOk, OnErr};
 ghost use Rattle.outside.specs.Count.{RoseBy};
 ghost use Rattle.tool_words.specs.Refusals.{refusal_in};
@@ -15,8 +15,8 @@ use std::alloc::Global;
 use tool_text::{Text, put_line, put_path_line};
 use tool_words::{Cause, Refusal, WordsError};
 
-// Ends with one line. Where no memory was found for it, the line of status 3 stands in its place, which needs none. The
-// status stands also where the sink fails.
+// Ends with one line. If it is out of memory for that line, it ends with the line of status 3, which needs none. The status is
+// the same if the sink fails.
 fn end_with<E: Sink>(notes: &mut E, line: Result<Text, OutOfMemory>, status: Status) -> Status
     ensures status { OnOk line (result ≡ status) }
     ensures line { IfOk line (λ text. GrewByLine text (stream_of (E.text notes.old) (E.count notes.old)) (stream_of (E.text notes.new) (E.count notes.new))) }
@@ -35,7 +35,7 @@ fn end_with<E: Sink>(notes: &mut E, line: Result<Text, OutOfMemory>, status: Sta
     }
 }
 
-// Puts a line, or what a sink that fails takes of it.
+// Puts a line, or as much of it as a sink takes before it fails.
 fn put_or_fail<E: Sink>(notes: &mut E, line: &[u8])
     ensures line { GrewByLine line.now (stream_of (E.text notes.old) (E.count notes.old)) (stream_of (E.text notes.new) (E.count notes.new)) }
     ensures count { RoseBy 0 (E.count notes.old) (E.count notes.new) }
@@ -43,7 +43,7 @@ fn put_or_fail<E: Sink>(notes: &mut E, line: &[u8])
     let _ = put_all(notes, line);
 }
 
-/// Ends a run whose words are refused, with the line of the offence; or, where no memory was found, with the line that says so.
+/// Ends a run whose words are refused, with the line of the offence; or, if it is out of memory, with the line of status 3.
 pub fn end_refused<E: Sink>(alloc: Global, notes: &mut E, why: WordsError) -> Status
     ensures told { ToldRefusal (refusal_in why) result (stream_of (E.text notes.old) (E.count notes.old)) (stream_of (E.text notes.new) (E.count notes.new)) }
     ensures count { RoseBy 0 (E.count notes.old) (E.count notes.new) }
@@ -85,7 +85,7 @@ fn cause_text(cause: Cause) -> &'static str
     }
 }
 
-/// Ends a run that stopped, with its line; or, where no memory was found for that, with the line that says so.
+/// Ends a run that stopped, with its line; or, if it is out of memory for that, with the line of status 3.
 pub fn end_stopped<E: Sink>(alloc: Global, notes: &mut E, stop: Stop) -> Status
     ensures told { Told stop result (stream_of (E.text notes.old) (E.count notes.old)) (stream_of (E.text notes.new) (E.count notes.new)) }
     ensures count { RoseBy 0 (E.count notes.old) (E.count notes.new) }
@@ -107,7 +107,7 @@ fn status_of(stop: &Stop) -> Status
     }
 }
 
-// The line that says why a run stopped. None is made of want of memory.
+// The line that says why a run stopped. If the reason is out of memory, it makes none.
 fn stop_line(alloc: Global, stop: &Stop) -> Result<Text, OutOfMemory>
     ensures { IfOk result (λ text. text ≡ stop_line stop.now) }
 {

@@ -4,3 +4,4 @@ pub mod Runs
 pub mod NoteOrder
 pub mod Rows
 pub mod Synced
+pub mod Groups

@@ -8,7 +8,7 @@ use crate::listing::put_count;
 use path_text::OutOfMemory;
 use tree_cmp::{Compared, Exist, Row, Two};
 
-/// How many rows there are, by where their paths are, and by the field in which they differ.
+/// The number of rows, by the side of their paths, and by the field in which they differ.
 #[derive(Clone, Copy, Debug, Drop, PartialEq, Eq)]
 pub(crate) struct RowCounts {
     rows: u64,
@@ -88,7 +88,7 @@ fn row_at(rows: &Compared, k: usize) -> &Row
     rows.row(k)
 }
 
-/// Adds a line for each row, and the line of their counts and of how many failures are noted.
+/// Adds a line for each row, and a line with their counts and the number of failure notes.
 pub(crate) fn add_rows(draft: &mut Draft, rows: &Compared, failed: u64) -> Result<(), OutOfMemory>
     ensures ok { OnOk result (draft.new.1 ≡ draft.old.1 ++ rows_text rows.now.rows failed) }
     ensures stands { draft.new.0 ≡ draft.old.0 }

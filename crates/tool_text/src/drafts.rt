@@ -1,4 +1,4 @@
-//! Text in the making: what stands, and behind it what is being added.
+//! Text in the making: the finished part, and after it the part that is being added.
 ghost use Rattle.std.specs.Prelude.{◌≡◌, ◌++◌, ◌∷◌, [], replicate, OnOk, OnErr};
 ghost use Rattle.path_text.specs.Escape.{escape};
 ghost use Rattle.ring_core.specs.Text.{line_of};
@@ -8,7 +8,7 @@ use ring_core::{Event, put_event};
 use std::alloc::Global;
 use std::marker::Model;
 
-/// Seen as (what stands, what is added). Each call that adds leaves what stands; `end` makes what was added stand, or takes
+/// Seen as (the finished part, the added part). Each call that adds keeps the finished part. `end` joins the added part to it, or takes
 /// it away.
 #[derive(Debug, Drop)]
 pub(crate) struct Draft {
@@ -96,7 +96,7 @@ impl Draft {
         put_event(&mut self.bytes, event)
     }
 
-    /// Ends the adding, by how it went.
+    /// Ends the adding: keeps the added part, or takes it away after an error.
     pub(crate) fn end(&mut self, put: Result<(), OutOfMemory>) -> Result<(), OutOfMemory>
         ensures answer { result ≡ put }
         ensures ok { OnOk put (self.new ≡ (self.old.0 ++ self.old.1, [])) }

@@ -1,17 +1,17 @@
-//! Laws of failure notes, each the contract of a function that does nothing.
+//! Laws of failure notes, each the contract of a function with an empty body.
 ghost use Rattle.tool_text.specs.NoteOrder.{NotesStandInOrder, OrderIsUnique, NothingToOrder};
 
-/// The notes of entries whose paths ascend stand in their order, each once.
+/// The notes of entries whose paths ascend are in order, each once.
 pub fn notes_stand_in_order()
     ensures { NotesStandInOrder }
 {}
 
-/// Notes have one order: what [`in_order`](crate::in_order) answers is fixed by what it is given.
+/// Notes have one order: two answers of [`in_order`](crate::in_order) for the same notes are equal.
 pub fn order_is_unique()
     ensures { OrderIsUnique }
 {}
 
-/// Of no notes [`in_order`](crate::in_order) answers none, and of some it answers some.
+/// [`in_order`](crate::in_order) answers no notes exactly if it is given none.
 pub fn nothing_to_order()
     ensures { NothingToOrder }
 {}

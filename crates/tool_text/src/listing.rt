@@ -15,7 +15,7 @@ const LINE_LEN: usize = 16;
 // More than a summary has, which comes behind the lines.
 const SUMMARY_LEN: usize = 256;
 
-/// Adds a line for each entry that has a stat. Memory is taken once, unless links have texts, bytes of a path have to be escaped or
+/// Adds a line for each entry that has a stat. Memory is taken once, unless links have texts, a path needs escapes, or
 /// a size has more than 12 digits.
 pub(crate) fn add_list(draft: &mut Draft, list: &FlatList) -> Result<(), OutOfMemory>
     ensures ok { OnOk result (draft.new.1 ≡ draft.old.1 ++ lines_of list.now) }
@@ -29,12 +29,12 @@ pub(crate) fn add_list(draft: &mut Draft, list: &FlatList) -> Result<(), OutOfMe
     Ok(())
 }
 
-// So many bytes the lines and a summary have at most where each entry has a stat, none has a target and no byte of a path is
-// escaped.
+// The room that the lines and a summary take at first. An eighth more than the paths and the numbers is for the texts of links and for
+// escapes: room that is not used costs no memory.
 fn expected_len(list: &FlatList) -> usize {
     let paths = usize::try_from(list.path_bytes()).unwrap_or(usize::MAX);
     let lines = paths.saturating_add(list.len().saturating_mul(LINE_LEN));
-    lines.saturating_add(SUMMARY_LEN)
+    lines.saturating_add(lines / 8).saturating_add(SUMMARY_LEN)
 }
 
 fn add_entry(draft: &mut Draft, entry: &Entry) -> Result<(), OutOfMemory>
@@ -105,7 +105,7 @@ pub(crate) fn add_summary(draft: &mut Draft, sum: &Summary) -> Result<(), OutOfM
     draft.push(b'\n')
 }
 
-/// Adds a number behind its label.
+/// Adds a number after its label.
 pub(crate) fn put_count(draft: &mut Draft, label: &str, n: u64) -> Result<(), OutOfMemory>
     ensures ok { OnOk result (draft.new.1 ≡ draft.old.1 ++ (label.now ++ decimal n)) }
     ensures stands { draft.new.0 ≡ draft.old.0 }

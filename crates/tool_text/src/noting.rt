@@ -1,4 +1,4 @@
-//! Failure notes: why a path is named, and the line that says so.
+//! Failure notes: a path, the reason, and their line.
 ghost use Rattle.std.specs.Prelude.{◌≡◌, ◌++◌, ◌∷◌, [], false, length, OnOk, IfOk, codes, if◌then◌else◌};
 ghost use Rattle.std.specs.Option.{option_to_list};
 ghost use Rattle.std.specs.Fmt.{decimal};
@@ -12,54 +12,54 @@ use flat_list::{Entry, FlatList, Mark};
 use path_text::{OutOfMemory, Path};
 use std::alloc::Global;
 
-/// Why a path is named. Of one path the notes stand in the order of these reasons.
+/// Why a path has a note. The notes of one path are in the order of these reasons.
 #[derive(Clone, Copy, Debug, Drop, PartialEq, Eq)]
 pub enum Why {
-    /// Nothing is there.
+    /// It does not exist.
     Gone,
-    /// Its stat failed.
+    /// It could not be looked at.
     FailedStat,
-    /// The look at it, for the time of its last change, failed.
+    /// It could not be looked at for the time of its last change.
     FailedNewer,
-    /// Its names failed.
+    /// It could not be listed.
     FailedList,
-    /// It was told to be a directory, or a file of some size, or there at all, and then was not; or it was to be copied, and it
-    /// or its target had changed.
+    /// It changed during the run: it was a directory, a link, or a file of some size, or it existed, and then this was not so; or it or its
+    /// target changed while it was copied.
     Changed,
-    /// So many names in it are no text.
+    /// So many names in it are not valid UTF-8.
     Unnamed(u64),
-    /// So many of its children have a path that would be too long.
+    /// So many of its children would have too long a path.
     TooLong(u64),
-    /// A read of it failed.
+    /// It could not be read.
     FailedRead,
-    /// Its copy failed.
+    /// It could not be copied.
     FailedCopy,
-    /// What stands at its target is of another kind.
+    /// Something of another kind is at its target.
     Conflict,
-    /// It is neither a file nor a directory, and so is not copied.
+    /// It is a socket, a pipe or a device, which is not copied.
     Skipped,
-    /// The directory above it was not copied, and so it was not touched.
+    /// The directory above it was not copied, so it was not touched.
     Parent,
     /// The path of its target would be too long.
     LongTarget,
-    /// Its removal failed.
+    /// It could not be deleted.
     FailedRemove,
-    /// It is a directory that was to be removed, and something is left in it.
+    /// It is a directory that was chosen for deletion, and is not empty.
     NotEmpty,
 }
 
-/// A path that is named, and why.
+/// A path, and the reason of its note.
 #[derive(Debug, Drop)]
 pub struct Note {
     /// The path.
     pub path: Path,
-    /// Why it is named.
+    /// The reason.
     pub why: Why,
-    /// Whether it belongs to a destination, in a run that looks at two sides. Its line then begins with `dest `.
+    /// Whether it belongs to a destination, in a run over two sides. Its line then begins with `dest `.
     pub dest: bool,
 }
 
-/// The failure notes of the entries, in their order. None of them is about a destination.
+/// The failure notes of the entries, in order. None of them is about a destination.
 pub fn notes_of(alloc: Global, list: &FlatList) -> Result<Vec<Note>, OutOfMemory>
     ensures notes { IfOk result (λ notes. notes.items ≡ notes_of list.now) }
     ensures count { IfOk result (λ notes. length notes.items ≡ (summary_of list.now).failed) }

@@ -1,4 +1,4 @@
-//! Numbers as decimal text, with no memory of their own.
+//! Numbers as decimal text, without memory of their own.
 ghost use Rattle.std.specs.Prelude.{◌≡◌, ◌++◌, OnOk};
 ghost use Rattle.std.specs.Fmt.{decimal};
 ghost use Rattle.tool_text.specs.Lines.{right};
@@ -7,7 +7,7 @@ use crate::drafts::Draft;
 use itoa::Buffer;
 use path_text::OutOfMemory;
 
-/// Adds a number, right in so many places.
+/// Adds a number, right-aligned in so many columns.
 pub(crate) fn put_right(draft: &mut Draft, places: u8, n: u64) -> Result<(), OutOfMemory>
     ensures ok { OnOk result (draft.new.1 ≡ draft.old.1 ++ right places n) }
     ensures stands { draft.new.0 ≡ draft.old.0 }

@@ -1,4 +1,4 @@
-//! Failure notes in their order.
+//! Failure notes in order.
 ghost use Rattle.std.specs.Prelude.{◌≡◌, IfOk};
 ghost use Rattle.std.specs.Ordering.{on, bool_cmp, then_cmp, eq_by_cmp};
 ghost use Rattle.tool_text.specs.NoteOrder.{why_place, why_number, why_cmp, note_cmp, AreInOrder};
@@ -7,9 +7,9 @@ use crate::noting::{Note, Why};
 use path_text::OutOfMemory;
 use std::cmp::Ordering;
 
-/// The notes in their order, each once: in path order, of one path those of a destination last, and then in the order of
-/// [`Why`], the lower number first. Where they stand in that order already, or are two lists that do, one behind the other, it
-/// takes time in proportion to them. No path is copied.
+/// The notes in order, each once: in path order; at one path those of a destination come last, and then the order of
+/// [`Why`] decides, the lower number first. If they are in order already, or are two such lists one after the other, the time
+/// is proportional to their number. No path is copied.
 pub fn in_order(notes: Vec<Note>) -> Result<Vec<Note>, OutOfMemory>
     ensures { IfOk result (λ sorted. AreInOrder notes.items sorted.items) }
 {

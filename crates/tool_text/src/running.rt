@@ -1,4 +1,4 @@
-//! The lines that tell of a run.
+//! The lines of the reports on a run.
 ghost use Rattle.std.specs.Prelude.{◌≡◌, ◌++◌, ◌∷◌, [], OnOk, codes};
 ghost use Rattle.std.specs.Fmt.{decimal};
 ghost use Rattle.tool_text.specs.Runs.{trace_lines, share_line, share_lines, progress_line, progress_lines};

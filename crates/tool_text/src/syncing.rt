@@ -1,4 +1,4 @@
-//! The line of what dsync did.
+//! The line of dsync.
 ghost use Rattle.std.specs.Prelude.{◌≡◌, ◌++◌, ◌∷◌, [], OnOk};
 ghost use Rattle.tool_text.specs.Synced.{synced_line};
 
@@ -6,12 +6,12 @@ use crate::drafts::Draft;
 use crate::listing::put_count;
 use path_text::OutOfMemory;
 
-/// How many entries dsync copied, removed and kept, and how many failures it notes.
+/// How many entries dsync copied, deleted and kept, and the number of its failure notes.
 #[derive(Clone, Copy, Debug, Drop, PartialEq, Eq)]
 pub struct SyncCounts {
     /// Entries of the source that were copied to the destination.
     pub copied: u64,
-    /// Entries of the destination that were removed.
+    /// Entries of the destination that were deleted.
     pub removed: u64,
     /// Entries of the source that the destination had already.
     pub kept: u64,
@@ -19,7 +19,7 @@ pub struct SyncCounts {
     pub failed: u64,
 }
 
-/// Adds the line of what dsync did.
+/// Adds the line of dsync.
 pub(crate) fn add_synced(draft: &mut Draft, counts: &SyncCounts) -> Result<(), OutOfMemory>
     ensures ok { OnOk result (draft.new.1 ≡ draft.old.1 ++ synced_line counts.now) }
     ensures stands { draft.new.0 ≡ draft.old.0 }

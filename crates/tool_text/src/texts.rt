@@ -1,6 +1,8 @@
 //! Text, and the calls that add to it.
-ghost use Rattle.std.specs.Prelude.{◌≡◌, ◌==◌, ◌++◌, ◌∷◌, [], length, OnOk, OnErr};
+ghost use Rattle.std.specs.Prelude.{◌≡◌, ◌==◌, ◌<◌, ◌^◌, ◌++◌, ◌∷◌, [], length, OnOk, OnErr};
+ghost use Rattle.std.specs.List.{sum_by};
 ghost use Rattle.path_text.specs.Escape.{escape};
+ghost use Rattle.tool_text.specs.Groups.{file_count, groups_text};
 ghost use Rattle.tool_text.specs.Lines.{lines_of, summary_line};
 ghost use Rattle.tool_text.specs.Notes.{note_lines};
 ghost use Rattle.tool_text.specs.Rows.{rows_text};
@@ -9,6 +11,7 @@ ghost use Rattle.tool_text.specs.Synced.{synced_line};
 
 use crate::comparing::add_rows;
 use crate::drafts::Draft;
+use crate::grouping::add_groups;
 use crate::listing::{add_list, add_summary};
 use crate::noting::{Note, add_notes};
 use crate::running::{add_progress, add_shares, add_trace};
@@ -20,6 +23,7 @@ use ring_core::Event;
 use std::alloc::Global;
 use std::marker::Model;
 use tree_cmp::Compared;
+use tree_dup::Groups;
 
 /// Text to be printed, seen as its bytes.
 #[derive(Debug, Drop)]
@@ -38,7 +42,7 @@ impl Model for Text {
 }
 
 impl Text {
-    /// No text. It takes no memory.
+    /// An empty text. It takes no memory.
     pub fn make(alloc: Global) -> Text
         ensures { result ≡ [] }
     {
@@ -69,8 +73,8 @@ impl Text {
     }
 }
 
-/// Appends a line for each entry that has a stat. Memory is taken once, unless bytes of a path have to be escaped or a size
-/// has more than 12 digits. A refusal leaves the text.
+/// Appends a line for each entry that has a stat. Memory is taken once, unless links have texts, a path needs escapes, or a size
+/// has more than 12 digits. An error leaves the text as it was.
 pub fn put_list(text: &mut Text, list: &FlatList) -> Result<(), OutOfMemory>
     ensures ok { OnOk result (text.new ≡ text.old ++ lines_of list.now) }
     ensures err { OnErr result (text.new ≡ text.old) }
@@ -79,7 +83,7 @@ pub fn put_list(text: &mut Text, list: &FlatList) -> Result<(), OutOfMemory>
     text.draft.end(put)
 }
 
-/// Appends the line of a summary. A refusal leaves the text.
+/// Appends the line of a summary. An error leaves the text as it was.
 pub fn put_summary(text: &mut Text, sum: &Summary) -> Result<(), OutOfMemory>
     ensures ok { OnOk result (text.new ≡ text.old ++ summary_line sum.now) }
     ensures err { OnErr result (text.new ≡ text.old) }
@@ -88,8 +92,8 @@ pub fn put_summary(text: &mut Text, sum: &Summary) -> Result<(), OutOfMemory>
     text.draft.end(put)
 }
 
-/// Appends a line for each row of a comparison, and the line of their counts and of how many failures are noted. A refusal
-/// leaves the text.
+/// Appends a line for each row of a comparison, and a line with their counts and the number of failure notes. An error
+/// leaves the text as it was.
 pub fn put_rows(text: &mut Text, rows: &Compared, failed: u64) -> Result<(), OutOfMemory>
     ensures ok { OnOk result (text.new ≡ text.old ++ rows_text rows.now.rows failed) }
     ensures err { OnErr result (text.new ≡ text.old) }
@@ -98,7 +102,18 @@ pub fn put_rows(text: &mut Text, rows: &Compared, failed: u64) -> Result<(), Out
     text.draft.end(put)
 }
 
-/// Appends the line of what dsync did. A refusal leaves the text.
+/// Appends a line for each group of files with equal contents and each of its paths, and a line with their counts and the number of
+/// failure notes. An error leaves the text as it was.
+pub fn put_groups(text: &mut Text, groups: &Groups, failed: u64) -> Result<(), OutOfMemory>
+    requires few { sum_by file_count groups.now.groups < 2 ^ 64 }
+    ensures ok { OnOk result (text.new ≡ text.old ++ groups_text groups.now.groups failed) }
+    ensures err { OnErr result (text.new ≡ text.old) }
+{
+    let put = add_groups(&mut text.draft, groups, failed);
+    text.draft.end(put)
+}
+
+/// Appends the line of dsync. An error leaves the text as it was.
 pub fn put_synced(text: &mut Text, counts: &SyncCounts) -> Result<(), OutOfMemory>
     ensures ok { OnOk result (text.new ≡ text.old ++ synced_line counts.now) }
     ensures err { OnErr result (text.new ≡ text.old) }
@@ -107,7 +122,7 @@ pub fn put_synced(text: &mut Text, counts: &SyncCounts) -> Result<(), OutOfMemor
     text.draft.end(put)
 }
 
-/// Appends a line for each note. A refusal leaves the text.
+/// Appends a line for each note. An error leaves the text as it was.
 pub fn put_notes(text: &mut Text, notes: &[Note]) -> Result<(), OutOfMemory>
     ensures ok { OnOk result (text.new ≡ text.old ++ note_lines notes.now) }
     ensures err { OnErr result (text.new ≡ text.old) }
@@ -116,7 +131,7 @@ pub fn put_notes(text: &mut Text, notes: &[Note]) -> Result<(), OutOfMemory>
     text.draft.end(put)
 }
 
-/// Appends a line for each event of a run. A refusal leaves the text.
+/// Appends a line for each event of a run. An error leaves the text as it was.
 pub fn put_trace(text: &mut Text, events: &[Event]) -> Result<(), OutOfMemory>
     ensures ok { OnOk result (text.new ≡ text.old ++ trace_lines events.now) }
     ensures err { OnErr result (text.new ≡ text.old) }
@@ -125,7 +140,7 @@ pub fn put_trace(text: &mut Text, events: &[Event]) -> Result<(), OutOfMemory>
     text.draft.end(put)
 }
 
-/// Appends a line for each rank, of what it did. A refusal leaves the text.
+/// Appends a line for the work of each rank. An error leaves the text as it was.
 pub fn put_shares(text: &mut Text, shares: &[Share]) -> Result<(), OutOfMemory>
     ensures ok { OnOk result (text.new ≡ text.old ++ share_lines shares.now) }
     ensures err { OnErr result (text.new ≡ text.old) }
@@ -134,7 +149,7 @@ pub fn put_shares(text: &mut Text, shares: &[Share]) -> Result<(), OutOfMemory>
     text.draft.end(put)
 }
 
-/// Appends a line for each count of a run as it rose. A refusal leaves the text.
+/// Appends a line for each count of a run as it rose. An error leaves the text as it was.
 pub fn put_progress(text: &mut Text, sums: &[u64]) -> Result<(), OutOfMemory>
     ensures ok { OnOk result (text.new ≡ text.old ++ progress_lines sums.now) }
     ensures err { OnErr result (text.new ≡ text.old) }
@@ -143,7 +158,7 @@ pub fn put_progress(text: &mut Text, sums: &[u64]) -> Result<(), OutOfMemory>
     text.draft.end(put)
 }
 
-/// Appends a line and its line feed. A refusal leaves the text.
+/// Appends a line and its line feed. An error leaves the text as it was.
 pub fn put_line(text: &mut Text, line: &str) -> Result<(), OutOfMemory>
     ensures ok { OnOk result (text.new ≡ text.old ++ line.now ++ 10 ∷ []) }
     ensures err { OnErr result (text.new ≡ text.old) }
@@ -152,7 +167,7 @@ pub fn put_line(text: &mut Text, line: &str) -> Result<(), OutOfMemory>
     text.draft.end(put)
 }
 
-/// Appends a line that names a path in printable text, and its line feed. A refusal leaves the text.
+/// Appends a line with a path, printed with escapes, and its line feed. An error leaves the text as it was.
 pub fn put_path_line(
     text: &mut Text,
     before: &str,

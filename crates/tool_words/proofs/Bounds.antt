@@ -29,7 +29,7 @@ use Rattle.tool_words.specs.Table.{tool_named, text_of, option_named, Set, set, 
 use Rattle.tool_words.specs.Value.{is, trimmed, number_in, split_in, path_in, lower_path_in, order_in, test_in, is_colon, if_expr, want_by, want_in}
 use Rattle.tool_words.specs.Words.{ends_options, is_option, name_in, value_in, Given, nothing, and_then, at_end, with_words}
 use Rattle.tool_words.specs.Words.{with_path, with_lower, with_number, with_plain, with_settings, is_repeated, with_another, with_own_value, with_next_value}
-use Rattle.tool_words.specs.Words.{with_flag, with_option, with_word, start_by, begin_by, sides_by, sources_by, targets_by, nodes_by, choice_of}
+use Rattle.tool_words.specs.Words.{with_flag, with_option, with_word, start_by, begin_by, sides_by, sources_by, roots_by, nodes_by, choice_of}
 use Rattle.tool_words.specs.Words.{asked_of, unless_clash, command_of, reading_for, reading}
 
 one_of : {X : Type 0} (P : X → Type 0) (b : Bool) (x y : X) → P x → P y → P (cond b x y)
@@ -59,22 +59,24 @@ record Fits (common : Common) : Type 0 where
   seed : common.seed < 2 ^ 64
   width : (2 ≤ common.width) × (common.width ≤ 64)
 
--- a number of paths after which a rank may stop
-abbrev Stopping : ℕ → Type 0
-Stopping n = (1 ≤ n) × (n < 2 ^ 63)
+-- a number of paths, or of bytes
+abbrev Counts : ℕ → Type 0
+Counts n = (1 ≤ n) × (n < 2 ^ 63)
 
 -- what has limits of all that is set
-record Sound (how : Common) (from to : Option (List ℕ)) (since : List (List ℕ)) (saved : List Want) (after : Option ℕ) (folder : Option (List ℕ)) : Type 0 where
+record Sound (how : Common) (from to : Option (List ℕ)) (since : List (List ℕ)) (saved : List Want) (piece after : Option ℕ)
+    (folder : Option (List ℕ)) : Type 0 where
   common : Fits how
   input : IfSome from Valid
   output : IfSome to Valid
   newer : AllByRecursion Valid since
   wants : AllByRecursion FileValid saved
-  stop : IfSome after Stopping
+  range : IfSome piece Counts
+  stop : IfSome after Counts
   lists : IfSome folder Valid
 
 abbrev Fine : Set → Type 0
-Fine s = Sound s.common s.input s.output s.newer s.wants s.stop_after s.lists
+Fine s = Sound s.common s.input s.output s.newer s.wants s.range s.stop_after s.lists
 
 -- a number of nodes that a made-up tree may have
 abbrev Makeable : ℕ → Type 0
@@ -144,6 +146,7 @@ with_common s common f c = record {
   output = f.output;
   newer = f.newer;
   wants = f.wants;
+  range = f.range;
   stop = f.stop;
   lists = f.lists;
 }
@@ -155,6 +158,7 @@ with_input s path f v = record {
   output = f.output;
   newer = f.newer;
   wants = f.wants;
+  range = f.range;
   stop = f.stop;
   lists = f.lists;
 }
@@ -166,6 +170,7 @@ with_output s path f v = record {
   output = v;
   newer = f.newer;
   wants = f.wants;
+  range = f.range;
   stop = f.stop;
   lists = f.lists;
 }
@@ -177,6 +182,7 @@ with_newer s path f v = record {
   output = f.output;
   newer = one_more Valid s.newer path f.newer v;
   wants = f.wants;
+  range = f.range;
   stop = f.stop;
   lists = f.lists;
 }
@@ -188,6 +194,19 @@ with_want s want f v = record {
   output = f.output;
   newer = f.newer;
   wants = one_more FileValid s.wants want f.wants v;
+  range = f.range;
+  stop = f.stop;
+  lists = f.lists;
+}
+
+with_range : (s : Set) (n : ℕ) → Fine s → (1 ≤ n) × (n ≤ 2 ^ 63 - 1) → Fine (record s { range = Some n })
+with_range s n f w = record {
+  common = f.common;
+  input = f.input;
+  output = f.output;
+  newer = f.newer;
+  wants = f.wants;
+  range = (w.0, omega (arith, w.1));
   stop = f.stop;
   lists = f.lists;
 }
@@ -199,6 +218,7 @@ with_stop s n f w = record {
   output = f.output;
   newer = f.newer;
   wants = f.wants;
+  range = f.range;
   stop = (w.0, omega (arith, w.1));
   lists = f.lists;
 }
@@ -210,6 +230,7 @@ with_lists s path f v = record {
   output = f.output;
   newer = f.newer;
   wants = f.wants;
+  range = f.range;
   stop = f.stop;
   lists = v;
 }
@@ -254,6 +275,8 @@ set_fine option.Newer text s f = mapped Fine _ (path_in text) (λ path e. with_n
 set_fine option.Want text s f = mapped Fine _ (want_in text) (λ want e. with_want s want f (the_want text want e))
 set_fine option.Dryrun text s f = tt
 set_fine option.Delete text s f = tt
+set_fine option.Range text s f =
+    mapped Fine _ (number_in 1 (2 ^ 63 - 1) text) (λ n e. with_range s n f (number_within 1 (2 ^ 63 - 1) text n e))
 set_fine option.StopAfter text s f =
     mapped Fine _ (number_in 1 (2 ^ 63 - 1) text) (λ n e. with_stop s n f (number_within 1 (2 ^ 63 - 1) text n e))
 set_fine option.Lists text s f = mapped Fine _ (path_in text) (λ path e. with_lists s path f (the_path text path e))
@@ -289,6 +312,7 @@ set_leaves option.Newer text s = mapped (SameTrace s) _ (path_in text) (λ path 
 set_leaves option.Want text s = mapped (SameTrace s) _ (want_in text) (λ want e. refl)
 set_leaves option.Dryrun text s = tt
 set_leaves option.Delete text s = tt
+set_leaves option.Range text s = mapped (SameTrace s) _ (number_in 1 (2 ^ 63 - 1) text) (λ n e. refl)
 set_leaves option.StopAfter text s = mapped (SameTrace s) _ (number_in 1 (2 ^ 63 - 1) text) (λ n e. refl)
 set_leaves option.Lists text s = mapped (SameTrace s) _ (path_in text) (λ path e. refl)
 set_leaves option.Restart text s = tt
@@ -375,6 +399,7 @@ plain_fine tool.Find given place word f = path_fine given place (path_in word) f
 plain_fine tool.Cmp given place word f = path_fine given place (path_in word) f (path_valid word)
 plain_fine tool.Copy given place word f = path_fine given place (path_in word) f (path_valid word)
 plain_fine tool.Sync given place word f = path_fine given place (path_in word) f (path_valid word)
+plain_fine tool.Dup given place word f = path_fine given place (path_in word) f (path_valid word)
 plain_fine tool.Remove given place word f = lower_fine given place (lower_path_in word) f (path_lower word)
 plain_fine tool.Test given place word f = number_fine given place (number_in 1 1000000 word) f (number_fits word)
 
@@ -452,6 +477,7 @@ nothing_fine = record {
     output = tt;
     newer = tt;
     wants = tt;
+    range = tt;
     stop = tt;
     lists = tt;
   };
@@ -516,9 +542,14 @@ sources_fine wanting (source ∷ path ∷ paths) h =
       some = omega arith;
     }
 
-targets_fine : (wanting : ℕ) (paths : List (List ℕ)) → AllByRecursion Lower paths → IfOk (targets_by wanting paths) (All Lower)
-targets_fine wanting [] h = tt
-targets_fine wanting (path ∷ paths) h = All-from_recursion Lower (path ∷ paths) h
+-- roots, one or more
+record RootsWithin (P : List ℕ → Type 0) (paths : List (List ℕ)) : Type 0 where
+  each : All P paths
+  some : 1 ≤ length paths
+
+roots_fine : (P : List ℕ → Type 0) (wanting : ℕ) (paths : List (List ℕ)) → AllByRecursion P paths → IfOk (roots_by wanting paths) (RootsWithin P)
+roots_fine P wanting [] h = tt
+roots_fine P wanting (path ∷ paths) h = record { each = All-from_recursion P (path ∷ paths) h; some = omega arith }
 
 nodes_fine : (wanting : ℕ) (numbers places : List ℕ) → AllByRecursion Makeable numbers → IfOk (nodes_by wanting numbers places) Makeable
 nodes_fine wanting [] [] h = tt
@@ -581,7 +612,7 @@ no_trace : (place : Option ℕ) (trace : Bool) → (trace ≡ true → is_some p
 no_trace place true stands none = absurd (not_none place (stands refl) none)
 no_trace place false stands none = refl
 
-stop_fine : (stop : Option ℕ) (place : Option ℕ) (trace : Bool) → IfSome stop Stopping → (trace ≡ true → is_some place ≡ true) →
+stop_fine : (stop : Option ℕ) (place : Option ℕ) (trace : Bool) → IfSome stop Counts → (trace ≡ true → is_some place ≡ true) →
     cond (is_some stop) place None ≡ None → IfSome stop (StopWithin trace)
 stop_fine None place trace fits stands none = tt
 stop_fine (Some n) place trace fits stands none = (fits.0, fits.1, no_trace place trace stands none)
@@ -623,15 +654,19 @@ asked_fine wanting tool.Cmp given f free common =
 asked_fine wanting tool.Copy given f free common =
     both EndsWithin Within (sources_by wanting given.paths) _
     (sources_fine wanting given.paths f.paths)
-    (λ ends e. record { common = common; sources = e.sources; dest = e.dest; some = e.some })
+    (λ ends e. record { common = common; sources = e.sources; dest = e.dest; some = e.some; range = f.settings.range })
 asked_fine wanting tool.Sync given f free common =
     both SidesWithin Within (sides_by wanting given.paths given.places) _
     (sides_fine wanting given.paths given.places f.paths)
     (λ sides v. record { common = common; source = v.0; dest = v.1 })
+asked_fine wanting tool.Dup given f free common =
+    both (RootsWithin Valid) Within (roots_by wanting given.paths) _
+    (roots_fine Valid wanting given.paths f.paths)
+    (λ paths r. record { common = common; roots = r.each; some = r.some })
 asked_fine wanting tool.Remove given f free common =
-    both (All Lower) Within (targets_by wanting given.lower) _
-    (targets_fine wanting given.lower f.lower)
-    (λ paths l. record { common = common; roots = l; choice = choice_fine given.settings f.settings })
+    both (RootsWithin Lower) Within (roots_by wanting given.lower) _
+    (roots_fine Lower wanting given.lower f.lower)
+    (λ paths r. record { common = common; roots = r.each; choice = choice_fine given.settings f.settings })
 asked_fine wanting tool.Test given f free common =
     both Makeable Within (nodes_by wanting given.numbers given.places) _
     (nodes_fine wanting given.numbers given.places f.numbers)

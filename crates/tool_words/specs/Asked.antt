@@ -52,11 +52,12 @@ pub record CompareAsked : Type 0 where
   pub right : List ℕ
   pub wants : List Want
 
--- what dcp is asked for: how the walk is to go, what is copied, and where to
+-- what dcp is asked for: how the walk is to go, what is copied, where to, and above how many bytes a file is copied by ranges, if any is
 pub record CopyAsked : Type 0 where
   pub common : Common
   pub sources : List (List ℕ)
   pub dest : List ℕ
+  pub range : Option ℕ
 
 -- what dsync is asked for: how each of the two walks is to go, the source, the destination that is to be made equal to it, and whether
 -- entries that the destination alone has are to be removed
@@ -65,6 +66,11 @@ pub record SyncAsked : Type 0 where
   pub source : List ℕ
   pub dest : List ℕ
   pub delete : Bool
+
+-- what ddup is asked for: how the walk is to go, and the paths below which files of equal content are looked for
+pub record DupAsked : Type 0 where
+  pub common : Common
+  pub roots : List (List ℕ)
 
 -- what drm is asked for: how the walk is to go, the paths from which it goes, what is chosen of it, and whether nothing is to be removed
 pub record RemoveAsked : Type 0 where
@@ -79,6 +85,7 @@ pub data Asked : Type 0 where
   compare : CompareAsked → Asked
   copy : CopyAsked → Asked
   sync : SyncAsked → Asked
+  dup : DupAsked → Asked
   remove : RemoveAsked → Asked
   test : TestAsked → Asked
 
@@ -119,7 +126,8 @@ asked_by (command.Walk common start sort output stop lists) = walk_by common (be
 asked_by (command.Find common start tests sort output) =
     list (record { common = common; start = start_in start; chosen = Some (choice_in tests); sort = sort; output = output })
 asked_by (command.Cmp common left right wants) = compare (record { common = common; left = left; right = right; wants = wants.items })
-asked_by (command.Copy common sources dest) = copy (record { common = common; sources = sources.items; dest = dest })
+asked_by (command.Copy common sources dest range) = copy (record { common = common; sources = sources.items; dest = dest; range = range })
 asked_by (command.Sync common source dest delete) = sync (record { common = common; source = source; dest = dest; delete = delete })
+asked_by (command.Dup common paths) = dup (record { common = common; roots = paths.items })
 asked_by (command.Remove common paths tests dryrun) = remove (record { common = common; roots = paths.items; choice = choice_in tests; dryrun = dryrun })
 asked_by (command.Test common nodes tests) = test (record { common = common; nodes = nodes; choice = choice_in tests })

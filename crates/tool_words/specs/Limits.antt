@@ -2,8 +2,8 @@
 use Rattle.std.specs.Prelude.{◌≡◌, ◌≢◌, ℕ, ◌<◌, ◌≤◌, ◌^◌, List, [], ◌∷◌, length, All, Ok, None, IfSome, true, false}
 use Rattle.path_text.specs.Path.{refusal}
 use Rattle.tool_words.specs.declared.commands.Common.{Common}
-use Rattle.tool_words.specs.Asked.{Origin, roots, input, Choice, ListAsked, StageAsked, CompareAsked, CopyAsked, SyncAsked, RemoveAsked, TestAsked}
-use Rattle.tool_words.specs.Asked.{Asked, list, stage, compare, copy, sync, remove, test}
+use Rattle.tool_words.specs.Asked.{Origin, roots, input, Choice, ListAsked, StageAsked, CompareAsked, CopyAsked, SyncAsked, DupAsked, RemoveAsked, TestAsked}
+use Rattle.tool_words.specs.Asked.{Asked, list, stage, compare, copy, sync, dup, remove, test}
 use Rattle.tool_words.specs.Words.{reading}
 
 abbrev pub Valid : List ℕ → Type 0
@@ -49,17 +49,24 @@ pub record WithinCompare (asked : CompareAsked) : Type 0 where
   pub right : Valid asked.right
   pub files : All (λ want. Valid want.file) asked.wants
 
--- one source or more
+-- one source or more, and ranges of a byte or more
 pub record WithinCopy (asked : CopyAsked) : Type 0 where
   pub common : CommonWithin asked.common
   pub sources : All Valid asked.sources
   pub dest : Valid asked.dest
   pub some : 1 ≤ length asked.sources
+  pub range : IfSome asked.range (λ n. (1 ≤ n) × (n < 2 ^ 63))
 
 pub record WithinSync (asked : SyncAsked) : Type 0 where
   pub common : CommonWithin asked.common
   pub source : Valid asked.source
   pub dest : Valid asked.dest
+
+-- one root or more
+pub record WithinDup (asked : DupAsked) : Type 0 where
+  pub common : CommonWithin asked.common
+  pub roots : All Valid asked.roots
+  pub some : 1 ≤ length asked.roots
 
 -- nothing is removed at `/`
 pub record WithinRemove (asked : RemoveAsked) : Type 0 where
@@ -79,6 +86,7 @@ Within (stage asked) = WithinStage asked
 Within (compare asked) = WithinCompare asked
 Within (copy asked) = WithinCopy asked
 Within (sync asked) = WithinSync asked
+Within (dup asked) = WithinDup asked
 Within (remove asked) = WithinRemove asked
 Within (test asked) = WithinTest asked
 

@@ -1,5 +1,5 @@
 -- The tools and their options: how each option is written, and what its value sets. Names of options are those of mpiFileUtils' dwalk,
--- dfind, dcmp, dcp, dsync and drm and of libcircle, as far as these have them.
+-- dfind, dcmp, dcp, dsync, ddup and drm and of libcircle, as far as these have them; `--range` is our own.
 use Rattle.std.specs.Prelude.{ℕ, ◌-◌, ◌^◌, Bool, true, List, [], ◌∷◌, ◌++◌, false, if◌then◌else◌, codes, find, Option, Some, None}
 use Rattle.std.specs.List.{flat_map}
 use Rattle.std.specs.Option.{option_map}
@@ -24,6 +24,7 @@ tool_named text =
     else if is (codes "dcmp") text then Some tool.Cmp
     else if is (codes "dcp") text then Some tool.Copy
     else if is (codes "dsync") text then Some tool.Sync
+    else if is (codes "ddup") text then Some tool.Dup
     else if is (codes "drm") text then Some tool.Remove
     else if is (codes "dtest") text then Some tool.Test
     else None
@@ -51,13 +52,15 @@ text_of option.Newer = codes "--newer"
 text_of option.Want = codes "-o"
 text_of option.Dryrun = codes "--dryrun"
 text_of option.Delete = codes "--delete"
+text_of option.Range = codes "--range"
 text_of option.StopAfter = codes "--stop-after"
 text_of option.Lists = codes "--lists"
 text_of option.Restart = codes "--restart"
 
 -- the options of a group: how a walk is to go; what is told of it; where a list comes from, in which order it is printed, and where it is
--- saved; the tests; what is saved of a comparison; whether entries of the destination alone are removed; whether nothing is removed; and after
--- how much a walk stops, where its lists are, and whether it goes on from those of an earlier one
+-- saved; the tests; what is saved of a comparison; whether entries of the destination alone are removed; whether nothing is removed; above
+-- how many bytes a file is copied by ranges; and after how much a walk stops, where its lists are, and whether it goes on from those of an
+-- earlier one
 abbrev pub options_in : Group → List OptionName
 options_in group.Common = option.Ranks ∷ option.Hosts ∷ option.Split ∷ option.Seed ∷ option.Width ∷ []
 options_in group.Telling = option.Trace ∷ option.Shares ∷ option.Progress ∷ []
@@ -68,6 +71,7 @@ options_in group.Testing =
 options_in group.Comparing = option.Want ∷ []
 options_in group.Deleting = option.Delete ∷ []
 options_in group.Removing = option.Dryrun ∷ []
+options_in group.Cutting = option.Range ∷ []
 options_in group.Stopping = option.StopAfter ∷ option.Lists ∷ option.Restart ∷ []
 
 -- the groups of options that a tool takes
@@ -75,8 +79,9 @@ abbrev pub groups_of : Tool → List Group
 groups_of tool.Walk = group.Common ∷ group.Telling ∷ group.Listing ∷ group.Stopping ∷ []
 groups_of tool.Find = group.Common ∷ group.Telling ∷ group.Listing ∷ group.Testing ∷ []
 groups_of tool.Cmp = group.Common ∷ group.Comparing ∷ []
-groups_of tool.Copy = group.Common ∷ []
+groups_of tool.Copy = group.Common ∷ group.Cutting ∷ []
 groups_of tool.Sync = group.Common ∷ group.Deleting ∷ []
+groups_of tool.Dup = group.Common ∷ []
 groups_of tool.Remove = group.Common ∷ group.Testing ∷ group.Removing ∷ []
 groups_of tool.Test = group.Common ∷ group.Telling ∷ group.Testing ∷ []
 
@@ -92,8 +97,8 @@ abbrev pub standard : Common
 standard = record { ranks = 4; hosts = 1; split = Equal; seed = 0; width = 64; trace = false; shares = false; progress = false }
 
 -- what options set: how a walk is to go, the order, the files, the tests, the paths of `--newer`, what is saved of a comparison, whether
--- nothing is to be removed, whether entries of the destination alone are to be removed, after how many paths of one rank a walk stops, the
--- folder of its lists, and whether it goes on from them
+-- nothing is to be removed, whether entries of the destination alone are to be removed, above how many bytes a file is copied by ranges,
+-- after how many paths of one rank a walk stops, the folder of its lists, and whether it goes on from them
 pub record Set : Type 0 where
   pub common : Common
   pub sort : Option (Field × Bool)
@@ -104,6 +109,7 @@ pub record Set : Type 0 where
   pub wants : List Want
   pub dryrun : Bool
   pub delete : Bool
+  pub range : Option ℕ
   pub stop_after : Option ℕ
   pub lists : Option (List ℕ)
   pub restart : Bool
@@ -119,6 +125,7 @@ unset = record {
   wants = [];
   dryrun = false;
   delete = false;
+  range = None;
   stop_after = None;
   lists = None;
   restart = false;
@@ -149,6 +156,7 @@ set option.Newer text s = option_map (λ path. record s { newer = s.newer ++ pat
 set option.Want text s = option_map (λ want. record s { wants = s.wants ++ want ∷ [] }) (want_in text)
 set option.Dryrun text s = None
 set option.Delete text s = None
+set option.Range text s = option_map (λ n. record s { range = Some n }) (number_in 1 (2 ^ 63 - 1) text)
 set option.StopAfter text s = option_map (λ n. record s { stop_after = Some n }) (number_in 1 (2 ^ 63 - 1) text)
 set option.Lists text s = option_map (λ path. record s { lists = Some path }) (path_in text)
 set option.Restart text s = None

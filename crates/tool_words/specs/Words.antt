@@ -11,7 +11,7 @@ use Rattle.tool_words.specs.declared.tables.Tool.{Tool}
 use Rattle.tool_words.specs.declared.tables.Tool.TheVariants as tool
 use Rattle.tool_words.specs.declared.turns.Turn.{Turn}
 use Rattle.tool_words.specs.declared.turns.Turn.TheVariants as turn
-use Rattle.tool_words.specs.Asked.{Origin, roots, input, Choice, Asked, list, walk_by, compare, copy, sync, remove, test}
+use Rattle.tool_words.specs.Asked.{Origin, roots, input, Choice, Asked, list, walk_by, compare, copy, sync, dup, remove, test}
 use Rattle.tool_words.specs.Clashes.{clash_in}
 use Rattle.tool_words.specs.Refusals.{refuse}
 use Rattle.tool_words.specs.Table.{tool_named, text_of, option_named, Set, unset, adds_up, set, raise}
@@ -77,6 +77,7 @@ with_plain tool.Find given place word = with_path given place (path_in word)
 with_plain tool.Cmp given place word = with_path given place (path_in word)
 with_plain tool.Copy given place word = with_path given place (path_in word)
 with_plain tool.Sync given place word = with_path given place (path_in word)
+with_plain tool.Dup given place word = with_path given place (path_in word)
 with_plain tool.Remove given place word = with_lower given place (lower_path_in word)
 with_plain tool.Test given place word = with_number given place (number_in 1 1000000 word)
 
@@ -164,9 +165,9 @@ sources_by wanting (source ∷ []) = refuse wanting cause.NoPath
 sources_by wanting (source ∷ path ∷ paths) = Ok (source ∷ take (length paths) (path ∷ paths), slice_index_or (path ∷ paths) (length paths) path)
 
 -- one root or more
-abbrev pub targets_by : ℕ → List (List ℕ) → Result (List (List ℕ)) Refusal
-targets_by wanting [] = refuse wanting cause.NoPath
-targets_by wanting (path ∷ paths) = Ok (path ∷ paths)
+abbrev pub roots_by : ℕ → List (List ℕ) → Result (List (List ℕ)) Refusal
+roots_by wanting [] = refuse wanting cause.NoPath
+roots_by wanting (path ∷ paths) = Ok (path ∷ paths)
 
 -- one number of nodes, no more and no less
 abbrev pub nodes_by : ℕ → List ℕ → List ℕ → Result ℕ Refusal
@@ -187,10 +188,13 @@ abbrev pub compare_of : Set → List ℕ → List ℕ → Asked
 compare_of s left right = compare (record { common = s.common; left = left; right = right; wants = s.wants })
 
 abbrev pub copy_of : Set → List (List ℕ) → List ℕ → Asked
-copy_of s sources dest = copy (record { common = s.common; sources = sources; dest = dest })
+copy_of s sources dest = copy (record { common = s.common; sources = sources; dest = dest; range = s.range })
 
 abbrev pub sync_of : Set → List ℕ → List ℕ → Asked
 sync_of s source dest = sync (record { common = s.common; source = source; dest = dest; delete = s.delete })
+
+abbrev pub dup_of : Set → List (List ℕ) → Asked
+dup_of s paths = dup (record { common = s.common; roots = paths })
 
 abbrev pub remove_of : Set → List (List ℕ) → Asked
 remove_of s paths = remove (record { common = s.common; roots = paths; choice = choice_of s; dryrun = s.dryrun })
@@ -206,7 +210,8 @@ asked_of wanting tool.Find given = and_then (start_by wanting given.settings.inp
 asked_of wanting tool.Cmp given = and_then (sides_by wanting given.paths given.places) (λ sides. Ok (compare_of given.settings sides.0 sides.1))
 asked_of wanting tool.Copy given = and_then (sources_by wanting given.paths) (λ ends. Ok (copy_of given.settings ends.0 ends.1))
 asked_of wanting tool.Sync given = and_then (sides_by wanting given.paths given.places) (λ sides. Ok (sync_of given.settings sides.0 sides.1))
-asked_of wanting tool.Remove given = and_then (targets_by wanting given.lower) (λ paths. Ok (remove_of given.settings paths))
+asked_of wanting tool.Dup given = and_then (roots_by wanting given.paths) (λ paths. Ok (dup_of given.settings paths))
+asked_of wanting tool.Remove given = and_then (roots_by wanting given.lower) (λ paths. Ok (remove_of given.settings paths))
 asked_of wanting tool.Test given = and_then (nodes_by wanting given.numbers given.places) (λ nodes. Ok (test_of given.settings nodes))
 
 -- options that may not stand together are told last

@@ -1,8 +1,8 @@
-//! What a tool is asked for by a command line that was read to its end.
+//! The command of a line that was read to its end.
 ghost use Rattle.std.specs.Prelude.{◌≡◌, Some, Ok, Err, IfOk, IfErr};
 ghost use Rattle.tool_words.specs.Asked.{start_in, begin_in, asked_by};
 ghost use Rattle.tool_words.specs.Parts.{Tells};
-ghost use Rattle.tool_words.specs.Words.{start_by, begin_by, sides_by, sources_by, targets_by, nodes_by, asked_of, command_of};
+ghost use Rattle.tool_words.specs.Words.{start_by, begin_by, sides_by, sources_by, roots_by, nodes_by, asked_of, command_of};
 
 use crate::commands::{Command, Start, Tests};
 use crate::errors::WordsError;
@@ -11,8 +11,8 @@ use crate::tables::Tool;
 use path_text::Path;
 
 impl Line {
-    /// What the tool was asked for, where the number is that of the word that is wanting behind the last. Options that may not
-    /// stand together are told after all else.
+    /// The command of the tool. The number is that of the first word after the last one, at which a missing path is reported.
+    /// Options that cannot be combined are reported after everything else.
     pub(crate) fn command(self, tool: Tool, wanting: usize) -> Result<Command, WordsError>
         ensures asked { IfOk result (λ command. command_of wanting tool self ≡ Ok (asked_by command)) }
         ensures refused { IfErr result (λ e. Tells (command_of wanting tool self) e) }
@@ -36,6 +36,7 @@ impl Line {
             Tool::Cmp => self.compare(wanting),
             Tool::Copy => self.copy(wanting),
             Tool::Sync => self.sync(wanting),
+            Tool::Dup => self.dup(wanting),
             Tool::Remove => self.remove(wanting),
             Tool::Test => self.test(wanting),
         }
@@ -98,6 +99,7 @@ impl Line {
             common: settings.common,
             sources,
             dest,
+            range: settings.range,
         })
     }
 
@@ -115,6 +117,17 @@ impl Line {
         })
     }
 
+    fn dup(self, wanting: usize) -> Result<Command, WordsError>
+        ensures asked { IfOk result (λ command. asked_of wanting Tool.Dup self ≡ Ok (asked_by command)) }
+        ensures refused { IfErr result (λ e. Tells (asked_of wanting Tool.Dup self) e) }
+    {
+        let settings = self.settings;
+        Ok(Command::Dup {
+            common: settings.common,
+            roots: roots_of(self.paths, wanting)?,
+        })
+    }
+
     fn remove(self, wanting: usize) -> Result<Command, WordsError>
         ensures asked { IfOk result (λ command. asked_of wanting Tool.Remove self ≡ Ok (asked_by command)) }
         ensures refused { IfErr result (λ e. Tells (asked_of wanting Tool.Remove self) e) }
@@ -122,7 +135,7 @@ impl Line {
         let settings = self.settings;
         Ok(Command::Remove {
             common: settings.common,
-            roots: targets_of(self.lower, wanting)?,
+            roots: roots_of(self.lower, wanting)?,
             tests: Tests {
                 tests: settings.tests,
                 newer: settings.newer,
@@ -217,15 +230,15 @@ fn sources_of(paths: Vec<Path>, wanting: usize) -> Result<(Vec<Path>, Path), Wor
     }
 }
 
-// The paths from which is removed: one or more.
-fn targets_of(lower: Vec<Path>, wanting: usize) -> Result<Vec<Path>, WordsError>
-    ensures targets { IfOk result (λ paths. targets_by wanting lower.items ≡ Ok paths.items) }
-    ensures refused { IfErr result (λ e. Tells (targets_by wanting lower.items) e) }
+// The paths where a walk starts: one or more.
+fn roots_of(paths: Vec<Path>, wanting: usize) -> Result<Vec<Path>, WordsError>
+    ensures roots { IfOk result (λ roots. roots_by wanting paths.items ≡ Ok roots.items) }
+    ensures refused { IfErr result (λ e. Tells (roots_by wanting paths.items) e) }
 {
-    if lower.is_empty() {
+    if paths.is_empty() {
         return Err(WordsError::NoPath(wanting));
     }
-    Ok(lower)
+    Ok(paths)
 }
 
 // How many nodes a made-up tree has, where the numbers stand in words of these numbers.

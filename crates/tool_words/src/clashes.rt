@@ -1,4 +1,4 @@
-//! Options of a command line that may not stand together.
+//! Options of a command line that cannot be combined.
 ghost use Rattle.std.specs.Prelude.{◌≡◌, Some, None, find};
 ghost use Rattle.tool_words.specs.Clashes.{place_of, trace_on_hosts, trace_and_stop, input_and_restart, first_of, no_lists, lists_alone, input_and_stop, clash_in};
 ghost use Rattle.tool_words.specs.Table.{text_of};
@@ -8,7 +8,7 @@ use crate::lines::Line;
 use crate::tables::{OptionName, Placed};
 
 impl Line {
-    /// The number of the word that is named where options may not stand together: the first line that applies.
+    /// The number of the word that is reported if options cannot be combined: the first line that applies.
     pub(crate) fn clash(&self) -> Option<usize>
         ensures { result ≡ clash_in self.now.options self.now.settings }
     {

@@ -1,28 +1,28 @@
-//! What a command line asks for.
+//! The command that a command line gives.
 use circle_run::Split;
 use find_tests::Test;
 use flat_list::Field;
 use path_text::Path;
 use tree_cmp::Expr;
 
-/// How a walk is to go, whatever the tool.
+/// The settings of a walk, for every tool.
 #[derive(Clone, Copy, Debug, Drop, PartialEq, Eq)]
 pub struct Common {
-    /// How many ranks work.
+    /// The number of ranks.
     pub ranks: u32,
-    /// How many threads the ranks are spread over.
+    /// The number of threads in which the ranks run.
     pub hosts: u32,
-    /// What a rank gives to those that ask.
+    /// How much a rank gives to a rank that asks.
     pub split: Split,
-    /// What the lots of the ranks are drawn from.
+    /// The seed of the random numbers.
     pub seed: u64,
-    /// How many ranks report their counts to one.
+    /// How many ranks report their counts to one other rank.
     pub width: u32,
-    /// Whether the events of the walk are told.
+    /// Whether the events of the walk are printed.
     pub trace: bool,
-    /// Whether it is told what each rank did.
+    /// Whether the work of each rank is printed.
     pub shares: bool,
-    /// Whether the counts of the walk are told as it goes.
+    /// Whether the counts of the walk are printed.
     pub progress: bool,
 }
 
@@ -30,7 +30,7 @@ impl Common {
     ghost use Rattle.std.specs.Prelude.{◌≡◌};
     ghost use Rattle.tool_words.specs.Table.{standard};
 
-    /// What stands where no option says otherwise.
+    /// The defaults.
     pub const fn standard() -> Common
         ensures { result ≡ standard }
     {
@@ -50,112 +50,121 @@ impl Common {
 /// Where a walk starts.
 #[derive(Debug, Drop)]
 pub enum Start {
-    /// At these paths, which may be nested or stand twice.
+    /// At these paths. They may be nested, or given twice.
     Roots(Vec<Path>),
     /// Nowhere: the list is read from this file.
     Input(Path),
-    /// At none: the walk goes on from where an earlier one stopped.
+    /// At no path: the walk continues an earlier one that stopped.
     Restart,
 }
 
-/// What is chosen of a list.
+/// The tests that choose entries of a list.
 #[derive(Debug, Drop)]
 pub struct Tests {
-    /// What meets all of these.
+    /// An entry must pass all of these.
     pub tests: Vec<Test>,
-    /// And has changed after each of these paths, which may stand twice.
+    /// It must also have changed after each of these paths, which may be given twice.
     pub newer: Vec<Path>,
 }
 
-/// What is saved of a comparison.
+/// A list that is saved of a comparison.
 #[derive(Debug, Drop)]
 pub struct Want {
-    /// Which rows it is about.
+    /// The rows whose entries are saved.
     pub expr: Expr,
-    /// The file that their entries are written to.
+    /// The file to which they are written.
     pub file: Path,
 }
 
-/// What a command line asks for.
+/// The command that a command line gives.
 #[derive(Debug, Drop)]
 pub enum Command {
-    /// A list of what stands below the start.
+    /// A list of the entries at and below the start.
     Walk {
-        /// How the walk is to go.
+        /// The settings of the walk.
         common: Common,
         /// Where it starts.
         start: Start,
-        /// The field that the list is sorted by, and whether downwards. It stands in path order without one.
+        /// The field by which the list is sorted, and whether it descends. Without it the list is in path order.
         sort: Option<(Field, bool)>,
-        /// The file that the list is written to.
+        /// The file to which the list is written.
         output: Option<Path>,
         /// After how many paths of one rank the walk stops.
         stop_after: Option<u64>,
-        /// The folder of the lists that a walk which stops leaves, and from which another goes on.
+        /// The directory of the checkpoint that a walk leaves when it stops, and from which another one continues.
         lists: Option<Path>,
     },
-    /// The same of what is chosen alone.
+    /// A list of the chosen entries.
     Find {
-        /// How the walk is to go.
+        /// The settings of the walk.
         common: Common,
         /// Where it starts.
         start: Start,
-        /// What is chosen.
+        /// The tests that choose entries.
         tests: Tests,
-        /// The field that the list is sorted by, and whether downwards.
+        /// The field by which the list is sorted, and whether it descends.
         sort: Option<(Field, bool)>,
-        /// The file that what is chosen is written to.
+        /// The file to which the chosen entries are written.
         output: Option<Path>,
     },
-    /// A comparison of what stands below two paths.
+    /// A comparison of two trees.
     Cmp {
-        /// How each of the two walks is to go.
+        /// The settings of each of the two walks.
         common: Common,
         /// The source.
         left: Path,
         /// The destination.
         right: Path,
-        /// What is saved, in the order of the words.
+        /// The lists to save, in the order of the words.
         wants: Vec<Want>,
     },
-    /// A copy of what stands below the sources.
+    /// A copy of the sources and everything below them.
     Copy {
-        /// How the walk is to go.
+        /// The settings of the walk.
         common: Common,
-        /// What is copied: one path or more, which may be nested or stand twice.
+        /// The sources: one path or more. They may be nested, or given twice.
         sources: Vec<Path>,
-        /// Where it is copied to.
+        /// The destination.
         dest: Path,
+        /// A file of more bytes than this is copied in ranges of at least so many bytes. Without it no file is.
+        range: Option<u64>,
     },
-    /// The making of a destination equal to a source.
+    /// A destination is made equal to a source.
     Sync {
-        /// How each of the two walks is to go.
+        /// The settings of each of the two walks.
         common: Common,
         /// The source.
         source: Path,
         /// The destination.
         dest: Path,
-        /// Whether entries that the destination alone has are to be removed.
+        /// Whether entries that only the destination has are deleted.
         delete: bool,
     },
-    /// The removal of what is chosen.
-    Remove {
-        /// How the walk is to go.
+    /// The groups of files with equal contents.
+    Dup {
+        /// The settings of the walk.
         common: Common,
-        /// Where it starts: paths other than `/`, which may be nested or stand twice.
+        /// The paths below which files are looked for: one or more. They may be nested, or given twice.
         roots: Vec<Path>,
-        /// What is chosen.
+    },
+    /// The chosen entries are deleted.
+    Remove {
+        /// The settings of the walk.
+        common: Common,
+        /// Where it starts: paths other than `/`. They may be nested, or given twice.
+        roots: Vec<Path>,
+        /// The tests that choose entries.
         tests: Tests,
-        /// Whether nothing is to be removed.
+        /// Whether nothing is deleted.
         dryrun: bool,
     },
-    /// A walk of a made-up tree, and the summary of what is chosen.
+    /// A walk of a made-up tree, and the summary of the chosen entries.
     Test {
-        /// How the walk is to go.
+        /// The settings of the walk.
         common: Common,
-        /// How many nodes the tree has.
+        /// The number of nodes of the tree.
         nodes: u64,
-        /// What is chosen.
+        /// The tests that choose entries.
         tests: Tests,
     },
 }

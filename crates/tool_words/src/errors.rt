@@ -11,15 +11,15 @@ pub enum Cause {
     UnknownTool,
     /// The tool has no such option.
     UnknownOption,
-    /// No value stands behind the option, which is the last word.
+    /// The option needs a value, and is the last word.
     NoValue,
-    /// The word, or its part behind `=`, is no value of the option, or is no path or number of nodes.
+    /// The word, or its part after `=`, is not a value of the option, or not a path or number of nodes.
     BadValue,
-    /// A path, or the number of nodes, is wanting behind the last word.
+    /// A path, or the number of nodes, is missing after the last word.
     NoPath,
-    /// The word is the first path, or number of nodes, that is one too many.
+    /// The word is one path, or number of nodes, too many.
     TooManyPaths,
-    /// The option was given before, or may not stand with others.
+    /// The option was given before, or cannot be combined with others.
     Clash,
 }
 
@@ -32,7 +32,7 @@ pub struct Refusal {
     pub cause: Cause,
 }
 
-/// Why there is no command: the refusal of a word, with its number, as in [`Refusal`]; or that no memory was found.
+/// Why there is no command: a word was refused, as in [`Refusal`], or no memory was found.
 #[derive(Clone, Copy, Debug, Drop, PartialEq, Eq, Error)]
 pub enum WordsError {
     /// There is no word.
@@ -44,19 +44,19 @@ pub enum WordsError {
     /// The tool has no such option.
     #[error("refused word {0} unknown option")]
     UnknownOption(usize),
-    /// No value stands behind the option, which is the last word.
+    /// The option needs a value, and is the last word.
     #[error("refused word {0} no value")]
     NoValue(usize),
-    /// The word, or its part behind `=`, is no value of the option, or is no path or number of nodes.
+    /// The word, or its part after `=`, is not a value of the option, or not a path or number of nodes.
     #[error("refused word {0} bad value")]
     BadValue(usize),
-    /// A path, or the number of nodes, is wanting behind the last word.
+    /// A path, or the number of nodes, is missing after the last word.
     #[error("refused word {0} no path")]
     NoPath(usize),
-    /// The word is the first path, or number of nodes, that is one too many.
+    /// The word is one path, or number of nodes, too many.
     #[error("refused word {0} too many paths")]
     TooManyPaths(usize),
-    /// The option was given before, or may not stand with others.
+    /// The option was given before, or cannot be combined with others.
     #[error("refused word {0} clash")]
     Clash(usize),
     /// No memory was found.
@@ -68,7 +68,7 @@ impl WordsError {
     ghost use Rattle.std.specs.Prelude.{◌≡◌};
     ghost use Rattle.tool_words.specs.Refusals.{refusal_in};
 
-    /// The refusal, where it is not memory that was wanting.
+    /// The refusal, or none if no memory was found.
     pub fn refusal(self) -> Option<Refusal>
         ensures { result ≡ refusal_in self }
     {

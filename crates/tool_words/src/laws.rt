@@ -1,7 +1,7 @@
-//! Laws of what words ask for, each the contract of a function that does nothing.
+//! Laws of commands, each the contract of a function with an empty body.
 ghost use Rattle.tool_words.specs.Limits.{WordsAskWithinLimits};
 
-/// Paths that words ask for are valid, and numbers are within the limits that a run takes.
+/// The paths of a command are valid, and its numbers are within the limits of a run.
 pub fn words_ask_within_limits()
     ensures { WordsAskWithinLimits }
 {}

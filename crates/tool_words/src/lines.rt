@@ -1,4 +1,4 @@
-//! A command line as far as it was read.
+//! A command line, as far as it was read.
 ghost use Rattle.std.specs.Prelude.{◌≡◌, ◌⊎◌, ◌++◌, ◌∷◌, [], Some, None, Ok, Err, OnOk, IfOk, IfErr, IsTrue, Result, Option, List, ℕ, false};
 ghost use Rattle.std.specs.Option.{option_copied};
 ghost use Rattle.tool_words.specs.Parts.{Tells};
@@ -18,7 +18,7 @@ use std::marker::Model;
 /// The most nodes that a made-up tree has.
 const MOST_NODES: u64 = 1_000_000;
 
-/// What the words so far gave.
+/// The settings and paths of the words so far.
 #[derive(Debug, Drop)]
 pub(crate) struct Line {
     next: Turn,
@@ -53,7 +53,7 @@ impl Line {
         }
     }
 
-    /// Reads a word of the tool, which has this number. A refusal leaves a line that is not to be read on.
+    /// Reads a word of the tool, which has this number. After a refusal the line is not read further.
     pub(crate) fn read(
         &mut self,
         alloc: Global,
@@ -193,7 +193,7 @@ impl Line {
         ensures refused { IfErr result (λ e. Tells (with_plain tool self.old place word.now) e) }
     {
         match tool {
-            Tool::Walk | Tool::Find | Tool::Cmp | Tool::Copy | Tool::Sync => {
+            Tool::Walk | Tool::Find | Tool::Cmp | Tool::Copy | Tool::Sync | Tool::Dup => {
                 self.read_path(alloc, word, place)
             }
             Tool::Remove => self.read_lower(alloc, word, place),

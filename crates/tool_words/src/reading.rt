@@ -1,4 +1,4 @@
-//! The words from left to right.
+//! The words, read from left to right.
 ghost use Rattle.std.specs.Prelude.{◌≡◌, map, Some, Ok, Err, IfOk, IfErr, IfSome, string_bytes};
 ghost use Rattle.tool_words.specs.Asked.{asked_by};
 ghost use Rattle.tool_words.specs.Parts.{Tells};
@@ -11,7 +11,7 @@ use crate::lines::Line;
 use crate::tables::Tool;
 use std::alloc::Global;
 
-/// The command that the words ask for, or the first offence from the left. Word 0 names the tool.
+/// The command of the words, or the first offence from the left. Word 0 names the tool.
 pub fn read_words(alloc: Global, words: &[String]) -> Result<Command, WordsError>
     ensures read { IfOk result (λ command. reading (map string_bytes words.now) ≡ Ok (asked_by command)) }
     ensures refused { IfErr result (λ e. IfSome (refusal_in e) (λ refusal. reading (map string_bytes words.now) ≡ Err refusal)) }

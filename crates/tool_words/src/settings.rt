@@ -1,4 +1,4 @@
-//! What the options set.
+//! The settings of the options.
 ghost use Rattle.std.specs.Prelude.{◌≡◌, ◌⊎◌, Some, None, OnOk, IfErr};
 ghost use Rattle.std.specs.Bool.{OnTrue, OnFalse};
 ghost use Rattle.tool_words.specs.Table.{unset, set, raise};
@@ -13,10 +13,10 @@ use path_text::Path;
 use std::alloc::Global;
 use std::marker::Model;
 
-/// The most paths that one rank may handle before all stop.
-const MOST_STOP: u64 = 9_223_372_036_854_775_807;
+/// The largest number of paths or of bytes.
+const MOST_COUNT: u64 = 9_223_372_036_854_775_807;
 
-/// What the options set, whatever the tool.
+/// The settings of the options, for every tool.
 #[derive(Debug, Drop)]
 pub(crate) struct Settings {
     pub(crate) common: Common,
@@ -28,6 +28,7 @@ pub(crate) struct Settings {
     pub(crate) wants: Vec<Want>,
     pub(crate) dryrun: bool,
     pub(crate) delete: bool,
+    pub(crate) range: Option<u64>,
     pub(crate) stop_after: Option<u64>,
     pub(crate) lists: Option<Path>,
     pub(crate) restart: bool,
@@ -38,11 +39,11 @@ impl Model for Settings {
 
     ghost Value = { Set };
 
-    ghost view = { λ s. record { common = s.common; sort = s.sort; input = s.input; output = s.output; tests = s.tests.items; newer = s.newer.items; wants = s.wants.items; dryrun = s.dryrun; delete = s.delete; stop_after = s.stop_after; lists = s.lists; restart = s.restart } };
+    ghost view = { λ s. record { common = s.common; sort = s.sort; input = s.input; output = s.output; tests = s.tests.items; newer = s.newer.items; wants = s.wants.items; dryrun = s.dryrun; delete = s.delete; range = s.range; stop_after = s.stop_after; lists = s.lists; restart = s.restart } };
 }
 
 impl Settings {
-    /// What stands where no option was given.
+    /// The settings without any option.
     pub(crate) fn unset(alloc: Global) -> Settings
         ensures { result ≡ unset }
     {
@@ -56,13 +57,14 @@ impl Settings {
             wants: Vec::new(alloc),
             dryrun: false,
             delete: false,
+            range: None,
             stop_after: None,
             lists: None,
             restart: false,
         }
     }
 
-    /// Sets what an option sets, by the text of its value, which the word of this number holds.
+    /// Sets an option by the text of its value, which is in the word of this number.
     pub(crate) fn set(
         &mut self,
         alloc: Global,
@@ -88,15 +90,16 @@ impl Settings {
             OptionName::Test(name) => self.tests.push(test_in(alloc, name, text, place)?)?,
             OptionName::Newer => self.newer.push(path_in(alloc, text, place)?)?,
             OptionName::Want => self.wants.push(want_in(alloc, text, place)?)?,
+            OptionName::Range => self.range = Some(number_in(1, MOST_COUNT, text).ok_or(bad)?),
             OptionName::StopAfter => {
-                self.stop_after = Some(number_in(1, MOST_STOP, text).ok_or(bad)?)
+                self.stop_after = Some(number_in(1, MOST_COUNT, text).ok_or(bad)?)
             }
             OptionName::Lists => self.lists = Some(path_in(alloc, text, place)?),
         }
         Ok(())
     }
 
-    /// Sets what a flag sets, and says whether the option is one.
+    /// Sets a flag, and answers whether the option is one.
     pub(crate) fn raise(&mut self, option: OptionName) -> bool
         ensures flag { OnTrue result (raise option self.old ≡ Some self.new) }
         ensures other { OnFalse result ((raise option self.old ≡ None) × (self.new ≡ self.old)) }

@@ -1,4 +1,4 @@
-//! The tools and their options, by how they are written.
+//! The tools and their options, by their names.
 ghost use Rattle.std.specs.Prelude.{◌≡◌, find};
 ghost use Rattle.tool_words.specs.Value.{is};
 ghost use Rattle.tool_words.specs.Table.{tool_named, text_of, options_in, groups_of, option_named, adds_up};
@@ -18,6 +18,8 @@ pub(crate) enum Tool {
     Copy,
     /// `dsync`
     Sync,
+    /// `ddup`
+    Dup,
     /// `drm`
     Remove,
     /// `dtest`
@@ -25,7 +27,7 @@ pub(crate) enum Tool {
 }
 
 impl Tool {
-    /// The tool that is written so.
+    /// The tool of this name.
     pub(crate) fn named(text: &str) -> Option<Tool>
         ensures { result ≡ tool_named text.now }
     {
@@ -35,6 +37,7 @@ impl Tool {
             "dcmp" => Some(Tool::Cmp),
             "dcp" => Some(Tool::Copy),
             "dsync" => Some(Tool::Sync),
+            "ddup" => Some(Tool::Dup),
             "drm" => Some(Tool::Remove),
             "dtest" => Some(Tool::Test),
             _ => None,
@@ -58,14 +61,15 @@ impl Tool {
                 Group::Testing,
             ],
             Tool::Cmp => &[Group::Common, Group::Comparing],
-            Tool::Copy => &[Group::Common],
+            Tool::Copy => &[Group::Common, Group::Cutting],
             Tool::Sync => &[Group::Common, Group::Deleting],
+            Tool::Dup => &[Group::Common],
             Tool::Remove => &[Group::Common, Group::Testing, Group::Removing],
             Tool::Test => &[Group::Common, Group::Telling, Group::Testing],
         }
     }
 
-    /// Its option that is written so.
+    /// Its option of this name.
     pub(crate) fn option(self, text: &str) -> Option<OptionName>
         ensures { result ≡ option_named self text.now }
     {
@@ -88,21 +92,23 @@ fn option_among(options: &[OptionName], text: &str) -> Option<OptionName>
 /// Options that tools take together.
 #[derive(Clone, Copy, Debug, Drop, PartialEq, Eq)]
 pub(crate) enum Group {
-    /// How a walk is to go.
+    /// The settings of a walk.
     Common,
-    /// What is told of a walk.
+    /// Reports on a walk.
     Telling,
     /// Where a list comes from, in which order it is printed, and where it is saved.
     Listing,
-    /// What is chosen.
+    /// The tests that choose entries.
     Testing,
-    /// What is saved of a comparison.
+    /// The lists that are saved of a comparison.
     Comparing,
-    /// Whether entries of the destination alone are removed.
+    /// Whether entries that only the destination has are deleted.
     Deleting,
-    /// Whether nothing is removed.
+    /// Whether nothing is deleted.
     Removing,
-    /// After how much a walk stops, where its lists are, and whether it goes on from those of an earlier one.
+    /// Above how many bytes a file is copied in ranges.
+    Cutting,
+    /// After how many paths a walk stops, where its checkpoint is, and whether it continues from one.
     Stopping,
 }
 
@@ -132,6 +138,7 @@ impl Group {
             Group::Comparing => &[OptionName::Want],
             Group::Deleting => &[OptionName::Delete],
             Group::Removing => &[OptionName::Dryrun],
+            Group::Cutting => &[OptionName::Range],
             Group::Stopping => &[
                 OptionName::StopAfter,
                 OptionName::Lists,
@@ -167,13 +174,14 @@ pub(crate) enum OptionName {
     Want,
     Dryrun,
     Delete,
+    Range,
     StopAfter,
     Lists,
     Restart,
 }
 
 impl OptionName {
-    /// How it is written.
+    /// Its name.
     #[tactic(auto, unfolding(crate::specs::Table::text_of))]
     pub(crate) fn text(self) -> &'static str
         ensures { result.now ≡ text_of self }
@@ -200,13 +208,14 @@ impl OptionName {
             OptionName::Want => "-o",
             OptionName::Dryrun => "--dryrun",
             OptionName::Delete => "--delete",
+            OptionName::Range => "--range",
             OptionName::StopAfter => "--stop-after",
             OptionName::Lists => "--lists",
             OptionName::Restart => "--restart",
         }
     }
 
-    /// Whether it may be given again, since what it says adds up.
+    /// Whether it may be given again.
     pub(crate) fn adds_up(self) -> bool
         ensures { result ≡ adds_up self }
     {

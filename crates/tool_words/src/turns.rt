@@ -1,13 +1,13 @@
-//! What the next word may be.
+//! How the next word is read.
 use crate::tables::OptionName;
 
-/// What the next word is read as.
+/// How the next word is read.
 #[derive(Clone, Copy, Debug, Drop, PartialEq, Eq)]
 pub(crate) enum Turn {
     /// An option, `--` or a plain word.
     Any,
     /// The value of this option, whose word has this number.
     Value(OptionName, usize),
-    /// A plain word, since `--` stands before it.
+    /// A plain word, since it follows `--`.
     Plain,
 }

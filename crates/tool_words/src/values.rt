@@ -15,7 +15,7 @@ use path_text::{Path, PathError};
 use std::alloc::Global;
 use tree_cmp::{Expr, ExprError, parse_expr};
 
-/// The number from `least` to `most` that a text is.
+/// The number of a text, if it is from `least` to `most`.
 pub(crate) fn number_in(least: u64, most: u64, text: &str) -> Option<u64>
     ensures { result ≡ number_in least most text.now }
 {
@@ -34,14 +34,14 @@ fn are_digits(text: &str) -> bool
     text.as_bytes().iter().all(|b| b.is_ascii_digit())
 }
 
-/// The same of a number that is small.
+/// The same for a small number.
 pub(crate) fn small_number_in(least: u32, most: u32, text: &str) -> Option<u32>
     ensures { result ≡ number_in least most text.now }
 {
     Some(number_in(least as u64, most as u64, text)? as u32)
 }
 
-/// What a rank gives, by its name.
+/// How much a rank gives, by its name.
 pub(crate) fn split_in(text: &str) -> Option<Split>
     ensures { result ≡ split_in text.now }
 {
@@ -52,7 +52,7 @@ pub(crate) fn split_in(text: &str) -> Option<Split>
     }
 }
 
-/// The path that a word is, which has this number.
+/// The path of a word, which has this number.
 pub(crate) fn path_in(alloc: Global, word: &str, place: usize) -> Result<Path, WordsError>
     ensures path { IfOk result (λ path. path_in word.now ≡ Some path) }
     ensures refused { IfErr result (λ e. ((e ≡ WordsError.BadValue place) × (path_in word.now ≡ None)) ⊎ (e ≡ WordsError.OutOfMemory)) }
@@ -64,7 +64,7 @@ pub(crate) fn path_in(alloc: Global, word: &str, place: usize) -> Result<Path, W
     }
 }
 
-/// The path below `/` that a word is, which has this number.
+/// The path below `/` of a word, which has this number.
 pub(crate) fn lower_path_in(alloc: Global, word: &str, place: usize) -> Result<Path, WordsError>
     ensures path { IfOk result (λ path. lower_path_in word.now ≡ Some path) }
     ensures refused { IfErr result (λ e. ((e ≡ WordsError.BadValue place) × (lower_path_in word.now ≡ None)) ⊎ (e ≡ WordsError.OutOfMemory)) }
@@ -75,7 +75,7 @@ pub(crate) fn lower_path_in(alloc: Global, word: &str, place: usize) -> Result<P
     path_in(alloc, word, place)
 }
 
-/// A field to sort by, and whether downwards.
+/// A field to sort by, and whether the order descends.
 #[tactic(auto, using(crate::proofs::Dashes::no_dash))]
 pub(crate) fn order_in(text: &str) -> Option<(Field, bool)>
     ensures { result ≡ order_in text.now }
@@ -99,7 +99,7 @@ fn field_in(text: &str) -> Option<Field>
     }
 }
 
-/// The test that a text says, which the word of this number holds.
+/// The test of a text, which is in the word of this number.
 pub(crate) fn test_in(
     alloc: Global,
     name: TestName,
@@ -118,7 +118,7 @@ pub(crate) fn test_in(
     }
 }
 
-/// What is to be saved where, which the word of this number holds.
+/// An expression and a file, which are in the word of this number.
 pub(crate) fn want_in(alloc: Global, text: &str, place: usize) -> Result<Want, WordsError>
     ensures want { IfOk result (λ want. want_in text.now ≡ Some want) }
     ensures refused { IfErr result (λ e. ((e ≡ WordsError.BadValue place) × (want_in text.now ≡ None)) ⊎ (e ≡ WordsError.OutOfMemory)) }
