@@ -40,11 +40,10 @@ meant_stops write.WrongKind path result old new is rose = if_ok (NotRemoved path
 meant_stops write.NotEmpty path result old new is rose = if_ok (NotRemoved path old new) result is
 meant_stops write.Absent path result old new is rose = if_ok (NotRemoved path old new) result is
 
-pub kept_stops : (dir path : List ℕ) (ranks : ℕ) (done : List Entry) (before after : Side) (why : Stop) → path ≡ list_path dir →
-    NotRemoved path before.count after.count why → StopsWriting dir ranks done before after why
-kept_stops dir path ranks done before after why is (inl memory) = inl memory
-kept_stops dir path ranks done before after why is (inr fault) =
-    inr (inr (inl (record { counted = fault.1; told = fault.0 ∙ ap (λ p. stop.ListFile trouble.Fault p) is })))
+pub kept_stops : (dir : List ℕ) (ranks : ℕ) (done : List Entry) (before after : Side) (why : Stop) →
+    NotRemoved (list_path dir) before.count after.count why → StopsWriting dir ranks done before after why
+kept_stops dir ranks done before after why (inl memory) = inl memory
+kept_stops dir ranks done before after why (inr fault) = inr (inr (inl (record { counted = fault.1; told = fault.0 })))
 
 pub ranks_stop : (dir : List ℕ) (ranks : ℕ) (done : List Entry) (before mid after : Side) (error : ListsError) (why : Stop) → IsCleared dir before mid →
     mid.count ≤ after.count → lists.StopsWriting dir ranks mid.tree mid.count after.count error → why ≡ stop_by error →

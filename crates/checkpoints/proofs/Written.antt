@@ -14,9 +14,10 @@ use Rattle.flat_list.specs.declared.entries.Entry.{Entry}
 use Rattle.flat_list.specs.Spelling.{Spells}
 use Rattle.flat_list.specs.declared.versions.Version.TheVariants.{Two}
 use Rattle.circle_lists.specs.Checkpoint.{file_path, HoldLists, SameButFiles}
+use Rattle.run_report.specs.Sides.{Side}
 use Rattle.run_entries.specs.Saving.{Saved, output_of, SameButAll, SameButOutputs}
 use Rattle.checkpoints.specs.Kept.{list_path, checkpoint_paths, IsKept, HoldsNewest}
-use Rattle.checkpoints.specs.Stopping.{IsGone, IsTorn}
+use Rattle.checkpoints.specs.Stopping.{IsCleared, IsGone, IsTorn}
 use Rattle.checkpoints.proofs.Paths.{file_differs, list_differs}
 
 -- ---- what the files hold
@@ -102,23 +103,24 @@ all_rest dir path ranks (Some old) (Some mid) (Some new) is wrote rest =
     both_same dir ranks old mid new wrote.rest (subst (λ p. SameButAll (p ∷ []) mid new) is rest.1)
 
 -- the removal of the old list file, and what came after it
-pub record ClearedFirst (dir : List ℕ) (old mid : Option Files) : Type 0 where
-  pub tells : is_some mid ≡ is_some old
-  pub gone : IfSome old (λ files. IfSome mid (IsGone (list_path dir) files))
-
 gone_same : (dir : List ℕ) (ranks : ℕ) (old mid new : Files) → IsGone (list_path dir) old mid → SameButAll (checkpoint_paths dir ranks) mid new →
     SameButAll (checkpoint_paths dir ranks) old new
 gone_same dir ranks old mid new gone later q off =
     let here = (or_parts (pointwise nat_eq q (list_path dir)) (list_any (pointwise nat_eq q) (map (file_path dir) (range_with_len 0 ranks))) off).0 in
     later q off ∙ gone.others q here
 
-pub cleared_rest : (dir : List ℕ) (ranks : ℕ) (old mid new : Option Files) → ClearedFirst dir old mid →
-    IfSome mid (λ files. IfSome new (SameButAll (checkpoint_paths dir ranks) files)) →
-    IfSome old (λ files. IfSome new (SameButAll (checkpoint_paths dir ranks) files))
-cleared_rest dir ranks None mid new first later = tt
-cleared_rest dir ranks (Some old) None new first later = absurd (false≢true first.tells)
-cleared_rest dir ranks (Some old) (Some mid) None first later = tt
-cleared_rest dir ranks (Some old) (Some mid) (Some new) first later = gone_same dir ranks old mid new first.gone later
+pub cleared_rest : (dir : List ℕ) (ranks : ℕ) (before between : Side) (new : Option Files) → IsCleared dir before between →
+    IfSome between.tree (λ files. IfSome new (SameButAll (checkpoint_paths dir ranks) files)) →
+    IfSome before.tree (λ files. IfSome new (SameButAll (checkpoint_paths dir ranks) files))
+cleared_rest dir ranks before between new cleared later = by before.tree between.tree new cleared.tells cleared.gone later
+  where
+    by : (old mid new : Option Files) → is_some mid ≡ is_some old → IfSome old (λ files. IfSome mid (IsGone (list_path dir) files)) →
+        IfSome mid (λ files. IfSome new (SameButAll (checkpoint_paths dir ranks) files)) →
+        IfSome old (λ files. IfSome new (SameButAll (checkpoint_paths dir ranks) files))
+    by None mid new tells gone later = tt
+    by (Some old) None new tells gone later = absurd (false≢true tells)
+    by (Some old) (Some mid) None tells gone later = tt
+    by (Some old) (Some mid) (Some new) tells gone later = gone_same dir ranks old mid new gone later
 
 -- ---- what is torn
 
@@ -155,12 +157,17 @@ ranks_off dir left ranks old mid new few gone later =
     by_gone (inl none) here = inl (here ∙ none)
     by_gone (inr stays) here = inr (inl (ap is_dir (here ∙ ap (λ files. get files (list_path dir)) stays.1) ∙ stays.0))
 
-pub ranks_torn : (dir : List ℕ) (left : List (List (List ℕ))) (ranks : ℕ) (old mid new : Option Files) → ranks ≤ 64 → ClearedFirst dir old mid →
-    IfSome mid (λ files. IfSome new (SameButFiles dir ranks files)) → IfSome old (λ files. IfSome new (IsTorn dir left files))
-ranks_torn dir left ranks None mid new few first later = tt
-ranks_torn dir left ranks (Some old) None new few first later = absurd (false≢true first.tells)
-ranks_torn dir left ranks (Some old) (Some mid) None few first later = tt
-ranks_torn dir left ranks (Some old) (Some mid) (Some new) few first later = ranks_off dir left ranks old mid new few first.gone later
+pub ranks_torn : (dir : List ℕ) (left : List (List (List ℕ))) (ranks : ℕ) (before between : Side) (new : Option Files) → ranks ≤ 64 →
+    IsCleared dir before between → IfSome between.tree (λ files. IfSome new (SameButFiles dir ranks files)) →
+    IfSome before.tree (λ files. IfSome new (IsTorn dir left files))
+ranks_torn dir left ranks before between new few cleared later = by before.tree between.tree new cleared.tells cleared.gone later
+  where
+    by : (old mid new : Option Files) → is_some mid ≡ is_some old → IfSome old (λ files. IfSome mid (IsGone (list_path dir) files)) →
+        IfSome mid (λ files. IfSome new (SameButFiles dir ranks files)) → IfSome old (λ files. IfSome new (IsTorn dir left files))
+    by None mid new tells gone later = tt
+    by (Some old) None new tells gone later = absurd (false≢true tells)
+    by (Some old) (Some mid) None tells gone later = tt
+    by (Some old) (Some mid) (Some new) tells gone later = ranks_off dir left ranks old mid new few gone later
 
 -- they were, and the list file was not
 held_still : (dir path : List ℕ) (left : List (List (List ℕ))) (mid new : Files) → path ≡ list_path dir → length left ≤ 64 → HoldLists dir left mid →
@@ -181,3 +188,17 @@ list_torn dir path left None mid new is few holds same tells = tt
 list_torn dir path left (Some old) None new is few holds same tells = absurd (false≢true tells)
 list_torn dir path left (Some old) (Some mid) None is few holds same tells = tt
 list_torn dir path left (Some old) (Some mid) (Some new) is few holds same tells = inr (inr (inr (held_still dir path left mid new is few holds same.1)))
+
+-- ---- the path of the list file
+
+pub named_at : {found : Option (List ℕ)} {path : List ℕ} (dir : List ℕ) → found ≡ Some path →
+    IfSome found (λ path. (path ≡ list_path dir) × (length (list_path dir) ≤ 4095)) → path ≡ list_path dir
+named_at dir is some = (subst (λ o. IfSome o (λ path. (path ≡ list_path dir) × (length (list_path dir) ≤ 4095))) is some).0
+
+pub cleared_by : (dir path : List ℕ) (before between : Side) → path ≡ list_path dir → is_some between.tree ≡ is_some before.tree →
+    before.count ≤ between.count → IfSome before.tree (λ files. IfSome between.tree (IsGone path files)) → IsCleared dir before between
+cleared_by dir path before between is tells kept gone = record {
+  tells = tells;
+  gone = subst (λ p. IfSome before.tree (λ files. IfSome between.tree (IsGone p files))) is gone;
+  kept = kept;
+}

@@ -1,5 +1,5 @@
--- A checkpoint in a folder: the list file of what is done, and for each rank the file of what it has left. Our own, after libcircle's checkpoint (SC 2012),
--- which has the ranks' files alone.
+-- A checkpoint in a directory: the list file of the done entries, and for each rank the file of its left strings. Our own, after
+-- libcircle's checkpoint (SC 2012), which has the ranks' files alone.
 use Rattle.std.specs.Prelude.{ℕ, ◌≤◌, List, ◌∷◌, length, map, IfSome, codes}
 use Rattle.std.specs.List.{flat_map, range_with_len}
 use Rattle.std.specs.FinMap.{get}

@@ -20,7 +20,8 @@ CheckpointsAreOne =
     (dir : List ℕ) (done others : List Entry) (left rest : List (List (List ℕ))) (files : Files) → 0 < length left → 0 < length rest
     → IsKept dir done left files → IsKept dir others rest files → (done ≡ others) × (left ≡ rest)
 
--- nothing stands against reading a checkpoint: it is there, no longer than a list may be, and placed, and the paths of its files are not too long
+-- nothing is in the way of reading a checkpoint: it is there, no longer than a list may be, and placed, and the paths of its files
+-- are not too long
 pub record IsFineKept (dir : List ℕ) (done : List Entry) (left : List (List (List ℕ))) (files : Files) : Type 0 where
   pub kept : IsKept dir done left files
   pub some : 0 < length left
@@ -40,7 +41,8 @@ pub record IsFree (files : Files) (path : List ℕ) : Type 0 where
   pub place : can_save files path ≡ true
   pub near : length path ≤ 4095
 
--- only want of memory stops the writing, where each of its files has a place before and no fault is counted: what is written takes no place away
+-- the writing stops only if it is out of memory, if each of its files has a place before and no fault is counted: a written file
+-- takes no place away
 abbrev pub FineWritesStopForMemory : Type 0
 FineWritesStopForMemory =
     (dir : List ℕ) (ranks : ℕ) (done : List Entry) (files : Files) (before after : Side) (why : Stop) → refusal dir ≡ None → ranks ≤ 64

@@ -1,4 +1,5 @@
--- How left strings in path order are gone over beside the done entries. Our own. Only clauses of this crate's own functions cite this file.
+-- The pass over left strings in path order beside the done entries. Our own. Only clauses of this crate's own functions cite this
+-- file.
 use Rattle.std.specs.Prelude.{◌≡◌, ℕ, ◌+◌, ◌-◌, ◌<◌, ◌≤◌, Bool, true, false, List, [], ◌∷◌, ◌++◌, map, length, take, drop, min}
 use Rattle.std.specs.Prelude.{Option, Some, None, IfSome, if◌then◌else◌, All, nat_eq}
 use Rattle.std.specs.List.{AllByRecursion, list_any, Contains, flat_map}
@@ -32,7 +33,7 @@ abbrev pub StandsAmong : List (List ℕ) → Option (List ℕ) → Type 0
 StandsAmong paths None = Unit {0}
 StandsAmong paths (Some top) = (y : List ℕ) → AllBehind paths y → Behind top y
 
--- of what stands behind all the paths, the top covers what any of them covers
+-- among later paths, the top covers each that any of the paths covers
 pub record IsTop (paths : List (List ℕ)) (top : Option (List ℕ)) : Type 0 where
   pub among : StandsAmong paths top
   pub covers : (y : List ℕ) → AllBehind paths y → list_any (is_in y) paths ≡ covered top y

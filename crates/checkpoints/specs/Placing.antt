@@ -6,16 +6,16 @@ use Rattle.flat_list.specs.declared.entries.Entry.{Entry}
 use Rattle.flat_list.specs.Entries.{is_of, is_fine}
 use Rattle.tree_walk.specs.Roots.{is_in}
 
--- what is under it may still be left: a directory whose names were told
+-- the paths under it may still be left: a directory whose names were listed
 abbrev pub is_open : Entry → Bool
 is_open e = is_fine e.mark && is_of kind.Dir e.stat
 
--- the path can't be left where this entry is done: the entry is at it or under it, or it is under the entry, which is closed
+-- the path cannot be left if this entry is done: the entry is at it or under it, or it is under the entry, which is closed
 abbrev pub clashes : List ℕ → Entry → Bool
 clashes path e = is_in e.path path || (is_in path e.path && not (is_open e))
 
--- a left string is misplaced where it clashes with a done entry, or where it is equal to or under another left one: then two or more are at
--- it or above it
+-- a left string is misplaced if it clashes with a done entry, or if it is equal to or under another left one. Then two or more are
+-- at it or above it
 abbrev pub is_misplaced : List Entry → List (List ℕ) → List ℕ → Bool
 is_misplaced done left path = list_any (clashes path) done || nat_lt 1 (count_by (is_in path) left)
 

@@ -1,4 +1,4 @@
--- What a refusal to remove the list file means. Only the contracts of this crate's own parts cite it.
+-- The meaning of a refusal to remove the list file. Only clauses of this crate's own functions cite this file.
 use Rattle.std.specs.Prelude.{◌≡◌, ◌⊎◌, ℕ, List, Result, Ok, Err}
 use Rattle.outside.specs.declared.plots.WriteError.{WriteError}
 use Rattle.outside.specs.declared.plots.WriteError.TheVariants as write
@@ -6,7 +6,7 @@ use Rattle.run_report.specs.declared.stops.Trouble.TheVariants as trouble
 use Rattle.run_report.specs.declared.stops.Stop.{Stop}
 use Rattle.run_report.specs.declared.stops.Stop.TheVariants as stop
 
--- a fault stops, want of memory too, and all else says that no file is there
+-- a fault stops the call, out of memory too, and every other refusal says that no file is there
 abbrev pub IsMeant : WriteError → List ℕ → Result (Unit {0}) Stop → Type 0
 IsMeant write.Failed path result = (result ≡ Err stop.OutOfMemory) ⊎ (result ≡ Err (stop.ListFile trouble.Fault path))
 IsMeant write.OutOfMemory path result = result ≡ Err stop.OutOfMemory

@@ -31,7 +31,7 @@ stop_by (error.NoPlace path) = stop.ListFile trouble.NoPlace path
 
 -- ---- reading
 
--- the path of the list file would be too long: the folder is told
+-- the path of the list file would be too long: the stop names the directory
 pub record HasLongList (dir : List ℕ) (why : Stop) : Type 0 where
   pub long : 4095 < length (list_path dir)
   pub told : why ≡ stop.ListFile trouble.Absent dir
@@ -49,7 +49,7 @@ pub record HasNoRanks (dir : List ℕ) (before after : Side) (why : Stop) : Type
   pub stops : lists.StopsReading dir before.tree before.count after.count error
   pub told : why ≡ stop_by error
 
--- the first left string that is misplaced is told: by the file of its rank, and by its line. The head is line 1
+-- the stop names the first left string that is misplaced, by the file of its rank and by its line. The head is line 1
 pub record TellsMisplaced (dir : List ℕ) (done : List Entry) (left : List (List (List ℕ))) (why : Stop) : Type 0 where
   pub rank : ℕ
   pub place : ℕ
@@ -72,7 +72,7 @@ StopsReading dir before after why =
 
 -- ---- writing
 
--- the path of the list file would be too long: the folder is told
+-- the path of the list file would be too long: the stop names the directory
 pub record HasNoName (dir : List ℕ) (why : Stop) : Type 0 where
   pub long : 4095 < length (list_path dir)
   pub told : why ≡ stop.ListFile trouble.NoPlace dir
@@ -121,8 +121,8 @@ abbrev pub StopsWriting : List ℕ → ℕ → List Entry → Side → Side → 
 StopsWriting dir ranks done before after why =
     (why ≡ stop.OutOfMemory) ⊎ HasNoName dir why ⊎ KeptOldList dir before after why ⊎ WroteTorn dir ranks done before after why
 
--- what stands in the folder then: no list file, or a directory at its path, so that no checkpoint is read; or every file but that one as before;
--- or the files of all ranks
+-- the directory has no list file then, or a directory at its path, so that no checkpoint is read. Or every path but that one is as
+-- before. Or it has the files of all ranks
 abbrev pub IsTorn : List ℕ → List (List (List ℕ)) → Files → Files → Type 0
 IsTorn dir left old new =
     (get new (list_path dir) ≡ None) ⊎ (is_dir (get new (list_path dir)) ≡ true) ⊎ SameBut (list_path dir) old new ⊎ HoldLists dir left new

@@ -1,11 +1,11 @@
-//! Laws of checkpoints, each the contract of a function that does nothing but recall the laws that it rests on.
+//! Laws of checkpoints, each the contract of a function that only recalls other laws.
 ghost use Rattle.checkpoints.specs.Laws.{CheckpointsAreOne, FineReadsStopForMemory, FineWritesStopForMemory};
 
 use circle_lists::{damage_is_exact, reading_undoes_saving};
 use flat_list::refusals_are_exact;
 use run_entries::fine_places_stop_for_memory;
 
-/// The files of a folder hold one checkpoint: what is read is what was written.
+/// The files of a directory hold one checkpoint: the one that is read was written.
 pub fn checkpoints_are_one()
     ensures { CheckpointsAreOne }
 {
@@ -13,7 +13,7 @@ pub fn checkpoints_are_one()
     reading_undoes_saving();
 }
 
-/// Only want of memory stops the reading of a checkpoint that is there and placed, where no fault is counted.
+/// The reading of a checkpoint that exists and is placed stops only if it is out of memory, if no fault is counted.
 pub fn fine_reads_stop_for_memory()
     ensures { FineReadsStopForMemory }
 {
@@ -24,7 +24,7 @@ pub fn fine_reads_stop_for_memory()
     reading_undoes_saving();
 }
 
-/// Only want of memory stops the writing of a checkpoint whose files each have a place, where no fault is counted.
+/// The writing of a checkpoint whose files each have a place stops only if it is out of memory, if no fault is counted.
 pub fn fine_writes_stop_for_memory()
     ensures { FineWritesStopForMemory }
 {

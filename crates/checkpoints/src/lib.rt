@@ -1,23 +1,27 @@
-//! A checkpoint in a folder, written and read whole: what a walk that was cut has done, and what each rank of it has left.
+//! A checkpoint in a directory, written and read whole. It has the entries that a walk has done, and the paths that each of
+//! its ranks has left.
 //!
-//! - [`write_checkpoint`] writes the files of the ranks, `DIR/circleR.txt`, and last `DIR/circle.list`, the list file of what is
-//!   done: so a folder whose `circle.list` was written has all files of the checkpoint.
-//! - [`read_checkpoint`] reads `DIR/circle.list` and then the files of the ranks, and refuses strings that can't be left beside
-//!   what is done, or beside each other: [`first_misplaced`].
+//! - [`write_checkpoint`] deletes an old `DIR/circle.list`. It then writes the files of the ranks, `DIR/circleR.txt`, and last
+//!   `DIR/circle.list`, the list file of the done entries. So a directory with a new `circle.list` has all files of the checkpoint.
+//! - [`read_checkpoint`] reads `DIR/circle.list` and then the files of the ranks. It refuses strings that cannot be left beside
+//!   the done entries, or beside each other: [`first_misplaced`].
 //!
-//! Proved, over any files: what is read is the list that `circle.list` spells and the lists that the files of the ranks spell, and
-//! each string in them is placed. After a checkpoint was written the files hold it, and whatever the writing answers, every path
-//! but those of its files is as before; where the files of the ranks were not written, `circle.list` is as before too. Each
-//! refusal but want of memory comes by its cause: the first file, in the order in which they are read or written, that has one,
-//! and then the first misplaced string.
+//! Proved, over any files:
 //!
-//! Laws: the files of a folder hold one checkpoint ([`checkpoints_are_one`]); where nothing stands against it, only want of memory
-//! stops the reading ([`fine_reads_stop_for_memory`]) and the writing ([`fine_writes_stop_for_memory`]).
+//! - The answer is the list that `circle.list` spells and the lists that the files of the ranks spell. Each string in them is
+//!   placed.
+//! - After a checkpoint was written the files hold it. Whatever the writing answers, every path but those of its files is as
+//!   before. If the files of the ranks were not written, `circle.list` is as before too.
+//! - Each refusal comes by its cause, unless the call is out of memory. The cause is the first file that has one, in the order
+//!   in which they are read or written, and then the first misplaced string.
 //!
-//! Not claimed: what stands in the checkpoint's files after a refusal.
+//! Laws: the files of a directory hold one checkpoint ([`checkpoints_are_one`]). If nothing is in the way, the reading stops
+//! only if it is out of memory ([`fine_reads_stop_for_memory`]). So does the writing ([`fine_writes_stop_for_memory`]).
 //!
-//! `specs/Kept` has what a folder holds, `specs/Placing` which strings are misplaced (`Passing` and `Lefts` have what only private
-//! clauses of that cite), `specs/Stopping` why nothing is read or written, and `specs/Laws` the laws.
+//! Not claimed: the contents of the checkpoint's files after a refusal.
+//!
+//! `specs/Kept` defines the files of a directory, and `specs/Placing` the misplaced strings. `specs/Stopping` has the reasons
+//! why nothing is read or written, and `specs/Laws` the laws. Only private clauses cite `Passing` and `Lefts`.
 #![tactic(auto)]
 
 mod laws;

@@ -1,4 +1,4 @@
-//! The path of the list file, and what an error at the files of the ranks stops.
+//! The path of the list file, and the stop of an error at the files of the ranks.
 ghost use Rattle.std.specs.Prelude.{◌≡◌, ◌<◌, ◌≤◌, IfOk, IfSome, IfNone, length};
 ghost use Rattle.checkpoints.specs.Kept.{list_path};
 ghost use Rattle.checkpoints.specs.Stopping.{stop_by};
@@ -7,7 +7,7 @@ use circle_lists::ListsError;
 use path_text::{JoinError, OutOfMemory, Path};
 use run_report::{Stop, Trouble};
 
-/// The path of the list file in the folder, unless it would be too long.
+/// The path of the list file in the directory, unless it would be too long.
 #[tactic(auto, using(crate::proofs::Paths::name_fine))]
 pub(crate) fn list_in(dir: &Path) -> Result<Option<Path>, OutOfMemory>
     ensures some { IfOk result (λ found. IfSome found (λ path. (path ≡ list_path dir.now) × (length (list_path dir.now) ≤ 4095))) }
@@ -20,7 +20,7 @@ pub(crate) fn list_in(dir: &Path) -> Result<Option<Path>, OutOfMemory>
     }
 }
 
-/// The stop that an error of the files of the ranks is.
+/// The stop of an error at the files of the ranks.
 pub(crate) fn stop_by(error: ListsError) -> Stop
     ensures { result ≡ stop_by error }
 {

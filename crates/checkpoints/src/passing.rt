@@ -147,7 +147,7 @@ pub(crate) fn covers(top: Option<&Path>, path: &Path) -> bool
     }
 }
 
-// Whether what is under an entry may still be left.
+// Whether the paths under an entry may still be left.
 fn is_open(entry: &Entry) -> bool
     ensures { result ≡ is_open entry.now }
 {

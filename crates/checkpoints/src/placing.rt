@@ -1,4 +1,4 @@
-//! Which left strings are misplaced.
+//! The left strings that are misplaced.
 ghost use Rattle.std.specs.Prelude.{◌≡◌, ◌≤◌, ◌<◌, ◌+◌, ◌++◌, ◌||◌, List, length, map, drop, IfOk, IfSome, OnOk, Some, None};
 ghost use Rattle.std.specs.List.{flat_map, enumerate_from};
 ghost use Rattle.std.specs.List.Sorted.{IsPermutation, IsSorted, IsSortedByKey, IsStrictlySortedBy};
@@ -14,14 +14,14 @@ use flat_list::FlatList;
 use path_text::{OutOfMemory, Path};
 use std::alloc::Global;
 
-/// A left string, and its number among those of all lists.
+/// A left string, and its number in all lists.
 #[derive(Clone, Copy, Debug, Drop)]
 struct Left<'a> {
     path: &'a Path,
     number: usize,
 }
 
-/// The first left string that is misplaced: its rank, and its place in the list of that rank, both from 0. The time is that of a
+/// The first left string that is misplaced: its rank, and its place in the list of that rank, both from 0. It takes a
 /// sort of the left strings and one pass over the entries.
 pub fn first_misplaced(
     alloc: Global,
@@ -32,11 +32,24 @@ pub fn first_misplaced(
     ensures none { IfOk result (λ r. r ≡ None → ArePlaced done.now (flat_map (λ l. l) (map (λ list. list.items) lists.now))) }
     ensures first { IfOk result (λ r. IfSome r (λ at. IsFirstMisplaced done.now (map (λ list. list.items) lists.now) at.0 at.1)) }
 {
-    let lefts = in_order(alloc, lists)?;
-    let Some(number) = lowest_misplaced(done, &lefts)? else {
+    let Some(number) = first_number(alloc, done, lists)? else {
         return Ok(None);
     };
     Ok(place_of(lists, number))
+}
+
+// The number in all lists of the first left string that is misplaced.
+fn first_number(
+    alloc: Global,
+    done: &FlatList,
+    lists: &[Vec<Path>],
+) -> Result<Option<usize>, OutOfMemory>
+    requires ascend { IsStrictlySortedBy path_cmp (paths done.now) }
+    ensures { let flat = flat_map (λ l. l) (map (λ list. list.items) lists.now) in IfOk result (IsLowest (is_misplaced done.now flat) (enumerate_from 0 flat)) }
+{
+    let lefts = in_order(alloc, lists)?;
+    let lowest = lowest_misplaced(done, &lefts)?;
+    Ok(lowest)
 }
 
 // All left strings in path order, with their numbers.
@@ -111,7 +124,7 @@ fn lowest_with(wanted: bool, lowest: Option<usize>, number: usize) -> Option<usi
     }
 }
 
-// The top of the left strings that were looked at, with one more: a string that it covers is not the top of any that follow.
+// The top of the left strings that were looked at, with one more. A string that it covers is not the top of any later string.
 fn top_with<'a>(top: Option<&'a Path>, path: &'a Path) -> Option<&'a Path>
     ensures { option_copied result ≡ top_with (option_copied top.entry) path.now }
 {

@@ -24,7 +24,7 @@ use run_entries::read_list;
 use run_report::{Stop, Trouble};
 use std::alloc::Global;
 
-/// A checkpoint: what a walk had done, and what each rank had left.
+/// A checkpoint: the entries that a walk had done, and the strings that each rank had left.
 #[derive(Debug, Drop)]
 pub struct Checkpoint {
     /// The entries that were done.
@@ -33,14 +33,15 @@ pub struct Checkpoint {
     pub left: Vec<Vec<Path>>,
 }
 
-/// The checkpoint in the folder: `circle.list` is read first, then the file of each rank, and then it is looked at whether each
-/// left string is placed. The first that is not so ends that.
+/// The checkpoint in the directory. It reads `circle.list` first, then the file of each rank, and then tests whether each
+/// left string is placed. The first error ends it.
 pub fn read_checkpoint<G: Ground>(
     alloc: Global,
     files: &mut G,
     dir: &Path,
 ) -> Result<Checkpoint, Stop>
-    ensures read { IfOk result (λ kept. IsCheckpoint dir.now (side_of (G.tree files.old) (G.count files.old)) kept.done (map (λ list. list.items) kept.left.items)) }
+    ensures read { IfOk result (λ kept. IsCheckpoint dir.now
+        (side_of (G.tree files.old) (G.count files.old)) kept.done (map (λ list. list.items) kept.left.items)) }
     ensures ascend { IfOk result (λ kept. IsStrictlySortedBy path_cmp (paths kept.done)) }
     ensures shaped { IfOk result (λ kept. All (λ e. is_shaped e ≡ true) kept.done) }
     ensures stopped { IfErr result (StopsReading dir.now (side_of (G.tree files.old) (G.count files.old)) (side_of (G.tree files.new) (G.count files.new))) }
@@ -60,7 +61,7 @@ pub fn read_checkpoint<G: Ground>(
     Ok(Checkpoint { done, left })
 }
 
-// What each rank had left, by a reader that goes back whatever it answers.
+// The strings that each rank had left, by a reader that goes back whatever it answers.
 fn read_left<G: Ground>(
     alloc: Global,
     files: &mut G,

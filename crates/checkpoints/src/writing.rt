@@ -11,7 +11,7 @@ ghost use Rattle.circle_lists.specs.Checkpoint.{AllFit};
 ghost use Rattle.run_report.specs.Sides.{side_of};
 ghost use Rattle.run_entries.specs.Saving.{SameButAll};
 ghost use Rattle.checkpoints.specs.Kept.{list_path, checkpoint_paths, IsKept, HoldsNewest};
-ghost use Rattle.checkpoints.specs.Stopping.{IsGone, IsTorn, StopsWriting};
+ghost use Rattle.checkpoints.specs.Stopping.{IsCleared, IsGone, IsTorn, StopsWriting};
 ghost use Rattle.checkpoints.specs.PrivateRemoval.{IsMeant};
 
 use crate::naming::{list_in, stop_by};
@@ -23,8 +23,9 @@ use run_entries::save_list;
 use run_report::{Stop, Trouble};
 use std::alloc::Global;
 
-/// Writes a checkpoint into the folder: it removes an old `circle.list` first, then writes the files of the ranks, and `circle.list` last,
-/// in version 2 of list files. The first that is not written ends that. So a checkpoint that was cut off is refused when it is read.
+/// Writes a checkpoint into the directory. It deletes an old `circle.list` first and then writes the files of the ranks. It
+/// writes `circle.list` last, in version 2 of list files. The first error ends it. So a checkpoint that was cut off is refused
+/// when it is read.
 pub fn write_checkpoint<G: Ground>(
     alloc: Global,
     files: &mut G,
@@ -43,7 +44,8 @@ pub fn write_checkpoint<G: Ground>(
     ensures fit { OnOk result (AllFit dir.now (length left.now)) }
     ensures tells { is_some (G.tree files.new) ≡ is_some (G.tree files.old) }
     ensures rest { IfSome (G.tree files.old) (λ old. IfSome (G.tree files.new) (SameButAll (checkpoint_paths dir.now (length left.now)) old)) }
-    ensures stopped { IfErr result (StopsWriting dir.now (length left.now) done.now (side_of (G.tree files.old) (G.count files.old)) (side_of (G.tree files.new) (G.count files.new))) }
+    ensures stopped { IfErr result (StopsWriting dir.now (length left.now) done.now (side_of (G.tree files.old) (G.count files.old))
+        (side_of (G.tree files.new) (G.count files.new))) }
     ensures torn { OnErr result (IfSome (G.tree files.old) (λ old. IfSome (G.tree files.new) (IsTorn dir.now (map (λ list. list.items) left.now) old))) }
     ensures lent { G.area files.new ≡ nothing_lent }
     ensures count { RoseBy 0 (G.count files.old) (G.count files.new) }
@@ -51,20 +53,36 @@ pub fn write_checkpoint<G: Ground>(
     let Some(path) = list_in(dir)? else {
         return Err(Stop::ListFile(Trouble::NoPlace, dir.copy()?));
     };
-    remove_old(alloc, files, &path)?;
+    clear_list(alloc, files, dir, &path)?;
     if let Err(error) = write_lists(alloc, files, dir, left) {
         return Err(stop_by(error));
     }
     save_list(alloc, files, Some(path), done)
 }
 
-// Removes what is at the path of the list file. A directory stays there.
+// Removes the file at the path of the list file in the directory.
+fn clear_list<G: Ground>(alloc: Global, files: &mut G, dir: &Path, path: &Path) -> Result<(), Stop>
+    requires lent { G.area files.old ≡ nothing_lent }
+    requires named { path.now ≡ list_path dir.now }
+    ensures cleared { OnOk result (IsCleared dir.now (side_of (G.tree files.old) (G.count files.old)) (side_of (G.tree files.new) (G.count files.new))) }
+    ensures same { OnErr result (IfSome (G.tree files.old) (λ old. IfSome (G.tree files.new) (SameBut (list_path dir.now) old))) }
+    ensures stopped { IfErr result (λ why. (why ≡ Stop.OutOfMemory) ⊎ ((why ≡ Stop.ListFile Trouble.Fault (list_path dir.now))
+        × RoseBy 1 (G.count files.old) (G.count files.new))) }
+    ensures tells { is_some (G.tree files.new) ≡ is_some (G.tree files.old) }
+    ensures lent { G.area files.new ≡ nothing_lent }
+    ensures count { RoseBy 0 (G.count files.old) (G.count files.new) }
+{
+    remove_old(alloc, files, path)
+}
+
+// Removes the file at a path below the root. A directory stays there.
 fn remove_old<G: Ground>(alloc: Global, files: &mut G, path: &Path) -> Result<(), Stop>
     requires lent { G.area files.old ≡ nothing_lent }
     requires below { is_root path.now ≡ false }
     ensures gone { OnOk result (IfSome (G.tree files.old) (λ old. IfSome (G.tree files.new) (IsGone path.now old))) }
     ensures same { OnErr result (IfSome (G.tree files.old) (λ old. IfSome (G.tree files.new) (SameBut path.now old))) }
-    ensures stopped { IfErr result (λ why. (why ≡ Stop.OutOfMemory) ⊎ ((why ≡ Stop.ListFile Trouble.Fault path.now) × RoseBy 1 (G.count files.old) (G.count files.new))) }
+    ensures stopped { IfErr result (λ why. (why ≡ Stop.OutOfMemory) ⊎ ((why ≡ Stop.ListFile Trouble.Fault path.now)
+        × RoseBy 1 (G.count files.old) (G.count files.new))) }
     ensures tells { is_some (G.tree files.new) ≡ is_some (G.tree files.old) }
     ensures lent { G.area files.new ≡ nothing_lent }
     ensures count { RoseBy 0 (G.count files.old) (G.count files.new) }
@@ -75,7 +93,7 @@ fn remove_old<G: Ground>(alloc: Global, files: &mut G, path: &Path) -> Result<()
     }
 }
 
-// What a refusal to remove the list file at the path means.
+// The meaning of a refusal to remove the list file at the path.
 fn by_refusal(refused: WriteError, path: &Path) -> Result<(), Stop>
     ensures { IsMeant refused path.now result }
 {

@@ -1,5 +1,5 @@
 -- What is given of rows that ascend, and what is joined of entries that have their shapes.
-use Rattle.std.proofs.Common.{◌≡◌, ⊎_elim, ℕ, ◌+◌, Bool, true, false, List, [], ◌∷◌, ◌++◌, map, filter, take, cond, Some, None, refl, sym, ap, ◌∙◌, add-one}
+use Rattle.std.proofs.Common.{◌≡◌, ⊎_elim, ℕ, ◌+◌, Bool, true, false, List, [], ◌∷◌, ◌++◌, map, filter, take, cond, Some, refl, sym, ap, ◌∙◌, add-one}
 use Rattle.std.specs.Prelude.{slice_get, Result, Ok, Err, IfOk}
 use Rattle.std.specs.List.{All, AllByRecursion, AllZip}
 use Rattle.std.specs.List.Sorted.{IsStrictlySortedBy}
@@ -14,6 +14,7 @@ use Rattle.flat_list.specs.declared.entries.Entry.{Entry}
 use Rattle.tree_cmp.specs.declared.conditions.Condition.{Condition}
 use Rattle.tree_cmp.specs.declared.rows.Row.{Row}
 use Rattle.compare_report.specs.Outputs.{is_given, given_paths, is_new, IsJoined}
+use Rattle.compare_report.proofs.Picked.{none_some, some_same}
 
 taken_by : (rows : List Row) (k : ℕ) (row : Row) → slice_get rows k ≡ Some row → take (k + 1) rows ≡ take k rows ++ row ∷ []
 taken_by rows k row at =
@@ -21,12 +22,6 @@ taken_by rows k row at =
     let same : w.0 ≡ row = some_same w.0 row (sym w.2 ∙ at) in
     ap (λ n. take n rows) (add-one k) ∙ take-suc rows k w.0 w.1 ∙ ap (λ r. take k rows ++ r ∷ []) (w.3 ∙ same))
     (λ w. absurd (none_some row (sym w.1 ∙ at))) (slice_get_cases rows k).1
-  where
-    some_same : (x y : Row) → Some x ≡ Some y → x ≡ y
-    some_same x y e = cc
-
-    none_some : (x : Row) → None ≡ Some x → ⊥
-    none_some x e = absurd (cc)
 
 abbrev row_paths : List Row → List (List ℕ)
 row_paths rows = map (λ row. row.path) rows

@@ -22,16 +22,16 @@ pub record IsHere (side : List Entry) (k : ℕ) (e : Entry) (cursor : List Entry
   pub is : get_or side k e ≡ e
   pub moved : cursor ≡ (side, k + 1)
 
+pub some_same : {A : Type 0} (x y : A) → Some x ≡ Some y → x ≡ y
+some_same x y e = cc
+
+pub none_some : {A : Type 0} (x : A) → None ≡ Some x → ⊥
+none_some x e = absurd (cc)
+
 some_here : (side : List Entry) (k : ℕ) (e : Entry) → slice_get side k ≡ Some e → (k < length side) × (get_or side k e ≡ e)
 some_here side k e is =
     ⊎_elim (λ w. let same : w.0 ≡ e = some_same w.0 e (sym w.2 ∙ is) in (w.1, subst (λ x. get_or side k x ≡ x) same w.3))
     (λ w. absurd (none_some e (sym w.1 ∙ is))) (slice_get_cases side k).1
-  where
-    some_same : (x y : Entry) → Some x ≡ Some y → x ≡ y
-    some_same x y e = cc
-
-    none_some : (x : Entry) → None ≡ Some x → ⊥
-    none_some x e = absurd (cc)
 
 pub here : (side : List Entry) (old new : List Entry × ℕ) (e : Entry) (more : Bool) → old.0 ≡ side → new ≡ (old.0, cond more (old.1 + 1) old.1) →
     more ≡ true → slice_get new.0 (new.1 - 1) ≡ Some e → IsHere side old.1 e new

@@ -1,5 +1,5 @@
 -- What the steps of dcmp told, as its own words say it.
-use Rattle.std.proofs.Common.{◌≡◌, ℕ, List, [], ◌∷◌, map, Option, Some, None, IfSome, length, refl, ap, sym, subst}
+use Rattle.std.proofs.Common.{◌≡◌, ℕ, ◌≤◌, List, [], ◌∷◌, map, Option, Some, None, IfSome, length, refl, ap, sym, subst, inr}
 use Rattle.std.specs.Option.{is_some}
 use Rattle.outside.specs.Count.{RoseBy}
 use Rattle.outside.specs.Tree.{Files}
@@ -9,13 +9,17 @@ use Rattle.tree_cmp.specs.Rows.{Findings, IsComparison}
 use Rattle.tree_cmp.specs.Sides.{side}
 use Rattle.tool_words.specs.declared.commands.Want.{Want}
 use Rattle.tool_words.specs.Asked.{CompareAsked}
+use Rattle.run_report.specs.declared.stops.Stop.{Stop}
 use Rattle.run_report.specs.Sides.{Side, side_of}
 use Rattle.run_entries.specs.declared.both.Sides.{Sides}
 use Rattle.run_entries.specs.declared.saving.Output.{Output}
 use Rattle.run_entries.specs.Both.{WalksBoth}
 use Rattle.run_entries.specs.Saving.{SameButAll, SameButOutputs}
-use Rattle.compare_report.specs.Comparing.{Compares}
+use Rattle.run_entries.specs.Stopping.{StopsSaving}
+use Rattle.compare_report.specs.declared.comparing.Prepared.{Prepared}
+use Rattle.compare_report.specs.Comparing.{Compares, LeavesCompare, StopsCompare}
 use Rattle.compare_report.specs.Outputs.{AreOutputs}
+use Rattle.compare_report.specs.PrivateSteps.{IsPrepared}
 
 -- both sides were walked, and then compared
 pub record Steps (asked : CompareAsked) (sides : Sides) (found : Findings) (before walked compared : Side) : Type 0 where
@@ -63,10 +67,28 @@ files_of (want ∷ wants) rows left_top right_top left right [] are = absurd are
 files_of (want ∷ wants) rows left_top right_top left right (output ∷ outputs) are =
     λ i. are.0.0 i ∷ files_of wants rows left_top right_top left right outputs are.1 i
 
-pub leaves_by : (wants : List Want) (rows : List Row) (left_top right_top : List ℕ) (left right : List Entry) (outputs : List Output)
-    (old between new : Option Files) →
-    AreOutputs wants rows left_top right_top left right outputs → between ≡ old → SameButOutputs (map (λ (o : Output). o.path) outputs) between new →
-    SameButOutputs (map (λ (want : Want). want.file) wants) old new
-leaves_by wants rows left_top right_top left right outputs old between new are same rest =
-    subst (λ ps. SameButOutputs ps old new) (files_of wants rows left_top right_top left right outputs are)
-    (subst (λ t. SameButOutputs (map (λ (o : Output). o.path) outputs) t new) same rest)
+-- so whatever was saved of them, all else is as before
+pub leaves_saved : (asked : CompareAsked) (before between : Side) (new : Option Files) (ready : Prepared) (outputs : List Output) →
+    IsPrepared asked before between ready → between.tree ≡ before.tree → outputs ≡ ready.outputs.items →
+    SameButOutputs (map (λ (o : Output). o.path) outputs) between.tree new → LeavesCompare asked before.tree new
+leaves_saved asked before between new ready outputs p same are rest =
+    subst (λ ps. SameButOutputs ps before.tree new) (files_of asked.wants p.found.rows asked.left asked.right p.left p.right ready.outputs.items p.are)
+    (subst (λ t. SameButOutputs (map (λ (o : Output). o.path) ready.outputs.items) t new) same
+    (subst (λ (os : List Output). SameButOutputs (map (λ (o : Output). o.path) os) between.tree new) are rest))
+
+-- ---- a list that was not saved
+
+pub stops_saving : (asked : CompareAsked) (before between after : Side) (ready : Prepared) (why : Stop) → IsPrepared asked before between ready →
+    between.tree ≡ before.tree → between.count ≤ after.count → StopsSaving ready.outputs.items between after why → StopsCompare asked before after why
+stops_saving asked before between after ready why p same later stops =
+    inr (inr (record {
+      left = p.left;
+      right = p.right;
+      found = p.found;
+      compared = between.count;
+      compares = p.compares;
+      outputs = ready.outputs.items;
+      are = p.are;
+      later = later;
+      stops = subst (λ t. StopsSaving ready.outputs.items (side_of t between.count) after why) same stops;
+    }))

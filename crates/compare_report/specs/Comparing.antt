@@ -1,5 +1,5 @@
--- What dcmp does: what it reports, why it stops, what it may have changed, and when nothing stands against it. The tool is mpiFileUtils';
--- the texts, notes and statuses are our own.
+-- The work of dcmp: its report, the reasons to stop, the paths that it may have changed, and when nothing is in its way. The tool is
+-- mpiFileUtils'; the texts, notes and statuses are our own.
 use Rattle.std.specs.Prelude.{◌≡◌, ◌⊎◌, ℕ, ◌≤◌, true, false, List, [], ◌∷◌, ◌++◌, length, map, Option, All}
 use Rattle.outside.specs.Count.{RoseBy}
 use Rattle.outside.specs.Tree.{Files}
@@ -28,7 +28,7 @@ use Rattle.run_entries.specs.Stopping.{StopsSaving}
 use Rattle.compare_report.specs.declared.comparing.CompareTask.{CompareTask}
 use Rattle.compare_report.specs.Outputs.{AreOutputs}
 
--- what a task asks for
+-- the request of a task
 abbrev pub compare_asked : CompareTask → CompareAsked
 compare_asked task = record { common = task.common; left = task.left; right = task.right; wants = task.wants.items }
 
@@ -43,13 +43,14 @@ pub record Compares (asked : CompareAsked) (left right : List Entry) (found : Fi
 abbrev pub missed_notes : Why → List Missed → List Note
 missed_notes reason missed = map (λ m. record { path = m.path; why = reason; dest = m.dest }) missed
 
--- all that is to be named: the reads that failed or showed a change, and the entries of both walks, those of the destination as such
+-- the notes of all failures: the reads that failed or showed a change, and the entries of both walks, those of the destination as such
 abbrev pub compare_failures : List Entry → List Entry → Findings → List Note
 compare_failures left right found =
     failures_of (missed_notes why.FailedRead found.failed ++ missed_notes why.Changed found.changed)
     (record { entries = left; dest = false } ∷ record { entries = right; dest = true } ∷ [])
 
--- what it reports: what it found, of which it saved what is wanted, and the two texts of that: the rows with their counts, and the notes
+-- its report: the findings, of which the wanted lists are saved, and their two texts. These are the rows with their counts, and the
+-- notes
 pub record ReportsCompare (asked : CompareAsked) (before after : Side) (report : Report) : Type 0 where
   pub left : List Entry
   pub right : List Entry
@@ -79,18 +80,18 @@ pub record StopsAfterComparing (asked : CompareAsked) (before after : Side) (why
   pub later : compared ≤ after.count
   pub stops : StopsSaving outputs (side_of before.tree compared) after why
 
--- why it stops: for want of memory; or a walk was too long, that of the source or then that of the destination, and the files are as
--- before; or a list was not saved
+-- why it stops. It is out of memory. Or a walk was too long, that of the source or then that of the destination, and the files are
+-- as before. Or a list was not saved
 abbrev pub StopsCompare : CompareAsked → Side → Side → Stop → Type 0
 StopsCompare asked before after why =
     (why ≡ stop.OutOfMemory)
     ⊎ ((StopsWalking asked.left asked.right before after why × (after.tree ≡ before.tree)) ⊎ StopsAfterComparing asked before after why)
 
--- what it may have changed: the files that are to be written, and nothing else
+-- the paths that it may have changed: the files that are to be written, and no other
 abbrev pub LeavesCompare : CompareAsked → Option Files → Option Files → Type 0
 LeavesCompare asked old new = SameButOutputs (map (λ want. want.file) asked.wants) old new
 
--- when nothing stands against it: each side is fine, and there is a place for each file that is to be written
+-- when nothing is in its way: each side is fine, and there is a place for each file that is to be written
 pub record FineCompare (asked : CompareAsked) (before after : Side) : Type 0 where
   pub source : IsFineSide (roots (asked.left ∷ [])) before after
   pub destination : IsFineSide (roots (asked.right ∷ [])) before after

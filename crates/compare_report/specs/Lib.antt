@@ -2,3 +2,4 @@ pub mod Comparing
 pub mod Laws
 pub mod Outputs
 pub mod PrivatePicks
+pub mod PrivateSteps

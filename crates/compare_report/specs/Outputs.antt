@@ -1,5 +1,5 @@
--- What dcmp saves of a comparison. That it saves lists of the entries whose rows meet an expression is mpiFileUtils'; of which side they
--- are, and that each path stands once, is our own.
+-- The lists that dcmp saves of a comparison. That it saves the entries whose rows meet an expression is mpiFileUtils'. From which
+-- side they come, and that each path comes once, is our own.
 use Rattle.std.specs.Prelude.{◌≡◌, ℕ, Bool, true, false, not, ◌&&◌, if◌then◌else◌, List, ◌++◌, map, filter, nat_eq}
 use Rattle.std.specs.Cmp.Lexicographic.{pointwise}
 use Rattle.std.specs.List.{list_any, AllZip}
@@ -35,12 +35,12 @@ pub record IsJoined (first second list : List Entry) : Type 0 where
   pub ascend : IsStrictlySortedBy path_cmp (paths list)
   pub all : IsPermutation (first ++ filter (is_new first) second) list
 
--- what is saved of rows: what the source gives, and what the destination gives beside it
+-- the list that is saved of rows: the entries of the source, and beside them those of the destination
 abbrev pub IsSelected : List (List Condition) → List Row → (left_top right_top : List ℕ) → (left right : List Entry) → List Entry → Type 0
 IsSelected expr rows left_top right_top left right list =
     IsJoined (filter (picks left_top (given_paths expr false rows)) left) (filter (picks right_top (given_paths expr true rows)) right) list
 
--- the outputs, each at its file, in the order of what is wanted
+-- the outputs, each at its file, in the order in which they are wanted
 abbrev pub AreOutputs : List Want → List Row → (left_top right_top : List ℕ) → (left right : List Entry) → List Output → Type 0
 AreOutputs wants rows left_top right_top left right outputs =
     AllZip (λ want output. (output.path ≡ want.file) × IsSelected want.expr rows left_top right_top left right output.list) wants outputs

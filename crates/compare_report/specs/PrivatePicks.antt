@@ -16,6 +16,6 @@ pub record IsPassed (paths : List (List ℕ)) (at : ℕ) (sought : List ℕ) : T
   pub inside : at ≤ length paths
   pub before : All (λ p. path_cmp p sought ≡ Less) (take at paths)
 
--- a search for what each entry is sought by stands so at the next entry, if there is one
+-- a search by a key of each entry has come this far at the next entry, if there is one
 abbrev pub IsNext : (Entry → List ℕ) → List Entry → ℕ → List (List ℕ) → ℕ → Type 0
 IsNext key entries k paths at = (at ≤ length paths) × ((d : Entry) → k < length entries → IsPassed paths at (key (get_or entries k d)))

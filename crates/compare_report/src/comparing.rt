@@ -1,10 +1,15 @@
-//! What dcmp does.
-ghost use Rattle.std.specs.Prelude.{◌≡◌, [], IfOk, IfErr};
+//! The work of dcmp.
+ghost use Rattle.std.specs.Prelude.{◌≡◌, [], All, IfOk, IfErr, true};
+ghost use Rattle.std.specs.List.Sorted.{IsStrictlySortedBy};
+ghost use Rattle.path_text.specs.Order.{path_cmp};
 ghost use Rattle.outside.specs.Count.{RoseBy};
 ghost use Rattle.outside.specs.Writes.{nothing_lent};
+ghost use Rattle.flat_list.specs.Entries.{is_shaped};
+ghost use Rattle.flat_list.specs.Spelling.{paths};
 ghost use Rattle.tool_words.specs.Limits.{WithinCompare};
 ghost use Rattle.run_report.specs.Sides.{side_of};
 ghost use Rattle.compare_report.specs.Comparing.{compare_asked, ReportsCompare, StopsCompare, LeavesCompare};
+ghost use Rattle.compare_report.specs.PrivateSteps.{IsPrepared};
 
 use crate::naming::failures;
 use crate::printing::compare_report;
@@ -12,27 +17,27 @@ use crate::reading::compare_sides;
 use crate::selecting::outputs_of;
 use outside::Ground;
 use path_text::Path;
-use run_entries::{save_lists, walk_sides};
+use run_entries::{Output, save_lists, walk_sides};
 use run_report::{Report, Stop};
 use std::alloc::Global;
 use std::sync::Wait;
 use std::thread::Threads;
 use tool_words::{Common, Want};
 
-/// What dcmp is asked for.
+/// The task of dcmp.
 #[derive(Debug, Drop)]
 pub struct CompareTask {
-    /// How each of the two walks is to go.
+    /// The settings of each of the two walks.
     pub common: Common,
     /// The source.
     pub left: Path,
     /// The destination.
     pub right: Path,
-    /// What is saved, in order.
+    /// The lists to save, in order.
     pub wants: Vec<Want>,
 }
 
-/// Compares what is asked for, saves what is wanted of that, and makes the texts.
+/// Compares the two trees, saves the lists that are asked for, and makes the texts.
 pub fn report_of_compare<T: Threads + Wait + Sync, G: Ground>(
     rt: &T,
     alloc: Global,
@@ -43,10 +48,44 @@ where
     G::Reader: Send,
     requires lent { G.area files.old ≡ nothing_lent }
     requires within { WithinCompare (compare_asked task) }
-    ensures reports { IfOk result (ReportsCompare (compare_asked task) (side_of (G.tree files.old) (G.count files.old)) (side_of (G.tree files.new) (G.count files.new))) }
-    ensures stops { IfErr result (StopsCompare (compare_asked task) (side_of (G.tree files.old) (G.count files.old)) (side_of (G.tree files.new) (G.count files.new))) }
+    ensures reports { IfOk result (ReportsCompare (compare_asked task) (side_of (G.tree files.old) (G.count files.old))
+        (side_of (G.tree files.new) (G.count files.new))) }
+    ensures stops { IfErr result (StopsCompare (compare_asked task) (side_of (G.tree files.old) (G.count files.old))
+        (side_of (G.tree files.new) (G.count files.new))) }
     ensures leaves { LeavesCompare (compare_asked task) (G.tree files.old) (G.tree files.new) }
     ensures lent { G.area files.new ≡ nothing_lent }
+    ensures count { RoseBy 0 (G.count files.old) (G.count files.new) }
+{
+    let ready = prepare(rt, alloc, task, files)?;
+    save_lists(alloc, files, &ready.outputs)?;
+    Ok(ready.report)
+}
+
+// The report of a comparison, and the lists to save.
+#[derive(Drop)]
+pub(crate) struct Prepared {
+    pub(crate) report: Report,
+    pub(crate) outputs: Vec<Output>,
+}
+
+// Compares the two trees, chooses the lists to save, and makes the texts.
+fn prepare<T: Threads + Wait + Sync, G: Ground>(
+    rt: &T,
+    alloc: Global,
+    task: CompareTask,
+    files: &mut G,
+) -> Result<Prepared, Stop>
+where
+    G::Reader: Send,
+    requires within { WithinCompare (compare_asked task) }
+    ensures prepared { IfOk result (IsPrepared (compare_asked task) (side_of (G.tree files.old) (G.count files.old))
+        (side_of (G.tree files.new) (G.count files.new))) }
+    ensures ascend { IfOk result (λ ready. All (λ o. IsStrictlySortedBy path_cmp (paths o.list)) ready.outputs.items) }
+    ensures shaped { IfOk result (λ ready. All (λ o. All (λ e. is_shaped e ≡ true) o.list) ready.outputs.items) }
+    ensures stopped { IfErr result (StopsCompare (compare_asked task) (side_of (G.tree files.old) (G.count files.old))
+        (side_of (G.tree files.new) (G.count files.new))) }
+    ensures same { G.tree files.new ≡ G.tree files.old }
+    ensures area { G.area files.new ≡ G.area files.old }
     ensures count { RoseBy 0 (G.count files.old) (G.count files.new) }
 {
     let CompareTask {
@@ -60,6 +99,5 @@ where
     let outputs = outputs_of(alloc, &sides, &compared, wants)?;
     let notes = failures(alloc, &sides, &compared)?;
     let report = compare_report(alloc, &compared, &notes)?;
-    save_lists(alloc, files, &outputs)?;
-    Ok(report)
+    Ok(Prepared { report, outputs })
 }

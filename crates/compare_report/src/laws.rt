@@ -1,4 +1,4 @@
-//! Laws, each the contract of a function that does nothing.
+//! Laws, each the contract of a function with an empty body.
 ghost use Rattle.compare_report.specs.Laws.{FineCompareSucceeds};
 
 use run_entries::{
@@ -6,7 +6,7 @@ use run_entries::{
 };
 use tool_text::nothing_to_order;
 
-/// Where nothing stands against dcmp, it names nothing, and stops for want of memory alone.
+/// If nothing is in the way of dcmp, it has no notes, and stops only if it is out of memory.
 pub fn fine_compare_succeeds()
     ensures { FineCompareSucceeds }
 {

@@ -1,18 +1,19 @@
-//! The room of dcmp: it compares what stands below two paths, a source and a destination.
+//! The room of dcmp: it compares two trees, a source and a destination.
 //!
-//! [`report_of_compare`] does what dcmp is asked for, which is a [`CompareTask`]: it walks the source and then the destination, each
-//! by itself, compares the two lists, saves the entries of the rows that are wanted, and makes the texts.
+//! [`report_of_compare`] does a [`CompareTask`]. It walks the source and then the destination, each by itself, and compares
+//! the two lists. It makes the texts, and saves the entries of the rows that match.
 //!
-//! - `comparing` has that, and `reading` the comparison of the lists of the two walks.
-//! - `selecting` has what is saved of the rows, by `picking`, which picks entries of a list by their paths in one pass.
-//! - `naming` has what is named, and `printing` the texts.
-//! - `laws` has when it succeeds.
+//! - `comparing` has these steps, and `reading` the comparison of the two lists.
+//! - `selecting` has the lists to save. It uses `picking`, which picks entries of a list by their paths in one pass.
+//! - `naming` has the notes, and `printing` the texts.
+//! - `laws` says when it succeeds.
 //!
-//! Proved: it answers what its four definitions say, which are in `specs/Comparing`: what it reports, why it stops, what it may have
-//! changed, and when nothing stands against it; `specs/Outputs` has what is saved. A law, in `specs/Laws`, says that what nothing
-//! stands against names nothing, and stops for want of memory alone ([`fine_compare_succeeds`]).
+//! Proved: it answers as its four definitions in `specs/Comparing` say. They are its report, the reasons to stop, the
+//! paths that it may have changed, and the case in which nothing is in its way. `specs/Outputs` defines the saved
+//! lists. A law in `specs/Laws` says: if nothing is in its way, it has no notes, and stops only if it is out of memory
+//! ([`fine_compare_succeeds`]).
 //!
-//! Not proved: that files are read in threads, where several hosts are asked for.
+//! Not proved: that files are read in threads if several hosts are asked for.
 #![tactic(auto)]
 
 mod comparing;

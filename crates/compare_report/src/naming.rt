@@ -1,4 +1,4 @@
-//! What is named of a comparison.
+//! The notes of a comparison.
 ghost use Rattle.std.specs.Prelude.{◌≡◌, ◌++◌, OnOk, IfOk};
 ghost use Rattle.tool_text.specs.NoteOrder.{AreInOrder};
 ghost use Rattle.compare_report.specs.Comparing.{missed_notes, compare_failures};
@@ -9,7 +9,7 @@ use std::alloc::Global;
 use tool_text::{Note, Why, in_order};
 use tree_cmp::{Compared, Missed};
 
-/// The notes of all that failed, in their order: of the files that were to be read, and of the entries of both sides.
+/// The notes of all failures, in order: of the files to be read, and of the entries of both sides.
 pub(crate) fn failures(
     alloc: Global,
     sides: &Sides,

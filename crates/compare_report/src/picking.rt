@@ -1,4 +1,4 @@
-//! The entries of a list that stand at some paths.
+//! The entries of a list at some paths.
 ghost use Rattle.std.specs.Prelude.{◌≡◌, ◌++◌, ◌∷◌, ◌&&◌, [], not, if◌then◌else◌, OnOk, IfOk, filter, nat_eq};
 ghost use Rattle.std.specs.Cmp.Lexicographic.{pointwise};
 ghost use Rattle.std.specs.List.{list_any};
@@ -15,8 +15,8 @@ use run_entries::Sides;
 use std::alloc::Global;
 use std::cmp::Ordering;
 
-/// The entries of both sides that stand at these paths below their tops, in path order, each path once: of two entries of one
-/// path that of the source stands. The paths ascend, and each list is gone over once.
+/// The entries of both sides at these paths below their tops, in path order, each path once. Of two entries at one path it
+/// has that of the source. The paths ascend, and each list is read once.
 pub(crate) fn joined(
     alloc: Global,
     sides: &Sides,
@@ -93,8 +93,8 @@ fn add_if(
     Ok(())
 }
 
-// Goes on among paths that ascend, from a place whose paths before it all come before the one that is sought: to the first
-// that does not come before it, and whether it is that.
+// Goes on among paths that ascend, from a place before which all paths come before the sought one. Gives the first place whose
+// path does not come before it, and whether that path is the sought one.
 fn seek(all: &[Path], from: usize, sought: &Path) -> (usize, bool)
     requires ascend { IsStrictlySortedBy path_cmp all.now }
     requires passed { IsPassed all.now from sought.now }

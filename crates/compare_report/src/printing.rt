@@ -9,7 +9,7 @@ use std::alloc::Global;
 use tool_text::{Note, Text, put_notes, put_rows};
 use tree_cmp::Compared;
 
-/// The report of a comparison: a line for each row, the line of their counts, and a line for each note.
+/// The report of a comparison: a line for each row, the line with the counts, and a line for each note.
 pub(crate) fn compare_report(
     alloc: Global,
     compared: &Compared,

@@ -1,4 +1,4 @@
-//! What is saved of a comparison.
+//! The lists that are saved of a comparison.
 ghost use Rattle.std.specs.Prelude.{◌≡◌, ◌++◌, ◌∷◌, [], not, if◌then◌else◌, map, All, OnOk, IfOk, true};
 ghost use Rattle.std.specs.List.Sorted.{IsStrictlySortedBy};
 ghost use Rattle.path_text.specs.Order.{path_cmp};
@@ -16,7 +16,7 @@ use std::alloc::Global;
 use tool_words::Want;
 use tree_cmp::{Compared, Exist, Expr, Row};
 
-/// What is wanted, as lists to be saved, in order.
+/// The lists to save, in order.
 pub(crate) fn outputs_of(
     alloc: Global,
     sides: &Sides,

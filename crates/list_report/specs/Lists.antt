@@ -1,5 +1,5 @@
--- What dwalk and dfind do: what they report, why they stop, what they may have changed, and when nothing stands against them. The tools are
--- mpiFileUtils'; the texts and statuses are our own.
+-- The work of dwalk and dfind: their report, the reasons to stop, the paths that they may have changed, and when nothing is in their
+-- way. The tools are mpiFileUtils'; the texts and statuses are our own.
 use Rattle.std.specs.Prelude.{◌≡◌, ◌⊎◌, ℕ, ◌≤◌, ◌++◌, List, length, Option, IfSome, true}
 use Rattle.std.specs.Option.{option_map, option_to_list}
 use Rattle.outside.specs.Tree.{Files}
@@ -20,15 +20,16 @@ use Rattle.run_entries.specs.Stopping.{StopsAfterLooks, StopsAfterListing}
 use Rattle.run_entries.specs.Fine.{IsFineSide, AreThere}
 use Rattle.list_report.specs.declared.lists.ListTask.{ListTask}
 
--- what a task asks for
+-- the request of a task
 abbrev pub list_asked : ListTask → ListAsked
 list_asked task = record { common = task.common; start = start_in task.start; chosen = option_map choice_in task.tests; sort = task.sort; output = task.output }
 
--- the line of the summary of what is chosen, with the number of failures
+-- the line of the summary of the chosen entries, with the number of failures
 abbrev pub summary_text : List Entry → ℕ → List ℕ
 summary_text chosen failed = summary_line (record (summary_of chosen) { failed = failed })
 
--- what it reports: what it found, which it saved where that is asked for, and the two texts of that: the lines of what is chosen and its summary, and the notes
+-- its report: the findings, which are saved if that is asked for, and their two texts. These are the lines of the chosen entries and
+-- their summary, and the notes
 pub record ReportsList (asked : ListAsked) (now : ℕ) (before after : Side) (report : Report) : Type 0 where
   pub chosen : List Entry
   pub notes : List Note
@@ -44,18 +45,19 @@ pub record ReportsList (asked : ListAsked) (now : ℕ) (before after : Side) (re
   pub tells : report.notes ≡ notes_text asked.common account notes
   pub counts : report.failed ≡ length notes
 
--- why it stops: for want of memory; or the entries were not listed, and the files are as before; or they were listed, and could not be saved
+-- why it stops. It is out of memory. Or the entries were not listed, and the files are as before. Or they were listed, and could not
+-- be saved
 abbrev pub StopsList : ListAsked → Side → Side → Stop → Type 0
 StopsList asked before after why =
     (why ≡ stop.OutOfMemory)
     ⊎ ((StopsAfterLooks asked.start asked.chosen before after why × (after.tree ≡ before.tree))
     ⊎ StopsAfterListing asked.start asked.chosen asked.output before after why)
 
--- what it may have changed: the file that is to be written, and nothing else
+-- the paths that it may have changed: the file that is to be written, and no other
 abbrev pub LeavesList : ListAsked → Option Files → Option Files → Type 0
 LeavesList asked old new = SameButOutputs (option_to_list asked.output) old new
 
--- when nothing stands against it: the side is fine, something is at each path that is looked at, and there is a place for the list that is to be written
+-- when nothing is in its way: the side is fine, something is at each path that is looked at, and there is a place for the list
 pub record FineList (asked : ListAsked) (before after : Side) : Type 0 where
   pub side : IsFineSide asked.start before after
   pub there : AreThere side.files asked.chosen

@@ -1,5 +1,5 @@
--- What dtest does: what it reports, why it stops, what it may have changed, and when nothing stands against it. A walk of a made-up tree is
--- libcircle's own benchmark (LaFon et al., SC 2012); the rest is our own.
+-- The work of dtest: its report, the reasons to stop, the paths that it may have changed, and when nothing is in its way. A walk of a
+-- made-up tree is libcircle's own benchmark (LaFon et al., SC 2012); the rest is our own.
 use Rattle.std.specs.Prelude.{◌≡◌, ℕ, List, [], ◌∷◌, length, codes, Option, Some}
 use Rattle.outside.specs.Tree.{Files}
 use Rattle.flat_list.specs.declared.entries.Entry.{Entry}
@@ -16,7 +16,7 @@ use Rattle.run_entries.specs.Fine.{AreThere}
 use Rattle.list_report.specs.declared.made.TestTask.{TestTask}
 use Rattle.list_report.specs.Lists.{summary_text}
 
--- what a task asks for
+-- the request of a task
 abbrev pub test_asked : TestTask → TestAsked
 test_asked task = record { common = task.common; nodes = task.nodes; choice = choice_in task.tests }
 
@@ -28,7 +28,7 @@ made_root = codes "/n0"
 abbrev pub made_side : ℕ → Side
 made_side nodes = side_of (Some (test_files nodes)) 0
 
--- what it reports: what it found in its made-up tree, and the two texts of that: the summary of what is chosen alone, and the notes
+-- its report: the findings in its made-up tree, and their two texts, the summary of the chosen entries alone, and the notes
 pub record ReportsTest (asked : TestAsked) (now : ℕ) (report : Report) : Type 0 where
   pub chosen : List Entry
   pub notes : List Note
@@ -42,7 +42,7 @@ pub record ReportsTest (asked : TestAsked) (now : ℕ) (report : Report) : Type 
 abbrev pub StopsTest : Stop → Type 0
 StopsTest why = why ≡ stop.OutOfMemory
 
--- what it may have changed: nothing
+-- the paths that it may have changed: none
 abbrev pub LeavesTest : Option Files → Option Files → Type 0
 LeavesTest old new = new ≡ old
 

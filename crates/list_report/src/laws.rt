@@ -1,4 +1,4 @@
-//! Laws, each the contract of a function that does nothing.
+//! Laws, each the contract of a function with an empty body.
 ghost use Rattle.list_report.specs.Laws.{FineListSucceeds, FineTestSucceeds, MadeWalkIsFine};
 
 use run_entries::{
@@ -7,7 +7,7 @@ use run_entries::{
 use test_tree::{first_node_is_there, no_child_is_far, nodes_are_counted, test_files_are_tree};
 use tree_walk::{walk_ascends, walk_finds_all};
 
-/// Where nothing stands against dwalk or dfind, it names nothing, and stops for want of memory alone.
+/// If nothing is in the way of dwalk or dfind, it has no notes, and stops only if it is out of memory.
 pub fn fine_list_succeeds()
     ensures { FineListSucceeds }
 {
@@ -16,7 +16,7 @@ pub fn fine_list_succeeds()
     fine_places_stop_for_memory();
 }
 
-/// And so does dtest.
+/// So does dtest.
 pub fn fine_test_succeeds()
     ensures { FineTestSucceeds }
 {
@@ -24,7 +24,8 @@ pub fn fine_test_succeeds()
     fine_finds_name_nothing();
 }
 
-/// Where nothing fails, a walk of a made-up tree finds its root, no child that is too far, and no more than a list may have.
+/// If nothing fails, a walk of a made-up tree finds its root and no child with too long a path. It finds no more entries than a
+/// list may have.
 pub(crate) fn made_walk_is_fine()
     ensures { MadeWalkIsFine }
 {

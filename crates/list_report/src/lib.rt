@@ -1,15 +1,15 @@
-//! The room of dwalk, dfind and dtest: each lists what it finds, chooses of it, and tells it.
+//! The room of dwalk, dfind and dtest: each finds entries, chooses some, and prints them.
 //!
-//! [`report_of_list`] does what dwalk and dfind are asked for, which is a [`ListTask`]: it finds the entries, saves what is chosen
-//! where that is asked for, and makes the texts. [`report_of_test`] does a [`TestTask`], which is dtest's: over a made-up tree of its
-//! own, of which it tells the summary alone.
+//! [`report_of_list`] does a [`ListTask`], that of dwalk or dfind. It finds the entries, saves the chosen ones if asked, and
+//! makes the texts. [`report_of_test`] does a [`TestTask`], that of dtest, over a made-up tree of its own. It prints only the
+//! summary.
 //!
 //! - `lists` has the first, `made` the second, and `printing` the texts of both.
-//! - `laws` has when they succeed.
+//! - `laws` says when they succeed.
 //!
-//! Proved: each answers what its four definitions say, which are in `specs/Lists` and `specs/Tests`: what it reports, why it stops,
-//! what it may have changed, and when nothing stands against it. Two laws, in `specs/Laws`, say that what nothing stands against
-//! names nothing, and stops for want of memory alone ([`fine_list_succeeds`], [`fine_test_succeeds`]).
+//! Proved: each answers as its four definitions in `specs/Lists` and `specs/Tests` say. They are its report, the reasons to
+//! stop, the paths that it may have changed, and the case in which nothing is in its way. Two laws in `specs/Laws` say that in
+//! this case there are no notes, and it stops only if it is out of memory ([`fine_list_succeeds`], [`fine_test_succeeds`]).
 #![tactic(auto)]
 
 mod laws;

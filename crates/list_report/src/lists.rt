@@ -1,4 +1,4 @@
-//! What dwalk and dfind do.
+//! The work of dwalk and dfind.
 ghost use Rattle.std.specs.Prelude.{◌≡◌, [], IfOk, IfErr};
 ghost use Rattle.outside.specs.Count.{RoseBy};
 ghost use Rattle.outside.specs.Writes.{nothing_lent};
@@ -17,22 +17,22 @@ use std::sync::Wait;
 use std::thread::Threads;
 use tool_words::{Common, Start, Tests};
 
-/// What dwalk or dfind is asked for.
+/// The task of dwalk or dfind.
 #[derive(Debug, Drop)]
 pub struct ListTask {
-    /// How the walk is to go.
+    /// The settings of the walk.
     pub common: Common,
     /// Where it starts.
     pub start: Start,
-    /// What is chosen. Without it, all is.
+    /// The tests that choose entries. Without them all are chosen.
     pub tests: Option<Tests>,
-    /// The field that the list is sorted by, and whether downwards. It stands in path order without one.
+    /// The field by which the list is sorted, and whether it descends. Without it the list is in path order.
     pub sort: Option<(Field, bool)>,
-    /// The file that what is chosen is written to.
+    /// The file to which the chosen entries are written.
     pub output: Option<Path>,
 }
 
-/// Finds what is asked for, saves it where that is asked for, and makes the texts. `now` is in seconds since 1970.
+/// Finds the entries, saves them if asked, and makes the texts. `now` is in seconds since 1970.
 pub fn report_of_list<T: Threads + Wait + Sync, G: Ground>(
     rt: &T,
     alloc: Global,
@@ -44,8 +44,10 @@ where
     G::Reader: Send,
     requires lent { G.area files.old ≡ nothing_lent }
     requires within { CommonWithin task.common }
-    ensures reports { IfOk result (ReportsList (list_asked task) now (side_of (G.tree files.old) (G.count files.old)) (side_of (G.tree files.new) (G.count files.new))) }
-    ensures stops { IfErr result (StopsList (list_asked task) (side_of (G.tree files.old) (G.count files.old)) (side_of (G.tree files.new) (G.count files.new))) }
+    ensures reports { IfOk result (ReportsList (list_asked task) now (side_of (G.tree files.old) (G.count files.old))
+        (side_of (G.tree files.new) (G.count files.new))) }
+    ensures stops { IfErr result (StopsList (list_asked task) (side_of (G.tree files.old) (G.count files.old))
+        (side_of (G.tree files.new) (G.count files.new))) }
     ensures leaves { LeavesList (list_asked task) (G.tree files.old) (G.tree files.new) }
     ensures lent { G.area files.new ≡ nothing_lent }
     ensures count { RoseBy 0 (G.count files.old) (G.count files.new) }

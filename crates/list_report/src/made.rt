@@ -1,4 +1,4 @@
-//! What dtest does.
+//! The work of dtest.
 ghost use Rattle.std.specs.Prelude.{◌≡◌, ◌≤◌, ◌∷◌, [], IfOk, IfErr};
 ghost use Rattle.tool_words.specs.Limits.{CommonWithin};
 ghost use Rattle.list_report.specs.Tests.{test_asked, made_root, ReportsTest, StopsTest};
@@ -14,18 +14,18 @@ use std::thread::Threads;
 use test_tree::TestGround;
 use tool_words::{Common, Start, Tests};
 
-/// What dtest is asked for.
+/// The task of dtest.
 #[derive(Debug, Drop)]
 pub struct TestTask {
-    /// How the walk is to go.
+    /// The settings of the walk.
     pub common: Common,
-    /// How many nodes the tree has.
+    /// The number of nodes of the tree.
     pub nodes: u64,
-    /// What is chosen.
+    /// The tests that choose entries.
     pub tests: Tests,
 }
 
-/// Finds what is asked for in a made-up tree, and makes the texts. `now` is in seconds since 1970.
+/// Finds the entries of a made-up tree, and makes the texts. `now` is in seconds since 1970.
 pub fn report_of_test<T: Threads + Wait + Sync>(
     rt: &T,
     alloc: Global,

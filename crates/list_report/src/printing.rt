@@ -1,4 +1,4 @@
-//! The texts of what was found.
+//! The texts of the entries found.
 ghost use Rattle.std.specs.Prelude.{◌≡◌, ◌++◌, List, length, IfOk};
 ghost use Rattle.flat_list.specs.declared.entries.Entry.{Entry};
 ghost use Rattle.flat_list.specs.Entries.{summary_of};
@@ -6,7 +6,7 @@ ghost use Rattle.tool_text.specs.Lines.{lines_of};
 ghost use Rattle.run_entries.specs.Entries.{InOrder, notes_text};
 ghost use Rattle.list_report.specs.Lists.{summary_text};
 
-use flat_list::{Field, FlatList, Summary};
+use flat_list::{Field, Summary};
 use path_text::OutOfMemory;
 use run_entries::{Findings, in_asked_order, notes_text};
 use run_report::Report;
@@ -14,25 +14,30 @@ use std::alloc::Global;
 use tool_text::{Text, put_list, put_summary};
 use tool_words::Common;
 
-/// The report of a list: a line for each entry that is chosen, in the order that is asked for, and the summary.
+/// The report of a list: a line for each chosen entry, in the order that is asked for, and the summary.
 pub fn list_report(
     alloc: Global,
     found: Findings,
     common: &Common,
     order: Option<(Field, bool)>,
 ) -> Result<Report, OutOfMemory>
-    ensures out { IfOk result (λ report. (printed : List Entry) × InOrder order found.chosen printed × (report.out ≡ lines_of printed ++ summary_text found.chosen (length found.notes.items))) }
+    ensures out { IfOk result (λ report. (printed : List Entry) × InOrder order found.chosen printed
+        × (report.out ≡ lines_of printed ++ summary_text found.chosen (length found.notes.items))) }
     ensures notes { IfOk result (λ report. report.notes ≡ notes_text common.now found.account found.notes.items) }
     ensures failed { IfOk result (λ report. report.failed ≡ length found.notes.items) }
 {
-    let failed = found.notes.len() as u64;
+    let summary = summary_of(&found);
     let notes = notes_text(alloc, common, &found.account, &found.notes)?;
-    let summary = summary_with(&found.chosen, failed);
-    let printed = in_asked_order(found.chosen, order)?;
+    let Findings { chosen, .. } = found;
+    let printed = in_asked_order(chosen, order)?;
     let mut out = Text::make(alloc);
     put_list(&mut out, &printed)?;
     put_summary(&mut out, &summary)?;
-    Ok(Report { failed, out, notes })
+    Ok(Report {
+        failed: summary.failed,
+        out,
+        notes,
+    })
 }
 
 /// The report of a test: the summary alone.
@@ -45,19 +50,23 @@ pub(crate) fn test_report(
     ensures notes { IfOk result (λ report. report.notes ≡ notes_text common.now found.account found.notes.items) }
     ensures failed { IfOk result (λ report. report.failed ≡ length found.notes.items) }
 {
-    let failed = found.notes.len() as u64;
+    let summary = summary_of(&found);
     let notes = notes_text(alloc, common, &found.account, &found.notes)?;
     let mut out = Text::make(alloc);
-    put_summary(&mut out, &summary_with(&found.chosen, failed))?;
-    Ok(Report { failed, out, notes })
+    put_summary(&mut out, &summary)?;
+    Ok(Report {
+        failed: summary.failed,
+        out,
+        notes,
+    })
 }
 
-// The summary of what is chosen, with the number of failures.
-fn summary_with(chosen: &FlatList, failed: u64) -> Summary
-    ensures { result ≡ record (summary_of chosen.now) { failed = failed } }
+// The summary of the chosen entries, with the number of failures.
+fn summary_of(found: &Findings) -> Summary
+    ensures { result ≡ record (summary_of found.now.chosen) { failed = length found.now.notes.items } }
 {
     Summary {
-        failed,
-        ..chosen.summary()
+        failed: found.notes.len() as u64,
+        ..found.summary
     }
 }

@@ -15,10 +15,9 @@ use Rattle.remove_report.specs.Removing.{StopsRemove, LeavesBy, LeavesRemove}
 
 -- choosing leaves the tree as it was
 pub chooses_by : (asked : RemoveAsked) (now : ℕ) (before found : Side) (chosen : List Entry) (named : List Note) (account : Account)
-    → found.tree ≡ before.tree →
-    Finds asked.common (roots asked.roots) (Some asked.choice) now before found chosen named account
+    → Finds asked.common (roots asked.roots) (Some asked.choice) now before found chosen named account → found.tree ≡ before.tree
     → Chooses asked now before (side_of before.tree found.count) chosen named
-chooses_by asked now before found chosen named account same f = record {
+chooses_by asked now before found chosen named account f same = record {
   account = account;
   finds = subst (λ t. Finds asked.common (roots asked.roots) (Some asked.choice) now before (side_of t found.count) chosen named account) same f;
 }
@@ -36,11 +35,11 @@ leaves_all asked now before after same = by asked.dryrun
     by false = inl same
 
 -- what was chosen may have, unless nothing was to be removed
-pub leaves_others : (asked : RemoveAsked) (now : ℕ) (before found after : Side) (chosen : List Entry) (named : List Note) → found.tree ≡ before.tree →
-    Chooses asked now before (side_of before.tree found.count) chosen named → (asked.dryrun ≡ true → after.tree ≡ found.tree)
-    → is_some after.tree ≡ is_some found.tree →
+pub leaves_others : (asked : RemoveAsked) (now : ℕ) (before found after : Side) (chosen : List Entry) (named : List Note) (account : Account) →
+    Finds asked.common (roots asked.roots) (Some asked.choice) now before found chosen named account → found.tree ≡ before.tree →
+    (asked.dryrun ≡ true → after.tree ≡ found.tree) → is_some after.tree ≡ is_some found.tree →
     IfSome found.tree (λ old. IfSome after.tree (SameButChosen (paths chosen) old)) → LeavesRemove asked now before after
-leaves_others asked now before found after chosen named same chooses dry tells others = by asked.dryrun dry
+leaves_others asked now before found after chosen named account finds same dry tells others = by asked.dryrun dry
   where
     by : (b : Bool) → (b ≡ true → after.tree ≡ found.tree) → LeavesBy b asked now before after
     by true dry = dry Rattle.std.proofs.Common.refl ∙ same
@@ -48,7 +47,7 @@ leaves_others asked now before found after chosen named same chooses dry tells o
       found = found.count;
       chosen = chosen;
       named = named;
-      chooses = chooses;
+      chooses = chooses_by asked now before found chosen named account finds same;
       tells = subst (λ t. is_some after.tree ≡ is_some t) same tells;
       others = subst (λ t. IfSome t (λ old. IfSome after.tree (SameButChosen (paths chosen) old))) same others;
     })

@@ -1,4 +1,4 @@
--- What drm chooses and what it does with that. The tool is mpiFileUtils'; the relation is our own.
+-- The entries that drm chooses, and their removal. The tool is mpiFileUtils'; the relation is our own.
 use Rattle.std.specs.Prelude.{◌≡◌, ℕ, ◌≤◌, Bool, true, false, List, [], map, Some, IfSome, is_some}
 use Rattle.std.specs.List.{count_by}
 use Rattle.outside.specs.Count.{RoseBy}
@@ -15,12 +15,12 @@ use Rattle.run_report.specs.Sides.{Side, side_of}
 use Rattle.run_entries.specs.declared.accounts.Account.{Account}
 use Rattle.run_entries.specs.Entries.{Finds}
 
--- it walked the roots and chose of that by the tests, as dfind does, and named what failed. That leaves the tree
+-- it walked the roots, chose entries by the tests, as dfind does, and named the failures. That leaves the tree as it was
 pub record Chooses (asked : RemoveAsked) (now : ℕ) (before after : Side) (chosen : List Entry) (named : List Note) : Type 0 where
   pub account : Account
   pub finds : Finds asked.common (roots asked.roots) (Some asked.choice) now before (side_of before.tree after.count) chosen named account
 
--- it removed what was chosen, and no answer that failed is left uncounted
+-- it removed the chosen entries, and the count has each answer that failed
 pub record Removes (chosen : List Entry) (rows : List (List ℕ × Fate)) (before after : Side) : Type 0 where
   pub paths : map (λ row. row.0) rows ≡ paths chosen
   pub tells : is_some after.tree ≡ is_some before.tree
@@ -33,7 +33,7 @@ pub record RemovesNothing (rows : List (List ℕ × Fate)) (before after : Side)
   pub same : after.tree ≡ before.tree
   pub kept : before.count ≤ after.count
 
--- what it does with what was chosen, with `--dryrun` or without
+-- the work on the chosen entries, with `--dryrun` or without
 abbrev pub Acts : Bool → List Entry → List (List ℕ × Fate) → Side → Side → Type 0
 Acts true chosen rows before after = RemovesNothing rows before after
 Acts false chosen rows before after = Removes chosen rows before after
@@ -47,6 +47,6 @@ pub record LeavesAllOthers (asked : RemoveAsked) (now : ℕ) (before after : Sid
   pub tells : is_some after.tree ≡ is_some before.tree
   pub others : IfSome before.tree (λ old. IfSome after.tree (SameButChosen (paths chosen) old))
 
--- where a path is chosen, all that is under it is
+-- if a path is chosen, all paths under it are
 abbrev pub ChoosesWhole : Files → List Entry → Type 0
 ChoosesWhole files chosen = AreWhole files (paths chosen)

@@ -1,4 +1,4 @@
--- What is told of a removal. Only the contracts of this crate's own parts cite it.
+-- The report of a removal. Only clauses of this crate's own functions cite this file.
 use Rattle.std.specs.Prelude.{◌≡◌, ℕ, Bool, List, ◌++◌, length}
 use Rattle.std.specs.List.{count_by}
 use Rattle.flat_list.specs.declared.entries.Entry.{Entry}
@@ -14,7 +14,7 @@ use Rattle.run_entries.specs.Naming.{removal_notes}
 use Rattle.remove_report.specs.Choosing.{Acts}
 use Rattle.remove_report.specs.Removing.{removed_line}
 
--- what became of what was chosen, and the two texts; `named` are the notes of what failed before
+-- the fates of the chosen entries, and the two texts; `named` are the notes of the failures before
 pub record TellsRemovals (dryrun : Bool) (chosen : List Entry) (named : List Note) (before after : Side) (report : Report) : Type 0 where
   pub rows : List (List ℕ × Fate)
   pub acts : Acts dryrun chosen rows before after

@@ -1,5 +1,5 @@
--- What drm does: what it reports, why it stops, what it may have changed, and when nothing stands against it. The tool is mpiFileUtils';
--- the texts, notes and statuses are our own.
+-- The work of drm: its report, the reasons to stop, the paths that it may have changed, and when nothing is in its way. The tool is
+-- mpiFileUtils'; the texts, notes and statuses are our own.
 use Rattle.std.specs.Prelude.{◌≡◌, ◌⊎◌, ℕ, Bool, true, false, List, [], ◌∷◌, ◌++◌, length, codes, Some}
 use Rattle.std.specs.Fmt.{decimal}
 use Rattle.std.specs.List.{count_by}
@@ -21,7 +21,7 @@ use Rattle.run_entries.specs.Stopping.{StopsAfterLooks}
 use Rattle.remove_report.specs.declared.removing.RemoveTask.{RemoveTask}
 use Rattle.remove_report.specs.Choosing.{Chooses, Acts, LeavesAllOthers, ChoosesWhole}
 
--- what a task asks for
+-- the request of a task
 abbrev pub remove_asked : RemoveTask → RemoveAsked
 remove_asked task = record { common = task.common; roots = task.roots.items; choice = choice_in task.tests; dryrun = task.dryrun }
 
@@ -30,8 +30,8 @@ abbrev pub removed_line : ℕ → ℕ → ℕ → List ℕ
 removed_line removed chosen failed =
     codes "removed " ++ decimal removed ++ codes " of " ++ decimal chosen ++ codes " failed " ++ decimal failed ++ 10 ∷ []
 
--- what it reports: what it chose, what became of that, and the two texts of it: a line for each chosen entry and the line of the numbers,
--- and the notes, of the walk and of the removals
+-- its report: the chosen entries, their fates, and the two texts. These are a line for each chosen entry and the line of the numbers,
+-- and the notes of the walk and of the removals
 pub record ReportsRemove (asked : RemoveAsked) (now : ℕ) (before after : Side) (report : Report) : Type 0 where
   pub chosen : List Entry
   pub named : List Note
@@ -45,12 +45,13 @@ pub record ReportsRemove (asked : RemoveAsked) (now : ℕ) (before after : Side)
   pub tells : report.notes ≡ note_lines notes
   pub counts : report.failed ≡ length notes
 
--- why it stops: for want of memory; or the entries were not listed, and the files are as before
+-- why it stops: it is out of memory; or the entries were not listed, and the files are as before
 abbrev pub StopsRemove : RemoveAsked → Side → Side → Stop → Type 0
 StopsRemove asked before after why =
     (why ≡ stop.OutOfMemory) ⊎ (StopsAfterLooks (roots asked.roots) (Some asked.choice) before after why × (after.tree ≡ before.tree))
 
--- what it may have changed: with `--dryrun` nothing, and without it nothing, or the chosen paths alone. This holds whatever it answers
+-- the paths that it may have changed: with `--dryrun` none, and without it none, or the chosen paths alone. This holds whatever it
+-- answers
 abbrev pub LeavesBy : Bool → RemoveAsked → ℕ → Side → Side → Type 0
 LeavesBy true asked now before after = after.tree ≡ before.tree
 LeavesBy false asked now before after = (after.tree ≡ before.tree) ⊎ LeavesAllOthers asked now before after
@@ -58,8 +59,8 @@ LeavesBy false asked now before after = (after.tree ≡ before.tree) ⊎ LeavesA
 abbrev pub LeavesRemove : RemoveAsked → ℕ → Side → Side → Type 0
 LeavesRemove asked now before after = LeavesBy asked.dryrun asked now before after
 
--- when nothing stands against it: the side is fine, something is at each path that is looked at, and, where something is to be removed, all
--- is chosen that is under what is chosen
+-- when nothing is in its way: the side is fine, and something is at each path that is looked at. Unless it is a dry run, all paths
+-- under a chosen path are chosen
 pub record FineRemove (asked : RemoveAsked) (now : ℕ) (before after : Side) : Type 0 where
   pub side : IsFineSide (roots asked.roots) before after
   pub there : AreThere side.files (Some asked.choice)

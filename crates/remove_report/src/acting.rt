@@ -1,4 +1,4 @@
-//! The removal, where it is asked for, and the texts of it.
+//! The removal, and its texts.
 ghost use Rattle.std.specs.Prelude.{◌≡◌, ◌≤◌, [], true, IfOk, IfSome, is_some};
 ghost use Rattle.outside.specs.Count.{RoseBy};
 ghost use Rattle.outside.specs.Writes.{nothing_lent};
@@ -23,14 +23,14 @@ use tool_text::Note;
 use tool_words::Common;
 use tree_remove::remove;
 
-// What became of chosen paths, and how many of them are gone.
+// The fates of chosen paths, and how many of the paths are gone.
 #[derive(Drop)]
 struct Removal {
     rows: Vec<(Path, Fate)>,
     removed: u64,
 }
 
-/// Removes what is chosen unless nothing is to be removed, and makes the texts; `named` has what failed before. Whatever it
+/// Removes the chosen entries, unless it is a dry run, and makes the texts. `named` has the failures before. Whatever it
 /// answers, every path that was not chosen is as before.
 pub(crate) fn remove_and_tell<T: Threads + Sync, G: Ground>(
     rt: &T,
@@ -47,7 +47,8 @@ where
     requires lent { G.area files.old ≡ nothing_lent }
     requires chosen { AreChosen chosen.now }
     requires there { IfSome (G.tree files.old) (AreThere chosen.now) }
-    ensures told { IfOk result (TellsRemovals dryrun chosen.now named.items (side_of (G.tree files.old) (G.count files.old)) (side_of (G.tree files.new) (G.count files.new))) }
+    ensures told { IfOk result (TellsRemovals dryrun chosen.now named.items (side_of (G.tree files.old) (G.count files.old))
+        (side_of (G.tree files.new) (G.count files.new))) }
     ensures rest { IfSome (G.tree files.old) (λ before. IfSome (G.tree files.new) (SameButChosen (paths chosen.now) before)) }
     ensures dry { dryrun ≡ true → G.tree files.new ≡ G.tree files.old }
     ensures tells { is_some (G.tree files.new) ≡ is_some (G.tree files.old) }
@@ -60,7 +61,7 @@ where
     Ok(report)
 }
 
-// Removes what is chosen, by as many ranks and hosts as are asked for; or nothing.
+// Removes the chosen entries, by as many ranks and hosts as are asked for; in a dry run it removes nothing.
 fn remove_unless<T: Threads + Sync, G: Ground>(
     rt: &T,
     alloc: Global,
@@ -75,7 +76,8 @@ where
     requires lent { G.area files.old ≡ nothing_lent }
     requires chosen { AreChosen chosen.now }
     requires there { IfSome (G.tree files.old) (AreThere chosen.now) }
-    ensures acts { IfOk result (λ acted. Acts dryrun chosen.now acted.rows.items (side_of (G.tree files.old) (G.count files.old)) (side_of (G.tree files.new) (G.count files.new))) }
+    ensures acts { IfOk result (λ acted. Acts dryrun chosen.now acted.rows.items (side_of (G.tree files.old) (G.count files.old))
+        (side_of (G.tree files.new) (G.count files.new))) }
     ensures gone { IfOk result (λ acted. acted.removed ≡ count_by (λ row. is_done row.1) acted.rows.items) }
     ensures rest { IfSome (G.tree files.old) (λ before. IfSome (G.tree files.new) (SameButChosen (paths chosen.now) before)) }
     ensures dry { dryrun ≡ true → G.tree files.new ≡ G.tree files.old }

@@ -1,4 +1,4 @@
-//! What is chosen to be removed.
+//! The choice of entries to remove.
 ghost use Rattle.std.specs.Prelude.{◌≡◌, All, IfOk, IfErr, IfSome, Some};
 ghost use Rattle.outside.specs.Count.{RoseBy};
 ghost use Rattle.tool_words.specs.Asked.{roots, choice_in};
@@ -18,7 +18,7 @@ use std::thread::Threads;
 use tool_words::{Common, Start, Tests};
 use tree_walk::entries_are_told;
 
-/// Walks what stands at paths below `/` and under them, and chooses of it by the tests: entries that can be removed.
+/// Walks trees below `/`, and chooses entries by the tests: entries that can be removed.
 pub(crate) fn find_lower<T: Threads + Wait + Sync, G: Ground>(
     rt: &T,
     alloc: Global,
@@ -32,10 +32,12 @@ where
     G::Reader: Send,
     requires within { CommonWithin common.now }
     requires lower { All Lower paths.items }
-    ensures finds { IfOk result (λ found. Finds common.now (roots paths.items) (Some (choice_in tests)) now (side_of (G.tree files.old) (G.count files.old)) (side_of (G.tree files.new) (G.count files.new)) found.chosen found.notes.items found.account) }
+    ensures finds { IfOk result (λ found. Finds common.now (roots paths.items) (Some (choice_in tests)) now
+        (side_of (G.tree files.old) (G.count files.old)) (side_of (G.tree files.new) (G.count files.new)) found.chosen found.notes.items found.account) }
     ensures chosen { IfOk result (λ found. AreChosen found.chosen) }
     ensures there { IfOk result (λ found. IfSome (G.tree files.old) (AreThere found.chosen)) }
-    ensures stopped { IfErr result (StopsFinding (roots paths.items) (Some (choice_in tests)) (side_of (G.tree files.old) (G.count files.old)) (side_of (G.tree files.new) (G.count files.new))) }
+    ensures stopped { IfErr result (StopsFinding (roots paths.items) (Some (choice_in tests)) (side_of (G.tree files.old) (G.count files.old))
+        (side_of (G.tree files.new) (G.count files.new))) }
     ensures same { G.tree files.new ≡ G.tree files.old }
     ensures area { G.area files.new ≡ G.area files.old }
     ensures count { RoseBy 0 (G.count files.old) (G.count files.new) }

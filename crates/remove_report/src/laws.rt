@@ -1,4 +1,4 @@
-//! Laws, each the contract of a function that does nothing.
+//! Laws, each the contract of a function with an empty body.
 ghost use Rattle.remove_report.specs.Laws.{FineRemoveSucceeds};
 
 use run_entries::{
@@ -9,7 +9,7 @@ use tool_text::nothing_to_order;
 use tree_remove::whole_choices_go;
 use tree_walk::entries_are_told;
 
-/// Where nothing stands against drm, it names nothing, and stops for want of memory alone.
+/// If nothing is in the way of drm, it has no notes, and stops only if it is out of memory.
 pub fn fine_remove_succeeds()
     ensures { FineRemoveSucceeds }
 {

@@ -1,16 +1,17 @@
-//! The room of drm: it removes what it finds below some paths and chooses of that.
+//! The room of drm: it walks trees, and removes the entries that it chooses.
 //!
-//! [`report_of_remove`] does what drm is asked for, which is a [`RemoveTask`]: it walks the paths, chooses by the tests as dfind does,
-//! removes what is chosen, the deepest first, unless nothing is to be removed, and makes the texts.
+//! [`report_of_remove`] does a [`RemoveTask`]. It walks the paths, chooses entries by the tests as dfind does, and makes the
+//! texts. Unless it is a dry run, it removes the chosen entries, the deepest first.
 //!
-//! - `removing` has that; `choosing` has the walk and the choice, and `acting` the removal.
-//! - `naming` has what is named, and `printing` the texts.
-//! - `laws` has when it succeeds.
+//! - `removing` has these steps, `choosing` the walk and the choice, and `acting` the removal.
+//! - `naming` has the notes, and `printing` the texts.
+//! - `laws` says when it succeeds.
 //!
-//! Proved: it answers what its four definitions say, which are in `specs/Removing`: what it reports, why it stops, what it may have
-//! changed, and when nothing stands against it; `specs/Choosing` has what is chosen, and what is done with that. Whatever it
-//! answers, also for want of memory, every path that was not chosen is as before. A law, in `specs/Laws`, says that what nothing
-//! stands against names nothing, and stops for want of memory alone ([`fine_remove_succeeds`]).
+//! Proved: it answers as its four definitions in `specs/Removing` say. They are its report, the reasons to stop, the
+//! paths that it may have changed, and the case in which nothing is in its way. `specs/Choosing` defines the chosen
+//! entries and their fates. Whatever it answers, also if it is out of memory, every path that was not chosen is as
+//! before. A law in `specs/Laws` says: if nothing is in its way, it has no notes, and stops only if it is out of memory
+//! ([`fine_remove_succeeds`]).
 #![tactic(auto)]
 
 mod acting;

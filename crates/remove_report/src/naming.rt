@@ -1,4 +1,4 @@
-//! What is named of a removal.
+//! The notes of a removal.
 ghost use Rattle.std.specs.Prelude.{◌++◌, IfOk};
 ghost use Rattle.tool_text.specs.NoteOrder.{AreInOrder};
 ghost use Rattle.run_entries.specs.Naming.{removal_notes};
@@ -8,7 +8,7 @@ use path_text::{OutOfMemory, Path};
 use run_entries::name_removals;
 use tool_text::{Note, in_order};
 
-/// The notes of what failed before and of the removals, in their order.
+/// The notes of earlier failures and of the removals, in order.
 pub(crate) fn failures(named: Vec<Note>, rows: &[(Path, Fate)]) -> Result<Vec<Note>, OutOfMemory>
     ensures { IfOk result (λ notes. AreInOrder (named.items ++ removal_notes rows.now) notes.items) }
 {

@@ -10,7 +10,7 @@ use run_report::Report;
 use std::alloc::Global;
 use tool_text::{Note, Text, put_line, put_list, put_notes};
 
-/// The report of a removal: a line for each chosen entry, the line of how many are gone, and a line for each note.
+/// The report of a removal: a line for each chosen entry, the line with the counts, and a line for each note.
 pub(crate) fn remove_report(
     alloc: Global,
     chosen: &FlatList,

@@ -1,4 +1,4 @@
-//! What drm does.
+//! The work of drm.
 ghost use Rattle.std.specs.Prelude.{◌≡◌, IfOk, IfErr};
 ghost use Rattle.outside.specs.Count.{RoseBy};
 ghost use Rattle.outside.specs.Writes.{nothing_lent};
@@ -17,20 +17,20 @@ use std::sync::Wait;
 use std::thread::Threads;
 use tool_words::{Common, Tests};
 
-/// What drm is asked for.
+/// The task of drm.
 #[derive(Debug, Drop)]
 pub struct RemoveTask {
-    /// How the walk is to go, and by how many ranks and hosts what is chosen is removed.
+    /// The settings of the walk, and the number of ranks and hosts that remove entries.
     pub common: Common,
     /// Where the walk starts.
     pub roots: Vec<Path>,
-    /// What is chosen.
+    /// The tests that choose entries.
     pub tests: Tests,
-    /// Whether nothing is to be removed.
+    /// Whether it is a dry run, which removes nothing.
     pub dryrun: bool,
 }
 
-/// Finds what is asked for, removes it unless nothing is to be removed, and makes the texts. `now` is in seconds since 1970.
+/// Finds the entries, removes them unless it is a dry run, and makes the texts. `now` is in seconds since 1970.
 pub fn report_of_remove<T: Threads + Wait + Sync, G: Ground>(
     rt: &T,
     alloc: Global,
@@ -43,8 +43,10 @@ where
     G::Part: Send,
     requires lent { G.area files.old ≡ nothing_lent }
     requires within { WithinRemove (remove_asked task) }
-    ensures reports { IfOk result (ReportsRemove (remove_asked task) now (side_of (G.tree files.old) (G.count files.old)) (side_of (G.tree files.new) (G.count files.new))) }
-    ensures stops { IfErr result (StopsRemove (remove_asked task) (side_of (G.tree files.old) (G.count files.old)) (side_of (G.tree files.new) (G.count files.new))) }
+    ensures reports { IfOk result (ReportsRemove (remove_asked task) now (side_of (G.tree files.old) (G.count files.old))
+        (side_of (G.tree files.new) (G.count files.new))) }
+    ensures stops { IfErr result (StopsRemove (remove_asked task) (side_of (G.tree files.old) (G.count files.old))
+        (side_of (G.tree files.new) (G.count files.new))) }
     ensures leaves { LeavesRemove (remove_asked task) now (side_of (G.tree files.old) (G.count files.old)) (side_of (G.tree files.new) (G.count files.new)) }
     ensures lent { G.area files.new ≡ nothing_lent }
     ensures count { RoseBy 0 (G.count files.old) (G.count files.new) }

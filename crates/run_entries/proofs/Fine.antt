@@ -67,7 +67,7 @@ in_both old between new rose later stood = record {
 abbrev IsAnswered : Entry → Type 0
 IsAnswered e = (e.mark ≡ mark.Fine) × (e.unnamed ≡ 0)
 
-abbrev IsFine : Entry → Type 0
+abbrev pub IsFine : Entry → Type 0
 IsFine e = (e.mark ≡ mark.Fine) × (e.unnamed ≡ 0) × (e.far ≡ 0)
 
 both : (entries : List Entry) → AllByRecursion IsAnswered entries → AllByRecursion (λ e. e.far ≡ 0) entries → AllByRecursion IsFine entries
@@ -77,7 +77,7 @@ both (e ∷ entries) h g = ((h.0.0, h.0.1, g.0), both entries h.1 g.1)
 no_whys : (e : Entry) → IsFine e → whys_of e ≡ []
 no_whys e h = λ i. mark_whys (h.0 i) ++ number_whys why.Unnamed (h.1 i) ++ number_whys why.TooLong (h.2 i)
 
-no_notes : (entries : List Entry) → AllByRecursion IsFine entries → notes_of entries ≡ []
+pub no_notes : (entries : List Entry) → AllByRecursion IsFine entries → notes_of entries ≡ []
 no_notes [] h = refl
 no_notes (e ∷ entries) h = (λ i. map (λ w. record { path = e.path; why = w; dest = false }) (no_whys e h.0 i) ++ no_notes entries h.1 i)
 

@@ -1,4 +1,4 @@
-//! What is told of a walk beside its list.
+//! The reports on a walk, beside its list.
 ghost use Rattle.std.specs.Prelude.{◌≡◌, ◌++◌, [], if◌then◌else◌, OnOk};
 ghost use Rattle.run_entries.specs.Tells.{told_text};
 
@@ -10,28 +10,28 @@ use std::alloc::Global;
 use tool_text::{Text, put_progress, put_shares, put_trace};
 use tool_words::Common;
 
-/// What the ranks did on a walk.
+/// The work of the ranks on a walk.
 #[derive(Drop)]
 pub struct Account {
-    /// The events, in order, where they were kept.
+    /// The events, in order, if they were kept.
     pub events: Vec<Event>,
-    /// What each rank did.
+    /// The work of each rank.
     pub shares: Vec<Share>,
     /// The numbers of progress.
     pub sums: Vec<u64>,
 }
 
-/// The entries of a walk or of a list file, and what is told of the walk.
+/// The entries of a walk or of a list file, and the reports on the walk.
 #[derive(Drop)]
 pub struct Entries {
     /// The entries.
     pub list: FlatList,
-    /// What the ranks did, if something was walked.
+    /// The work of the ranks, if there was a walk.
     pub account: Account,
 }
 
 impl Account {
-    // The account where nothing is walked.
+    // The account if nothing is walked.
     pub(crate) fn of_nothing(alloc: Global) -> Account
         ensures events { result.events.items ≡ [] }
         ensures shares { result.shares.items ≡ [] }
@@ -44,7 +44,7 @@ impl Account {
         }
     }
 
-    /// Adds what is asked for: the trace, the shares, the progress.
+    /// Adds the reports that are asked for: the trace, the shares, the progress.
     pub fn put(&self, text: &mut Text, common: &Common) -> Result<(), OutOfMemory>
         ensures { OnOk result (text.new ≡ text.old ++ told_text common.now self.now) }
     {
@@ -54,7 +54,7 @@ impl Account {
     }
 }
 
-// What is asked for, or nothing.
+// A report if it is asked for, or nothing.
 fn where_asked<T>(asked: bool, list: &[T]) -> &[T]
     ensures { result.now ≡ (if asked then list.now else []) }
 {

@@ -24,7 +24,7 @@ use std::thread::Threads;
 use tool_words::Common;
 use tree_walk::entries_are_told;
 
-/// The lists of both sides, and the paths that they were walked from.
+/// The lists of both sides, and the paths where their walks began.
 #[derive(Drop)]
 pub struct Sides {
     /// The entries of the source.
@@ -108,7 +108,7 @@ fn one_path(alloc: Global, path: &Path) -> Result<Vec<Path>, OutOfMemory>
     Ok(paths)
 }
 
-/// Sees each path of a list, so that it is known to be a path, which the list does not tell of itself.
+/// Looks at each path of a list, so that the proof knows it as a path.
 pub fn see_paths(list: &FlatList) -> Result<(), OutOfMemory>
     ensures { OnOk result (All (λ e. refusal e.path ≡ None) list.now) }
 {

@@ -1,4 +1,4 @@
-//! What is chosen of a list.
+//! The choice of entries from a list.
 ghost use Rattle.std.specs.Prelude.{◌≡◌, ◌++◌, map, filter, OnOk, IfOk};
 ghost use Rattle.find_tests.specs.Tests.{is_selected};
 ghost use Rattle.run_entries.specs.Choosing.{newer_than};
@@ -8,7 +8,7 @@ use flat_list::FlatList;
 use path_looks::{Look, Seen};
 use path_text::OutOfMemory;
 
-/// The entries that have a stat and meet every test, those that the looks give among them. The entries are moved.
+/// The entries that have a stat and pass every test, also the tests by the looks at paths of `--newer`. The entries are moved.
 pub(crate) fn choose(
     list: FlatList,
     tests: Vec<Test>,

@@ -1,4 +1,4 @@
-//! What a run finds in its files.
+//! The entries that a run finds.
 ghost use Rattle.std.specs.Prelude.{◌≡◌, All, IfOk, IfErr, Some, None, true};
 ghost use Rattle.std.specs.List.Sorted.{IsStrictlySortedBy};
 ghost use Rattle.std.specs.Option.{option_map};
@@ -12,32 +12,20 @@ ghost use Rattle.run_report.specs.Sides.{side_of};
 ghost use Rattle.run_entries.specs.Entries.{Finds};
 ghost use Rattle.run_entries.specs.Stopping.{StopsFinding};
 
-use crate::accounts::{Account, Entries};
+use crate::accounts::Entries;
 use crate::choosing::choose;
+use crate::findings::Findings;
 use crate::naming::failures;
 use crate::starting::list_from;
-use flat_list::FlatList;
 use outside::Ground;
 use path_looks::look_at_each;
 use run_report::Stop;
 use std::alloc::Global;
 use std::sync::Wait;
 use std::thread::Threads;
-use tool_text::Note;
 use tool_words::{Common, Start, Tests};
 
-/// What a run finds.
-#[derive(Drop)]
-pub struct Findings {
-    /// The entries that are chosen.
-    pub chosen: FlatList,
-    /// The notes of all that failed.
-    pub notes: Vec<Note>,
-    /// What is told of the walk.
-    pub account: Account,
-}
-
-/// Lists what stands at the start and below it, or reads the list, and chooses of it: by the tests, or all.
+/// Lists the start and everything below it, or reads the list, and chooses entries by the tests, or all.
 pub fn find<T: Threads + Wait + Sync, G: Ground>(
     rt: &T,
     alloc: Global,
@@ -87,15 +75,10 @@ where
     // The count of faults is a number of 64 bits.
     let _faults = files.faults();
     let Entries { list, account } = list_from(rt, alloc, common, start, files)?;
-    let notes = failures(alloc, &[], &list)?;
-    Ok(Findings {
-        chosen: list,
-        notes,
-        account,
-    })
+    Ok(Findings::of_all(alloc, list, account)?)
 }
 
-// What meets the tests. The paths of `--newer` are looked at first.
+// The entries that pass the tests. The call looks at the paths of `--newer` first.
 fn find_chosen<T: Threads + Wait + Sync, G: Ground>(
     rt: &T,
     alloc: Global,
@@ -121,8 +104,10 @@ where
     let Entries { list, account } = list_from(rt, alloc, common, start, files)?;
     let notes = failures(alloc, &looks, &list)?;
     let chosen = choose(list, tests, &looks, now)?;
+    let summary = chosen.summary();
     Ok(Findings {
         chosen,
+        summary,
         notes,
         account,
     })

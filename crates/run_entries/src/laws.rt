@@ -1,4 +1,4 @@
-//! Laws, each the contract of a function that does nothing.
+//! Laws, each the contract of a function with an empty body.
 ghost use Rattle.run_entries.specs.Fine.{DoneNamesNothing, FineFindsNameNothing, FineFindsStopForMemory, FinePlacesStopForMemory, FineWalksAreWhole, FineWalksNameNothing, FineWalksStopForMemory, StillCounts};
 
 use flat_list::{refusals_are_exact, spelling_is_unique};
@@ -6,7 +6,7 @@ use path_looks::looks_without_faults_are_told;
 use tool_text::nothing_to_order;
 use tree_walk::{roots_are_unique, walk_without_faults_is_fine};
 
-/// What is found in a side that is fine names nothing.
+/// A run that finds entries in a fine side has no notes.
 pub fn fine_finds_name_nothing()
     ensures { FineFindsNameNothing }
 {
@@ -17,7 +17,7 @@ pub fn fine_finds_name_nothing()
     spelling_is_unique();
 }
 
-/// Only want of memory stops a run that looks for entries in a side that is fine.
+/// Only want of memory stops a run that finds entries in a fine side.
 pub fn fine_finds_stop_for_memory()
     ensures { FineFindsStopForMemory }
 {
@@ -26,7 +26,7 @@ pub fn fine_finds_stop_for_memory()
     refusals_are_exact();
 }
 
-/// What is walked by itself in a side that is fine names nothing.
+/// A walk by itself in a fine side has no notes.
 pub fn fine_walks_name_nothing()
     ensures { FineWalksNameNothing }
 {
@@ -34,7 +34,7 @@ pub fn fine_walks_name_nothing()
     roots_are_unique();
 }
 
-/// What is walked by itself in a side that is fine is the walk in which nothing fails.
+/// A walk by itself in a fine side is the walk in which nothing fails.
 pub fn fine_walks_are_whole()
     ensures { FineWalksAreWhole }
 {
@@ -42,7 +42,7 @@ pub fn fine_walks_are_whole()
     roots_are_unique();
 }
 
-/// Only want of memory stops a walk by itself in a side that is fine.
+/// Only want of memory stops a walk by itself in a fine side.
 pub fn fine_walks_stop_for_memory()
     ensures { FineWalksStopForMemory }
 {
@@ -51,17 +51,17 @@ pub fn fine_walks_stop_for_memory()
     refusals_are_exact();
 }
 
-/// Only want of memory stops a run that saves outputs, where each has a place before and no fault is counted.
+/// Only want of memory stops a run that saves outputs, if each has a place and no fault is counted.
 pub fn fine_places_stop_for_memory()
     ensures { FinePlacesStopForMemory }
 {}
 
-/// Paths whose copies or removals are done name nothing.
+/// Paths whose copies or removals are done have no notes.
 pub fn done_names_nothing()
     ensures { DoneNamesNothing }
 {}
 
-/// Over a count that stood still nothing failed, and it stood still in each part.
+/// If a count did not rise, nothing failed, and it did not rise in any part.
 pub fn still_counts()
     ensures { StillCounts }
 {}

@@ -1,31 +1,42 @@
-//! The entries that a run is about: how they are found, chosen, named and saved.
+//! The entries of a run: how they are found, chosen, reported and saved.
 //!
-//! [`find`] looks at the paths of `--newer`; walks the files below the roots of the paths that the words give, by as many ranks as
-//! they ask for, or reads the list file that they name; and chooses of that what meets the tests. [`walk_side`] walks alone, for a
-//! run that has several walks, and [`name_entries`] names what failed in each, and whether it is that of a destination;
-//! [`walk_sides`] walks a source and then a destination ([`Sides`]), and [`walk_roots`] walks roots as they are. [`name_copies`] and
-//! [`name_removals`] name what became of paths that were copied or removed. [`read_list`] reads a list file,
-//! [`save_list`] writes a list to a file, and [`save_lists`] several, one after the other. [`in_asked_order`] puts a list in the
-//! order that is asked for, and [`Account::put`] writes what is told of a walk.
+//! - [`find`] looks at the paths of `--newer`. It then walks the trees below the roots of the given paths, by as many ranks
+//!   as asked, or reads the given list file. It chooses the entries that pass the tests.
+//! - [`walk_side`] walks alone, for a run with several walks. [`walk_sides`] walks a source and then a destination
+//!   ([`Sides`]), and [`walk_roots`] walks roots as they are.
+//! - [`name_entries`] makes the notes of a walk, also of that of a destination. [`name_copies`] and [`name_removals`] make
+//!   those of paths that were copied or removed.
+//! - [`read_list`] reads a list file, [`save_list`] writes one, and [`save_lists`] several, one after the other.
+//! - [`in_asked_order`] sorts a list as asked, and [`Account::put`] writes the reports on a walk.
 //!
-//! - `finding` has what a run finds in its files: `starting` has where the entries come from, as it begins the walk, or
-//!   `reading` reads a list file; `choosing` has what is chosen of them, and `naming` what is named. `saving` writes list files.
-//! - `both` has the walks of two sides.
-//! - `accounts` has what is told of a walk beside its list, and `printing` the text of that and of the failure notes.
-//! - `ordering` has the order that is asked for.
-//! - `laws` has what is so of any run.
+//! Its parts:
 //!
-//! Proved, over any files: the entries are those of a walk of the roots, or of the list file; they are chosen by the tests; each
-//! failed answer is named in a note, chosen or not, and counted by the files. Where the files tell their tree, the walk is the
-//! recursive one, and a list file that is read or written spells its entries. Where nothing is found, or a list is not saved, the
-//! cause is told, and which lists were saved before. Laws say that what is found or walked in a fine side names nothing
-//! ([`fine_finds_name_nothing`], [`fine_walks_name_nothing`]), that such a walk is whole ([`fine_walks_are_whole`]), and that there
-//! only want of memory stops ([`fine_finds_stop_for_memory`], [`fine_walks_stop_for_memory`], [`fine_places_stop_for_memory`]); that
-//! what is done names nothing ([`done_names_nothing`]), and what a count says that stood still ([`still_counts`]).
+//! - `finding` finds the entries, `starting` begins the walk, and `reading` reads a list file.
+//! - `choosing` chooses entries, `naming` makes the notes, and `saving` writes list files.
+//! - `both` has the walks of two sides, and `accounts` the reports on a walk.
+//! - `printing` has the text of these reports and of the notes, `ordering` the order of the list, and `laws` the laws of any
+//!   run.
 //!
-//! `specs/Entries` has what is found, `specs/Both` what is walked of two sides, `specs/Choosing` what is chosen, `specs/Naming` what is named, `specs/Tells` what is told of
-//! a walk, `specs/Saving` what is saved, `specs/Stopping` why there is none, step by step, and `specs/Fine` when nothing stands
-//! against it.
+//! Proved, over any files: the entries are those of a walk of the roots, or of the list file. They are chosen by the tests. Each
+//! failed answer has a note, also if its entry is not chosen, and the files counted it. If the files tell their tree, the walk is the
+//! recursive one, and a list file that is read or written spells its entries. If nothing is found, or a list is not saved, the
+//! cause is given, and the lists that were saved before.
+//!
+//! Laws: a walk of a fine side has no notes ([`fine_finds_name_nothing`], [`fine_walks_name_nothing`]) and is whole
+//! ([`fine_walks_are_whole`]). It stops only if it is out of memory ([`fine_finds_stop_for_memory`],
+//! [`fine_walks_stop_for_memory`], [`fine_places_stop_for_memory`]). Work that is done has no notes
+//! ([`done_names_nothing`]). If a count did not rise, nothing failed ([`still_counts`]).
+//!
+//! The directory `specs/` has the definitions:
+//!
+//! - `Entries`: the entries found;
+//! - `Both`: the walks of two sides;
+//! - `Choosing`: the choice of entries;
+//! - `Naming`: the notes;
+//! - `Tells`: the reports on a walk;
+//! - `Saving`: the lists that are saved;
+//! - `Stopping`: the reasons to stop, step by step;
+//! - `Fine`: a fine side, in which nothing is in the way.
 //!
 //! Only tested: that the paths of `--newer` are looked at before a list is read.
 #![tactic(auto)]
@@ -34,6 +45,7 @@ mod accounts;
 mod both;
 mod choosing;
 mod finding;
+mod findings;
 mod laws;
 mod naming;
 mod ordering;
@@ -44,13 +56,14 @@ mod starting;
 
 pub use accounts::{Account, Entries};
 pub use both::{Sides, see_paths, walk_sides};
-pub use finding::{Findings, find};
+pub use finding::find;
+pub use findings::Findings;
 pub use laws::{
     done_names_nothing, fine_finds_name_nothing, fine_finds_stop_for_memory,
     fine_places_stop_for_memory, fine_walks_are_whole, fine_walks_name_nothing,
     fine_walks_stop_for_memory, still_counts,
 };
-pub use naming::{failures, name_copies, name_entries, name_removals};
+pub use naming::{name_copies, name_entries, name_removals};
 pub use ordering::in_asked_order;
 pub use printing::notes_text;
 pub use reading::read_list;

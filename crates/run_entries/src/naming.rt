@@ -1,7 +1,8 @@
-//! What is named of a run.
-ghost use Rattle.std.specs.Prelude.{◌≡◌, ◌++◌, OnOk, IfOk};
+//! The notes of a run.
+ghost use Rattle.std.specs.Prelude.{◌≡◌, ◌++◌, [], OnOk, IfOk};
 ghost use Rattle.std.specs.Option.{option_to_list};
 ghost use Rattle.std.specs.List.{flat_map};
+ghost use Rattle.flat_list.specs.Entries.{summary_of};
 ghost use Rattle.tool_text.specs.NoteOrder.{AreInOrder};
 ghost use Rattle.run_entries.specs.Naming.{copy_notes, copy_whys, failures_in, listing_notes, look_notes, look_whys, notes_by, removal_notes, removal_whys};
 
@@ -12,8 +13,12 @@ use path_text::{OutOfMemory, Path};
 use std::alloc::Global;
 use tool_text::{Note, Why, in_order, notes_of};
 
-/// The notes of all that failed, in their order: of the looks, and of the entries.
-pub fn failures(alloc: Global, looks: &[Look], list: &FlatList) -> Result<Vec<Note>, OutOfMemory>
+/// The notes of all failures, in order: of the looks, and of the entries.
+pub(crate) fn failures(
+    alloc: Global,
+    looks: &[Look],
+    list: &FlatList,
+) -> Result<Vec<Note>, OutOfMemory>
     ensures { IfOk result (λ notes. AreInOrder (failures_in looks.now list.now) notes.items) }
 {
     let mut notes = Vec::new(alloc);
@@ -22,7 +27,22 @@ pub fn failures(alloc: Global, looks: &[Look], list: &FlatList) -> Result<Vec<No
     in_order(notes)
 }
 
-/// Adds the notes of the entries, which may be those of a destination. The notes of a run are put in order at last.
+/// The notes of entries whose summary counts so many failures. If it counts none, the list is not read again.
+pub(crate) fn counted_failures(
+    alloc: Global,
+    list: &FlatList,
+    failed: u64,
+) -> Result<Vec<Note>, OutOfMemory>
+    requires failed { failed ≡ (summary_of list.now).failed }
+    ensures { IfOk result (λ notes. AreInOrder (failures_in [] list.now) notes.items) }
+{
+    if failed == 0 {
+        return Ok(Vec::new(alloc));
+    }
+    failures(alloc, &[], list)
+}
+
+/// Adds the notes of the entries, also those of a destination. The notes of a run are sorted at the end.
 pub fn name_entries(
     alloc: Global,
     notes: &mut Vec<Note>,
@@ -37,7 +57,7 @@ pub fn name_entries(
     Ok(())
 }
 
-/// Adds the notes of entries that were copied, by their fates. The notes of a run are put in order at last.
+/// Adds the notes of entries that were copied, by their fates. The notes of a run are sorted at the end.
 pub fn name_copies(notes: &mut Vec<Note>, rows: &[(Path, Fate)]) -> Result<(), OutOfMemory>
     ensures { OnOk result (notes.new.items ≡ notes.old.items ++ copy_notes rows.now) }
 {
@@ -47,7 +67,7 @@ pub fn name_copies(notes: &mut Vec<Note>, rows: &[(Path, Fate)]) -> Result<(), O
     Ok(())
 }
 
-/// Adds the notes of paths that were removed, by their fates. The notes of a run are put in order at last.
+/// Adds the notes of paths that were removed, by their fates. The notes of a run are sorted at the end.
 pub fn name_removals(notes: &mut Vec<Note>, rows: &[(Path, Fate)]) -> Result<(), OutOfMemory>
     ensures { OnOk result (notes.new.items ≡ notes.old.items ++ removal_notes rows.now) }
 {

@@ -5,7 +5,7 @@ ghost use Rattle.run_entries.specs.Entries.{InOrder};
 use flat_list::{Field, FlatList};
 use path_text::OutOfMemory;
 
-/// The list in the order that is asked for: by a field, and whether downwards. Without one it stays as it is.
+/// The list in the order that is asked for: by a field, ascending or descending. Without a field it stays as it is.
 pub fn in_asked_order(list: FlatList, order: Option<(Field, bool)>) -> Result<FlatList, OutOfMemory>
     ensures { IfOk result (InOrder order list) }
 {

@@ -1,4 +1,4 @@
-//! The notes of what was found.
+//! The text of the notes.
 ghost use Rattle.std.specs.Prelude.{◌≡◌, IfOk};
 ghost use Rattle.run_entries.specs.Entries.{notes_text};
 
@@ -8,7 +8,7 @@ use std::alloc::Global;
 use tool_text::{Note, Text, put_notes};
 use tool_words::Common;
 
-/// What is told of the walk, as far as that is asked for, and a line for each failure.
+/// The reports on the walk that are asked for, and a line for each failure.
 pub fn notes_text(
     alloc: Global,
     common: &Common,

@@ -19,7 +19,7 @@ use path_text::Path;
 use run_report::{Stop, Trouble};
 use std::alloc::Global;
 
-/// The list that the file at the path tells.
+/// The list in the file at the path.
 pub fn read_list<G: Ground>(alloc: Global, files: &mut G, path: Path) -> Result<FlatList, Stop>
     ensures read { IfOk result (λ list. IsRead path list (side_of (G.tree files.old) (G.count files.old))) }
     ensures few { IfOk result (λ list. length list ≤ 4194304) }

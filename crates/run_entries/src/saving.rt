@@ -17,7 +17,7 @@ use path_text::Path;
 use run_report::{Stop, Trouble};
 use std::alloc::Global;
 
-/// A list, and the file that it is to be written to.
+/// A list, and the file to which it is written.
 #[derive(Drop)]
 pub struct Output {
     /// The file.
@@ -26,7 +26,7 @@ pub struct Output {
     pub list: FlatList,
 }
 
-/// Writes the list to a file, where one is asked for.
+/// Writes the list to a file, if one is asked for.
 pub fn save_list<G: Ground>(
     alloc: Global,
     files: &mut G,
@@ -50,8 +50,8 @@ pub fn save_list<G: Ground>(
     save_at(alloc, files, &path, list)
 }
 
-/// Writes each list to its file, one after the other, so that a later one replaces an earlier one of the same file. The first
-/// that is not written ends that.
+/// Writes each list to its file, one after the other, so a later one replaces an earlier one of the same file. It ends at
+/// the first list that it could not write.
 pub fn save_lists<G: Ground>(alloc: Global, files: &mut G, outputs: &[Output]) -> Result<(), Stop>
     requires lent { G.area files.old ≡ nothing_lent }
     requires ascend { All (λ o. IsStrictlySortedBy path_cmp (paths o.list)) outputs.now }

@@ -1,4 +1,4 @@
-//! The entries that a run is about.
+//! The entries of a run, before the choice.
 ghost use Rattle.std.specs.Prelude.{◌≡◌, ◌<◌, ◌≤◌, List, All, length, IfOk, IfErr, true};
 ghost use Rattle.std.specs.List.Sorted.{IsStrictlySortedBy};
 ghost use Rattle.path_text.specs.Order.{path_cmp};
@@ -26,7 +26,7 @@ use std::thread::Threads;
 use tool_words::{Common, Start};
 use tree_walk::{WalkError, roots_of, walk};
 
-/// The entries of the roots, which are walked, or of the list file; and what is told of the walk.
+/// The entries of a walk of the roots, or of the list file, and the reports on the walk.
 pub(crate) fn list_from<T: Threads + Wait + Sync, G: Ground>(
     rt: &T,
     alloc: Global,
@@ -58,7 +58,7 @@ where
     }
 }
 
-/// Walks the files below the given paths by themselves: nothing is looked at before, and all is listed.
+/// Walks the given paths by themselves: nothing is looked at before, and all entries are listed.
 pub fn walk_side<T: Threads + Wait + Sync, G: Ground>(
     rt: &T,
     alloc: Global,
@@ -122,14 +122,15 @@ where
     walk_roots(rt, alloc, common, roots, files)
 }
 
-// Whether the events of a walk are kept: for `--trace`, and on one host for `--shares` too, which then tell what the events count.
+// Whether the events of a walk are kept: for `--trace`, and on one host for `--shares` too. The shares are then the counts of
+// the events.
 fn keeps_events(common: &Common) -> bool
     ensures { result ≡ keeps_events common.now }
 {
     common.trace || (common.shares && common.hosts == 1)
 }
 
-/// Walks these roots, with as many ranks as are asked for.
+/// Walks these roots, with as many ranks as asked.
 #[tactic(auto, using(crate::proofs::Told::kept_on_one_host))]
 pub fn walk_roots<T: Threads + Wait + Sync, G: Ground>(
     rt: &T,

@@ -1,14 +1,20 @@
 -- Which paths a stage may have changed.
-use Rattle.std.proofs.Common.{◌≡◌, ℕ, Bool, true, false, ◌||◌, List, [], ◌∷◌, ◌++◌, refl, sym, subst, Option, Some, None, IfSome, is_some}
-use Rattle.std.specs.Prelude.{nat_eq}
+use Rattle.std.proofs.Common.{◌≡◌, ℕ, Bool, true, false, ◌||◌, List, [], ◌∷◌, ◌++◌, length, refl, ap, sym, subst, ◌∙◌, Option, Some, None, IfSome, is_some}
+use Rattle.std.specs.Prelude.{nat_eq, Vec}
+use Rattle.std.specs.declared.alloc.Global.{Global}
+use Rattle.std.proofs.lemmas.List.{length-map}
 use Rattle.std.specs.Option.{option_to_list}
 use Rattle.std.specs.List.{list_any}
 use Rattle.std.specs.Cmp.Lexicographic.{pointwise}
 use Rattle.std.proofs.lemmas.Bool.{false≢true}
 use Rattle.outside.specs.Tree.{Files}
+use Rattle.flat_list.specs.declared.entries.Entry.{Entry}
+use Rattle.tool_words.specs.Asked.{StageAsked}
+use Rattle.run_report.specs.Sides.{Side}
 use Rattle.run_entries.specs.Saving.{SameButAll, SameButOutputs}
 use Rattle.checkpoints.specs.Kept.{checkpoint_paths}
-use Rattle.stage_report.specs.Stages.{kept_paths}
+use Rattle.stage_report.specs.Stages.{LeavesStage, kept_paths}
+use Rattle.stage_report.proofs.Staged.{CutOff}
 
 either : (a b c : Bool) → (c ≡ false → b ≡ false) → (a || c) ≡ false → (a || b) ≡ false
 either true b c h off = absurd (false≢true (sym off))
@@ -34,7 +40,7 @@ more p ps None new s = (s.0, tt)
 more p ps (Some files) None s = (s.0, tt)
 more p ps (Some files) (Some tree) s = (s.0, λ q off. s.1 q (front_off (pointwise nat_eq q) (p ∷ []) ps off))
 
-pub leaves_output : (output : Option (List ℕ)) (kept : List (List ℕ)) (old new : Option Files) → SameButOutputs (option_to_list output) old new →
+leaves_output : (output : Option (List ℕ)) (kept : List (List ℕ)) (old new : Option Files) → SameButOutputs (option_to_list output) old new →
     SameButOutputs (option_to_list output ++ kept) old new
 leaves_output None kept old new s = leaves_all kept old new s
 leaves_output (Some path) kept old new s = more path kept old new s
@@ -61,9 +67,19 @@ leaves_kept output most dir ranks number old new is tells rest =
     by (Some path) s = with_one path _ _ old new s
 
 -- so a stage that was cut leaves all else
-pub leaves_cut : (output : Option (List ℕ)) (stop : Option ℕ) (most : ℕ) (dir : List ℕ) (ranks number : ℕ) (old new : Option Files) → stop ≡ Some most →
-    number ≡ ranks → is_some new ≡ is_some old → IfSome old (λ files. IfSome new (SameButAll (checkpoint_paths dir number) files)) →
-    SameButOutputs (option_to_list output ++ kept_paths stop dir ranks) old new
-leaves_cut output stop most dir ranks number old new is_most is tells rest =
-    subst (λ s. SameButOutputs (option_to_list output ++ kept_paths s dir ranks) old new) (sym is_most)
-    (leaves_kept output most dir ranks number old new is tells rest)
+pub leaves_cut : (asked : StageAsked) (before walked : Side) (list : List Entry) (handled : ℕ) (strings : List (Vec (List ℕ) Global))
+    (new : Option Files) → CutOff asked before walked list handled strings → is_some new ≡ is_some walked.tree →
+    IfSome walked.tree (λ files. IfSome new (SameButAll (checkpoint_paths asked.lists (length strings)) files)) → LeavesStage asked before.tree new
+leaves_cut asked before walked list handled strings new off tells rest =
+    let dir = asked.lists in
+    subst (λ s. SameButOutputs (option_to_list asked.output ++ kept_paths s dir asked.common.ranks) before.tree new) (sym off.cut.is_most)
+    (leaves_kept asked.output off.cut.most dir asked.common.ranks (length strings) before.tree new
+    (sym (length-map strings (λ strings. strings.items)) ∙ off.cut.ranks) (tells ∙ ap is_some off.same)
+    (subst (λ t. IfSome t (λ files. IfSome new (SameButAll (checkpoint_paths dir (length strings)) files))) off.same rest))
+
+-- and so does one that was finished
+pub leaves_saved : (asked : StageAsked) (old between new : Option Files) → between ≡ old → SameButOutputs (option_to_list asked.output) between new →
+    LeavesStage asked old new
+leaves_saved asked old between new same rest =
+    leaves_output asked.output (kept_paths asked.stop_after asked.lists asked.common.ranks) old new
+    (subst (λ t. SameButOutputs (option_to_list asked.output) t new) same rest)

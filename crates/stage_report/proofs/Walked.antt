@@ -1,6 +1,6 @@
 -- What the walk of a stage comes to.
 use Rattle.std.proofs.Common.{◌≡◌, ℕ, ◌<◌, ◌≤◌, ◌-◌, ◌^◌, true, List, [], ◌∷◌, ◌++◌, length, map, min, refl, ap, ◌∙◌, sym, subst, arith, inl, inr}
-use Rattle.std.proofs.Common.{Option, Some, None, All, Any, length-append}
+use Rattle.std.proofs.Common.{Option, Some, All, Any, length-append}
 use Rattle.std.specs.List.{sum_by}
 use Rattle.std.specs.Prelude.{Vec}
 use Rattle.std.specs.declared.alloc.Global.{Global}
@@ -14,10 +14,8 @@ use Rattle.tree_walk.specs.declared.reports.Walked.TheVariants as walked
 use Rattle.tree_walk.specs.Walk.{paths_of}
 use Rattle.tree_walk.specs.Roots.{is_in_some}
 use Rattle.tree_walk.specs.Found.{IsFound, max_entries}
-use Rattle.tree_walk.specs.Cut.{IsCutFound, IsJoined, IfCut, found_in}
+use Rattle.tree_walk.specs.Cut.{IsCutFound, IfCut, found_in}
 use Rattle.tree_walk.specs.Traced.{IsProgressTo}
-use Rattle.run_entries.specs.declared.accounts.Account.{Account}
-use Rattle.run_entries.specs.Tells.{IsAccount}
 use Rattle.run_report.specs.declared.stops.Stop.TheVariants as stop
 use Rattle.stage_report.specs.declared.walking.Stage.{Stage}
 use Rattle.stage_report.specs.declared.walking.Stage.TheVariants as stage
@@ -25,7 +23,7 @@ use Rattle.stage_report.specs.Stages.{all_of, IsStoppable}
 use Rattle.stage_report.specs.Private.{list_in, IsBeside, IsStage, IsStageOf, IsWritable, StopsWalk}
 use Rattle.stage_report.proofs.Joins.{joined_writable}
 
--- ---- a stage that walks to the end
+-- ---- a stage that walks
 
 -- what it walks from, over files that may tell a tree and whose count of faults went from old to new
 pub record Setting : Type 0 where
@@ -36,12 +34,11 @@ pub record Setting : Type 0 where
   pub old : ℕ
   pub new : ℕ
 
+abbrev pub setting : Common → Option Files → List Entry → List (List ℕ) → ℕ → ℕ → Setting
+setting common tree done starts old new = record { common = common; tree = tree; done = done; starts = starts; old = old; new = new }
+
 abbrev pub StageIn : Setting → Option ℕ → Stage → Type 0
 StageIn s limit stage = IsStage limit s.common s.tree s.done s.starts s.old s.new stage
-
-pub finished : (s : Setting) (later list : List Entry) (account : Account) → IsFound s.tree s.starts s.old s.new later →
-    IsAccount s.common s.tree s.starts later account → IsJoined s.done later list → StageIn s None (stage.Finished list account)
-finished s later list account found told joined = record { later = later; walked = found; joined = joined; told = told }
 
 -- more than a list may have
 pub too_long : (s : Setting) (limit : Option ℕ) (stage : Stage) → StageIn s limit stage → max_entries < length (list_in stage) →

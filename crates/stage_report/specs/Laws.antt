@@ -1,4 +1,5 @@
--- The laws of stages. That a checkpoint goes on to the whole is libcircle's aim (LaFon et al., SC 2012); the statements are our own.
+-- The laws of stages. That a checkpoint leads to the whole is the aim of libcircle (LaFon et al., SC 2012); the statements are our
+-- own.
 use Rattle.std.specs.Prelude.{◌≡◌, ◌⊎◌, ℕ, List, [], Option, Some, None, All, true, is_some}
 use Rattle.std.specs.List.{sum_by}
 use Rattle.outside.specs.Tree.{Files, IsTree}
@@ -18,7 +19,8 @@ use Rattle.checkpoints.specs.Kept.{IsKept}
 use Rattle.list_report.specs.Lists.{ReportsList}
 use Rattle.stage_report.specs.Stages.{all_of, ReportsStage, StopsStage, IsStopped, FineStage}
 
--- the folder in a tree holds a checkpoint that is a cut of a walk of the starts; the tree that was walked is, at and under them, as this one
+-- the directory in a tree holds a checkpoint that is a cut of a walk of the starts. The walked tree is, at and under them, as this
+-- one
 pub record HoldsCut (dir : List ℕ) (starts : List (List ℕ)) (files : Files) : Type 0 where
   pub done : List Entry
   pub left : List (List (List ℕ))
@@ -34,18 +36,18 @@ abbrev pub BeginsWalk : Option (List (List ℕ)) → List ℕ → Files → List
 BeginsWalk (Some given) dir files starts = IsRoots given starts
 BeginsWalk None dir files starts = HoldsCut dir starts files
 
--- a stage of a walk that stops leaves a cut of it, where what it wrote is neither at nor under a start
+-- a stage of a walk that stops leaves a cut of it, if the files that it wrote are neither at nor under a start
 abbrev pub CheckpointsAreCuts : Type 0
 CheckpointsAreCuts = (asked : StageAsked) (before after : Side) (why : Stop) (files new : Files) (starts : List (List ℕ)) →
     WithinStage asked → IsTree files → before.tree ≡ Some files → after.tree ≡ Some new → SameBelow starts files new →
     BeginsWalk asked.starts asked.lists files starts → IsStopped asked before after why → HoldsCut asked.lists starts new
 
--- a stage is told as stopped for one reason alone: its walk was cut, its checkpoint was kept, and every other path is as before
+-- a stage reports a stop for one reason alone: its walk was cut, its checkpoint was kept, and every other path is as before
 abbrev pub StoppedStagesAreKept : Type 0
 StoppedStagesAreKept = (asked : StageAsked) (before after : Side) (handled left : ℕ) →
     StopsStage asked before after (stop.Stopped handled left) → IsStopped asked before after (stop.Stopped handled left)
 
--- a stage that goes on from a cut of a walk and ends prints what a dwalk prints that nothing stopped, where no answer failed in any of them
+-- a stage that goes on from a cut of a walk and ends prints the same as a dwalk without a stop, if no answer failed in any of them
 abbrev pub StagesPrintTheWalk : Type 0
 StagesPrintTheWalk = (asked : StageAsked) (before after : Side) (report : Report) (files : Files) (listed : ListAsked) (now : ℕ) (first last : Side)
     (whole : Report) (other : Files) (given starts : List (List ℕ)) →

@@ -1,6 +1,6 @@
--- What a dwalk does in stages, each of which may stop and leave a checkpoint, from which the next goes on: what it reports, why it stops, what it
--- may have changed, and when nothing stands against it. The checkpoint is libcircle's (LaFon et al., SC 2012), and dwalk mpiFileUtils'; the texts
--- and statuses are our own.
+-- A dwalk in stages, each of which may stop and leave a checkpoint, from which the next goes on. Its report, the reasons to stop, the
+-- paths that it may have changed, and when nothing is in its way. The checkpoint is libcircle's (LaFon et al., SC 2012), and dwalk is
+-- mpiFileUtils'; the texts and statuses are our own.
 use Rattle.std.specs.Prelude.{◌≡◌, ◌⊎◌, ℕ, ◌+◌, ◌-◌, ◌^◌, ◌<◌, ◌≤◌, List, [], ◌++◌, min, length, Option, Some, None, IfSome, All, Any, true}
 use Rattle.std.specs.Option.{option_map, option_to_list}
 use Rattle.std.specs.List.{sum_by, flat_map}
@@ -37,7 +37,7 @@ use Rattle.checkpoints.specs.Laws.{IsFineKept, IsFree}
 use Rattle.list_report.specs.Lists.{summary_text}
 use Rattle.stage_report.specs.declared.stages.StageTask.{StageTask}
 
--- what a task asks for
+-- the request of a task
 abbrev pub stage_asked : StageTask → StageAsked
 stage_asked task = record {
   common = task.common;
@@ -54,7 +54,8 @@ stage_asked task = record {
 abbrev pub all_of : List (List (List ℕ)) → List (List ℕ)
 all_of lists = flat_map (λ list. list) lists
 
--- what is done when it begins, and what it walks: of given paths nothing, and their roots; or what the checkpoint in the folder says
+-- the done entries when it begins, and the paths that it walks. For given paths no entry is done, and it walks their roots. Or both
+-- come from the checkpoint in the directory
 abbrev pub Begins : Option (List (List ℕ)) → List ℕ → Side → List Entry → List (List ℕ) → Type 0
 Begins (Some given) dir before done starts = (done ≡ []) × IsRoots given starts
 Begins None dir before done starts = (left : List (List (List ℕ))) × IsCheckpoint dir before done left × (starts ≡ all_of left)
@@ -67,7 +68,7 @@ pub record Begun (asked : StageAsked) (before : Side) : Type 0 where
   pub begins : Begins asked.starts asked.lists before done starts
   pub kept : before.count ≤ count
 
--- ---- what is told of its ranks
+-- ---- the account of its ranks
 
 -- of a walk that might have stopped: no trace is kept, and no rank handles more than its number
 pub record IsStoppable (common : Common) (most : ℕ) (later : List Entry) (account : Account) : Type 0 where
@@ -85,7 +86,7 @@ TellsStage (Some most) common tree starts later account = IsStoppable common mos
 
 -- ---- how it ends
 
--- it walked to the end: what it found, with what was done before, is the list
+-- it walked to the end: the found entries, with those that were done before, are the list
 pub record IsFinished (stop : Option ℕ) (common : Common) (tree : Option Files) (done : List Entry) (starts : List (List ℕ)) (old new : ℕ)
     (list : List Entry) (account : Account) : Type 0 where
   pub later : List Entry
@@ -93,8 +94,8 @@ pub record IsFinished (stop : Option ℕ) (common : Common) (tree : Option Files
   pub joined : IsJoined done later list
   pub told : TellsStage stop common tree starts later account
 
--- it was cut, since some rank had handled as many paths as the stop says, and none more: what it had found, with what was done before, is the list, and
--- each rank left its strings
+-- it was cut, since some rank had handled as many paths as the stop says, and none more. The found entries, with those that were done
+-- before, are the list, and each rank left its strings
 pub record IsCutOff (stop : Option ℕ) (common : Common) (tree : Option Files) (done : List Entry) (starts : List (List ℕ)) (old new handled : ℕ)
     (list : List Entry) (left : List (List (List ℕ))) : Type 0 where
   pub later : List Entry
@@ -111,7 +112,7 @@ pub record IsCutOff (stop : Option ℕ) (common : Common) (tree : Option Files) 
   pub reached : Any (λ s. s.handled ≡ most) shares
   pub bound : All (λ s. s.handled ≤ most) shares
 
--- ---- what it reports
+-- ---- its report
 
 -- a list that is whole: it was saved where that is asked for, and the two texts are those of a dwalk
 pub record ReportsStage (asked : StageAsked) (before after : Side) (report : Report) : Type 0 where
@@ -175,7 +176,7 @@ pub record StopsKeeping (asked : StageAsked) (before after : Side) (why : Stop) 
   pub later : found ≤ after.count
   pub stops : StopsWriting asked.lists (length left) list (side_of before.tree found) after why
 
--- it was written: all that is done, and what is left, which the line counts beside what this stage handled
+-- it was written: all done entries and all left strings. The line counts the strings and the paths that this stage handled
 pub record IsStopped (asked : StageAsked) (before after : Side) (why : Stop) : Type 0 where
   pub begun : Begun asked before
   pub found : ℕ
@@ -200,20 +201,21 @@ StopsStage asked before after why =
     ⊎ (StopsKeeping asked before after why
     ⊎ IsStopped asked before after why))))
 
--- ---- what it may have changed
+-- ---- the paths that it may have changed
 
 -- the files of a checkpoint, where it may stop
 abbrev pub kept_paths : Option ℕ → List ℕ → ℕ → List (List ℕ)
 kept_paths None dir ranks = []
 kept_paths (Some most) dir ranks = checkpoint_paths dir ranks
 
--- those and the file that the list is to be written to, and nothing else
+-- those and the file to which the list is to be written, and no other
 abbrev pub LeavesStage : StageAsked → Option Files → Option Files → Type 0
 LeavesStage asked old new = SameButOutputs (option_to_list asked.output ++ kept_paths asked.stop_after asked.lists asked.common.ranks) old new
 
--- ---- when nothing stands against it
+-- ---- when nothing is in its way
 
--- nothing is left to name in a checkpoint: all that was done is fine, so is a walk of what is left, and both together are no more than a list may have
+-- a checkpoint gives no notes: all done entries are fine, so is a walk of the left strings, and both together are no more than a
+-- list may have
 pub record IsFineCheckpoint (files : Files) (dir : List ℕ) : Type 0 where
   pub done : List Entry
   pub left : List (List (List ℕ))

@@ -16,21 +16,22 @@ use run_report::Stop;
 use std::alloc::Global;
 use tree_walk::roots_of;
 
-/// What is done when a stage begins, and what it walks.
+/// The entries that are done when a stage begins, and the paths that it walks.
 #[derive(Drop)]
 pub(crate) struct Beginning {
     pub done: FlatList,
     pub starts: Vec<Path>,
 }
 
-/// Begins at the roots of the given paths, or without them at what the checkpoint in the folder says.
+/// Begins at the roots of the given paths, or without them from the checkpoint in the directory.
 pub(crate) fn begin_stage<G: Ground>(
     alloc: Global,
     files: &mut G,
     given: Option<Vec<Path>>,
     lists: &Path,
 ) -> Result<Beginning, Stop>
-    ensures begins { IfOk result (λ b. Begins (option_map (λ paths. paths.items) given) lists.now (side_of (G.tree files.old) (G.count files.old)) b.done b.starts.items) }
+    ensures begins { IfOk result (λ b. Begins (option_map (λ paths. paths.items) given) lists.now
+        (side_of (G.tree files.old) (G.count files.old)) b.done b.starts.items) }
     ensures apart { IfOk result (λ b. Apart b.starts.items) }
     ensures beside { IfOk result (λ b. IsBeside b.done b.starts.items) }
     ensures writable { IfOk result (λ b. IsWritable b.done) }

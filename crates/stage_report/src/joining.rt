@@ -9,7 +9,7 @@ use flat_list::FlatList;
 use path_text::OutOfMemory;
 use std::alloc::Global;
 
-/// What earlier stages did and what this one found, together in path order. Each is in path order, so they are merged.
+/// The entries of earlier stages and those of this one, together in path order. Each list is in path order, so they are merged.
 pub(crate) fn joined(
     alloc: Global,
     done: FlatList,

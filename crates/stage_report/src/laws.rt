@@ -1,4 +1,4 @@
-//! Laws, each the contract of a function that does nothing but recall the laws that it rests on.
+//! Laws, each the contract of a function that only recalls other laws.
 ghost use Rattle.stage_report.specs.Laws.{CheckpointsAreCuts, FineStageSucceeds, StagesPrintTheWalk, StoppedStagesAreKept};
 
 use checkpoints::{checkpoints_are_one, fine_reads_stop_for_memory, fine_writes_stop_for_memory};
@@ -17,12 +17,12 @@ pub fn checkpoints_are_cuts()
     roots_are_unique();
 }
 
-/// A stage that is told as stopped kept its checkpoint, and changed no other path: the file of `--output` is as before.
+/// A stage that reports a stop wrote its checkpoint, and changed no other path: the file of `--output` is as before.
 pub fn stopped_stages_are_kept()
     ensures { StoppedStagesAreKept }
 {}
 
-/// A stage that goes on from a cut of a walk and ends prints what a dwalk prints that nothing stopped, where no answer failed.
+/// A stage that continues from a cut of a walk and ends prints the text of a dwalk without a stop, if no answer failed.
 pub fn stages_print_the_walk()
     ensures { StagesPrintTheWalk }
 {
@@ -33,7 +33,7 @@ pub fn stages_print_the_walk()
     order_is_unique();
 }
 
-/// A stage against which nothing stands names nothing, and stops for want of memory alone, or because it was to stop.
+/// If nothing is in the way of a stage, it has no notes. It stops only if it is out of memory, or because it was asked to.
 pub fn fine_stages_succeed()
     ensures { FineStageSucceeds }
 {

@@ -1,19 +1,22 @@
-//! The room of a dwalk in stages: one that may stop and leave a checkpoint, or goes on from one.
+//! The room of a dwalk in stages: a walk that may stop and leave a checkpoint, or that continues from one.
 //!
-//! [`report_of_stage`] does what a [`StageTask`] asks for. A stage begins at roots, or at what the checkpoint in a folder says is done
-//! and left. It walks; and where some rank has handled as many paths as it may while paths are left, it writes a checkpoint and stops.
-//! Else the list is whole: what earlier stages did and what this one found, together, of which it makes the texts of dwalk.
+//! [`report_of_stage`] does a [`StageTask`]. A stage begins at roots, or at the done entries and left paths of a checkpoint in
+//! a directory. It walks. If some rank has handled as many paths as it may, and paths are left, it writes a checkpoint and
+//! stops. Otherwise the list is whole: the entries of earlier stages and of this one together. It makes the texts of dwalk
+//! from this list.
 //!
-//! - `stages` has the call, `beginning` where a stage begins, `walking` its walk, `joining` the list of two stages together, and
-//!   `keeping` the checkpoint that it leaves.
-//! - `laws` has what holds of several stages, and when a stage succeeds.
+//! - `stages` has the call, `beginning` the beginning of a stage, and `walking` its walk.
+//! - `joining` has the list of two stages together, and `keeping` the checkpoint that a stage leaves.
+//! - `laws` has the laws of several stages, and says when a stage succeeds.
 //!
-//! Proved: a stage answers what its four definitions say, which are in `specs/Stages`: what it reports, why it stops, what it may have
-//! changed, and when nothing stands against it. Laws, in `specs/Laws`, say that a checkpoint is a cut of the recursive walk
-//! ([`checkpoints_are_cuts`]); that a stage which goes on from a cut and ends prints what one walk prints that nothing stopped
-//! ([`stages_print_the_walk`]); that a stage which is told as stopped kept its checkpoint, and left every other path as before
-//! ([`stopped_stages_are_kept`]); and that a stage against which nothing stands names nothing, and stops for want of memory alone or
-//! because it was to stop ([`fine_stages_succeed`]).
+//! Proved: a stage answers as its four definitions in `specs/Stages` say. They are its report, the reasons to stop, the paths
+//! that it may have changed, and the case in which nothing is in its way. The laws are in `specs/Laws`:
+//!
+//! - A checkpoint is a cut of the recursive walk ([`checkpoints_are_cuts`]).
+//! - A stage that continues from a cut and ends prints the text of one walk without a stop ([`stages_print_the_walk`]).
+//! - A stage that reports a stop wrote its checkpoint, and left every other path as before ([`stopped_stages_are_kept`]).
+//! - If nothing is in the way of a stage, it has no notes. It stops only if it is out of memory, or because it was asked to
+//!   ([`fine_stages_succeed`]).
 #![tactic(auto)]
 
 mod beginning;

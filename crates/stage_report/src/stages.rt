@@ -1,44 +1,46 @@
-//! What a dwalk does in stages.
+//! The work of a dwalk in stages.
 ghost use Rattle.std.specs.Prelude.{◌≡◌, [], IfOk, IfErr};
 ghost use Rattle.outside.specs.Count.{RoseBy};
 ghost use Rattle.outside.specs.Writes.{nothing_lent};
-ghost use Rattle.tool_words.specs.Limits.{WithinStage};
+ghost use Rattle.std.specs.Option.{option_map};
+ghost use Rattle.tool_words.specs.Limits.{CommonWithin, WithinStage};
 ghost use Rattle.run_report.specs.Sides.{side_of};
 ghost use Rattle.stage_report.specs.Stages.{stage_asked, ReportsStage, StopsStage, LeavesStage};
+ghost use Rattle.stage_report.specs.Private.{list_in, IsWritable, Walks, WalksNot};
 
-use crate::beginning::{Beginning, begin_stage};
+use crate::beginning::begin_stage;
 use crate::keeping::keep;
 use crate::walking::{Stage, walk_stage};
 use flat_list::Field;
 use list_report::list_report;
 use outside::Ground;
 use path_text::Path;
-use run_entries::{Findings, failures, save_list};
+use run_entries::{Findings, save_list};
 use run_report::{Report, Stop};
 use std::alloc::Global;
 use std::sync::Wait;
 use std::thread::Threads;
 use tool_words::Common;
 
-/// What a dwalk is asked for that may stop, or goes on.
+/// The task of a dwalk that may stop, or that continues.
 #[derive(Debug, Drop)]
 pub struct StageTask {
-    /// How the walk is to go.
+    /// The settings of the walk.
     pub common: Common,
-    /// The paths at which it begins, which may be nested or stand twice. Without them it goes on from the checkpoint in the folder.
+    /// The paths at which it begins. They may be nested, or given twice. Without them it continues from the checkpoint.
     pub starts: Option<Vec<Path>>,
     /// After how many paths of one rank it stops.
     pub stop_after: Option<u64>,
-    /// The folder of the checkpoint.
+    /// The directory of the checkpoint.
     pub lists: Path,
-    /// The field that the list is sorted by, and whether downwards. It stands in path order without one.
+    /// The field by which the list is sorted, and whether it descends. Without it the list is in path order.
     pub sort: Option<(Field, bool)>,
-    /// The file that the list is written to, once it is whole.
+    /// The file to which the list is written when it is whole.
     pub output: Option<Path>,
 }
 
-/// Walks what is asked for. A list that is whole is saved where that is asked for, and told; of a walk that is cut a checkpoint is
-/// written in its place, and the reason why it stopped is [`Stop::Stopped`].
+/// Walks. A whole list is saved, if asked, and printed. For a walk that is cut a checkpoint is
+/// written in its place, and the reason to stop is [`Stop::Stopped`].
 pub fn report_of_stage<T: Threads + Wait + Sync, G: Ground>(
     rt: &T,
     alloc: Global,
@@ -49,8 +51,10 @@ where
     G::Reader: Send,
     requires lent { G.area files.old ≡ nothing_lent }
     requires within { WithinStage (stage_asked task) }
-    ensures reports { IfOk result (ReportsStage (stage_asked task) (side_of (G.tree files.old) (G.count files.old)) (side_of (G.tree files.new) (G.count files.new))) }
-    ensures stops { IfErr result (StopsStage (stage_asked task) (side_of (G.tree files.old) (G.count files.old)) (side_of (G.tree files.new) (G.count files.new))) }
+    ensures reports { IfOk result (ReportsStage (stage_asked task) (side_of (G.tree files.old) (G.count files.old))
+        (side_of (G.tree files.new) (G.count files.new))) }
+    ensures stops { IfErr result (StopsStage (stage_asked task) (side_of (G.tree files.old) (G.count files.old))
+        (side_of (G.tree files.new) (G.count files.new))) }
     ensures leaves { LeavesStage (stage_asked task) (G.tree files.old) (G.tree files.new) }
     ensures lent { G.area files.new ≡ nothing_lent }
     ensures count { RoseBy 0 (G.count files.old) (G.count files.new) }
@@ -63,16 +67,11 @@ where
         sort,
         output,
     } = task;
-    let beginning = begin_stage(alloc, files, starts, &lists)?;
-    match walk_stage(rt, alloc, &common, stop_after, beginning, files)? {
+    let stage = begin_and_walk(rt, alloc, &common, starts, stop_after, &lists, files)?;
+    match stage {
         Stage::Finished { list, account } => {
-            let notes = failures(alloc, &[], &list)?;
-            save_list(alloc, files, output, &list)?;
-            let found = Findings {
-                chosen: list,
-                notes,
-                account,
-            };
+            let found = Findings::of_all(alloc, list, account)?;
+            save_list(alloc, files, output, &found.chosen)?;
             Ok(list_report(alloc, found, &common, sort)?)
         }
         Stage::Cut {
@@ -81,4 +80,31 @@ where
             left,
         } => { Err(keep(alloc, files, &lists, handled, &done, &left)?) }
     }
+}
+
+// Begins, and walks from there.
+fn begin_and_walk<T: Threads + Wait + Sync, G: Ground>(
+    rt: &T,
+    alloc: Global,
+    common: &Common,
+    starts: Option<Vec<Path>>,
+    stop_after: Option<u64>,
+    lists: &Path,
+    files: &mut G,
+) -> Result<Stage, Stop>
+where
+    G::Reader: Send,
+    requires within { CommonWithin common.now }
+    ensures walks { IfOk result (Walks (option_map (λ paths. paths.items) starts) lists.now stop_after common.now
+        (side_of (G.tree files.old) (G.count files.old)) (side_of (G.tree files.new) (G.count files.new))) }
+    ensures writable { IfOk result (λ stage. IsWritable (list_in stage)) }
+    ensures stopped { IfErr result (WalksNot (option_map (λ paths. paths.items) starts) lists.now stop_after common.now
+        (side_of (G.tree files.old) (G.count files.old)) (side_of (G.tree files.new) (G.count files.new))) }
+    ensures same { G.tree files.new ≡ G.tree files.old }
+    ensures area { G.area files.new ≡ G.area files.old }
+    ensures count { RoseBy 0 (G.count files.old) (G.count files.new) }
+{
+    let beginning = begin_stage(alloc, files, starts, lists)?;
+    let stage = walk_stage(rt, alloc, common, stop_after, beginning, files)?;
+    Ok(stage)
 }

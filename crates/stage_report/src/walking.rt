@@ -24,15 +24,15 @@ use std::thread::Threads;
 use tool_words::Common;
 use tree_walk::{MAX_ENTRIES, WalkReport, Walked, walk};
 
-/// What a stage comes to.
+/// The result of a stage.
 #[derive(Drop)]
 pub(crate) enum Stage {
-    /// The whole list, and what its ranks did in this stage.
+    /// The whole list, and the work of the ranks in this stage.
     Finished {
         list: FlatList,
         account: Account,
     },
-    /// How many paths were handled in this stage, all that is done, and what each rank has left.
+    /// The number of paths handled in this stage, all done entries, and the paths that each rank has left.
     Cut {
         handled: u64,
         done: FlatList,
@@ -40,7 +40,7 @@ pub(crate) enum Stage {
     },
 }
 
-/// Walks with as many ranks as are asked for, till each path is handled or one rank has handled as many as it may.
+/// Walks with as many ranks as asked, until each path is handled or one rank has handled as many as it may.
 pub(crate) fn walk_stage<T: Threads + Wait + Sync, G: Ground>(
     rt: &T,
     alloc: Global,
@@ -55,17 +55,46 @@ where
     requires apart { Apart beginning.starts.items }
     requires beside { IsBeside beginning.done beginning.starts.items }
     requires writable { IsWritable beginning.done }
-    ensures stage { IfOk result (IsStage stop_after common.now (G.tree files.old) beginning.done beginning.starts.items (G.count files.old) (G.count files.new)) }
+    ensures stage { IfOk result (IsStage stop_after common.now (G.tree files.old) beginning.done beginning.starts.items
+        (G.count files.old) (G.count files.new)) }
     ensures few { IfOk result (λ stage. length (list_in stage) ≤ max_entries) }
     ensures writable { IfOk result (λ stage. IsWritable (list_in stage)) }
-    ensures stopped { IfErr result (StopsWalk stop_after common.now (G.tree files.old) beginning.done beginning.starts.items (G.count files.old) (G.count files.new)) }
+    ensures stopped { IfErr result (StopsWalk stop_after common.now (G.tree files.old) beginning.done beginning.starts.items
+        (G.count files.old) (G.count files.new)) }
+    ensures same { G.tree files.new ≡ G.tree files.old }
+    ensures area { G.area files.new ≡ G.area files.old }
+    ensures count { RoseBy 0 (G.count files.old) (G.count files.new) }
+{
+    let Beginning { done, starts } = beginning;
+    let stage = stage_from(rt, alloc, common, stop_after, done, starts, files)?;
+    if stage.list().len() > MAX_ENTRIES {
+        return Err(Stop::TooMany);
+    }
+    Ok(stage)
+}
+
+// The stage that begins with these entries done and walks these paths, however many entries it finds.
+fn stage_from<T: Threads + Wait + Sync, G: Ground>(
+    rt: &T,
+    alloc: Global,
+    common: &Common,
+    stop_after: Option<u64>,
+    done: FlatList,
+    starts: Vec<Path>,
+    files: &mut G,
+) -> Result<Stage, Stop>
+where
+    G::Reader: Send,
+    requires within { CommonWithin common.now }
+    requires apart { Apart starts.items }
+    ensures stage { IfOk result (IsStage stop_after common.now (G.tree files.old) done starts.items (G.count files.old) (G.count files.new)) }
+    ensures stopped { IfErr result (StopsWalk stop_after common.now (G.tree files.old) done starts.items (G.count files.old) (G.count files.new)) }
     ensures same { G.tree files.new ≡ G.tree files.old }
     ensures area { G.area files.new ≡ G.area files.old }
     ensures count { RoseBy 0 (G.count files.old) (G.count files.new) }
 {
     // The count of faults is a number of 64 bits.
     let _faults = files.faults();
-    let Beginning { done, starts } = beginning;
     match stop_after {
         Some(most) => stop_or_finish(rt, alloc, common, most, done, starts, files),
         None => finish(rt, alloc, common, done, starts, files),
@@ -85,11 +114,7 @@ where
     G::Reader: Send,
     requires within { CommonWithin common.now }
     requires apart { Apart starts.items }
-    requires beside { IsBeside done starts.items }
-    requires writable { IsWritable done }
     ensures stage { IfOk result (IsStage None common.now (G.tree files.old) done starts.items (G.count files.old) (G.count files.new)) }
-    ensures few { IfOk result (λ stage. length (list_in stage) ≤ max_entries) }
-    ensures writable { IfOk result (λ stage. IsWritable (list_in stage)) }
     ensures stopped { IfErr result (StopsWalk None common.now (G.tree files.old) done starts.items (G.count files.old) (G.count files.new)) }
     ensures same { G.tree files.new ≡ G.tree files.old }
     ensures area { G.area files.new ≡ G.area files.old }
@@ -103,13 +128,10 @@ where
     };
     let Entries { list, account } = entries;
     let list = joined(alloc, done, list)?;
-    if list.len() > MAX_ENTRIES {
-        return Err(Stop::TooMany);
-    }
     Ok(Stage::Finished { list, account })
 }
 
-// Walks till a rank has handled so many paths, or to the end.
+// Walks until a rank has handled so many paths, or to the end.
 fn stop_or_finish<T: Threads + Wait + Sync, G: Ground>(
     rt: &T,
     alloc: Global,
@@ -123,11 +145,7 @@ where
     G::Reader: Send,
     requires within { CommonWithin common.now }
     requires apart { Apart starts.items }
-    requires beside { IsBeside done starts.items }
-    requires writable { IsWritable done }
     ensures stage { IfOk result (IsStage (Some most) common.now (G.tree files.old) done starts.items (G.count files.old) (G.count files.new)) }
-    ensures few { IfOk result (λ stage. length (list_in stage) ≤ max_entries) }
-    ensures writable { IfOk result (λ stage. IsWritable (list_in stage)) }
     ensures stopped { IfErr result (StopsWalk (Some most) common.now (G.tree files.old) done starts.items (G.count files.old) (G.count files.new)) }
     ensures same { G.tree files.new ≡ G.tree files.old }
     ensures area { G.area files.new ≡ G.area files.old }
@@ -149,13 +167,10 @@ where
         Err(why) => return Err(stop_by(why)),
     };
     let stage = stage_of(alloc, done, report)?;
-    if stage.list().len() > MAX_ENTRIES {
-        return Err(Stop::TooMany);
-    }
     Ok(stage)
 }
 
-// What a walk comes to, with what was done before it.
+// The stage that a walk makes, with the entries that were done before it.
 fn stage_of(alloc: Global, done: FlatList, report: WalkReport) -> Result<Stage, OutOfMemory>
     requires ascend { IsStrictlySortedBy path_cmp (paths_of (found_in report.walked report.list)) }
     ensures { IfOk result (IsStageOf done report) }

@@ -1,4 +1,4 @@
--- Whether dsync's source can be synced to its destination, and what is walked of both. The tool is mpiFileUtils'; the relation is our own.
+-- Whether dsync's source can be synced to its destination, and the walks of both. The tool is mpiFileUtils'; the relation is our own.
 use Rattle.std.specs.Prelude.{◌≡◌, ℕ, ◌≤◌, Bool, List, Option, IfSome, Result, Ok, Err}
 use Rattle.std.specs.FinMap.{get}
 use Rattle.path_text.specs.Path.{parent_of}
@@ -20,7 +20,7 @@ pub record Places (pair : Pair) (tree : Option Files) (answer : Result (Unit {0}
   -- where the files tell their tree, that tells it
   pub told : IfSome tree (λ files. over_dir ≡ is_dir (get files (parent_of pair.target)))
 
--- what is synced: the pair was placed, and then both sides were walked, over the same files
+-- the sides that are synced: the pair was placed, and then both sides were walked, over the same files
 pub record Surveys (pair : Pair) (before after : Side) (source dest : List Entry) : Type 0 where
   pub places : Places pair before.tree (Ok tt)
   pub between : ℕ

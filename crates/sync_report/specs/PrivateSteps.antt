@@ -1,4 +1,4 @@
--- What the steps of dsync tell each other. Only the contracts of this crate's own parts cite it.
+-- The facts that the steps of dsync hand on. Only clauses of this crate's own functions cite this file.
 use Rattle.std.specs.Prelude.{⊤, ◌≡◌, Bool, true, false, List, [], ◌∷◌, Option, None, IfSome, All, Ok, Err}
 use Rattle.std.specs.FinMap.{get}
 use Rattle.path_text.specs.Path.{parent_of, refusal}
@@ -18,7 +18,7 @@ use Rattle.run_report.specs.Sides.{Side}
 use Rattle.sync_report.specs.Placing.{Places}
 use Rattle.sync_report.specs.Syncing.{AreEqualBut}
 
--- what the walks of both sides need of the pair
+-- the facts of the pair that the walks of both sides need
 pub record IsPlaced (pair : Pair) (tree : Option Files) : Type 0 where
   pub places : Places pair tree (Ok tt)
   pub from : refusal pair.source ≡ None
@@ -33,13 +33,13 @@ StopsPlacing pair before after place.NoDest = Places pair before.tree (Err place
 StopsPlacing pair before after (place.Failed path) = (path ≡ parent_of pair.target) × RoseBy 1 before.count after.count
 StopsPlacing pair before after place.OutOfMemory = ⊤
 
--- the lists of both walks leave nothing out of the tree but what they note
+-- the lists of both walks have every path of the tree but those that they note
 pub record AreWhole (pair : Pair) (source dest : List Entry) (files : Files) : Type 0 where
   pub tree : IsTree files
   pub left : IsWhole (side pair.source source) files
   pub right : IsWhole (side pair.target dest) files
 
--- what a sync needs of the lists of both walks, and what its law and the notes need of them
+-- the facts of the lists of both walks that a sync needs, and those that its law and the notes need
 pub record IsReady (pair : Pair) (source dest : List Entry) (tree : Option Files) : Type 0 where
   pub from : refusal pair.source ≡ None
   pub to : refusal pair.target ≡ None
@@ -49,7 +49,7 @@ pub record IsReady (pair : Pair) (source dest : List Entry) (tree : Option Files
   pub source_shaped : All (λ e. is_shaped e ≡ true) source
   pub dest_shaped : All (λ e. is_shaped e ≡ true) dest
 
--- both trees are equal then but for what the lists and the results name
+-- both trees are equal then but for the paths that the lists and the results name
 abbrev pub MakesEqual : Pair → (source dest : List Entry) → Bool → Results → Option Files → Type 0
 MakesEqual pair source dest delete done tree =
     IfSome tree (λ files. is_there (side pair.source source) ≡ true →

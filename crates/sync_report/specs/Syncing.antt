@@ -1,5 +1,5 @@
--- What dsync does: what it reports, why it stops, what it may have changed, and when nothing stands against it. The tool is mpiFileUtils';
--- the texts, notes and statuses are our own.
+-- The work of dsync: its report, the reasons to stop, the paths that it may have changed, and when nothing is in its way. The tool is
+-- mpiFileUtils'; the texts, notes and statuses are our own.
 use Rattle.std.specs.Prelude.{◌≡◌, ◌⊎◌, ℕ, ◌+◌, ◌≤◌, Bool, true, false, not, ◌&&◌, List, [], ◌∷◌, ◌++◌, length, map, filter, nat_eq, All, Ok, Option, IfSome}
 use Rattle.std.specs.Prelude.{Some, is_some}
 use Rattle.std.specs.FinMap.{get}
@@ -39,15 +39,15 @@ use Rattle.run_entries.specs.Naming.{copy_notes, listing_notes, removal_notes}
 use Rattle.sync_report.specs.declared.syncing.SyncTask.{SyncTask}
 use Rattle.sync_report.specs.Placing.{IsNowhere, StopsAfterLook, Surveys}
 
--- what a task asks for
+-- the request of a task
 abbrev pub sync_asked : SyncTask → SyncAsked
 sync_asked task = record { common = task.common; source = task.source; dest = task.dest; delete = task.delete }
 
--- the source, and what is made equal to it
+-- the source, and the destination that is made equal to it
 abbrev pub pair_of : SyncAsked → Pair
 pair_of asked = record { source = asked.source; target = asked.dest }
 
--- ---- what is named
+-- ---- the notes
 
 abbrev pub says_gone : Why → Bool
 says_gone why.Gone = true
@@ -69,14 +69,14 @@ dest_notes dest entries = filter (λ n. not (says_absent dest n)) (entry_notes e
 abbrev pub path_notes : Why → List (List ℕ) → List Note
 path_notes reason paths = map (λ p. record { path = p; why = reason; dest = false }) paths
 
--- all that is to be named: the entries of both walks, the files that could not be read, and what became of the copies and the removals
+-- the notes of all failures: the entries of both walks, the files that could not be read, and the fates of copies and removals
 abbrev pub sync_failures : Pair → (source dest : List Entry) → Results → List Note
 sync_failures pair source dest done =
     entry_notes source ++ dest_notes pair.target dest
     ++ path_notes why.FailedRead done.failed ++ path_notes why.Changed done.changed
     ++ copy_notes done.copies ++ removal_notes done.removals
 
--- ---- what it reports
+-- ---- its report
 
 -- it was synced by the lists of both, and no answer that failed is left uncounted
 pub record Syncs (pair : Pair) (source dest : List Entry) (delete : Bool) (done : Results) (before after : Side) : Type 0 where
@@ -84,8 +84,8 @@ pub record Syncs (pair : Pair) (source dest : List Entry) (delete : Bool) (done 
   pub blamed : RoseBy (length done.failed + count_by (λ row. is_failed row.1) done.removals + count_by (λ row. is_failed row.1) done.copies)
       before.count after.count
 
--- both trees are equal but for the paths below the source and the destination that are excepted: this is so of each row of a comparison
--- of the walks of both in which no answer fails
+-- both trees are equal but for the excepted paths below the source and the destination. This is so of each row of a comparison of the
+-- walks of both in which no answer fails
 abbrev pub AreEqualBut : (List ℕ → Bool) → Pair → Bool → Files → Type 0
 AreEqualBut is_excepted pair delete files =
     (found : Findings) →
@@ -105,7 +105,7 @@ counts_of done failed = record {
   failed = failed;
 }
 
--- what it reports where the pair was placed: what was kept, removed and copied, the line of the numbers, and the notes
+-- its report if the pair was placed: the kept, removed and copied entries, the line of the numbers, and the notes
 pub record ReportsSynced (asked : SyncAsked) (before after : Side) (report : Report) : Type 0 where
   pub source : List Entry
   pub dest : List Entry
@@ -118,11 +118,11 @@ pub record ReportsSynced (asked : SyncAsked) (before after : Side) (report : Rep
   pub prints : report.out ≡ synced_line (counts_of done (length notes))
   pub tells : report.notes ≡ note_lines notes
   pub counts : report.failed ≡ length notes
-  -- where the files tell their tree and the source has a stat, both trees are equal then but for what is named
+  -- if the files tell their tree and the source has a stat, both trees are equal then but for the paths of the notes
   pub equal : IfSome after.tree (λ files. is_there (side asked.source source) ≡ true →
       AreEqualBut (is_named (pair_of asked) notes) (pair_of asked) asked.delete files)
 
--- and where it was not, since the look at what is over the destination failed: nothing was walked, kept, removed or copied
+-- and if it was not, since the look at the destination's parent failed: nothing was walked, kept, removed or copied
 pub record ReportsFailedLook (asked : SyncAsked) (before after : Side) (report : Report) : Type 0 where
   pub same : after.tree ≡ before.tree
   pub blamed : RoseBy 1 before.count after.count
@@ -133,26 +133,26 @@ pub record ReportsFailedLook (asked : SyncAsked) (before after : Side) (report :
 abbrev pub ReportsSync : SyncAsked → Side → Side → Report → Type 0
 ReportsSync asked before after report = ReportsFailedLook asked before after report ⊎ ReportsSynced asked before after report
 
--- why it stops: for want of memory; or the source goes nowhere, or a walk was too long, and the files are as before
+-- why it stops: it is out of memory; or the source goes nowhere, or a walk was too long, and the files are as before
 abbrev pub StopsSync : SyncAsked → Side → Side → Stop → Type 0
 StopsSync asked before after why =
     (why ≡ stop.OutOfMemory)
     ⊎ ((IsNowhere (pair_of asked) before.tree why ⊎ StopsAfterLook (pair_of asked) before after why) × (after.tree ≡ before.tree))
 
--- what it may have changed: what stands at and under the destination, and nothing else. This holds whatever it answers
+-- the paths that it may have changed: those at and under the destination, and no other. This holds whatever it answers
 abbrev pub LeavesSync : SyncAsked → Option Files → Option Files → Type 0
 LeavesSync asked old new = (is_some new ≡ is_some old) × IfSome old (λ before. IfSome new (SameOutside asked.dest before))
 
 -- ---- when nothing stands against it
 
--- nothing is left to name in a walk of the destination, or nothing is there: no directory has a child whose path is too long, and the walk
--- is no longer than a list may be
+-- a walk of the destination gives no notes, or nothing is there: no directory has a child with too long a path, and the walk is no
+-- longer than a list may be
 pub record IsFineDest (files : Files) (dest : List ℕ) : Type 0 where
   pub near : All (λ e. e.far ≡ 0) (walk files all_told dest)
   pub few : length (walk files all_told dest) ≤ 4194304
 
--- an entry of the source that can be copied: no other, whose target is not too long; and where nothing is to be removed, nothing of another
--- kind stands there
+-- an entry of the source that can be copied: it is not of the kind other, and its path in the destination is not too long. If nothing
+-- is to be removed, no entry of another kind is there
 pub record IsFineEntry (pair : Pair) (delete : Bool) (files : Files) (e : Entry) : Type 0 where
   pub kind : is_of kind.Other e.stat ≡ false
   pub short : length (target_of (pair ∷ []) e.path) ≤ 4095

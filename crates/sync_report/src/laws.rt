@@ -1,4 +1,4 @@
-//! Laws, each the contract of a function that does nothing.
+//! Laws, each the contract of a function with an empty body.
 ghost use Rattle.sync_report.specs.Laws.{FineSyncSucceeds};
 
 use outside::{nodes_are_under_directories, nodes_have_paths};
@@ -12,7 +12,7 @@ use tree_walk::{
     entries_are_told, roots_are_unique, walk_ascends, walk_is_recursive, walk_lists_all,
 };
 
-/// Where nothing stands against dsync, it names nothing, and stops for want of memory alone.
+/// If nothing is in the way of dsync, it has no notes, and stops only if it is out of memory.
 pub fn fine_sync_succeeds()
     ensures { FineSyncSucceeds }
 {

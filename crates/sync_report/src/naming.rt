@@ -1,4 +1,4 @@
-//! What is named of a sync.
+//! The notes of a sync.
 ghost use Rattle.std.specs.Prelude.{◌≡◌, ◌++◌, OnOk, IfOk, filter, not};
 ghost use Rattle.tool_text.specs.NoteOrder.{AreInOrder};
 ghost use Rattle.sync_report.specs.Syncing.{dest_notes, path_notes, says_absent, sync_failures};
@@ -11,7 +11,7 @@ use tool_text::{Note, Why, in_order};
 use tree_copy::Pair;
 use tree_sync::SyncReport;
 
-/// The notes of all that failed, in their order: of the entries of both sides, of the files that were to be read, and of the
+/// The notes of all failures, in order: of the entries of both sides, of the files to be read, and of the
 /// copies and removals.
 pub(crate) fn failures(
     alloc: Global,
@@ -47,7 +47,7 @@ fn name_dest(
     Ok(())
 }
 
-// Leaves out what says that nothing is at the path.
+// Leaves out the notes that say that nothing is at the path.
 fn drop_absent(notes: &mut Vec<Note>, path: &Path)
     ensures { notes.new.items ≡ filter (λ n. not (says_absent path.now n)) notes.old.items }
 {

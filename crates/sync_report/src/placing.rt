@@ -1,4 +1,4 @@
-//! The look at what is over the destination.
+//! The look at the parent of the destination.
 ghost use Rattle.std.specs.Prelude.{◌≡◌, IfErr, OnOk};
 ghost use Rattle.outside.specs.Count.{RoseBy};
 ghost use Rattle.run_report.specs.Sides.{side_of};
@@ -9,7 +9,7 @@ use std::alloc::Global;
 use tree_copy::{Pair, PlaceError};
 use tree_sync::sync_place;
 
-/// Whether the pair can be synced, by one reader, which is given back whatever it answers.
+/// Whether the pair can be synced, with one reader, which is given back whatever it answers.
 pub(crate) fn place_pair<G: Ground>(
     alloc: Global,
     pair: &Pair,

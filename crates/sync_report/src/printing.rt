@@ -10,7 +10,7 @@ use std::alloc::Global;
 use tool_text::{Note, SyncCounts, Text, Why, put_notes, put_synced};
 use tree_sync::SyncReport;
 
-/// The report of a sync: the line of its numbers, and a line for each note.
+/// The report of a sync: the line with the numbers, and a line for each note.
 pub(crate) fn sync_report(
     alloc: Global,
     synced: &SyncReport,
@@ -29,7 +29,7 @@ pub(crate) fn sync_report(
     report_of(alloc, &counts, named)
 }
 
-/// The report where the look at this path failed, and so nothing was kept, removed or copied.
+/// The report if the look at this path failed, so that nothing was kept, removed or copied.
 pub(crate) fn failed_report(alloc: Global, path: Path) -> Result<Report, OutOfMemory>
     ensures out { IfOk result (λ report. report.out ≡ synced_line (record { copied = 0; removed = 0; kept = 0; failed = 1 })) }
     ensures notes { IfOk result (λ report. report.notes ≡ note_lines (record { path = path; why = Why.FailedStat; dest = false } ∷ [])) }

@@ -1,4 +1,4 @@
-//! What dsync does.
+//! The work of dsync.
 ghost use Rattle.std.specs.Prelude.{◌≡◌, [], IfOk, IfErr};
 ghost use Rattle.outside.specs.Count.{RoseBy};
 ghost use Rattle.outside.specs.Writes.{nothing_lent};
@@ -20,20 +20,20 @@ use std::thread::Threads;
 use tool_words::Common;
 use tree_copy::{Pair, PlaceError};
 
-/// What dsync is asked for.
+/// The task of dsync.
 #[derive(Debug, Drop)]
 pub struct SyncTask {
-    /// How each of the two walks is to go, and by how many ranks and hosts entries are copied and removed.
+    /// The settings of each of the two walks, and the number of ranks and hosts that copy and remove entries.
     pub common: Common,
-    /// What the destination is to be equal to.
+    /// The source.
     pub source: Path,
-    /// What is made equal to it.
+    /// The destination, which is made equal to the source.
     pub dest: Path,
-    /// Whether what the source has not is removed.
+    /// Whether entries that only the destination has are removed.
     pub delete: bool,
 }
 
-/// Looks whether there is a place for the destination, walks both sides, makes them equal, and makes the texts.
+/// Tests whether there is a place for the destination, walks both sides, makes them equal, and makes the texts.
 pub fn report_of_sync<T: Threads + Wait + Sync, G: Ground>(
     rt: &T,
     alloc: Global,
@@ -45,8 +45,10 @@ where
     G::Part: Send,
     requires lent { G.area files.old ≡ nothing_lent }
     requires within { WithinSync (sync_asked task) }
-    ensures reports { IfOk result (ReportsSync (sync_asked task) (side_of (G.tree files.old) (G.count files.old)) (side_of (G.tree files.new) (G.count files.new))) }
-    ensures stops { IfErr result (StopsSync (sync_asked task) (side_of (G.tree files.old) (G.count files.old)) (side_of (G.tree files.new) (G.count files.new))) }
+    ensures reports { IfOk result (ReportsSync (sync_asked task) (side_of (G.tree files.old) (G.count files.old))
+        (side_of (G.tree files.new) (G.count files.new))) }
+    ensures stops { IfErr result (StopsSync (sync_asked task) (side_of (G.tree files.old) (G.count files.old))
+        (side_of (G.tree files.new) (G.count files.new))) }
     ensures leaves { LeavesSync (sync_asked task) (G.tree files.old) (G.tree files.new) }
     ensures lent { G.area files.new ≡ nothing_lent }
     ensures count { RoseBy 0 (G.count files.old) (G.count files.new) }

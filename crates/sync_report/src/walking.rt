@@ -16,7 +16,7 @@ use tool_words::Common;
 use tree_copy::Pair;
 use tree_walk::{entries_are_told, entries_have_parents, roots_are_unique, walk_lists_all};
 
-/// Walks the source and then the destination of a pair that was placed: lists that can be synced.
+/// Walks the source and then the destination of a placed pair: lists that can be synced.
 pub(crate) fn walk_pair<T: Threads + Wait + Sync, G: Ground>(
     rt: &T,
     alloc: Global,
@@ -28,9 +28,11 @@ where
     G::Reader: Send,
     requires within { CommonWithin common.now }
     requires placed { IsPlaced pair.now (G.tree files.old) }
-    ensures walks { IfOk result (λ sides. WalksBoth pair.now.source pair.now.target sides.left sides.right (side_of (G.tree files.old) (G.count files.old)) (side_of (G.tree files.new) (G.count files.new))) }
+    ensures walks { IfOk result (λ sides. WalksBoth pair.now.source pair.now.target sides.left sides.right
+        (side_of (G.tree files.old) (G.count files.old)) (side_of (G.tree files.new) (G.count files.new))) }
     ensures ready { IfOk result (λ sides. IsReady pair.now sides.left sides.right (G.tree files.old)) }
-    ensures stopped { IfErr result (StopsWalking pair.now.source pair.now.target (side_of (G.tree files.old) (G.count files.old)) (side_of (G.tree files.new) (G.count files.new))) }
+    ensures stopped { IfErr result (StopsWalking pair.now.source pair.now.target (side_of (G.tree files.old) (G.count files.old))
+        (side_of (G.tree files.new) (G.count files.new))) }
     ensures same { G.tree files.new ≡ G.tree files.old }
     ensures area { G.area files.new ≡ G.area files.old }
     ensures count { RoseBy 0 (G.count files.old) (G.count files.new) }

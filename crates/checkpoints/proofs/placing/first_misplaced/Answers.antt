@@ -2,34 +2,22 @@ use Rattle.std.proofs.Common.{subst, map, arith, List, ℕ, Vec, Global}
 use Rattle.std.specs.List.{flat_map, enumerate_from}
 use Rattle.std.proofs.lemmas.Option.{IfSome_then}
 use Rattle.path_text.specs.declared.paths.Path.{Path}
-use Rattle.checkpoints.specs.declared.placing.Left.{Left}
 use Rattle.checkpoints.specs.Placing.{is_misplaced, IsFirstMisplaced}
-use Rattle.checkpoints.specs.Passing.{paths_in, IsLowest, IsPlace}
-use Rattle.checkpoints.specs.Lefts.{numbered}
-use Rattle.checkpoints.proofs.Placed.{own_order, all_placed, number_inside, first_found}
+use Rattle.checkpoints.specs.Passing.{IsLowest, IsPlace}
+use Rattle.checkpoints.proofs.Placed.{all_placed, number_inside, first_found}
 use Rattle.checkpoints.proofs.placing.first_misplaced.Goals as goal
 
 pub returns-in_default-clause-none : goal.returns-in_default-clause-none
 returns-in_default-clause-none c = λ e.
     let done = c.args.done.now in
-    let lists = map (λ (v : Vec Path Global). v.items) c.args.lists.now in
-    let flat = flat_map (λ (l : List (List ℕ)). l) lists in
-    let lefts = numbered c.in_ok-lefts.lefts.items in
-    let low = subst (λ (ls : List Left). IsLowest (is_misplaced done (paths_in (numbered ls))) (numbered ls) c.in_ok-number.field-0)
-    c.deref.ensures.value c.in_ok-number.ensures in
-    all_placed done flat (subst (IsLowest (is_misplaced done flat) (enumerate_from 0 flat)) c.in_default.is
-    (own_order done flat lefts c.in_ok-number.field-0 c.in_ok-lefts.ensures.all low))
+    let flat = flat_map (λ (l : List (List ℕ)). l) (map (λ (v : Vec Path Global). v.items) c.args.lists.now) in
+    all_placed done flat (subst (IsLowest (is_misplaced done flat) (enumerate_from 0 flat)) c.in_default.is c.in_ok-number.ensures)
 
 pub returns-clause-none : goal.returns-clause-none
 returns-clause-none c = λ e.
     let done = c.args.done.now in
-    let lists = map (λ (v : Vec Path Global). v.items) c.args.lists.now in
-    let flat = flat_map (λ (l : List (List ℕ)). l) lists in
-    let lefts = numbered c.in_ok-lefts.lefts.items in
-    let low = subst (λ (ls : List Left). IsLowest (is_misplaced done (paths_in (numbered ls))) (numbered ls) c.in_ok-number.field-0)
-    c.deref.ensures.value c.in_ok-number.ensures in
-    let here = subst (IsLowest (is_misplaced done flat) (enumerate_from 0 flat)) c.in-Some.is
-    (own_order done flat lefts c.in_ok-number.field-0 c.in_ok-lefts.ensures.all low) in
+    let flat = flat_map (λ (l : List (List ℕ)). l) (map (λ (v : Vec Path Global). v.items) c.args.lists.now) in
+    let here = subst (IsLowest (is_misplaced done flat) (enumerate_from 0 flat)) c.in-Some.is c.in_ok-number.ensures in
     absurd (omega (arith, number_inside done flat c.in-Some.number here, c.place_of.ensures.none e))
 
 pub returns-clause-first : goal.returns-clause-first
@@ -37,11 +25,7 @@ returns-clause-first c =
     let done = c.args.done.now in
     let lists = map (λ (v : Vec Path Global). v.items) c.args.lists.now in
     let flat = flat_map (λ (l : List (List ℕ)). l) lists in
-    let lefts = numbered c.in_ok-lefts.lefts.items in
-    let low = subst (λ (ls : List Left). IsLowest (is_misplaced done (paths_in (numbered ls))) (numbered ls) c.in_ok-number.field-0)
-    c.deref.ensures.value c.in_ok-number.ensures in
-    let here = subst (IsLowest (is_misplaced done flat) (enumerate_from 0 flat)) c.in-Some.is
-    (own_order done flat lefts c.in_ok-number.field-0 c.in_ok-lefts.ensures.all low) in
+    let here = subst (IsLowest (is_misplaced done flat) (enumerate_from 0 flat)) c.in-Some.is c.in_ok-number.ensures in
     IfSome_then c.place_of.result {P = λ at. IsPlace lists c.in-Some.number at.0 at.1} {Q = λ at. IsFirstMisplaced done lists at.0 at.1}
     c.place_of.ensures.place
     (λ at p. first_found done lists c.in-Some.number at.0 at.1 p here)

@@ -1,4 +1,4 @@
-use Rattle.std.proofs.Common.{◌≡◌, ◌≤◌, inl, inr, sym, subst, map, length, Vec, Global}
+use Rattle.std.proofs.Common.{inl, inr, sym, subst, map, Vec, Global}
 use Rattle.std.specs.Prelude.{IfSome}
 use Rattle.std.specs.List.{flat_map}
 use Rattle.std.proofs.lemmas.List.{length-map}
@@ -7,36 +7,34 @@ use Rattle.circle_lists.specs.Spelling.{IsRank}
 use Rattle.circle_lists.specs.Checkpoint.{HoldLists}
 use Rattle.run_report.specs.Sides.{side_of}
 use Rattle.run_entries.specs.Entries.{IsRead}
-use Rattle.checkpoints.specs.Kept.{list_path}
 use Rattle.checkpoints.specs.Placing.{ArePlaced}
 use Rattle.checkpoints.specs.Stopping.{HasNoRanks}
 use Rattle.checkpoints.proofs.Read.{no_ranks}
+use Rattle.checkpoints.proofs.Written.{named_at}
 use Rattle.checkpoints.proofs.reading.read_checkpoint.Goals as goal
 
 pub returns-in-Err-clause-stopped : goal.returns-in-Err-clause-stopped
 returns-in-Err-clause-stopped g c =
-    let tree = g.G.Plot.tree in
-    let count = g.G.Plot.count in
     let dir = c.args.dir.now in
-    let before = side_of (tree c.args.files.now) (count c.args.files.now) in
-    let after = side_of (tree c.read_left.new.files) (count c.read_left.new.files) in
-    let named = subst (λ o. IfSome o (λ path. (path ≡ list_path dir) × (length (list_path dir) ≤ 4095))) c.in-Some.is c.in_ok-path.ensures.some in
+    let before = side_of (g.G.Plot.tree c.args.files.now) (g.G.Plot.count c.args.files.now) in
+    let after = side_of (g.G.Plot.tree c.read_left.new.files) (g.G.Plot.count c.read_left.new.files) in
+    let named = named_at dir c.in-Some.is c.in_ok-path.ensures.some in
     let stops : HasNoRanks dir before after c.stop_by.result =
-    no_ranks dir c.in-Some.path c.in_ok-done.done before after (tree c.read_list.new.files) (count c.read_list.new.files) c.in-Err.error c.stop_by.result
-    named.0 c.in_ok-done.ensures.read c.read_list.ensures.same c.read_list.ensures.count.kept c.in-Err.ensures.stopped c.stop_by.ensures in
+    no_ranks dir c.in-Some.path c.in_ok-done.done before after (g.G.Plot.tree c.read_list.new.files) (g.G.Plot.count c.read_list.new.files)
+    c.in-Err.error c.stop_by.result named c.in_ok-done.ensures.read c.read_list.ensures.same c.read_list.ensures.count.kept
+    c.in-Err.ensures.stopped c.stop_by.ensures in
     inr (inr (inr (inl stops)))
 
 pub returns-clause-read : goal.returns-clause-read
 returns-clause-read g c =
-    let tree = g.G.Plot.tree in
     let dir = c.args.dir.now in
     let done = c.in_ok-done.done in
     let items = λ (list : Vec Path Global). list.items in
     let left = c.in-Ok.left.items in
-    let before = side_of (tree c.args.files.now) (g.G.Plot.count c.args.files.now) in
-    let named = subst (λ o. IfSome o (λ path. (path ≡ list_path dir) × (length (list_path dir) ≤ 4095))) c.in-Some.is c.in_ok-path.ensures.some in
+    let before = side_of (g.G.Plot.tree c.args.files.now) (g.G.Plot.count c.args.files.now) in
+    let named = named_at dir c.in-Some.is c.in_ok-path.ensures.some in
     record {
-      list = subst (λ p. IsRead p done before) named.0 c.in_ok-done.ensures.read;
+      list = subst (λ p. IsRead p done before) named c.in_ok-done.ensures.read;
       few = c.in_ok-done.ensures.few;
       ranks = subst (λ t. IfSome t (HoldLists dir (map items left))) c.read_list.ensures.same c.in-Ok.ensures.told;
       number = subst (IsRank 0) (sym (length-map left items)) c.in-Ok.ensures.number;

@@ -10,24 +10,16 @@ use Rattle.compare_report.proofs.picking.add_picked.Goals as goal
 
 pub seek-at_here-requires-clause-passed : goal.seek-at_here-requires-clause-passed
 seek-at_here-requires-clause-passed c =
-    let side = c.args.entries.now in
-    let e = c.entry-entry.result.now in
-    let at : IsHere side c.loop-cursor.cursor.1 e c.advance.new.self =
-    here side c.loop-cursor.cursor c.advance.new.self e c.in_ok-advance.field-0 c.loop-cursor.invariant.of_entries c.in_ok-advance.ensures.passed
-    c.if-branch.true c.entry-entry.ensures.at
-    in
-    let passed = c.loop-cursor.invariant.wanted.1 e at.inside in
+    let at = here c.args.entries.now c.loop-cursor.cursor c.advance.new.self c.entry-entry.result.now c.in_ok-advance.field-0
+    c.loop-cursor.invariant.of_entries c.in_ok-advance.ensures.passed c.if-branch.true c.entry-entry.ensures.at in
+    let passed = c.loop-cursor.invariant.wanted.1 c.entry-entry.result.now at.inside in
     subst (IsPassed c.args.wanted.now c.loop-cursor.at) (ap (λ x. below_of x.path c.args.top.now) at.is ∙ sym c.in_ok-below.ensures) passed
 
 pub seek-past_here-requires-clause-passed : goal.seek-past_here-requires-clause-passed
 seek-past_here-requires-clause-passed c =
-    let side = c.args.entries.now in
-    let e = c.entry-entry.result.now in
-    let at : IsHere side c.loop-cursor.cursor.1 e c.advance.new.self =
-    here side c.loop-cursor.cursor c.advance.new.self e c.in_ok-advance.field-0 c.loop-cursor.invariant.of_entries c.in_ok-advance.ensures.passed
-    c.if-branch.true c.entry-entry.ensures.at
-    in
-    subst (λ x. IsPassed c.args.but.now c.loop-cursor.past x.path) at.is (c.loop-cursor.invariant.but.1 e at.inside)
+    let at = here c.args.entries.now c.loop-cursor.cursor c.advance.new.self c.entry-entry.result.now c.in_ok-advance.field-0
+    c.loop-cursor.invariant.of_entries c.in_ok-advance.ensures.passed c.if-branch.true c.entry-entry.ensures.at in
+    subst (λ x. IsPassed c.args.but.now c.loop-cursor.past x.path) at.is (c.loop-cursor.invariant.but.1 c.entry-entry.result.now at.inside)
 
 pub loop-cursor-preserved : goal.loop-cursor-preserved
 loop-cursor-preserved c =

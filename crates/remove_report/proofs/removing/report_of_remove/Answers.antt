@@ -7,22 +7,19 @@ use Rattle.remove_report.proofs.removing.report_of_remove.Goals as goal
 
 pub returns-clause-reports : goal.returns-clause-reports
 returns-clause-reports g c =
-    let tree = g.G.Plot.tree in
-    let count = g.G.Plot.count in
     let asked = remove_asked c.args.task in
     let found = c.in_ok-found.found in
     let told = c.in_ok-found.ensures in
     let texts = c.in_ok-report.ensures.told in
-    let before = side_of (tree c.args.files.now) (count c.args.files.now) in
-    let between = side_of (tree c.find_lower.new.files) (count c.find_lower.new.files) in
-    let after = side_of (tree c.remove_and_tell.new.files) (count c.remove_and_tell.new.files) in
+    let between = g.G.Plot.count c.find_lower.new.files in
+    let after = side_of (g.G.Plot.tree c.remove_and_tell.new.files) (g.G.Plot.count c.remove_and_tell.new.files) in
     record {
       chosen = found.chosen;
       named = found.notes.items;
-      found = between.count;
-      chooses = chooses_by asked c.args.now before between found.chosen found.notes.items found.account told.same told.finds;
+      found = between;
+      chooses = chooses_by asked c.args.now _ _ found.chosen found.notes.items found.account told.finds told.same;
       rows = texts.rows;
-      acts = subst (λ t. Acts asked.dryrun found.chosen texts.rows (side_of t between.count) after) told.same texts.acts;
+      acts = subst (λ t. Acts asked.dryrun found.chosen texts.rows (side_of t between) after) told.same texts.acts;
       notes = texts.notes;
       names = texts.names;
       prints = texts.prints;
@@ -30,46 +27,28 @@ returns-clause-reports g c =
       counts = texts.counts;
     }
 
+pub returns-clause-leaves : goal.returns-clause-leaves
+returns-clause-leaves g c =
+    let told = c.in_ok-found.ensures in
+    let acted = c.remove_and_tell.ensures in
+    let after = side_of (g.G.Plot.tree c.remove_and_tell.new.files) (g.G.Plot.count c.remove_and_tell.new.files) in
+    leaves_others (remove_asked c.args.task) c.args.now _ _ after _ _ _ told.finds told.same acted.dry acted.tells acted.rest
+
 pub returns-in_err-found-clause-stops : goal.returns-in_err-found-clause-stops
 returns-in_err-found-clause-stops g c =
-    let tree = g.G.Plot.tree in
-    let count = g.G.Plot.count in
-    let before = side_of (tree c.args.files.now) (count c.args.files.now) in
-    let after = side_of (tree c.find_lower.new.files) (count c.find_lower.new.files) in
+    let before = side_of (g.G.Plot.tree c.args.files.now) (g.G.Plot.count c.args.files.now) in
+    let after = side_of (g.G.Plot.tree c.find_lower.new.files) (g.G.Plot.count c.find_lower.new.files) in
     let stops = stops_finding (remove_asked c.args.task) before after _ c.find_lower.ensures.same c.in_err-found.ensures.stopped in search rules
-
-pub returns-in_err-found-clause-leaves : goal.returns-in_err-found-clause-leaves
-returns-in_err-found-clause-leaves g c =
-    let tree = g.G.Plot.tree in
-    let count = g.G.Plot.count in
-    let before = side_of (tree c.args.files.now) (count c.args.files.now) in
-    let after = side_of (tree c.find_lower.new.files) (count c.find_lower.new.files) in
-    leaves_all (remove_asked c.args.task) c.args.now before after c.find_lower.ensures.same
 
 pub returns-in_err-report-clause-leaves : goal.returns-in_err-report-clause-leaves
 returns-in_err-report-clause-leaves g c =
-    let tree = g.G.Plot.tree in
-    let count = g.G.Plot.count in
-    let asked = remove_asked c.args.task in
-    let found = c.in_ok-found.found in
     let told = c.in_ok-found.ensures in
     let acted = c.remove_and_tell.ensures in
-    let before = side_of (tree c.args.files.now) (count c.args.files.now) in
-    let between = side_of (tree c.find_lower.new.files) (count c.find_lower.new.files) in
-    let after = side_of (tree c.remove_and_tell.new.files) (count c.remove_and_tell.new.files) in
-    let chooses = chooses_by asked c.args.now before between found.chosen found.notes.items found.account told.same told.finds in
-    leaves_others asked c.args.now before between after found.chosen found.notes.items told.same chooses acted.dry acted.tells acted.rest
+    let after = side_of (g.G.Plot.tree c.remove_and_tell.new.files) (g.G.Plot.count c.remove_and_tell.new.files) in
+    leaves_others (remove_asked c.args.task) c.args.now _ _ after _ _ _ told.finds told.same acted.dry acted.tells acted.rest
 
-pub returns-clause-leaves : goal.returns-clause-leaves
-returns-clause-leaves g c =
-    let tree = g.G.Plot.tree in
-    let count = g.G.Plot.count in
-    let asked = remove_asked c.args.task in
-    let found = c.in_ok-found.found in
-    let told = c.in_ok-found.ensures in
-    let acted = c.remove_and_tell.ensures in
-    let before = side_of (tree c.args.files.now) (count c.args.files.now) in
-    let between = side_of (tree c.find_lower.new.files) (count c.find_lower.new.files) in
-    let after = side_of (tree c.remove_and_tell.new.files) (count c.remove_and_tell.new.files) in
-    let chooses = chooses_by asked c.args.now before between found.chosen found.notes.items found.account told.same told.finds in
-    leaves_others asked c.args.now before between after found.chosen found.notes.items told.same chooses acted.dry acted.tells acted.rest
+pub returns-in_err-found-clause-leaves : goal.returns-in_err-found-clause-leaves
+returns-in_err-found-clause-leaves g c =
+    let before = side_of (g.G.Plot.tree c.args.files.now) (g.G.Plot.count c.args.files.now) in
+    let after = side_of (g.G.Plot.tree c.find_lower.new.files) (g.G.Plot.count c.find_lower.new.files) in
+    leaves_all (remove_asked c.args.task) c.args.now before after c.find_lower.ensures.same

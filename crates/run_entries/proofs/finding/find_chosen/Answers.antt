@@ -44,11 +44,9 @@ returns-clause-finds g c =
 
 pub returns-in_err-list-clause-stopped : goal.returns-in_err-list-clause-stopped
 returns-in_err-list-clause-stopped g c =
-    let tree = g.G.Plot.tree in
-    let count = g.G.Plot.count in
-    let before = side_of (tree c.args.files.now) (count c.args.files.now) in
-    let between = side_of (tree c.look_at_each.new.files) (count c.look_at_each.new.files) in
-    let after = side_of (tree c.list_from.new.files) (count c.list_from.new.files) in
+    let before = side_of (g.G.Plot.tree c.args.files.now) (g.G.Plot.count c.args.files.now) in
+    let between = side_of (g.G.Plot.tree c.look_at_each.new.files) (g.G.Plot.count c.look_at_each.new.files) in
+    let after = side_of (g.G.Plot.tree c.list_from.new.files) (g.G.Plot.count c.list_from.new.files) in
     let stops =
     stops_after (start_in c.args.start) (Some (choice_in c.args.choice)) before between after c.in_ok-looks.looks.items _ c.look_at_each.ensures.same
     c.in_ok-looks.ensures.looks c.list_from.ensures.count.kept c.in_err-list.ensures.stopped
