@@ -1,4 +1,5 @@
--- What dcp does: what it reports, why it stops, what it may have changed, and when nothing stands against it. After mpiFileUtils' dcp; the texts are our own.
+-- The work of dcp: its report, the reasons to stop, the paths that it may have changed, and the case in which nothing is in its way.
+-- After mpiFileUtils' dcp; the texts are our own.
 use Rattle.std.specs.Prelude.{◌≡◌, ◌⊎◌, ℕ, ◌≤◌, false, List, [], ◌∷◌, ◌++◌, length, map, codes, All, Ok, IfSome, is_some}
 use Rattle.std.specs.Fmt.{decimal}
 use Rattle.std.specs.List.{flat_map, count_by}
@@ -28,16 +29,16 @@ use Rattle.run_entries.specs.Stopping.{StopsListing}
 use Rattle.copy_report.specs.declared.copying.CopyTask.{CopyTask}
 use Rattle.copy_report.specs.Placing.{Places, Surveys, IsNowhere}
 
--- what a task asks for
+-- the parts of a task
 abbrev pub copy_asked : CopyTask → CopyAsked
-copy_asked task = record { common = task.common; sources = task.sources.items; dest = task.dest }
+copy_asked task = record { common = task.common; sources = task.sources.items; dest = task.dest; range = task.range }
 
--- the line of how many entries were copied, of how many; of the bytes of the copied files; and of how many notes there are
+-- the line of the number of copied entries, of all entries, of the bytes of the copied files, and of the notes
 abbrev pub copied_line : (copied items bytes failed : ℕ) → List ℕ
 copied_line copied items bytes failed =
     codes "copied " ++ decimal copied ++ codes " items " ++ decimal items ++ codes " bytes " ++ decimal bytes ++ codes " failed " ++ decimal failed ++ 10 ∷ []
 
--- all that is to be named: the entries of the walk, and what became of the copies
+-- all that is to be named: the entries of the walk, and the fates of the copies
 abbrev pub copy_failures : List Entry → List (List ℕ × Fate) → List Note
 copy_failures entries rows = listing_notes (record { entries = entries; dest = false }) ++ copy_notes rows
 
@@ -47,11 +48,12 @@ pub record Copies (pairs : List Pair) (entries : List Entry) (rows : List (List 
   -- over all files each entry that can't be copied has its fate
   pub early : AreEarly entries pairs rows
   pub tells : is_some after.tree ≡ is_some before.tree
-  -- and where they tell their tree, each has it, and what stands at its target is told by that
+  -- and if they show their tree, each entry has its fate, which describes the node at its target
   pub copied : IfSome before.tree (λ old. IfSome after.tree (Copied entries pairs rows old))
   pub blamed : RoseBy (count_by (λ row. is_failed row.1) rows) before.count after.count
 
--- what it reports where the targets were placed: what became of the walked entries, the line of the numbers, and the notes, of the walk and of the copies
+-- its report if the targets were placed: the fates of the walked entries, the line of the numbers, and the notes of the walk and of
+-- the copies
 pub record ReportsCopies (asked : CopyAsked) (before after : Side) (report : Report) : Type 0 where
   pub pairs : List Pair
   pub entries : List Entry
@@ -65,7 +67,7 @@ pub record ReportsCopies (asked : CopyAsked) (before after : Side) (report : Rep
   pub tells : report.notes ≡ note_lines notes
   pub counts : report.failed ≡ length notes
 
--- and where they were not, since the look at the destination failed, or that at the one above it: nothing was walked or copied
+-- its report if they were not, since the look at the destination or at its parent failed: nothing was walked or copied
 pub record ReportsFailedLook (asked : CopyAsked) (before after : Side) (report : Report) : Type 0 where
   pub path : List ℕ
   pub which : (path ≡ asked.dest) ⊎ (path ≡ parent_of asked.dest)
@@ -87,7 +89,7 @@ pub record StopsWalking (asked : CopyAsked) (before after : Side) (why : Stop) :
   pub later : between ≤ after.count
   pub stops : StopsListing (roots asked.sources) (side_of before.tree between) after why
 
--- why it stops: for want of memory; or the sources go nowhere, or the walk was too long, and the files are as before
+-- why it stops: it is out of memory; or the sources have no targets or the walk was too long, and the files are as before
 abbrev pub StopsCopy : CopyAsked → Side → Side → Stop → Type 0
 StopsCopy asked before after why =
     (why ≡ stop.OutOfMemory) ⊎ ((IsNowhere asked before.tree why ⊎ StopsWalking asked before after why) × (after.tree ≡ before.tree))
@@ -101,11 +103,11 @@ pub record LeavesAllOthers (asked : CopyAsked) (before after : Side) : Type 0 wh
   pub tells : is_some after.tree ≡ is_some before.tree
   pub others : IfSome before.tree (λ old. IfSome after.tree (SameButTargets pairs entries old))
 
--- what it may have changed: nothing, or the targets alone. This holds whatever it answers
+-- the paths that it may have changed: none, or the targets alone. This holds whatever it answers
 abbrev pub LeavesCopy : CopyAsked → Side → Side → Type 0
 LeavesCopy asked before after = (after.tree ≡ before.tree) ⊎ LeavesAllOthers asked before after
 
--- when nothing stands against it: the side is fine, the sources go somewhere, and each entry of the walk can be copied
+-- nothing is in its way: the side is fine, the sources have targets, and each entry of the walk can be copied
 pub record FineCopy (asked : CopyAsked) (before after : Side) : Type 0 where
   pub side : IsFineSide (roots asked.sources) before after
   pub pairs : List Pair

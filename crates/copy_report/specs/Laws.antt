@@ -5,7 +5,7 @@ use Rattle.run_report.specs.Sides.{Side}
 use Rattle.run_report.specs.Stops.{Succeeds}
 use Rattle.copy_report.specs.Copying.{ReportsCopy, StopsCopy, FineCopy}
 
--- where nothing stands against dcp it names nothing, and stops for want of memory alone
+-- if nothing is in the way of dcp, it names nothing, and only a lack of memory stops it
 abbrev pub FineCopySucceeds : Type 0
 FineCopySucceeds =
     (asked : CopyAsked) (before after : Side) → WithinCopy asked → FineCopy asked before after →

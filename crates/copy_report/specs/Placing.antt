@@ -1,4 +1,4 @@
--- Where dcp's sources go, and what is walked of them. The tool is mpiFileUtils', after cp; the relation is our own.
+-- The targets of dcp's sources, and the walk of the sources. The tool is mpiFileUtils', after cp; the relation is our own.
 use Rattle.std.specs.Prelude.{◌≡◌, ℕ, ◌≤◌, Bool, List, length, Option, IfSome, Result, Ok, Err}
 use Rattle.std.specs.FinMap.{get}
 use Rattle.path_text.specs.Path.{parent_of}
@@ -14,15 +14,16 @@ use Rattle.run_report.specs.declared.stops.Stop.{Stop}
 use Rattle.run_report.specs.declared.stops.Stop.TheVariants as stop
 use Rattle.run_entries.specs.Entries.{Walked}
 
--- where the sources go, or why they go nowhere: by whether the destination is a directory, and whether the one above it is
+-- the targets of the sources, or why there are none: by whether the destination is a directory, and whether its parent is
 pub record Places (sources : List (List ℕ)) (dest : List ℕ) (tree : Option Files) (answer : Result (List Pair) PlaceError) : Type 0 where
   pub in_dir : Bool
   pub over_dir : Bool
   pub due : placed in_dir over_dir dest sources ≡ answer
-  -- where the files tell their tree, that tells both
+  -- if the files show their tree, both are known from it
   pub told : IfSome tree (λ files. (in_dir ≡ is_dir (get files dest)) × (over_dir ≡ is_dir (get files (parent_of dest))))
 
--- what is copied, and where to: the targets were placed, and then the sources were walked, over the same files. The walk is no longer than a list may be
+-- the entries that are copied, and their targets: the targets were placed, and then the sources were walked, over the same files.
+-- The walk is not longer than a list may be
 pub record Surveys (asked : CopyAsked) (before after : Side) (pairs : List Pair) (entries : List Entry) : Type 0 where
   pub places : Places asked.sources asked.dest before.tree (Ok pairs)
   pub between : ℕ

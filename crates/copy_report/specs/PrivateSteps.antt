@@ -1,4 +1,4 @@
--- What the steps of dcp tell each other. Only the contracts of this crate's own parts cite it.
+-- The words of the steps of dcp. Only the contracts of this crate's own parts cite it.
 use Rattle.std.specs.Prelude.{⊤, ◌≡◌, ◌⊎◌, ℕ, true, false, List, length, map, Option, IfSome, All, Err}
 use Rattle.std.specs.FinMap.{get}
 use Rattle.std.specs.List.{count_by}
@@ -20,7 +20,7 @@ use Rattle.run_report.specs.Sides.{Side}
 use Rattle.copy_report.specs.Copying.{Copies, copied_line, copy_failures}
 use Rattle.copy_report.specs.Placing.{Places}
 
--- what a walk of the sources needs of their targets
+-- targets for which the sources can be walked
 pub record ArePlaced (given : List (List ℕ)) (tree : Option Files) (pairs : List Pair) : Type 0 where
   pub sources : map (λ pair. pair.source) pairs ≡ given
   pub valid : All IsPair pairs
@@ -34,7 +34,7 @@ StopsPlacing sources dest before after place.NoDest = Places sources dest before
 StopsPlacing sources dest before after (place.Failed path) = ((path ≡ dest) ⊎ (path ≡ parent_of dest)) × RoseBy 1 before.count after.count
 StopsPlacing sources dest before after place.OutOfMemory = ⊤
 
--- what is told of a copy: what became of the entries, the line of the numbers, and the notes, of the walk and of the copies
+-- the report of a copy: the fates of the entries, the line of the numbers, and the notes of the walk and of the copies
 pub record TellsCopies (pairs : List Pair) (entries : List Entry) (before after : Side) (report : Report) : Type 0 where
   pub rows : List (List ℕ × Fate)
   pub copies : Copies pairs entries rows before after

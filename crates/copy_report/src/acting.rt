@@ -1,9 +1,9 @@
-//! The copy of what was walked, and the texts of it.
-ghost use Rattle.std.specs.Prelude.{◌≡◌, [], All, IfOk, IfErr, IfSome, is_some};
+//! The copy of the entries of the walk, and its texts.
+ghost use Rattle.std.specs.Prelude.{◌≡◌, ◌≤◌, IfOk, IfSome, is_some};
+ghost use Rattle.std.specs.List.{count_by};
 ghost use Rattle.outside.specs.Count.{RoseBy};
 ghost use Rattle.outside.specs.Writes.{nothing_lent};
 ghost use Rattle.tree_copy.specs.Copying.{CanCopy, FitsTree, SameButTargets, bytes_copied, is_done};
-ghost use Rattle.std.specs.List.{count_by};
 ghost use Rattle.tool_words.specs.Limits.{CommonWithin};
 ghost use Rattle.run_report.specs.Sides.{side_of};
 ghost use Rattle.copy_report.specs.Copying.{Copies};
@@ -12,19 +12,21 @@ ghost use Rattle.copy_report.specs.PrivateSteps.{TellsCopies};
 use crate::naming::failures;
 use crate::printing::copy_report;
 use flat_list::FlatList;
-use outside::Ground;
+use outside::Wide;
 use path_text::OutOfMemory;
+use range_copy::{RangeError, copy_wide};
 use run_report::Report;
 use std::alloc::Global;
 use std::thread::Threads;
 use tool_words::Common;
 use tree_copy::{CopyReport, Pair, copy};
 
-// Copies the entries to their targets, by as many ranks and hosts as are asked for.
-fn copy_entries<T: Threads + Sync, G: Ground>(
+// Copies the entries to their targets, by the ranks and hosts of the words. With `range` it copies files of more bytes by ranges.
+fn copy_entries<T: Threads + Sync, G: Wide>(
     rt: &T,
     alloc: Global,
     common: &Common,
+    range: Option<u64>,
     list: &FlatList,
     pairs: &[Pair],
     files: &mut G,
@@ -32,11 +34,14 @@ fn copy_entries<T: Threads + Sync, G: Ground>(
 where
     G::Reader: Send,
     G::Part: Send,
+    G::Span: Send,
     requires within { CommonWithin common.now }
+    requires range { IfSome range (λ n. 1 ≤ n) }
     requires lent { G.area files.old ≡ nothing_lent }
     requires can { CanCopy list.now pairs.now }
     requires fits { IfSome (G.tree files.old) (FitsTree list.now pairs.now) }
-    ensures copies { IfOk result (λ report. Copies pairs.now list.now report.0 (side_of (G.tree files.old) (G.count files.old)) (side_of (G.tree files.new) (G.count files.new))) }
+    ensures copies { IfOk result (λ report. Copies pairs.now list.now report.0 (side_of (G.tree files.old) (G.count files.old))
+        (side_of (G.tree files.new) (G.count files.new))) }
     ensures copied { IfOk result (λ report. report.1 ≡ count_by (λ row. is_done row.1) report.0) }
     ensures bytes { IfOk result (λ report. report.2 ≡ bytes_copied list.now report.0) }
     ensures rest { IfSome (G.tree files.old) (λ before. IfSome (G.tree files.new) (SameButTargets pairs.now list.now before)) }
@@ -44,14 +49,22 @@ where
     ensures lent { G.area files.new ≡ nothing_lent }
     ensures count { RoseBy 0 (G.count files.old) (G.count files.new) }
 {
-    copy(rt, alloc, list, pairs, files, common.ranks, common.hosts)
+    let (ranks, hosts) = (common.ranks, common.hosts);
+    let Some(piece) = range else {
+        return copy(rt, alloc, list, pairs, files, ranks, hosts);
+    };
+    match copy_wide(rt, alloc, list, pairs, piece, files, ranks, hosts) {
+        Ok(report) => Ok(report),
+        Err(RangeError::OutOfMemory) => Err(OutOfMemory),
+    }
 }
 
-/// Copies the entries to their targets, and makes the texts. Whatever it answers, every path that is no target is as before.
-pub(crate) fn copy_and_tell<T: Threads + Sync, G: Ground>(
+/// Copies the entries to their targets, and makes the texts. Whatever it answers, every path that is not a target is as before.
+pub(crate) fn copy_and_tell<T: Threads + Sync, G: Wide>(
     rt: &T,
     alloc: Global,
     common: &Common,
+    range: Option<u64>,
     list: &FlatList,
     pairs: &[Pair],
     files: &mut G,
@@ -59,21 +72,24 @@ pub(crate) fn copy_and_tell<T: Threads + Sync, G: Ground>(
 where
     G::Reader: Send,
     G::Part: Send,
+    G::Span: Send,
     requires within { CommonWithin common.now }
+    requires range { IfSome range (λ n. 1 ≤ n) }
     requires lent { G.area files.old ≡ nothing_lent }
     requires can { CanCopy list.now pairs.now }
     requires fits { IfSome (G.tree files.old) (FitsTree list.now pairs.now) }
-    ensures told { IfOk result (TellsCopies pairs.now list.now (side_of (G.tree files.old) (G.count files.old)) (side_of (G.tree files.new) (G.count files.new))) }
+    ensures told { IfOk result (TellsCopies pairs.now list.now (side_of (G.tree files.old) (G.count files.old))
+        (side_of (G.tree files.new) (G.count files.new))) }
     ensures rest { IfSome (G.tree files.old) (λ before. IfSome (G.tree files.new) (SameButTargets pairs.now list.now before)) }
     ensures tells { is_some (G.tree files.new) ≡ is_some (G.tree files.old) }
     ensures lent { G.area files.new ≡ nothing_lent }
     ensures count { RoseBy 0 (G.count files.old) (G.count files.new) }
 {
-    let copied = copy_entries(rt, alloc, common, list, pairs, files)?;
-    let done = copied.copied();
-    let bytes = copied.bytes();
-    let rows = copied.into_rows();
+    let outcome = copy_entries(rt, alloc, common, range, list, pairs, files)?;
+    let copied = outcome.copied();
+    let bytes = outcome.bytes();
+    let rows = outcome.into_rows();
     let notes = failures(alloc, list, &rows)?;
-    let report = copy_report(alloc, &rows, done, bytes, &notes)?;
+    let report = copy_report(alloc, &rows, copied, bytes, &notes)?;
     Ok(report)
 }

@@ -1,4 +1,4 @@
-//! What dcp does.
+//! The work of dcp.
 ghost use Rattle.std.specs.Prelude.{◌≡◌, [], Ok, IfOk, IfErr};
 ghost use Rattle.outside.specs.Count.{RoseBy};
 ghost use Rattle.outside.specs.Writes.{nothing_lent};
@@ -10,7 +10,7 @@ use crate::acting::copy_and_tell;
 use crate::placing::place_targets;
 use crate::printing::failed_report;
 use crate::walking::walk_sources;
-use outside::Ground;
+use outside::Wide;
 use path_text::Path;
 use run_report::{Report, Stop};
 use std::alloc::Global;
@@ -19,19 +19,21 @@ use std::thread::Threads;
 use tool_words::Common;
 use tree_copy::PlaceError;
 
-/// What dcp is asked for.
+/// The task of dcp.
 #[derive(Debug, Drop)]
 pub struct CopyTask {
-    /// How the walk is to go, and by how many ranks and hosts its entries are copied.
+    /// The settings of the walk, and the number of ranks and hosts that copy entries.
     pub common: Common,
-    /// What is copied, with all that is below it.
+    /// The sources, which are copied with everything below them.
     pub sources: Vec<Path>,
-    /// Where it is copied to: into the directory that is there, or, of one source, to this path.
+    /// The destination: an existing directory, into which they go, or, for one source, the path of its copy.
     pub dest: Path,
+    /// A file of more bytes than this is copied in ranges. Without it no file is.
+    pub range: Option<u64>,
 }
 
-/// Places the targets, walks the sources, copies what was found to its targets, and makes the texts.
-pub fn report_of_copy<T: Threads + Wait + Sync, G: Ground>(
+/// Places the targets, walks the sources, copies the entries to their targets, and makes the texts.
+pub fn report_of_copy<T: Threads + Wait + Sync, G: Wide>(
     rt: &T,
     alloc: Global,
     task: CopyTask,
@@ -40,10 +42,13 @@ pub fn report_of_copy<T: Threads + Wait + Sync, G: Ground>(
 where
     G::Reader: Send,
     G::Part: Send,
+    G::Span: Send,
     requires lent { G.area files.old ≡ nothing_lent }
     requires within { WithinCopy (copy_asked task) }
-    ensures reports { IfOk result (ReportsCopy (copy_asked task) (side_of (G.tree files.old) (G.count files.old)) (side_of (G.tree files.new) (G.count files.new))) }
-    ensures stops { IfErr result (StopsCopy (copy_asked task) (side_of (G.tree files.old) (G.count files.old)) (side_of (G.tree files.new) (G.count files.new))) }
+    ensures reports { IfOk result (ReportsCopy (copy_asked task) (side_of (G.tree files.old) (G.count files.old))
+        (side_of (G.tree files.new) (G.count files.new))) }
+    ensures stops { IfErr result (StopsCopy (copy_asked task) (side_of (G.tree files.old) (G.count files.old))
+        (side_of (G.tree files.new) (G.count files.new))) }
     ensures leaves { LeavesCopy (copy_asked task) (side_of (G.tree files.old) (G.count files.old)) (side_of (G.tree files.new) (G.count files.new)) }
     ensures lent { G.area files.new ≡ nothing_lent }
     ensures count { RoseBy 0 (G.count files.old) (G.count files.new) }
@@ -52,6 +57,7 @@ where
         common,
         sources,
         dest,
+        range,
     } = task;
     let pairs = match place_targets(alloc, &sources, &dest, files) {
         Ok(pairs) => pairs,
@@ -61,6 +67,6 @@ where
         Err(PlaceError::OutOfMemory) => return Err(Stop::OutOfMemory),
     };
     let list = walk_sources(rt, alloc, &common, sources, &pairs, files)?;
-    let report = copy_and_tell(rt, alloc, &common, &list, &pairs, files)?;
+    let report = copy_and_tell(rt, alloc, &common, range, &list, &pairs, files)?;
     Ok(report)
 }

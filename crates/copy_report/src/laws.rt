@@ -1,4 +1,4 @@
-//! Laws, each the contract of a function that does nothing.
+//! Laws, each the contract of a function with an empty body.
 ghost use Rattle.copy_report.specs.Laws.{FineCopySucceeds};
 
 use run_entries::{
@@ -9,7 +9,7 @@ use tool_text::nothing_to_order;
 use tree_copy::{fine_entries_are_copied, targets_are_long};
 use tree_walk::entries_are_told;
 
-/// Where nothing stands against dcp, it names nothing, and stops for want of memory alone.
+/// If nothing is in the way of dcp, it has no notes, and stops only if it is out of memory.
 pub fn fine_copy_succeeds()
     ensures { FineCopySucceeds }
 {

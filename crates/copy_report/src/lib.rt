@@ -1,16 +1,18 @@
-//! The room of dcp: it copies what it finds below some paths to a destination.
+//! The room of dcp: it walks trees, and copies them to a destination.
 //!
-//! [`report_of_copy`] does what dcp is asked for, which is a [`CopyTask`]: it places the targets of the sources at the destination,
-//! walks the sources, copies each entry to its target, from the top level down, and makes the texts.
+//! [`report_of_copy`] does a [`CopyTask`]. It places the targets of the sources at the destination and walks the sources. Then it
+//! copies each entry to its target, from the top level down, and makes the texts. If the task has a number of bytes, larger files
+//! are copied by ranges ([`range_copy`]). The report does not depend on that.
 //!
-//! - `copying` has that; `placing` has the look at the destination, `walking` the walk of the sources, and `acting` the copy.
-//! - `naming` has what is named, and `printing` the texts.
-//! - `laws` has when it succeeds.
+//! - `copying` has the task and all of its work.
+//! - `placing` has the look at the destination, `walking` the walk of the sources, and `acting` the copy.
+//! - `naming` has the notes, and `printing` the texts.
+//! - `laws` says when it succeeds.
 //!
-//! Proved: it answers what its four definitions say, which are in `specs/Copying`: what it reports, why it stops, what it may have
-//! changed, and when nothing stands against it; `specs/Placing` has where the sources go. Whatever it answers, also for want of
-//! memory, every path that is no target is as before. A law, in `specs/Laws`, says that what nothing stands against names nothing,
-//! and stops for want of memory alone ([`fine_copy_succeeds`]).
+//! Proved: it answers as its four definitions in `specs/Copying` say. They are its report, the reasons to stop, the paths that it
+//! may have changed, and the case in which nothing is in its way. `specs/Placing` defines the targets of the sources. Whatever it
+//! answers, every path that is not a target is as before, also if it is out of memory. A law in `specs/Laws` covers the case in
+//! which nothing is in its way. There are no notes then, and only a lack of memory stops it ([`fine_copy_succeeds`]).
 #![tactic(auto)]
 
 mod acting;

@@ -1,4 +1,4 @@
-//! What is named of a copy.
+//! The notes of a copy.
 ghost use Rattle.std.specs.Prelude.{IfOk};
 ghost use Rattle.tool_text.specs.NoteOrder.{AreInOrder};
 ghost use Rattle.copy_report.specs.Copying.{copy_failures};
@@ -10,7 +10,7 @@ use run_entries::{name_copies, name_entries};
 use std::alloc::Global;
 use tool_text::{Note, in_order};
 
-/// The notes of the entries and of the copies, in their order.
+/// The notes of the entries and of the copies, in order.
 pub(crate) fn failures(
     alloc: Global,
     list: &FlatList,

@@ -9,8 +9,7 @@ use run_report::Report;
 use std::alloc::Global;
 use tool_text::{Note, Text, Why, put_line, put_notes};
 
-/// The report of a copy, of which so many rows are done and so many bytes were copied: the line of its numbers, and a line for each
-/// note.
+/// The report of a copy of so many entries and bytes: the line with the numbers, and a line for each note.
 pub(crate) fn copy_report(
     alloc: Global,
     rows: &[(Path, Fate)],
@@ -25,7 +24,7 @@ pub(crate) fn copy_report(
     report_of(alloc, copied, rows.len() as u64, bytes, named)
 }
 
-/// The report where the look at this path failed, and so nothing was copied.
+/// The report if the look at this path failed, so that nothing was copied.
 pub(crate) fn failed_report(alloc: Global, path: Path) -> Result<Report, OutOfMemory>
     ensures out { IfOk result (λ report. report.out ≡ copied_line 0 0 0 1) }
     ensures notes { IfOk result (λ report. report.notes ≡ note_lines (record { path = path; why = Why.FailedStat; dest = false } ∷ [])) }

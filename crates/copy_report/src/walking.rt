@@ -21,7 +21,7 @@ use tool_words::Common;
 use tree_copy::Pair;
 use tree_walk::{entries_are_told, entries_have_parents};
 
-/// Walks the sources, which are placed: entries that can be copied to their targets.
+/// Walks the sources, whose targets are placed: entries that can be copied to their targets.
 pub(crate) fn walk_sources<T: Threads + Wait + Sync, G: Ground>(
     rt: &T,
     alloc: Global,
@@ -34,11 +34,13 @@ where
     G::Reader: Send,
     requires within { CommonWithin common.now }
     requires placed { ArePlaced sources.items (G.tree files.old) pairs.now }
-    ensures walked { IfOk result (λ list. Walked sources.items list (side_of (G.tree files.old) (G.count files.old)) (side_of (G.tree files.new) (G.count files.new))) }
+    ensures walked { IfOk result (λ list. Walked sources.items list (side_of (G.tree files.old) (G.count files.old))
+        (side_of (G.tree files.new) (G.count files.new))) }
     ensures few { IfOk result (λ list. length list ≤ 4194304) }
     ensures can { IfOk result (λ list. CanCopy list pairs.now) }
     ensures fits { IfOk result (λ list. IfSome (G.tree files.old) (FitsTree list pairs.now)) }
-    ensures stopped { IfErr result (StopsListing (roots sources.items) (side_of (G.tree files.old) (G.count files.old)) (side_of (G.tree files.new) (G.count files.new))) }
+    ensures stopped { IfErr result (StopsListing (roots sources.items) (side_of (G.tree files.old) (G.count files.old))
+        (side_of (G.tree files.new) (G.count files.new))) }
     ensures same { G.tree files.new ≡ G.tree files.old }
     ensures area { G.area files.new ≡ G.area files.old }
     ensures count { RoseBy 0 (G.count files.old) (G.count files.new) }

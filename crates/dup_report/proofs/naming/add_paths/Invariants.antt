@@ -1,0 +1,7 @@
+use Rattle.std.proofs.Common.{◌≡◌, ◌++◌, take}
+use Rattle.dup_report.specs.Grouping.{path_notes}
+use Rattle.dup_report.proofs.naming.add_paths.Given as goal
+
+-- the notes of the paths that were passed
+abbrev pub invariant-loop-path : goal.invariant-loop-path
+invariant-loop-path l = l.notes.items ≡ l.fn.notes.items ++ path_notes l.why (take l.path-index l.paths)

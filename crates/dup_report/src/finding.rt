@@ -1,0 +1,77 @@
+//! The walk, and the groups of the files that it lists.
+ghost use Rattle.std.specs.Prelude.{◌≡◌, ◌≤◌, length, IfOk, IfErr, IfSome};
+ghost use Rattle.std.specs.List.Sorted.{IsStrictlySortedBy};
+ghost use Rattle.path_text.specs.Order.{path_cmp};
+ghost use Rattle.outside.specs.Count.{RoseBy};
+ghost use Rattle.flat_list.specs.Spelling.{paths};
+ghost use Rattle.tree_cmp.specs.Readers.{StatsTold};
+ghost use Rattle.tree_dup.specs.Grouping.{IsGrouping};
+ghost use Rattle.tool_words.specs.Asked.{roots};
+ghost use Rattle.tool_words.specs.Limits.{CommonWithin};
+ghost use Rattle.run_report.specs.Sides.{side_of};
+ghost use Rattle.run_entries.specs.Entries.{Walked};
+ghost use Rattle.run_entries.specs.Stopping.{StopsListing};
+
+use flat_list::FlatList;
+use outside::Ground;
+use path_text::{OutOfMemory, Path};
+use run_entries::{Entries, walk_side};
+use run_report::Stop;
+use std::alloc::Global;
+use std::sync::Wait;
+use std::thread::Threads;
+use tool_words::Common;
+use tree_dup::{DupError, Groups, group_files};
+use tree_walk::entries_are_told;
+
+/// Walks the roots of these paths.
+pub(crate) fn walk_listed<T: Threads + Wait + Sync, G: Ground>(
+    rt: &T,
+    alloc: Global,
+    common: &Common,
+    given: Vec<Path>,
+    files: &mut G,
+) -> Result<FlatList, Stop>
+where
+    G::Reader: Send,
+    requires within { CommonWithin common.now }
+    ensures walked { IfOk result (λ list. Walked given.items list (side_of (G.tree files.old) (G.count files.old))
+        (side_of (G.tree files.new) (G.count files.new))) }
+    ensures few { IfOk result (λ list. length list ≤ 4194304) }
+    ensures ascend { IfOk result (λ list. IsStrictlySortedBy path_cmp (paths list)) }
+    ensures told { IfOk result (λ list. IfSome (G.tree files.old) (λ tree. StatsTold tree list)) }
+    ensures stopped { IfErr result (StopsListing (roots given.items) (side_of (G.tree files.old) (G.count files.old))
+        (side_of (G.tree files.new) (G.count files.new))) }
+    ensures same { G.tree files.new ≡ G.tree files.old }
+    ensures area { G.area files.new ≡ G.area files.old }
+    ensures count { RoseBy 0 (G.count files.old) (G.count files.new) }
+{
+    entries_are_told();
+    let Entries { list, .. } = walk_side(rt, alloc, common, given, files)?;
+    Ok(list)
+}
+
+/// Groups the files of the list, with a reader for each host.
+pub(crate) fn group_listed<T: Threads + Sync, G: Ground>(
+    rt: &T,
+    alloc: Global,
+    hosts: u32,
+    list: &FlatList,
+    files: &mut G,
+) -> Result<Groups, OutOfMemory>
+where
+    G::Reader: Send,
+    requires hosts { (1 ≤ hosts) × (hosts ≤ 64) }
+    requires ascend { IsStrictlySortedBy path_cmp (paths list.now) }
+    requires told { IfSome (G.tree files.old) (λ tree. StatsTold tree list.now) }
+    ensures groups { IfOk result (IsGrouping (G.tree files.old) list.now) }
+    ensures counted { IfOk result (λ found. RoseBy (length found.failed) (G.count files.old) (G.count files.new)) }
+    ensures same { G.tree files.new ≡ G.tree files.old }
+    ensures area { G.area files.new ≡ G.area files.old }
+    ensures count { RoseBy 0 (G.count files.old) (G.count files.new) }
+{
+    match group_files(rt, alloc, list, files, hosts) {
+        Ok(groups) => Ok(groups),
+        Err(DupError::OutOfMemory) => Err(OutOfMemory),
+    }
+}

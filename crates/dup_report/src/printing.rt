@@ -1,0 +1,30 @@
+//! The texts of groups.
+ghost use Rattle.std.specs.Prelude.{◌≡◌, ◌<◌, ◌^◌, length, IfOk};
+ghost use Rattle.std.specs.List.{sum_by};
+ghost use Rattle.tool_text.specs.Groups.{file_count, groups_text};
+ghost use Rattle.tool_text.specs.Notes.{note_lines};
+
+use path_text::OutOfMemory;
+use run_report::Report;
+use std::alloc::Global;
+use tool_text::{Note, Text, put_groups, put_notes};
+use tree_dup::Groups;
+
+/// The report of groups: the lines of each group, the line with the numbers, and a line for each note.
+pub(crate) fn dup_report(
+    alloc: Global,
+    found: &Groups,
+    named: &[Note],
+) -> Result<Report, OutOfMemory>
+    requires few { sum_by file_count found.now.groups < 2 ^ 64 }
+    ensures out { IfOk result (λ report. report.out ≡ groups_text found.now.groups (length named.now)) }
+    ensures notes { IfOk result (λ report. report.notes ≡ note_lines named.now) }
+    ensures failed { IfOk result (λ report. report.failed ≡ length named.now) }
+{
+    let failed = named.len() as u64;
+    let mut out = Text::make(alloc);
+    put_groups(&mut out, found, failed)?;
+    let mut notes = Text::make(alloc);
+    put_notes(&mut notes, named)?;
+    Ok(Report { failed, out, notes })
+}
