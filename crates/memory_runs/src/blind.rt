@@ -11,8 +11,8 @@ use std::marker::Model;
 use std::sync::Wait;
 use std::thread::Threads;
 
-/// Files in memory that tell no tree and of which no part is lent, so that a run can go over them. They are seen as their count
-/// of faults and where they may be written.
+/// Files in memory that tell no tree. No part of them is lent, so that a run can go over them. They are seen as their count of
+/// faults and where they may be written.
 #[derive(Drop)]
 pub struct WholeBlind {
     files: Blind,
@@ -33,7 +33,7 @@ impl Model for WholeBlind {
 }
 
 impl WholeBlind {
-    /// These files, with their faults and what is planned to fail.
+    /// These files, with their faults and the calls that are planned to fail.
     pub fn make(files: WholeFiles) -> WholeBlind
         ensures { result.count ≡ files.count }
     {
@@ -41,14 +41,21 @@ impl WholeBlind {
         WholeBlind { files }
     }
 
-    /// Later looks at the path tell a directory of size 0 without a time.
+    /// Later looks at the path answer a directory of size 0 without a time.
     pub fn lie(&mut self, path: &Path) -> Result<(), OutOfMemory>
         ensures { self.new ≡ self.old }
     {
         self.files.lie(path)
     }
 
-    /// Later looks at one of the two paths wait for one at the other, and fail where none comes.
+    /// Later looks at a file at the path answer one byte more than it has.
+    pub fn swell(&mut self, path: &Path) -> Result<(), OutOfMemory>
+        ensures { self.new ≡ self.old }
+    {
+        self.files.swell(path)
+    }
+
+    /// Later looks at one of the two paths wait for one at the other, and fail if none comes.
     pub fn meet(&mut self, one: &Path, other: &Path) -> Result<(), OutOfMemory>
         ensures { self.new ≡ self.old }
     {

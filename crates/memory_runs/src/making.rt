@@ -1,4 +1,4 @@
-//! Nodes that lines put.
+//! Nodes that lines make.
 use crate::troubles::Trouble;
 use crate::whole::WholeFiles;
 use files_mem::Call;
@@ -6,7 +6,7 @@ use outside::LinkText;
 use path_text::Path;
 use std::alloc::Global;
 
-/// A node that a line puts.
+/// A node that a line makes.
 #[derive(Drop)]
 pub(crate) struct Making {
     kind: Kind,
@@ -41,7 +41,7 @@ fn kind_of(word: &str) -> Option<Kind> {
 }
 
 impl Making {
-    /// What the words of a line put, if they put anything.
+    /// The node that the words of a line make, if they make one.
     pub(crate) fn of(alloc: Global, words: &[String]) -> Result<Option<Making>, Trouble> {
         let [word, path, rest @ ..] = words else {
             return Ok(None);
@@ -84,13 +84,13 @@ impl Making {
         Ok(())
     }
 
-    /// Adds to its text.
+    /// Adds bytes to its text.
     pub(crate) fn add(&mut self, text: &str) -> Result<(), Trouble> {
         self.text.push_str(text)?;
         Ok(())
     }
 
-    /// Puts the node.
+    /// Makes the node.
     pub(crate) fn put(self, alloc: Global, files: &mut WholeFiles) -> Result<(), Trouble> {
         match self.kind {
             Kind::Dir => files.put_dir(&self.path, self.far, self.time)?,
@@ -105,7 +105,7 @@ impl Making {
     }
 }
 
-/// The number that a word is.
+/// The number of a word.
 pub(crate) fn number_of(word: &str) -> Result<u64, Trouble> {
     script_lines::number(word).ok_or(Trouble::Number)
 }

@@ -1,4 +1,4 @@
-//! Scripts, and what their lines answer.
+//! Scripts, and the answers of their lines.
 use crate::troubles::Trouble;
 use crate::worlds::World;
 use script_lines::{is_answer, is_remark, meant_by, words_of};
@@ -6,7 +6,7 @@ use std::alloc::{AllocError, Global};
 use std::sync::Wait;
 use std::thread::Threads;
 
-/// The script with what its lines answer, where these words stand behind those of each line `>>`.
+/// The script with the answers of its lines. These words follow those of each line `>>`.
 pub fn transcript<T: Threads + Wait + Sync>(
     rt: &T,
     alloc: Global,
@@ -47,7 +47,7 @@ fn tell_trouble(done: Result<(), Trouble>, told: &mut String) -> Result<(), Allo
     }
 }
 
-// Does what a line says, and adds what it answers.
+// Does a line, and adds its answer.
 fn answer<T: Threads + Wait + Sync>(
     rt: &T,
     alloc: Global,

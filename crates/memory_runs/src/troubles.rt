@@ -7,7 +7,7 @@ use std::alloc::{AllocError, AllocFailed};
 /// Why a line of a script is not done.
 #[derive(Clone, Copy, Debug, Drop, PartialEq, Eq)]
 pub enum Trouble {
-    /// It says nothing that is known.
+    /// Its first word is not known.
     Line,
     /// A word is not a path.
     Path,
@@ -15,18 +15,18 @@ pub enum Trouble {
     Number,
     /// A word is not the text of a link.
     Link,
-    /// A node is not put, for this reason.
+    /// A node is not made, for this reason.
     Put(PutError),
-    /// No file is there.
+    /// There is no such file.
     File,
-    /// It asks of blind files for more than these can do, or of others for what blind ones do.
+    /// It asks blind files for more than they can do, or other files for something that only blind ones do.
     Blind,
-    /// No memory was found.
+    /// Out of memory.
     Memory,
 }
 
 impl Trouble {
-    /// What is printed of it.
+    /// Its text.
     pub fn text(self) -> &'static str {
         match self {
             Trouble::Line => "? no such line\n",

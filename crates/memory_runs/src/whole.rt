@@ -49,7 +49,7 @@ impl WholeFiles {
         self.files
     }
 
-    /// Puts a directory, with so many children whose path would be too long.
+    /// Puts a directory. The path of `far` of its children would be too long.
     pub fn put_dir(&mut self, path: &Path, far: u64, mtime: Option<u64>) -> Result<(), PutError> {
         match self.files.put_dir(path, far, mtime) {
             Ok(()) => Ok(()),
@@ -83,7 +83,7 @@ impl WholeFiles {
         }
     }
 
-    /// Puts what is none of these.
+    /// Puts an entry of another kind.
     pub fn put_other(&mut self, path: &Path, mtime: Option<u64>) -> Result<(), PutError> {
         match self.files.put_other(path, mtime) {
             Ok(()) => Ok(()),

@@ -1,4 +1,4 @@
-//! What the lines of a script are done over.
+//! The files, sinks and time of a script.
 use crate::blind::WholeBlind;
 use crate::making::{Making, call_of, number_of};
 use crate::troubles::Trouble;
@@ -56,7 +56,7 @@ impl World {
         }
     }
 
-    /// Puts the node that waits for further lines.
+    /// Makes the node that waits for further lines.
     pub(crate) fn settle(&mut self, alloc: Global) -> Result<(), Trouble> {
         match self.waits.take() {
             Some(made) => made.put(alloc, self.whole()?),
@@ -64,7 +64,7 @@ impl World {
         }
     }
 
-    /// Adds a line to the file that was put last.
+    /// Adds a line to the file that a line made last.
     pub(crate) fn add_line(&mut self, text: &str, end: &str) -> Result<(), Trouble> {
         let Some(made) = &mut self.waits else {
             return Err(Trouble::File);
@@ -73,7 +73,7 @@ impl World {
         made.add(end)
     }
 
-    /// Does what the words of a line say of the world.
+    /// Does the words of a line that are about the files, sinks and time.
     pub(crate) fn make(&mut self, alloc: Global, words: &[String]) -> Result<(), Trouble> {
         self.settle(alloc)?;
         self.waits = Making::of(alloc, words)?;
@@ -84,13 +84,14 @@ impl World {
             [word] if word.as_str() == "fresh" => self.renew(alloc),
             [word] if word.as_str() == "blind" => self.turn_blind(alloc),
             [word, at] if word.as_str() == "lie" => self.lie(&Path::parse(alloc, at)?),
+            [word, at] if word.as_str() == "swell" => self.swell(&Path::parse(alloc, at)?),
             [word, at] if word.as_str() == "now" => self.turn_to(number_of(at)?),
             [word, one, other] => self.make_of_two(alloc, word, one, other),
             _ => Err(Trouble::Line),
         }
     }
 
-    // The same of a word with two more behind it.
+    // The same for a word with two more after it.
     fn make_of_two(
         &mut self,
         alloc: Global,
@@ -136,6 +137,11 @@ impl World {
         Ok(())
     }
 
+    fn swell(&mut self, path: &Path) -> Result<(), Trouble> {
+        self.blind()?.swell(path)?;
+        Ok(())
+    }
+
     fn meet(&mut self, one: &Path, other: &Path) -> Result<(), Trouble> {
         self.blind()?.meet(one, other)?;
         Ok(())
@@ -149,7 +155,7 @@ impl World {
         Ok(())
     }
 
-    /// Runs the words, and adds what that writes and comes to.
+    /// Runs the words, and adds the two texts and the status.
     pub(crate) fn run<T: Threads + Wait + Sync>(
         &mut self,
         rt: &T,

@@ -1,8 +1,8 @@
-//! A program to measure with: `memory_walk N [WORD ..]` makes a tree in memory of one root, N directories and 999 files in each, and
-//! runs these words over it: `dwalk /` where there are none.
+//! A program for measurements: `memory_walk N [WORD ...]` makes a tree in memory and runs these words over it (default
+//! `dwalk /`). The tree has one root with N directories (default 1), and 999 files in each.
 //!
-//! Standard output has how many nodes the tree has, how the run ended and how many bytes it printed; standard error has the time
-//! that the tree took and the one that the run took. N is 1 where no number is given.
+//! Standard output has the number of nodes of the tree, the status of the run and the number of bytes that it printed.
+//! Standard error has the time to make the tree and the time of the run.
 #![tactic(auto)]
 
 use memory_runs::WholeFiles;
@@ -52,7 +52,7 @@ fn main(rt: HostRuntime) -> io::Result<()> {
     )
 }
 
-// Puts the directories and their files, and tells how many nodes the tree then has; None where no memory was found.
+// Puts the directories and their files, and answers how many nodes the tree then has; `None` if out of memory.
 fn make_tree(alloc: Global, files: &mut WholeFiles, directories: u32) -> Option<u64> {
     let mut nodes = 1u64;
     for directory in 0..directories {

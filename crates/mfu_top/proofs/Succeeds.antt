@@ -1,8 +1,9 @@
 -- When a run succeeds, a line a tool.
 use Rattle.std.proofs.Common.{inl, ℕ}
-use Rattle.tool_words.specs.Asked.{Asked, list, stage, compare, copy, sync, remove, test}
+use Rattle.tool_words.specs.Asked.{Asked, list, stage, compare, copy, sync, dup, remove, test}
 use Rattle.compare_report.specs.Laws.{FineCompareSucceeds}
 use Rattle.copy_report.specs.Laws.{FineCopySucceeds}
+use Rattle.dup_report.specs.Laws.{FineDupSucceeds}
 use Rattle.list_report.specs.Laws.{FineListSucceeds, FineTestSucceeds}
 use Rattle.remove_report.specs.Laws.{FineRemoveSucceeds}
 use Rattle.stage_report.specs.Laws.{FineStageSucceeds}
@@ -18,6 +19,7 @@ pub record Rooms : Type 0 where
   pub compares : FineCompareSucceeds
   pub copies : FineCopySucceeds
   pub syncs : FineSyncSucceeds
+  pub dups : FineDupSucceeds
   pub removes : FineRemoveSucceeds
   pub tests : FineTestSucceeds
 
@@ -33,6 +35,7 @@ succeeds rooms (stage asked) now before after within fine =
 succeeds rooms (compare asked) now before after within fine = in_time (compare asked) now before after (rooms.compares asked before after within fine)
 succeeds rooms (copy asked) now before after within fine = in_time (copy asked) now before after (rooms.copies asked before after within fine)
 succeeds rooms (sync asked) now before after within fine = in_time (sync asked) now before after (rooms.syncs asked before after within fine)
+succeeds rooms (dup asked) now before after within fine = in_time (dup asked) now before after (rooms.dups asked before after within fine)
 succeeds rooms (remove asked) now before after within fine = in_time (remove asked) now before after (rooms.removes asked now before after within fine)
 succeeds rooms (test asked) now before after within fine =
     let s = rooms.tests asked now within fine in

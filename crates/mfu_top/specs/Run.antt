@@ -1,7 +1,7 @@
 -- What a run does, a line a tool. Each word stands in the tool's own room.
 use Rattle.std.specs.Prelude.{◌≡◌, ◌⊎◌, ℕ, Bool, true, false, is_some}
 use Rattle.tool_words.specs.Limits.{Within}
-use Rattle.tool_words.specs.Asked.{Asked, list, stage, compare, copy, sync, remove, test}
+use Rattle.tool_words.specs.Asked.{Asked, list, stage, compare, copy, sync, dup, remove, test}
 use Rattle.run_report.specs.declared.reports.Report.{Report}
 use Rattle.run_report.specs.declared.statuses.Status.{Status}
 use Rattle.run_report.specs.declared.statuses.Status.TheVariants as status
@@ -10,6 +10,7 @@ use Rattle.run_report.specs.declared.stops.Stop.TheVariants as stop
 use Rattle.run_report.specs.Sides.{Side}
 use Rattle.compare_report.specs.Comparing.{ReportsCompare, StopsCompare, LeavesCompare, FineCompare}
 use Rattle.copy_report.specs.Copying.{ReportsCopy, StopsCopy, LeavesCopy, FineCopy}
+use Rattle.dup_report.specs.Grouping.{ReportsDup, StopsDup, LeavesDup, FineDup}
 use Rattle.list_report.specs.Lists.{ReportsList, StopsList, LeavesList, FineList}
 use Rattle.list_report.specs.Tests.{ReportsTest, StopsTest, LeavesTest, FineTest}
 use Rattle.remove_report.specs.Removing.{ReportsRemove, StopsRemove, LeavesRemove, FineRemove}
@@ -23,6 +24,7 @@ Reports (stage asked) now before after report = ReportsStage asked before after 
 Reports (compare asked) now before after report = ReportsCompare asked before after report
 Reports (copy asked) now before after report = ReportsCopy asked before after report
 Reports (sync asked) now before after report = ReportsSync asked before after report
+Reports (dup asked) now before after report = ReportsDup asked before after report
 Reports (remove asked) now before after report = ReportsRemove asked now before after report
 Reports (test asked) now before after report = ReportsTest asked now report
 
@@ -33,6 +35,7 @@ Stops (stage asked) before after why = StopsStage asked before after why
 Stops (compare asked) before after why = StopsCompare asked before after why
 Stops (copy asked) before after why = StopsCopy asked before after why
 Stops (sync asked) before after why = StopsSync asked before after why
+Stops (dup asked) before after why = StopsDup asked before after why
 Stops (remove asked) before after why = StopsRemove asked before after why
 Stops (test asked) before after why = StopsTest why
 
@@ -43,6 +46,7 @@ Leaves (stage asked) now before after = LeavesStage asked before.tree after.tree
 Leaves (compare asked) now before after = LeavesCompare asked before.tree after.tree
 Leaves (copy asked) now before after = LeavesCopy asked before after
 Leaves (sync asked) now before after = LeavesSync asked before.tree after.tree
+Leaves (dup asked) now before after = LeavesDup before.tree after.tree
 Leaves (remove asked) now before after = LeavesRemove asked now before after
 Leaves (test asked) now before after = LeavesTest before.tree after.tree
 
@@ -53,6 +57,7 @@ is_apart (stage asked) = false
 is_apart (compare asked) = false
 is_apart (copy asked) = false
 is_apart (sync asked) = false
+is_apart (dup asked) = false
 is_apart (remove asked) = false
 is_apart (test asked) = true
 
@@ -63,6 +68,7 @@ Fine (stage asked) now before after = FineStage asked before after
 Fine (compare asked) now before after = FineCompare asked before after
 Fine (copy asked) now before after = FineCopy asked before after
 Fine (sync asked) now before after = FineSync asked before after
+Fine (dup asked) now before after = FineDup asked before after
 Fine (remove asked) now before after = FineRemove asked now before after
 Fine (test asked) now before after = FineTest asked
 
@@ -73,6 +79,7 @@ may_stop (stage asked) = is_some asked.stop_after
 may_stop (compare asked) = false
 may_stop (copy asked) = false
 may_stop (sync asked) = false
+may_stop (dup asked) = false
 may_stop (remove asked) = false
 may_stop (test asked) = false
 

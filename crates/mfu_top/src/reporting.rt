@@ -1,4 +1,4 @@
-//! What is asked for, done up to the texts, a line a tool.
+//! The work of each tool, up to the texts, a line a tool.
 ghost use Rattle.std.specs.Prelude.{◌≡◌, [], IfOk, IfErr, true};
 ghost use Rattle.outside.specs.Count.{RoseBy};
 ghost use Rattle.outside.specs.Writes.{nothing_lent};
@@ -10,8 +10,9 @@ ghost use Rattle.mfu_top.specs.Run.{Reports, Stops, Leaves, is_apart};
 use crate::walks::{report_of_walk, walk_task};
 use compare_report::{CompareTask, report_of_compare};
 use copy_report::{CopyTask, report_of_copy};
+use dup_report::{DupTask, report_of_dup};
 use list_report::{ListTask, TestTask, report_of_list, report_of_test};
-use outside::Ground;
+use outside::Wide;
 use remove_report::{RemoveTask, report_of_remove};
 use run_report::{Report, Stop};
 use std::alloc::Global;
@@ -20,8 +21,8 @@ use std::thread::Threads;
 use sync_report::{SyncTask, report_of_sync};
 use tool_words::Command;
 
-/// Does what is asked for, and makes the texts.
-pub(crate) fn report_of<T: Threads + Wait + Sync, G: Ground>(
+/// Does the command, and makes the texts.
+pub(crate) fn report_of<T: Threads + Wait + Sync, G: Wide>(
     rt: &T,
     alloc: Global,
     command: Command,
@@ -31,9 +32,11 @@ pub(crate) fn report_of<T: Threads + Wait + Sync, G: Ground>(
 where
     G::Reader: Send,
     G::Part: Send,
+    G::Span: Send,
     requires lent { G.area files.old ≡ nothing_lent }
     requires within { Within (asked_by command) }
-    ensures reports { IfOk result (Reports (asked_by command) now (side_of (G.tree files.old) (G.count files.old)) (side_of (G.tree files.new) (G.count files.new))) }
+    ensures reports { IfOk result (Reports (asked_by command) now (side_of (G.tree files.old) (G.count files.old))
+        (side_of (G.tree files.new) (G.count files.new))) }
     ensures stops { IfErr result (Stops (asked_by command) (side_of (G.tree files.old) (G.count files.old)) (side_of (G.tree files.new) (G.count files.new))) }
     ensures leaves { Leaves (asked_by command) now (side_of (G.tree files.old) (G.count files.old)) (side_of (G.tree files.new) (G.count files.new)) }
     ensures apart { is_apart (asked_by command) ≡ true → files.new ≡ files.old }
@@ -88,11 +91,13 @@ where
             common,
             sources,
             dest,
+            range,
         } => {
             let task = CopyTask {
                 common,
                 sources,
                 dest,
+                range,
             };
             report_of_copy(rt, alloc, task, files)
         }
@@ -109,6 +114,9 @@ where
                 delete,
             };
             report_of_sync(rt, alloc, task, files)
+        }
+        Command::Dup { common, roots } => {
+            report_of_dup(rt, alloc, DupTask { common, roots }, files)
         }
         Command::Remove {
             common,

@@ -17,17 +17,24 @@ ghost use Rattle.mfu_top.specs.Run.{Reports, Stops, Leaves, is_apart, Fine, Ende
 
 use crate::laws::fine_runs_succeed;
 use crate::reporting::report_of;
-use outside::{Ground, Sink};
+use outside::{Sink, Wide};
 use run_report::{Status, end_refused, end_stopped};
 use std::alloc::Global;
 use std::sync::Wait;
 use std::thread::Threads;
 use tool_words::{Command, WordsError, read_words, words_ask_within_limits};
 
-/// Does all that the program does, in this order: reads the words; places the targets of a copy or a sync; looks at the paths of
-/// `--newer`; reads a list or a checkpoint, or walks; writes a checkpoint where the walk was cut, and else copies it, syncs by it, removes what is chosen of it, or writes it to a file, where that is asked for;
-/// writes `out`, and then `notes`. All memory is taken before the first byte goes to `out`. `now` is in seconds since 1970. The status's number is the program's exit status.
-pub fn run<T: Threads + Wait + Sync, G: Ground + Send, O: Sink, E: Sink>(
+/// The whole work of the program, in this order:
+///
+/// 1. It reads the words.
+/// 2. It places the targets of a copy or a sync, and looks at the paths of `--newer`.
+/// 3. It reads a list or a checkpoint, or walks.
+/// 4. It writes a checkpoint if the walk was cut. Otherwise it copies, syncs, groups, removes or saves the entries, as asked.
+/// 5. It writes `out`, and then `notes`.
+///
+/// All memory is taken before the first byte goes to `out`. `now` is in seconds since 1970. The number of the status is the
+/// program's exit status.
+pub fn run<T: Threads + Wait + Sync, G: Wide + Send, O: Sink, E: Sink>(
     rt: &T,
     alloc: Global,
     words: &[String],
@@ -39,15 +46,18 @@ pub fn run<T: Threads + Wait + Sync, G: Ground + Send, O: Sink, E: Sink>(
 where
     G::Reader: Send,
     G::Part: Send,
+    G::Span: Send,
     // No part of the files is lent to anybody, and none is after the run.
     requires lent { G.area files.old ≡ nothing_lent }
     ensures lent { G.area files.new ≡ nothing_lent }
 
     // Every path of the files but those that the tool may change is as before, and no count falls.
-    ensures rest { IfOk (reading (map string_bytes words.now)) (λ asked. Leaves asked now (side_of (G.tree files.old) (G.count files.old)) (side_of (G.tree files.new) (G.count files.new))) }
+    ensures rest { IfOk (reading (map string_bytes words.now))
+        (λ asked. Leaves asked now (side_of (G.tree files.old) (G.count files.old)) (side_of (G.tree files.new) (G.count files.new))) }
     // A tool that has nothing to do with the files leaves them alone.
     ensures apart { IfOk (reading (map string_bytes words.now)) (λ asked. is_apart asked ≡ true → files.new ≡ files.old) }
-    ensures counts { RoseBy 0 (G.count files.old) (G.count files.new) × RoseBy 0 (O.count out.old) (O.count out.new) × RoseBy 0 (E.count notes.old) (E.count notes.new) }
+    ensures counts { RoseBy 0 (G.count files.old) (G.count files.new) × RoseBy 0 (O.count out.old) (O.count out.new)
+        × RoseBy 0 (E.count notes.old) (E.count notes.new) }
 
     // Words that are refused end with status 2 and the line of the first offence, and nothing is looked at then; or with status 3.
     ensures words { result ≡ Status.Words → IfErr (reading (map string_bytes words.now)) (λ e. (files.new ≡ files.old) × (out.new ≡ out.old)
@@ -65,13 +75,16 @@ where
         (stream_of (E.text notes.old) (E.count notes.old)) (stream_of (E.text notes.new) (E.count notes.new))) }
 
     // Status 3: want of memory, with its line and nothing else.
-    ensures memory { result ≡ Status.Memory → (out.new ≡ out.old) × GrewByLine memory_line (stream_of (E.text notes.old) (E.count notes.old)) (stream_of (E.text notes.new) (E.count notes.new)) }
+    ensures memory { result ≡ Status.Memory → (out.new ≡ out.old)
+        × GrewByLine memory_line (stream_of (E.text notes.old) (E.count notes.old)) (stream_of (E.text notes.new) (E.count notes.new)) }
 
     // Status 4: a sink failed, and holds a prefix of its text. After a fault of `out` nothing goes to `notes`.
     ensures sink { result ≡ Status.Sink → IfOk (reading (map string_bytes words.now)) (λ asked. (report : Report)
         × Reports asked now (side_of (G.tree files.old) (G.count files.old)) (side_of (G.tree files.new) (G.count files.new)) report
-        × ((RoseBy 1 (O.count out.old) (O.count out.new) × GrewBySome report.out (stream_of (O.text out.old) (O.count out.old)) (stream_of (O.text out.new) (O.count out.new)) × (notes.new ≡ notes.old))
-        ⊎ (RoseBy 1 (E.count notes.old) (E.count notes.new) × Grew report.out (stream_of (O.text out.old) (O.count out.old)) (stream_of (O.text out.new) (O.count out.new))
+        × ((RoseBy 1 (O.count out.old) (O.count out.new) × GrewBySome report.out (stream_of (O.text out.old) (O.count out.old))
+        (stream_of (O.text out.new) (O.count out.new)) × (notes.new ≡ notes.old))
+        ⊎ (RoseBy 1 (E.count notes.old) (E.count notes.new) × Grew report.out (stream_of (O.text out.old) (O.count out.old))
+        (stream_of (O.text out.new) (O.count out.new))
         × GrewBySome report.notes (stream_of (E.text notes.old) (E.count notes.old)) (stream_of (E.text notes.new) (E.count notes.new))))) }
 
     // Each other status comes for a reason of the tool, and with its line. Nothing is printed.
@@ -80,7 +93,8 @@ where
         × GrewByLine (stop_line why) (stream_of (E.text notes.old) (E.count notes.old)) (stream_of (E.text notes.new) (E.count notes.new))) }
 
     // When a run succeeds, or stops with a checkpoint where its words say so: nothing stands against it, and no sink fails.
-    ensures complete { IfOk (reading (map string_bytes words.now)) (λ asked. Fine asked now (side_of (G.tree files.old) (G.count files.old)) (side_of (G.tree files.new) (G.count files.new))
+    ensures complete { IfOk (reading (map string_bytes words.now))
+        (λ asked. Fine asked now (side_of (G.tree files.old) (G.count files.old)) (side_of (G.tree files.new) (G.count files.new))
         → StoodStill (O.count out.old) (O.count out.new) → StoodStill (E.count notes.old) (E.count notes.new) → EndedWell asked result) }
 {
     fine_runs_succeed();

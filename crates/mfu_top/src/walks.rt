@@ -1,4 +1,4 @@
-//! What the words of dwalk ask for: a list, or a stage of a walk.
+//! The command of dwalk: a list, or a stage of a walk.
 ghost use Rattle.std.specs.Prelude.{◌≡◌, [], IfOk, IfErr, None};
 ghost use Rattle.outside.specs.Count.{RoseBy};
 ghost use Rattle.outside.specs.Writes.{nothing_lent};
@@ -19,16 +19,16 @@ use std::sync::Wait;
 use std::thread::Threads;
 use tool_words::{Command, Common, Start};
 
-/// What a dwalk is to do.
+/// The work of a dwalk.
 #[derive(Drop)]
 pub(crate) enum WalkTask {
     /// A list, of a walk or of a list file.
     List(ListTask),
-    /// A walk that may stop, or goes on.
+    /// A walk that may stop, or that continues.
     Stage(StageTask),
 }
 
-/// What words with this start, these outputs, this stop and this folder of lists ask for.
+/// The work for this start, these outputs, this stop and this directory of a checkpoint.
 pub(crate) fn walk_task(
     common: Common,
     start: Start,
@@ -90,7 +90,8 @@ where
     G::Reader: Send,
     requires lent { G.area files.old ≡ nothing_lent }
     requires within { Within (asked_of task) }
-    ensures reports { IfOk result (Reports (asked_of task) now (side_of (G.tree files.old) (G.count files.old)) (side_of (G.tree files.new) (G.count files.new))) }
+    ensures reports { IfOk result (Reports (asked_of task) now (side_of (G.tree files.old) (G.count files.old))
+        (side_of (G.tree files.new) (G.count files.new))) }
     ensures stops { IfErr result (Stops (asked_of task) (side_of (G.tree files.old) (G.count files.old)) (side_of (G.tree files.new) (G.count files.new))) }
     ensures leaves { Leaves (asked_of task) now (side_of (G.tree files.old) (G.count files.old)) (side_of (G.tree files.new) (G.count files.new)) }
     ensures lent { G.area files.new ≡ nothing_lent }

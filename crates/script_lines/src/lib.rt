@@ -1,17 +1,18 @@
-//! Lines of scripts: what the programs that play worked rows share.
+//! Lines of scripts, for the programs that play worked rows.
 //!
-//! A script is text, and what a program prints of it is the script again, with the answers of its lines: so a wanted transcript is
-//! itself the script. A line that begins with one of these is an answer, and is left out of a script that is read:
+//! A script is text, and a program prints the script again with the answers of its lines. So the expected transcript
+//! is the script itself. A line that begins with one of these marks is an answer, and a program that reads a script leaves it out:
 //!
-//! | Begins | What it is |
+//! | Begins with | Meaning |
 //! |---|---|
-//! | `\|` | a line of text that was printed, or of a file |
+//! | `\|` | a line of printed text, or of a file |
 //! | `!` | a line of notes |
-//! | `=` | a value: a status, a count, or what a call answered |
+//! | `=` | a value: a status, a count, or the answer of a call |
 //! | `?` | why the line is not done |
 //!
-//! Behind the mark stands a space, or a `-` where the line that is told has no end. A line that is empty, or begins with `#`, is a remark.
-//! Words are divided by single spaces. In a word `\x20` is a space, and each byte below 128 is written so; `""` is a word of no bytes.
+//! A space follows the mark, or a `-` if the line has no line feed. A line that is empty, or begins with `#`, is a remark.
+//! Words are separated by single spaces. In a word `\x20` is a space, and each byte below 128 may be written so. The word `""` is an
+//! empty one.
 #![tactic(auto)]
 
 mod telling;

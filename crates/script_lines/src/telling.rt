@@ -1,7 +1,7 @@
-//! What is told.
+//! Answers of lines.
 use std::alloc::{AllocError, Global};
 
-/// Adds the lines of a text, each behind its mark.
+/// Adds the lines of a text, each after its mark.
 pub fn put_lines(told: &mut String, mark: char, text: &str) -> Result<(), AllocError> {
     for line in text.split_inclusive('\n') {
         told.push(mark)?;
@@ -20,7 +20,7 @@ pub fn put_lines(told: &mut String, mark: char, text: &str) -> Result<(), AllocE
     Ok(())
 }
 
-/// The same of bytes.
+/// Adds the lines of bytes, each after its mark.
 pub fn put_bytes(told: &mut String, mark: char, bytes: &[u8]) -> Result<(), AllocError> {
     match str::from_utf8(bytes) {
         Ok(text) => put_lines(told, mark, text),
@@ -35,7 +35,7 @@ pub fn put_value(told: &mut String, value: &str) -> Result<(), AllocError> {
     told.push('\n')
 }
 
-/// The lines of the second text where the first has others, with their numbers.
+/// The lines of the second text that differ from those of the first, with their numbers.
 pub fn other_lines(alloc: Global, told: &str, again: &str) -> Result<String, AllocError> {
     let mut text = String::new(alloc);
     let mut first = told.lines();

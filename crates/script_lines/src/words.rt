@@ -6,12 +6,12 @@ pub fn is_answer(line: &str) -> bool {
     matches!(line.as_bytes().first(), Some(b'|' | b'!' | b'=' | b'?'))
 }
 
-/// Whether the line says nothing.
+/// Whether the line is a remark.
 pub fn is_remark(line: &str) -> bool {
     matches!(line.as_bytes().first(), None | Some(b'#'))
 }
 
-/// The words of a line, divided by single spaces, as they are meant.
+/// The words of a line, separated by single spaces, without escapes.
 pub fn words_of(alloc: Global, line: &str) -> Result<Vec<String>, AllocError> {
     let mut words = Vec::new(alloc);
     if !line.is_empty() {
@@ -22,7 +22,7 @@ pub fn words_of(alloc: Global, line: &str) -> Result<Vec<String>, AllocError> {
     Ok(words)
 }
 
-/// The word with the bytes for which `\x` and two digits stand, and nothing for `""`.
+/// The word without escapes: `\x` and two digits are a byte, and `""` is an empty word.
 pub fn meant_by(alloc: Global, word: &str) -> Result<String, AllocError> {
     let mut text = String::new(alloc);
     if word == "\"\"" {
@@ -40,7 +40,7 @@ pub fn meant_by(alloc: Global, word: &str) -> Result<String, AllocError> {
     Ok(text)
 }
 
-// What stands behind a `\x`: the byte of its two digits where that is below 128, and else the `\x` as it is.
+// The text for a `\x`: the byte of its two digits if that is below 128, and else the `\x` as it is.
 fn push_piece(text: &mut String, piece: &str) -> Result<(), AllocError> {
     if let (Some(digits), Some(rest)) = (piece.get(..2), piece.get(2..)) {
         if let Ok(byte) = u8::from_str_radix(digits, 16) {
@@ -54,7 +54,7 @@ fn push_piece(text: &mut String, piece: &str) -> Result<(), AllocError> {
     text.push_str(piece)
 }
 
-/// The number that a word is.
+/// The number of a word.
 pub fn number(word: &str) -> Option<u64> {
     word.parse::<u64>().ok()
 }

@@ -1,4 +1,4 @@
-//! Command lines, and what they are read as.
+//! Command lines, and their commands.
 use crate::tests::said;
 use crate::troubles::Trouble;
 use flat_list::Field;
@@ -8,7 +8,7 @@ use std::alloc::Global;
 use tool_words::{Command, Common, Start, Tests, Want, WordsError, read_words};
 use tree_cmp::{Exist, Row, Two};
 
-/// Tells the command that the words are, or which of them is refused.
+/// Answers the command of the words, or which of them is refused.
 pub fn tell(alloc: Global, words: &[String], told: &mut String) -> Result<(), Trouble> {
     match read_words(alloc, words) {
         Ok(command) => tell_command(alloc, &command, told),
@@ -40,9 +40,7 @@ fn tell_command(alloc: Global, command: &Command, told: &mut String) -> Result<(
             tell_start(alloc, start, told)?;
             tell_sort(alloc, *sort, told)?;
             tell_file(alloc, "output", output, told)?;
-            if let Some(most) = stop_after {
-                put(told, &format!(in alloc; "stop after {most}")?)?;
-            }
+            tell_number(alloc, "stop after", *stop_after, told)?;
             tell_file(alloc, "lists", lists, told)
         }
         Command::Find {
@@ -63,7 +61,7 @@ fn tell_command(alloc: Global, command: &Command, told: &mut String) -> Result<(
     }
 }
 
-// Tells a command that has a source and a destination.
+// Adds a command that has a source and a destination.
 fn tell_pair(alloc: Global, command: &Command, told: &mut String) -> Result<(), Trouble> {
     match command {
         Command::Cmp {
@@ -82,12 +80,21 @@ fn tell_pair(alloc: Global, command: &Command, told: &mut String) -> Result<(), 
             common,
             sources,
             dest,
+            range,
         } => {
             put(told, "copy")?;
             tell_common(alloc, common, told)?;
             tell_paths(alloc, "source", sources, told)?;
-            tell_path(alloc, "dest", dest, told)
+            tell_path(alloc, "dest", dest, told)?;
+            tell_number(alloc, "range", *range, told)
         }
+        _ => tell_equal(alloc, command, told),
+    }
+}
+
+// Adds a command that makes files equal, or looks for equal ones.
+fn tell_equal(alloc: Global, command: &Command, told: &mut String) -> Result<(), Trouble> {
+    match command {
         Command::Sync {
             common,
             source,
@@ -99,6 +106,11 @@ fn tell_pair(alloc: Global, command: &Command, told: &mut String) -> Result<(), 
             tell_path(alloc, "source", source, told)?;
             tell_path(alloc, "dest", dest, told)?;
             tell_flag("delete", *delete, told)
+        }
+        Command::Dup { common, roots } => {
+            put(told, "groups")?;
+            tell_common(alloc, common, told)?;
+            tell_paths(alloc, "root", roots, told)
         }
         _ => tell_other(alloc, command, told),
     }
@@ -139,12 +151,12 @@ fn put(told: &mut String, line: &str) -> Result<(), Trouble> {
     Ok(())
 }
 
-/// Tells how a walk goes where no option says otherwise.
+/// Answers the defaults of a walk.
 pub fn tell_standard(alloc: Global, told: &mut String) -> Result<(), Trouble> {
     tell_going(alloc, &Common::standard(), told)
 }
 
-// How a walk goes, where that is other than where no option says otherwise.
+// Adds the settings of a walk, if they differ from the defaults.
 fn tell_common(alloc: Global, common: &Common, told: &mut String) -> Result<(), Trouble> {
     if *common == Common::standard() {
         return Ok(());
@@ -193,6 +205,18 @@ fn tell_file(
     }
 }
 
+fn tell_number(
+    alloc: Global,
+    name: &str,
+    number: Option<u64>,
+    told: &mut String,
+) -> Result<(), Trouble> {
+    match number {
+        Some(number) => put(told, &format!(in alloc; "{name} {number}")?),
+        None => Ok(()),
+    }
+}
+
 fn tell_start(alloc: Global, start: &Start, told: &mut String) -> Result<(), Trouble> {
     match start {
         Start::Roots(roots) => tell_paths(alloc, "root", roots, told),
@@ -216,7 +240,7 @@ fn tell_tests(alloc: Global, tests: &Tests, told: &mut String) -> Result<(), Tro
     tell_paths(alloc, "newer", &tests.newer, told)
 }
 
-// What is saved, and whether it is about a path that the source alone has.
+// Adds the files that the command saves, each with whether it takes a path that the source alone has.
 fn tell_wants(alloc: Global, wants: &[Want], told: &mut String) -> Result<(), Trouble> {
     let row = Row {
         path: Path::parse(alloc, "/x")?,

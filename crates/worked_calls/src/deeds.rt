@@ -1,11 +1,11 @@
-//! The lines of a script, and what does them.
+//! The lines of a script, and their calls.
 use crate::held::Held;
 use crate::troubles::Trouble;
-use crate::{commands, events, lists, notes, paths, queues, tests};
+use crate::{commands, cuts, events, lists, notes, paths, queues, tests};
 use script_lines::{is_answer, is_remark, words_of};
 use std::alloc::{AllocError, Global};
 
-/// The script with what its lines answer.
+/// The script with the answers of its lines.
 pub fn transcript(alloc: Global, script: &str) -> Result<String, AllocError> {
     let mut told = String::new(alloc);
     let mut held = Held::nothing(alloc);
@@ -21,7 +21,7 @@ pub fn transcript(alloc: Global, script: &str) -> Result<String, AllocError> {
     Ok(told)
 }
 
-// Does what a line says, and adds what it answers.
+// Does a line, and adds its answer.
 fn answer(alloc: Global, held: &mut Held, line: &str, told: &mut String) -> Result<(), Trouble> {
     if is_remark(line) {
         return Ok(());
@@ -44,7 +44,7 @@ fn answer(alloc: Global, held: &mut Held, line: &str, told: &mut String) -> Resu
     }
 }
 
-/// What a line does, by its first word: the crate that it calls.
+/// The crate that a line calls, by its first word.
 #[derive(Clone, Copy, Drop, PartialEq, Eq)]
 enum Deed {
     Text,
@@ -53,6 +53,7 @@ enum Deed {
     Glob,
     Test,
     Expr,
+    Ranges,
     OfPaths(paths::Asked),
     OfQueues(queues::Asked),
     OfLists(lists::Asked),
@@ -60,13 +61,14 @@ enum Deed {
     OfEvents(events::Asked),
 }
 
-static DEEDS: [(&str, Deed); 52] = [
+static DEEDS: [(&str, Deed); 53] = [
     ("text", Deed::Text),
     ("words", Deed::Words),
     ("standard", Deed::Standard),
     ("glob", Deed::Glob),
     ("test", Deed::Test),
     ("expr", Deed::Expr),
+    ("ranges", Deed::Ranges),
     ("path", Deed::OfPaths(paths::Asked::Parse)),
     ("name", Deed::OfPaths(paths::Asked::Name)),
     ("join", Deed::OfPaths(paths::Asked::Join)),
@@ -138,6 +140,7 @@ fn do_deed(
         Deed::Glob => tests::tell_match(alloc, words, told)?,
         Deed::Test => tests::tell_test(alloc, words, told)?,
         Deed::Expr => tests::tell_expr(alloc, words, told)?,
+        Deed::Ranges => cuts::tell(alloc, words, told)?,
         Deed::OfPaths(asked) => paths::tell(alloc, asked, words, told)?,
         Deed::OfQueues(asked) => queues::tell(alloc, asked, held, words, told)?,
         Deed::OfLists(asked) => lists::tell(alloc, asked, held, words, told)?,

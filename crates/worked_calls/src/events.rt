@@ -6,7 +6,7 @@ use script_lines::{put_bytes, put_value};
 use std::alloc::Global;
 use tool_text::{Text, put_trace};
 
-/// What is asked of events.
+/// The lines about events.
 #[derive(Clone, Copy, Drop, PartialEq, Eq)]
 pub enum Asked {
     Trace,
@@ -14,7 +14,7 @@ pub enum Asked {
     Steps,
 }
 
-/// Tells what is asked of the events that the lines of a text say.
+/// Answers a line about the events in a text.
 pub fn tell(
     alloc: Global,
     asked: Asked,

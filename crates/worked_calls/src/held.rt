@@ -1,10 +1,10 @@
-//! What lines hold for those behind them.
+//! The values that lines keep for later lines.
 use flat_list::{Entry, FlatList};
 use rank_queue::{Batch, RankQueue};
 use std::alloc::{AllocError, Global};
 use tool_text::Note;
 
-/// A text, a list, what ranks found, notes, a queue, and what was given of it.
+/// A text, a list, the logs of ranks, notes, a queue, and the strings that it gave.
 #[derive(Drop)]
 pub struct Held {
     pub text: String,

@@ -1,4 +1,4 @@
-//! Lists: what is read of a list file, held, sorted and taken apart.
+//! Lists: read from a list file, kept, sorted and taken apart.
 use crate::held::Held;
 use crate::tests::test_named;
 use crate::troubles::{Trouble, number_of, small_of};
@@ -10,7 +10,7 @@ use script_lines::{put_bytes, put_value};
 use std::alloc::Global;
 use tool_text::{Text, put_list, put_summary};
 
-/// What is asked of lists.
+/// The lines about lists.
 #[derive(Clone, Copy, Drop, PartialEq, Eq)]
 pub enum Asked {
     Decode,
@@ -30,7 +30,7 @@ pub enum Asked {
     Select,
 }
 
-/// Does and tells what is asked.
+/// Does a line, and answers it.
 pub fn tell(
     alloc: Global,
     asked: Asked,
@@ -158,7 +158,7 @@ fn add(alloc: Global, list: &mut FlatList, words: &[String]) -> Result<(), Troub
     Ok(())
 }
 
-// The list of what all ranks found.
+// The list of the entries that all ranks found.
 fn merge(alloc: Global, held: &mut Held) -> Result<(), Trouble> {
     let found = std::mem::replace(&mut held.found, Vec::new(alloc));
     held.list = FlatList::from_jobs(alloc, found)?;
@@ -247,7 +247,7 @@ fn tell_place(
     Ok(())
 }
 
-// The tests that pairs of a name and a value are.
+// The tests of pairs of a name and a value.
 fn tests_of(alloc: Global, words: &[String]) -> Result<Vec<Test>, Trouble> {
     let mut tests = Vec::new(alloc);
     for pair in words.chunks(2) {

@@ -1,48 +1,51 @@
-//! Worked calls: a program that plays a script of calls of the libraries, and prints the script with what each line answered. Beside
-//! it stands what it must print, so a case is text, and no test is written for it.
+//! Worked calls: a program that plays a script of calls of the libraries, and prints the script with the answer of each line.
+//! Its expected output is beside it, so a case is text, and needs no test in code.
 //!
-//! The marks of answers and the words are those of `script_lines`. A line that is not understood answers `? ..`, and the rest is done.
+//! `script_lines` describes the marks of answers, and words. The program answers a line that it does not understand by `? ...`,
+//! and does the rest.
 //!
-//! | Line | What it tells |
+//! | Line | Answer |
 //! |---|---|
-//! | `text`, `: TEXT`, `:-TEXT` | nothing: a new text is begun, and a line, or a text without an end, is added to it |
-//! | `words WORD ..` | the command that the words of a command line are, or which word is refused and why |
-//! | `standard` | how a walk goes where no option says otherwise |
+//! | `text`, `: TEXT`, `:-TEXT` | none: begins a new text, and adds a line, or a text without a line feed, to it |
+//! | `words WORD ...` | the command of a command line, or the word that is refused and the reason |
+//! | `standard` | the defaults of a walk |
 //! | `glob PATTERN TEXT` | whether the text matches |
-//! | `test NAME VALUE` | the test that an option's value is, or why it is none |
-//! | `expr TEXT` | whether it is an expression about rows of a comparison, or why it is none |
-//! | `path TEXT` | the path, escaped, with its parent, base and level, or why the text is none |
-//! | `long TEXT COUNT` | how many bytes the path has that is `/` and so many times the text, or why that is none |
+//! | `test NAME VALUE` | the test of an option's value, or why it is not valid |
+//! | `expr TEXT` | whether it is an expression about rows of a comparison, or why it is not valid |
+//! | `ranges SIZE PIECE` | the cuts of a file of so many bytes by such a piece, and their number |
+//! | `path TEXT` | the path, escaped, with its parent, base and level, or why the text is not a path |
+//! | `long TEXT COUNT` | how many bytes the path has that is `/` and so many times the text, or why that is not a path |
 //! | `name TEXT` | whether it is a name |
 //! | `join PATH NAME` | the path of a child |
-//! | `under PATH TOP`, `within PATH TOP` | whether the path lies under the other; whether it is the other or lies under it |
-//! | `below PATH TOP` | what is left of it below the top, and that grafted on the top again |
-//! | `ascend PATH ..` | whether of each two paths the first that stands here is the less |
-//! | `unescape TEXT` | the path that an escaped text tells, or why it tells none |
-//! | `link TEXT`, `unescape_link TEXT` | the text of a link, escaped, or why it is none |
-//! | `push PATH ..` | nothing: the paths go into the queue |
+//! | `under PATH TOP`, `within PATH TOP` | whether the path is below the other; whether it is equal to it or below it |
+//! | `below PATH TOP` | the rest of the path below the top, and that grafted on the top again |
+//! | `ascend PATH ...` | for each two paths, whether the first in this line is the lesser |
+//! | `unescape TEXT` | the path of an escaped text, or why it has none |
+//! | `link TEXT`, `unescape_link TEXT` | the text of a link, escaped, or why it is not valid |
+//! | `push PATH ...` | none: the paths go into the queue |
 //! | `give COUNT` | how many of the oldest paths were given, and how many are left |
-//! | `back`, `clear` | nothing: what was given goes into the queue again, or goes away |
+//! | `back`, `clear` | none: the given paths go into the queue again, or are dropped |
 //! | `take`, `waiting`, `queued` | the newest path, which is taken; how many wait; and all that wait, which are taken |
-//! | `share QUEUED ASKED` | how many of them each of those that ask is given |
-//! | `lots SEED RANK DRAW ..` | what a rank draws: a `word`, a `share=LEFT`, or whom it asks, `victim=RANK/RANKS` |
-//! | `decode` | how many entries the list file in the text has, or why it is damaged; the list is held |
+//! | `share QUEUED ASKED` | how many of them each rank that asks gets |
+//! | `lots SEED RANK DRAW ...` | the draws of a rank: a `word`, a `share=LEFT`, or the rank that it asks, `victim=RANK/RANKS` |
+//! | `decode` | how many entries the list file in the text has, or why it is damaged; the list is kept |
 //! | `again` | the list file in the text, read and written again |
-//! | `add PATH ..` | nothing: files of 7 bytes are put behind the list that is held |
-//! | `rank PATH ..`, `merge` | nothing: what a rank found, as files of 7 bytes; and the list of all ranks, which is held |
-//! | `paths`, `lines`, `summary`, `levels`, `spread N`, `page K`, `place PATH` | of the list that is held |
-//! | `sort FIELD`, `sort -FIELD`, `order` | nothing: the list is sorted by a field, or put in path order |
-//! | `select NOW NAME VALUE ..` | the paths of what meets the tests at that time; `newer` has a time, or `-` for none |
-//! | `marks` | nothing: the notes of the list are held |
-//! | `note WHY PATH`, `dest WHY PATH` | nothing: one more note, of a source or of a destination |
-//! | `notes`, `ordered` | the notes that are held, as they stand or in order |
-//! | `say TEXT`, `progress SUM ..`, `shares HANDLED GIVEN TAKEN ..` | a line, lines of sums, and of what each rank did |
-//! | `trace` | the events in the text, as they are written |
+//! | `add PATH ...` | none: files of 7 bytes are added to the list |
+//! | `rank PATH ...`, `merge` | none: the log of a rank, with files of 7 bytes; and the list of all ranks, which is kept |
+//! | `paths`, `lines`, `summary`, `levels`, `spread N`, `page K`, `place PATH` | of the list |
+//! | `sort FIELD`, `sort -FIELD`, `order` | none: the list is sorted by a field, or put in path order |
+//! | `select NOW NAME VALUE ...` | the paths of the entries that pass the tests at that time; `newer` has a time, or `-` for none |
+//! | `marks` | none: the notes of the list are kept |
+//! | `note WHY PATH`, `dest WHY PATH` | none: one more note, about a source or a destination |
+//! | `notes`, `ordered` | the notes, as they are or in order |
+//! | `say TEXT`, `progress SUM ...`, `shares HANDLED GIVEN TAKEN ...` | a line, lines of sums, and of the work of each rank |
+//! | `trace` | the lines of the events in the text |
 //! | `check RANKS STARTS` | the verdict on the events in the text |
-//! | `steps RANKS STARTS` | what each event in the text answers, and how many strings each rank then has, of at most ten |
+//! | `steps RANKS STARTS` | the answer to each event in the text, and how many strings each rank then has, of at most ten |
 #![tactic(auto)]
 
 mod commands;
+mod cuts;
 mod deeds;
 mod events;
 mod held;

@@ -1,4 +1,4 @@
-//! Notes, and lines that stand beside them.
+//! Notes, and the lines beside them.
 use crate::held::Held;
 use crate::lists::tell_text;
 use crate::troubles::{Trouble, number_of};
@@ -10,7 +10,7 @@ use tool_text::{
     Note, Text, Why, in_order, notes_of, put_line, put_notes, put_progress, put_shares,
 };
 
-/// What is asked of notes.
+/// The lines about notes.
 #[derive(Clone, Copy, Drop, PartialEq, Eq)]
 pub enum Asked {
     Marks,
@@ -23,7 +23,7 @@ pub enum Asked {
     Shares,
 }
 
-/// Does and tells what is asked.
+/// Does a line, and answers it.
 pub fn tell(
     alloc: Global,
     asked: Asked,
@@ -58,7 +58,7 @@ fn numbers_of(alloc: Global, words: &[String]) -> Result<Vec<u64>, Trouble> {
     Ok(numbers)
 }
 
-// The shares that each three words are.
+// The shares, each from three words.
 fn shares_of(alloc: Global, words: &[String]) -> Result<Vec<Share>, Trouble> {
     let mut shares = Vec::new(alloc);
     for triple in words.chunks(3) {

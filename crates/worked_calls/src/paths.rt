@@ -7,7 +7,7 @@ use script_lines::{put_bytes, put_value};
 use std::alloc::Global;
 use std::cmp::Ordering;
 
-/// What is asked of paths.
+/// The lines about paths.
 #[derive(Clone, Copy, Drop, PartialEq, Eq)]
 pub enum Asked {
     Parse,
@@ -23,7 +23,7 @@ pub enum Asked {
     Long,
 }
 
-/// Tells what is asked.
+/// Answers a line.
 pub fn tell(
     alloc: Global,
     asked: Asked,
@@ -105,7 +105,7 @@ fn put_text(told: &mut String, bytes: &[u8]) -> Result<(), Trouble> {
     Ok(())
 }
 
-// The level of a path, its last name and the path over it.
+// The level of a path, its last name and its parent.
 fn tell_names(alloc: Global, path: &Path, told: &mut String) -> Result<(), Trouble> {
     let level = path.level();
     let Some(parent) = path.parent()? else {
@@ -120,7 +120,7 @@ fn tell_names(alloc: Global, path: &Path, told: &mut String) -> Result<(), Troub
     put_text(told, &line)
 }
 
-// How many bytes the path has that is `/` and so many times a text, or why that is none.
+// How many bytes the path has that is `/` and so many times a text, or why that is not a path.
 fn tell_long(alloc: Global, piece: &str, count: u64, told: &mut String) -> Result<(), Trouble> {
     let mut text = String::from_str(alloc, "/")?;
     for _ in 0..count {
@@ -157,7 +157,7 @@ fn tell_below(alloc: Global, path: &str, top: &str, told: &mut String) -> Result
     }
 }
 
-// Whether of each two paths the first is the less, and each is its own equal.
+// Whether of each two paths the first is the lesser, and each equals itself.
 fn ascends(alloc: Global, words: &[String]) -> Result<bool, Trouble> {
     let mut paths = Vec::new(alloc);
     for word in words {

@@ -1,4 +1,4 @@
-//! Queues of ranks, and what is drawn for them.
+//! Queues of ranks, and their random draws.
 use crate::held::Held;
 use crate::troubles::{Trouble, number_of, small_of};
 use path_text::Path;
@@ -9,7 +9,7 @@ use script_lines::put_value;
 use std::alloc::Global;
 use std::mem;
 
-/// What is asked of queues.
+/// The lines about queues.
 #[derive(Clone, Copy, Drop, PartialEq, Eq)]
 pub enum Asked {
     Push,
@@ -23,7 +23,7 @@ pub enum Asked {
     Lots,
 }
 
-/// Does and tells what is asked.
+/// Does a line, and answers it.
 pub fn tell(
     alloc: Global,
     asked: Asked,
@@ -87,7 +87,7 @@ fn tell_paths(paths: &[Path], told: &mut String) -> Result<(), Trouble> {
     Ok(())
 }
 
-// Gives so many of the oldest strings away, and tells how many are left.
+// Gives so many of the oldest strings away, and answers how many are left.
 fn give(alloc: Global, held: &mut Held, count: u64, told: &mut String) -> Result<(), Trouble> {
     let Ok(count) = usize::try_from(count) else {
         return Err(Trouble::Number);
@@ -109,7 +109,7 @@ fn take(queue: &mut RankQueue, told: &mut String) -> Result<(), Trouble> {
     Ok(())
 }
 
-// What one draw gives: a word, a share of so many, or whom a rank of so many asks.
+// The result of one draw: a word, a share of so many, or the rank that a rank of so many asks.
 fn drawn(from: &mut Pcg32, draw: &str) -> Result<u64, Trouble> {
     if draw == "word" {
         return Ok(from.next_word() as u64);

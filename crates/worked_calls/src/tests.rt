@@ -1,4 +1,4 @@
-//! Globs, and the tests and expressions that options say.
+//! Globs, and the tests and expressions of options.
 use crate::troubles::Trouble;
 use find_tests::{Test, TestName, glob_match, parse_test};
 use script_lines::put_value;
@@ -14,7 +14,7 @@ static NAMES: [(&str, TestName); 6] = [
     ("mmin", TestName::Minutes),
 ];
 
-/// The name of a test that a word is.
+/// The test of this name.
 pub fn test_named(word: &str) -> Option<TestName> {
     for (name, test) in NAMES.iter() {
         if *name == word {
@@ -24,7 +24,7 @@ pub fn test_named(word: &str) -> Option<TestName> {
     None
 }
 
-/// Tells whether a text matches a pattern.
+/// Answers whether a text matches a pattern.
 pub fn tell_match(alloc: Global, words: &[String], told: &mut String) -> Result<(), Trouble> {
     let [pattern, text] = words else {
         return Err(Trouble::Line);
@@ -36,12 +36,12 @@ pub fn tell_match(alloc: Global, words: &[String], told: &mut String) -> Result<
     Ok(())
 }
 
-/// How a truth is written.
+/// The word for a truth value.
 pub fn yes_or_no(holds: bool) -> &'static str {
     if holds { "true" } else { "false" }
 }
 
-/// Tells the test that a value is, or why it is none.
+/// Answers the test of a value, or why it is not valid.
 pub fn tell_test(alloc: Global, words: &[String], told: &mut String) -> Result<(), Trouble> {
     let [name, value] = words else {
         return Err(Trouble::Line);
@@ -57,7 +57,7 @@ pub fn tell_test(alloc: Global, words: &[String], told: &mut String) -> Result<(
     Ok(())
 }
 
-/// What a test asks for: of a glob whether it matches a log.
+/// The text of a test: of a glob, whether it matches a log.
 pub fn said(alloc: Global, test: &Test) -> Result<String, Trouble> {
     let text = match test {
         Test::Name(glob) if glob_match(glob, "x.log") => format!(in alloc; "name of x.log"),
@@ -73,7 +73,7 @@ pub fn said(alloc: Global, test: &Test) -> Result<String, Trouble> {
     Ok(text?)
 }
 
-/// Tells whether a text is an expression about rows of a comparison, or why it is none.
+/// Answers whether a text is an expression about rows of a comparison, or why it is not valid.
 pub fn tell_expr(alloc: Global, words: &[String], told: &mut String) -> Result<(), Trouble> {
     let [text] = words else {
         return Err(Trouble::Line);

@@ -1,22 +1,23 @@
 //! Why a line is not done.
 use path_text::{OutOfMemory, PathError};
+use range_copy::RangeError;
 use std::alloc::{AllocError, AllocFailed};
 
 /// Why a line is not done.
 #[derive(Clone, Copy, Debug, Drop, PartialEq, Eq)]
 pub enum Trouble {
-    /// It says nothing that is known, or what cannot be asked.
+    /// Its first word is not known, or it cannot be answered now.
     Line,
     /// A word is not a path.
     Path,
     /// A word is not a number.
     Number,
-    /// No memory was found.
+    /// Out of memory.
     Memory,
 }
 
 impl Trouble {
-    /// What is printed of it.
+    /// Its text.
     pub fn text(self) -> &'static str {
         match self {
             Trouble::Line => "? no such line\n",
@@ -51,12 +52,18 @@ impl From<PathError> for Trouble {
     }
 }
 
-/// The number that a word is.
+impl From<RangeError> for Trouble {
+    fn from(_: RangeError) -> Self {
+        Trouble::Memory
+    }
+}
+
+/// The number of a word.
 pub fn number_of(word: &str) -> Result<u64, Trouble> {
     script_lines::number(word).ok_or(Trouble::Number)
 }
 
-/// The number of a rank, or of ranks, that a word is.
+/// The number of a rank, or of ranks, in a word.
 pub fn small_of(word: &str) -> Result<u32, Trouble> {
     u32::try_from(number_of(word)?).map_err(|_| Trouble::Number)
 }

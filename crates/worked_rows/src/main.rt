@@ -1,8 +1,8 @@
-//! Worked rows: a program that plays a script of runs over files in memory, and prints the script with what each line answered.
-//! Beside it stands what it must print, so a row is text, and no test is written for it. `memory_runs` says what the lines do.
+//! Worked rows: a program that plays a script of runs over files in memory, and prints the script with the answer of each line.
+//! Its expected output is beside it, so a row is text, and needs no test in code. `memory_runs` describes the lines.
 //!
-//! `worked_rows WORDS..` plays the script once more for each of these, with its words behind those of each line `>>`, and tells what
-//! that answers otherwise: so a row that is to come to the same on any number of ranks and hosts is written once.
+//! `worked_rows WORDS...` plays the script once more for each of these words, and adds them to the words of each line `>>`. It
+//! prints the answers that differ. So a row that must have the same answer on any number of ranks and hosts is written once.
 #![tactic(auto)]
 
 use memory_runs::transcript;

@@ -8,6 +8,7 @@ returns c = succeeds (record {
   compares = c.fine_compare_succeeds.ensures;
   copies = c.fine_copy_succeeds.ensures;
   syncs = c.fine_sync_succeeds.ensures;
+  dups = c.fine_dup_succeeds.ensures;
   removes = c.fine_remove_succeeds.ensures;
   tests = c.fine_test_succeeds.ensures;
 })
