@@ -1,4 +1,4 @@
--- Names that ascend stay so with one more above the last.
+-- Names that ascend still ascend with one more above the last.
 use Rattle.std.proofs.Common.{◌≡◌, ℕ, ◌+◌, List, [], ◌∷◌, ◌++◌, length, Some, zero, suc, arith, true, refl, subst, sym}
 use Rattle.std.specs.Prelude.{slice_get}
 use Rattle.std.specs.List.{AllByRecursion}
@@ -13,15 +13,15 @@ use Rattle.outside.specs.Tree.{AreNames}
 order : IsTotalOrder (slice_cmp nat_cmp)
 order = lists_total nat_cmp_total
 
--- what is below the last of them is below what follows it
-behind : (x : List ℕ) (names : List (List ℕ)) (k : ℕ) (last name : List ℕ) → slice_get names k ≡ Some last → slice_cmp nat_cmp last name ≡ Less →
-    AllByRecursion (λ y. slice_cmp nat_cmp x y ≡ Less) names → slice_cmp nat_cmp x name ≡ Less
+-- a name below the last of them is below the name that follows it
+behind : (x : List ℕ) (names : List (List ℕ)) (k : ℕ) (last name : List ℕ) → slice_get names k ≡ Some last →
+    slice_cmp nat_cmp last name ≡ Less → AllByRecursion (λ y. slice_cmp nat_cmp x y ≡ Less) names → slice_cmp nat_cmp x name ≡ Less
 behind x [] k last name e h a = cc
 behind x (y ∷ names) zero last name e h a = let same : y ≡ last = cc in order.trans x last name (subst (λ l. slice_cmp nat_cmp x l ≡ Less) same a.0) h
 behind x (y ∷ names) (suc k) last name e h a = behind x names k last name e h a.1
 
-one_more : (x : List ℕ) (names : List (List ℕ)) (name : List ℕ) → AllByRecursion (λ y. slice_cmp nat_cmp x y ≡ Less) names → slice_cmp nat_cmp x name ≡ Less →
-    AllByRecursion (λ y. slice_cmp nat_cmp x y ≡ Less) (names ++ name ∷ [])
+one_more : (x : List ℕ) (names : List (List ℕ)) (name : List ℕ) → AllByRecursion (λ y. slice_cmp nat_cmp x y ≡ Less) names →
+    slice_cmp nat_cmp x name ≡ Less → AllByRecursion (λ y. slice_cmp nat_cmp x y ≡ Less) (names ++ name ∷ [])
 one_more x [] name a h = (h, tt)
 one_more x (y ∷ names) name a h = (a.0, one_more x names name a.1 h)
 

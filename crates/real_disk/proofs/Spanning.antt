@@ -1,5 +1,7 @@
--- Spans made of cuts, and the first of the files that are out in spans.
-use Rattle.std.proofs.Common.{◌≡◌, ℕ, zero, suc, cond, ◌+◌, ◌-◌, ◌≤◌, ◌<◌, Bool, true, false, ◌&&◌, List, [], ◌∷◌, ◌++◌, length, map, drop, get_or, refl, ap, ◌∙◌, sym, subst, arith, eqb, append_assoc, append-nil, slice_get, Some, None, nat_eq, is_some}
+-- Spans made of cuts, and the first of the files that are lent in spans.
+use Rattle.std.proofs.Common.{◌≡◌, ℕ, zero, suc, cond, ◌+◌, ◌-◌, ◌≤◌, ◌<◌, Bool, true, false, ◌&&◌, List, [], ◌∷◌, ◌++◌}
+use Rattle.std.proofs.Common.{length, map, drop, get_or, refl, ap, ◌∙◌, sym, subst, arith, eqb}
+use Rattle.std.proofs.Common.{append_assoc, append-nil, slice_get, Some, None, nat_eq, is_some}
 use Rattle.std.specs.Prelude.{nat_lt, ◌==◌, All, Option, OnErr, Result, Ok, Err}
 use Rattle.std.specs.Option.{option_map}
 use Rattle.std.proofs.lemmas.Bool.{false≢true}
@@ -18,7 +20,7 @@ both true true e = (refl, refl)
 both true false e = absurd (false≢true e)
 both false b e = absurd (false≢true e)
 
--- behind the first cut the others ascend
+-- the cuts after the first ascend
 pub cuts_ascend : (first : ℕ) (rest : List ℕ) → are_cuts (first ∷ rest) ≡ true → ascends_above first rest ≡ true
 cuts_ascend first [] e = refl
 cuts_ascend first (second ∷ cuts) e = (both (first == 0) (ascends_above first (second ∷ cuts)) e).1
@@ -42,7 +44,7 @@ pub made_all : (path : List ℕ) (at : ℕ) (rest : List ℕ) (i : ℕ) (spans a
 made_all path at rest i spans all l e =
     sym (append-nil spans) ∙ ap (λ r. spans ++ map blank (pieces_from path at r)) (sym (drop_all i rest l)) ∙ e
 
--- what new spans show and count
+-- the pieces, the bytes and the counts of new spans
 
 pub blank_pieces : (ps : List Piece) → map piece_of (map blank ps) ≡ ps
 blank_pieces [] = refl
@@ -56,7 +58,7 @@ pub blank_zero : (ps : List Piece) → All (λ span. count_of span ≡ 0) (map b
 blank_zero [] = λ k d l. absurd (omega (arith, l))
 blank_zero (p ∷ ps) = All-cons (λ span. count_of span ≡ 0) (blank p) (map blank ps) refl (blank_zero ps)
 
--- none of the first k is of the file at the path
+-- none of the first k leases is of the file at the path
 abbrev pub NoneBefore : ℕ → List ℕ → List Cut → Type 0
 NoneBefore k path out = (j : ℕ) (cut : Cut) → j < k → slice_get out j ≡ Some cut → pointwise nat_eq cut.path path ≡ false
 
@@ -91,7 +93,7 @@ more_out out k path d n l e j w m at = elim (eqb j k) as (λ b. eqb j k ≡ b �
     before : (j k : ℕ) → j < k + 1 → eqb j k ≡ false → j < k
     before j k l e = grind (arith, nat_tests)
 
--- a file whose cuts are told is out
+-- a file that has cuts is lent
 pub is_out : (path : List ℕ) (cuts : Option (List ℕ)) (ps : List Piece) → option_map (pieces path) cuts ≡ Some ps → is_some cuts ≡ true
 is_out path None ps e = cc
 is_out path (Some cuts) ps e = refl

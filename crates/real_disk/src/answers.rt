@@ -1,4 +1,4 @@
-//! What the system's errors mean as answers of the traits. Whatever stands in no line here is a fault, and who watches hears of it.
+//! The errors of the system as answers of the traits. An error without a line here is a fault, which is reported to the watch.
 ghost use Rattle.std.specs.Prelude.{◌≡◌, ℕ, Ok, IfErr, IsTrue};
 ghost use Rattle.outside.specs.Writes.{may_make, may_change, may_empty};
 
@@ -10,7 +10,7 @@ use std::io;
 use std::io::ErrorKind;
 use std::path::PathBuf;
 
-/// Whether nothing stands at the path of a call: no name there, or no directory over it.
+/// Whether nothing is at the path of a call: it has no such name, or no directory above it.
 pub fn is_absent(kind: ErrorKind) -> bool {
     kind == ErrorKind::NotFound || kind == ErrorKind::NotADirectory
 }
@@ -23,7 +23,7 @@ fn fault<R: Watch>(watch: &R, call: Call, path: &Path, cause: &io::Error) -> Wri
     WriteError::Failed
 }
 
-/// What a call answers that made a node.
+/// The answer of a call that made a node.
 pub fn made<R: Watch>(
     watch: &R,
     call: Call,
@@ -46,7 +46,7 @@ pub fn made<R: Watch>(
     }
 }
 
-/// What a call answers that changed or removed what is no directory.
+/// The answer of a call that changed or removed something other than a directory.
 pub fn changed<R: Watch, T>(
     watch: &R,
     call: Call,
@@ -71,7 +71,7 @@ where
     }
 }
 
-/// What a call answers that removed a directory. Where a directory is missing, the path itself may be none or one over it.
+/// The answer of a call that removed a directory. "Not a directory" may be about the path itself, or about one above it.
 pub fn emptied<R: Watch>(watch: &R, path: &Path, told: io::Result<()>) -> Result<(), WriteError>
     ensures { IfErr result (λ e. IsTrue (may_empty e)) }
 {
@@ -90,7 +90,7 @@ pub fn emptied<R: Watch>(watch: &R, path: &Path, told: io::Result<()>) -> Result
     }
 }
 
-/// What a call answers that wrote so many bytes. Fewer are a fault.
+/// The answer of a call that wrote so many bytes. Fewer are a fault.
 pub fn wrote<R: Watch>(
     watch: &R,
     path: &Path,
@@ -112,7 +112,7 @@ pub fn wrote<R: Watch>(
     }
 }
 
-/// The text of a link, as the system told it.
+/// The text of a link, as the system gave it.
 pub fn text_of<R: Watch>(
     watch: &R,
     alloc: Global,
@@ -137,7 +137,7 @@ pub fn text_of<R: Watch>(
     }
 }
 
-// Why the text of a link was not read. Where something else stands at the path, the system says that the call makes no sense.
+// Why the text of a link was not read. If the path has something other than a link, the system says that the argument is invalid.
 fn unread<R: Watch>(watch: &R, path: &Path, cause: &io::Error) -> LinkError {
     match cause.kind() {
         ErrorKind::NotFound => LinkError::NotLink,
@@ -151,7 +151,7 @@ fn unread<R: Watch>(watch: &R, path: &Path, cause: &io::Error) -> LinkError {
     }
 }
 
-/// What a call answers that opened a file to read it. What is no file is refused as a directory is.
+/// The answer of a call that opened a file to read it. Anything but a file is refused as a directory is.
 pub fn opened<R: Watch, T>(watch: &R, path: &Path, told: io::Result<T>) -> Result<T, ReadError>
 where
     T: Drop,
@@ -173,7 +173,7 @@ where
     }
 }
 
-/// What a read answers.
+/// The answer of a read.
 pub fn was_read<R: Watch>(
     watch: &R,
     path: &Path,

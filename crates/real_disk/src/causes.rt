@@ -1,11 +1,11 @@
-//! Why calls failed, by the names that the system has for that.
+//! The causes of failed calls, by the system's names of errors.
 use crate::watch::Call;
 use path_text::{OutOfMemory, Path, put_escaped};
 use std::alloc::Global;
 use std::io;
 use std::io::ErrorKind;
 
-/// The line about a call that failed: the name of the error, the call and the path, in printable text as lists have it.
+/// The line about a call that failed: the name of the error, the call and the path, with escapes as in lists.
 pub fn line_of(
     alloc: Global,
     call: Call,
@@ -22,8 +22,8 @@ pub fn line_of(
     Ok(line)
 }
 
-// The system's name of the error, or its number where it has another one than those below. Words of our own stand for errors that
-// the system did not tell.
+// The system's name of the error, or its number if it is not one of those below. Errors that the system did not give have words of
+// our own.
 fn put_name(line: &mut Vec<u8>, cause: &io::Error) -> Result<(), OutOfMemory> {
     let Some(code) = cause.raw_os_error() else {
         line.extend_from_slice(own_name(cause.kind()).as_bytes())?;
@@ -40,7 +40,7 @@ fn put_name(line: &mut Vec<u8>, cause: &io::Error) -> Result<(), OutOfMemory> {
     Ok(())
 }
 
-// What this crate itself refuses.
+// The words for the errors that this crate itself makes.
 fn own_name(kind: ErrorKind) -> &'static str {
     match kind {
         ErrorKind::StaleNetworkFileHandle => "REPLACED",
@@ -53,7 +53,7 @@ fn own_name(kind: ErrorKind) -> &'static str {
     }
 }
 
-// Linux's numbers, on x86-64 and aarch64, as far as files and network file systems give them.
+// Linux's numbers, on x86-64 and aarch64, of the errors that files and network file systems give.
 const NAMES: [(i32, &str); 54] = [
     (1, "EPERM"),
     (2, "ENOENT"),

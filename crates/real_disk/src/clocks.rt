@@ -2,7 +2,7 @@
 use std::rt::Clock;
 use std::time::{SystemTime, UNIX_EPOCH};
 
-/// The seconds since 1970, and 0 where the clock can't be read or stands before.
+/// The seconds since 1970. They are 0 if the clock cannot be read or shows an earlier time.
 pub fn seconds(clock: &impl Clock) -> u64 {
     match SystemTime::now(clock) {
         Ok(now) => now

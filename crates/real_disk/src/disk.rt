@@ -1,4 +1,4 @@
-//! The files of the system, looked at.
+//! Looks at the files of the system.
 ghost use Rattle.std.specs.Prelude.{◌≡◌, ◌≢◌, ◌≤◌, ℕ, pos, negsuc, length, IfOk, IfSome, IsErrOf, Some, None};
 ghost use Rattle.outside.specs.Count.{RoseBy};
 ghost use Rattle.outside.specs.Tree.{AreNames};
@@ -26,11 +26,11 @@ const PIECE: usize = 32768;
 #[derive(Drop)]
 pub struct RealReader<R: Files> {
     system: R,
-    // What the system writes names into, made once.
+    // The system writes names into it. It is made once.
     buffer: Vec<u8>,
     parents: Parents<R::File>,
-    // The two files that were read last, the later one first, until the next look at a path: two that are compared are read in
-    // turn, and one that is removed meanwhile is read to its end.
+    // The two files that were read last, the later one first, until the next look at a path. So two files that are compared stay
+    // open while they are read in turn, and one that is removed meanwhile is read to its end.
     last: Option<Handle<R::File>>,
     before: Option<Handle<R::File>>,
     count: u64,
@@ -64,7 +64,7 @@ impl<R: Files + Copy> RealReader<R> {
         })
     }
 
-    /// What it has come to know of directories.
+    /// Its knowledge of directories.
     pub(crate) fn into_parents(self) -> Parents<R::File> {
         let RealReader { parents, .. } = self;
         parents
@@ -85,7 +85,7 @@ impl<R: Files + Watch> RealReader<R>
 where
     R::File: FileExt + AsRawFd,
 {
-    // What stands at the path; a directory is one that is known from then on.
+    // The stat of the entry at the path. A directory is known from then on.
     fn look(&mut self, path: &Path) -> io::Result<Option<Stat>>
         ensures same { self.new ≡ self.old }
         ensures size { IfOk result (λ answer. IfSome answer (λ stat. stat.kind ≢ Kind.File → stat.size ≡ 0)) }
@@ -101,7 +101,7 @@ where
         Ok(Some(stat_of(&data)))
     }
 
-    // Reads through the handle that is open, or opens one.
+    // Reads through the open handle of the file, or opens one.
     fn read_open(&mut self, path: &Path, at: u64, into: &mut [u8]) -> Result<usize, ReadError>
         ensures same { self.new ≡ self.old }
         ensures most { IfOk result (λ n. n ≤ length into.new) }
@@ -125,7 +125,8 @@ where
         ensures { self.new ≡ self.old }
     {
         self.parents.go(&self.system, path)?;
-        let told = to_read(&self.system, self.parents.way());
+        let in_private = self.parents.in_private();
+        let told = to_read(&self.system, self.parents.way(), in_private);
         self.parents.told(&self.system, told)
     }
 
@@ -138,7 +139,7 @@ where
         self.parents.told(&self.system, told)
     }
 
-    // The file at the path, where it is open.
+    // The file at the path, if it is open.
     fn open_file(&self, path: &Path) -> Option<&R::File> {
         match file_of(&self.last, path) {
             Some(file) => Some(file),
@@ -161,7 +162,7 @@ where
         self.count
     }
 
-    /// A link is not followed. Where a name of the path is no directory, nothing stands at the path.
+    /// A link is not followed. If a name in the middle of the path is not a directory, nothing is at the path.
     fn stat(&mut self, path: &Path) -> Result<Option<Stat>, Failed> {
         self.last = None;
         self.before = None;
@@ -199,7 +200,7 @@ where
         }
     }
 
-    /// What is no file is not opened, so a link is not followed and a pipe is not waited for.
+    /// It opens only files, so it follows no link and waits for no pipe.
     fn read(&mut self, path: &Path, at: u64, into: &mut [u8]) -> Result<usize, ReadError> {
         match self.read_open(path, at, into) {
             Err(ReadError::Failed) => match self.fault() {
@@ -209,7 +210,7 @@ where
         }
     }
 
-    /// The text is that of the link itself. One that is no text of a link, as one that is not UTF-8, is a fault.
+    /// The text is that of the link itself. A text that is not valid is a fault, for example one that is not UTF-8.
     fn read_link(&mut self, alloc: Global, path: &Path) -> Result<LinkText, LinkError> {
         let told = self.text_at(alloc, path);
         match text_of(&self.system, alloc, path, told) {
@@ -222,7 +223,7 @@ where
     }
 }
 
-// The file, where it is this one that was kept.
+// The file, if the one at this path was kept.
 fn file_of<'a, F: Drop>(kept: &'a Option<Handle<F>>, path: &Path) -> Option<&'a F> {
     match kept {
         Some(handle) => handle.of(path),
@@ -239,7 +240,7 @@ fn stat_of(data: &Metadata) -> Stat
     Stat { kind, size, mtime }
 }
 
-/// The seconds since 1970 as a stat tells them. A time before is none.
+/// The seconds since 1970 of a stat. An earlier time is none.
 pub fn time_of(seconds: i64) -> Option<u64>
     ensures known { (n : ℕ) → seconds ≡ pos n → result ≡ Some n }
     ensures before { (n : ℕ) → seconds ≡ negsuc n → result ≡ None }
@@ -290,7 +291,7 @@ fn listing_of<R: Files + Watch>(
     Err(ListError::Failed)
 }
 
-// A directory whose names the system did not tell.
+// The names of a directory were not read.
 fn unlisted<R: Watch>(watch: &R, path: &Path, cause: &io::Error) -> ListError {
     watch.failed(Call::List, path, cause);
     ListError::Failed

@@ -1,4 +1,4 @@
-//! The files of the system, written.
+//! Writes the files of the system.
 ghost use Rattle.std.specs.Prelude.{◌≡◌, ◌≤◌, ◌++◌, ◌∷◌, [], All, Some, None, map, IfErr, IfOk, OnOk, OnErr, IsTrue};
 ghost use Rattle.std.specs.List.{sum_by};
 ghost use Rattle.std.specs.Option.{option_map};
@@ -20,8 +20,8 @@ use std::os::fd::AsRawFd;
 use std::os::unix::fs::FileExt;
 use std::random::RandomSource;
 
-/// The files of a system, seen as its count of faults, the tops of the parts that are out, and the files that are out in spans. It tells
-/// no tree.
+/// The files of a system. It is seen as its count of faults, the tops of the lent parts, and the files that are lent in spans. It
+/// tells no tree.
 #[derive(Drop)]
 pub struct RealGround<R: Files> {
     writer: RealWriter<R>,
@@ -29,7 +29,7 @@ pub struct RealGround<R: Files> {
     cut: Cuttings,
 }
 
-/// A part of them, seen as its count of faults and its tops. It tells no tree, and nothing is checked while it is out.
+/// A part of them, seen as its count of faults and its tops. It tells no tree, and nothing is checked while it is lent.
 #[derive(Drop)]
 pub struct RealPart<R: Files> {
     writer: RealWriter<R>,
@@ -58,12 +58,12 @@ impl<R: Files + RandomSource> RealGround<R>
 where
     R::File: AsRawFd,
 {
-    /// The files of a system, with no fault yet and no part out.
+    /// The files of a system, with no fault yet and no part lent.
     pub fn make(alloc: Global, system: R) -> RealGround<R>
         ensures { result ≡ record { count = 0; lent = []; cut = [] } }
     {
         let mut key = [0u8; 16];
-        // A system that gives no bytes gives a key that can be guessed: then paths of one hash may be refused as another's.
+        // If the system gives no random bytes, the key can be guessed. Then two paths of one hash may be taken for one.
         let _ = system.fill_bytes(&mut key);
         let parents = Parents::make(alloc, &system, key);
         RealGround {
@@ -223,7 +223,7 @@ where
 {
     type Span = RealSpan<R>;
 
-    /// Nothing is asked of the system.
+    /// The file is opened once for all of its spans, unless it is still open since it was made.
     fn lease_spans(
         &mut self,
         alloc: Global,
@@ -238,7 +238,8 @@ where
         ensures memory { OnErr result (self.new ≡ self.old) }
         ensures refused { IfErr result (λ e. e ≡ SpanError.OutOfMemory) }
     {
-        let spans = spans_of(alloc, &mut self.writer, path, cuts)?;
+        let file = self.writer.lend_file(alloc, path)?;
+        let spans = spans_of(alloc, &self.writer.system(), file, path, cuts)?;
         self.cut.lend(alloc, path, cuts)?;
         Ok(spans)
     }

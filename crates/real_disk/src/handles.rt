@@ -1,4 +1,4 @@
-//! Files of the system that are open.
+//! Open files of the system.
 use crate::known::Identity;
 use path_text::Path;
 use std::fs::{Files, OpenFile, OpenOptions};
@@ -13,7 +13,7 @@ pub struct Handle<F: Drop> {
 }
 
 impl<F: Drop> Handle<F> {
-    /// The open file, for as long as memory is found for its path; else it is closed.
+    /// Keeps the open file. If there is no memory for its path, it closes the file.
     pub fn keep(path: &Path, file: F) -> Option<Handle<F>> {
         match path.copy() {
             Ok(path) => Some(Handle { path, file }),
@@ -21,7 +21,7 @@ impl<F: Drop> Handle<F> {
         }
     }
 
-    /// The file, where this is its path.
+    /// The file, if this is its path.
     pub fn of(&self, path: &Path) -> Option<&F> {
         if self.path == *path {
             Some(&self.file)
@@ -29,23 +29,32 @@ impl<F: Drop> Handle<F> {
             None
         }
     }
+
+    /// The file, if this is its path, for a caller that keeps it.
+    pub fn into_file(self, path: &Path) -> Option<F> {
+        if self.path != *path {
+            return None;
+        }
+        let Handle { file, .. } = self;
+        Some(file)
+    }
 }
 
-/// Opens a file to read it.
-pub fn to_read<R: Files>(system: &R, way: &str) -> io::Result<R::File> {
+/// Opens a file to read it. In a private directory no other user can replace the file.
+pub fn to_read<R: Files>(system: &R, way: &str, in_private: bool) -> io::Result<R::File> {
     let mut how = OpenOptions::new();
     how.read(true);
-    file_at(system, way, &how)
+    file_at(system, way, &how, in_private)
 }
 
-/// Opens a file to write to it.
-pub fn to_write<R: Files>(system: &R, way: &str) -> io::Result<R::File> {
+/// Opens a file to write to it. In a private directory no other user can replace the file.
+pub fn to_write<R: Files>(system: &R, way: &str, in_private: bool) -> io::Result<R::File> {
     let mut how = OpenOptions::new();
     how.write(true);
-    file_at(system, way, &how)
+    file_at(system, way, &how, in_private)
 }
 
-/// Makes a file where nothing is, open to write to it.
+/// Makes a file that does not exist yet, open to write to it.
 pub fn to_make<R: Files>(system: &R, way: &str) -> io::Result<R::File> {
     let mut how = OpenOptions::new();
     how.write(true);
@@ -53,15 +62,20 @@ pub fn to_make<R: Files>(system: &R, way: &str) -> io::Result<R::File> {
     how.open(system, way)
 }
 
-// Opens a file. What is no file is not opened, and is refused as a directory is. A file that took the place of the one that was
-// looked at is a fault.
-fn file_at<R: Files>(system: &R, way: &str, how: &OpenOptions) -> io::Result<R::File> {
+// Opens a file, and nothing else: any other entry is refused as a directory is. If another file took the place of the one that was
+// looked at, that is a fault. In a private directory only this user and root can do that, so the open file is not compared.
+fn file_at<R: Files>(
+    system: &R,
+    way: &str,
+    how: &OpenOptions,
+    in_private: bool,
+) -> io::Result<R::File> {
     let data = fs::symlink_metadata(system, way)?;
     if !data.is_file() {
         return Err(io::Error::from(ErrorKind::IsADirectory));
     }
     let file = how.open(system, way)?;
-    if Identity::of(&file.metadata()?) != Identity::of(&data) {
+    if !in_private && Identity::of(&file.metadata()?) != Identity::of(&data) {
         return Err(io::Error::from(ErrorKind::StaleNetworkFileHandle));
     }
     Ok(file)

@@ -1,4 +1,4 @@
-//! The directories of which a run knows which ones they are.
+//! The directories that a run knows, each by its device and inode.
 use path_text::OutOfMemory;
 use std::alloc::Global;
 use std::collections::HashMap;
@@ -12,10 +12,10 @@ use std::{io, mem};
 // The bits of a mode by which group and others write.
 const OTHERS_WRITE: u32 = 0o022;
 
-// The bit of a directory in which nobody can rename or delete what others own.
+// The bit of a directory in which nobody can rename or delete the entries of others.
 const STICKY: u32 = 0o1000;
 
-/// Which file or directory one is, whatever names lead to it.
+/// The identity of a file or directory, which all its names share.
 #[derive(Clone, Copy, Debug, Drop, PartialEq, Eq)]
 pub struct Identity {
     device: u64,
@@ -23,23 +23,31 @@ pub struct Identity {
 }
 
 impl Identity {
-    /// That of what the system told of.
+    /// The identity in an answer of the system.
     pub fn of(data: &Metadata) -> Identity {
         Identity {
             device: data.dev(),
             inode: data.ino(),
         }
     }
+
+    /// An identity that no file or directory has.
+    pub fn of_none() -> Identity {
+        Identity {
+            device: u64::MAX,
+            inode: u64::MAX,
+        }
+    }
 }
 
-/// Whether nobody but this user and root can write in a directory: one of the two owns it, and its mode lets neither group nor others
-/// write. Where it has an access list, the mode has the most that the list gives to groups and to other users.
+/// Whether nobody but this user and root can write in a directory. One of the two owns it, and its mode lets neither group nor others
+/// write. If it has an access list, its mode has the most that the list gives to groups and to other users.
 pub fn is_own(user: u32, data: &Metadata) -> bool {
     has_owner(user, data) && data.mode() & OTHERS_WRITE == 0
 }
 
-/// Whether nobody but this user and root can put something else in the place of a name of theirs in a directory: it is their own, or it
-/// is theirs and sticky.
+/// Whether only this user and root can replace one of their entries in a directory. Either they alone can write in it, or one of them
+/// owns it and it is sticky.
 pub fn keeps_own(user: u32, data: &Metadata) -> bool {
     data.is_dir() && has_owner(user, data) && (is_own(user, data) || data.mode() & STICKY != 0)
 }
@@ -49,18 +57,18 @@ fn has_owner(user: u32, data: &Metadata) -> bool {
     owner == user || owner == 0
 }
 
-/// What is known of the directory at a path.
+/// The knowledge about the directory at a path.
 #[derive(Clone, Copy, Debug, Drop, PartialEq, Eq)]
 pub enum Found {
     /// The run looked at it, made it or found it, and it was this one.
     Is(Identity),
     /// Nothing: the run did not look at it.
     Nothing,
-    /// There was no memory for some directory, and it may be this one.
+    /// There was no memory for some directory, which may be this one.
     Lost,
 }
 
-// Directories by the hashes of their paths.
+// Directories, by the hashes of their paths.
 #[derive(Drop)]
 struct Looks {
     by_path: HashMap<u64, Identity>,
@@ -92,13 +100,13 @@ impl Looks {
     }
 }
 
-/// The directories that a run looked at, made or found, each with its identity. Of its path only a hash is kept, under a key that
-/// nobody can guess. A path has no slash at its end here, so that of `/` is empty.
+/// The directories that a run looked at, made or found, each with its identity. It keeps a hash of each path under a key that nobody
+/// can guess, and not the path. A path has no slash at its end here, so that of `/` is empty.
 #[derive(Drop)]
 pub struct Known {
     alloc: Global,
     key: [u8; 16],
-    // What was known when this was made, which others share; the latest comes last.
+    // The knowledge from before this was made, which others share. The latest comes last.
     before: Vec<Arc<Looks>>,
     own: Looks,
 }
@@ -114,7 +122,7 @@ impl Known {
         }
     }
 
-    /// What is known of the directory at a path, as it was told last.
+    /// The latest knowledge about the directory at a path.
     pub fn find(&self, path: &str) -> Found {
         let hash = self.hash(path);
         if let Some(identity) = self.own.by_path.get(&hash) {
@@ -137,8 +145,8 @@ impl Known {
         Ok(())
     }
 
-    /// Keeps that others can write in the directory at a path, for as long as the run lasts. Where no memory is found for that, they
-    /// are taken to write in each.
+    /// Keeps that others can write in the directory at a path, for the rest of the run. If there is no memory for that, each directory
+    /// counts as one in which they can write.
     pub fn expose(&mut self, path: &str) {
         let hash = self.hash(path);
         if self.own.exposed.insert(hash, ()).is_err() {
@@ -157,7 +165,7 @@ impl Known {
         self.own.is_exposed(hash) || self.before.iter().any(|looks| looks.is_exposed(hash))
     }
 
-    /// All that is known, for one that goes on by itself.
+    /// A copy of all knowledge, which goes on by itself.
     pub fn share(&mut self) -> Result<Known, OutOfMemory> {
         if !self.own.is_empty() {
             self.before.reserve(1)?;
@@ -176,8 +184,8 @@ impl Known {
         })
     }
 
-    /// Takes what another has come to know by itself. Where no memory is found for that, no directory that is not kept is taken
-    /// for one that nobody looked at.
+    /// Takes the knowledge of another one. If there is no memory for that, an unknown directory may be one that the run looked at, and
+    /// is [`Found::Lost`].
     pub fn take(&mut self, other: Known) {
         let Known { own, .. } = other;
         if self.own.is_empty() {

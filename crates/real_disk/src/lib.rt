@@ -1,25 +1,25 @@
 //! The edge to the system: its files, its streams and its time, behind the traits of the crate `outside`.
 //!
-//! - [`RealGround`] has the files of the system as an [`outside::Ground`], which are written through open `handles`; `answers` says
-//!   what the errors of the system mean there.
-//! - [`RealReader`] looks at them, as an [`outside::Tree`], over the `names` that a directory gives.
+//! - [`RealGround`] has the files of the system as an [`outside::Ground`]. It writes them through open `handles`, and `answers` has
+//!   the meaning of the system's errors.
+//! - [`RealReader`] looks at them, as an [`outside::Tree`], and lists the `names` of a directory.
 //! - [`RealSink`] is a stream of the system, as an [`outside::Sink`].
-//! - [`seconds`] tells the time.
-//! - [`Watched`] is a system whose calls are counted for a [`Live`] line on a terminal, and whose failures are kept in a file.
+//! - [`seconds`] is the time.
+//! - [`Watched`] is a system that counts its calls for a [`Live`] line on a terminal, and writes each failure to a file.
 //!
 //! ```text
 //! let mut files = RealGround::make(rt.alloc(), rt);
 //! let mut reader = files.reader(rt.alloc())?;
-//! let stat = reader.stat(&path)?;                    // None where nothing stands at the path
-//! files.take_reader(reader);                         // the faults that it counted are the ground's now
+//! let stat = reader.stat(&path)?;                    // None if nothing is at the path
+//! files.take_reader(reader);                         // adds the faults that it counted to those of the ground
 //! ```
 //!
 //! # What is proved
 //!
-//! They are proved safe and within the traits that they implement: each error of the system is counted, what is no text is counted,
-//! and the names of a listing are valid, short enough and in ascending order, whatever the system wrote. No contract says what the
-//! disk or a stream holds, so they tell no tree and no text; what they make of the system's answers is tested in `disk_tests`, as are
-//! the live line and the lines about calls that failed.
+//! They are proved safe and within the traits that they implement. They count each error of the system, and each name that is not
+//! UTF-8. The names of a listing are valid, short enough and in ascending order, whatever the system wrote. No contract speaks of the
+//! contents of the disk or of a stream, so they tell no tree and no text. The crate `disk_tests` tests how they use the system's
+//! answers, the live line, and the lines about failed calls.
 #![tactic(auto)]
 
 mod answers;

@@ -1,4 +1,4 @@
-//! The line that shows on a terminal how far a run is.
+//! The line on a terminal that shows how far a run is.
 use crate::watch::Call;
 use std::alloc::{AllocError, Global};
 use std::io;
@@ -6,19 +6,19 @@ use std::io::{Print, Write};
 use std::rt::Clock;
 use std::sync::atomic::{AtomicU64, Ordering};
 
-// Readers and parts that run beside each other count in words of their own, so that none waits for another: so many rows of words.
+// How many rows of words there are. Each reader and part counts in a row of its own, so that none waits for another.
 const ROWS: usize = 64;
 
 // A row has a word for each call, and reaches over two cache lines.
 const ROW: usize = 16;
 
-// The clock is looked at once in so many counts of a word.
+// A thread looks at the clock once in so many counts of a word.
 const STRIDE: u64 = 64;
 
-// Between two lines, in milliseconds.
+// The time between two lines, in milliseconds.
 const PAUSE: u64 = 500;
 
-/// Which numbers a line shows beside the paths that were looked at.
+/// The numbers that a line shows beside the number of paths.
 #[derive(Clone, Copy, Debug, Drop, PartialEq, Eq)]
 struct Shown {
     copied: bool,
@@ -28,7 +28,7 @@ struct Shown {
 }
 
 impl Shown {
-    // Those of a tool.
+    // The numbers for a tool.
     fn of(tool: &str) -> Shown {
         Shown {
             copied: tool == "dcp" || tool == "dsync",
@@ -39,8 +39,8 @@ impl Shown {
     }
 }
 
-/// A line on a terminal that shows how far a run is: written anew every half second, over itself, and erased at the end. The words in
-/// which the run counts are shared by all its threads.
+/// A line on a terminal that shows how far a run is. The run writes it over itself every half second, and erases it at the end. All
+/// threads of the run share the words in which they count.
 #[derive(Drop)]
 pub struct Live<C, P> {
     alloc: Global,
@@ -52,14 +52,14 @@ pub struct Live<C, P> {
     rows: AtomicU64,
     // When the next line is due, in milliseconds of the clock.
     due: AtomicU64,
-    // How many columns the line has that is on the screen, or 0.
+    // How many columns the line on the screen has, or 0.
     columns: AtomicU64,
     over: AtomicU64,
 }
 
 impl<C: Clock, P: Print> Live<C, P> {
-    /// No line yet: the first comes half a second from now, if a call is made then. An error if no memory is found for it, or the
-    /// clock can't be read.
+    /// No line yet. The first comes half a second from now, if a call is made then. An error if there is no memory for it, or if the
+    /// clock cannot be read.
     pub fn make(alloc: Global, clock: C, screen: P, tool: &str) -> io::Result<Live<C, P>>
     where
         C: Drop,
@@ -88,7 +88,7 @@ impl<C: Clock, P: Print> Live<C, P> {
         (self.rows.fetch_add(1, Ordering::SeqCst) % ROWS as u64) as u8
     }
 
-    /// Counts what a call did in a row, and writes the line if it is due.
+    /// Counts the work of a call in a row, and writes the line if it is due.
     pub(crate) fn add(&self, row: u8, call: Call, count: u64) {
         let Some(word) = self.words.get(place(row, call)) else {
             return;
@@ -99,7 +99,7 @@ impl<C: Clock, P: Print> Live<C, P> {
         }
     }
 
-    // Writes the line if it is due, and no other thread does.
+    // Writes the line if it is due and no other thread writes it.
     fn look(&self) {
         let due = self.due.load(Ordering::SeqCst);
         let Ok(now) = millis(&self.clock) else {
@@ -113,7 +113,7 @@ impl<C: Clock, P: Print> Live<C, P> {
             .due
             .compare_exchange(due, next, Ordering::SeqCst, Ordering::SeqCst);
         if won.is_ok() {
-            // A line for which there is no memory, or that the screen does not take, is left out.
+            // If there is no memory for the line, or the screen does not take it, it is left out.
             let _ = self.show();
         }
     }
@@ -122,7 +122,13 @@ impl<C: Clock, P: Print> Live<C, P> {
         let mut line = String::from_str(self.alloc, "\rmfu: looked at ")?;
         put_number(&mut line, self.sum(Call::Stat))?;
         line.push_str(" paths")?;
-        if self.shown.compared {
+        let copied = self.sum(Call::MakeFile);
+        let removed = self
+            .sum(Call::RemoveFile)
+            .wrapping_add(self.sum(Call::RemoveDir));
+        // dsync compares all files before it removes or copies anything. A line with all its numbers may be longer than 80 columns.
+        let is_comparing = self.shown.compared && copied == 0 && removed == 0;
+        if is_comparing {
             line.push_str(", compared ")?;
             put_number(&mut line, self.sum(Call::Open) / 2)?;
             line.push_str(" files")?;
@@ -133,25 +139,27 @@ impl<C: Clock, P: Print> Live<C, P> {
             put_number(&mut line, self.sum(Call::Read) >> 20)?;
             line.push_str(" MB")?;
         }
-        if self.shown.copied {
+        if self.shown.copied && !is_comparing {
             line.push_str(", copied ")?;
-            put_number(&mut line, self.sum(Call::MakeFile))?;
+            put_number(&mut line, copied)?;
             line.push_str(" files")?;
             put_megabytes(&mut line, self.sum(Call::Write))?;
         }
-        if self.shown.removed {
-            let removed = self
-                .sum(Call::RemoveFile)
-                .wrapping_add(self.sum(Call::RemoveDir));
+        if self.shown.removed && !is_comparing {
             line.push_str(", removed ")?;
             put_number(&mut line, removed)?;
         }
-        self.columns
-            .store((line.len() as u64).saturating_sub(1), Ordering::SeqCst);
+        // Blanks overwrite the rest of a longer line before.
+        let columns = (line.len() as u64).saturating_sub(1);
+        let before = self.columns.load(Ordering::SeqCst);
+        for _ in 0..before.saturating_sub(columns) {
+            line.push(' ')?;
+        }
+        self.columns.store(columns.max(before), Ordering::SeqCst);
         self.screen.write_all(line.as_bytes())
     }
 
-    // What all rows have of a call.
+    // The count of a call in all rows together.
     fn sum(&self, call: Call) -> u64 {
         let mut sum: u64 = 0;
         for row in 0..ROWS as u8 {
@@ -162,7 +170,7 @@ impl<C: Clock, P: Print> Live<C, P> {
         sum
     }
 
-    /// Erases the line. None comes after it.
+    /// Erases the line. No line comes after that.
     pub fn end(&self) {
         self.over.store(1, Ordering::SeqCst);
         let columns = self.columns.swap(0, Ordering::SeqCst);
@@ -195,7 +203,7 @@ fn millis(clock: &impl Clock) -> io::Result<u64> {
     )
 }
 
-// A number with a comma before each three digits.
+// A number with a comma between each group of three digits.
 fn put_number(line: &mut String, number: u64) -> Result<(), AllocError> {
     let digits = format!(in *line.allocator(); "{number}")?;
     let mut left = digits.len();
@@ -215,7 +223,7 @@ fn put_megabytes(line: &mut String, bytes: u64) -> Result<(), AllocError> {
     line.push_str(" MB)")
 }
 
-/// A stream to which a run writes: before its first write the live line is erased.
+/// A stream to which a run writes. Its first write erases the live line before.
 #[derive(Drop)]
 pub struct AfterLive<'a, C, P, W> {
     live: Option<&'a Live<C, P>>,
@@ -223,7 +231,7 @@ pub struct AfterLive<'a, C, P, W> {
 }
 
 impl<'a, C, P, W> AfterLive<'a, C, P, W> {
-    /// The stream, after this line if there is one.
+    /// The stream, with the live line to erase, if there is one.
     pub fn make(live: Option<&'a Live<C, P>>, stream: W) -> AfterLive<'a, C, P, W> {
         AfterLive { live, stream }
     }

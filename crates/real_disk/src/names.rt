@@ -1,4 +1,4 @@
-//! Names as the system gives them, and the listing that they make.
+//! The names of a directory, as the system gives them, and their listing.
 ghost use Rattle.std.specs.Prelude.{◌≡◌, ◌≤◌, ◌<◌, ◌++◌, ◌∷◌, [], length, IfOk, OnOk, IsTrue, nat_lt};
 ghost use Rattle.std.specs.Str.{IsUtf8};
 ghost use Rattle.outside.specs.Count.{capped};
@@ -14,7 +14,7 @@ use std::alloc::{AllocError, Global};
 use std::marker::Model;
 use std::str;
 
-/// Names as the system gives them, in any order and maybe one of them twice: seen as (names, how many more are no text).
+/// Names as the system gives them, in any order, maybe with repetitions. They are seen as (names, how many more are not UTF-8).
 #[derive(Drop)]
 pub struct FoundNames {
     alloc: Global,
@@ -41,7 +41,7 @@ impl FoundNames {
         }
     }
 
-    /// Adds the names of a piece that the system wrote, each ended by the byte 0.
+    /// Adds the names in a piece that the system wrote. Each name ends with the byte 0.
     pub fn add_piece(&mut self, piece: &[u8]) -> Result<(), OutOfMemory> {
         for name in piece.split(|b| *b == 0) {
             if !is_self_or_parent(name) {
@@ -51,7 +51,7 @@ impl FoundNames {
         Ok(())
     }
 
-    // Adds a name, or counts it where it is no text.
+    // Adds a name, or counts it if it is not UTF-8.
     fn add(&mut self, name: &[u8]) -> Result<(), OutOfMemory>
         ensures text { IsUtf8 name.now → OnOk result (self.new ≡ (self.old.0 ++ name.now ∷ [], self.old.1)) }
         ensures other { ¬ (IsUtf8 name.now) → OnOk result (self.new ≡ (self.old.0, capped self.old.1 1)) }
@@ -103,12 +103,12 @@ fn bytes_of(names: &[&str]) -> usize {
     bytes
 }
 
-// What a directory names beside its children: nothing, itself and its parent.
+// Whether a name is empty, or is that of the directory itself or of its parent, so that it is not a child.
 fn is_self_or_parent(name: &[u8]) -> bool {
     name.is_empty() || name == b".".as_slice() || name == b"..".as_slice()
 }
 
-// Puts a name behind those of the listing, or counts why it can't stand there.
+// Adds a name after those of the listing, or counts it as unnamed or far if the listing cannot have it.
 fn put_name(listing: &mut Listing, path: &Path, name: &str) -> Result<(), OutOfMemory>
     requires { AreNames path.now listing.old.0 }
     ensures { AreNames path.now listing.new.0 }
@@ -133,7 +133,7 @@ fn is_far(path: &Path, name: &str) -> bool
     both + slash > MAX_PATH
 }
 
-// Whether a name may follow those of the listing.
+// Whether a name may come after those of the listing.
 fn ascends(listing: &Listing, name: &str) -> bool
     ensures { IsTrue result → IsStrictlySortedBy (slice_cmp nat_cmp) listing.now.0 → IsStrictlySortedBy (slice_cmp nat_cmp) (listing.now.0 ++ name.now ∷ []) }
 {

@@ -1,18 +1,18 @@
-//! The directories in which things are done.
+//! The directories in which a run works.
 //!
-//! **A directory stays the one that was looked at**: what is done below a directory that the run looked at, made or found is done in
-//! that very directory, which is the child of the one above it, or it is a counted failure. The paths that a run was given, and the
-//! links in the middle of them, are as the system takes them.
+//! **A directory stays the one that was looked at.** Each act below a directory that the run looked at, made or found is done in
+//! that very directory, or it is a counted failure. The directory must also be the child of the one above it. The paths that a run
+//! was given, and the links in the middle of them, stay as the system takes them.
 //!
-//! So a directory that is known is opened, and compared with what is known of it; its `..` is compared with what is known of the
-//! directory above it, and so on up to the first that is not known. Then the system is asked of `/proc/self/fd/N/NAME`, where N is
-//! the open directory, whatever its path leads to meanwhile. Where the system has no such names, or does not open the directory,
-//! it is asked of the whole path, and the directory is compared before and after.
+//! So a run opens a known directory and compares its identity. It compares its `..` with the identity of the directory above it, and
+//! so on up to the first unknown one. Then the call names `/proc/self/fd/N/NAME`, where N is the open directory, wherever its path
+//! leads meanwhile. If the system has no such names, or does not open the directory, the call names the whole path. Then the
+//! directory is compared before and after the call.
 //!
-//! **A private directory is not guarded so**: one in which nobody can write but the user who runs the program, and root, as in each one
-//! above it up to `/`, of which none is a link; but one above it may be sticky, as `/tmp` is. No other user can put something else in
-//! the place of anything in it, so the system is asked of the whole path, and nothing is compared. A directory that ever was exposed
-//! to others stays exposed for the run.
+//! **A private directory is not guarded.** Only the user who runs the program and root can write in it, and in each directory
+//! above it up to `/`. None of these is a link, but one above it may be sticky, as `/tmp` is. No other user can replace anything
+//! in it, so the call names the whole path, and nothing is compared. A directory that was ever seen exposed to others stays
+//! exposed for the run.
 use crate::answers::is_absent;
 use crate::known::{Found, Identity, Known, is_own, keeps_own};
 use path_text::{MAX_PATH, OutOfMemory, Path};
@@ -23,36 +23,38 @@ use std::os::fd::AsRawFd;
 use std::os::unix::fs::MetadataExt;
 use std::{fs, io, mem};
 
-// A path by open directories that has more bytes begins anew at one that is opened for it.
+// If a path of `..` has more bytes, its directory is opened, and the path goes on from there.
 const FAR_UP: usize = 3000;
 
 // A directory in which something was done.
 #[derive(Drop)]
 struct Here<F: Drop> {
     path: String,
-    // What stands before a name in it when the system is asked.
+    // Comes before a name in it when the system is asked.
     front: String,
-    // Which one the front must lead to, where it is the path itself.
+    // The directory to which the front must lead, if the front is the path itself.
     due: Option<Identity>,
+    // Whether the run looked at it and found it private, so that no other user can replace anything in it.
+    is_private: bool,
     // Keeps the directory open that the front names.
     _open: Option<F>,
 }
 
-/// What is known of directories, and the two of them in which something was done last.
+/// The knowledge about directories, and the two of them that were used last.
 #[derive(Drop)]
 pub struct Parents<F: Drop> {
     alloc: Global,
     known: Known,
-    // Whether the system has names for what is open.
+    // Whether the system has names for open directories.
     has_names: bool,
-    // Who runs the program, where the system tells.
+    // The user who runs the program, if the system gives it.
     user: Option<u32>,
-    // The one of the path that was gone to, and the one before: files that are compared are read in turn.
+    // The directory of the current path, and the one before. Files that are compared are read in turn, so both stay open.
     here: Option<Here<F>>,
     other: Option<Here<F>>,
-    // The path of the last directory that was seen to stand where it should.
+    // The path of the last directory that was seen to be in its place.
     seen: String,
-    // The path of the last one that was found private.
+    // The path of the last directory that was found private.
     private: String,
     way: String,
 }
@@ -84,13 +86,13 @@ impl<F: Drop> Parents<F> {
         }
     }
 
-    /// All that is known, for a reader or a part.
+    /// A copy of all knowledge, for a reader or a part.
     pub fn share(&mut self) -> Result<Parents<F>, OutOfMemory> {
         let known = self.known.share()?;
         Ok(Parents::over(self.alloc, known, self.has_names, self.user))
     }
 
-    /// Takes what a reader or a part has come to know.
+    /// Takes the knowledge of a reader or a part.
     pub fn take(&mut self, other: Parents<F>) {
         let Parents { known, .. } = other;
         self.here = None;
@@ -100,13 +102,13 @@ impl<F: Drop> Parents<F> {
         self.known.take(known);
     }
 
-    /// Keeps which directory is at a path, in place of any that was.
+    /// Keeps which directory is at a path, in place of any other one.
     pub fn keep<R: Files>(&mut self, system: &R, path: &Path, data: &Metadata) -> io::Result<()> {
         self.keep_mode(system, plain(path), data);
         self.known.keep(plain(path), Identity::of(data))
     }
 
-    /// Keeps which directory is at a path, unless one is known there: that stays the one in which things are done.
+    /// Keeps which directory is at a path, unless one is known there. That one stays.
     pub fn keep_first<R: Files>(
         &mut self,
         system: &R,
@@ -122,7 +124,14 @@ impl<F: Drop> Parents<F> {
         }
     }
 
-    // Keeps that the directory at a path is exposed, where it is. Then no path is asked below it that was found private.
+    /// Keeps that another entry is in the place of a directory. Until a directory is made there, none is taken for it.
+    pub fn refuse(&mut self, path: &Path) -> io::Result<()> {
+        self.seen.clear();
+        self.leave_below(plain(path));
+        self.known.keep(plain(path), Identity::of_none())
+    }
+
+    // Keeps that the directory at a path is exposed, if it is. Then no directory below it counts as private any longer.
     fn keep_mode<R: Files>(&mut self, system: &R, path: &str, data: &Metadata) {
         let Some(user) = self.user else {
             return;
@@ -138,7 +147,7 @@ impl<F: Drop> Parents<F> {
         self.leave_below(path);
     }
 
-    // Whether the directories above a path, from the first that is known or from `/`, keep what this user and root own, and are no links.
+    // Whether no other user can replace the directories above a path, up to the first known one or `/`. None of them may be a link.
     fn is_under_own<R: Files>(&self, system: &R, path: &str, user: u32) -> bool {
         let mut rest = path;
         for _ in 0..MAX_PATH {
@@ -158,7 +167,7 @@ impl<F: Drop> Parents<F> {
         false
     }
 
-    // Closes the directories in which something was done last, where they are at a path or below it.
+    // Closes those of the two directories that were used last that are at a path or below it.
     fn leave_below(&mut self, top: &str) {
         if is_below(&self.here, top) {
             self.here = None;
@@ -168,7 +177,7 @@ impl<F: Drop> Parents<F> {
         }
     }
 
-    // Whether the directory at a path is private: none is exposed, from it up.
+    // Whether the directory at a path is private. Then neither it nor any above it is exposed.
     fn is_private(&mut self, path: &str) -> bool {
         if self.user.is_none() {
             return false;
@@ -180,14 +189,14 @@ impl<F: Drop> Parents<F> {
             return false;
         }
         self.private.clear();
-        // Without memory for the path the next one is looked up again.
+        // If there is no memory for the path, the next one is looked up again.
         if self.private.push_str(path).is_err() {
             self.private.clear();
         }
         true
     }
 
-    // Whether the directory at a path, or one above it, is exposed. Those above the last one that was found private are not.
+    // Whether the directory at a path, or one above it, is exposed. Those above the last private one are not.
     fn has_exposed_from(&self, path: &str) -> bool {
         let mut rest = path;
         for _ in 0..MAX_PATH {
@@ -205,7 +214,7 @@ impl<F: Drop> Parents<F> {
         true
     }
 
-    /// Closes the directories in which something was done last, unless the path stands in one of them.
+    /// Closes the directories that were used last, unless the path is in one of them.
     pub fn leave(&mut self, path: &Path) {
         if self.here.is_none() && self.other.is_none() {
             return;
@@ -217,13 +226,21 @@ impl<F: Drop> Parents<F> {
         }
     }
 
-    /// How the system is asked of the path that was gone to.
+    /// The name for the current path in calls to the system.
     pub fn way(&self) -> &str {
         self.way.as_str()
     }
 
-    /// Whether the directory at a path is the child of the one above it, where that one is known and the system tells of it. In a private
-    /// one nothing is asked.
+    /// Whether the current path is in a private directory, so that no other user can replace its entry.
+    pub fn in_private(&self) -> bool {
+        match &self.here {
+            Some(here) => here.is_private,
+            None => false,
+        }
+    }
+
+    /// Whether the directory at a path is the child of the one above it, as far as that one is known and the system answers. In a private
+    /// directory the system is not asked.
     pub fn is_child<R: Files>(&mut self, system: &R, path: &Path) -> bool {
         let above = around(path).0;
         if self.is_private(above) {
@@ -250,7 +267,7 @@ impl<F: Drop> Parents<F> {
         Ok(())
     }
 
-    /// What the system told, where the directory is still the one that is known.
+    /// The answer of the system, if the directory is still the known one. Otherwise an error.
     pub fn told<R: Files, T: Drop>(&self, system: &R, told: io::Result<T>) -> io::Result<T> {
         if self.stands(system) {
             told
@@ -259,7 +276,7 @@ impl<F: Drop> Parents<F> {
         }
     }
 
-    // Whether the directory is the one that is known. One that is open is.
+    // Whether the directory is still the known one. An open directory always is.
     fn stands<R: Files>(&self, system: &R) -> bool {
         let Some(here) = &self.here else {
             return true;
@@ -275,7 +292,7 @@ impl<F: Drop> Parents<F> {
 }
 
 impl<F: OpenFile + AsRawFd + Drop> Parents<F> {
-    /// Goes to a path: from then on [`Parents::way`] is how the system is asked of it. Where nothing is at the directory over it,
+    /// Makes a path the current one, so that [`Parents::way`] is its name in calls to the system. If the directory above it does not exist,
     /// nothing is at the path.
     pub fn go<R: Files<File = F>>(&mut self, system: &R, path: &Path) -> io::Result<()> {
         let (above, name) = around(path);
@@ -304,27 +321,29 @@ impl<F: OpenFile + AsRawFd + Drop> Parents<F> {
     }
 
     fn entered<R: Files<File = F>>(&mut self, system: &R, path: &str) -> io::Result<Here<F>> {
+        let found = self.known.find(path);
         if self.is_private(path) {
-            return self.by_path(path, None);
+            return self.by_path(path, None, is_looked_at(found));
         }
-        match self.known.find(path) {
+        match found {
             Found::Is(due) => self.known_entered(system, path, due),
-            Found::Nothing => self.by_path(path, None),
+            Found::Nothing => self.by_path(path, None, false),
             Found::Lost => Err(another()),
         }
     }
 
     // The directory at a path, by its path.
-    fn by_path(&self, path: &str, due: Option<Identity>) -> io::Result<Here<F>> {
+    fn by_path(&self, path: &str, due: Option<Identity>, is_private: bool) -> io::Result<Here<F>> {
         Ok(Here {
             path: String::from_str(self.alloc, path)?,
             front: with_slash(self.alloc, path)?,
             due,
+            is_private,
             _open: None,
         })
     }
 
-    // The directory at a path, which must be this one, in its place.
+    // The directory at a path. It must be this one, and be in its place.
     fn known_entered<R: Files<File = F>>(
         &mut self,
         system: &R,
@@ -334,7 +353,7 @@ impl<F: OpenFile + AsRawFd + Drop> Parents<F> {
         let here = if self.has_names {
             self.opened(system, path, due)?
         } else {
-            self.by_path(path, Some(due))?
+            self.by_path(path, Some(due), false)?
         };
         if !self.is_in_place(system, path, here.front.as_str())? {
             return Err(another());
@@ -344,7 +363,7 @@ impl<F: OpenFile + AsRawFd + Drop> Parents<F> {
         Ok(here)
     }
 
-    // The directory at a path, which must be this one, open if the system opens it.
+    // The directory at a path. It must be this one. It is open if the system opens it.
     fn opened<R: Files<File = F>>(
         &self,
         system: &R,
@@ -354,7 +373,7 @@ impl<F: OpenFile + AsRawFd + Drop> Parents<F> {
         let open = match File::open(system, with_slash(self.alloc, path)?.as_str()) {
             Ok(open) => open,
             Err(e) if is_absent(e.kind()) => return Err(e),
-            Err(_) => return self.by_path(path, Some(due)),
+            Err(_) => return self.by_path(path, Some(due), false),
         };
         if Identity::of(&open.metadata()?) != due {
             return Err(another());
@@ -363,12 +382,13 @@ impl<F: OpenFile + AsRawFd + Drop> Parents<F> {
             path: String::from_str(self.alloc, path)?,
             front: name_of(self.alloc, &open)?,
             due: None,
+            is_private: false,
             _open: Some(open),
         })
     }
 
-    // Whether the directory at a path, to which the front leads, is the child of the one above it, as far up as the directories are
-    // known, and as it was not seen already.
+    // Whether the directory at a path, to which the front leads, is the child of the one above it, and so on up. It compares up to the
+    // first directory that is unknown or was seen in its place already.
     fn is_in_place<R: Files<File = F>>(
         &self,
         system: &R,
@@ -402,6 +422,14 @@ impl<F: OpenFile + AsRawFd + Drop> Parents<F> {
     }
 }
 
+// Whether the run looked at a directory. It did not look at the one above a path word, in which others may write.
+fn is_looked_at(found: Found) -> bool {
+    match found {
+        Found::Is(identity) => identity != Identity::of_none(),
+        _ => false,
+    }
+}
+
 // Whether this is the directory at a path.
 fn is_at<F: Drop>(here: &Option<Here<F>>, path: &str) -> bool {
     match here {
@@ -418,7 +446,7 @@ fn is_below<F: Drop>(here: &Option<Here<F>>, top: &str) -> bool {
     }
 }
 
-// Whether the system has names for what is open: that of `/` leads to `/`.
+// Whether the system has names for open directories. If it has, the name of `/` leads to `/`.
 fn has_names<R: Files>(alloc: Global, system: &R) -> io::Result<bool>
 where
     R::File: AsRawFd,
@@ -428,7 +456,7 @@ where
     Ok(Identity::of(&named) == Identity::of(&top.metadata()?))
 }
 
-// The name of an open directory, with a slash behind it.
+// The name of an open directory, with a slash after it.
 fn name_of<F: AsRawFd>(alloc: Global, open: &F) -> io::Result<String> {
     let number = open.as_raw_fd();
     Ok(format!(in alloc; "/proc/self/fd/{number}/")?)
@@ -448,7 +476,7 @@ fn plain(path: &Path) -> &str {
     }
 }
 
-// The path of the directory over a path, without a slash at its end, and the last name.
+// The path of the directory above a path, without a slash at its end, and the last name.
 fn around(path: &Path) -> (&str, &str) {
     path.text().rsplit_once('/').unwrap_or(("", ""))
 }
@@ -461,7 +489,7 @@ fn is_within(path: &str, top: &str) -> bool {
     }
 }
 
-/// Another directory stands where a known one should.
+/// The error if another directory is in the place of a known one.
 pub fn another() -> io::Error {
     io::Error::from(ErrorKind::StaleNetworkFileHandle)
 }

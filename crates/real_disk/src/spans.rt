@@ -1,29 +1,33 @@
-//! Files of the system that are out in spans.
-ghost use Rattle.std.specs.Prelude.{◌≡◌, ◌<◌, ◌++◌, ◌∷◌, [], ℕ, List, Some, true, length, map, All, IfOk, OnOk, OnErr, IsTrue, is_some, slice_get};
+//! Files of the system that are lent in spans.
+ghost use Rattle.std.specs.Prelude.{◌≡◌, ◌<◌, ◌++◌, ◌∷◌, [], ℕ, List, Some, true, length, map, slice_get};
+ghost use Rattle.std.specs.Prelude.{All, IfOk, OnOk, OnErr, IsTrue, is_some};
 ghost use Rattle.std.specs.List.{sum_by, remove};
-ghost use Rattle.outside.specs.Count.{capped};
+ghost use Rattle.outside.specs.Count.{RoseBy, capped};
 ghost use Rattle.outside.specs.Writes.{Cut};
 ghost use Rattle.outside.specs.Spans.{Piece, are_cuts, ascends_above, cuts_at, pieces, pieces_from, without_cut};
 ghost use Rattle.real_disk.specs.Spans.{blank, count_of, piece_of, untold};
 
+use crate::answers::wrote;
 use crate::watch::Watch;
-use crate::writers::RealWriter;
-use outside::{Span, SpanError};
+use outside::{Span, SpanError, WriteError};
 use path_text::{OutOfMemory, Path};
 use std::alloc::Global;
 use std::fs::Files;
 use std::marker::Model;
-use std::os::fd::AsRawFd;
 use std::os::unix::fs::FileExt;
+use std::sync::Arc;
 
-/// A range of a file of the system, written by itself: seen as the path, where the range begins, how many bytes it has, and its count
-/// of faults. It tells no bytes.
+/// A range of a file of the system, which is written by itself. It is seen as the path, the start of the range, its number of bytes,
+/// and its count of faults. It tells no bytes. All spans of a file write through one open file.
 #[derive(Drop)]
 pub struct RealSpan<R: Files> {
-    writer: RealWriter<R>,
+    system: R,
+    // None if the file could not be opened. Then each write is a fault.
+    file: Option<Arc<R::File>>,
     path: Path,
     start: u64,
     size: u64,
+    count: u64,
 }
 
 impl<R: Files> Model for RealSpan<R> {
@@ -31,20 +35,47 @@ impl<R: Files> Model for RealSpan<R> {
 
     ghost Value = { List ℕ × ℕ × ℕ × ℕ };
 
-    ghost view = { λ span. (span.path, span.start, span.size, span.writer) };
+    ghost view = { λ span. (span.path, span.start, span.size, span.count) };
 }
 
 impl<R: Files> RealSpan<R> {
     fn failed(&self) -> u64
         ensures { result ≡ count_of self.now }
     {
-        self.writer.faults()
+        self.count
+    }
+
+    // Counts a fault.
+    fn fault(&mut self) -> SpanError
+        ensures refused { result ≡ SpanError.Failed }
+        ensures piece { piece_of self.new ≡ piece_of self.old }
+        ensures count { RoseBy 1 (count_of self.old) (count_of self.new) }
+    {
+        self.count = self.count.saturating_add(1);
+        SpanError::Failed
     }
 }
 
-impl<R: Files + Watch + Copy> Span for RealSpan<R>
+impl<R: Files + Watch> RealSpan<R>
 where
-    R::File: FileExt + AsRawFd,
+    R::File: FileExt,
+{
+    // Writes the bytes, and answers as the system does. A place above the largest `u64` is refused.
+    fn put(&self, at: u64, bytes: &[u8]) -> Result<(), WriteError> {
+        let Some(file) = &self.file else {
+            return Err(WriteError::Failed);
+        };
+        let Some(place) = self.start.checked_add(at) else {
+            return Err(WriteError::Failed);
+        };
+        let told = file.write_at(bytes, place);
+        wrote(&self.system, &self.path, told, bytes.len())
+    }
+}
+
+impl<R: Files + Watch> Span for RealSpan<R>
+where
+    R::File: FileExt,
 {
     ghost piece = { λ span. piece_of span };
 
@@ -53,68 +84,77 @@ where
     ghost count = { λ span. count_of span };
 
     fn faults(&self) -> u64 {
-        self.writer.faults()
+        self.failed()
     }
 
-    /// Each refusal but want of memory is a fault: also that no file is at the path any more.
+    /// Each refusal other than out of memory is a fault, also if the file could not be opened.
     fn write(&mut self, at: u64, bytes: &[u8]) -> Result<(), SpanError> {
-        self.writer.write_range(&self.path, self.start, at, bytes)
+        match self.put(at, bytes) {
+            Ok(()) => Ok(()),
+            Err(WriteError::OutOfMemory) => Err(SpanError::OutOfMemory),
+            Err(_) => Err(self.fault()),
+        }
     }
 }
 
-/// A span for each two neighbouring cuts, each with a writer that knows what this one does.
+/// A span from each cut to the next. All spans share the open file.
 pub fn spans_of<R: Files + Watch + Copy>(
     alloc: Global,
-    writer: &mut RealWriter<R>,
+    system: &R,
+    file: Option<Arc<R::File>>,
     path: &Path,
     cuts: &[u64],
 ) -> Result<Vec<RealSpan<R>>, OutOfMemory>
     requires { IsTrue (are_cuts cuts.now) }
-    ensures spans { IfOk result (λ spans. spans.items ≡ map blank (pieces path.now cuts.now)) }
-    ensures same { writer.new ≡ writer.old }
+    ensures { IfOk result (λ spans. spans.items ≡ map blank (pieces path.now cuts.now)) }
 {
     match cuts {
         [] => Ok(Vec::new(alloc)),
-        [first, rest @ ..] => spans_behind(alloc, writer, path, *first, rest),
+        [first, rest @ ..] => spans_behind(alloc, system, &file, path, *first, rest),
     }
 }
 
-// A span from each place on to the next, the first place being this one.
+// A span from each place to the next. The first place is this one.
 fn spans_behind<R: Files + Watch + Copy>(
     alloc: Global,
-    writer: &mut RealWriter<R>,
+    system: &R,
+    file: &Option<Arc<R::File>>,
     path: &Path,
     first: u64,
     rest: &[u64],
 ) -> Result<Vec<RealSpan<R>>, OutOfMemory>
     requires { IsTrue (ascends_above first rest.now) }
-    ensures spans { IfOk result (λ spans. spans.items ≡ map blank (pieces_from path.now first rest.now)) }
-    ensures same { writer.new ≡ writer.old }
+    ensures { IfOk result (λ spans. spans.items ≡ map blank (pieces_from path.now first rest.now)) }
 {
     let mut spans = Vec::with_capacity(alloc, rest.len())?;
     let mut at = first;
     for cut in rest {
-        spans.push(span_at(writer, path, at, *cut - at)?)?;
+        spans.push(span_at(system, file, path, at, *cut - at)?)?;
         at = *cut;
     }
     Ok(spans)
 }
 
 fn span_at<R: Files + Watch + Copy>(
-    writer: &mut RealWriter<R>,
+    system: &R,
+    file: &Option<Arc<R::File>>,
     path: &Path,
     start: u64,
     size: u64,
 ) -> Result<RealSpan<R>, OutOfMemory>
-    ensures span { IfOk result (λ span. span ≡ blank (record { path = path.now; start = start; size = size })) }
-    ensures same { writer.new ≡ writer.old }
+    ensures { IfOk result (λ span. span ≡ blank (record { path = path.now; start = start; size = size })) }
 {
-    let parents = writer.share()?;
+    let file = match file {
+        Some(file) => Some(Arc::try_clone(file)?),
+        None => None,
+    };
     Ok(RealSpan {
-        writer: RealWriter::make(writer.system(), parents),
+        system: system.apart(),
+        file,
         path: path.copy()?,
         start,
         size,
+        count: 0,
     })
 }
 
@@ -129,7 +169,7 @@ pub fn faults_of<R: Files>(spans: &[RealSpan<R>]) -> u64
     count
 }
 
-/// A file that is out in spans: seen as its path and where it was cut.
+/// A file that is lent in spans, seen as its path and its cuts.
 #[derive(Drop)]
 struct Cutting {
     path: Path,
@@ -147,7 +187,7 @@ impl Model for Cutting {
     ghost view = { λ c. record { path = c.path; cuts = c.cuts.items } };
 }
 
-/// All the files that are out in spans, in the order in which they were lent.
+/// All files that are lent in spans, in the order in which they were lent.
 #[derive(Drop)]
 pub struct Cuttings {
     out: Vec<Cutting>,
@@ -175,7 +215,7 @@ impl Cutting {
 }
 
 impl Cuttings {
-    /// None.
+    /// No file.
     pub fn make(alloc: Global) -> Cuttings
         ensures { result ≡ [] }
     {
@@ -184,7 +224,7 @@ impl Cuttings {
         }
     }
 
-    /// The file is out, behind those that are. A refusal changes nothing.
+    /// Adds a file after those that are lent. A refusal changes nothing.
     pub fn lend(&mut self, alloc: Global, path: &Path, cuts: &[u64]) -> Result<(), OutOfMemory>
         ensures ok { OnOk result (self.new ≡ self.old ++ record { path = path.now; cuts = cuts.now } ∷ []) }
         ensures err { OnErr result (self.new ≡ self.old) }
@@ -195,7 +235,7 @@ impl Cuttings {
         Ok(())
     }
 
-    /// The first of the file at the path is out no more. It takes no memory.
+    /// Ends the first lease of the file at the path. It takes no memory.
     pub fn end(&mut self, path: &Path)
         requires { is_some (cuts_at path.now self.old) ≡ true }
         ensures { self.new ≡ without_cut path.now self.old }
@@ -205,7 +245,7 @@ impl Cuttings {
     }
 }
 
-// The place of the first of the file at the path.
+// The place of the first lease of the file at the path.
 fn place_of(out: &[Cutting], path: &Path) -> usize
     requires { is_some (cuts_at path.now out.now) ≡ true }
     ensures inside { result < length out.now }

@@ -40,7 +40,7 @@ impl<W: Write> Sink for RealSink<W> {
         self.count
     }
 
-    /// An empty piece makes no call. A write that takes nothing of another is a fault.
+    /// An empty piece makes no call. If the stream takes nothing of any other piece, that is a fault.
     fn put(&mut self, bytes: &[u8]) -> Result<usize, Failed> {
         if bytes.is_empty() {
             return Ok(0);

@@ -1,4 +1,4 @@
-//! Who hears of the calls of a run to the files.
+//! The watch, which hears of the calls of a run to the files.
 use path_text::Path;
 use std::io;
 use std::rt::HostRuntime;
@@ -49,13 +49,13 @@ impl Call {
     }
 }
 
-/// Hears of the calls of readers, parts and spans, as they are made. What it does with that changes no answer. For a system that nobody
-/// watches the methods do nothing.
+/// Hears of the calls of readers, parts and spans, as they make them. It cannot change an answer. If nobody watches a system, the
+/// methods do nothing.
 pub trait Watch {
-    /// A call was answered. A read and a write tell how many bytes went over, the other calls 1.
+    /// The system answered a call. The count of a read or a write is its number of bytes, and that of any other call is 1.
     fn did(&self, _call: Call, _count: u64) {}
 
-    /// A call failed, and the files count a fault for it.
+    /// A call failed, so the files count a fault.
     fn failed(&self, _call: Call, _path: &Path, _cause: &io::Error) {}
 
     /// The same system, for another reader, part or span that may run beside this one.

@@ -1,4 +1,4 @@
-//! The files of a system whose calls are counted and whose failures are kept.
+//! The files of a system that counts its calls and writes its failures to a file.
 use crate::causes::line_of;
 use crate::live::Live;
 use crate::watch::{Call, Watch};
@@ -12,8 +12,8 @@ use std::path::PathBuf;
 use std::random::RandomSource;
 use std::rt::Clock;
 
-/// A system with the files of another one. A live line shows how far the calls of a run are, and a file gets a line for each call that
-/// failed, where there are these two.
+/// A system with the files of another one. If there is a live line, it shows how far the calls of a run are. If there is a file of
+/// errors, it gets a line for each call that failed.
 #[derive(Clone, Copy, Drop)]
 pub struct Watched<'a, R, C, P> {
     alloc: Global,
@@ -24,7 +24,7 @@ pub struct Watched<'a, R, C, P> {
 }
 
 impl<'a, R, C, P> Watched<'a, R, C, P> {
-    /// The system, watched by these. The file of errors must be open to append to it.
+    /// The system, with a live line and a file of errors, if there are these. The file must be open to append to it.
     pub fn make(
         alloc: Global,
         system: R,
@@ -48,13 +48,13 @@ impl<R: Copy, C: Clock + Copy, P: Print + Copy> Watch for Watched<'_, R, C, P> {
         }
     }
 
-    /// One write a line, so that lines of several threads do not mix. A line that can't be written is left out.
+    /// One write a line, so that lines of several threads do not mix. A line that cannot be written is left out.
     fn failed(&self, call: Call, path: &Path, cause: &io::Error) {
         let Some(errors) = self.errors else {
             return;
         };
         if let Ok(line) = line_of(self.alloc, call, path, cause) {
-            // Linux appends to a file that is open for that, whatever place is named.
+            // Linux appends to a file that is open to append, at whatever place a write names.
             let _ = errors.write_at(line.as_slice(), 0);
         }
     }

@@ -1,22 +1,24 @@
-//! Writes to the files of the system, each counted where it fails.
+//! Writes to the files of the system. Each failure is counted.
 ghost use Rattle.std.specs.Prelude.{◌≡◌, ◌≤◌, IfErr, IsErrOf, IsTrue};
 ghost use Rattle.outside.specs.Count.{RoseBy, capped};
 ghost use Rattle.outside.specs.Writes.{may_make, may_change, may_empty};
 
 use crate::answers::{changed, emptied, is_absent, made, wrote};
 use crate::handles::{Handle, to_make, to_write};
-use crate::parents::Parents;
+use crate::parents::{Parents, another};
 use crate::watch::{Call, Watch};
-use outside::{LinkText, SpanError, WriteError};
+use outside::{LinkText, WriteError};
 use path_text::{OutOfMemory, Path};
+use std::alloc::Global;
 use std::fs::Files;
 use std::io::ErrorKind;
 use std::marker::Model;
 use std::os::fd::AsRawFd;
 use std::os::unix::fs::FileExt;
+use std::sync::Arc;
 use std::{fs, io};
 
-/// What writes to the files of a system, seen as its count of faults. The file that was made or written last stays open.
+/// Writes to the files of a system. It is seen as its count of faults. The file that was made or written last stays open.
 #[derive(Drop)]
 pub struct RealWriter<R: Files> {
     system: R,
@@ -61,21 +63,21 @@ impl<R: Files> RealWriter<R> {
         self.count = self.count.saturating_add(faults);
     }
 
-    /// What it knows of directories, for a reader or a part.
+    /// Its knowledge of directories, for a reader or a part.
     pub fn share(&mut self) -> Result<Parents<R::File>, OutOfMemory>
         ensures { self.new ≡ self.old }
     {
         self.parents.share()
     }
 
-    /// Takes what a reader or a part has come to know of directories.
+    /// Takes the knowledge of directories of a reader or a part.
     pub fn take(&mut self, parents: Parents<R::File>)
         ensures { self.new ≡ self.old }
     {
         self.parents.take(parents);
     }
 
-    // Counts the fault, where the answer is one.
+    // Counts a fault if the answer is one.
     fn counted(&mut self, told: Result<(), WriteError>) -> Result<(), WriteError>
         ensures same { result ≡ told }
         ensures count { RoseBy 0 self.old self.new }
@@ -89,12 +91,12 @@ impl<R: Files> RealWriter<R> {
 }
 
 impl<R: Files + Watch + Copy> RealWriter<R> {
-    /// The system that it writes to, for another that asks it.
+    /// The system that it writes to, for another object that asks it.
     pub fn system(&self) -> R {
         self.system.apart()
     }
 
-    /// What it has come to know of directories.
+    /// Its knowledge of directories.
     pub fn into_parents(self) -> Parents<R::File> {
         let RealWriter { parents, .. } = self;
         parents
@@ -148,28 +150,29 @@ where
         self.counted(told)
     }
 
-    /// Writes bytes to a range of a file that begins at a start. Each refusal but want of memory is a fault, also that no file is there.
-    pub fn write_range(
+    /// The file at the path, open to write to it, for several that keep it. It is the file that was made or written last, or one that is
+    /// opened here. None if it cannot be opened.
+    pub fn lend_file(
         &mut self,
+        alloc: Global,
         path: &Path,
-        start: u64,
-        at: u64,
-        bytes: &[u8],
-    ) -> Result<(), SpanError>
-        ensures count { RoseBy 0 self.old self.new }
-        ensures cause { IsErrOf result SpanError.Failed → RoseBy 1 self.old self.new }
+    ) -> Result<Option<Arc<R::File>>, OutOfMemory>
+        ensures { self.new ≡ self.old }
     {
-        match self.write_from(path, start, at, bytes) {
-            Ok(()) => Ok(()),
-            Err(WriteError::OutOfMemory) => Err(SpanError::OutOfMemory),
-            Err(_) => {
-                self.count = self.count.saturating_add(1);
-                Err(SpanError::Failed)
+        if let Some(handle) = self.written.take() {
+            if let Some(file) = handle.into_file(path) {
+                return Ok(Some(Arc::new(alloc, file)?));
             }
+        }
+        let told = self.file_opened(path);
+        match changed(&self.system, Call::Open, path, told) {
+            Ok(file) => Ok(Some(Arc::new(alloc, file)?)),
+            Err(WriteError::OutOfMemory) => Err(OutOfMemory),
+            Err(_) => Ok(None),
         }
     }
 
-    /// Removes what is no directory.
+    /// Removes anything but a directory.
     pub fn remove_file(&mut self, path: &Path) -> Result<(), WriteError>
         ensures named { IfErr result (λ e. IsTrue (may_change e)) }
         ensures count { RoseBy 0 self.old self.new }
@@ -193,12 +196,13 @@ where
     }
 }
 
-// The same as the system tells it, each in the directory over the path.
+// The same calls, with the answers of the system. Each acts in the directory above its path.
 impl<R: Files + Watch> RealWriter<R>
 where
     R::File: FileExt + AsRawFd,
 {
-    // A directory that was made, or is there already, is one that is known from then on.
+    // A directory that was made, or that exists already, is known from then on. If another entry has taken the place of the one that was
+    // made, that is a fault.
     fn dir_made(&mut self, path: &Path) -> io::Result<()>
         ensures { self.new ≡ self.old }
     {
@@ -206,9 +210,13 @@ where
         let told = fs::create_dir(&self.system, self.parents.way());
         let told = self.parents.told(&self.system, told);
         match told {
-            Ok(()) => self.keep(path)?,
+            Ok(()) => {
+                if !self.keep(path)? {
+                    return Err(another());
+                }
+            }
             Err(e) if e.kind() == ErrorKind::AlreadyExists => {
-                self.keep(path)?;
+                let _ = self.keep(path)?;
                 return Err(e);
             }
             Err(e) => return Err(e),
@@ -216,15 +224,17 @@ where
         Ok(())
     }
 
-    // Keeps which directory is at the path that was gone to, if one is.
-    fn keep(&mut self, path: &Path) -> io::Result<()>
+    // Keeps which directory is at the current path, and answers whether there is one. If there is none, nothing is done below the path.
+    fn keep(&mut self, path: &Path) -> io::Result<bool>
         ensures { self.new ≡ self.old }
     {
         let data = fs::symlink_metadata(&self.system, self.parents.way())?;
         if data.is_dir() {
             self.parents.keep(&self.system, path, &data)?;
+        } else {
+            self.parents.refuse(path)?;
         }
-        Ok(())
+        Ok(data.is_dir())
     }
 
     // The file stays open.
@@ -250,7 +260,8 @@ where
         ensures { self.new ≡ self.old }
     {
         self.parents.go(&self.system, path)?;
-        let told = to_write(&self.system, self.parents.way());
+        let in_private = self.parents.in_private();
+        let told = to_write(&self.system, self.parents.way(), in_private);
         self.parents.told(&self.system, told)
     }
 
@@ -262,7 +273,7 @@ where
         self.parents.told(&self.system, told)
     }
 
-    // Where a directory is missing, the path itself may be none or one over it, which is told as if nothing were there.
+    // For "not a directory" the path itself may be no directory, or one above it. The second is answered as if nothing were there.
     fn dir_removed(&mut self, path: &Path) -> io::Result<()>
         ensures { self.new ≡ self.old }
     {
@@ -276,7 +287,7 @@ where
         }
     }
 
-    // Whether nothing is at the path that was gone to.
+    // Whether nothing is at the current path.
     fn is_gone(&self) -> bool {
         match fs::symlink_metadata(&self.system, self.parents.way()) {
             Ok(_) => false,
@@ -284,23 +295,7 @@ where
         }
     }
 
-    // The same, where a place that is too far is a fault.
-    fn write_from(
-        &mut self,
-        path: &Path,
-        start: u64,
-        at: u64,
-        bytes: &[u8],
-    ) -> Result<(), WriteError>
-        ensures { self.new ≡ self.old }
-    {
-        match start.checked_add(at) {
-            Some(place) => self.write_open(path, place, bytes),
-            None => Err(WriteError::Failed),
-        }
-    }
-
-    // Writes through the handle that is open, or opens one.
+    // Writes through the open handle of the file, or opens one.
     fn write_open(&mut self, path: &Path, at: u64, bytes: &[u8]) -> Result<(), WriteError>
         ensures same { self.new ≡ self.old }
         ensures named { IfErr result (λ e. IsTrue (may_change e)) }

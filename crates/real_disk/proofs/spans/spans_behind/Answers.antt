@@ -20,13 +20,12 @@ loop-cut-preserved g c =
     record {
       made =
           ap (λ l. l ++ map blank (pieces_from c.args.path.now (get_or rest i 0) (drop (i + 1) rest)))
-          (c.in_ok-push.ensures.items ∙ ap (λ s. c.loop-cut.spans.items ++ s ∷ []) c.in_ok-span_at.ensures.span)
+          (c.in_ok-push.ensures.items ∙ ap (λ s. c.loop-cut.spans.items ++ s ∷ []) c.in_ok-span_at.ensures)
           ∙ made_on c.args.path.now c.loop-cut.at rest i 0 c.loop-cut.spans.items _ c.loop-cut-test.true old.made;
       up = next.1;
-      same = c.span_at.ensures.same ∙ old.same;
     }
 
-pub returns-clause-spans : goal.returns-clause-spans
-returns-clause-spans g c =
+pub returns : goal.returns
+returns g c =
     made_all c.args.path.now c.loop-cut.at c.args.rest.now c.loop-cut.cut-index c.loop-cut.spans.items _ (omega (arith, c.loop-cut-test.false))
     c.loop-cut.invariant.made

@@ -7,5 +7,4 @@ abbrev pub invariant-loop-cut : goal.invariant-loop-cut
 invariant-loop-cut g l = record {
   made : l.spans.items ++ map blank (pieces_from l.path l.at (drop l.cut-index l.rest)) ≡ map blank (pieces_from l.path l.first l.rest);
   up : ascends_above l.at (drop l.cut-index l.rest) ≡ true;
-  same : l.writer ≡ l.fn.writer;
 }
