@@ -3,7 +3,7 @@ _mfu() {
     local cur=${COMP_WORDS[COMP_CWORD]} prev=${COMP_WORDS[COMP_CWORD-1]} words
     COMPREPLY=()
     if [ "$COMP_CWORD" -eq 1 ]; then
-        mapfile -t COMPREPLY < <(compgen -W 'dwalk dfind dcmp dcp dsync drm dtest help --help --version' -- "$cur")
+        mapfile -t COMPREPLY < <(compgen -W 'dwalk dfind dcmp dcp dsync ddup drm dtest help --help --version' -- "$cur")
         return
     fi
     # A `=` between an option and its value is a word of its own.
@@ -13,7 +13,7 @@ _mfu() {
         prev=${COMP_WORDS[COMP_CWORD-2]}
     fi
     case ${COMP_WORDS[1]}:$prev in
-        help:help) words='dwalk dfind dcmp dcp dsync drm dtest globs expressions messages statuses permissions' ;;
+        help:help) words='dwalk dfind dcmp dcp dsync ddup drm dtest globs expressions messages statuses permissions' ;;
         dwalk:--sort) words='path name size mtime kind -path -name -size -mtime -kind' ;;
         dwalk:--output) _mfu_paths; return ;;
         dwalk:--input) _mfu_paths; return ;;
@@ -45,6 +45,7 @@ _mfu() {
         dcmp:--split) words='equal random' ;;
         dcmp:--seed) return ;;
         dcmp:--width) return ;;
+        dcp:--range) return ;;
         dcp:--ranks) return ;;
         dcp:--hosts) return ;;
         dcp:--split) words='equal random' ;;
@@ -55,6 +56,11 @@ _mfu() {
         dsync:--split) words='equal random' ;;
         dsync:--seed) return ;;
         dsync:--width) return ;;
+        ddup:--ranks) return ;;
+        ddup:--hosts) return ;;
+        ddup:--split) words='equal random' ;;
+        ddup:--seed) return ;;
+        ddup:--width) return ;;
         drm:--name) return ;;
         drm:--path) return ;;
         drm:--type) words='f d l o' ;;
@@ -90,10 +96,13 @@ _mfu() {
             words='-o --ranks --hosts --split --seed --width --help' ;;
         dcp:*)
             if [[ $cur != -* ]]; then _mfu_paths; return; fi
-            words='--ranks --hosts --split --seed --width --help' ;;
+            words='--range --ranks --hosts --split --seed --width --help' ;;
         dsync:*)
             if [[ $cur != -* ]]; then _mfu_paths; return; fi
             words='--delete --ranks --hosts --split --seed --width --help' ;;
+        ddup:*)
+            if [[ $cur != -* ]]; then _mfu_paths; return; fi
+            words='--ranks --hosts --split --seed --width --help' ;;
         drm:*)
             if [[ $cur != -* ]]; then _mfu_paths; return; fi
             words='--dryrun --name --path --type --size --mtime --mmin --newer --ranks --hosts --split --seed --width --help' ;;

@@ -1,4 +1,4 @@
-//! What the program is given: its words, and where it keeps the failures of calls.
+//! The input of the program: its words, and the file for the failures of calls.
 ghost use Rattle.std.specs.Prelude.{◌≡◌, ◌⊎◌, IfErr};
 
 use mfu_top::Status;
@@ -7,7 +7,7 @@ use std::io::{ErrorKind, Write};
 use std::rt::Env;
 use std::{env, io};
 
-/// The words behind the program's own name, or how the program ends where one is no text or no memory is found.
+/// The words after the program's own name, or the status if one is not UTF-8 or no memory is found.
 pub fn words<R: Env + AllocGlobal>(rt: &R) -> Result<Vec<String>, Status>
     ensures { IfErr result (λ status. (status ≡ Status.Words) ⊎ (status ≡ Status.Memory)) }
 {
@@ -20,8 +20,8 @@ pub fn words<R: Env + AllocGlobal>(rt: &R) -> Result<Vec<String>, Status>
     words.collect(rt.alloc()).map_err(|_| Status::Memory)
 }
 
-/// The file that the variable `MFU_ERRORS` names, open to append to it, if there is such a variable and it is not empty. Where it
-/// can't be opened, a line on standard error says so, and failures are not kept.
+/// The file that the variable `MFU_ERRORS` names, open to append to it, if there is such a variable and it is not empty. If it
+/// cannot be opened, a line on standard error says so, and failures are not kept.
 pub fn errors_file<R, W>(rt: &R, mut notes: W) -> Option<File>
 where
     R: Env + AllocGlobal + Files<File = File>,

@@ -1,4 +1,4 @@
-//! The line that the program adds on a terminal after words that it refused: which rule is broken, and where to read.
+//! The line that the program adds on a terminal after words that it refused: the broken rule, and the help to read.
 use path_text::OutOfMemory;
 use std::alloc::Global;
 use tool_words::{Cause, Command, Refusal};
@@ -19,7 +19,7 @@ pub fn hint(alloc: Global, words: &[String], refusal: Refusal) -> Result<String,
     })
 }
 
-/// The line about a command that was refused though its words were not: its sources can't go to its destination.
+/// The line about a command that was refused though its words were not: its sources cannot go to its destination.
 pub fn placing(command: &Command) -> &'static str {
     match command {
         Command::Sync { .. } => "mfu: DEST cannot be made equal to SOURCE; see mfu help dsync\n",
@@ -38,6 +38,7 @@ fn page_of(words: &[String], refusal: Refusal) -> &'static str {
         "dcmp" => " dcmp",
         "dcp" => " dcp",
         "dsync" => " dsync",
+        "ddup" => " ddup",
         "drm" => " drm",
         "dtest" => " dtest",
         _ => "",
@@ -138,7 +139,7 @@ fn rule_of_option(option: &str) -> Option<&'static str> {
         "--ranks" | "--hosts" => "the number must be 1 to 64",
         "--width" => "the number must be 2 to 64",
         "--seed" => "the number must be below 2^64",
-        "--stop-after" => "the number must be 1 to 2^63 - 1",
+        "--stop-after" | "--range" => "the number must be 1 to 2^63 - 1",
         "--split" => "the rule must be equal or random",
         "--sort" => "the field must be path, name, size, mtime or kind, or one of these after -",
         "--input" | "--output" | "--lists" | "--newer" => "the path must be absolute",
@@ -170,7 +171,7 @@ mod tests {
     use tool_words::read_words;
 
     // Command lines that are refused, and the hint about each.
-    const LINES: [(&str, &str); 29] = [
+    const LINES: [(&str, &str); 32] = [
         ("", "mfu: a tool is missing; see mfu help\n"),
         (
             "dwolk /t",
@@ -216,6 +217,15 @@ mod tests {
         (
             "dsync --delete=all /a /b",
             "mfu: word 1, \"--delete=all\": this option takes no value; see mfu help dsync\n",
+        ),
+        ("ddup", "mfu: a path is missing; see mfu help ddup\n"),
+        (
+            "ddup --sort size /t",
+            "mfu: word 1, \"--sort\": the tool has no such option; see mfu help ddup\n",
+        ),
+        (
+            "dcp --range 0 /t /d",
+            "mfu: word 2, \"0\": the number must be 1 to 2^63 - 1; see mfu help dcp\n",
         ),
         (
             "dtest",

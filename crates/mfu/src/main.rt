@@ -1,23 +1,29 @@
-//! The program: `mfu TOOL WORD..` runs a tool over the files of the system.
+//! The program: `mfu TOOL WORD...` runs a tool over the files of the system.
 //!
-//! It hands [`mfu_top::run`] the words behind its own name, the files, standard output, standard error and the time, and ends
-//! with the status that this answers. A word that is no text ends it with status 2, and want of memory for the words with
+//! It passes to [`mfu_top::run`] the words after its own name, the files, standard output, standard error and the time, and ends
+//! with the status that this answers. A word that is not UTF-8 ends it with status 2, and want of memory for the words with
 //! status 3.
 //!
+//! - `console` has the system that it runs on.
 //! - `given` has the words, and the file in which failures are kept.
-//! - `help` has what the program says of itself, and `topics` the parts of that which several tools share. They are printed where nothing
-//!   else is asked for, and for words that are refused and have `--help` among them.
+//! - `help` has the general help and the version, `reading_pages` and `changing_pages` the help of each tool, and `topics` the parts
+//!   that several tools share. They are printed if the words ask for nothing else, and for refused words with `--help` among
+//!   them.
 //! - `hints` has the line that follows the refusal of words.
 //!
-//! The files, the streams and the time of the system are those of the crate `real_disk`. Only where standard error is a terminal, a line
-//! shows how far the run is, and a hint follows a refusal: every other reader gets the text of the run alone.
+//! The files, the streams and the time of the system are those of the crate `real_disk`. Only if standard error is a terminal, a line
+//! shows how far the run is, and a hint follows a refusal: every other reader gets only the text of the run.
 #![tactic(auto)]
 
+mod changing_pages;
+mod console;
 mod given;
 mod help;
 mod hints;
+mod reading_pages;
 mod topics;
 
+use console::Console;
 use mfu_top::{Status, run};
 use outside::put_all;
 use real_disk::{AfterLive, Live, RealGround, RealSink, Watched, seconds};
@@ -44,8 +50,8 @@ fn main(rt: HostRuntime) -> ExitCode {
     } else {
         None
     };
-    let system = Watched::make(rt.alloc(), rt, live.as_ref(), errors.as_ref());
-    let mut files = RealGround::make(rt.alloc(), system);
+    let watched = Watched::make(rt.alloc(), rt, live.as_ref(), errors.as_ref());
+    let mut files = RealGround::make(rt.alloc(), Console { watched });
     let mut out = RealSink::make(AfterLive::make(live.as_ref(), rt.stdout()));
     let mut notes = RealSink::make(AfterLive::make(live.as_ref(), rt.stderr()));
     let now = seconds(&rt);

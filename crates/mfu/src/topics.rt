@@ -30,7 +30,7 @@ A condition is FIELD=STATE:
   EXIST    ONLY_SRC, ONLY_DEST, COMMON, or DIFFER (on one side only)
   TYPE     COMMON or DIFFER: the kinds are equal, or not
   SIZE     COMMON or DIFFER: the sizes of two regular files
-  CONTENT  COMMON or DIFFER: the bytes of two regular files
+  CONTENT  COMMON or DIFFER: the bytes of two files, or the texts of two links
 
 @ means and, a comma means or, and @ binds tighter. The sign - of a row matches
 neither state. The first : ends the expression, and an absolute path follows.
@@ -39,12 +39,12 @@ neither state. The first : ends the expression, and an absolute path follows.
   EXIST=ONLY_SRC,CONTENT=DIFFER:/tmp/l   only in SOURCE, or changed
   TYPE=COMMON@CONTENT=DIFFER:/tmp/l      same kind and other bytes
 
-FILE gets SOURCE's entry of each row that matches, or DEST's where SOURCE has
+FILE gets SOURCE's entry of each row that matches, or DEST's if SOURCE has
 none. dwalk and dfind read it with --input.
 ";
 
 const MESSAGES: &str = "Messages are lines on standard error. Each comes once, after the walk. Set
-MFU_ERRORS=FILE to see why a call failed: mfu appends a line for each, with the
+MFU_ERRORS=FILE to see why a call failed. mfu appends a line for each: the
 system's name of the error, the call and the path, as in EACCES list /a/b.
 
   Message          Where to look
@@ -78,7 +78,7 @@ Runs that end without a report:
 
 const STATUSES: &str = "Exit statuses:
 
-  0  Success. dcmp: also if the trees differ.
+  0  Success, also if dcmp finds differences or ddup finds equal files.
   1  Finished, but standard error names paths that could not be read, copied or
      deleted. mfu help messages says where to look.
   2  The command line was refused, or the destination of dcp or dsync was.
@@ -104,7 +104,7 @@ const PERMISSIONS: &str = "The permissions that mfu needs, as any program does:
   to list a directory    read (r) on it; to see its entries, x too
   to read a file         read (r) on it
   to make an entry       write and search (wx) on its directory
-  to delete an entry     wx on its directory; where that is sticky, as /tmp,
+  to delete an entry     wx on its directory; if that is sticky, as /tmp,
                          you must own the entry or the directory
   to write into a file   dcp and dsync make a new one: wx on its directory
 
@@ -113,10 +113,10 @@ read, failed copy, failed remove. Set MFU_ERRORS=FILE to see the system's
 reason: EACCES and EPERM are permissions, EROFS a file system that is read-only.
 
 dcp and dsync copy no permissions, owners or times. New files get 0666 and
-directories 0777, less the umask, also where a private file is replaced. For a
+directories 0777, less the umask, also if a private file is replaced. For a
 private copy:
 
-  umask 077; mfu dcp /a /b; rsync -a --size-only /a/ /b/
+  umask 077; mfu dsync /a /b; rsync -a --size-only /a/ /b/
 
 As root every directory can be read and deleted. If other users can change the
 tree, run drm, dcp and dsync as its owner instead.
