@@ -1,4 +1,4 @@
-//! Files in memory of which parts are lent, as the tests lend them, write them and take them back.
+//! Files in memory whose parts the tests lend, write and take back.
 ghost use Rattle.std.specs.Prelude.{◌≡◌, ◌<◌, [], ℕ, List, Option, Some, true, length, IsTrue, IfSome, slice_get};
 ghost use Rattle.std.specs.FinMap as map;
 ghost use Rattle.std.specs.List.{list_any, list_all, remove};
@@ -38,7 +38,7 @@ impl Model for Loan {
 }
 
 impl Loan {
-    /// A call of the part that writes, `Write` of these bytes from the front on. The test stops where the part may not write.
+    /// A call of the part that writes; `Write` writes these bytes from the front on. The test stops if the part may not write there.
     pub fn write(
         &mut self,
         rt: &(impl Abort + AllocGlobal),
@@ -57,7 +57,7 @@ impl Loan {
     }
 }
 
-/// Files in memory, and the tops of the parts of them that are out. Nothing is said of what they hold.
+/// Files in memory, and the tops of their parts that are out. Contracts say nothing of their contents.
 #[derive(Drop)]
 pub struct Lender {
     files: MemGround,
@@ -76,7 +76,7 @@ impl Model for Lender {
 }
 
 impl Lender {
-    /// These files, of which no part is out.
+    /// These files, with no part out.
     pub fn of(alloc: Global, files: Whole<MemGround>) -> Lender {
         Lender {
             files: files.into_files(),
@@ -84,7 +84,7 @@ impl Lender {
         }
     }
 
-    /// Lends what stands at and under these paths. The test stops where that can't be lent.
+    /// Lends the entries at and under these paths. The test stops if they can't be lent.
     pub fn lend(&mut self, rt: &(impl Abort + AllocGlobal), texts: &[&str]) -> Loan {
         let tops = all_parsed(rt, texts);
         assert!(rt; are_distinct(&tops), "the tops differ");
@@ -98,14 +98,14 @@ impl Lender {
         Loan { part, tops }
     }
 
-    /// Takes a part back. The test stops where it is not one of these files.
+    /// Takes a part back. The test stops if it is not a part of these files.
     pub fn take_back(&mut self, rt: &impl Abort, loan: Loan) {
         let place = place_of(&self.out, loan.tops.paths()).expect(rt, "a part that is out");
         self.files.give_back(loan.part);
         self.out.remove(place);
     }
 
-    /// A call that writes, `Write` of these bytes from the front on. The test stops where the files may not be written.
+    /// A call that writes; `Write` writes these bytes from the front on. The test stops if the files may not be written there.
     pub fn write(
         &mut self,
         rt: &(impl Abort + AllocGlobal),
@@ -118,19 +118,19 @@ impl Lender {
         write(&mut self.files, rt.alloc(), call, &path, bytes)
     }
 
-    /// A reader of what is not lent.
+    /// A reader of all that is not lent.
     pub fn reader(&mut self, rt: &(impl Abort + AllocGlobal)) -> MemReader {
         self.files.reader(rt.alloc()).expect(rt, "room")
     }
 
-    /// The files again. The test stops where a part is out.
+    /// The files again. The test stops if a part is out.
     pub fn whole(self, rt: &impl Abort) -> Whole<MemGround> {
         assert!(rt; self.out.is_empty(), "no part is out");
         Whole::of(self.files)
     }
 }
 
-// A call that writes, `Write` of these bytes from the front on. A call that does not write is refused as `Failed`.
+// A call that writes; `Write` writes these bytes from the front on. A call that does not write is refused as `Failed`.
 fn write<P: Plot>(
     files: &mut P,
     alloc: Global,
@@ -151,7 +151,7 @@ fn write<P: Plot>(
     }
 }
 
-// The tops that these paths are, in an own list.
+// These paths as tops, in a list of their own.
 fn tops_of(rt: &(impl Abort + AllocGlobal), paths: &[Path]) -> Tops
     ensures { result ≡ paths.now }
 {
@@ -215,7 +215,7 @@ fn are_distinct(paths: &[Path]) -> bool
     all_differ(paths)
 }
 
-// Whether no path stands again behind itself.
+// Whether no path comes again after itself.
 fn all_differ(paths: &[Path]) -> bool
     ensures { result ≡ all_differ paths.now }
 {
@@ -251,7 +251,7 @@ fn are_of_one_level(paths: &[Path]) -> bool
     }
 }
 
-// Whether a directory stands over each of the paths.
+// Whether the parent of each of the paths is a directory.
 fn have_parents(rt: &(impl Abort + AllocGlobal), files: &mut MemGround, paths: &[Path]) -> bool
     ensures told { IsTrue result → HaveParents paths.now files.old.files }
     ensures same { files.new ≡ files.old }
@@ -271,7 +271,7 @@ fn all_have_parents(reader: &mut MemReader, paths: &[Path]) -> bool
     true
 }
 
-// Whether a directory stands over the path, and that is told.
+// Whether the parent of the path is a directory, and `stat` answers so.
 fn has_parent(reader: &mut MemReader, path: &Path) -> bool
     ensures told { IsTrue result → is_dir (map.get reader.old.files (parent_of path.now)) ≡ true }
     ensures same { reader.new.files ≡ reader.old.files }
@@ -283,7 +283,7 @@ fn has_parent(reader: &mut MemReader, path: &Path) -> bool
     }
 }
 
-// Whether a directory stands at the path, and that is told.
+// Whether the entry at the path is a directory, and `stat` answers so.
 fn is_dir_at(reader: &mut MemReader, path: &Path) -> bool
     ensures told { IsTrue result → is_dir (map.get reader.old.files path.now) ≡ true }
     ensures same { reader.new.files ≡ reader.old.files }
@@ -303,7 +303,7 @@ fn is_dir(told: Option<Stat>) -> bool
     }
 }
 
-// The place of the first list that is these tops.
+// The place of the first list that equals these tops.
 fn place_of(out: &[Tops], tops: &[Path]) -> Option<usize>
     ensures out { IfSome result (λ _. IsTrue (list_any (λ one. same_tops one tops.now) out.now)) }
     ensures inside { IfSome result (λ place. place < length out.now) }

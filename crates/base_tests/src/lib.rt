@@ -1,8 +1,8 @@
 //! Tests of the public calls of the crates at the bottom: paths, files, the files of checkpoints, looks and made-up trees.
 //!
-//! They stand here, and not in the crates, so that each of those is proved once: what they call is proved, and they are proved over
-//! its contracts. `shared` has what the tests share, `whole` the files that they write,
-//! and `leasing` those of which they lend parts.
+//! They are here, and not in the crates, so that each crate is proved once. They call proved functions, and are proved over the
+//! contracts of these. `shared` has the helpers of all tests, `whole` the files that they write, and `leasing` the files whose
+//! parts they lend.
 #![tactic(auto)]
 
 #[cfg(test)]

@@ -1,4 +1,4 @@
-//! Files that tell no tree, whose readers lie and meet.
+//! Files that tell no tree, whose readers lie, swell files and meet.
 use crate::of_files_mem::tree_t;
 use crate::shared::{parsed, same, so};
 use crate::whole::{holds, listed, lists, told};
@@ -8,6 +8,12 @@ use outside::{Failed, Kind, ListError, ReadError, SaveError, Stat, Tree, Wide};
 const HELLO: Stat = Stat {
     kind: Kind::File,
     size: 5,
+    mtime: Some(86400),
+};
+
+const SIX: Stat = Stat {
+    kind: Kind::File,
+    size: 6,
     mtime: Some(86400),
 };
 
@@ -39,6 +45,29 @@ fn later_readers_lie_about_one_path(rt: HostRuntime) {
     same(&rt, &refused, &Some(ListError::NotDir));
     so(&rt, lists(&rt, &mut after, "/t", ("a b b-x ", 0, 0)), "/t");
     same(&rt, &after.faults(), &0);
+}
+
+#[test]
+fn later_readers_tell_one_byte_more_of_a_file(rt: HostRuntime) {
+    let mut files = tree_t(&rt).blind();
+    let mut before = files.reader(&rt);
+    for at in ["/t/a", "/t/b", "/none"] {
+        files.swell(&parsed(&rt, at)).expect(&rt, "room");
+    }
+    let mut after = files.reader(&rt);
+    same(&rt, &told(&rt, &mut after, "/t/a"), &Ok(Some(SIX)));
+    same(&rt, &told(&rt, &mut after, "/t/b-x"), &Ok(Some(ONE)));
+    let dir = told(&rt, &mut before, "/t/b");
+    same(&rt, &told(&rt, &mut after, "/t/b"), &dir);
+    same(&rt, &told(&rt, &mut after, "/none"), &Ok(None));
+    same(&rt, &told(&rt, &mut before, "/t/a"), &Ok(Some(HELLO)));
+    let mut into = [0; 8];
+    let read = after.read(&parsed(&rt, "/t/a"), 0, &mut into);
+    same(&rt, &read, &Ok(5));
+    same(&rt, &into, b"hello\0\0\0");
+    files.lie(&parsed(&rt, "/t/a")).expect(&rt, "room");
+    let mut last = files.reader(&rt);
+    same(&rt, &told(&rt, &mut last, "/t/a"), &Ok(Some(LIE)));
 }
 
 #[test]

@@ -1,4 +1,4 @@
-//! The files of a checkpoint, written and read. What is told of damaged ones are rows of `worked_rows`.
+//! The files of a checkpoint, written and read. The answers for damaged ones are rows of `worked_rows`.
 use crate::shared::{all_parsed, filled, parsed, same, so};
 use crate::whole::{Whole, holds};
 use circle_lists::ListsError;
@@ -16,7 +16,7 @@ fn with_folder(rt: &(impl Abort + AllocGlobal)) -> Whole<MemGround> {
     files
 }
 
-// The paths of each list, with a blank behind each, and `;` behind each list; or why there are none, and at which path.
+// The paths of each list, with a blank after each path and `;` after each list; or why there are none, and at which path.
 fn outcome(rt: &(impl Abort + AllocGlobal), answer: Result<Vec<Vec<Path>>, ListsError>) -> String {
     let mut text = String::new(rt.alloc());
     match answer {
@@ -154,7 +154,7 @@ fn faults_are_told_with_their_file(rt: HostRuntime) {
     );
 }
 
-// A folder's path of so many bytes.
+// The path of a folder, of `len` bytes.
 fn long_path(rt: &(impl Abort + AllocGlobal), len: usize) -> Path {
     let mut bytes = filled(rt, b'a', len);
     if let Some(first) = bytes.first_mut() {

@@ -27,7 +27,7 @@ pub fn tree_t(rt: &(impl Abort + AllocGlobal)) -> Whole<MemGround> {
     files
 }
 
-// That tree, in which calls at paths are planned to fail.
+// The same tree, in which calls at paths are planned to fail.
 fn planned(rt: &(impl Abort + AllocGlobal), calls: &[(Call, &str)]) -> Whole<MemGround> {
     let mut files = tree_t(rt);
     for (call, at) in calls {

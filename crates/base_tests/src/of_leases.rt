@@ -29,7 +29,7 @@ fn tops_of(part: usize) -> &'static [&'static str] {
     }
 }
 
-// What a part is asked to write. A call at a name `no` is planned to fail.
+// The calls that write in a part. A call at a name `no` is planned to fail.
 fn calls_of(part: usize) -> &'static [(Call, &'static str, &'static str)] {
     match part {
         SEVERAL => &[
@@ -66,8 +66,7 @@ fn free_behind(part: usize) -> &'static str {
     }
 }
 
-// A path, the part that it is in, and what stands there before the lease and after the return: `/` of a directory, the bytes of a
-// file.
+// A path, its part, and its entry before the lease and after the return: `/` for a directory, the bytes for a file.
 type Row = (
     &'static str,
     usize,
@@ -137,7 +136,7 @@ fn work(rt: &(impl Abort + AllocGlobal), part: usize, loan: &mut Loan) -> u64 {
     failed
 }
 
-// Whether this stands there: nothing, of `/` a directory, or else a file with these bytes.
+// Whether the path has this entry: none, a directory if the text is `/`, or else a file with these bytes.
 fn stands<R: Tree>(
     rt: &(impl Abort + AllocGlobal),
     reader: &mut R,
@@ -155,7 +154,7 @@ fn stands<R: Tree>(
     }
 }
 
-// Nothing is told of what is out, each part that is back left what it wrote, and all else is as before.
+// Readers show nothing of a part that is out. A part that is back left the entries that it wrote, and all else is as before.
 fn look(rt: &(impl Abort + AllocGlobal), lender: &mut Lender, lent: &[usize], back: &[usize]) {
     let mut reader = lender.reader(rt);
     for (at, part, before, after) in &ROWS {
@@ -170,7 +169,7 @@ fn look(rt: &(impl Abort + AllocGlobal), lender: &mut Lender, lent: &[usize], ba
     }
 }
 
-// Leases these parts, writes each of them and takes them back, each time the one at this place of those that are still out.
+// Leases these parts, writes each of them and takes them back, each time the part at this place among those still out.
 fn lend_and_take_back(rt: &(impl Abort + AllocGlobal), lent: &[usize], places: &[usize]) {
     let mut lender = Lender::of(rt.alloc(), tree(rt));
     let mut loans = Vec::new(rt.alloc());

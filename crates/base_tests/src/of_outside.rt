@@ -101,8 +101,8 @@ fn a_listing_gives_its_names_back(rt: HostRuntime) {
     }
 }
 
-/// A reader of one file that others change: it tells some size of it, gives two bytes at a time, fails at one of its calls, and
-/// finds no file from another one on.
+/// A reader of one file that others change. It answers some size, gives two bytes at a time and fails at one of its calls. From
+/// another call on it finds no file.
 #[derive(Drop)]
 struct Drip {
     told: u64,
@@ -160,7 +160,7 @@ impl Tree for Drip {
     }
 }
 
-// What is loaded of a file that is told to be so long, and how many faults there were.
+// The bytes loaded of a file whose `stat` answers this size, and how many faults there were.
 fn loaded(
     rt: &(impl Abort + AllocGlobal),
     told: u64,
@@ -205,7 +205,7 @@ fn a_file_that_changes_is_not_loaded_past_a_fault(rt: HostRuntime) {
     }
 }
 
-// A text of so many bytes.
+// A text of `len` bytes.
 fn long(rt: &(impl Abort + AllocGlobal), len: usize) -> String {
     let mut text = String::new(rt.alloc());
     for _ in 0..len {

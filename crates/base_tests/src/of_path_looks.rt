@@ -26,7 +26,7 @@ fn tree_t(rt: &(impl Abort + AllocGlobal)) -> MemGround {
     files
 }
 
-// Looks at the paths, which tells just this, and how many faults there are then.
+// Looks at the paths, and compares the answers with `told`. It answers how many faults there are then.
 fn do_look<G: Ground>(
     rt: &(impl Abort + AllocGlobal),
     files: &mut G,
@@ -81,7 +81,7 @@ fn a_look_that_fails_is_counted_once(rt: HostRuntime) {
     let paths = ["/t/a", "/t", "/t/a", "/t/a", "/t"];
     let told = [("/t", Seen::At(None)), ("/t/a", Seen::Failed)];
     same(&rt, &do_look(&rt, &mut files, &paths, &told), &1);
-    // It fails also where nothing is, and adds to what was counted.
+    // It fails also where nothing is, and adds to the count.
     plan(&rt, &mut files, "/u");
     let told = [("/t/a", Seen::Failed), ("/u", Seen::Failed)];
     same(&rt, &do_look(&rt, &mut files, &["/u", "/t/a"], &told), &3);
@@ -94,14 +94,14 @@ fn no_path_is_no_look(rt: HostRuntime) {
     same(&rt, &do_look(&rt, &mut files, &[], &[]), &0);
 }
 
-// Files that tell no tree and change at each look: what the nth stat is asked of changed last at n.
+// Files that tell no tree and change at each look: the nth stat answers n as the time of last change.
 #[derive(Drop)]
 struct Restless {
     stats: u64,
     lent: Lent,
 }
 
-// A part of files of which nothing is told, and which finds no memory to write.
+// A part that tells no nodes, and answers out of memory to each call that writes.
 #[derive(Drop)]
 struct Quiet {
     tops: Tops,
@@ -263,7 +263,7 @@ impl Ground for Restless {
     }
 }
 
-// Such files, of which nothing was asked yet.
+// Such files, before any call.
 fn made_restless(alloc: Global) -> Restless
     ensures { result.lent ≡ [] }
 {
@@ -273,7 +273,7 @@ fn made_restless(alloc: Global) -> Restless
     }
 }
 
-// A second stat of a path would tell a later time, of it or of the paths behind it.
+// A second stat of a path would answer a later time, for it or for the paths after it.
 #[test]
 fn each_path_is_asked_once(rt: HostRuntime) {
     let mut files = made_restless(rt.alloc());

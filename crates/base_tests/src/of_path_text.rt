@@ -3,7 +3,7 @@ use crate::shared::{parsed, same};
 use path_text::{EscapeError, JoinError, Path, PathError, escape, unescape};
 use std::process::Abort;
 
-// `/`, and so many times one text behind it.
+// `/`, and after it so many times one text.
 fn long(rt: &(impl Abort + AllocGlobal), piece: &str, many: u32) -> String {
     let mut text = String::from_str(rt.alloc(), "/").expect(rt, "room");
     for _ in 0..many {

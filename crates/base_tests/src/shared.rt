@@ -1,33 +1,33 @@
-//! What the tests share.
+//! The helpers of all tests.
 ghost use Rattle.std.specs.Prelude.{◌≡◌};
 
 use path_text::Path;
 use std::fmt::Debug;
 use std::process::Abort;
 
-/// Stops the test where the two differ.
+/// Stops the test if the two differ.
 pub fn same<T: PartialEq + Debug>(rt: &impl Abort, told: &T, want: &T) {
     assert!(rt; *told == *want, "{told:?}, and not {want:?}");
 }
 
-/// Stops the test where the two numbers differ.
+/// Stops the test if the two numbers differ.
 pub fn same_number(rt: &impl Abort, told: u64, want: u64)
     ensures { told ≡ want }
 {
     assert!(rt; told == want, "{told}, and not {want}");
 }
 
-/// Stops the test where this is not so.
+/// Stops the test if this does not hold.
 pub fn so(rt: &impl Abort, holds: bool, of: &str) {
     assert!(rt; holds, "{of}");
 }
 
-/// The path that a text is.
+/// The path of a text.
 pub fn parsed(rt: &(impl Abort + AllocGlobal), text: &str) -> Path {
     Path::parse(rt.alloc(), text).expect(rt, "a path")
 }
 
-/// The paths that the texts are.
+/// The paths of the texts.
 pub fn all_parsed(rt: &(impl Abort + AllocGlobal), texts: &[&str]) -> Vec<Path> {
     let mut paths = Vec::new(rt.alloc());
     for text in texts {
@@ -36,7 +36,7 @@ pub fn all_parsed(rt: &(impl Abort + AllocGlobal), texts: &[&str]) -> Vec<Path> 
     paths
 }
 
-/// So many times a byte.
+/// `len` times a byte.
 pub fn filled(rt: &(impl Abort + AllocGlobal), byte: u8, len: usize) -> Vec<u8> {
     let mut bytes = Vec::new(rt.alloc());
     bytes.resize(len, byte).expect(rt, "room");

@@ -1,4 +1,4 @@
-//! Files of which no part is lent, as the tests write and read them.
+//! Files of which no part is lent, and which the tests write and read.
 ghost use Rattle.std.specs.Prelude.{◌≡◌};
 ghost use Rattle.outside.specs.Tree.{is_root};
 ghost use Rattle.outside.specs.Writes.{nothing_lent};
@@ -18,7 +18,7 @@ use test_tree::TestGround;
 
 const TIME: Option<u64> = Some(86400);
 
-/// Files of which no part is lent, so that they may be written at each path but `/`. Nothing is said of what they hold.
+/// Files of which no part is lent, so that they may be written at each path but `/`. Contracts say nothing of their contents.
 #[derive(Drop)]
 pub struct Whole<G: Plot> {
     files: G,
@@ -42,8 +42,8 @@ impl Whole<MemGround> {
         Whole { files }
     }
 
-    /// Puts a node that was changed a day after 1970 began: a directory with so many children whose path is too long, a file
-    /// with these bytes, or a link with this text. A text that is none of a link is refused as want of memory.
+    /// Puts a node whose last change was a day after 1970 began: a directory, a file with these bytes, or a link with this text. The
+    /// path of so many children of the directory is too long. A text that no link can have is refused as out of memory.
     pub fn put(
         &mut self,
         alloc: Global,
@@ -97,6 +97,11 @@ impl Whole<Blind> {
         self.files.lie(path)
     }
 
+    /// Swells a file from now on.
+    pub fn swell(&mut self, path: &Path) -> Result<(), OutOfMemory> {
+        self.files.swell(path)
+    }
+
     /// Lets looks at two paths wait for each other from now on.
     pub fn meet(&mut self, one: &Path, other: &Path) -> Result<(), OutOfMemory> {
         self.files.meet(one, other)
@@ -104,7 +109,7 @@ impl Whole<Blind> {
 }
 
 impl Whole<TestGround> {
-    /// The made-up tree of so many nodes, of which there is one at least.
+    /// The made-up tree of so many nodes, which are one at least.
     pub fn of_nodes(rt: &(impl Abort + AllocGlobal), nodes: u64) -> Whole<TestGround> {
         let nodes = nodes.clamp(1, 1_000_000);
         let files = TestGround::make(rt.alloc(), nodes).expect(rt, "room");
@@ -113,7 +118,7 @@ impl Whole<TestGround> {
 }
 
 impl<G: Ground> Whole<G> {
-    /// A call that writes, `Write` of these bytes from the front on. `/` and a call that does not write are refused as `Failed`.
+    /// A call that writes; `Write` writes these bytes from the front on. `/` and a call that does not write are refused as `Failed`.
     pub fn write(
         &mut self,
         alloc: Global,
@@ -160,7 +165,7 @@ impl<G: Ground> Whole<G> {
         load(alloc, &mut reader, path)
     }
 
-    /// Writes the lists of a checkpoint, of 1 to 64 ranks; another number of them is refused as want of memory.
+    /// Writes the lists of a checkpoint, of 1 to 64 ranks; another number of them is refused as out of memory.
     pub fn write_lists(
         &mut self,
         alloc: Global,
@@ -197,7 +202,7 @@ impl<G: Ground> Whole<G> {
     }
 }
 
-/// The text of the link that is told.
+/// The text of the link in an answer.
 pub fn linked<R: Tree>(
     rt: &(impl Abort + AllocGlobal),
     reader: &mut R,
@@ -213,7 +218,7 @@ pub fn is_root(path: &Path) -> bool
     path.text() == "/"
 }
 
-/// What is told of a path.
+/// The answer of `stat` for a path.
 pub fn told<R: Tree>(
     rt: &(impl Abort + AllocGlobal),
     reader: &mut R,
@@ -222,7 +227,7 @@ pub fn told<R: Tree>(
     reader.stat(&parsed(rt, text))
 }
 
-/// The names that are told, with a blank behind each, and how many more are no text, or have a path that is too long.
+/// The names listed, with a blank after each, and how many more are not a text or have a path that is too long.
 pub fn listed<R: Tree>(
     rt: &(impl Abort + AllocGlobal),
     reader: &mut R,
@@ -242,7 +247,7 @@ fn joined(rt: &(impl Abort + AllocGlobal), listing: &Listing) -> String {
     names
 }
 
-/// Whether just these names are told, with a blank behind each, and so many more.
+/// Whether just these names are listed, with a blank after each, and so many more.
 pub fn lists<R: Tree>(
     rt: &(impl Abort + AllocGlobal),
     reader: &mut R,
@@ -255,7 +260,7 @@ pub fn lists<R: Tree>(
     }
 }
 
-/// Whether the file there holds just these bytes; of `None`, whether no file is there.
+/// Whether the file there has just these bytes; for `None`, whether no file is there.
 pub fn holds<G: Ground>(
     rt: &(impl Abort + AllocGlobal),
     files: &mut Whole<G>,

@@ -1,4 +1,4 @@
-//! The system of a test, but for one call on links.
+//! The system of a test, which refuses one call on links.
 use real_disk::Watch;
 use std::alloc::Allocator;
 use std::fs::{File, Files, Metadata, OpenOptions};
@@ -15,17 +15,18 @@ pub enum LinkCall {
     Remove,
 }
 
-/// The files of the system, where each call of one kind answers this error.
+/// The files of the system, where each call of one kind on a path with this end answers this error.
 #[derive(Clone, Copy, Drop)]
 pub struct Grudging {
     pub host: HostRuntime,
     pub call: LinkCall,
+    pub end: &'static str,
     pub error: ErrorKind,
 }
 
 impl Grudging {
-    fn ask(&self, call: LinkCall) -> io::Result<()> {
-        if self.call == call {
+    fn ask(&self, call: LinkCall, path: &str) -> io::Result<()> {
+        if self.call == call && path.ends_with(self.end) {
             Err(io::Error::from(self.error))
         } else {
             Ok(())
@@ -69,7 +70,7 @@ impl Files for Grudging {
     }
 
     fn remove_file(&self, path: &str) -> io::Result<()> {
-        self.ask(LinkCall::Remove)?;
+        self.ask(LinkCall::Remove, path)?;
         self.host.remove_file(path)
     }
 
@@ -86,12 +87,12 @@ impl Files for Grudging {
     }
 
     fn read_link<B: Allocator>(&self, alloc: B, path: &str) -> io::Result<PathBuf<B>> {
-        self.ask(LinkCall::Read)?;
+        self.ask(LinkCall::Read, path)?;
         self.host.read_link(alloc, path)
     }
 
     fn symlink(&self, original: &str, link: &str) -> io::Result<()> {
-        self.ask(LinkCall::Make)?;
+        self.ask(LinkCall::Make, link)?;
         self.host.symlink(original, link)
     }
 }

@@ -12,11 +12,15 @@ mod fakes;
 #[cfg(test)]
 mod grudges;
 #[cfg(test)]
+mod link_faults;
+#[cfg(test)]
 mod links;
 #[cfg(test)]
 mod lives;
 #[cfg(test)]
 mod looks;
+#[cfg(test)]
+mod made_dirs;
 #[cfg(test)]
 mod names;
 #[cfg(test)]

@@ -64,8 +64,8 @@ fn all_lead(room: &Room) -> bool {
         && room.leads("from/over_link", "file")
 }
 
-// The lines that begin with this word and name the paths.
-fn named(host: HostRuntime, room: &Room, lines: &[(&str, &str)]) -> io::Result<String> {
+/// The lines that begin with these words and name the paths.
+pub fn named(host: HostRuntime, room: &Room, lines: &[(&str, &str)]) -> io::Result<String> {
     let mut text = String::new(host.alloc());
     for (word, names) in lines {
         text.push_str(word)?;
@@ -136,6 +136,7 @@ fn a_refused_call_leaves_the_old_link(rt: HostRuntime) {
         let system = Grudging {
             host: rt,
             call,
+            end: "",
             error,
         };
         let (from, to) = (

@@ -1,17 +1,12 @@
 //! The line that shows on a terminal how far a run is.
 use crate::rooms::{Node, Room};
 use crate::screens::{Hand, Screen};
-use crate::shared::{bytes, same, so, texts};
-use crate::walks::walked;
+use crate::shared::{bytes, same, so};
 use crate::whole_disk::{Act, DiskOver};
-use mfu_top::{Status, run};
-use outside::{Ground, MemSink, Tree};
+use outside::{Ground, Tree};
 use real_disk::{AfterLive, Call, Live, RealGround, Watch, Watched};
-use std::fs;
 use std::io::{Write, writer};
 use std::process::Abort;
-
-const AMPLE: u64 = 10_000_000;
 
 // So many bytes are written at a time.
 const PIECE: &[u8] = &[7; 65536];
@@ -142,8 +137,7 @@ fn calls_to_the_disk_are_counted(rt: HostRuntime) {
     }
     hand.put(500);
     system.did(Call::List, 64);
-    let text =
-        "\rmfu: looked at 2 paths, compared 1 files (2 MB), copied 1 files (1 MB), removed 2";
+    let text = "\rmfu: looked at 2 paths, copied 1 files (1 MB), removed 2";
     so(&rt, room.holds("screen", text.as_bytes()), "the numbers");
     room.remove().expect(&rt, "an empty room");
 }
@@ -162,37 +156,5 @@ fn the_output_follows_the_erased_line(rt: HostRuntime) {
     }
     let text = "\rmfu: looked at 64 paths\r                       \rone\ntwo\n";
     so(&rt, room.holds("screen", text.as_bytes()), "the text");
-    room.remove().expect(&rt, "an empty room");
-}
-
-// Each look at the clock finds that a line is due, so lines come as fast as they can.
-#[test]
-fn a_run_on_a_terminal_prints_the_same(rt: HostRuntime) {
-    let place = Room::with(rt, &[]).expect(&rt, "a room");
-    let room = Room::with(rt, &[("one", Node::Dir)]).expect(&rt, "a room");
-    for k in 0..300u32 {
-        let names = format!(in rt.alloc(); "one/{k}").expect(&rt, "memory");
-        let put = room.put(names.as_str(), Node::File(b"x"));
-        put.expect(&rt, "a file");
-    }
-    let want = walked(rt, room.top()).expect(&rt, "a walk");
-    let (hand, screen) = (Hand::with(1000), screen_in(&rt, &place));
-    let live = Live::make(rt.alloc(), &hand, &screen, "dwalk").expect(&rt, "a line");
-    let system = Watched::make(rt.alloc(), rt, Some(&live), None);
-    let mut files = RealGround::make(rt.alloc(), system);
-    let mut out = MemSink::limited(rt.alloc(), AMPLE).expect(&rt, "memory");
-    let mut notes = MemSink::limited(rt.alloc(), AMPLE).expect(&rt, "memory");
-    let words = texts(&rt, &["dwalk", "--hosts", "3", room.top().text()]);
-    let status = run(&rt, rt.alloc(), &words, &mut files, &mut out, &mut notes, 0);
-    so(&rt, status == Status::Done, "the status");
-    so(&rt, out.text() == want.as_bytes(), "the text");
-    so(&rt, notes.text().is_empty(), "no notes");
-    let shown = fs::read(&rt, place.at("screen").expect(&rt, "a path").text());
-    let shown = shown.expect(&rt, "a screen");
-    let is_begun = shown
-        .as_slice()
-        .starts_with(b"\rmfu: looked at ".as_slice());
-    so(&rt, is_begun, "lines");
-    place.remove().expect(&rt, "an empty room");
     room.remove().expect(&rt, "an empty room");
 }

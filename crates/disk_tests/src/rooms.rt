@@ -119,6 +119,17 @@ impl Room {
         }
     }
 
+    /// Whether nothing stands there.
+    pub fn is_free(&self, names: &str) -> bool {
+        let Ok(path) = self.at(names) else {
+            return false;
+        };
+        match fs::symlink_metadata(&self.host, path.text()) {
+            Ok(_) => false,
+            Err(e) => e.kind() == ErrorKind::NotFound,
+        }
+    }
+
     /// Removes it, with all that is in it.
     pub fn remove(self) -> io::Result<()> {
         fs::remove_dir_all(&self.host, self.top.text())

@@ -1,10 +1,13 @@
 //! Whole runs of the program over the real disk.
+ghost use Rattle.std.specs.Prelude.{◌≡◌};
+ghost use Rattle.outside.specs.Writes.{nothing_lent};
+
 use crate::grudges::Grudging;
 use crate::rooms::{Node, Room};
 use crate::shared::{bytes, long, so, texts};
 use crate::walks::walked;
 use mfu_top::{Status, run};
-use outside::MemSink;
+use outside::{MemSink, Wide};
 use path_text::Path;
 use real_disk::{RealGround, seconds};
 use std::io::ErrorKind;
@@ -30,14 +33,7 @@ pub fn ran<T>(rt: &T, system: HostRuntime, words: &[&str]) -> Run
 where
     T: Abort + AllocGlobal + Clock + Threads + Wait + Sync,
 {
-    let alloc = rt.alloc();
-    let given = texts(rt, words);
-    let mut out = MemSink::limited(alloc, AMPLE).expect(rt, "memory");
-    let mut notes = MemSink::limited(alloc, AMPLE).expect(rt, "memory");
-    let mut files = RealGround::make(alloc, system);
-    let now = seconds(rt);
-    let status = run(rt, alloc, &given, &mut files, &mut out, &mut notes, now);
-    Run { status, out, notes }
+    ran_over(rt, RealGround::make(rt.alloc(), system), words)
 }
 
 /// Runs these words over the files of a system that refuses a call.
@@ -45,11 +41,23 @@ pub fn ran_refused<T>(rt: &T, system: Grudging, words: &[&str]) -> Run
 where
     T: Abort + AllocGlobal + Clock + Threads + Wait + Sync,
 {
+    ran_over(rt, RealGround::make(rt.alloc(), system), words)
+}
+
+// Runs these words over any files. It promises nothing, so that the check of a call reads no clause of `run`.
+fn ran_over<T, G>(rt: &T, mut files: G, words: &[&str]) -> Run
+where
+    T: Abort + AllocGlobal + Clock + Threads + Wait + Sync,
+    G: Wide + Send + Drop,
+    G::Reader: Send,
+    G::Part: Send,
+    G::Span: Send,
+    requires lent { G.area files ≡ nothing_lent }
+{
     let alloc = rt.alloc();
     let given = texts(rt, words);
     let mut out = MemSink::limited(alloc, AMPLE).expect(rt, "memory");
     let mut notes = MemSink::limited(alloc, AMPLE).expect(rt, "memory");
-    let mut files = RealGround::make(alloc, system);
     let now = seconds(rt);
     let status = run(rt, alloc, &given, &mut files, &mut out, &mut notes, now);
     Run { status, out, notes }
@@ -224,5 +232,96 @@ fn a_run_copies_over_the_real_disk(rt: HostRuntime) {
     let big = bytes(&rt, 200_000);
     for ranks in ["1", "7"] {
         so(&rt, copies(&rt, rt, ranks, &big), ranks);
+    }
+}
+
+// Two trees with a file of other bytes, one of the same, one on each side alone, and the same link.
+fn two_trees(rt: &(impl Abort + AllocGlobal), host: HostRuntime) -> Room {
+    let nodes = [
+        ("one", Node::Dir),
+        ("one/deep", Node::Dir),
+        ("two", Node::Dir),
+        ("two/deep", Node::Dir),
+        ("one/c", Node::File(b"c")),
+        ("one/deep/a", Node::File(b"aa")),
+        ("one/deep/b", Node::File(b"same")),
+        ("one/k", Node::Link("c")),
+        ("two/d", Node::File(b"d")),
+        ("two/deep/a", Node::File(b"ab")),
+        ("two/deep/b", Node::File(b"same")),
+        ("two/k", Node::Link("c")),
+    ];
+    Room::with(host, &nodes).expect(rt, "a room")
+}
+
+const ROWS: &str = "C = - - /
+S - - - /c
+D - - - /d
+C = - - /deep
+C = = ! /deep/a
+C = = = /deep/b
+C = - = /k
+rows 7 only_src 1 only_dest 1 common 5 differ_type 0 differ_size 0 differ_content 1 failed 0
+";
+
+// Whether dcmp by so many ranks, in three threads, prints these rows of them.
+fn compares<T>(rt: &T, host: HostRuntime, ranks: &str) -> bool
+where
+    T: Abort + AllocGlobal + Clock + Threads + Wait + Sync,
+{
+    let room = two_trees(rt, host);
+    let one = room.at("one").expect(rt, "a path");
+    let two = room.at("two").expect(rt, "a path");
+    let words = [
+        "dcmp",
+        "--ranks",
+        ranks,
+        "--hosts",
+        "3",
+        one.text(),
+        two.text(),
+    ];
+    let is_said = prints(rt, host, &words, ROWS);
+    room.remove().expect(rt, "an empty room");
+    is_said
+}
+
+#[test]
+fn a_run_compares_trees_of_the_real_disk(rt: HostRuntime) {
+    for ranks in ["1", "7"] {
+        so(&rt, compares(&rt, rt, ranks), ranks);
+    }
+}
+
+// What is printed where all that another walk finds, so many nodes, is removed.
+fn removal_of(host: HostRuntime, top: &Path, nodes: u32) -> io::Result<String> {
+    let found = walked(host, top)?;
+    match found.split_once("items ") {
+        Some((lines, _)) => Ok(format!(in host.alloc();
+            "{lines}removed {nodes} of {nodes} failed 0\n"
+        )?),
+        None => Err(io::Error::from(ErrorKind::InvalidData)),
+    }
+}
+
+// Whether drm by so many ranks, in three threads, removes the first tree, says so, and leaves the second.
+fn removes<T>(rt: &T, host: HostRuntime, ranks: &str) -> bool
+where
+    T: Abort + AllocGlobal + Clock + Threads + Wait + Sync,
+{
+    let room = two_trees(rt, host);
+    let one = room.at("one").expect(rt, "a path");
+    let want = removal_of(host, &one, 6).expect(rt, "a walk");
+    let words = ["drm", "--ranks", ranks, "--hosts", "3", one.text()];
+    let is_said = prints(rt, host, &words, &want);
+    let is_done = room.is_free("one") && room.holds("two/deep/b", b"same");
+    room.remove().expect(rt, "an empty room");
+    is_said && is_done
+}
+
+#[test]
+fn a_run_removes_a_tree_of_the_real_disk(rt: HostRuntime) {
+    for ranks in ["1", "7"] {
+        so(&rt, removes(&rt, rt, ranks), ranks);
     }
 }

@@ -5,6 +5,7 @@ use crate::shared::{same, so};
 use crate::whole_disk::{Act, WholeDisk};
 use outside::{LinkError, ListError, ReadError, Tree, WriteError};
 use real_disk::RealReader;
+use std::alloc::Global;
 use std::os::unix::fs::symlink;
 use std::{fs, io};
 
@@ -63,11 +64,16 @@ pub fn are_listed(
     room: &Room,
     all: &[&str],
 ) -> bool {
+    are_listed_by(host.alloc(), reader, room, all)
+}
+
+/// The same, by a reader of any files.
+pub fn are_listed_by<R: Tree>(alloc: Global, reader: &mut R, room: &Room, all: &[&str]) -> bool {
     for names in all {
         let Ok(path) = room.at(names) else {
             return false;
         };
-        if reader.stat(&path).is_err() || reader.list(host.alloc(), &path).is_err() {
+        if reader.stat(&path).is_err() || reader.list(alloc, &path).is_err() {
             return false;
         }
     }

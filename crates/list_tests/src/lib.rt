@@ -1,8 +1,8 @@
-//! Tests of lists, and of files that are grouped, that compute what they want: the calls with what is known of them are rows of
-//! `worked_calls` and `worked_rows`.
+//! Tests of lists, and of grouped files, that compute their expectations. Calls with known answers are rows of `worked_calls` and
+//! `worked_rows`.
 //!
-//! They stand here, and not in the crates, so that each of those is proved once: what they call is proved, and they are proved over
-//! its contracts.
+//! They are here, and not in the crates, so that each crate is proved once. They call proved functions, and are proved over the
+//! contracts of these.
 #![tactic(auto)]
 
 #[cfg(test)]

@@ -1,4 +1,4 @@
-//! Lists of many entries, cut list files, and logs that are put in order in threads.
+//! Lists of many entries, cut list files, and logs that threads put in order.
 ghost use Rattle.std.specs.Prelude.{◌≤◌};
 
 use flat_list::{Entry, FlatList, Mark};
@@ -9,7 +9,7 @@ use std::process::Abort;
 use std::test::Fail;
 use std::thread::Threads;
 
-// An entry of a kind, with a size, as it is.
+// An entry of a kind, with a size and the mark `Fine`.
 fn fine(alloc: Global, path: &str, kind: Kind, size: u64) -> Result<Entry, Fail> {
     let stat = Stat {
         kind,
@@ -26,7 +26,7 @@ fn fine(alloc: Global, path: &str, kind: Kind, size: u64) -> Result<Entry, Fail>
     })
 }
 
-// A file whose path tells its number in four digits.
+// A file whose path has its number in four digits.
 fn file(alloc: Global, at: usize) -> Result<Entry, Fail> {
     let path = format!(in alloc; "/f{:04}", at)?;
     fine(alloc, path.as_str(), Kind::File, 1)
@@ -72,7 +72,7 @@ fn refuses_the_worked_list_cut_anywhere(rt: HostRuntime) -> Result<(), Fail> {
     Ok(())
 }
 
-// A file whose path tells its number.
+// A file whose path has its number.
 fn numbered(alloc: Global, at: usize) -> Result<Entry, Fail>
     requires { at ≤ 20000 }
 {
@@ -80,7 +80,7 @@ fn numbered(alloc: Global, at: usize) -> Result<Entry, Fail>
     fine(alloc, path.as_str(), Kind::File, 1)
 }
 
-// The numbers below 20,000, dealt to so many logs from the last number down, and 0 once more in the last log.
+// The numbers below 20,000, dealt to so many logs from the last number down. The last log has 0 once more.
 fn dealt_logs(alloc: Global, ranks: usize) -> Result<Vec<FlatList>, Fail>
     requires { 1 ≤ ranks }
 {
@@ -100,7 +100,7 @@ fn dealt_logs(alloc: Global, ranks: usize) -> Result<Vec<FlatList>, Fail>
     Ok(logs)
 }
 
-// Whether so many logs come to be one list in order.
+// Whether so many logs become one list in order.
 fn come_in_order<R: Threads + Sync + Abort>(
     rt: &R,
     alloc: Global,

@@ -1,4 +1,4 @@
-//! Files grouped by their content: how often each is read, files that fail or change between two readings, and many of them.
+//! Files grouped by their contents: how often each is read, files that fail or change between two readings, and many files.
 use crate::sheets::{Counting, Sheet, Then};
 use files_mem::{Blind, Call, MemGround};
 use flat_list::FlatList;
@@ -51,7 +51,7 @@ fn grouped_by_one<R: Threads + Sync>(
     Ok(find_groups(rt, alloc, &list, &mut readers, 1)?)
 }
 
-// Stops the test where the paths are others.
+// Stops the test if the paths are others.
 fn same_paths(rt: &impl Abort, told: &[Path], want: &[&str]) {
     assert_eq!(rt; told.len(), want.len());
     for (path, text) in told.iter().zip(want) {
@@ -59,7 +59,7 @@ fn same_paths(rt: &impl Abort, told: &[Path], want: &[&str]) {
     }
 }
 
-// Stops the test where these pairs are not the paths of the groups.
+// Stops the test if these pairs are not the paths of the groups.
 fn same_groups(rt: &impl Abort, found: &Groups, want: &[[&'static str; 2]]) {
     assert_eq!(rt; found.len(), want.len());
     for (k, paths) in want.iter().enumerate() {
@@ -83,7 +83,7 @@ fn a_group_has_its_size_and_digest(rt: HostRuntime) -> Result<(), Fail> {
     Ok(())
 }
 
-// Stops the test where a file was read from its front more often than so.
+// Stops the test if a file was read from its front more often than so.
 fn read_at_most(rt: &impl Abort, readers: &[Counting], most: [u64; 6]) {
     for (place, most) in most.into_iter().enumerate() {
         let mut times = 0u64;
@@ -94,8 +94,8 @@ fn read_at_most(rt: &impl Abort, readers: &[Counting], most: [u64; 6]) {
     }
 }
 
-// A file whose size nobody shares is not read, nor is an empty one; one that shares its size is read once for its digest, and once
-// more where another one has that too.
+// A file whose size no other shares is not read, nor is an empty one. A file that shares its size is read once for its hash, and
+// once more if another one has that hash too.
 #[test]
 fn files_are_read_twice_at_most(rt: HostRuntime) -> Result<(), Fail> {
     let alloc = rt.alloc();
@@ -116,8 +116,8 @@ fn files_are_read_twice_at_most(rt: HostRuntime) -> Result<(), Fail> {
     Ok(())
 }
 
-// Stops the test where three equal files, of which one is read so when it is read again, come to other groups than these two, or
-// another one is named.
+// One of three equal files is read in this way when it is read again. Stops the test if they come to other groups than these two,
+// or the run names another file.
 fn same_parts<R: Abort + Threads + Sync>(
     rt: &R,
     alloc: Global,
@@ -160,7 +160,7 @@ fn a_file_that_is_read_otherwise_the_second_time_leaves_the_others(
     Ok(())
 }
 
-// A file with more bytes than its list tells is grouped by those that are told, and one with fewer has changed.
+// A file with more bytes than its size in the list is grouped by so many bytes, and one with fewer has changed.
 #[test]
 fn a_file_that_is_shorter_than_listed_has_changed(rt: HostRuntime) -> Result<(), Fail> {
     let alloc = rt.alloc();
@@ -196,7 +196,7 @@ fn many_listed(alloc: Global) -> Result<String, Fail> {
     Ok(text)
 }
 
-// Stops the test where these are not the groups of the files but for one pair.
+// Stops the test if these are not the groups of the files but for one pair.
 fn are_pairs(rt: &impl Abort, alloc: Global, found: &Groups, missed: u64) -> Result<(), Fail> {
     assert_eq!(rt; found.len(), 299);
     let mut numbers = (0..300u64).filter(|at| *at != missed);
@@ -211,7 +211,7 @@ fn are_pairs(rt: &impl Abort, alloc: Global, found: &Groups, missed: u64) -> Res
     Ok(())
 }
 
-// The groups are the same for any number of readers, and stand in the order of their first paths.
+// The groups are the same for any number of readers, in the order of their first paths.
 #[test]
 fn many_files_of_one_size_are_grouped(rt: HostRuntime) -> Result<(), Fail> {
     let alloc = rt.alloc();

@@ -1,4 +1,4 @@
-//! A reader of files that it makes up, which counts how often each is read, and reads some otherwise when they are read again.
+//! A reader of made-up files. It counts how often each is read, and reads some in another way when they are read again.
 ghost use Rattle.std.specs.Prelude.{◌≡◌, ◌≤◌, length, IfOk, IsErrOf};
 
 use outside::{Failed, LinkError, LinkText, ListError, Listing, ReadError, Stat, Tree};
@@ -15,7 +15,7 @@ pub enum Then {
     Fails,
 }
 
-/// A file that is made up, and how often it was read from its front.
+/// A made-up file, and how often it was read from its front.
 #[derive(Clone, Copy, Drop)]
 pub struct Sheet {
     path: &'static str,
@@ -35,7 +35,7 @@ impl Sheet {
         }
     }
 
-    // Its bytes, as it is read now.
+    // Its bytes, as the next reading gives them.
     fn now(&self) -> Result<&'static [u8], ReadError> {
         if self.times < 2 {
             return Ok(self.bytes);
@@ -80,7 +80,7 @@ impl Counting {
         Counting { sheets, count: 0 }
     }
 
-    /// The same, where the file at this path is read so when it is read again.
+    /// The same, but the file at this path is read in this way when it is read again.
     pub fn then(mut self, path: &str, then: Then) -> Counting {
         for sheet in &mut self.sheets {
             if sheet.path == path {
@@ -98,7 +98,7 @@ impl Counting {
         }
     }
 
-    // The place of the file at this path, or how many files there are where there is none.
+    // The place of the file at this path, or the number of files if it is not there.
     fn place_of(&self, path: &Path) -> usize {
         for (place, sheet) in self.sheets.iter().enumerate() {
             if sheet.path == path.text() {

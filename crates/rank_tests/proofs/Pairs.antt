@@ -1,5 +1,5 @@
 -- The two seats of a board of two ranks.
-use Rattle.std.proofs.Common.{◌≡◌, ◌<◌, ℕ, sym, subst, ap, ◌∙◌, arith, List, [], ◌∷◌, get_or, Option, Some, IfSome}
+use Rattle.std.proofs.Common.{◌≡◌, ◌<◌, ℕ, zero, suc, sym, subst, ap, ◌∙◌, arith, List, [], ◌∷◌, get_or, Option, Some, IfSome}
 use Rattle.post_board.specs.Shown.{Shown, Batches}
 use Rattle.post_board.specs.Fresh.{fresh, AllFresh}
 
@@ -34,3 +34,9 @@ module _ {S : Type 0} (Is : ℕ → S → Type 0) where
         subst (λ (xs : List S). Is 0 (get_or xs 0 first)) whole (each 0 first (omega arith)),
         subst (λ (xs : List S). Is 1 (get_or xs 1 second)) whole (each 1 second (omega arith)),
       )
+
+-- a list of two, read at a place
+pub two_by : {S : Type 0} (Is : ℕ → S → Type 0) (a b : S) → Is 0 a → Is 1 b → (k : ℕ) (d : S) → k < 2 → Is k (get_or (a ∷ b ∷ []) k d)
+two_by Is a b first second zero d below = first
+two_by Is a b first second (suc zero) d below = second
+two_by Is a b first second (suc (suc k)) d below = absurd (omega arith)

@@ -1,21 +1,17 @@
-//! Tests of the public calls of the runtime: the pure world, boards, sums, ranks that take turns, the walk, and checkpoints.
+//! Tests of the public calls of the runtime: the pure world, boards, sums, ranks that take turns, and the walk.
 //!
-//! They stand here, and not in the crates, so that each of those is proved once: what they call is proved, and they are proved over
-//! its contracts.
+//! They are here, and not in the crates, so that each crate is proved once. They call proved functions, and are proved over the
+//! contracts of these.
 #![tactic(auto)]
 
 #[cfg(test)]
 mod of_board;
-#[cfg(test)]
-mod of_checkpoints;
 #[cfg(test)]
 mod of_circle_run;
 #[cfg(test)]
 mod of_halts;
 #[cfg(test)]
 mod of_hosts;
-#[cfg(test)]
-mod of_placing;
 #[cfg(test)]
 mod of_post_board;
 #[cfg(test)]
@@ -28,5 +24,3 @@ mod of_storms;
 mod of_sum_tree;
 #[cfg(test)]
 mod of_tree_walk;
-#[cfg(test)]
-mod of_walk_cuts;

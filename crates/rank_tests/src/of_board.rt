@@ -11,7 +11,7 @@ use std::process::Abort;
 use std::test::Fail;
 use std::thread::{Threads, join};
 
-// How often a thread looks for what another one does.
+// How often a thread looks for the answer of another one.
 const LOOKS: u32 = 100_000_000;
 
 // Rank 1 asks rank 0, and looks for its answer.
@@ -31,7 +31,7 @@ fn ask_for_some(board: &Board, mut one: BoardSeat) -> Option<Batch>
     None
 }
 
-// Rank 0 looks for a request, and gives what it has.
+// Rank 0 looks for a request, and gives its strings.
 fn give_all(board: &Board, mut zero: BoardSeat, batch: Batch) -> bool
     requires seat { IsSeat board.now zero }
     requires new { shown_by zero ≡ fresh 2 0 (shown_by zero).batches }
@@ -47,7 +47,7 @@ fn give_all(board: &Board, mut zero: BoardSeat, batch: Batch) -> bool
     false
 }
 
-// What rank 1 got from rank 0, which gave on another thread.
+// The strings that rank 1 got from rank 0, which gave on another thread.
 fn exchange<R: Threads + Sync>(
     rt: &R,
     board: &Board,

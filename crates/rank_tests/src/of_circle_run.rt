@@ -1,10 +1,10 @@
-//! Runs over a table of children.
+//! Runs over a table of children. The events of two ranks that share one start are a row of `worked_rows`.
 ghost use Rattle.std.specs.Prelude.{◌≡◌, ◌≤◌, [], length, All, IfOk};
 
 use circle_run::{CircleError, Finished, Job, Options, Split, begin};
 use path_text::{OutOfMemory, Path};
 use rank_queue::Batch;
-use ring_core::{Verdict, check_run, put_event};
+use ring_core::{Verdict, check_run};
 use std::alloc::Global;
 use std::process::Abort;
 use std::sync::Wait;
@@ -20,31 +20,6 @@ pub(crate) const CHILDREN: [(&str, &str); 7] = [
     ("/u", "/u/a"),
     ("/u", "/u/b"),
 ];
-
-// Two ranks, of which rank 0 begins with `/u`.
-const TRACE: &str = "\
-handle 0 2 /u
-ask 1 0
-give 0 1 1
-handle 0 0 /u/b
-take 1 0 1
-ask 0 1
-refuse 1 0
-handle 1 0 /u/a
-none 0 1
-ask 1 0
-refuse 0 1
-restart 0
-none 1 0
-ask 0 1
-refuse 1 0
-pass 1 white
-none 0 1
-ask 1 0
-refuse 0 1
-conclude 0
-over 1
-";
 
 // A string that was handled.
 #[derive(Drop)]
@@ -178,28 +153,6 @@ fn the_newest_string_is_handled_first(rt: HostRuntime) -> Result<(), Fail> {
         assert_eq!(rt; step.waiting, waiting, "{text}");
     }
     assert_eq!(rt; finished.sums.as_slice(), [6].as_slice());
-    Ok(())
-}
-
-#[test]
-fn two_ranks_share_one_start(rt: HostRuntime) -> Result<(), Fail> {
-    let finished = ran(&rt, 2, Split::Equal, 0, &["/u"])?;
-    let mut text = Vec::new(rt.alloc());
-    for event in &finished.events {
-        put_event(&mut text, event)?;
-    }
-    assert_eq!(rt; text.as_slice(), TRACE.as_bytes());
-    let shares = finished.shares.as_slice();
-    assert_eq!(rt; shares.len(), 2);
-    assert_eq!(rt;
-        (shares[0].handled, shares[0].given, shares[0].taken),
-        (2, 1, 0)
-    );
-    assert_eq!(rt;
-        (shares[1].handled, shares[1].given, shares[1].taken),
-        (1, 0, 1)
-    );
-    assert_eq!(rt; finished.sums.as_slice(), [3].as_slice());
     Ok(())
 }
 

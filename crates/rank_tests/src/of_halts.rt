@@ -1,4 +1,4 @@
-//! Ranks of a board hear that all are to halt, and take back what they asked of a rank that has stopped.
+//! Ranks of a board hear that all must halt, and take back a request to a rank that has stopped.
 ghost use Rattle.std.specs.Prelude.{◌≡◌, ◌<◌, length, IfOk};
 ghost use Rattle.post_board.specs.Fresh.{fresh};
 ghost use Rattle.post_board.specs.Plain.{Seats, shown_by as shown_plainly};
@@ -12,7 +12,7 @@ use std::alloc::Global;
 use std::process::Abort;
 use std::test::Fail;
 
-// A plain board of two ranks that have done nothing, and their seats.
+// A plain board of two ranks before any call, and their seats.
 fn plain_board(alloc: Global) -> Result<(PlainBoard, PlainSeat, PlainSeat), Fail>
     ensures seats { IfOk result (λ made. Seats made.0 made.1 × Seats made.0 made.2) }
     ensures zero { IfOk result (λ made. shown_plainly made.1 ≡ fresh 2 0 (shown_plainly made.1).batches) }
@@ -23,7 +23,7 @@ fn plain_board(alloc: Global) -> Result<(PlainBoard, PlainSeat, PlainSeat), Fail
     Ok((board, zero, one))
 }
 
-// A board of words of two ranks that have done nothing, and their seats.
+// A board of words of two ranks before any call, and their seats.
 fn board_of_words(alloc: Global) -> Result<(Board, BoardSeat, BoardSeat), Fail>
     ensures seats { IfOk result (λ made. IsSeat made.0 made.1 × IsSeat made.0 made.2) }
     ensures zero { IfOk result (λ made. shown_by made.1 ≡ fresh 2 0 (shown_by made.1).batches) }
@@ -47,7 +47,7 @@ fn both_hear_a_halt<P: Post>(post: &mut P, zero: &mut P::Seat, one: &mut P::Seat
     post.ring(zero) == Ring::Halted && post.ring(one) == Ring::Halted
 }
 
-// Whether rank 0 waits for rank 1 until that one stops, and is told then that there is nothing for it.
+// Whether rank 0 waits for rank 1 until that one stops, and hears then that there is nothing for it.
 fn waits_until_the_stop<P: Post>(post: &mut P, zero: &mut P::Seat, one: &mut P::Seat) -> bool
     requires seats { P.seats post.old zero.old × P.seats post.old one.old }
     requires zero { P.shows zero.old ≡ fresh 2 0 (P.shows zero.old).batches }
@@ -64,7 +64,7 @@ fn waits_until_the_stop<P: Post>(post: &mut P, zero: &mut P::Seat, one: &mut P::
     true
 }
 
-// What rank 1 got from rank 0, which gave and then stopped.
+// The strings that rank 1 got from rank 0, which gave and then stopped.
 fn gets_what_came_before_the_stop<P: Post>(
     post: &mut P,
     zero: &mut P::Seat,

@@ -12,10 +12,11 @@ use std::test::Fail;
 use std::thread;
 use std::thread::Threads;
 
-// How often a job looks whether the others came before it gives up. It yields after each look, since they may have no processor yet.
+// How often a job looks whether the others came before it gives up. It yields after each look, since they may have no
+// processor yet.
 const MOST_LOOKS: u64 = 1_000_000;
 
-// Says at each string that it came, waits for so many to come, and notes whether they did.
+// Says at each string that it came, waits until so many have come, and notes whether they did.
 #[derive(Drop)]
 struct Meeting {
     alloc: Global,
@@ -111,14 +112,14 @@ fn meetings(
     Ok(jobs)
 }
 
-// A body on one thread never passes this: each of two jobs waits for the other.
+// A run on one thread cannot pass this: each of two jobs waits for the other.
 #[test]
 fn two_hosts_meet(rt: HostRuntime) -> Result<(), Fail> {
     assert!(rt; meet(&rt, 2)?);
     Ok(())
 }
 
-// And one on two threads never passes this: each of four jobs waits for the other three.
+// A run on two threads cannot pass this: each of four jobs waits for the other three.
 #[test]
 fn four_hosts_meet(rt: HostRuntime) -> Result<(), Fail> {
     assert!(rt; meet(&rt, 4)?);

@@ -1,8 +1,8 @@
 //! Two ranks share strings over a board and come to the end, by its trait alone.
-ghost use Rattle.std.specs.Prelude.{◌≡◌, ◌∷◌, ◌<◌, [], true, false, length, Option, Some, IfSome, IfOk};
+ghost use Rattle.std.specs.Prelude.{◌≡◌, ◌∷◌, ◌<◌, ℕ, [], true, false, length, Option, Some, IfSome, IfOk};
 ghost use Rattle.ring_core.specs.declared.states.Colour.TheVariants.{Black};
 ghost use Rattle.post_board.specs.Fresh.{fresh, AllFresh};
-ghost use Rattle.post_board.specs.Shown.{Batches, Shown};
+ghost use Rattle.post_board.specs.Shown.{Batches, Shown, is_served};
 
 use path_text::{OutOfMemory, Path};
 use post_board::{Answer, PlainBoard, Post, Ring};
@@ -32,7 +32,7 @@ pub(crate) fn two_paths(alloc: Global) -> Result<Batch, Fail>
     Ok(batch)
 }
 
-// Rank 1 asks, rank 0 gives, and rank 1 takes what was given.
+// Rank 1 asks, rank 0 gives, and rank 1 takes the strings given.
 fn shares<P: Post>(
     post: &mut P,
     zero: &mut P::Seat,
@@ -119,7 +119,7 @@ fn end<P: Post>(post: &mut P, zero: &mut P::Seat, one: &mut P::Seat) -> bool
     true
 }
 
-/// What rank 1 got, once both ranks have ended and their seats were gathered.
+/// The strings that rank 1 got, once both ranks have ended and their seats were gathered.
 pub(crate) fn share_and_end<P: Post>(
     post: &mut P,
     alloc: Global,
@@ -140,14 +140,31 @@ where
     if !refuse(post, &mut zero, &mut one) || !end(post, &mut zero, &mut one) {
         return Ok(None);
     }
-    let mut all = Vec::with_capacity(alloc, 2)?;
-    all.push(zero)?;
-    all.push(one)?;
-    if post.gather(all).over {
+    if gather_both(post, alloc, zero, one)? {
         Ok(Some(given))
     } else {
         Ok(None)
     }
+}
+
+// Gathers both ranks, whose seats come in descending order, and answers whether the run is over.
+fn gather_both<P: Post>(
+    post: &mut P,
+    alloc: Global,
+    zero: P::Seat,
+    one: P::Seat,
+) -> Result<bool, OutOfMemory>
+where
+    P::Seat: Drop,
+    requires zero { P.seats post.old zero × ((P.shows zero).number ≡ 0) × ((P.shows zero).n ≡ 2) × ((P.shows zero).ended ≡ true)
+        × ((r : ℕ) → is_served (P.shows zero) r ≡ false) }
+    requires one { P.seats post.old one × ((P.shows one).number ≡ 1) × ((P.shows one).n ≡ 2) × ((P.shows one).ended ≡ true)
+        × ((r : ℕ) → is_served (P.shows one) r ≡ false) }
+{
+    let mut all = Vec::with_capacity(alloc, 2)?;
+    all.push(one)?;
+    all.push(zero)?;
+    Ok(post.gather(all).over)
 }
 
 // Both strings came, in their order.

@@ -1,4 +1,4 @@
-//! Ranks over a board of atomic words do what they do over a plain one.
+//! Ranks over a board of atomic words have the same results as over a plain one.
 ghost use Rattle.std.specs.Prelude.{◌≡◌, ◌<◌, ◌≤◌, [], length, false, IfOk};
 ghost use Rattle.post_board.specs.Fresh.{fresh};
 ghost use Rattle.sum_tree.specs.Plain.{fresh as fresh_sums};
@@ -17,7 +17,7 @@ use std::sync::Wait;
 use std::test::Fail;
 use sum_tree::{PlainSums, Sums};
 
-// What the two ranks do, of which rank 0 begins with `/u`.
+// The events of the two ranks, of which rank 0 begins with `/u`.
 const ZERO: &str = "\
 handle 0 2 /u
 give 0 1 1

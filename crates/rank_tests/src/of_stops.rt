@@ -9,7 +9,7 @@ use std::sync::Wait;
 use std::test::Fail;
 use std::thread::Threads;
 
-// What is dealt to the ranks.
+// The starts dealt to the ranks.
 const STARTS: [&str; 3] = ["/a", "/b", "/u"];
 
 // How many strings there are in all.
@@ -83,7 +83,7 @@ fn finds_each_once(finished: &Finished<Family>) -> bool {
     true
 }
 
-// Whether no rank handled more, and where nothing is to be left nothing is.
+// Whether no rank handled more, and nothing is left if nothing may be.
 fn stops_in_time(finished: &Finished<Family>, most: u64) -> bool {
     for job in &finished.jobs {
         if job.steps.len() as u64 > most {
@@ -124,7 +124,7 @@ fn four_ranks_of_four_hosts_stop_in_time(rt: HostRuntime) -> Result<(), Fail> {
     try_all(&rt, 4, 4)
 }
 
-// The only rank leaves what it has not come to.
+// The only rank leaves the strings that it has not come to.
 #[test]
 fn one_rank_leaves_the_rest(rt: HostRuntime) -> Result<(), Fail> {
     let finished = stopped(&rt, 1, 1, 2)?;

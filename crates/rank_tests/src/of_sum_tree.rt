@@ -1,5 +1,5 @@
-//! Sums of few ranks with what is known of them.
-ghost use Rattle.std.specs.Prelude.{◌≡◌};
+//! Sums of few ranks, with known results.
+ghost use Rattle.std.specs.Prelude.{◌≡◌, IsSome};
 ghost use Rattle.sum_tree.specs.Plain.{fresh};
 
 use crate::of_post_board::two_of;
@@ -9,7 +9,7 @@ use std::process::Abort;
 use std::test::Fail;
 use sum_tree::{PlainSums, SumTree, Sums};
 
-// What rank 1 and then rank 0 come to, and both together, where rank 0 counts 3 and rank 1 counts 4.
+// The sums of rank 1 and then rank 0, and of both together, if rank 0 counts 3 and rank 1 counts 4.
 fn three_and_four<Q: Sums>(
     sums: &mut Q,
     alloc: Global,
@@ -33,10 +33,25 @@ where
     let Some(sum) = sums.finish(&mut zero) else {
         return Ok(None);
     };
+    Ok(Some((below, sum, gather_both(sums, alloc, zero, one)?)))
+}
+
+// Gathers both ranks, whose seats come in descending order.
+fn gather_both<Q: Sums>(
+    sums: &mut Q,
+    alloc: Global,
+    zero: Q::Seat,
+    one: Q::Seat,
+) -> Result<u64, OutOfMemory>
+where
+    Q::Seat: Drop,
+    requires zero { Q.seats sums.old zero × ((Q.shows zero).number ≡ 0) × ((Q.shows zero).n ≡ 2) × IsSome (Q.shows zero).answer }
+    requires one { Q.seats sums.old one × ((Q.shows one).number ≡ 1) × ((Q.shows one).n ≡ 2) × IsSome (Q.shows one).answer }
+{
     let mut all = Vec::with_capacity(alloc, 2)?;
-    all.push(zero)?;
     all.push(one)?;
-    Ok(Some((below, sum, sums.gather(all))))
+    all.push(zero)?;
+    Ok(sums.gather(all))
 }
 
 #[test]

@@ -1,12 +1,18 @@
-//! Tests of the run that compute what they want: whole command lines over files in memory, and what is printed. Those whose answers are
-//! known stand as rows of `worked_rows`.
+//! Tests that compute their expectations: of the run, by whole command lines over files in memory, and of the files of a
+//! checkpoint. Command lines with known answers are rows of `worked_rows`.
 //!
-//! They stand here, and not in the crates, so that each of those is proved once: what they call is proved, and they are proved over
-//! its contracts. `rows` has what they share.
+//! They are here, and not in the crates, so that each crate is proved once. They call proved functions, and are proved over the
+//! contracts of these. `rows` has the helpers of all tests.
 #![tactic(auto)]
 
 #[cfg(test)]
+mod of_checkpoints;
+#[cfg(test)]
+mod of_dcp;
+#[cfg(test)]
 mod of_drm;
+#[cfg(test)]
+mod of_long_lists;
 #[cfg(test)]
 mod of_stops;
 #[cfg(test)]

@@ -13,14 +13,14 @@ use std::sync::Wait;
 use std::test::Fail;
 use std::thread::Threads;
 
-// One thread does all, or four share the ranks; the work of a level goes to as many actors, each over a part of its own.
+// One thread does all, or four share the ranks. The work of a level goes to as many actors, each over a part of its own.
 const SHARES: [[&str; 4]; 3] = [
     ["--ranks", "1", "--hosts", "1"],
     ["--ranks", "4", "--hosts", "4"],
     ["--ranks", "8", "--hosts", "4"],
 ];
 
-// So many files stand in a directory that several threads work on their level. Of the four parts each has one that can't be removed.
+// So many files are in a directory that several threads work on their level. Each of the four parts has one that can't be removed.
 const WIDE: [u32; 4] = [100, 201, 302, 503];
 
 fn wide_tree(alloc: Global) -> Result<WholeFiles, Fail> {
@@ -37,7 +37,7 @@ fn wide_tree(alloc: Global) -> Result<WholeFiles, Fail> {
     Ok(files)
 }
 
-// What drm is to print of it.
+// The text that drm must print for it.
 fn wide_text(alloc: Global) -> Result<String, Fail> {
     let mut text = String::new(alloc);
     text.push_str("d            0 /wide\n")?;
@@ -93,7 +93,7 @@ const NODES: [(&str, char, usize); 11] = [
     ("/s/f/i", 'd', 8),
 ];
 
-// The tree in which those nodes have a time whose bits are set: they are what a test of time chooses.
+// The tree in which the nodes whose bits are set have a time: a test of time chooses them.
 fn small_tree(alloc: Global, chosen: u32) -> Result<WholeFiles, Fail> {
     let mut files = WholeFiles::empty(alloc)?;
     let mut bits = chosen;
@@ -111,7 +111,7 @@ fn small_tree(alloc: Global, chosen: u32) -> Result<WholeFiles, Fail> {
     Ok(files)
 }
 
-// Which nodes are held: something stays under them. A node stays that is held or not chosen.
+// The nodes that are held, since something stays under them. A node stays if it is held or not chosen.
 fn held_by(chosen: u32) -> [bool; 11] {
     let mut held = [false; 11];
     for k in (0..11).rev() {
@@ -134,7 +134,7 @@ fn line_of(alloc: Global, k: usize) -> Result<String, Fail>
     Ok(format!(in alloc; "{letter}            0 {path}{target}\n")?)
 }
 
-// What drm is to print for such a choice, and its notes.
+// The text that drm must print for such a choice, and its notes.
 fn wanted_of(alloc: Global, chosen: u32) -> Result<(String, String), Fail> {
     let held = held_by(chosen);
     let mut out = String::new(alloc);
@@ -156,7 +156,7 @@ fn wanted_of(alloc: Global, chosen: u32) -> Result<(String, String), Fail> {
     Ok((out, notes))
 }
 
-// Whether what stands in the files is what is to be left.
+// Whether the files have just the entries that must be left.
 fn is_left(alloc: Global, listing: &[u8], chosen: u32) -> Result<bool, Fail> {
     let held = held_by(chosen);
     let mut want = String::new(alloc);

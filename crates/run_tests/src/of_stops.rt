@@ -1,4 +1,4 @@
-//! A walk that is stopped at every number of paths, on one host and on several, goes on to the whole.
+//! A walk stops at every number of paths, on one host and on several, and goes on to the whole.
 use crate::rows::{AMPLE, do_as_wanted, run_with};
 use memory_runs::WholeFiles;
 use mfu_top::Status;
@@ -12,7 +12,7 @@ use std::thread::Threads;
 const EMPTY_C: &str =
     "d            0 /c\nitems 1 dirs 1 files 0 links 0 others 0 bytes 0 failed 0\n";
 
-// A tree of 100 nodes and an empty folder: node k is named n and k, and stands under node (k - 1) / 8, which is a directory.
+// A tree of 100 nodes and an empty folder. The name of node k is n and k. Its parent is node (k - 1) / 8, which is a directory.
 fn hundred(alloc: Global) -> Result<WholeFiles, Fail> {
     let mut files = WholeFiles::empty(alloc)?;
     files.put_dir(&Path::parse(alloc, "/c")?, 0, None)?;
@@ -39,7 +39,7 @@ fn hundred(alloc: Global) -> Result<WholeFiles, Fail> {
     Ok(files)
 }
 
-// Stops the walk, goes on with three ranks where it was cut, and gives whether it was.
+// Stops the walk, goes on with three ranks if it was cut, and answers whether it was.
 fn stop_and_go_on<T: Abort + Threads + Wait + Sync>(
     rt: &T,
     alloc: Global,
@@ -181,5 +181,63 @@ fn many_stages_come_to_the_whole(rt: HostRuntime) -> Result<(), Fail> {
     assert_eq!(rt; told.0, Status::Done);
     assert_eq!(rt; told.1.text(), text.as_slice());
     assert!(rt; stages > 7);
+    Ok(())
+}
+
+// How many nodes are in the folder of the checkpoint: itself, the list, and a file for each rank.
+fn nodes_of_checkpoint<T: Abort + Threads + Wait + Sync>(
+    rt: &T,
+    alloc: Global,
+    files: &mut WholeFiles,
+    nodes: u64,
+) -> Result<bool, Fail> {
+    let told = run_with(rt, alloc, files, &["dwalk", "/c"], (AMPLE, AMPLE))?;
+    let items = format!(in alloc; "\nitems {nodes} dirs 1 files ")?;
+    let text = String::from_utf8_lossy(alloc, told.1.text())?;
+    Ok(told.0 == Status::Done && text.contains(items.as_str()))
+}
+
+// Each rank leaves a file, up to 64 ranks, and any other number of ranks takes up its strings.
+#[test]
+fn a_stop_of_many_ranks_goes_on_to_the_whole(rt: HostRuntime) -> Result<(), Fail> {
+    let alloc = rt.alloc();
+    let text = whole_text(&rt, alloc)?;
+    for (ranks, nodes, next) in [
+        ("8", 10, "64"),
+        ("33", 35, "1"),
+        ("64", 66, "9"),
+        ("64", 66, "64"),
+    ] {
+        let mut files = hundred(alloc)?;
+        let stop = [
+            "dwalk",
+            "--stop-after",
+            "1",
+            "--lists",
+            "/c",
+            "--ranks",
+            ranks,
+            "/n0",
+        ];
+        let told = run_with(&rt, alloc, &mut files, &stop, (AMPLE, AMPLE))?;
+        assert_eq!(rt; told.0, Status::Stopped, "{ranks}");
+        assert!(rt;
+            nodes_of_checkpoint(&rt, alloc, &mut files, nodes)?,
+            "{ranks}"
+        );
+        let go_on = [
+            "dwalk",
+            "--restart",
+            "--lists",
+            "/c",
+            "--ranks",
+            next,
+            "--hosts",
+            "4",
+        ];
+        let told = run_with(&rt, alloc, &mut files, &go_on, (AMPLE, AMPLE))?;
+        assert_eq!(rt; told.0, Status::Done, "{ranks}");
+        assert_eq!(rt; told.1.text(), text.as_slice(), "{ranks}");
+    }
     Ok(())
 }

@@ -1,13 +1,13 @@
-//! Runs at every size: a tree of ten thousand nodes, a sink that is full at any byte, and a list that is cut at any byte.
+//! Runs at every size: 10,000 nodes, also by ranks in threads, a sink full at any byte, and a list cut at any byte.
 use crate::rows::{AMPLE, TIME, run_with};
 use memory_runs::WholeFiles;
 use mfu_top::Status;
 use path_text::Path;
+use std::alloc::Global;
 use std::test::Fail;
 
-#[test]
-fn walks_ten_thousand_nodes(rt: HostRuntime) -> Result<(), Fail> {
-    let alloc = rt.alloc();
+// 100 directories with 99 files each.
+fn ten_thousand(alloc: Global) -> Result<WholeFiles, Fail> {
     let mut files = WholeFiles::empty(alloc)?;
     for d in 0..100 {
         let dir = format!(in alloc; "/d{d}")?;
@@ -17,10 +17,50 @@ fn walks_ten_thousand_nodes(rt: HostRuntime) -> Result<(), Fail> {
             files.put_file(&Path::parse(alloc, &file)?, b"ab", TIME)?;
         }
     }
+    Ok(files)
+}
+
+#[test]
+fn walks_ten_thousand_nodes(rt: HostRuntime) -> Result<(), Fail> {
+    let alloc = rt.alloc();
+    let mut files = ten_thousand(alloc)?;
     let told = run_with(&rt, alloc, &mut files, &["dwalk", "/"], (AMPLE, AMPLE))?;
     let summary = b"items 10001 dirs 101 files 9900 links 0 others 0 bytes 19800 failed 0\n";
     assert_eq!(rt; told.0, Status::Done);
     assert!(rt; told.1.text().ends_with(summary));
+    Ok(())
+}
+
+// The number after a word of a line.
+fn number_after(line: &str, word: &str) -> Option<u64> {
+    let (_, rest) = line.split_once(word)?;
+    rest.split(' ').next()?.parse::<u64>().ok()
+}
+
+// How many strings were handled, given and taken by the lines of shares, one for each rank.
+fn sums_of_shares(text: &str) -> Option<(u64, u64, u64)> {
+    let mut sums = (0u64, 0u64, 0u64);
+    for line in text.lines() {
+        sums.0 = sums.0.saturating_add(number_after(line, " handled ")?);
+        sums.1 = sums.1.saturating_add(number_after(line, " given ")?);
+        sums.2 = sums.2.saturating_add(number_after(line, " taken ")?);
+    }
+    Some(sums)
+}
+
+// The shares of a single rank in a thread are not known. But together the ranks handle all, and take as many as they give.
+#[test]
+fn shares_of_threads_come_to_all(rt: HostRuntime) -> Result<(), Fail> {
+    let alloc = rt.alloc();
+    let mut files = ten_thousand(alloc)?;
+    let words = ["dwalk", "--shares", "--ranks", "8", "--hosts", "4", "/"];
+    let told = run_with(&rt, alloc, &mut files, &words, (AMPLE, AMPLE))?;
+    assert_eq!(rt; told.0, Status::Done);
+    let text = String::from_utf8_lossy(alloc, told.2.text())?;
+    assert_eq!(rt; text.lines().count(), 8);
+    let (handled, given, taken) = sums_of_shares(&text).ok_or("a line of shares")?;
+    assert_eq!(rt; handled, 10_001);
+    assert_eq!(rt; given, taken);
     Ok(())
 }
 

@@ -1,4 +1,4 @@
-//! What the tests of runs share: runs with some words, and what is wanted of them.
+//! The helpers of the tests of runs: runs with some words, and their expectations.
 use memory_runs::WholeFiles;
 use mfu_top::Status;
 use outside::MemSink;
@@ -10,11 +10,11 @@ use std::thread::Threads;
 
 pub const TIME: Option<u64> = Some(86400);
 
-const NOW: u64 = 259_200;
+pub const NOW: u64 = 259_200;
 
 pub const AMPLE: u64 = 1_000_000;
 
-/// What a run with these words answers, and what two sinks that take so many bytes then hold.
+/// The answer of a run with these words, and the texts in two sinks that take so many bytes.
 pub fn run_with<T: Abort + Threads + Wait + Sync>(
     rt: &T,
     alloc: Global,
@@ -32,10 +32,10 @@ pub fn run_with<T: Abort + Threads + Wait + Sync>(
     Ok((status, out, notes))
 }
 
-/// What is wanted of a run: its words, its status, and what it writes.
+/// The expectation of a run: its words, its status, and the texts that it writes.
 pub type Want<'w> = (&'w [&'w str], Status, &'w str, &'w str);
 
-/// Whether each run does what is wanted, one after the other over the same files.
+/// Whether each run meets its expectation, one after the other over the same files.
 pub fn do_as_wanted<T: Abort + Threads + Wait + Sync>(
     rt: &T,
     alloc: Global,

@@ -1,9 +1,8 @@
-//! Checkpoints in a folder: written, read back, and refused by each cause.
+//! Checkpoints in a directory: written, read back, and refused for each cause.
 ghost use Rattle.std.specs.Prelude.{◌≡◌, [], IfOk};
 ghost use Rattle.outside.specs.Writes.{nothing_lent};
 
-use crate::of_tree_walk::paths;
-use checkpoints::{read_checkpoint, write_checkpoint};
+use checkpoints::{first_misplaced, read_checkpoint, write_checkpoint};
 use files_mem::{Call, MemGround};
 use flat_list::FlatList;
 use outside::{Ground, LoadError, Plot, load};
@@ -13,7 +12,7 @@ use std::alloc::Global;
 use std::process::Abort;
 use std::test::Fail;
 
-// What is done: a directory, and a file in it.
+// The entries done: a directory, and a file in it.
 const DONE: &str = "mfu list 2
 d 0 - ok 0 0 /t
 f 5 86400 ok 0 0 /t/a
@@ -36,7 +35,7 @@ fn with_folder(alloc: Global) -> Result<MemGround, Fail>
     Ok(files)
 }
 
-// Puts a file with this text, where there is one.
+// Puts a file with this text, if there is one.
 fn put(alloc: Global, files: &mut MemGround, path: &str, text: Option<&str>) -> Result<(), Fail>
     ensures { files.new.area ≡ files.old.area }
 {
@@ -55,8 +54,8 @@ fn reason(alloc: Global, stop: &Stop) -> Result<String, Fail> {
     Ok(text)
 }
 
-// How many entries are done, and what each rank has left, with a blank behind each string and `;` behind each list; or why
-// nothing is read.
+// How many entries are done, and the strings that each rank has left, with a blank after each string and `;` after each list. Or
+// why nothing is read.
 fn reading(alloc: Global, files: &mut MemGround, dir: &Path) -> Result<String, Fail>
     ensures { files.new.area ≡ files.old.area }
 {
@@ -80,7 +79,16 @@ fn put_list(text: &mut String, list: &[Path]) -> Result<(), Fail> {
     Ok(())
 }
 
-// Why no checkpoint is written with these strings left, a list for each rank; nothing where it is written.
+// The paths of these texts.
+fn paths(alloc: Global, texts: &[&str]) -> Result<Vec<Path>, Fail> {
+    let mut paths = Vec::new(alloc);
+    for text in texts {
+        paths.push(Path::parse(alloc, text)?)?;
+    }
+    Ok(paths)
+}
+
+// Why no checkpoint is written with these strings left, a list for each rank; nothing if it is written.
 fn writing(
     alloc: Global,
     files: &mut MemGround,
@@ -155,53 +163,74 @@ fn what_is_written_is_read_back(rt: HostRuntime) -> Result<(), Fail> {
     Ok(())
 }
 
-// Each row has the text of `circle.list`, of `circle0.txt` and of `circle1.txt`, and what is told.
+// The answer read from a folder with these three files.
+fn reading_of(
+    alloc: Global,
+    list: Option<&str>,
+    first: Option<&str>,
+    second: Option<&str>,
+) -> Result<String, Fail> {
+    let mut files = with_folder(alloc)?;
+    put(alloc, &mut files, "/c/circle.list", list)?;
+    put(alloc, &mut files, "/c/circle0.txt", first)?;
+    put(alloc, &mut files, "/c/circle1.txt", second)?;
+    reading(alloc, &mut files, &Path::parse(alloc, "/c")?)
+}
+
+const ONE: &str = "circle 1 0 2\n/t/b\nend 1\n";
+
+const TWO: &str = "circle 1 1 2\n/t/c\n/t/d\nend 2\n";
+
+const CLASH: &str = "circle 1 0 2\n/t/b\n/t/a/x\nend 2\n";
+
 #[test]
-fn each_checkpoint_that_is_none_is_refused_by_its_cause(rt: HostRuntime) -> Result<(), Fail> {
+fn a_file_that_is_absent_is_named(rt: HostRuntime) -> Result<(), Fail> {
     let alloc = rt.alloc();
-    let one = Some("circle 1 0 2\n/t/b\nend 1\n");
-    let two = Some("circle 1 1 2\n/t/c\n/t/d\nend 2\n");
-    let clash = Some("circle 1 0 2\n/t/b\n/t/a/x\nend 2\n");
     for (list, first, second, want) in [
-        (Some(DONE), one, two, "2 /t/b ;/t/c /t/d ;"),
-        (Some(DONE_IN_ONE), one, two, "2 /t/b ;/t/c /t/d ;"),
-        (None, one, two, "Absent /c/circle.list"),
-        (Some(DONE), None, two, "Absent /c/circle0.txt"),
-        (Some(DONE), one, None, "Absent /c/circle1.txt"),
-        // what is damaged: the list first, and then the files of the ranks
+        (Some(DONE), Some(ONE), Some(TWO), "2 /t/b ;/t/c /t/d ;"),
+        (
+            Some(DONE_IN_ONE),
+            Some(ONE),
+            Some(TWO),
+            "2 /t/b ;/t/c /t/d ;",
+        ),
+        (None, Some(ONE), Some(TWO), "Absent /c/circle.list"),
+        (Some(DONE), None, Some(TWO), "Absent /c/circle0.txt"),
+        (Some(DONE), Some(ONE), None, "Absent /c/circle1.txt"),
+        // a damaged list comes before an absent file
         (
             Some("mfu list 2\n"),
-            clash,
+            Some(CLASH),
             None,
             "damaged /c/circle.list 2",
         ),
+    ] {
+        let told = reading_of(alloc, list, first, second)?;
+        assert_eq!(rt; told.as_str(), want);
+    }
+    Ok(())
+}
+
+// Damaged files come first, in the order of the ranks, and then strings that are misplaced.
+#[test]
+fn the_first_damaged_line_is_named(rt: HostRuntime) -> Result<(), Fail> {
+    let alloc = rt.alloc();
+    for (first, second, want) in [
+        ("circle 1 0 2\nt\nend 1\n", TWO, "damaged /c/circle0.txt 2"),
+        (ONE, ONE, "damaged /c/circle1.txt 1"),
         (
-            Some(DONE),
-            Some("circle 1 0 2\nt\nend 1\n"),
-            None,
-            "damaged /c/circle0.txt 2",
-        ),
-        (Some(DONE), one, one, "damaged /c/circle1.txt 1"),
-        // and last the strings that are misplaced, of which the first is told
-        (
-            Some(DONE),
-            clash,
-            Some("circle 1 1 2\nt\nend 1\n"),
+            CLASH,
+            "circle 1 1 2\nt\nend 1\n",
             "damaged /c/circle1.txt 2",
         ),
-        (Some(DONE), clash, two, "damaged /c/circle0.txt 3"),
+        (CLASH, TWO, "damaged /c/circle0.txt 3"),
         (
-            Some(DONE),
-            one,
-            Some("circle 1 1 2\n/u\n/t/a\nend 2\n"),
+            ONE,
+            "circle 1 1 2\n/u\n/t/a\nend 2\n",
             "damaged /c/circle1.txt 3",
         ),
     ] {
-        let mut files = with_folder(alloc)?;
-        put(alloc, &mut files, "/c/circle.list", list)?;
-        put(alloc, &mut files, "/c/circle0.txt", first)?;
-        put(alloc, &mut files, "/c/circle1.txt", second)?;
-        let told = reading(alloc, &mut files, &Path::parse(alloc, "/c")?)?;
+        let told = reading_of(alloc, Some(DONE), Some(first), Some(second))?;
         assert_eq!(rt; told.as_str(), want);
     }
     Ok(())
@@ -247,7 +276,7 @@ fn a_path_that_would_be_too_long_is_told_by_its_folder(rt: HostRuntime) -> Resul
     Ok(())
 }
 
-// The old list of what is done is removed first, and all else in the folder stays.
+// The old list of the entries done is removed first, and all else in the folder stays.
 #[test]
 fn a_fault_leaves_all_else_in_the_folder(rt: HostRuntime) -> Result<(), Fail> {
     let alloc = rt.alloc();
@@ -268,11 +297,21 @@ fn a_fault_leaves_all_else_in_the_folder(rt: HostRuntime) -> Result<(), Fail> {
     Ok(())
 }
 
-// Whichever call fails, what is read then is the old checkpoint, or it is told that there is none.
+// Writes a checkpoint over another one while this call fails at this path: why it is not written, and the answer read then.
+fn torn(alloc: Global, call: Call, at: &str) -> Result<(String, String), Fail> {
+    let dir = Path::parse(alloc, "/c")?;
+    let mut files = with_folder(alloc)?;
+    writing(alloc, &mut files, &dir, &[&["/t/b"]])?;
+    files.plan(call, &Path::parse(alloc, at)?)?;
+    let why = writing(alloc, &mut files, &dir, &[&["/t/c"], &["/t/d"]])?;
+    let left = reading(alloc, &mut files, &dir)?;
+    Ok((why, left))
+}
+
+// Whichever call fails, a later read gives the old checkpoint, or answers that there is none.
 #[test]
 fn a_checkpoint_that_is_torn_is_not_read(rt: HostRuntime) -> Result<(), Fail> {
     let alloc = rt.alloc();
-    let dir = Path::parse(alloc, "/c")?;
     for (call, at, want) in [
         (Call::RemoveFile, "/c/circle.list", "2 /t/b ;"),
         (Call::RemoveFile, "/c/circle0.txt", "Absent /c/circle.list"),
@@ -283,14 +322,10 @@ fn a_checkpoint_that_is_torn_is_not_read(rt: HostRuntime) -> Result<(), Fail> {
         (Call::MakeFile, "/c/circle.list", "Absent /c/circle.list"),
         (Call::Write, "/c/circle.list", "damaged /c/circle.list 1"),
     ] {
-        let mut files = with_folder(alloc)?;
-        let told = writing(alloc, &mut files, &dir, &[&["/t/b"]])?;
-        assert_eq!(rt; told.as_str(), "");
-        files.plan(call, &Path::parse(alloc, at)?)?;
-        let told = writing(alloc, &mut files, &dir, &[&["/t/c"], &["/t/d"]])?;
+        let (why, left) = torn(alloc, call, at)?;
         let fault = format!(in alloc; "Fault {at}")?;
-        assert_eq!(rt; told.as_str(), fault.as_str());
-        assert_eq!(rt; reading(alloc, &mut files, &dir)?.as_str(), want);
+        assert_eq!(rt; why.as_str(), fault.as_str());
+        assert_eq!(rt; left.as_str(), want);
     }
     Ok(())
 }
@@ -305,5 +340,14 @@ fn a_list_that_has_no_place_is_told_after_the_ranks(rt: HostRuntime) -> Result<(
     assert_eq!(rt; told.as_str(), "NoPlace /c/circle.list");
     let text = "circle 1 0 1\n/t/b\nend 1\n";
     holds(&rt, alloc, &mut files, "/c/circle0.txt", Some(text))?;
+    Ok(())
+}
+
+// Left strings that cannot be beside done entries, or beside each other, have rows in `worked_rows`.
+#[test]
+fn no_string_is_misplaced_where_no_rank_has_one(rt: HostRuntime) -> Result<(), Fail> {
+    let alloc = rt.alloc();
+    let done = FlatList::decode(alloc, DONE.as_bytes())?;
+    assert!(rt; first_misplaced(alloc, &done, &[])?.is_none());
     Ok(())
 }
