@@ -5,7 +5,8 @@ usage: compare.py [-n ROUNDS] [-e ENTRIES] NAME=COMMAND NAME=COMMAND ..
 
 A round runs each command once by `sh -c`, beginning with another one each time, so that a slow moment of the machine meets all
 of them; one more round before the others is not counted. Standard output goes to a file, since some programs do less where it
-is /dev/null. The ratio is ours/theirs of the wall time of one round, where the first command is ours: below 1 ours is faster.
+is /dev/null. The ratio is ours/theirs of the wall time of one round, where the first command is ours: below 1 ours is faster. The last
+column has the same of the seconds of a processor, which other work on the machine changes less.
 With the number of entries of the tree, the peak memory is told in bytes an entry too. It needs GNU time.
 """
 import argparse
@@ -46,12 +47,14 @@ def measure(commands, rounds, folder):
 
 def report(runs, entries):
     first = next(iter(runs.values()))
-    print(f"{'':10} {'wall s':>8} {'cpu s':>8} {'ours/it':>8} {'from':>6} {'to':>6} {'MiB':>8}" + (f" {'B/entry':>8}" if entries else ""))
+    print(f"{'':10} {'wall s':>8} {'cpu s':>8} {'ours/it':>8} {'from':>6} {'to':>6} {'MiB':>8}" + (f" {'B/entry':>8}" if entries else "") + f" {'cpu/its':>8}")
     for name, took in runs.items():
         ratios = [ours[0] / its[0] for ours, its in zip(first, took)]
+        of_processor = statistics.median(ours[1] / max(its[1], 0.01) for ours, its in zip(first, took))
         wall, cpu, peak = (statistics.median(run[i] for run in took) for i in range(3))
         row = f"{name:10} {wall:8.3f} {cpu:8.3f} {statistics.median(ratios):8.2f} {min(ratios):6.2f} {max(ratios):6.2f} {peak / 1024:8.1f}"
         row += f" {peak * 1024 / entries:8.0f}" if entries else ""
+        row += f" {of_processor:8.2f}"
         failed = {run[3] for run in took} - {0}
         print(row + (f"  status {sorted(failed)}" if failed else ""))
 

@@ -3,14 +3,15 @@
 
 usage: cut_syncs.py [PROGRAM [KILLS]]
 
-Two trees of some 3,000 entries differ in one file of ten, in links, and in directories that only one of them has. KILLS times (300 by
-default) a `dsync --delete` from the first to a fresh copy of the second is killed at a random moment. Looked at is:
+Two trees of some 1,000 entries differ in one file of ten, in links, and in directories that only one of them has. KILLS times (300 by
+default) a `dsync --delete` from the first to a fresh copy of the second is killed at a random moment before its end; a run that ends
+before it is killed is looked at too, but not counted. Looked at is:
 
 - the source and a tree beside the destination: no path or byte of them changes;
 - a second run: its status is 0, and its destination is what an undisturbed run leaves;
 - a third run: it copies and removes nothing.
 
-The last line counts the kills, how many of them came before the run had ended, and those that were wrong.
+The last line counts the kills, the runs that ended before theirs, and those that were wrong.
 """
 import os
 import random
@@ -21,11 +22,15 @@ import tempfile
 import time
 
 
+def copy(one, other):
+    subprocess.run(["cp", "-a", one, other], check=True)
+
+
 def make(work):
     """Makes the source `s`, the destination `d` as it is at first, and a tree `beside`."""
     make_tree = os.path.join(os.path.dirname(os.path.abspath(__file__)), "make_tree.py")
-    subprocess.run([sys.executable, make_tree, f"{work}/s", "3000", "7", "full"], check=True, stdout=subprocess.DEVNULL)
-    shutil.copytree(f"{work}/s", f"{work}/d", symlinks=True)
+    subprocess.run([sys.executable, make_tree, f"{work}/s", "1000", "7", "full"], check=True, stdout=subprocess.DEVNULL)
+    copy(f"{work}/s", f"{work}/d")
     draw = random.Random(3)
     for folder, folders, files in os.walk(f"{work}/d"):
         folders.sort()
@@ -41,8 +46,9 @@ def make(work):
                 os.unlink(path)
                 os.mkdir(path)
                 os.symlink("elsewhere", f"{path}/link")
-    shutil.copytree(f"{work}/s", f"{work}/d/only/here", symlinks=True)
-    shutil.copytree(f"{work}/d", f"{work}/beside", symlinks=True)
+    os.mkdir(f"{work}/d/only")
+    copy(f"{work}/s", f"{work}/d/only/here")
+    copy(f"{work}/d", f"{work}/beside")
 
 
 def is_same(one, other):
@@ -57,19 +63,23 @@ def main():
     make(work)
     words = [program, "dsync", "--delete", f"{work}/s", f"{work}/x"]
     kept = f"{work}/kept"
-    shutil.copytree(f"{work}/s", kept, symlinks=True)
-    shutil.copytree(f"{work}/d", f"{work}/x", symlinks=True)
+    copy(f"{work}/s", kept)
+    copy(f"{work}/d", f"{work}/x")
     start = time.monotonic()
     subprocess.run(words, check=True, stdout=subprocess.DEVNULL)
     longest = time.monotonic() - start
-    draw, wrong, cut = random.Random(1), 0, 0
-    for number in range(kills):
+    draw, wrong, cut, number = random.Random(1), 0, 0, 0
+    while cut < kills and number < 10 * kills:
+        number += 1
         shutil.rmtree(f"{work}/x")
-        shutil.copytree(f"{work}/d", f"{work}/x", symlinks=True)
+        copy(f"{work}/d", f"{work}/x")
         child = subprocess.Popen([*words, "--hosts", "4"] if number % 2 else words, stdout=subprocess.DEVNULL, stderr=subprocess.DEVNULL)
         time.sleep(draw.uniform(0, longest))
         child.kill()
-        cut += child.wait() != 0
+        is_cut = child.wait() != 0
+        cut += is_cut
+        # (other work on the machine makes runs longer or shorter)
+        longest *= 1.05 if is_cut else 0.9
         again, third = (subprocess.run(words, capture_output=True, check=False) for _ in range(2))
         faults = []
         if again.returncode or again.stderr:
@@ -84,7 +94,7 @@ def main():
         for fault in faults:
             print(f"WRONG: kill {number}: {fault}")
     shutil.rmtree(work)
-    print(f"{kills} kills, {cut} before the end, {wrong} wrong")
+    print(f"{cut} kills, {number - cut} runs ended before, {wrong} wrong")
     return 1 if wrong else 0
 
 

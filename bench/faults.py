@@ -66,6 +66,8 @@ def tools(top):
         "dfind": ["dfind", "--name", "f*", "--newer", f"{top}/l", f"{top}/t"],
         "dcmp": ["dcmp", "-o", f"EXIST=COMMON:{top}/o", f"{top}/t", f"{top}/u"],
         "dcp": ["dcp", f"{top}/t", f"{top}/d"],
+        "dcp-range": ["dcp", "--range", "30000", "--ranks", "3", f"{top}/t", f"{top}/d"],
+        "ddup": ["ddup", f"{top}/t", f"{top}/u"],
         "dsync": ["dsync", "--delete", f"{top}/t", f"{top}/u"],
         "drm": ["drm", f"{top}/t"],
     }

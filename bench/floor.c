@@ -2,16 +2,17 @@
  *
  * usage: cc -O2 -o floor floor.c
  *        floor walk TREE
- *        floor compare [-n] TREE COPY
- *        floor copy [-n] TREE TARGET
+ *        floor compare [-n|-o|-no] TREE COPY
+ *        floor copy [-n|-o|-no] TREE TARGET
  *        floor remove TREE
  *        floor order PATHS
  *
  * A walk asks one statx an entry and, for a directory, open, getdents64 and close. A comparison walks both trees, which are to be
- * equal, and asks for each file that is not empty, on each side, statx, open, pread and close. A copy makes each directory, and asks
- * for each file statx, open, preads and close, and open, pwrites and close. A removal walks, and removes from the last path to the
- * first. With -n there is no statx before a file is opened. The last one asks what a walk asks, in the order in which the paths stand in
- * a file, one a line: `mfu dwalk --trace` tells in which order ranks handled them. It prints how many entries there are.
+ * equal, and asks for each file that is not empty, on each side, statx, open, statx of the open file, pread and close. A copy makes
+ * each directory, and asks for each file statx, open, statx of the open file, preads and close, and open, pwrites and close. A removal
+ * walks, and removes from the last path to the first. With -n there is no statx before a file is opened, with -o none of the open file,
+ * and with -no neither. The last one asks what a walk asks, in the order in which the paths stand in a file, one a line:
+ * `mfu dwalk --trace` tells in which order ranks handled them. It prints how many entries there are.
  */
 #define _GNU_SOURCE
 #include <dirent.h>
@@ -35,7 +36,7 @@ struct list {
 };
 
 static char names[32768], one[65536], other[65536];
-static int looks = 1;
+static int looks = 1, looks_again = 1;
 
 static void *grown(void *old, size_t bytes) {
     void *room = realloc(old, bytes);
@@ -92,7 +93,9 @@ static void walk(struct list *list, char *path) {
 static int opened(const char *path) {
     struct statx told;
     if (looks) look(path, &told);
-    return open(path, O_RDONLY | O_CLOEXEC);
+    int file = open(path, O_RDONLY | O_CLOEXEC);
+    if (looks_again && statx(file, "", AT_EMPTY_PATH, STATX_BASIC_STATS, &told)) perror(path);
+    return file;
 }
 
 static int same_bytes(const char *here, const char *there) {
@@ -162,10 +165,10 @@ static size_t in_order(const char *name) {
 int main(int count, char **words) {
     struct list here = {0}, there = {0};
     int at = 2;
-    if (count > 2 && !strcmp(words[2], "-n")) looks = 0, at = 3;
+    if (count > 2 && words[2][0] == '-') looks = !strchr(words[2], 'n'), looks_again = !strchr(words[2], 'o'), at = 3;
     if (count == 3 && !strcmp(words[1], "order")) return printf("%zu\n", in_order(words[2])), 0;
     int paired = count > 1 && (!strcmp(words[1], "compare") || !strcmp(words[1], "copy"));
-    if (count != at + 1 + paired) return fputs("usage: floor walk|compare|copy|remove [-n] TREE [OTHER], or floor order PATHS\n", stderr), 2;
+    if (count != at + 1 + paired) return fputs("usage: floor walk|compare|copy|remove [-n|-o|-no] TREE [OTHER], or floor order PATHS\n", stderr), 2;
     walk(&here, words[at]);
     if (!strcmp(words[1], "compare")) {
         walk(&there, words[at + 1]);

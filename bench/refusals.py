@@ -76,7 +76,7 @@ def run(program, words, shim, work, refused, counts=False):
 
 def may_change(tool, top, path):
     """Whether the path may be otherwise after want of memory."""
-    changed = {"dcp": f"{top}/d/t", "dsync": f"{top}/u", "drm": f"{top}/t"}.get(tool)
+    changed = {"dcp": f"{top}/d/t", "dsync": f"{top}/u", "drm": f"{top}/t"}.get(tool.partition("-")[0])
     return path == f"{top}/o" or changed is not None and (path == changed or path.startswith(f"{changed}/"))
 
 
@@ -108,7 +108,7 @@ def main():
     def fresh():
         shutil.rmtree(top, ignore_errors=True)
         os.mkdir(top)
-        make(top)
+        make(top, 0o755)
 
     for tool, words in tools(top).items():
         if len(sys.argv) > 2 and tool not in sys.argv[2:]:

@@ -13,9 +13,10 @@
 # until the end, since a folder that was removed a moment ago makes the next copy slow for everybody; the 35 copies of `large` for the
 # default five rounds want 14 GB. In /dev/shm each is made before its run and removed after it. Neither is counted. Each round begins
 # with another program, so that none is always the first. After the first run of each program diff compares the destination with the source.
-# For each program sync.sh tells the median of the seconds; and dsync's seconds over its own in the same round: the median, the lowest and
-# the highest. Below 1 dsync is faster. The variable MFU gives another program in place of the built one, LARGE and SMALL other numbers of
-# entries of the two sources.
+# For each program sync.sh tells the median of the seconds and of the seconds of a processor; then for each dsync the ratio of its seconds
+# to those of each rsync in the same round: the median, the lowest and the highest, and the median of the ratio of seconds of a processor.
+# Below 1 dsync is faster. The variable MFU gives another program in place of the built one, LARGE and SMALL other numbers of entries of
+# the two sources. It needs GNU time.
 set -e
 here=$(dirname "$(readlink -f "$0")")
 folder=${1:-/dev/shm}
@@ -69,9 +70,10 @@ once() {
     esac
     case $folder in /dev/shm*) ;; *) sync ;; esac
     start=$(date +%s.%N)
-    "$@" >/dev/null
+    command time -q -f '%U %S' -o "$work/took" "$@" >/dev/null
     end=$(date +%s.%N)
     echo "$end $start" | awk '{ printf "%.4f\n", $1 - $2 }' >>"$work/$task.$name"
+    awk '{ print $1 + $2 }' "$work/took" >>"$work/$task.$name.cpu"
     [ "$round" -ne 1 ] || diff -r --no-dereference "$from" "$to" || { echo "WRONG: after $name the trees differ"; exit 1; }
     case $folder-$task in /dev/shm*-nothing) ;; /dev/shm*) rm -rf "$to" ;; esac
 }
@@ -81,10 +83,25 @@ middle() {
     sort -n "$@" | awk '{ it[NR] = $1 } END { print it[int((NR + 1) / 2)] }'
 }
 
-# told TASK NAME: its seconds, and the ratios of dsync's to them
+# ratios FILE FILE: those of each round, from the lowest to the highest
+ratios() {
+    paste "$1" "$2" | awk '{ printf "%.3f\n", ($2 > 0 ? $1 / $2 : 1) }' | sort -n >"$work/ratios"
+}
+
+# told TASK NAME ..: the seconds of each program, and the ratios of each dsync to each rsync
 told() {
-    paste "$work/$1.dsync" "$work/$1.$2" | awk '{ printf "%.3f\n", $1 / $2 }' | sort -n >"$work/ratios"
-    echo "$2 $(middle "$work/$1.$2") $(middle "$work/ratios") $(head -n 1 "$work/ratios") $(tail -n 1 "$work/ratios")"
+    task=$1
+    shift
+    for name in "$@"; do echo "$name: $(middle "$work/$task.$name") s, $(middle "$work/$task.$name.cpu") s of a processor"; done
+    for ours in "$@"; do
+        for name in "$@"; do
+            case $ours-$name in dsync*-rsync*) ;; *) continue ;; esac
+            ratios "$work/$task.$ours.cpu" "$work/$task.$name.cpu"
+            of_processor=$(middle "$work/ratios")
+            ratios "$work/$task.$ours" "$work/$task.$name"
+            echo "$ours to $name: $(middle "$work/ratios") ($(head -n 1 "$work/ratios") to $(tail -n 1 "$work/ratios")), of a processor $of_processor"
+        done
+    done
 }
 
 # task TASK TREE NAME ..: times the programs in turn
@@ -104,8 +121,8 @@ task() {
         for name in $names; do once "$task" "$name" "$round" "$from"; done
         names="${names#* } ${names%% *}"
     done
-    echo "$task: program, seconds, dsync's over its own, lowest, highest"
-    for name in "$@"; do told "$task" "$name"; done
+    echo "$task:"
+    told "$task" "$@"
     rm -f "$work/$task".*
 }
 
