@@ -2,13 +2,15 @@
 """Checks that the documents, the man pages and the completions agree with the program. usage: check_docs.py
 
 - The table contrib/tools.txt has the options that the program reads (tool_words/specs/Table.antt) and those of its help
-  (mfu/src/help.rt), and the files made from it are up to date.
+  (mfu/src/help.rt and the two files of pages), and the files made from it are up to date.
 - Each help begins with one screen, 24 lines of 80 columns, that has the call, every status of its tool, and that paths are absolute.
-- The man page of a tool has each of its options, and bash, zsh and fish offer it.
+- The man page of a tool has each of its options, and bash, zsh and fish offer it. `apropos` finds a page by each word for the work of a tool.
 - `man --warnings` prints nothing, and each shell reads its completion.
-- docs/PROMISES.md names each must-fail edit, and each definition, function and edit that it names is in the crates.
-- Each link in a Markdown file leads to a file and a heading that exist.
-- The texts for users have none of the words that the house style (CONTRIBUTING.md) replaces.
+- docs/PROMISES.md names each must-fail edit, and each definition, function and edit that it names is in the crates. Each clause that it or docs/PROVED.md
+  names by its function and its label is there.
+- docs/ARCHITECTURE.md and docs/PROVED.md have each crate. bench/README.md lists each script of bench/, and docs/ shows each script of contrib/ that is installed.
+- Each link in a Markdown file leads to a file and a heading that exist, and each path in backquotes to a file.
+- The texts for readers follow the house style of CONTRIBUTING.md, as far as contrib/plain_text.py can look at it. README.md has fewer than 130 lines.
 - If the program is built, a run on a terminal shows a line that it erases, and a hint after a refusal; a run whose standard error is a file or a pipe has neither.
 - If the program is built, each command in README.md, docs/TOOLS.md, docs/RECIPES.md, docs/LISTS.md and docs/CHECKPOINTS.md that begins with `$ ` prints the
   lines below it. A line `...` matches any lines.
@@ -25,13 +27,11 @@ import sys
 import tempfile
 
 import make_pages
+import plain_text
 
 TOP = make_pages.TOP
 TRIED = ["README.md", "docs/TOOLS.md", "docs/RECIPES.md", "docs/LISTS.md", "docs/CHECKPOINTS.md"]
-PLAIN = [*TRIED, "CHANGELOG.md", "docs/COMING_FROM.md", "docs/PERFORMANCE.md", "docs/GATE.md", "docs/README.md", "bench/FIGURES.md", "contrib/tools.txt",
-         "crates/mfu/src/help.rt", "crates/mfu/src/topics.rt", "crates/mfu/src/hints.rt"]
-COINED = (r"what stands\b|what meets\b|\b(?:is|are) told\b|drawn by lot|\bwanting\b|\brobbed\b|begun anew|wrong bod(?:y|ies) that the gate|"
-          r"(?<!there )\b(?:is|are) no [a-z]+|\bin front of\b|\w \.\.(?![./])")
+HELP = ["help", "reading_pages", "changing_pages"]
 OPTION = r"(?<![\w-])--?[a-z][a-z-]*"
 wrong = []
 
@@ -68,9 +68,10 @@ def options_are_read(table):
         said(f"the option {name} stands in {'contrib/tools.txt' if name in ours else 'tool_words/specs/Table.antt'} alone")
 
 
-def helps_of(part="help"):
+def helps_of(parts=HELP):
     """The texts of the help, or of its topics, each by the name of its constant."""
-    texts = re.findall(r'^const ([A-Z]+): &str = "((?:[^"\\]|\\.)*)";', text_of(f"crates/mfu/src/{part}.rt"), re.M)
+    text = "".join(text_of(f"crates/mfu/src/{part}.rt") for part in parts)
+    texts = re.findall(r'^(?:pub\(crate\) )?const ([A-Z]+): &str = "((?:[^"\\]|\\.)*)";', text, re.M)
     return {name: text.replace("\\\\", "\\") for name, text in texts if name != "VERSION"}
 
 
@@ -101,7 +102,7 @@ def options_are_in_help(table):
     for tool in table.tools:
         for name in sorted(names(table, tool) - every):
             said(f"the help says nothing of {name}")
-    for name, text in helps_of("topics").items():
+    for name, text in helps_of(["topics"]).items():
         if name.lower() not in make_pages.HELPS or f"mfu help {name.lower()}" not in " ".join(helps["TOOLS"].split()):
             said(f"mfu help does not name the topic {name.lower()}, or contrib/make_pages.py does not")
         for line in text.split("\n"):
@@ -117,6 +118,14 @@ def options_are_in_pages(table):
         page = text_of(f"man/mfu-{tool.name}.1").replace("\\-", "-").replace("\\fB", "").replace("\\fR", "")
         for name in sorted(names(table, tool) - set(re.findall(OPTION, page))):
             said(f"mfu-{tool.name}(1) says nothing of {name}")
+
+
+def pages_are_found():
+    """Whether `apropos` finds a page by each word for the work of a tool."""
+    lines = " ".join(text_of(f"man/{page}").split("\n.SH ")[1] for page in os.listdir(os.path.join(TOP, "man")))
+    for word in ("list", "search", "compare", "copy", "synchronize", "duplicate", "delete"):
+        if word not in lines:
+            said(f"no man page has the word {word} in its NAME")
 
 
 def pages_are_sound():
@@ -168,8 +177,76 @@ def promises_name_what_is_there():
     named = set(re.findall(r"`(?:\w+::)*([A-Za-z]\w+)`", text_of("docs/PROMISES.md")))
     for name in sorted(edits - named):
         said(f"docs/PROMISES.md does not name the must-fail edit {name}")
+    named |= set(re.findall(r"`(?:\w+::)*([A-Za-z]\w+)`", text_of("docs/PROVED.md")))
     for name in sorted(name for name in named - there if "_" in name or name[0].isupper()):
-        said(f"docs/PROMISES.md names {name}, which is nowhere in crates/")
+        said(f"docs/PROMISES.md or docs/PROVED.md names {name}, which is nowhere in crates/")
+
+
+def labels_of_clauses():
+    """The labels of the clauses of each function, type, trait and crate, by its name, and the functions of each type and crate."""
+    found = {}
+    for file in glob.glob(os.path.join(TOP, "crates/*/src/*.rt")):
+        crate, owner, function = file.split(os.sep)[-3], "", ""
+        for line in text_of(file).splitlines():
+            head = re.match(r"(?:pub )?(?:ghost )?(?:trait (\w+)|impl\b.*?(\w+)(?:<[^{]*>)?(?: where.*)? *\{?$)", line)
+            called = re.match(r"\s*(?:pub(?:\(crate\))? )?(?:const |ghost )?fn (\w+)", line)
+            label = re.match(r"\s*(?:ensures (\w+) \{|ghost (\w+):)", line)
+            if head:
+                owner = head[1] or head[2]
+            if called:
+                function = called[1]
+                owner = owner if line.startswith(" ") else ""
+            word = called[1] if called else label and (label[1] or label[2])
+            for name in {crate, owner, function} if word else ():
+                found.setdefault(name, set()).add(word)
+            if label and owner and " for " not in line:
+                found.setdefault(f"{owner}::{function}", set()).add(word)
+    return found
+
+
+def clauses_are_there():
+    """`name`: `label`, `label` names clauses of a function, or functions or clauses of a type, a trait or a crate."""
+    found = labels_of_clauses()
+    for page in ("PROVED", "PROMISES"):
+        for name, labels in re.findall(r"`((?:\w+::)*\w+)`: ((?:`\w+`(?:, | and )?)+)", text_of(f"docs/{page}.md")):
+            there = found.get(name) or found.get(name.split("::")[-1], set())
+            for label in re.findall(r"`(\w+)`", labels):
+                if label not in there:
+                    said(f"docs/{page}.md: {name} has no clause {label}")
+
+
+def crates_are_listed():
+    """docs/ARCHITECTURE.md and docs/PROVED.md have each crate of crates.txt."""
+    for crate in re.findall(r"^(\w+).*:", text_of("crates.txt"), re.M):
+        for page in ("ARCHITECTURE", "PROVED"):
+            if f"`{crate}`" not in text_of(f"docs/{page}.md"):
+                said(f"docs/{page}.md does not have the crate {crate}")
+
+
+def scripts_are_listed():
+    """bench/README.md has each script of bench/, and docs/RECIPES.md or docs/CHECKPOINTS.md each one of contrib/ that is installed."""
+    listed = text_of("bench/README.md")
+    for name in sorted(os.listdir(os.path.join(TOP, "bench"))):
+        if name.endswith((".py", ".sh", ".c")) and f"`{name}" not in listed:
+            said(f"bench/README.md does not list {name}")
+    shown = text_of("docs/RECIPES.md") + text_of("docs/CHECKPOINTS.md")
+    for name in re.findall(r"contrib/[\w.-]+", re.search(r"^scripts = (.*)$", text_of("Makefile"), re.M)[1]):
+        if name not in shown:
+            said(f"docs/RECIPES.md does not show {name}")
+
+
+def paths_are_there():
+    """Each path in backquotes: from the top, or `specs/..`, `src/..` and `proofs/..` of the crate that its line names last before it."""
+    for name in ["CONTRIBUTING.md", *(f"docs/{page}" for page in os.listdir(os.path.join(TOP, "docs")) if page.endswith(".md"))]:
+        for line in text_of(name).splitlines():
+            crate = "*"
+            for word in re.findall(r"`([\w./-]+)`", line):
+                if os.path.isdir(os.path.join(TOP, "crates", word)):
+                    crate = word
+                top = re.match(r"(?:crates|contrib|bench|docs|man|completions)/", word)
+                path = word if top else f"crates/{crate}/{word}" if re.match(r"(?:specs|src|proofs)/", word) else f"crates/{word}"
+                if (top or re.search(r"(?:^|/)(?:specs|src|proofs)/\w", word)) and "NAME" not in word and not glob.glob(os.path.join(TOP, path + "*")):
+                    said(f"{name}: {word} is not there")
 
 
 def headings(text):
@@ -198,10 +275,10 @@ def links_of(name):
 
 
 def words_are_plain():
-    for name in PLAIN:
-        text = " ".join(text_of(name).split())
-        for found in re.findall(COINED, text, re.I):
-            said(f"{name}: the house style replaces: {found}")
+    if len(text_of("README.md").splitlines()) >= 130:
+        said("README.md has 130 lines or more")
+    for name, fault in plain_text.faults(TOP):
+        said(f"{name}: {fault}")
 
 
 def as_printed(want, got):
@@ -280,21 +357,23 @@ def in_file(words):
 
 
 def lines_are_on_terminals_alone(program):
-    """Two large sparse files are compared, which takes about a second and no disk."""
-    with tempfile.TemporaryDirectory() as work:
-        sides = [os.path.join(work, side) for side in ("source", "dest")]
-        for side in sides:
-            os.mkdir(side)
-            with open(os.path.join(side, "large"), "wb") as file:
-                file.truncate(6 << 30)
-        words = [program, "dcmp", *sides]
-        status, out, shown = on_terminal(words)
-        # What is shown is lines that begin at the margin, each over the one before, and then blanks over the last.
-        if not re.fullmatch(rb"(\rmfu: looked at \d+ paths, compared \d+ files \([\d,]+ MB\))+\r +\r", shown):
-            said(f"on a terminal dcmp shows {shown[-200:]!r}")
-        for name, got in (("a pipe", in_pipe(words)), ("a file", in_file(words))):
-            if got != (status, out, b""):
-                said(f"dcmp to {name} prints something else than on a terminal: {got[2][-200:]!r}")
+    """Two large sparse files are compared or hashed, which takes some seconds and no disk. Each line fits into 80 columns."""
+    compared, hashed = rb"compared \d+ files \([\d,]+ MB\)", rb"read [\d,]+ MB"
+    for tool, size, numbers in (("dcmp", 6 << 30, compared), ("dsync", 6 << 30, compared), ("ddup", 200 << 20, hashed)):
+        with tempfile.TemporaryDirectory() as work:
+            sides = [os.path.join(work, side) for side in ("source", "dest")]
+            for side in sides:
+                os.mkdir(side)
+                with open(os.path.join(side, "large"), "wb") as file:
+                    file.truncate(size)
+            words = [program, tool, *sides]
+            status, out, shown = on_terminal(words)
+            # The lines begin at the margin, each over the one before, and blanks are over the last.
+            if not re.fullmatch(rb"(\rmfu: looked at \d+ paths, " + numbers + rb" *)+\r +\r", shown) or max(map(len, shown.split(b"\r"))) > 80:
+                said(f"on a terminal {tool} shows {shown[-200:]!r}")
+            for name, run_to in (("a pipe", in_pipe), ("a file", in_file)) if tool == "dcmp" else (("a pipe", in_pipe),):
+                if run_to(words) != (status, out, b""):
+                    said(f"{tool} to {name} prints something else than on a terminal")
 
 
 def hints_are_on_terminals_alone(program):
@@ -332,9 +411,14 @@ def main():
     options_are_in_help(table)
     helps_begin_with_a_screen(table)
     options_are_in_pages(table)
+    pages_are_found()
     pages_are_sound()
     completions_offer(table)
     promises_name_what_is_there()
+    clauses_are_there()
+    crates_are_listed()
+    scripts_are_listed()
+    paths_are_there()
     links_lead()
     words_are_plain()
     terminals_are_told_apart()

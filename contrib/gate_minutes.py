@@ -4,9 +4,10 @@
 usage: gate_minutes.py watch LOG COMMAND...   runs COMMAND, as `rt ci --anew`, and writes LOG
        gate_minutes.py LOG                    makes the table of docs/GATE.md from LOG
 
-Twice a second `watch` reads the processor time of each process below COMMAND. The words of a process say its crate and what it does for it: it proves the
-crate, proves or runs its tests, runs its program, or tries its must-fail edits. A line of LOG is a crate, one of proof, tests, edits, and the
-seconds of one processor; its last line is `all` with the seconds of all processes. The exit status of `watch` is that of COMMAND.
+Twice a second `watch` reads the processor time of each process below COMMAND, with that of the children that it waited for. The words of a process
+give its crate and its work: it proves the crate, proves or runs its tests, runs its program, or tries its must-fail edits. A line of LOG is a crate, one
+of proof, tests, edits, and the seconds of one processor; its last line is `all` with the seconds of all processes. The exit status of `watch` is that
+of COMMAND.
 """
 import os
 import re
@@ -27,23 +28,17 @@ def text_of(name):
         return file.read().decode(errors="replace")
 
 
-def processes(top):
-    """The processes below one, each with its start and its processor seconds."""
-    tick, below, found = os.sysconf("SC_CLK_TCK"), {}, {}
+def processes():
+    """Each process by its number: its parent, its start, and the processor seconds of it and of the children that it waited for."""
+    tick, found = os.sysconf("SC_CLK_TCK"), {}
     for name in os.listdir("/proc"):
         if name.isdigit():
             try:
                 fields = text_of(f"/proc/{name}/stat").rpartition(") ")[2].split()
             except OSError:
                 continue
-            below.setdefault(int(fields[1]), []).append(int(name))
-            found[int(name)] = int(fields[19]), (int(fields[11]) + int(fields[12])) / tick
-    todo, all_below = [top], []
-    while todo:
-        process = todo.pop()
-        all_below.append(process)
-        todo += below.get(process, [])
-    return {(process, found[process][0]): found[process][1] for process in all_below if process in found}
+            found[int(name)] = int(fields[1]), int(fields[19]), sum(map(int, fields[11:15])) / tick
+    return found
 
 
 def work_of(process):
@@ -63,19 +58,39 @@ def work_of(process):
     return crate, "tests" if "--test" in words else "proof"
 
 
+def works_below(top, works):
+    """The processor seconds of each process below one that works for a crate, with all below it, by its number and its start."""
+    found, below, seconds = processes(), {}, {}
+    for process, (parent, _, _) in found.items():
+        below.setdefault(parent, []).append(process)
+
+    def spent(process):
+        return found[process][2] + sum(map(spent, below.get(process, [])))
+
+    def look(process):
+        name = process, found[process][1]
+        works[name] = works.get(name) or work_of(process)
+        if works[name]:
+            seconds[name] = spent(process)
+        else:
+            for child in below.get(process, []):
+                look(child)
+
+    if top in found:
+        look(top)
+    return seconds
+
+
 def watch(log, command):
     started = subprocess.Popen(command)
     works, seconds = {}, {}
     while started.poll() is None:
-        for process, spent in processes(started.pid).items():
-            if works.get(process) is None:
-                works[process] = work_of(process[0])
+        for process, spent in works_below(started.pid, works).items():
             seconds[process] = max(spent, seconds.get(process, 0))
         time.sleep(0.5)
     sums = {}
     for process, spent in seconds.items():
-        if works[process]:
-            sums[works[process]] = sums.get(works[process], 0) + spent
+        sums[works[process]] = sums.get(works[process], 0) + spent
     used = resource.getrusage(resource.RUSAGE_CHILDREN)
     with open(log, "w", encoding="utf-8") as file:
         for (crate, part), spent in sorted(sums.items()):

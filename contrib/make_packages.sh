@@ -36,9 +36,9 @@ Depends: libc6 (>= $libc)
 Suggests: perl, python3
 Section: utils
 Priority: optional
-Description: list, search, compare, copy and delete directory trees
+Description: list, search, compare, copy, synchronize and delete directory trees
  Parallel tools in the manner of mpiFileUtils (dwalk, dfind, dcmp, dcp, dsync,
- drm), each of whose functions is proved to do what its contract says.
+ ddup, drm). A prover has checked that each function keeps its contract.
 END
     find "$work/deb/DEBIAN" "$work/deb" -maxdepth 1 -exec touch -h -d "@$SOURCE_DATE_EPOCH" {} +
     dpkg-deb -Zgzip --root-owner-group --build "$work/deb" "$out/mfu_${version}_$(dpkg --print-architecture).deb" >/dev/null

@@ -197,7 +197,7 @@ def main_page(table):
     body += [".SH FILES", ".TP", "\\fIPREFIX\\fR/share/mfu", "the scripts; in the sources contrib/"]
     body += [".TP", "\\fIPREFIX\\fR/share/doc/mfu", "the documents: README.md, and docs/ with RECIPES.md, LISTS.md and others"]
     others = ", ".join(f"\\fBmfu\\-{tool.name}\\fR(1)" for tool in table.tools)
-    return page("mfu", "list, search, compare, copy and delete directory trees", body + [".SH SEE ALSO", others])
+    return page("mfu", "list, search, compare, copy, synchronize and delete directory trees, and find duplicate files", body + [".SH SEE ALSO", others])
 
 
 # Completions
@@ -245,7 +245,7 @@ def bash_value(tool, option):
 
 
 def bash_word(table, tool):
-    """The case of any other word: an option, or what the tool's plain words are."""
+    """The case of any other word: an option, or a plain word of the tool."""
     names = " ".join(option.flags()[0] for option in table.options(tool))
     plain = "_mfu_paths; return" if tool.one("plain") == "path" else "return"
     return [f"        {tool.name}:*)", f"            if [[ $cur != -* ]]; then {plain}; fi", f"            words='{names} --help' ;;"]
@@ -364,7 +364,7 @@ def spread(texts):
 
 
 def option_rows(options):
-    return rows(("Option", "What it does"), [(f"`{option.name}`", option.one("say")) for option in options])
+    return rows(("Option", "Effect"), [(f"`{option.name}`", option.one("say")) for option in options])
 
 
 def anchor(title):
@@ -401,7 +401,7 @@ def tool_part(table, tool):
 
 def tools_doc(table):
     out = [f"<!-- Made by {MADE}: change that table, and run the script. -->", "# The tools", "",
-           "First each tool, then what they share: the command line, paths, output, options, messages and exit statuses. The examples use the small",
+           "First each tool, then the parts that they share: the command line, paths, output, options, messages and exit statuses. The examples use the small",
            "tree that `sh contrib/example_tree.sh /tmp/site` makes.", ""]
     for tool in table.tools:
         out += tool_part(table, tool)
@@ -416,7 +416,7 @@ def tools_doc(table):
 
 
 def made(table):
-    """What is made: the text of each file by its name."""
+    """The text of each file that is made, by its name."""
     files = {"man/mfu.1": main_page(table), "completions/mfu.bash": bash_completion(table), "completions/_mfu": zsh_completion(table),
              "completions/mfu.fish": fish_completion(table), "docs/TOOLS.md": tools_doc(table)}
     files.update({f"man/mfu-{tool.name}.1": tool_page(table, tool) for tool in table.tools})
@@ -433,7 +433,7 @@ def main(words):
             os.makedirs(os.path.dirname(path), exist_ok=True)
             open(path, "w", encoding="utf-8").write(text)
         elif there != text:
-            print(f"{name} is not what contrib/make_pages.py makes", file=sys.stderr)
+            print(f"{name} is not as contrib/make_pages.py makes it", file=sys.stderr)
             old += 1
     return 1 if old else 0
 

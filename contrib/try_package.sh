@@ -2,7 +2,7 @@
 # Installs a Debian package of make_packages.sh in a fresh root, runs each tool there once, and removes the package. Needs root and debootstrap.
 # usage: try_package.sh DEB ROOT [SUITE]
 #
-# ROOT is made with debootstrap if it does not exist, from SUITE (default bookworm); what the tools make there is deleted again. The exit status is 0 if
+# ROOT is made with debootstrap if it does not exist, from SUITE (default bookworm); the files that the tools make there are deleted again. The exit status is 0 if
 # all went well.
 set -eu
 deb=${1:?DEB} root=${2:?ROOT} suite=${3:-bookworm}
@@ -22,9 +22,10 @@ is dcp "$(mfu dcp --hosts 4 /tmp/site/logs /tmp/site.copy)" 'copied 4 items 4 by
 is dcmp "$(mfu dcmp /tmp/site/logs /tmp/site.copy | tail -n 1)" \
     'rows 4 only_src 0 only_dest 0 common 4 differ_type 0 differ_size 0 differ_content 0 failed 0'
 is dsync "$(mfu dsync --delete --hosts 4 /tmp/site/notes /tmp/site.copy)" 'synced 2 removed 3 kept 1 failed 0'
+is ddup "$(mfu ddup --hosts 4 /tmp/site/notes /tmp/site.copy | tail -n 1)" 'groups 2 files 4 extra_bytes 43 failed 0'
 is drm "$(mfu drm /tmp/site.copy | tail -n 1)" 'removed 3 of 3 failed 0'
 is dtest "$(mfu dtest 1000)" 'items 1000 dirs 125 files 875 links 0 others 0 bytes 43838 failed 0'
-for tool in dwalk dfind dcmp dcp dsync drm dtest; do
+for tool in dwalk dfind dcmp dcp dsync ddup drm dtest; do
     mfu help $tool >/dev/null
     [ -f /usr/share/man/man1/mfu-$tool.1.gz ]
 done
