@@ -59,6 +59,10 @@ fn a_tool_shows_its_own_numbers(rt: HostRuntime) {
         ("dcp", "\rmfu: looked at 3 paths, copied 2 files (5 MB)"),
         ("drm", "\rmfu: looked at 3 paths, removed 1,000,005"),
         ("dcmp", "\rmfu: looked at 3 paths, compared 3 files (3 MB)"),
+        (
+            "dsync",
+            "\rmfu: looked at 3 paths, copied 2 files (5 MB), removed 1,000,005",
+        ),
         ("ddup", "\rmfu: looked at 3 paths, read 3 MB"),
     ] {
         let room = Room::with(rt, &[]).expect(&rt, "a room");

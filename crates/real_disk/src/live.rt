@@ -127,7 +127,8 @@ impl<C: Clock, P: Print> Live<C, P> {
             .sum(Call::RemoveFile)
             .wrapping_add(self.sum(Call::RemoveDir));
         // dsync compares all files before it removes or copies anything. A line with all its numbers may be longer than 80 columns.
-        let is_comparing = self.shown.compared && copied == 0 && removed == 0;
+        let is_changing = self.shown.copied && (copied != 0 || removed != 0);
+        let is_comparing = self.shown.compared && !is_changing;
         if is_comparing {
             line.push_str(", compared ")?;
             put_number(&mut line, self.sum(Call::Open) / 2)?;
