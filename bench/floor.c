@@ -7,10 +7,10 @@
  *        floor remove TREE
  *        floor order PATHS
  *
- * A walk asks one statx an entry and, for a directory, open, getdents64 and close. A comparison walks both trees, which are to be
- * equal, and asks for each file that is not empty, on each side, statx, open, statx of the open file, pread and close. A copy makes
- * each directory, and asks for each file statx, open, statx of the open file, preads and close, and open, pwrites and close. A removal
- * walks, and removes from the last path to the first. With -n there is no statx before a file is opened, with -o none of the open file,
+ * A walk asks one statx an entry, for a link readlink, and for a directory open, getdents64 and close. A comparison walks both trees,
+ * which are to be equal, and asks for each file that is not empty, on each side, statx, open, statx of the open file, pread and close. A
+ * copy makes each directory and each link, and asks for each file statx, open, statx of the open file, preads and close, and open,
+ * pwrites and close. A removal walks, and removes from the last path to the first. With -n there is no statx before a file is opened, with -o none of the open file,
  * and with -no neither. The last one asks what a walk asks, in the order in which the paths stand in a file, one a line:
  * `mfu dwalk --trace` tells in which order ranks handled them. It prints how many entries there are.
  */
@@ -28,6 +28,7 @@ struct entry {
     char *path;
     mode_t mode;
     long size;
+    char *text;
 };
 
 struct list {
@@ -75,6 +76,13 @@ static size_t children(const char *path, char ***paths) {
     return count;
 }
 
+/* The text of a link. */
+static char *text_of(const char *path) {
+    ssize_t len = readlink(path, one, sizeof one - 1);
+    one[len < 0 ? 0 : len] = 0;
+    return strcpy(grown(NULL, strlen(one) + 1), one);
+}
+
 static void walk(struct list *list, char *path) {
     struct statx told;
     look(path, &told);
@@ -82,7 +90,8 @@ static void walk(struct list *list, char *path) {
         list->room = list->room ? 2 * list->room : 1024;
         list->entries = grown(list->entries, list->room * sizeof *list->entries);
     }
-    list->entries[list->len++] = (struct entry){path, told.stx_mode, told.stx_size};
+    char *text = S_ISLNK(told.stx_mode) ? text_of(path) : NULL;
+    list->entries[list->len++] = (struct entry){path, told.stx_mode, told.stx_size, text};
     if (!S_ISDIR(told.stx_mode)) return;
     char **paths = NULL;
     size_t count = children(path, &paths);
@@ -134,6 +143,7 @@ static void copy(const struct list *list, size_t top, const char *target) {
         const struct entry *entry = &list->entries[k];
         snprintf(to, sizeof to, "%s%s", target, entry->path + top);
         if (S_ISDIR(entry->mode)) mkdir(to, 0777);
+        if (entry->text && symlink(entry->text, to)) perror(to);
         if (S_ISREG(entry->mode)) copy_file(entry->path, to, entry->size);
     }
 }

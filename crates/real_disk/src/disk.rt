@@ -5,6 +5,7 @@ ghost use Rattle.outside.specs.Tree.{AreNames};
 
 use crate::answers::{is_absent, opened, text_of, was_read};
 use crate::handles::{Handle, to_read};
+use crate::known::Directory;
 use crate::names::FoundNames;
 use crate::parents::{Parents, another};
 use crate::watch::{Call, Watch};
@@ -96,7 +97,8 @@ where
             Err(e) => return Err(e),
         };
         if data.is_dir() {
-            self.parents.keep_first(&self.system, path, &data)?;
+            let directory = Directory::of(&data);
+            self.parents.keep_first(&self.system, path, directory)?;
         }
         Ok(Some(stat_of(&data)))
     }

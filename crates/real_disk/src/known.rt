@@ -40,21 +40,40 @@ impl Identity {
     }
 }
 
-/// Whether nobody but this user and root can write in a directory. One of the two owns it, and its mode lets neither group nor others
-/// write. If it has an access list, its mode has the most that the list gives to groups and to other users.
-pub fn is_own(user: u32, data: &Metadata) -> bool {
-    has_owner(user, data) && data.mode() & OTHERS_WRITE == 0
+/// A directory as the system describes it. It is small, so a caller need not keep the whole answer of the system.
+#[derive(Clone, Copy, Debug, Drop)]
+pub struct Directory {
+    /// Which directory it is.
+    pub identity: Identity,
+    owner: u32,
+    mode: u32,
 }
 
-/// Whether only this user and root can replace one of their entries in a directory. Either they alone can write in it, or one of them
-/// owns it and it is sticky.
-pub fn keeps_own(user: u32, data: &Metadata) -> bool {
-    data.is_dir() && has_owner(user, data) && (is_own(user, data) || data.mode() & STICKY != 0)
-}
+impl Directory {
+    /// The directory of an answer of the system.
+    pub fn of(data: &Metadata) -> Directory {
+        Directory {
+            identity: Identity::of(data),
+            owner: data.uid(),
+            mode: data.mode(),
+        }
+    }
 
-fn has_owner(user: u32, data: &Metadata) -> bool {
-    let owner = data.uid();
-    owner == user || owner == 0
+    /// Whether nobody but this user and root can write in it. One of the two owns it, and its mode lets neither group nor others
+    /// write. If it has an access list, its mode has the most that the list gives to groups and to other users.
+    pub fn is_own(self, user: u32) -> bool {
+        self.has_owner(user) && self.mode & OTHERS_WRITE == 0
+    }
+
+    /// Whether only this user and root can replace one of their entries in it. Either they alone can write in it, or one of them owns
+    /// it and it is sticky.
+    pub fn keeps_own(self, user: u32) -> bool {
+        self.is_own(user) || (self.has_owner(user) && self.mode & STICKY != 0)
+    }
+
+    fn has_owner(self, user: u32) -> bool {
+        self.owner == user || self.owner == 0
+    }
 }
 
 /// The knowledge about the directory at a path.
@@ -100,6 +119,10 @@ impl Looks {
     }
 }
 
+/// The hash of a path under the key of a run. One hash serves several questions about a path.
+#[derive(Clone, Copy, Debug, Drop)]
+pub struct PathHash(u64);
+
 /// The directories that a run looked at, made or found, each with its identity. It keeps a hash of each path under a key that nobody
 /// can guess, and not the path. A path has no slash at its end here, so that of `/` is empty.
 #[derive(Drop)]
@@ -122,9 +145,17 @@ impl Known {
         }
     }
 
+    /// The hash by which a path is known.
+    pub fn hash(&self, path: &str) -> PathHash {
+        let mut hasher = DefaultHasher::new();
+        hasher.write(&self.key);
+        hasher.write(path.as_bytes());
+        PathHash(hasher.finish())
+    }
+
     /// The latest knowledge about the directory at a path.
-    pub fn find(&self, path: &str) -> Found {
-        let hash = self.hash(path);
+    pub fn find(&self, path: PathHash) -> Found {
+        let PathHash(hash) = path;
         if let Some(identity) = self.own.by_path.get(&hash) {
             return Found::Is(*identity);
         }
@@ -139,16 +170,16 @@ impl Known {
     }
 
     /// Keeps which directory is at a path.
-    pub fn keep(&mut self, path: &str, identity: Identity) -> io::Result<()> {
-        let hash = self.hash(path);
+    pub fn keep(&mut self, path: PathHash, identity: Identity) -> io::Result<()> {
+        let PathHash(hash) = path;
         self.own.by_path.insert(hash, identity)?;
         Ok(())
     }
 
     /// Keeps that others can write in the directory at a path, for the rest of the run. If there is no memory for that, each directory
     /// counts as one in which they can write.
-    pub fn expose(&mut self, path: &str) {
-        let hash = self.hash(path);
+    pub fn expose(&mut self, path: PathHash) {
+        let PathHash(hash) = path;
         if self.own.exposed.insert(hash, ()).is_err() {
             self.own.lost = true;
         }
@@ -160,8 +191,8 @@ impl Known {
     }
 
     /// Whether others can write in the directory at a path, as far as is known.
-    pub fn is_exposed(&self, path: &str) -> bool {
-        let hash = self.hash(path);
+    pub fn is_exposed(&self, path: PathHash) -> bool {
+        let PathHash(hash) = path;
         self.own.is_exposed(hash) || self.before.iter().any(|looks| looks.is_exposed(hash))
     }
 
@@ -203,12 +234,5 @@ impl Known {
             }
         }
         self.own.lost = self.own.lost || own.lost;
-    }
-
-    fn hash(&self, path: &str) -> u64 {
-        let mut hasher = DefaultHasher::new();
-        hasher.write(&self.key);
-        hasher.write(path.as_bytes());
-        hasher.finish()
     }
 }

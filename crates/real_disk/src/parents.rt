@@ -14,10 +14,10 @@
 //! in it, so the call names the whole path, and nothing is compared. A directory that was ever seen exposed to others stays
 //! exposed for the run.
 use crate::answers::is_absent;
-use crate::known::{Found, Identity, Known, is_own, keeps_own};
+use crate::known::{Directory, Found, Identity, Known, PathHash};
 use path_text::{MAX_PATH, OutOfMemory, Path};
 use std::alloc::Global;
-use std::fs::{File, Files, Metadata, OpenFile};
+use std::fs::{File, Files, OpenFile};
 use std::io::ErrorKind;
 use std::os::fd::AsRawFd;
 use std::os::unix::fs::MetadataExt;
@@ -103,9 +103,15 @@ impl<F: Drop> Parents<F> {
     }
 
     /// Keeps which directory is at a path, in place of any other one.
-    pub fn keep<R: Files>(&mut self, system: &R, path: &Path, data: &Metadata) -> io::Result<()> {
-        self.keep_mode(system, plain(path), data);
-        self.known.keep(plain(path), Identity::of(data))
+    pub fn keep<R: Files>(
+        &mut self,
+        system: &R,
+        path: &Path,
+        directory: Directory,
+    ) -> io::Result<()> {
+        let hash = self.known.hash(plain(path));
+        self.keep_mode(system, plain(path), hash, directory);
+        self.known.keep(hash, directory.identity)
     }
 
     /// Keeps which directory is at a path, unless one is known there. That one stays.
@@ -113,14 +119,13 @@ impl<F: Drop> Parents<F> {
         &mut self,
         system: &R,
         path: &Path,
-        data: &Metadata,
+        directory: Directory,
     ) -> io::Result<()> {
-        match self.known.find(plain(path)) {
-            Found::Is(_) => {
-                self.keep_mode(system, plain(path), data);
-                Ok(())
-            }
-            Found::Nothing | Found::Lost => self.keep(system, path, data),
+        let hash = self.known.hash(plain(path));
+        self.keep_mode(system, plain(path), hash, directory);
+        match self.known.find(hash) {
+            Found::Is(_) => Ok(()),
+            Found::Nothing | Found::Lost => self.known.keep(hash, directory.identity),
         }
     }
 
@@ -128,21 +133,28 @@ impl<F: Drop> Parents<F> {
     pub fn refuse(&mut self, path: &Path) -> io::Result<()> {
         self.seen.clear();
         self.leave_below(plain(path));
-        self.known.keep(plain(path), Identity::of_none())
+        let hash = self.known.hash(plain(path));
+        self.known.keep(hash, Identity::of_none())
     }
 
     // Keeps that the directory at a path is exposed, if it is. Then no directory below it counts as private any longer.
-    fn keep_mode<R: Files>(&mut self, system: &R, path: &str, data: &Metadata) {
+    fn keep_mode<R: Files>(
+        &mut self,
+        system: &R,
+        path: &str,
+        hash: PathHash,
+        directory: Directory,
+    ) {
         let Some(user) = self.user else {
             return;
         };
-        if self.known.is_exposed(path) {
+        if self.known.is_exposed(hash) {
             return;
         }
-        if is_own(user, data) && self.is_under_own(system, path, user) {
+        if directory.is_own(user) && self.is_under_own(system, path, user) {
             return;
         }
-        self.known.expose(path);
+        self.known.expose(hash);
         self.private.clear();
         self.leave_below(path);
     }
@@ -154,17 +166,22 @@ impl<F: Drop> Parents<F> {
             let Some((above, _)) = rest.rsplit_once('/') else {
                 return true;
             };
-            if let Found::Is(_) = self.known.find(above) {
+            if let Found::Is(_) = self.find(above) {
                 return true;
             }
             let at = if above.is_empty() { "/" } else { above };
             match fs::symlink_metadata(system, at) {
-                Ok(data) if keeps_own(user, &data) => {}
+                Ok(data) if data.is_dir() && Directory::of(&data).keeps_own(user) => {}
                 _ => return false,
             }
             rest = above;
         }
         false
+    }
+
+    // The knowledge about the directory at a path.
+    fn find(&self, path: &str) -> Found {
+        self.known.find(self.known.hash(path))
     }
 
     // Closes those of the two directories that were used last that are at a path or below it.
@@ -200,7 +217,7 @@ impl<F: Drop> Parents<F> {
     fn has_exposed_from(&self, path: &str) -> bool {
         let mut rest = path;
         for _ in 0..MAX_PATH {
-            if self.known.is_exposed(rest) {
+            if self.known.is_exposed(self.known.hash(rest)) {
                 return true;
             }
             if is_within(self.private.as_str(), rest) {
@@ -246,7 +263,7 @@ impl<F: Drop> Parents<F> {
         if self.is_private(above) {
             return true;
         }
-        let due = match self.known.find(above) {
+        let due = match self.find(above) {
             Found::Is(due) => due,
             Found::Nothing => return true,
             Found::Lost => return false,
@@ -321,7 +338,7 @@ impl<F: OpenFile + AsRawFd + Drop> Parents<F> {
     }
 
     fn entered<R: Files<File = F>>(&mut self, system: &R, path: &str) -> io::Result<Here<F>> {
-        let found = self.known.find(path);
+        let found = self.find(path);
         if self.is_private(path) {
             return self.by_path(path, None, is_looked_at(found));
         }
@@ -406,7 +423,7 @@ impl<F: OpenFile + AsRawFd + Drop> Parents<F> {
                 return Ok(true);
             };
             up.push_str("../")?;
-            match self.known.find(above) {
+            match self.find(above) {
                 Found::Is(due) if Identity::of(&fs::metadata(system, up.as_str())?) == due => {}
                 Found::Nothing => return Ok(true),
                 _ => return Ok(false),

@@ -5,6 +5,7 @@ ghost use Rattle.outside.specs.Writes.{may_make, may_change, may_empty};
 
 use crate::answers::{changed, emptied, is_absent, made, wrote};
 use crate::handles::{Handle, to_make, to_write};
+use crate::known::Directory;
 use crate::parents::{Parents, another};
 use crate::watch::{Call, Watch};
 use outside::{LinkText, WriteError};
@@ -230,7 +231,7 @@ where
     {
         let data = fs::symlink_metadata(&self.system, self.parents.way())?;
         if data.is_dir() {
-            self.parents.keep(&self.system, path, &data)?;
+            self.parents.keep(&self.system, path, Directory::of(&data))?;
         } else {
             self.parents.refuse(path)?;
         }
