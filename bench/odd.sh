@@ -139,6 +139,12 @@ ln -s "$work" "$work/up"
 "$work/mfu" dcp "$one/deep" "$work/up/one" >"$work/out" 2>"$work/notes"
 status=$?
 said 'a whole tree copied onto itself: status 0' [ "$status" -eq 0 ]
+for hosts in 1 4; do
+    "$work/mfu" dsync --delete --ranks 8 --hosts "$hosts" "$one/deep" "$work/up/one/deep" >"$work/out" 2>"$work/notes"
+    status=$?
+    said "a whole tree synced to itself on $hosts threads: status 0" [ "$status" -eq 0 ]
+    said 'and nothing is copied or removed' grep -q '^synced 0 removed 0 kept 4 failed 0$' "$work/out"
+done
 said 'and all bytes and texts are as before' diff -r --no-dereference "$one" "$work/same"
 
 echo "wrong: $wrong"

@@ -19,7 +19,11 @@ directories are swapped directly below the tops alone, so that no swap goes thro
 
 - the directory outside: no path of it is gone or new, and no byte of it is another one;
 - dcp and dsync: no byte of a file outside stands in what was copied;
-- the status: 0 or 1, and 1 where there is a note.
+- the status: 0 or 1, and 1 where there is a note;
+- nothing is missing without a note. Files and links never move from their directory. If dwalk prints a directory, or dcmp has it on both
+  sides, it prints them too, or names them or the directory. If dcp made a directory, they are in it, or it names them or the directory.
+  No file or directory that drm prints still stands, or drm names it. dsync is not asked, since it may rightly keep a link that stood
+  in both trees for a moment.
 
 The last line counts the runs, how often a directory was seen swapped, and what was wrong.
 """
@@ -146,6 +150,37 @@ def own(work, kind):
         os.chmod(f"{work}/outside/top", 0o700)
 
 
+def staying(path):
+    """The paths in a directory that are never moved."""
+    return [f"{path}/{name}" for name in {"d": ("g",), "e": ("f0", "f1", "f2", "f3", "l")}.get(os.path.basename(path)[:1], ())]
+
+
+def is_in_place(path, top):
+    """Whether something stands at a path, and no part of it from the top on is a link."""
+    return os.path.lexists(path) and (path == top or is_in_place(os.path.dirname(path), top) and not os.path.islink(os.path.dirname(path)))
+
+
+def missing(tool, work, out, notes):
+    """The paths that a run left out, or left standing, without a note."""
+    named = {word for line in notes.splitlines() for word in line.split() if word.startswith("/")}
+    lines = [line.split(" -> ")[0].split() for line in out.splitlines()]
+    top, want = f"{work}/t", []
+    if tool == "dwalk":
+        found = {words[2]: words[0] for words in lines[:-1]}
+        want = [path for folder, kind in found.items() if kind == "d" and folder not in named for path in staying(folder) if path not in found]
+    elif tool == "dcmp":
+        rows = {words[4]: words[:4] for words in lines[:-1]}
+        both = [path for path, row in rows.items() if row == ["C", "=", "-", "-"] and not named & {top + path, f"{work}/u{path}"}]
+        want = [top + path for folder in both for path in staying(folder) if rows.get(path, "-")[0] != "C" and f"{work}/u{path}" not in named]
+    elif tool == "dcp":
+        for folder, _, _ in os.walk(f"{work}/d/t"):
+            source = top + folder.removeprefix(f"{work}/d/t")
+            want += [path for path in staying(source) if source not in named and not os.path.lexists(f"{work}/d{path.removeprefix(work)}")]
+    elif tool == "drm":
+        want = [words[2] for words in lines[:-1] if words[0] in "fd" and is_in_place(words[2], top)]
+    return [path for path in want if path not in named]
+
+
 def one_run(program, tool, work, kind, user, mask, swapper, seed):
     """Runs a tool beside the swapping, and answers what was wrong."""
     outside = f"{work}/outside/top"
@@ -172,6 +207,7 @@ def one_run(program, tool, work, kind, user, mask, swapper, seed):
         wrong += [f"copied from outside: {path}" for path, held in state(made).items() if held == OTHER]
     if done.returncode not in (0, 1) or (done.returncode == 1) != bool(done.stderr):
         wrong.append(f"status {done.returncode} with {len(done.stderr.splitlines())} notes")
+    wrong += [f"without a note: {path}" for path in missing(tool, work, done.stdout.decode(), done.stderr.decode())]
     return wrong, len(done.stderr.splitlines())
 
 
