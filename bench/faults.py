@@ -1,7 +1,7 @@
 #!/usr/bin/env python3
 """Lets system calls of the program fail, one at a time, and looks whether it says so and does all else.
 
-usage: faults.py [PROGRAM [TOOL ..]]
+usage: faults.py [PROGRAM [each] [TOOL ..]]
 
 Each tool runs over a small tree, in which only the user can write, and then over one in which everybody can, so that its directories
 are guarded. It runs once undisturbed under strace, which tells its calls. Then, for each kind of call and each error, it
@@ -13,7 +13,8 @@ runs over a fresh tree with the first, a middle and the last of these calls fail
 - that what is printed is what is printed undisturbed, less what the named paths take along;
 - that every other path of the disk is as after the undisturbed run.
 
-The last line counts the tries and those that were wrong. It wants strace.
+With the word `each` every call fails in turn, with the first error alone. The last line counts the tries and those that were wrong. It
+wants strace.
 """
 import os
 import re
@@ -171,6 +172,10 @@ def main():
     program = os.path.abspath(sys.argv[1] if len(sys.argv) > 1 else os.path.join(os.path.dirname(__file__), "../crates/mfu/out/mfu"))
     work = os.path.realpath(tempfile.mkdtemp(prefix="faults"))
     top, tried, wrong, by_status = f"{work}/tree", 0, 0, {}
+    chosen = sys.argv[2:]
+    is_each = "each" in chosen
+    asked = [tool for tool in chosen if tool != "each"]
+    errors = ERRORS[:1] if is_each else ERRORS
 
     def fresh():
         shutil.rmtree(top, ignore_errors=True)
@@ -179,13 +184,14 @@ def main():
 
     for mode, (tool, words) in ((mode, each) for mode in (0o755, 0o777) for each in tools(top).items()):
         os.umask(0o777 - mode)
-        if len(sys.argv) > 2 and tool not in sys.argv[2:]:
+        if asked and tool not in asked:
             continue
         fresh()
         plain = run(program, words, work, log=f"{work}/log"), state(top)
         for call, found in calls_in(f"{work}/log", work).items():
-            for number, path in {found[k] for k in (0, len(found) // 2, len(found) - 1)} if found else ():
-                for error in ERRORS:
+            places = range(len(found)) if is_each else (0, len(found) // 2, len(found) - 1)
+            for number, path in {found[k] for k in places} if found else ():
+                for error in errors:
                     fresh()
                     now = run(program, words, work, f"{call}:error={error}:when={number}"), state(top)
                     fault = wrong_in(tool, top, path.replace(work + "/out", top + "/out").replace(work + "/notes", top + "/notes"), plain, now)
