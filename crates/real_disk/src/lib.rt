@@ -36,6 +36,7 @@ mod spans;
 mod streams;
 mod watch;
 mod watched;
+mod ways;
 mod writers;
 
 pub use clocks::seconds;

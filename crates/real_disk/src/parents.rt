@@ -15,6 +15,7 @@
 //! exposed for the run.
 use crate::answers::is_absent;
 use crate::known::{Directory, Found, Identity, Known, PathHash};
+use crate::ways::{around, is_within, name_of, plain, with_slash};
 use path_text::{MAX_PATH, OutOfMemory, Path};
 use std::alloc::Global;
 use std::fs::{File, Files, OpenFile};
@@ -471,39 +472,6 @@ where
     let top = File::open(system, "/")?;
     let named = fs::metadata(system, name_of(alloc, &top)?.as_str())?;
     Ok(Identity::of(&named) == Identity::of(&top.metadata()?))
-}
-
-// The name of an open directory, with a slash after it.
-fn name_of<F: AsRawFd>(alloc: Global, open: &F) -> io::Result<String> {
-    let number = open.as_raw_fd();
-    Ok(format!(in alloc; "/proc/self/fd/{number}/")?)
-}
-
-fn with_slash(alloc: Global, path: &str) -> io::Result<String> {
-    let mut folder = String::from_str(alloc, path)?;
-    folder.push('/')?;
-    Ok(folder)
-}
-
-// A path without the slash that `/` has at its end.
-fn plain(path: &Path) -> &str {
-    match path.text() {
-        "/" => "",
-        text => text,
-    }
-}
-
-// The path of the directory above a path, without a slash at its end, and the last name.
-fn around(path: &Path) -> (&str, &str) {
-    path.text().rsplit_once('/').unwrap_or(("", ""))
-}
-
-// Whether a path is another one or is under it.
-fn is_within(path: &str, top: &str) -> bool {
-    match path.strip_prefix(top) {
-        Some(rest) => rest.is_empty() || rest.starts_with('/'),
-        None => false,
-    }
 }
 
 /// The error if another directory is in the place of a known one.

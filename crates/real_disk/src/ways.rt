@@ -1,0 +1,39 @@
+//! The names of directories and of entries, as the system is asked for them.
+use path_text::Path;
+use std::alloc::Global;
+use std::io;
+use std::os::fd::AsRawFd;
+
+/// The name of an open directory, with a slash after it.
+pub fn name_of<F: AsRawFd>(alloc: Global, open: &F) -> io::Result<String> {
+    let number = open.as_raw_fd();
+    Ok(format!(in alloc; "/proc/self/fd/{number}/")?)
+}
+
+/// A path with a slash after it.
+pub fn with_slash(alloc: Global, path: &str) -> io::Result<String> {
+    let mut folder = String::from_str(alloc, path)?;
+    folder.push('/')?;
+    Ok(folder)
+}
+
+/// A path without the slash that `/` has at its end.
+pub fn plain(path: &Path) -> &str {
+    match path.text() {
+        "/" => "",
+        text => text,
+    }
+}
+
+/// The path of the directory above a path, without a slash at its end, and the last name.
+pub fn around(path: &Path) -> (&str, &str) {
+    path.text().rsplit_once('/').unwrap_or(("", ""))
+}
+
+/// Whether a path is another one or is under it.
+pub fn is_within(path: &str, top: &str) -> bool {
+    match path.strip_prefix(top) {
+        Some(rest) => rest.is_empty() || rest.starts_with('/'),
+        None => false,
+    }
+}
