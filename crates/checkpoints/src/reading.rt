@@ -41,10 +41,10 @@ pub fn read_checkpoint<G: Ground>(
     dir: &Path,
 ) -> Result<Checkpoint, Stop>
     ensures read { IfOk result (λ kept. IsCheckpoint dir.now
-        (side_of (G.tree files.old) (G.count files.old)) kept.done (map (λ list. list.items) kept.left.items)) }
+        (side_of G.Plot files.old) kept.done (map (λ list. list.items) kept.left.items)) }
     ensures ascend { IfOk result (λ kept. IsStrictlySortedBy path_cmp (paths kept.done)) }
     ensures shaped { IfOk result (λ kept. All (λ e. is_shaped e ≡ true) kept.done) }
-    ensures stopped { IfErr result (StopsReading dir.now (side_of (G.tree files.old) (G.count files.old)) (side_of (G.tree files.new) (G.count files.new))) }
+    ensures stopped { IfErr result (StopsReading dir.now (side_of G.Plot files.old) (side_of G.Plot files.new)) }
     ensures same { G.tree files.new ≡ G.tree files.old }
     ensures area { G.area files.new ≡ G.area files.old }
     ensures count { RoseBy 0 (G.count files.old) (G.count files.new) }

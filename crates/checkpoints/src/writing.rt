@@ -44,8 +44,8 @@ pub fn write_checkpoint<G: Ground>(
     ensures fit { OnOk result (AllFit dir.now (length left.now)) }
     ensures tells { is_some (G.tree files.new) ≡ is_some (G.tree files.old) }
     ensures rest { IfSome (G.tree files.old) (λ old. IfSome (G.tree files.new) (SameButAll (checkpoint_paths dir.now (length left.now)) old)) }
-    ensures stopped { IfErr result (StopsWriting dir.now (length left.now) done.now (side_of (G.tree files.old) (G.count files.old))
-        (side_of (G.tree files.new) (G.count files.new))) }
+    ensures stopped { IfErr result (StopsWriting dir.now (length left.now) done.now (side_of G.Plot files.old)
+        (side_of G.Plot files.new)) }
     ensures torn { OnErr result (IfSome (G.tree files.old) (λ old. IfSome (G.tree files.new) (IsTorn dir.now (map (λ list. list.items) left.now) old))) }
     ensures lent { G.area files.new ≡ nothing_lent }
     ensures count { RoseBy 0 (G.count files.old) (G.count files.new) }
@@ -64,7 +64,7 @@ pub fn write_checkpoint<G: Ground>(
 fn clear_list<G: Ground>(alloc: Global, files: &mut G, dir: &Path, path: &Path) -> Result<(), Stop>
     requires lent { G.area files.old ≡ nothing_lent }
     requires named { path.now ≡ list_path dir.now }
-    ensures cleared { OnOk result (IsCleared dir.now (side_of (G.tree files.old) (G.count files.old)) (side_of (G.tree files.new) (G.count files.new))) }
+    ensures cleared { OnOk result (IsCleared dir.now (side_of G.Plot files.old) (side_of G.Plot files.new)) }
     ensures same { OnErr result (IfSome (G.tree files.old) (λ old. IfSome (G.tree files.new) (SameBut (list_path dir.now) old))) }
     ensures stopped { IfErr result (λ why. (why ≡ Stop.OutOfMemory) ⊎ ((why ≡ Stop.ListFile Trouble.Fault (list_path dir.now))
         × RoseBy 1 (G.count files.old) (G.count files.new))) }

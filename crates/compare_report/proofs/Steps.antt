@@ -10,7 +10,7 @@ use Rattle.tree_cmp.specs.Sides.{side}
 use Rattle.tool_words.specs.declared.commands.Want.{Want}
 use Rattle.tool_words.specs.Asked.{CompareAsked}
 use Rattle.run_report.specs.declared.stops.Stop.{Stop}
-use Rattle.run_report.specs.Sides.{Side, side_of}
+use Rattle.run_report.specs.Sides.{Side, side_with}
 use Rattle.run_entries.specs.declared.both.Sides.{Sides}
 use Rattle.run_entries.specs.declared.saving.Output.{Output}
 use Rattle.run_entries.specs.Both.{WalksBoth}
@@ -31,10 +31,10 @@ pub record Steps (asked : CompareAsked) (sides : Sides) (found : Findings) (befo
   pub counted : RoseBy (length found.failed) walked.count compared.count
 
 pub compares_by : (asked : CompareAsked) (sides : Sides) (found : Findings) (before walked compared : Side) → Steps asked sides found before walked compared →
-    Compares asked sides.left sides.right found before (side_of before.tree compared.count)
+    Compares asked sides.left sides.right found before (side_with before.tree compared.count)
 compares_by asked sides found before walked compared s = record {
   walked = walked.count;
-  walks = subst (λ t. WalksBoth asked.left asked.right sides.left sides.right before (side_of t walked.count)) s.same s.walks;
+  walks = subst (λ t. WalksBoth asked.left asked.right sides.left sides.right before (side_with t walked.count)) s.same s.walks;
   compared =
       subst (λ t. IsComparison t (side asked.left sides.left) (side asked.right sides.right) found) s.same
       (subst (λ p. IsComparison walked.tree (side p sides.left) (side asked.right sides.right) found) s.left_top
@@ -90,5 +90,5 @@ stops_saving asked before between after ready why p same later stops =
       outputs = ready.outputs.items;
       are = p.are;
       later = later;
-      stops = subst (λ t. StopsSaving ready.outputs.items (side_of t between.count) after why) same stops;
+      stops = subst (λ t. StopsSaving ready.outputs.items (side_with t between.count) after why) same stops;
     }))

@@ -16,7 +16,7 @@ use Rattle.tool_words.specs.Limits.{Valid, WithinCompare}
 use Rattle.run_report.specs.declared.reports.Report.{Report}
 use Rattle.run_report.specs.declared.stops.Stop.{Stop}
 use Rattle.run_report.specs.declared.stops.Stop.TheVariants as stop
-use Rattle.run_report.specs.Sides.{Side, side_of}
+use Rattle.run_report.specs.Sides.{Side, side_with}
 use Rattle.run_entries.specs.declared.saving.Output.{Output}
 use Rattle.run_entries.specs.Fine.{IsFineSide, FineWalksNameNothing, FineWalksStopForMemory, FinePlacesStopForMemory}
 use Rattle.compare_report.specs.Comparing.{missed_notes, ReportsCompare, StopsCompare, FineCompare}
@@ -32,7 +32,7 @@ stood_between old from until new a b c stood = record {
 
 -- and a side that is fine is so in each part
 fine_part : (path : List ℕ) (before after : Side) (from until : ℕ) → before.count ≤ from → from ≤ until → until ≤ after.count →
-    IsFineSide (roots (path ∷ [])) before after → IsFineSide (roots (path ∷ [])) (side_of before.tree from) (side_of before.tree until)
+    IsFineSide (roots (path ∷ [])) before after → IsFineSide (roots (path ∷ [])) (side_with before.tree from) (side_with before.tree until)
 fine_part path before after from until a b c fine = record {
   files = fine.files;
   told = fine.told;
@@ -41,7 +41,7 @@ fine_part path before after from until a b c fine = record {
 }
 
 fine_rest : (path : List ℕ) (before after : Side) (from : ℕ) → before.count ≤ from → from ≤ after.count → IsFineSide (roots (path ∷ [])) before after →
-    IsFineSide (roots (path ∷ [])) (side_of before.tree from) after
+    IsFineSide (roots (path ∷ [])) (side_with before.tree from) after
 fine_rest path before after from a b fine = record {
   files = fine.files;
   told = fine.told;
@@ -64,10 +64,10 @@ names_nothing walks order asked before after within fine report r =
     let a = w.source.counted.kept in
     let b = w.destination.counted.kept in
     let d = c.counted.kept in
-    let l = walks (asked.left ∷ []) r.left false before (side_of before.tree w.between) (one_valid asked.left within.left)
+    let l = walks (asked.left ∷ []) r.left false before (side_with before.tree w.between) (one_valid asked.left within.left)
     (fine_part asked.left before after before.count w.between (omega arith) a (omega (arith, b, d, r.later)) fine.source) w.source
     in
-    let s = walks (asked.right ∷ []) r.right true (side_of before.tree w.between) (side_of before.tree c.walked) (one_valid asked.right within.right)
+    let s = walks (asked.right ∷ []) r.right true (side_with before.tree w.between) (side_with before.tree c.walked) (one_valid asked.right within.right)
     (fine_part asked.right before after w.between c.walked a b (omega (arith, d, r.later)) fine.destination) w.destination
     in
     let read : r.found.failed ≡ [] =
@@ -99,7 +99,7 @@ stops_for_memory walks places asked before after within fine reason stops =
     (⊎_elim (λ s.
     ⊎_elim (λ first. walks (asked.left ∷ []) before after reason (one_valid asked.left within.left) fine.source first)
     (λ second.
-    walks (asked.right ∷ []) (side_of before.tree second.between) after reason (one_valid asked.right within.right)
+    walks (asked.right ∷ []) (side_with before.tree second.between) after reason (one_valid asked.right within.right)
     (fine_rest asked.right before after second.between second.source.counted.kept second.later fine.destination) second.stops)
     s.0)
     (λ s.
@@ -112,7 +112,7 @@ stops_for_memory walks places asked before after within fine reason stops =
     has_places files asked.wants s.found.rows asked.left asked.right s.left s.right s.outputs s.are
     (recursion_from_All (λ want. can_save files want.file ≡ true) asked.wants fine.places)
     in
-    places s.outputs files (side_of before.tree s.compared) after reason fine.source.told
+    places s.outputs files (side_with before.tree s.compared) after reason fine.source.told
     (All-from_recursion (λ output. can_save files output.path ≡ true) s.outputs can)
     (stood_between before.count s.compared after.count after.count (omega (arith, a, b, d)) s.later (omega arith) fine.source.stood) s.stops))
     stops

@@ -18,7 +18,7 @@ use Rattle.tool_words.specs.Asked.{CompareAsked, roots}
 use Rattle.run_report.specs.declared.reports.Report.{Report}
 use Rattle.run_report.specs.declared.stops.Stop.{Stop}
 use Rattle.run_report.specs.declared.stops.Stop.TheVariants as stop
-use Rattle.run_report.specs.Sides.{Side, side_of}
+use Rattle.run_report.specs.Sides.{Side, side_with}
 use Rattle.run_entries.specs.declared.saving.Output.{Output}
 use Rattle.run_entries.specs.Both.{WalksBoth, StopsWalking}
 use Rattle.run_entries.specs.Fine.{IsFineSide}
@@ -35,7 +35,7 @@ compare_asked task = record { common = task.common; left = task.left; right = ta
 -- and then they were compared, over the same files, which counted each read that failed
 pub record Compares (asked : CompareAsked) (left right : List Entry) (found : Findings) (before after : Side) : Type 0 where
   pub walked : ℕ
-  pub walks : WalksBoth asked.left asked.right left right before (side_of before.tree walked)
+  pub walks : WalksBoth asked.left asked.right left right before (side_with before.tree walked)
   pub compared : IsComparison before.tree (side asked.left left) (side asked.right right) found
   pub counted : RoseBy (length found.failed) walked after.count
 
@@ -56,7 +56,7 @@ pub record ReportsCompare (asked : CompareAsked) (before after : Side) (report :
   pub right : List Entry
   pub found : Findings
   pub compared : ℕ
-  pub compares : Compares asked left right found before (side_of before.tree compared)
+  pub compares : Compares asked left right found before (side_with before.tree compared)
   -- it saves after it has compared
   pub later : compared ≤ after.count
   pub outputs : List Output
@@ -74,11 +74,11 @@ pub record StopsAfterComparing (asked : CompareAsked) (before after : Side) (why
   pub right : List Entry
   pub found : Findings
   pub compared : ℕ
-  pub compares : Compares asked left right found before (side_of before.tree compared)
+  pub compares : Compares asked left right found before (side_with before.tree compared)
   pub outputs : List Output
   pub are : AreOutputs asked.wants found.rows asked.left asked.right left right outputs
   pub later : compared ≤ after.count
-  pub stops : StopsSaving outputs (side_of before.tree compared) after why
+  pub stops : StopsSaving outputs (side_with before.tree compared) after why
 
 -- why it stops. It is out of memory. Or a walk was too long, that of the source or then that of the destination, and the files are
 -- as before. Or a list was not saved

@@ -7,7 +7,7 @@ use Rattle.tool_text.specs.NoteOrder.{AreInOrder}
 use Rattle.tool_text.specs.Notes.{note_lines}
 use Rattle.tool_text.specs.Rows.{rows_text}
 use Rattle.tool_words.specs.Asked.{CompareAsked}
-use Rattle.run_report.specs.Sides.{Side, side_of}
+use Rattle.run_report.specs.Sides.{Side, side_with}
 use Rattle.compare_report.specs.declared.comparing.Prepared.{Prepared}
 use Rattle.compare_report.specs.Comparing.{Compares, compare_failures}
 use Rattle.compare_report.specs.Outputs.{AreOutputs}
@@ -17,7 +17,7 @@ pub record IsPrepared (asked : CompareAsked) (before after : Side) (ready : Prep
   pub left : List Entry
   pub right : List Entry
   pub found : Findings
-  pub compares : Compares asked left right found before (side_of before.tree after.count)
+  pub compares : Compares asked left right found before (side_with before.tree after.count)
   pub are : AreOutputs asked.wants found.rows asked.left asked.right left right ready.outputs.items
   pub notes : List Note
   pub names : AreInOrder (compare_failures left right found) notes

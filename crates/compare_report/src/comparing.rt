@@ -48,10 +48,10 @@ where
     G::Reader: Send,
     requires lent { G.area files.old ≡ nothing_lent }
     requires within { WithinCompare (compare_asked task) }
-    ensures reports { IfOk result (ReportsCompare (compare_asked task) (side_of (G.tree files.old) (G.count files.old))
-        (side_of (G.tree files.new) (G.count files.new))) }
-    ensures stops { IfErr result (StopsCompare (compare_asked task) (side_of (G.tree files.old) (G.count files.old))
-        (side_of (G.tree files.new) (G.count files.new))) }
+    ensures reports { IfOk result (ReportsCompare (compare_asked task) (side_of G.Plot files.old)
+        (side_of G.Plot files.new)) }
+    ensures stops { IfErr result (StopsCompare (compare_asked task) (side_of G.Plot files.old)
+        (side_of G.Plot files.new)) }
     ensures leaves { LeavesCompare (compare_asked task) (G.tree files.old) (G.tree files.new) }
     ensures lent { G.area files.new ≡ nothing_lent }
     ensures count { RoseBy 0 (G.count files.old) (G.count files.new) }
@@ -78,12 +78,12 @@ fn prepare<T: Threads + Wait + Sync, G: Ground>(
 where
     G::Reader: Send,
     requires within { WithinCompare (compare_asked task) }
-    ensures prepared { IfOk result (IsPrepared (compare_asked task) (side_of (G.tree files.old) (G.count files.old))
-        (side_of (G.tree files.new) (G.count files.new))) }
+    ensures prepared { IfOk result (IsPrepared (compare_asked task) (side_of G.Plot files.old)
+        (side_of G.Plot files.new)) }
     ensures ascend { IfOk result (λ ready. All (λ o. IsStrictlySortedBy path_cmp (paths o.list)) ready.outputs.items) }
     ensures shaped { IfOk result (λ ready. All (λ o. All (λ e. is_shaped e ≡ true) o.list) ready.outputs.items) }
-    ensures stopped { IfErr result (StopsCompare (compare_asked task) (side_of (G.tree files.old) (G.count files.old))
-        (side_of (G.tree files.new) (G.count files.new))) }
+    ensures stopped { IfErr result (StopsCompare (compare_asked task) (side_of G.Plot files.old)
+        (side_of G.Plot files.new)) }
     ensures same { G.tree files.new ≡ G.tree files.old }
     ensures area { G.area files.new ≡ G.area files.old }
     ensures count { RoseBy 0 (G.count files.old) (G.count files.new) }

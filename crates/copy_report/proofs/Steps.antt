@@ -7,7 +7,7 @@ use Rattle.tree_copy.specs.Copying.{SameButTargets, treated}
 use Rattle.tree_copy.specs.declared.pairs.Pair.{Pair}
 use Rattle.tool_words.specs.Asked.{CopyAsked, roots}
 use Rattle.run_report.specs.declared.stops.Stop.{Stop}
-use Rattle.run_report.specs.Sides.{Side, side_of}
+use Rattle.run_report.specs.Sides.{Side, side_with}
 use Rattle.run_entries.specs.Entries.{Walked}
 use Rattle.run_entries.specs.Stopping.{StopsListing}
 use Rattle.copy_report.specs.Copying.{Copies, LeavesCopy, StopsCopy}
@@ -30,19 +30,19 @@ looked_by asked before looked pairs sources is places same kept = record {
 -- and so does the walk
 pub surveys_by : (asked : CopyAsked) (before looked walked : Side) (pairs : List Pair) (entries : List Entry) → Looked asked before looked pairs →
     walked.tree ≡ looked.tree →
-    Walked asked.sources entries looked walked → length entries ≤ 4194304 → Surveys asked before (side_of before.tree walked.count) pairs entries
+    Walked asked.sources entries looked walked → length entries ≤ 4194304 → Surveys asked before (side_with before.tree walked.count) pairs entries
 surveys_by asked before looked walked pairs entries l same w few = record {
   places = l.places;
   between = looked.count;
   kept = l.kept;
-  walked = subst (λ t. Walked asked.sources entries (side_of before.tree looked.count) (side_of t walked.count)) (same ∙ l.same)
-      (subst (λ t. Walked asked.sources entries (side_of t looked.count) walked) l.same w);
+  walked = subst (λ t. Walked asked.sources entries (side_with before.tree looked.count) (side_with t walked.count)) (same ∙ l.same)
+      (subst (λ t. Walked asked.sources entries (side_with t looked.count) walked) l.same w);
   few = few;
 }
 
 pub copies_by : (before walked after : Side) (pairs : List Pair) (entries : List Entry) (rows : List (List ℕ × Fate)) → walked.tree ≡ before.tree →
-    Copies pairs entries rows walked after → Copies pairs entries rows (side_of before.tree walked.count) after
-copies_by before walked after pairs entries rows same c = subst (λ t. Copies pairs entries rows (side_of t walked.count) after) same c
+    Copies pairs entries rows walked after → Copies pairs entries rows (side_with before.tree walked.count) after
+copies_by before walked after pairs entries rows same c = subst (λ t. Copies pairs entries rows (side_with t walked.count) after) same c
 
 -- the walk stopped
 pub stops_walking : (asked : CopyAsked) (before looked after : Side) (pairs : List Pair) (why : Stop) → Looked asked before looked pairs →
@@ -55,14 +55,14 @@ stops_walking asked before looked after pairs why l same later stops = inr (
     between = looked.count;
     kept = l.kept;
     later = later;
-    stops = subst (λ t. StopsListing (roots asked.sources) (side_of t looked.count) after why) l.same stops;
+    stops = subst (λ t. StopsListing (roots asked.sources) (side_with t looked.count) after why) l.same stops;
   }),
   same ∙ l.same,
 )
 
 -- the targets may have changed
 pub leaves_others : (asked : CopyAsked) (before walked after : Side) (pairs : List Pair) (entries : List Entry) → walked.tree ≡ before.tree →
-    Surveys asked before (side_of before.tree walked.count) pairs entries → is_some after.tree ≡ is_some walked.tree →
+    Surveys asked before (side_with before.tree walked.count) pairs entries → is_some after.tree ≡ is_some walked.tree →
     IfSome walked.tree (λ old. IfSome after.tree (SameButTargets pairs entries old)) → LeavesCopy asked before after
 leaves_others asked before walked after pairs entries same s tells others = inr (record {
   pairs = pairs;

@@ -26,7 +26,7 @@ use Rattle.tool_words.specs.Limits.{WithinCopy}
 use Rattle.run_report.specs.declared.reports.Report.{Report}
 use Rattle.run_report.specs.declared.stops.Stop.{Stop}
 use Rattle.run_report.specs.declared.stops.Stop.TheVariants as stop
-use Rattle.run_report.specs.Sides.{Side, side_of}
+use Rattle.run_report.specs.Sides.{Side, side_with}
 use Rattle.run_entries.specs.Fine.{IsFineSide, DoneNamesNothing, FineWalksAreWhole, FineWalksNameNothing, FineWalksStopForMemory, StillCounts}
 use Rattle.run_entries.specs.Naming.{copy_notes}
 use Rattle.copy_report.specs.Copying.{ReportsCopies, StopsCopy, ReportsCopy, FineCopy, Copies}
@@ -99,7 +99,7 @@ module _ (laws : Laws) (asked : CopyAsked) (before after : Side) (within : Withi
   files = fine.side.files
 
   abbrev side_in : (from until : ℕ) → before.count ≤ from → from ≤ until → until ≤ after.count →
-      IsFineSide (roots asked.sources) (side_of before.tree from) (side_of before.tree until)
+      IsFineSide (roots asked.sources) (side_with before.tree from) (side_with before.tree until)
   side_in from until a b c = record {
     files = files;
     told = fine.side.told;
@@ -113,7 +113,7 @@ module _ (laws : Laws) (asked : CopyAsked) (before after : Side) (within : Withi
 
   -- each entry comes to `Done`
   no_fates : (pairs : List Pair) (entries : List Entry) (rows : List Row) (found : ℕ) → Places asked.sources asked.dest before.tree (Ok pairs) →
-      entries ≡ flat_map (walk files all_told) fine.side.fine.roots → before.count ≤ found → Copies pairs entries rows (side_of before.tree found) after →
+      entries ≡ flat_map (walk files all_told) fine.side.fine.roots → before.count ≤ found → Copies pairs entries rows (side_with before.tree found) after →
       copy_notes rows ≡ []
   no_fates pairs entries rows found p is early c =
       let each = subst (λ ps. All (IsFineEntry files ps) entries) (the_pairs pairs p) (subst (All (IsFineEntry files fine.pairs)) (sym is) fine.entries) in
@@ -135,8 +135,8 @@ module _ (laws : Laws) (asked : CopyAsked) (before after : Side) (within : Withi
       let c = r.copies.blamed.kept in
       let early : before.count ≤ r.found = omega (arith, a, b) in
       let side = side_in s.between r.found a b c in
-      let is = laws.whole asked.sources r.entries (side_of before.tree s.between) (side_of before.tree r.found) within.sources side s.walked in
-      let silent = laws.walks asked.sources r.entries false (side_of before.tree s.between) (side_of before.tree r.found) within.sources side s.walked in
+      let is = laws.whole asked.sources r.entries (side_with before.tree s.between) (side_with before.tree r.found) within.sources side s.walked in
+      let silent = laws.walks asked.sources r.entries false (side_with before.tree s.between) (side_with before.tree r.found) within.sources side s.walked in
       let fates = no_fates r.pairs r.entries r.rows r.found s.places is early r.copies in
       r.counts ∙ ap length (laws.order.none r.notes (subst (λ given. AreInOrder given r.notes) (λ i. silent i ++ fates i) r.names))
 
@@ -157,7 +157,7 @@ module _ (laws : Laws) (asked : CopyAsked) (before after : Side) (within : Withi
   stops_for_memory : (reason : Stop) → StopsCopy asked before after reason → reason ≡ stop.OutOfMemory
   stops_for_memory reason stops =
       ⊎_elim (λ is. is) (λ s. ⊎_elim (λ n. absurd (not_nowhere reason n))
-      (λ w. laws.stops asked.sources (side_of before.tree w.between) after reason within.sources (record {
+      (λ w. laws.stops asked.sources (side_with before.tree w.between) after reason within.sources (record {
         files = files;
         told = fine.side.told;
         fine = fine.side.fine;

@@ -22,7 +22,7 @@ use Rattle.tool_words.specs.Asked.{CopyAsked, roots}
 use Rattle.run_report.specs.declared.reports.Report.{Report}
 use Rattle.run_report.specs.declared.stops.Stop.{Stop}
 use Rattle.run_report.specs.declared.stops.Stop.TheVariants as stop
-use Rattle.run_report.specs.Sides.{Side, side_of}
+use Rattle.run_report.specs.Sides.{Side, side_with}
 use Rattle.run_entries.specs.Fine.{IsFineSide}
 use Rattle.run_entries.specs.Naming.{copy_notes, listing_notes}
 use Rattle.run_entries.specs.Stopping.{StopsListing}
@@ -58,9 +58,9 @@ pub record ReportsCopies (asked : CopyAsked) (before after : Side) (report : Rep
   pub pairs : List Pair
   pub entries : List Entry
   pub found : ℕ
-  pub surveys : Surveys asked before (side_of before.tree found) pairs entries
+  pub surveys : Surveys asked before (side_with before.tree found) pairs entries
   pub rows : List (List ℕ × Fate)
-  pub copies : Copies pairs entries rows (side_of before.tree found) after
+  pub copies : Copies pairs entries rows (side_with before.tree found) after
   pub notes : List Note
   pub names : AreInOrder (copy_failures entries rows) notes
   pub prints : report.out ≡ copied_line (count_by (λ row. is_done row.1) rows) (length (treated entries)) (bytes_copied entries rows) (length notes)
@@ -87,7 +87,7 @@ pub record StopsWalking (asked : CopyAsked) (before after : Side) (why : Stop) :
   pub between : ℕ
   pub kept : before.count ≤ between
   pub later : between ≤ after.count
-  pub stops : StopsListing (roots asked.sources) (side_of before.tree between) after why
+  pub stops : StopsListing (roots asked.sources) (side_with before.tree between) after why
 
 -- why it stops: it is out of memory; or the sources have no targets or the walk was too long, and the files are as before
 abbrev pub StopsCopy : CopyAsked → Side → Side → Stop → Type 0
@@ -99,7 +99,7 @@ pub record LeavesAllOthers (asked : CopyAsked) (before after : Side) : Type 0 wh
   pub pairs : List Pair
   pub entries : List Entry
   pub found : ℕ
-  pub surveys : Surveys asked before (side_of before.tree found) pairs entries
+  pub surveys : Surveys asked before (side_with before.tree found) pairs entries
   pub tells : is_some after.tree ≡ is_some before.tree
   pub others : IfSome before.tree (λ old. IfSome after.tree (SameButTargets pairs entries old))
 

@@ -9,7 +9,7 @@ use Rattle.tree_copy.specs.declared.pairs.Pair.{Pair}
 use Rattle.tree_copy.specs.declared.pairs.PlaceError.{PlaceError}
 use Rattle.tree_copy.specs.declared.pairs.PlaceError.TheVariants as place
 use Rattle.tool_words.specs.Asked.{CopyAsked}
-use Rattle.run_report.specs.Sides.{Side, side_of}
+use Rattle.run_report.specs.Sides.{Side, side_with}
 use Rattle.run_report.specs.declared.stops.Stop.{Stop}
 use Rattle.run_report.specs.declared.stops.Stop.TheVariants as stop
 use Rattle.run_entries.specs.Entries.{Walked}
@@ -28,7 +28,7 @@ pub record Surveys (asked : CopyAsked) (before after : Side) (pairs : List Pair)
   pub places : Places asked.sources asked.dest before.tree (Ok pairs)
   pub between : ℕ
   pub kept : before.count ≤ between
-  pub walked : Walked asked.sources entries (side_of before.tree between) after
+  pub walked : Walked asked.sources entries (side_with before.tree between) after
   pub few : length entries ≤ 4194304
 
 -- two of all sources and targets overlap, or no directory is there for the targets

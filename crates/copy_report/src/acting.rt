@@ -40,8 +40,8 @@ where
     requires lent { G.area files.old ≡ nothing_lent }
     requires can { CanCopy list.now pairs.now }
     requires fits { IfSome (G.tree files.old) (FitsTree list.now pairs.now) }
-    ensures copies { IfOk result (λ report. Copies pairs.now list.now report.0 (side_of (G.tree files.old) (G.count files.old))
-        (side_of (G.tree files.new) (G.count files.new))) }
+    ensures copies { IfOk result (λ report. Copies pairs.now list.now report.0 (side_of G.Plot files.old)
+        (side_of G.Plot files.new)) }
     ensures copied { IfOk result (λ report. report.1 ≡ count_by (λ row. is_done row.1) report.0) }
     ensures bytes { IfOk result (λ report. report.2 ≡ bytes_copied list.now report.0) }
     ensures rest { IfSome (G.tree files.old) (λ before. IfSome (G.tree files.new) (SameButTargets pairs.now list.now before)) }
@@ -78,8 +78,8 @@ where
     requires lent { G.area files.old ≡ nothing_lent }
     requires can { CanCopy list.now pairs.now }
     requires fits { IfSome (G.tree files.old) (FitsTree list.now pairs.now) }
-    ensures told { IfOk result (TellsCopies pairs.now list.now (side_of (G.tree files.old) (G.count files.old))
-        (side_of (G.tree files.new) (G.count files.new))) }
+    ensures told { IfOk result (TellsCopies pairs.now list.now (side_of G.Plot files.old)
+        (side_of G.Plot files.new)) }
     ensures rest { IfSome (G.tree files.old) (λ before. IfSome (G.tree files.new) (SameButTargets pairs.now list.now before)) }
     ensures tells { is_some (G.tree files.new) ≡ is_some (G.tree files.old) }
     ensures lent { G.area files.new ≡ nothing_lent }

@@ -45,11 +45,11 @@ where
     G::Span: Send,
     requires lent { G.area files.old ≡ nothing_lent }
     requires within { WithinCopy (copy_asked task) }
-    ensures reports { IfOk result (ReportsCopy (copy_asked task) (side_of (G.tree files.old) (G.count files.old))
-        (side_of (G.tree files.new) (G.count files.new))) }
-    ensures stops { IfErr result (StopsCopy (copy_asked task) (side_of (G.tree files.old) (G.count files.old))
-        (side_of (G.tree files.new) (G.count files.new))) }
-    ensures leaves { LeavesCopy (copy_asked task) (side_of (G.tree files.old) (G.count files.old)) (side_of (G.tree files.new) (G.count files.new)) }
+    ensures reports { IfOk result (ReportsCopy (copy_asked task) (side_of G.Plot files.old)
+        (side_of G.Plot files.new)) }
+    ensures stops { IfErr result (StopsCopy (copy_asked task) (side_of G.Plot files.old)
+        (side_of G.Plot files.new)) }
+    ensures leaves { LeavesCopy (copy_asked task) (side_of G.Plot files.old) (side_of G.Plot files.new) }
     ensures lent { G.area files.new ≡ nothing_lent }
     ensures count { RoseBy 0 (G.count files.old) (G.count files.new) }
 {

@@ -21,8 +21,8 @@ pub(crate) fn place_targets<G: Ground>(
     requires some { 1 ≤ length sources.now }
     ensures places { IfOk result (λ pairs. Places sources.now dest.now (G.tree files.old) (Ok pairs.items)) }
     ensures placed { IfOk result (λ pairs. ArePlaced sources.now (G.tree files.old) pairs.items) }
-    ensures stopped { IfErr result (StopsPlacing sources.now dest.now (side_of (G.tree files.old) (G.count files.old))
-        (side_of (G.tree files.new) (G.count files.new))) }
+    ensures stopped { IfErr result (StopsPlacing sources.now dest.now (side_of G.Plot files.old)
+        (side_of G.Plot files.new)) }
     ensures same { G.tree files.new ≡ G.tree files.old }
     ensures area { G.area files.new ≡ G.area files.old }
     ensures count { RoseBy 0 (G.count files.old) (G.count files.new) }

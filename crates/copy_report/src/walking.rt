@@ -34,13 +34,13 @@ where
     G::Reader: Send,
     requires within { CommonWithin common.now }
     requires placed { ArePlaced sources.items (G.tree files.old) pairs.now }
-    ensures walked { IfOk result (λ list. Walked sources.items list (side_of (G.tree files.old) (G.count files.old))
-        (side_of (G.tree files.new) (G.count files.new))) }
+    ensures walked { IfOk result (λ list. Walked sources.items list (side_of G.Plot files.old)
+        (side_of G.Plot files.new)) }
     ensures few { IfOk result (λ list. length list ≤ 4194304) }
     ensures can { IfOk result (λ list. CanCopy list pairs.now) }
     ensures fits { IfOk result (λ list. IfSome (G.tree files.old) (FitsTree list pairs.now)) }
-    ensures stopped { IfErr result (StopsListing (roots sources.items) (side_of (G.tree files.old) (G.count files.old))
-        (side_of (G.tree files.new) (G.count files.new))) }
+    ensures stopped { IfErr result (StopsListing (roots sources.items) (side_of G.Plot files.old)
+        (side_of G.Plot files.new)) }
     ensures same { G.tree files.new ≡ G.tree files.old }
     ensures area { G.area files.new ≡ G.area files.old }
     ensures count { RoseBy 0 (G.count files.old) (G.count files.new) }

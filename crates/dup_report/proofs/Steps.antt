@@ -5,7 +5,7 @@ use Rattle.flat_list.specs.declared.entries.Entry.{Entry}
 use Rattle.tree_dup.specs.Grouping.{IsGrouping}
 use Rattle.tree_dup.specs.Told.{Grouping}
 use Rattle.tool_words.specs.Asked.{DupAsked}
-use Rattle.run_report.specs.Sides.{Side, side_of}
+use Rattle.run_report.specs.Sides.{Side, side_with}
 use Rattle.run_entries.specs.Entries.{Walked}
 use Rattle.dup_report.specs.Grouping.{FindsGroups}
 
@@ -21,7 +21,7 @@ pub finds_by : (asked : DupAsked) (entries : List Entry) (found : Grouping) (bef
     FindsGroups asked entries found before after
 finds_by asked entries found before walked after s = record {
   walked = walked.count;
-  walks = subst (λ t. Walked asked.roots entries before (side_of t walked.count)) s.same s.walks;
+  walks = subst (λ t. Walked asked.roots entries before (side_with t walked.count)) s.same s.walks;
   few = s.few;
   grouped = subst (λ t. IsGrouping t entries found) s.same s.grouped;
   counted = s.counted;

@@ -8,7 +8,7 @@ use Rattle.tool_words.specs.Limits.{WithinDup}
 use Rattle.run_report.specs.declared.reports.Report.{Report}
 use Rattle.run_report.specs.declared.stops.Stop.{Stop}
 use Rattle.run_report.specs.declared.stops.Stop.TheVariants as stop
-use Rattle.run_report.specs.Sides.{Side, side_of}
+use Rattle.run_report.specs.Sides.{Side, side_with}
 use Rattle.run_entries.specs.Fine.{IsFineSide, FineWalksNameNothing, FineWalksStopForMemory, StillCounts}
 use Rattle.dup_report.specs.Grouping.{path_notes, ReportsDup, StopsDup, FineDup}
 use Rattle.dup_report.specs.Laws.{FineDupSucceeds}
@@ -23,7 +23,7 @@ names_nothing walks order still asked before after within fine report r =
     let f = r.finds in
     let early = f.walks.counted.kept in
     let late = f.counted.kept in
-    let walked = side_of before.tree f.walked in
+    let walked = side_with before.tree f.walked in
     let side : IsFineSide (roots asked.roots) before walked = record {
       files = fine.files;
       told = fine.told;

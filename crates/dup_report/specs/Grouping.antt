@@ -15,7 +15,7 @@ use Rattle.tool_words.specs.Asked.{DupAsked, roots}
 use Rattle.run_report.specs.declared.reports.Report.{Report}
 use Rattle.run_report.specs.declared.stops.Stop.{Stop}
 use Rattle.run_report.specs.declared.stops.Stop.TheVariants as stop
-use Rattle.run_report.specs.Sides.{Side, side_of}
+use Rattle.run_report.specs.Sides.{Side, side_with}
 use Rattle.run_entries.specs.Entries.{Walked}
 use Rattle.run_entries.specs.Fine.{IsFineSide}
 use Rattle.run_entries.specs.Naming.{failures_of}
@@ -29,7 +29,7 @@ dup_asked task = record { common = task.common; roots = task.roots.items }
 -- the roots were walked, and then the files of the walk were grouped, over the same files, which counted each read that failed
 pub record FindsGroups (asked : DupAsked) (entries : List Entry) (found : Grouping) (before after : Side) : Type 0 where
   pub walked : ℕ
-  pub walks : Walked asked.roots entries before (side_of before.tree walked)
+  pub walks : Walked asked.roots entries before (side_with before.tree walked)
   pub few : length entries ≤ 4194304
   pub grouped : IsGrouping before.tree entries found
   pub counted : RoseBy (length found.failed) walked after.count

@@ -35,13 +35,13 @@ pub(crate) fn walk_listed<T: Threads + Wait + Sync, G: Ground>(
 where
     G::Reader: Send,
     requires within { CommonWithin common.now }
-    ensures walked { IfOk result (λ list. Walked given.items list (side_of (G.tree files.old) (G.count files.old))
-        (side_of (G.tree files.new) (G.count files.new))) }
+    ensures walked { IfOk result (λ list. Walked given.items list (side_of G.Plot files.old)
+        (side_of G.Plot files.new)) }
     ensures few { IfOk result (λ list. length list ≤ 4194304) }
     ensures ascend { IfOk result (λ list. IsStrictlySortedBy path_cmp (paths list)) }
     ensures told { IfOk result (λ list. IfSome (G.tree files.old) (λ tree. StatsTold tree list)) }
-    ensures stopped { IfErr result (StopsListing (roots given.items) (side_of (G.tree files.old) (G.count files.old))
-        (side_of (G.tree files.new) (G.count files.new))) }
+    ensures stopped { IfErr result (StopsListing (roots given.items) (side_of G.Plot files.old)
+        (side_of G.Plot files.new)) }
     ensures same { G.tree files.new ≡ G.tree files.old }
     ensures area { G.area files.new ≡ G.area files.old }
     ensures count { RoseBy 0 (G.count files.old) (G.count files.new) }

@@ -35,9 +35,9 @@ pub fn report_of_dup<T: Threads + Wait + Sync, G: Ground>(
 where
     G::Reader: Send,
     requires within { WithinDup (dup_asked task) }
-    ensures reports { IfOk result (ReportsDup (dup_asked task) (side_of (G.tree files.old) (G.count files.old))
-        (side_of (G.tree files.new) (G.count files.new))) }
-    ensures stops { IfErr result (StopsDup (dup_asked task) (side_of (G.tree files.old) (G.count files.old)) (side_of (G.tree files.new) (G.count files.new))) }
+    ensures reports { IfOk result (ReportsDup (dup_asked task) (side_of G.Plot files.old)
+        (side_of G.Plot files.new)) }
+    ensures stops { IfErr result (StopsDup (dup_asked task) (side_of G.Plot files.old) (side_of G.Plot files.new)) }
     ensures leaves { LeavesDup (G.tree files.old) (G.tree files.new) }
     ensures area { G.area files.new ≡ G.area files.old }
     ensures count { RoseBy 0 (G.count files.old) (G.count files.new) }

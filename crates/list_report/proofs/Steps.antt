@@ -6,7 +6,7 @@ use Rattle.test_tree.specs.Nodes.{test_files}
 use Rattle.tool_text.specs.declared.noting.Note.{Note}
 use Rattle.tool_words.specs.Asked.{ListAsked}
 use Rattle.run_report.specs.declared.stops.Stop.{Stop}
-use Rattle.run_report.specs.Sides.{Side, side_of}
+use Rattle.run_report.specs.Sides.{Side, side_with}
 use Rattle.run_entries.specs.declared.accounts.Account.{Account}
 use Rattle.run_entries.specs.Entries.{Finds}
 use Rattle.run_entries.specs.Saving.{output_of}
@@ -20,9 +20,9 @@ use Rattle.list_report.specs.Tests.{made_root, made_side}
 pub finds_before : {chosen : List Entry} {notes : List Note} {account : Account} (asked : ListAsked) (now : ℕ) (before found : Side) →
     found.tree ≡ before.tree →
     Finds asked.common asked.start asked.chosen now before found chosen notes account →
-    Finds asked.common asked.start asked.chosen now before (side_of before.tree found.count) chosen notes account
+    Finds asked.common asked.start asked.chosen now before (side_with before.tree found.count) chosen notes account
 finds_before {chosen = chosen} {notes = notes} {account = account} asked now before found same f =
-    subst (λ t. Finds asked.common asked.start asked.chosen now before (side_of t found.count) chosen notes account) same f
+    subst (λ t. Finds asked.common asked.start asked.chosen now before (side_with t found.count) chosen notes account) same f
 
 pub stops_finding : (asked : ListAsked) (before after : Side) (why : Stop) → after.tree ≡ before.tree → StopsFinding asked.start asked.chosen before after why →
     StopsList asked before after why
@@ -41,8 +41,8 @@ stops_saving {chosen = chosen} asked now before found after why same f later sto
       later = later;
       now = now;
       stops =
-          subst (λ es. StopsSaving (output_of asked.output es) (side_of before.tree found.count) after why) finds.chooses
-          (subst (λ t. StopsSaving (output_of asked.output chosen) (side_of t found.count) after why) same stops);
+          subst (λ es. StopsSaving (output_of asked.output es) (side_with before.tree found.count) after why) finds.chooses
+          (subst (λ t. StopsSaving (output_of asked.output chosen) (side_with t found.count) after why) same stops);
     }))
 
 -- ---- dtest
@@ -50,8 +50,8 @@ stops_saving {chosen = chosen} asked now before found after why same f later sto
 -- what is so of a walk of these paths over these files is so of the made-up tree, whose files and root they are
 pub over_made : (P : List (List ℕ) → Side → Side → Type 0) (n : ℕ) (paths : List (List ℕ)) (files after : Files) → paths ≡ made_root ∷ [] →
     files ≡ test_files n →
-    Some after ≡ Some files → P paths (side_of (Some files) 0) (side_of (Some after) 0) → P (made_root ∷ []) (made_side n) (made_side n)
+    Some after ≡ Some files → P paths (side_with (Some files) 0) (side_with (Some after) 0) → P (made_root ∷ []) (made_side n) (made_side n)
 over_made P n paths files after root is same h =
-    let rooted = subst (λ ps. P ps (side_of (Some files) 0) (side_of (Some after) 0)) root h in
-    let steady = subst (λ t. P (made_root ∷ []) (side_of (Some files) 0) (side_of t 0)) same rooted in
-    subst (λ f. P (made_root ∷ []) (side_of (Some f) 0) (side_of (Some f) 0)) is steady
+    let rooted = subst (λ ps. P ps (side_with (Some files) 0) (side_with (Some after) 0)) root h in
+    let steady = subst (λ t. P (made_root ∷ []) (side_with (Some files) 0) (side_with t 0)) same rooted in
+    subst (λ f. P (made_root ∷ []) (side_with (Some f) 0) (side_with (Some f) 0)) is steady

@@ -12,7 +12,7 @@ use Rattle.tool_words.specs.Asked.{roots, Choice, ListAsked}
 use Rattle.run_report.specs.declared.reports.Report.{Report}
 use Rattle.run_report.specs.declared.stops.Stop.{Stop}
 use Rattle.run_report.specs.declared.stops.Stop.TheVariants as stop
-use Rattle.run_report.specs.Sides.{Side, side_of}
+use Rattle.run_report.specs.Sides.{Side, side_with}
 use Rattle.run_entries.specs.declared.saving.Output.{Output}
 use Rattle.run_entries.specs.Choosing.{tests_in, chosen_of}
 use Rattle.run_entries.specs.Saving.{output_of}
@@ -36,7 +36,7 @@ list_names_nothing : FineFindsNameNothing → (asked : ListAsked) (now : ℕ) (b
     ReportsList asked now before after report → report.failed ≡ 0
 list_names_nothing law asked now before after within fine report r =
     let survey = r.finds.survey in
-    let found = side_of before.tree r.found in
+    let found = side_with before.tree r.found in
     let side : IsFineSide asked.start before found = record {
       files = fine.side.files;
       told = fine.side.told;
@@ -62,7 +62,7 @@ list_stops_for_memory finds places asked before after within fine why stops =
     let survey = s.survey in
     let more : before.count ≤ s.between = omega (arith, survey.looked.counted.kept, survey.later) in
     places (output_of asked.output (chosen_of (tests_in asked.chosen) s.looks s.now s.entries)) fine.side.files
-    (side_of before.tree s.between) after why fine.side.told
+    (side_with before.tree s.between) after why fine.side.told
     (has_place fine.side.files asked.output _ fine.place)
     (stood_after before.count s.between after.count more s.later fine.side.stood) s.stops))
     stops

@@ -12,7 +12,7 @@ use Rattle.tool_words.specs.Asked.{ListAsked, start_in, choice_in}
 use Rattle.run_report.specs.declared.reports.Report.{Report}
 use Rattle.run_report.specs.declared.stops.Stop.{Stop}
 use Rattle.run_report.specs.declared.stops.Stop.TheVariants as stop
-use Rattle.run_report.specs.Sides.{Side, side_of}
+use Rattle.run_report.specs.Sides.{Side, side_with}
 use Rattle.run_entries.specs.declared.accounts.Account.{Account}
 use Rattle.run_entries.specs.Entries.{Finds, InOrder, notes_text}
 use Rattle.run_entries.specs.Saving.{Saved, output_of, SameButOutputs}
@@ -35,7 +35,7 @@ pub record ReportsList (asked : ListAsked) (now : ℕ) (before after : Side) (re
   pub notes : List Note
   pub account : Account
   pub found : ℕ
-  pub finds : Finds asked.common asked.start asked.chosen now before (side_of before.tree found) chosen notes account
+  pub finds : Finds asked.common asked.start asked.chosen now before (side_with before.tree found) chosen notes account
   -- it saves after it has found
   pub later : found ≤ after.count
   pub saved : Saved (output_of asked.output chosen) before.tree after.tree

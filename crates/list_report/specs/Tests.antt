@@ -9,7 +9,7 @@ use Rattle.tool_words.specs.Asked.{TestAsked, roots, choice_in}
 use Rattle.run_report.specs.declared.reports.Report.{Report}
 use Rattle.run_report.specs.declared.stops.Stop.{Stop}
 use Rattle.run_report.specs.declared.stops.Stop.TheVariants as stop
-use Rattle.run_report.specs.Sides.{Side, side_of}
+use Rattle.run_report.specs.Sides.{Side, side_with}
 use Rattle.run_entries.specs.declared.accounts.Account.{Account}
 use Rattle.run_entries.specs.Entries.{Finds, notes_text}
 use Rattle.run_entries.specs.Fine.{AreThere}
@@ -26,7 +26,7 @@ made_root = codes "/n0"
 
 -- the side of a made-up tree of so many nodes, which never fails
 abbrev pub made_side : ℕ → Side
-made_side nodes = side_of (Some (test_files nodes)) 0
+made_side nodes = side_with (Some (test_files nodes)) 0
 
 -- its report: the findings in its made-up tree, and their two texts, the summary of the chosen entries alone, and the notes
 pub record ReportsTest (asked : TestAsked) (now : ℕ) (report : Report) : Type 0 where

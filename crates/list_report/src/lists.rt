@@ -44,10 +44,10 @@ where
     G::Reader: Send,
     requires lent { G.area files.old ≡ nothing_lent }
     requires within { CommonWithin task.common }
-    ensures reports { IfOk result (ReportsList (list_asked task) now (side_of (G.tree files.old) (G.count files.old))
-        (side_of (G.tree files.new) (G.count files.new))) }
-    ensures stops { IfErr result (StopsList (list_asked task) (side_of (G.tree files.old) (G.count files.old))
-        (side_of (G.tree files.new) (G.count files.new))) }
+    ensures reports { IfOk result (ReportsList (list_asked task) now (side_of G.Plot files.old)
+        (side_of G.Plot files.new)) }
+    ensures stops { IfErr result (StopsList (list_asked task) (side_of G.Plot files.old)
+        (side_of G.Plot files.new)) }
     ensures leaves { LeavesList (list_asked task) (G.tree files.old) (G.tree files.new) }
     ensures lent { G.area files.new ≡ nothing_lent }
     ensures count { RoseBy 0 (G.count files.old) (G.count files.new) }

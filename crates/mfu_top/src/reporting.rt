@@ -35,10 +35,10 @@ where
     G::Span: Send,
     requires lent { G.area files.old ≡ nothing_lent }
     requires within { Within (asked_by command) }
-    ensures reports { IfOk result (Reports (asked_by command) now (side_of (G.tree files.old) (G.count files.old))
-        (side_of (G.tree files.new) (G.count files.new))) }
-    ensures stops { IfErr result (Stops (asked_by command) (side_of (G.tree files.old) (G.count files.old)) (side_of (G.tree files.new) (G.count files.new))) }
-    ensures leaves { Leaves (asked_by command) now (side_of (G.tree files.old) (G.count files.old)) (side_of (G.tree files.new) (G.count files.new)) }
+    ensures reports { IfOk result (Reports (asked_by command) now (side_of G.Plot files.old)
+        (side_of G.Plot files.new)) }
+    ensures stops { IfErr result (Stops (asked_by command) (side_of G.Plot files.old) (side_of G.Plot files.new)) }
+    ensures leaves { Leaves (asked_by command) now (side_of G.Plot files.old) (side_of G.Plot files.new) }
     ensures apart { is_apart (asked_by command) ≡ true → files.new ≡ files.old }
     ensures lent { G.area files.new ≡ nothing_lent }
     ensures count { RoseBy 0 (G.count files.old) (G.count files.new) }

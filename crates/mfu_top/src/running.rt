@@ -53,7 +53,7 @@ where
 
     // Every path of the files but those that the tool may change is as before, and no count falls.
     ensures rest { IfOk (reading (map string_bytes words.now))
-        (λ asked. Leaves asked now (side_of (G.tree files.old) (G.count files.old)) (side_of (G.tree files.new) (G.count files.new))) }
+        (λ asked. Leaves asked now (side_of G.Plot files.old) (side_of G.Plot files.new)) }
     // A tool that has nothing to do with the files leaves them alone.
     ensures apart { IfOk (reading (map string_bytes words.now)) (λ asked. is_apart asked ≡ true → files.new ≡ files.old) }
     ensures counts { RoseBy 0 (G.count files.old) (G.count files.new) × RoseBy 0 (O.count out.old) (O.count out.new)
@@ -61,40 +61,40 @@ where
 
     // Words that are refused end with status 2 and the line of the first offence, and nothing is looked at then; or with status 3.
     ensures words { result ≡ Status.Words → IfErr (reading (map string_bytes words.now)) (λ e. (files.new ≡ files.old) × (out.new ≡ out.old)
-        × GrewByLine (refusal_line e) (stream_of (E.text notes.old) (E.count notes.old)) (stream_of (E.text notes.new) (E.count notes.new))) }
+        × GrewByLine (refusal_line e) (stream_of E.Sink notes.old) (stream_of E.Sink notes.new)) }
     ensures refused { IsErr (reading (map string_bytes words.now)) → (files.new ≡ files.old) × ((result ≡ Status.Words) ⊎ (result ≡ Status.Memory)) }
 
     // The headline: with status 0 or 1 the report that the tool makes is printed; and status 1 comes exactly where a note stands.
     ensures done { result ≡ Status.Done → IfOk (reading (map string_bytes words.now)) (λ asked. (report : Report)
-        × Reports asked now (side_of (G.tree files.old) (G.count files.old)) (side_of (G.tree files.new) (G.count files.new)) report
-        × (report.failed ≡ 0) × Printed report (stream_of (O.text out.old) (O.count out.old)) (stream_of (O.text out.new) (O.count out.new))
-        (stream_of (E.text notes.old) (E.count notes.old)) (stream_of (E.text notes.new) (E.count notes.new))) }
+        × Reports asked now (side_of G.Plot files.old) (side_of G.Plot files.new) report
+        × (report.failed ≡ 0) × Printed report (stream_of O.Sink out.old) (stream_of O.Sink out.new)
+        (stream_of E.Sink notes.old) (stream_of E.Sink notes.new)) }
     ensures named { result ≡ Status.Named → IfOk (reading (map string_bytes words.now)) (λ asked. (report : Report)
-        × Reports asked now (side_of (G.tree files.old) (G.count files.old)) (side_of (G.tree files.new) (G.count files.new)) report
-        × (0 < report.failed) × Printed report (stream_of (O.text out.old) (O.count out.old)) (stream_of (O.text out.new) (O.count out.new))
-        (stream_of (E.text notes.old) (E.count notes.old)) (stream_of (E.text notes.new) (E.count notes.new))) }
+        × Reports asked now (side_of G.Plot files.old) (side_of G.Plot files.new) report
+        × (0 < report.failed) × Printed report (stream_of O.Sink out.old) (stream_of O.Sink out.new)
+        (stream_of E.Sink notes.old) (stream_of E.Sink notes.new)) }
 
     // Status 3: want of memory, with its line and nothing else.
     ensures memory { result ≡ Status.Memory → (out.new ≡ out.old)
-        × GrewByLine memory_line (stream_of (E.text notes.old) (E.count notes.old)) (stream_of (E.text notes.new) (E.count notes.new)) }
+        × GrewByLine memory_line (stream_of E.Sink notes.old) (stream_of E.Sink notes.new) }
 
     // Status 4: a sink failed, and holds a prefix of its text. After a fault of `out` nothing goes to `notes`.
     ensures sink { result ≡ Status.Sink → IfOk (reading (map string_bytes words.now)) (λ asked. (report : Report)
-        × Reports asked now (side_of (G.tree files.old) (G.count files.old)) (side_of (G.tree files.new) (G.count files.new)) report
-        × ((RoseBy 1 (O.count out.old) (O.count out.new) × GrewBySome report.out (stream_of (O.text out.old) (O.count out.old))
-        (stream_of (O.text out.new) (O.count out.new)) × (notes.new ≡ notes.old))
-        ⊎ (RoseBy 1 (E.count notes.old) (E.count notes.new) × Grew report.out (stream_of (O.text out.old) (O.count out.old))
-        (stream_of (O.text out.new) (O.count out.new))
-        × GrewBySome report.notes (stream_of (E.text notes.old) (E.count notes.old)) (stream_of (E.text notes.new) (E.count notes.new))))) }
+        × Reports asked now (side_of G.Plot files.old) (side_of G.Plot files.new) report
+        × ((RoseBy 1 (O.count out.old) (O.count out.new) × GrewBySome report.out (stream_of O.Sink out.old)
+        (stream_of O.Sink out.new) × (notes.new ≡ notes.old))
+        ⊎ (RoseBy 1 (E.count notes.old) (E.count notes.new) × Grew report.out (stream_of O.Sink out.old)
+        (stream_of O.Sink out.new)
+        × GrewBySome report.notes (stream_of E.Sink notes.old) (stream_of E.Sink notes.new)))) }
 
     // Each other status comes for a reason of the tool, and with its line. Nothing is printed.
     ensures stopped { has_reason result ≡ true → IfOk (reading (map string_bytes words.now)) (λ asked. (why : Stop) × (result ≡ status_of why)
-        × Stops asked (side_of (G.tree files.old) (G.count files.old)) (side_of (G.tree files.new) (G.count files.new)) why × (out.new ≡ out.old)
-        × GrewByLine (stop_line why) (stream_of (E.text notes.old) (E.count notes.old)) (stream_of (E.text notes.new) (E.count notes.new))) }
+        × Stops asked (side_of G.Plot files.old) (side_of G.Plot files.new) why × (out.new ≡ out.old)
+        × GrewByLine (stop_line why) (stream_of E.Sink notes.old) (stream_of E.Sink notes.new)) }
 
     // When a run succeeds, or stops with a checkpoint where its words say so: nothing stands against it, and no sink fails.
     ensures complete { IfOk (reading (map string_bytes words.now))
-        (λ asked. Fine asked now (side_of (G.tree files.old) (G.count files.old)) (side_of (G.tree files.new) (G.count files.new))
+        (λ asked. Fine asked now (side_of G.Plot files.old) (side_of G.Plot files.new)
         → StoodStill (O.count out.old) (O.count out.new) → StoodStill (E.count notes.old) (E.count notes.new) → EndedWell asked result) }
 {
     fine_runs_succeed();

@@ -90,10 +90,10 @@ where
     G::Reader: Send,
     requires lent { G.area files.old ≡ nothing_lent }
     requires within { Within (asked_of task) }
-    ensures reports { IfOk result (Reports (asked_of task) now (side_of (G.tree files.old) (G.count files.old))
-        (side_of (G.tree files.new) (G.count files.new))) }
-    ensures stops { IfErr result (Stops (asked_of task) (side_of (G.tree files.old) (G.count files.old)) (side_of (G.tree files.new) (G.count files.new))) }
-    ensures leaves { Leaves (asked_of task) now (side_of (G.tree files.old) (G.count files.old)) (side_of (G.tree files.new) (G.count files.new)) }
+    ensures reports { IfOk result (Reports (asked_of task) now (side_of G.Plot files.old)
+        (side_of G.Plot files.new)) }
+    ensures stops { IfErr result (Stops (asked_of task) (side_of G.Plot files.old) (side_of G.Plot files.new)) }
+    ensures leaves { Leaves (asked_of task) now (side_of G.Plot files.old) (side_of G.Plot files.new) }
     ensures lent { G.area files.new ≡ nothing_lent }
     ensures count { RoseBy 0 (G.count files.old) (G.count files.new) }
 {

@@ -6,7 +6,7 @@ use Rattle.tree_remove.specs.Removing.{SameButChosen}
 use Rattle.tool_text.specs.declared.noting.Note.{Note}
 use Rattle.tool_words.specs.Asked.{RemoveAsked, roots}
 use Rattle.run_report.specs.declared.stops.Stop.{Stop}
-use Rattle.run_report.specs.Sides.{Side, side_of}
+use Rattle.run_report.specs.Sides.{Side, side_with}
 use Rattle.run_entries.specs.declared.accounts.Account.{Account}
 use Rattle.run_entries.specs.Entries.{Finds}
 use Rattle.run_entries.specs.Stopping.{StopsFinding}
@@ -16,10 +16,10 @@ use Rattle.remove_report.specs.Removing.{StopsRemove, LeavesBy, LeavesRemove}
 -- choosing leaves the tree as it was
 pub chooses_by : (asked : RemoveAsked) (now : ℕ) (before found : Side) (chosen : List Entry) (named : List Note) (account : Account)
     → Finds asked.common (roots asked.roots) (Some asked.choice) now before found chosen named account → found.tree ≡ before.tree
-    → Chooses asked now before (side_of before.tree found.count) chosen named
+    → Chooses asked now before (side_with before.tree found.count) chosen named
 chooses_by asked now before found chosen named account f same = record {
   account = account;
-  finds = subst (λ t. Finds asked.common (roots asked.roots) (Some asked.choice) now before (side_of t found.count) chosen named account) same f;
+  finds = subst (λ t. Finds asked.common (roots asked.roots) (Some asked.choice) now before (side_with t found.count) chosen named account) same f;
 }
 
 pub stops_finding : (asked : RemoveAsked) (before after : Side) (why : Stop) → after.tree ≡ before.tree →

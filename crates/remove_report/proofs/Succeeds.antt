@@ -28,7 +28,7 @@ use Rattle.tool_words.specs.Limits.{Valid, WithinRemove}
 use Rattle.run_report.specs.declared.reports.Report.{Report}
 use Rattle.run_report.specs.declared.stops.Stop.{Stop}
 use Rattle.run_report.specs.declared.stops.Stop.TheVariants as stop
-use Rattle.run_report.specs.Sides.{Side, side_of}
+use Rattle.run_report.specs.Sides.{Side, side_with}
 use Rattle.run_entries.specs.Fine.{IsFineSide, DoneNamesNothing, StillCounts, FineFindsNameNothing, FineFindsStopForMemory, FineWalksNameNothing}
 use Rattle.run_entries.specs.Naming.{on_side, removal_notes}
 use Rattle.remove_report.specs.Choosing.{Acts, Chooses, Removes}
@@ -125,22 +125,22 @@ of_told : (P : Files → Type 0) (tree : Option Files) (files : Files) → tree 
 of_told P tree files told h = subst (λ t. IfSome t P) told h
 
 no_notes : Laws → (asked : RemoveAsked) (now : ℕ) (before after : Side) → WithinRemove asked → FineRemove asked now before after →
-    (chosen : List Entry) (named : List Note) (found : ℕ) → Chooses asked now before (side_of before.tree found) chosen named → (rows : List Row) →
+    (chosen : List Entry) (named : List Note) (found : ℕ) → Chooses asked now before (side_with before.tree found) chosen named → (rows : List Row) →
     StoodStill before.count found → StoodStill found after.count → asked.dryrun ≡ false
-    → Removes chosen rows (side_of before.tree found) after → removal_notes rows ≡ []
+    → Removes chosen rows (side_with before.tree found) after → removal_notes rows ≡ []
 no_notes laws asked now before after within fine chosen named found chooses rows first then wet removes =
     let f = chooses.finds in
     let w = f.survey.listed in
     let files = fine.side.files in
     let valid : All Valid asked.roots = λ k d l. (within.roots k d l).0 in
     let looked = f.survey.looked.counted.kept in
-    let walked : IsFineSide (roots asked.roots) (side_of before.tree f.survey.between) (side_of before.tree found) = record {
+    let walked : IsFineSide (roots asked.roots) (side_with before.tree f.survey.between) (side_with before.tree found) = record {
       files = files;
       told = fine.side.told;
       fine = fine.side.fine;
       stood = laws.still.between before.count f.survey.between found found looked f.survey.later (omega arith) first;
     } in
-    let silent = laws.walks asked.roots f.entries false (side_of before.tree f.survey.between) (side_of before.tree found) valid walked w in
+    let silent = laws.walks asked.roots f.entries false (side_with before.tree f.survey.between) (side_with before.tree found) valid walked w in
     let calm = quiet f.entries (map_nil (on_side false) (notes_of f.entries) silent) in
     let is = of_told (λ files. f.entries ≡ flat_map (walk files (answers_in f.entries)) w.roots) before.tree files fine.side.told w.told in
     let near_all = near_entries laws.told files f.entries w.roots is calm in
@@ -162,19 +162,19 @@ names_nothing laws asked now before after within fine report r =
     let later = kept asked.dryrun r.acts in
     let first = laws.still.between before.count before.count r.found after.count (omega arith) early later fine.side.stood in
     let then = laws.still.between before.count r.found after.count after.count early later (omega arith) fine.side.stood in
-    let side : IsFineSide (roots asked.roots) before (side_of before.tree r.found) =
+    let side : IsFineSide (roots asked.roots) before (side_with before.tree r.found) =
     record { files = fine.side.files; told = fine.side.told; fine = fine.side.fine; stood = first } in
     let named : r.named ≡ [] =
     laws.finds asked.common (roots asked.roots) (Some asked.choice) now before
-    (side_of before.tree r.found) r.chosen r.named r.chooses.account valid side fine.there f in
+    (side_with before.tree r.found) r.chosen r.named r.chooses.account valid side fine.there f in
     let fates : removal_notes r.rows ≡ [] = by asked.dryrun refl r.acts (first, then) in
     r.counts ∙ ap length (laws.order.none r.notes (subst (λ given. AreInOrder given r.notes) (λ i. named i ++ fates i) r.names))
   where
-    kept : (b : Bool) → Acts b r.chosen r.rows (side_of before.tree r.found) after → r.found ≤ after.count
+    kept : (b : Bool) → Acts b r.chosen r.rows (side_with before.tree r.found) after → r.found ≤ after.count
     kept true a = a.kept
     kept false a = a.blamed.kept
 
-    by : (b : Bool) → asked.dryrun ≡ b → Acts b r.chosen r.rows (side_of before.tree r.found) after → StoodStill before.count r.found
+    by : (b : Bool) → asked.dryrun ≡ b → Acts b r.chosen r.rows (side_with before.tree r.found) after → StoodStill before.count r.found
         × StoodStill r.found after.count →
         removal_notes r.rows ≡ []
     by true e a stood = ap removal_notes a.none

@@ -11,14 +11,14 @@ use Rattle.tree_remove.specs.Laws.{AreWhole}
 use Rattle.tree_remove.specs.Removing.{Removed, SameButChosen}
 use Rattle.tool_text.specs.declared.noting.Note.{Note}
 use Rattle.tool_words.specs.Asked.{RemoveAsked, roots}
-use Rattle.run_report.specs.Sides.{Side, side_of}
+use Rattle.run_report.specs.Sides.{Side, side_with}
 use Rattle.run_entries.specs.declared.accounts.Account.{Account}
 use Rattle.run_entries.specs.Entries.{Finds}
 
 -- it walked the roots, chose entries by the tests, as dfind does, and named the failures. That leaves the tree as it was
 pub record Chooses (asked : RemoveAsked) (now : ℕ) (before after : Side) (chosen : List Entry) (named : List Note) : Type 0 where
   pub account : Account
-  pub finds : Finds asked.common (roots asked.roots) (Some asked.choice) now before (side_of before.tree after.count) chosen named account
+  pub finds : Finds asked.common (roots asked.roots) (Some asked.choice) now before (side_with before.tree after.count) chosen named account
 
 -- it removed the chosen entries, and the count has each answer that failed
 pub record Removes (chosen : List Entry) (rows : List (List ℕ × Fate)) (before after : Side) : Type 0 where
@@ -43,7 +43,7 @@ pub record LeavesAllOthers (asked : RemoveAsked) (now : ℕ) (before after : Sid
   pub found : ℕ
   pub chosen : List Entry
   pub named : List Note
-  pub chooses : Chooses asked now before (side_of before.tree found) chosen named
+  pub chooses : Chooses asked now before (side_with before.tree found) chosen named
   pub tells : is_some after.tree ≡ is_some before.tree
   pub others : IfSome before.tree (λ old. IfSome after.tree (SameButChosen (paths chosen) old))
 

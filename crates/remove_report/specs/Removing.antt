@@ -14,7 +14,7 @@ use Rattle.tool_words.specs.Asked.{RemoveAsked, roots, choice_in}
 use Rattle.run_report.specs.declared.reports.Report.{Report}
 use Rattle.run_report.specs.declared.stops.Stop.{Stop}
 use Rattle.run_report.specs.declared.stops.Stop.TheVariants as stop
-use Rattle.run_report.specs.Sides.{Side, side_of}
+use Rattle.run_report.specs.Sides.{Side, side_with}
 use Rattle.run_entries.specs.Fine.{IsFineSide, AreThere}
 use Rattle.run_entries.specs.Naming.{removal_notes}
 use Rattle.run_entries.specs.Stopping.{StopsAfterLooks}
@@ -36,9 +36,9 @@ pub record ReportsRemove (asked : RemoveAsked) (now : ℕ) (before after : Side)
   pub chosen : List Entry
   pub named : List Note
   pub found : ℕ
-  pub chooses : Chooses asked now before (side_of before.tree found) chosen named
+  pub chooses : Chooses asked now before (side_with before.tree found) chosen named
   pub rows : List (List ℕ × Fate)
-  pub acts : Acts asked.dryrun chosen rows (side_of before.tree found) after
+  pub acts : Acts asked.dryrun chosen rows (side_with before.tree found) after
   pub notes : List Note
   pub names : AreInOrder (named ++ removal_notes rows) notes
   pub prints : report.out ≡ lines_of chosen ++ removed_line (count_by (λ row. is_done row.1) rows) (length chosen) (length notes)
@@ -65,4 +65,4 @@ pub record FineRemove (asked : RemoveAsked) (now : ℕ) (before after : Side) : 
   pub side : IsFineSide (roots asked.roots) before after
   pub there : AreThere side.files (Some asked.choice)
   pub whole : asked.dryrun ≡ false → (chosen : List Entry) (named : List Note) (found : ℕ)
-      → Chooses asked now before (side_of before.tree found) chosen named → ChoosesWhole side.files chosen
+      → Chooses asked now before (side_with before.tree found) chosen named → ChoosesWhole side.files chosen

@@ -47,8 +47,8 @@ where
     requires lent { G.area files.old ≡ nothing_lent }
     requires chosen { AreChosen chosen.now }
     requires there { IfSome (G.tree files.old) (AreThere chosen.now) }
-    ensures told { IfOk result (TellsRemovals dryrun chosen.now named.items (side_of (G.tree files.old) (G.count files.old))
-        (side_of (G.tree files.new) (G.count files.new))) }
+    ensures told { IfOk result (TellsRemovals dryrun chosen.now named.items (side_of G.Plot files.old)
+        (side_of G.Plot files.new)) }
     ensures rest { IfSome (G.tree files.old) (λ before. IfSome (G.tree files.new) (SameButChosen (paths chosen.now) before)) }
     ensures dry { dryrun ≡ true → G.tree files.new ≡ G.tree files.old }
     ensures tells { is_some (G.tree files.new) ≡ is_some (G.tree files.old) }
@@ -76,8 +76,8 @@ where
     requires lent { G.area files.old ≡ nothing_lent }
     requires chosen { AreChosen chosen.now }
     requires there { IfSome (G.tree files.old) (AreThere chosen.now) }
-    ensures acts { IfOk result (λ acted. Acts dryrun chosen.now acted.rows.items (side_of (G.tree files.old) (G.count files.old))
-        (side_of (G.tree files.new) (G.count files.new))) }
+    ensures acts { IfOk result (λ acted. Acts dryrun chosen.now acted.rows.items (side_of G.Plot files.old)
+        (side_of G.Plot files.new)) }
     ensures gone { IfOk result (λ acted. acted.removed ≡ count_by (λ row. is_done row.1) acted.rows.items) }
     ensures rest { IfSome (G.tree files.old) (λ before. IfSome (G.tree files.new) (SameButChosen (paths chosen.now) before)) }
     ensures dry { dryrun ≡ true → G.tree files.new ≡ G.tree files.old }

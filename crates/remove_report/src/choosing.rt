@@ -33,11 +33,11 @@ where
     requires within { CommonWithin common.now }
     requires lower { All Lower paths.items }
     ensures finds { IfOk result (λ found. Finds common.now (roots paths.items) (Some (choice_in tests)) now
-        (side_of (G.tree files.old) (G.count files.old)) (side_of (G.tree files.new) (G.count files.new)) found.chosen found.notes.items found.account) }
+        (side_of G.Plot files.old) (side_of G.Plot files.new) found.chosen found.notes.items found.account) }
     ensures chosen { IfOk result (λ found. AreChosen found.chosen) }
     ensures there { IfOk result (λ found. IfSome (G.tree files.old) (AreThere found.chosen)) }
-    ensures stopped { IfErr result (StopsFinding (roots paths.items) (Some (choice_in tests)) (side_of (G.tree files.old) (G.count files.old))
-        (side_of (G.tree files.new) (G.count files.new))) }
+    ensures stopped { IfErr result (StopsFinding (roots paths.items) (Some (choice_in tests)) (side_of G.Plot files.old)
+        (side_of G.Plot files.new)) }
     ensures same { G.tree files.new ≡ G.tree files.old }
     ensures area { G.area files.new ≡ G.area files.old }
     ensures count { RoseBy 0 (G.count files.old) (G.count files.new) }

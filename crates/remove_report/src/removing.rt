@@ -43,11 +43,11 @@ where
     G::Part: Send,
     requires lent { G.area files.old ≡ nothing_lent }
     requires within { WithinRemove (remove_asked task) }
-    ensures reports { IfOk result (ReportsRemove (remove_asked task) now (side_of (G.tree files.old) (G.count files.old))
-        (side_of (G.tree files.new) (G.count files.new))) }
-    ensures stops { IfErr result (StopsRemove (remove_asked task) (side_of (G.tree files.old) (G.count files.old))
-        (side_of (G.tree files.new) (G.count files.new))) }
-    ensures leaves { LeavesRemove (remove_asked task) now (side_of (G.tree files.old) (G.count files.old)) (side_of (G.tree files.new) (G.count files.new)) }
+    ensures reports { IfOk result (ReportsRemove (remove_asked task) now (side_of G.Plot files.old)
+        (side_of G.Plot files.new)) }
+    ensures stops { IfErr result (StopsRemove (remove_asked task) (side_of G.Plot files.old)
+        (side_of G.Plot files.new)) }
+    ensures leaves { LeavesRemove (remove_asked task) now (side_of G.Plot files.old) (side_of G.Plot files.new) }
     ensures lent { G.area files.new ≡ nothing_lent }
     ensures count { RoseBy 0 (G.count files.old) (G.count files.new) }
 {

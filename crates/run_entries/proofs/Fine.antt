@@ -33,7 +33,7 @@ use Rattle.tree_walk.specs.Roots.{RootsAreUnique}
 use Rattle.run_report.specs.declared.stops.Trouble.TheVariants as trouble
 use Rattle.run_report.specs.declared.stops.Stop.{Stop}
 use Rattle.run_report.specs.declared.stops.Stop.TheVariants as stop
-use Rattle.run_report.specs.Sides.{Side, side_of}
+use Rattle.run_report.specs.Sides.{Side, side_with}
 use Rattle.run_entries.specs.declared.saving.Output.{Output}
 use Rattle.run_entries.specs.Choosing.{newer_in}
 use Rattle.run_entries.specs.Naming.{look_whys, look_notes, on_side, listing_notes}
@@ -164,7 +164,7 @@ names_nothing laws one told order common start choice now before after chosen no
     let seen = told f.files (newer_in choice) finds.looks before.count survey.between looked there stood.first in
     let looks = looks_named finds.looks (recursion_from_All _ finds.looks seen) in
     let entries =
-    nothing_named start f.files finds.entries (side_of before.tree survey.between) after laws one valid f.told survey.listed f.fine stood.second
+    nothing_named start f.files finds.entries (side_with before.tree survey.between) after laws one valid f.told survey.listed f.fine stood.second
     in
     order.none notes (subst (λ given. AreInOrder given notes) (λ i. looks i ++ (entries i ++ [])) finds.names)
 
@@ -214,7 +214,7 @@ stops_for_memory laws exact start choice before after reason valid f stops =
     ⊎_elim (λ is. is)
     (λ s.
     let stood = in_both before.count s.between after.count s.looked.counted s.later f.stood in
-    for_memory start f.files (side_of before.tree s.between) after reason laws exact valid f.told f.fine stood.second s.stops)
+    for_memory start f.files (side_with before.tree s.between) after reason laws exact valid f.told f.fine stood.second s.stops)
     stops
 
 -- ---- a walk by itself

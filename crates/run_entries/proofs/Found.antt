@@ -7,7 +7,7 @@ use Rattle.path_looks.specs.declared.looks.Look.{Look}
 use Rattle.path_looks.specs.Looks.{AreLooks}
 use Rattle.tool_words.specs.Asked.{Origin, Choice}
 use Rattle.run_report.specs.declared.stops.Stop.{Stop}
-use Rattle.run_report.specs.Sides.{Side, side_of}
+use Rattle.run_report.specs.Sides.{Side, side_with}
 use Rattle.run_entries.specs.Choosing.{newer_in}
 use Rattle.run_entries.specs.Stopping.{StopsListing, StopsFinding}
 
@@ -32,5 +32,5 @@ stops_after start choice before between after looks why same looked later stops 
       between = between.count;
       looked = looked;
       later = later;
-      stops = subst (λ t. StopsListing start (side_of t between.count) after why) same stops;
+      stops = subst (λ t. StopsListing start (side_with t between.count) after why) same stops;
     })

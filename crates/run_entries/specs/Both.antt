@@ -7,7 +7,7 @@ use Rattle.tree_cmp.specs.Readers.{StatsTold}
 use Rattle.tree_cmp.specs.Sides.{side, IsSide}
 use Rattle.tool_words.specs.Asked.{roots}
 use Rattle.run_report.specs.declared.stops.Stop.{Stop}
-use Rattle.run_report.specs.Sides.{Side, side_of}
+use Rattle.run_report.specs.Sides.{Side, side_with}
 use Rattle.run_entries.specs.declared.both.Sides.{Sides}
 use Rattle.run_entries.specs.Entries.{Walked}
 use Rattle.run_entries.specs.Stopping.{StopsListing}
@@ -15,8 +15,8 @@ use Rattle.run_entries.specs.Stopping.{StopsListing}
 -- the source was walked by itself, and then the destination. Neither walk is longer than a list may be
 pub record WalksBoth (left_top right_top : List ℕ) (left right : List Entry) (before after : Side) : Type 0 where
   pub between : ℕ
-  pub source : Walked (left_top ∷ []) left before (side_of before.tree between)
-  pub destination : Walked (right_top ∷ []) right (side_of before.tree between) after
+  pub source : Walked (left_top ∷ []) left before (side_with before.tree between)
+  pub destination : Walked (right_top ∷ []) right (side_with before.tree between) after
   pub few_left : length left ≤ 4194304
   pub few_right : length right ≤ 4194304
 
@@ -33,10 +33,10 @@ pub record AreSides (tree : Option Files) (sides : Sides) : Type 0 where
 pub record StopsAfterSource (left_top right_top : List ℕ) (before after : Side) (why : Stop) : Type 0 where
   pub left : List Entry
   pub between : ℕ
-  pub source : Walked (left_top ∷ []) left before (side_of before.tree between)
+  pub source : Walked (left_top ∷ []) left before (side_with before.tree between)
   pub few : length left ≤ 4194304
   pub later : between ≤ after.count
-  pub stops : StopsListing (roots (right_top ∷ [])) (side_of before.tree between) after why
+  pub stops : StopsListing (roots (right_top ∷ [])) (side_with before.tree between) after why
 
 -- one of the two walks did not come to its end
 abbrev pub StopsWalking : (left_top right_top : List ℕ) → Side → Side → Stop → Type 0

@@ -20,7 +20,7 @@ use Rattle.tool_words.specs.Asked.{Origin, roots, input, Choice}
 use Rattle.tool_words.specs.declared.commands.Common.{Common}
 use Rattle.tree_walk.specs.Walk.{walk, answers_in, weight_of, paths_of}
 use Rattle.tree_walk.specs.Roots.{IsRoots, is_in_some}
-use Rattle.run_report.specs.Sides.{Side, side_of}
+use Rattle.run_report.specs.Sides.{Side, side_with}
 use Rattle.run_entries.specs.declared.accounts.Account.{Account}
 use Rattle.run_entries.specs.Choosing.{newer_in, tests_in, chosen_of}
 use Rattle.run_entries.specs.Naming.{failures_in}
@@ -62,7 +62,7 @@ pub record Surveyed (start : Origin) (choice : Option Choice) (before after : Si
   pub between : ℕ
   pub looked : AreLooks before.tree (newer_in choice) looks before.count between
   pub later : between ≤ after.count
-  pub listed : Listed start entries (side_of before.tree between) after
+  pub listed : Listed start entries (side_with before.tree between) after
   pub few : length entries ≤ 4194304
 
 -- what a run finds in its files: what it chooses, the notes of all that failed, and what is told of the walk
@@ -71,7 +71,7 @@ pub record Finds (common : Common) (start : Origin) (choice : Option Choice) (no
   pub looks : List Look
   pub entries : List Entry
   pub survey : Surveyed start choice before after looks entries
-  pub tells : Tells common start entries (side_of before.tree survey.between) after survey.listed account
+  pub tells : Tells common start entries (side_with before.tree survey.between) after survey.listed account
   -- it chooses by the tests, and names what failed
   pub chooses : chosen ≡ chosen_of (tests_in choice) looks now entries
   pub names : AreInOrder (failures_in looks entries) notes

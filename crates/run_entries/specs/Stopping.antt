@@ -14,7 +14,7 @@ use Rattle.tree_walk.specs.declared.errors.WalkError.TheVariants as walked
 use Rattle.run_report.specs.declared.stops.Trouble.TheVariants as trouble
 use Rattle.run_report.specs.declared.stops.Stop.{Stop}
 use Rattle.run_report.specs.declared.stops.Stop.TheVariants as stop
-use Rattle.run_report.specs.Sides.{Side, side_of}
+use Rattle.run_report.specs.Sides.{Side, side_with}
 use Rattle.run_entries.specs.declared.saving.Output.{Output}
 use Rattle.run_entries.specs.Choosing.{newer_in, tests_in, chosen_of}
 use Rattle.run_entries.specs.Entries.{Walked, Surveyed}
@@ -64,7 +64,7 @@ pub record StopsAfterLooks (start : Origin) (choice : Option Choice) (before aft
   pub between : ℕ
   pub looked : AreLooks before.tree (newer_in choice) looks before.count between
   pub later : between ≤ after.count
-  pub stops : StopsListing start (side_of before.tree between) after why
+  pub stops : StopsListing start (side_with before.tree between) after why
 
 -- nothing was found: for want of memory, or since the entries were not listed
 abbrev pub StopsFinding : Origin → Option Choice → Side → Side → Stop → Type 0
@@ -109,10 +109,10 @@ pub record StopsAfterListing (start : Origin) (choice : Option Choice) (output :
   pub looks : List Look
   pub entries : List Entry
   pub between : ℕ
-  pub survey : Surveyed start choice before (side_of before.tree between) looks entries
+  pub survey : Surveyed start choice before (side_with before.tree between) looks entries
   pub later : between ≤ after.count
   pub now : ℕ
-  pub stops : StopsSaving (output_of output (chosen_of (tests_in choice) looks now entries)) (side_of before.tree between) after why
+  pub stops : StopsSaving (output_of output (chosen_of (tests_in choice) looks now entries)) (side_with before.tree between) after why
 
 -- why a walk gave no list
 abbrev pub stop_by : WalkError → Stop

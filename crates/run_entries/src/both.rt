@@ -52,9 +52,9 @@ where
     requires left { refusal left_top ≡ None }
     requires right { refusal right_top ≡ None }
     ensures tops { IfOk result (λ sides. (sides.left_top ≡ left_top) × (sides.right_top ≡ right_top)) }
-    ensures walks { IfOk result (λ sides. WalksBoth left_top right_top sides.left sides.right (side_of (G.tree files.old) (G.count files.old)) (side_of (G.tree files.new) (G.count files.new))) }
+    ensures walks { IfOk result (λ sides. WalksBoth left_top right_top sides.left sides.right (side_of G.Plot files.old) (side_of G.Plot files.new)) }
     ensures are { IfOk result (AreSides (G.tree files.old)) }
-    ensures stopped { IfErr result (StopsWalking left_top right_top (side_of (G.tree files.old) (G.count files.old)) (side_of (G.tree files.new) (G.count files.new))) }
+    ensures stopped { IfErr result (StopsWalking left_top right_top (side_of G.Plot files.old) (side_of G.Plot files.new)) }
     ensures same { G.tree files.new ≡ G.tree files.old }
     ensures area { G.area files.new ≡ G.area files.old }
     ensures count { RoseBy 0 (G.count files.old) (G.count files.new) }
@@ -81,12 +81,12 @@ where
     G::Reader: Send,
     requires within { CommonWithin common.now }
     requires top { refusal top.now ≡ None }
-    ensures walked { IfOk result (λ list. Walked (top.now ∷ []) list (side_of (G.tree files.old) (G.count files.old)) (side_of (G.tree files.new) (G.count files.new))) }
+    ensures walked { IfOk result (λ list. Walked (top.now ∷ []) list (side_of G.Plot files.old) (side_of G.Plot files.new)) }
     ensures few { IfOk result (λ list. length list ≤ 4194304) }
     ensures side { IfOk result (λ list. IsSide (side top.now list)) }
     ensures told { IfOk result (λ list. IfSome (G.tree files.old) (λ tree. StatsTold tree list)) }
     ensures shaped { IfOk result (All (λ e. is_shaped e ≡ true)) }
-    ensures stopped { IfErr result (StopsListing (roots (top.now ∷ [])) (side_of (G.tree files.old) (G.count files.old)) (side_of (G.tree files.new) (G.count files.new))) }
+    ensures stopped { IfErr result (StopsListing (roots (top.now ∷ [])) (side_of G.Plot files.old) (side_of G.Plot files.new)) }
     ensures same { G.tree files.new ≡ G.tree files.old }
     ensures area { G.area files.new ≡ G.area files.old }
     ensures count { RoseBy 0 (G.count files.old) (G.count files.new) }

@@ -38,10 +38,11 @@ pub fn find<T: Threads + Wait + Sync, G: Ground>(
 where
     G::Reader: Send,
     requires within { CommonWithin common.now }
-    ensures finds { IfOk result (λ found. Finds common.now (start_in start) (option_map choice_in choice) now (side_of (G.tree files.old) (G.count files.old)) (side_of (G.tree files.new) (G.count files.new)) found.chosen found.notes.items found.account) }
+    ensures finds { IfOk result (λ found. Finds common.now (start_in start) (option_map choice_in choice) now
+        (side_of G.Plot files.old) (side_of G.Plot files.new) found.chosen found.notes.items found.account) }
     ensures ascend { IfOk result (λ found. IsStrictlySortedBy path_cmp (paths found.chosen)) }
     ensures shaped { IfOk result (λ found. All (λ e. is_shaped e ≡ true) found.chosen) }
-    ensures stopped { IfErr result (StopsFinding (start_in start) (option_map choice_in choice) (side_of (G.tree files.old) (G.count files.old)) (side_of (G.tree files.new) (G.count files.new))) }
+    ensures stopped { IfErr result (StopsFinding (start_in start) (option_map choice_in choice) (side_of G.Plot files.old) (side_of G.Plot files.new)) }
     ensures same { G.tree files.new ≡ G.tree files.old }
     ensures area { G.area files.new ≡ G.area files.old }
     ensures count { RoseBy 0 (G.count files.old) (G.count files.new) }
@@ -64,10 +65,11 @@ fn find_all<T: Threads + Wait + Sync, G: Ground>(
 where
     G::Reader: Send,
     requires within { CommonWithin common.now }
-    ensures finds { IfOk result (λ found. Finds common.now (start_in start) None now (side_of (G.tree files.old) (G.count files.old)) (side_of (G.tree files.new) (G.count files.new)) found.chosen found.notes.items found.account) }
+    ensures finds { IfOk result (λ found. Finds common.now (start_in start) None now
+        (side_of G.Plot files.old) (side_of G.Plot files.new) found.chosen found.notes.items found.account) }
     ensures ascend { IfOk result (λ found. IsStrictlySortedBy path_cmp (paths found.chosen)) }
     ensures shaped { IfOk result (λ found. All (λ e. is_shaped e ≡ true) found.chosen) }
-    ensures stopped { IfErr result (StopsFinding (start_in start) None (side_of (G.tree files.old) (G.count files.old)) (side_of (G.tree files.new) (G.count files.new))) }
+    ensures stopped { IfErr result (StopsFinding (start_in start) None (side_of G.Plot files.old) (side_of G.Plot files.new)) }
     ensures same { G.tree files.new ≡ G.tree files.old }
     ensures area { G.area files.new ≡ G.area files.old }
     ensures count { RoseBy 0 (G.count files.old) (G.count files.new) }
@@ -91,10 +93,11 @@ fn find_chosen<T: Threads + Wait + Sync, G: Ground>(
 where
     G::Reader: Send,
     requires within { CommonWithin common.now }
-    ensures finds { IfOk result (λ found. Finds common.now (start_in start) (Some (choice_in choice)) now (side_of (G.tree files.old) (G.count files.old)) (side_of (G.tree files.new) (G.count files.new)) found.chosen found.notes.items found.account) }
+    ensures finds { IfOk result (λ found. Finds common.now (start_in start) (Some (choice_in choice)) now
+        (side_of G.Plot files.old) (side_of G.Plot files.new) found.chosen found.notes.items found.account) }
     ensures ascend { IfOk result (λ found. IsStrictlySortedBy path_cmp (paths found.chosen)) }
     ensures shaped { IfOk result (λ found. All (λ e. is_shaped e ≡ true) found.chosen) }
-    ensures stopped { IfErr result (StopsFinding (start_in start) (Some (choice_in choice)) (side_of (G.tree files.old) (G.count files.old)) (side_of (G.tree files.new) (G.count files.new))) }
+    ensures stopped { IfErr result (StopsFinding (start_in start) (Some (choice_in choice)) (side_of G.Plot files.old) (side_of G.Plot files.new)) }
     ensures same { G.tree files.new ≡ G.tree files.old }
     ensures area { G.area files.new ≡ G.area files.old }
     ensures count { RoseBy 0 (G.count files.old) (G.count files.new) }

@@ -21,11 +21,11 @@ use std::alloc::Global;
 
 /// The list in the file at the path.
 pub fn read_list<G: Ground>(alloc: Global, files: &mut G, path: Path) -> Result<FlatList, Stop>
-    ensures read { IfOk result (λ list. IsRead path list (side_of (G.tree files.old) (G.count files.old))) }
+    ensures read { IfOk result (λ list. IsRead path list (side_of G.Plot files.old)) }
     ensures few { IfOk result (λ list. length list ≤ 4194304) }
     ensures ascend { IfOk result (λ list. IsStrictlySortedBy path_cmp (paths list)) }
     ensures shaped { IfOk result (λ list. All (λ e. is_shaped e ≡ true) list) }
-    ensures stopped { IfErr result (StopsListing (input path) (side_of (G.tree files.old) (G.count files.old)) (side_of (G.tree files.new) (G.count files.new))) }
+    ensures stopped { IfErr result (StopsListing (input path) (side_of G.Plot files.old) (side_of G.Plot files.new)) }
     ensures same { G.tree files.new ≡ G.tree files.old }
     ensures area { G.area files.new ≡ G.area files.old }
     ensures count { RoseBy 0 (G.count files.old) (G.count files.new) }

@@ -38,7 +38,7 @@ pub fn save_list<G: Ground>(
     requires shaped { All (λ e. is_shaped e ≡ true) list.now }
     ensures saved { OnOk result (Saved (output_of output list.now) (G.tree files.old) (G.tree files.new)) }
     ensures rest { SameButOutputs (option_to_list output) (G.tree files.old) (G.tree files.new) }
-    ensures stopped { IfErr result (StopsSaving (output_of output list.now) (side_of (G.tree files.old) (G.count files.old)) (side_of (G.tree files.new) (G.count files.new))) }
+    ensures stopped { IfErr result (StopsSaving (output_of output list.now) (side_of G.Plot files.old) (side_of G.Plot files.new)) }
     ensures lent { G.area files.new ≡ nothing_lent }
     ensures count { RoseBy 0 (G.count files.old) (G.count files.new) }
 {
@@ -58,7 +58,7 @@ pub fn save_lists<G: Ground>(alloc: Global, files: &mut G, outputs: &[Output]) -
     requires shaped { All (λ o. All (λ e. is_shaped e ≡ true) o.list) outputs.now }
     ensures saved { OnOk result (Saved outputs.now (G.tree files.old) (G.tree files.new)) }
     ensures rest { SameButOutputs (map (λ o. o.path) outputs.now) (G.tree files.old) (G.tree files.new) }
-    ensures stopped { IfErr result (StopsSaving outputs.now (side_of (G.tree files.old) (G.count files.old)) (side_of (G.tree files.new) (G.count files.new))) }
+    ensures stopped { IfErr result (StopsSaving outputs.now (side_of G.Plot files.old) (side_of G.Plot files.new)) }
     ensures lent { G.area files.new ≡ nothing_lent }
     ensures count { RoseBy 0 (G.count files.old) (G.count files.new) }
 {
@@ -83,7 +83,7 @@ fn save_at<G: Ground>(
     ensures saved { OnOk result (SavedAt (record { path = path.now; list = list.now }) (G.tree files.old) (G.tree files.new)) }
     ensures tells { is_some (G.tree files.new) ≡ is_some (G.tree files.old) }
     ensures rest { IfSome (G.tree files.old) (λ old. IfSome (G.tree files.new) (SameBut path.now old)) }
-    ensures stopped { IfErr result (StopsAt (record { path = path.now; list = list.now }) (side_of (G.tree files.old) (G.count files.old)) (side_of (G.tree files.new) (G.count files.new))) }
+    ensures stopped { IfErr result (StopsAt (record { path = path.now; list = list.now }) (side_of G.Plot files.old) (side_of G.Plot files.new)) }
     ensures lent { G.area files.new ≡ nothing_lent }
     ensures count { RoseBy 0 (G.count files.old) (G.count files.new) }
 {

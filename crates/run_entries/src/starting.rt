@@ -37,13 +37,13 @@ pub(crate) fn list_from<T: Threads + Wait + Sync, G: Ground>(
 where
     G::Reader: Send,
     requires within { CommonWithin common.now }
-    ensures listed { IfOk result (λ entries. Listed (start_in start) entries.list (side_of (G.tree files.old) (G.count files.old)) (side_of (G.tree files.new) (G.count files.new))) }
-    ensures told { IfOk result (λ entries. (listed : Listed (start_in start) entries.list (side_of (G.tree files.old) (G.count files.old)) (side_of (G.tree files.new) (G.count files.new)))
-        × Tells common.now (start_in start) entries.list (side_of (G.tree files.old) (G.count files.old)) (side_of (G.tree files.new) (G.count files.new)) listed entries.account) }
+    ensures listed { IfOk result (λ entries. Listed (start_in start) entries.list (side_of G.Plot files.old) (side_of G.Plot files.new)) }
+    ensures told { IfOk result (λ entries. (listed : Listed (start_in start) entries.list (side_of G.Plot files.old) (side_of G.Plot files.new))
+        × Tells common.now (start_in start) entries.list (side_of G.Plot files.old) (side_of G.Plot files.new) listed entries.account) }
     ensures few { IfOk result (λ entries. length entries.list ≤ 4194304) }
     ensures ascend { IfOk result (λ entries. IsStrictlySortedBy path_cmp (paths entries.list)) }
     ensures shaped { IfOk result (λ entries. All (λ e. is_shaped e ≡ true) entries.list) }
-    ensures stopped { IfErr result (StopsListing (start_in start) (side_of (G.tree files.old) (G.count files.old)) (side_of (G.tree files.new) (G.count files.new))) }
+    ensures stopped { IfErr result (StopsListing (start_in start) (side_of G.Plot files.old) (side_of G.Plot files.new)) }
     ensures same { G.tree files.new ≡ G.tree files.old }
     ensures area { G.area files.new ≡ G.area files.old }
     ensures count { RoseBy 0 (G.count files.old) (G.count files.new) }
@@ -69,13 +69,13 @@ pub fn walk_side<T: Threads + Wait + Sync, G: Ground>(
 where
     G::Reader: Send,
     requires within { CommonWithin common.now }
-    ensures walked { IfOk result (λ entries. Walked given.items entries.list (side_of (G.tree files.old) (G.count files.old)) (side_of (G.tree files.new) (G.count files.new))) }
-    ensures told { IfOk result (λ entries. (walked : Walked given.items entries.list (side_of (G.tree files.old) (G.count files.old)) (side_of (G.tree files.new) (G.count files.new)))
+    ensures walked { IfOk result (λ entries. Walked given.items entries.list (side_of G.Plot files.old) (side_of G.Plot files.new)) }
+    ensures told { IfOk result (λ entries. (walked : Walked given.items entries.list (side_of G.Plot files.old) (side_of G.Plot files.new))
         × IsAccount common.now (G.tree files.old) walked.roots entries.list entries.account) }
     ensures few { IfOk result (λ entries. length entries.list ≤ 4194304) }
     ensures ascend { IfOk result (λ entries. IsStrictlySortedBy path_cmp (paths entries.list)) }
     ensures shaped { IfOk result (λ entries. All (λ e. is_shaped e ≡ true) entries.list) }
-    ensures stopped { IfErr result (StopsListing (roots given.items) (side_of (G.tree files.old) (G.count files.old)) (side_of (G.tree files.new) (G.count files.new))) }
+    ensures stopped { IfErr result (StopsListing (roots given.items) (side_of G.Plot files.old) (side_of G.Plot files.new)) }
     ensures same { G.tree files.new ≡ G.tree files.old }
     ensures area { G.area files.new ≡ G.area files.old }
     ensures count { RoseBy 0 (G.count files.old) (G.count files.new) }
@@ -107,13 +107,13 @@ fn walked<T: Threads + Wait + Sync, G: Ground>(
 where
     G::Reader: Send,
     requires within { CommonWithin common.now }
-    ensures walked { IfOk result (λ entries. Walked given.items entries.list (side_of (G.tree files.old) (G.count files.old)) (side_of (G.tree files.new) (G.count files.new))) }
-    ensures told { IfOk result (λ entries. (walked : Walked given.items entries.list (side_of (G.tree files.old) (G.count files.old)) (side_of (G.tree files.new) (G.count files.new)))
+    ensures walked { IfOk result (λ entries. Walked given.items entries.list (side_of G.Plot files.old) (side_of G.Plot files.new)) }
+    ensures told { IfOk result (λ entries. (walked : Walked given.items entries.list (side_of G.Plot files.old) (side_of G.Plot files.new))
         × IsAccount common.now (G.tree files.old) walked.roots entries.list entries.account) }
     ensures few { IfOk result (λ entries. length entries.list ≤ 4194304) }
     ensures ascend { IfOk result (λ entries. IsStrictlySortedBy path_cmp (paths entries.list)) }
     ensures shaped { IfOk result (λ entries. All (λ e. is_shaped e ≡ true) entries.list) }
-    ensures too_many { IfErr result (λ e. IfTooMany e (λ n. IsTooLongWalk given.items (side_of (G.tree files.old) (G.count files.old)) (side_of (G.tree files.new) (G.count files.new)))) }
+    ensures too_many { IfErr result (λ e. IfTooMany e (λ n. IsTooLongWalk given.items (side_of G.Plot files.old) (side_of G.Plot files.new))) }
     ensures same { G.tree files.new ≡ G.tree files.old }
     ensures area { G.area files.new ≡ G.area files.old }
     ensures count { RoseBy 0 (G.count files.old) (G.count files.new) }

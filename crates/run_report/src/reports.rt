@@ -23,16 +23,16 @@ impl Report {
     /// Writes both texts. Nothing goes to `notes` after a fault of `out`.
     pub fn put<O: Sink, E: Sink>(&self, out: &mut O, notes: &mut E) -> Status
         ensures done { result ≡ Status.Done → (self.now.failed ≡ 0)
-            × Printed self.now (stream_of (O.text out.old) (O.count out.old)) (stream_of (O.text out.new) (O.count out.new))
-            (stream_of (E.text notes.old) (E.count notes.old)) (stream_of (E.text notes.new) (E.count notes.new)) }
+            × Printed self.now (stream_of O.Sink out.old) (stream_of O.Sink out.new)
+            (stream_of E.Sink notes.old) (stream_of E.Sink notes.new) }
         ensures named { result ≡ Status.Named → (0 < self.now.failed)
-            × Printed self.now (stream_of (O.text out.old) (O.count out.old)) (stream_of (O.text out.new) (O.count out.new))
-            (stream_of (E.text notes.old) (E.count notes.old)) (stream_of (E.text notes.new) (E.count notes.new)) }
+            × Printed self.now (stream_of O.Sink out.old) (stream_of O.Sink out.new)
+            (stream_of E.Sink notes.old) (stream_of E.Sink notes.new) }
         ensures sink { result ≡ Status.Sink → (RoseBy 1 (O.count out.old) (O.count out.new)
-            × GrewBySome self.now.out (stream_of (O.text out.old) (O.count out.old)) (stream_of (O.text out.new) (O.count out.new)) × (notes.new ≡ notes.old))
+            × GrewBySome self.now.out (stream_of O.Sink out.old) (stream_of O.Sink out.new) × (notes.new ≡ notes.old))
             ⊎ (RoseBy 1 (E.count notes.old) (E.count notes.new)
-            × Grew self.now.out (stream_of (O.text out.old) (O.count out.old)) (stream_of (O.text out.new) (O.count out.new))
-            × GrewBySome self.now.notes (stream_of (E.text notes.old) (E.count notes.old)) (stream_of (E.text notes.new) (E.count notes.new))) }
+            × Grew self.now.out (stream_of O.Sink out.old) (stream_of O.Sink out.new)
+            × GrewBySome self.now.notes (stream_of E.Sink notes.old) (stream_of E.Sink notes.new)) }
         ensures which { (result ≡ Status.Done) ⊎ ((result ≡ Status.Named) ⊎ (result ≡ Status.Sink)) }
 
         // If no sink fails, a report without failures ends well.

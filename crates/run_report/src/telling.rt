@@ -19,8 +19,8 @@ use tool_words::{Cause, Refusal, WordsError};
 // the same if the sink fails.
 fn end_with<E: Sink>(notes: &mut E, line: Result<Text, OutOfMemory>, status: Status) -> Status
     ensures status { OnOk line (result ≡ status) }
-    ensures line { IfOk line (λ text. GrewByLine text (stream_of (E.text notes.old) (E.count notes.old)) (stream_of (E.text notes.new) (E.count notes.new))) }
-    ensures memory { OnErr line ((result ≡ Status.Memory) × GrewByLine memory_line (stream_of (E.text notes.old) (E.count notes.old)) (stream_of (E.text notes.new) (E.count notes.new))) }
+    ensures line { IfOk line (λ text. GrewByLine text (stream_of E.Sink notes.old) (stream_of E.Sink notes.new)) }
+    ensures memory { OnErr line ((result ≡ Status.Memory) × GrewByLine memory_line (stream_of E.Sink notes.old) (stream_of E.Sink notes.new)) }
     ensures count { RoseBy 0 (E.count notes.old) (E.count notes.new) }
 {
     match line {
@@ -37,7 +37,7 @@ fn end_with<E: Sink>(notes: &mut E, line: Result<Text, OutOfMemory>, status: Sta
 
 // Puts a line, or as much of it as a sink takes before it fails.
 fn put_or_fail<E: Sink>(notes: &mut E, line: &[u8])
-    ensures line { GrewByLine line.now (stream_of (E.text notes.old) (E.count notes.old)) (stream_of (E.text notes.new) (E.count notes.new)) }
+    ensures line { GrewByLine line.now (stream_of E.Sink notes.old) (stream_of E.Sink notes.new) }
     ensures count { RoseBy 0 (E.count notes.old) (E.count notes.new) }
 {
     let _ = put_all(notes, line);
@@ -45,7 +45,7 @@ fn put_or_fail<E: Sink>(notes: &mut E, line: &[u8])
 
 /// Ends a run whose words are refused, with the line of the offence; or, if it is out of memory, with the line of status 3.
 pub fn end_refused<E: Sink>(alloc: Global, notes: &mut E, why: WordsError) -> Status
-    ensures told { ToldRefusal (refusal_in why) result (stream_of (E.text notes.old) (E.count notes.old)) (stream_of (E.text notes.new) (E.count notes.new)) }
+    ensures told { ToldRefusal (refusal_in why) result (stream_of E.Sink notes.old) (stream_of E.Sink notes.new) }
     ensures count { RoseBy 0 (E.count notes.old) (E.count notes.new) }
 {
     match why.refusal() {
@@ -55,7 +55,7 @@ pub fn end_refused<E: Sink>(alloc: Global, notes: &mut E, why: WordsError) -> St
 }
 
 fn end_by<E: Sink>(alloc: Global, notes: &mut E, refusal: Refusal) -> Status
-    ensures told { ToldRefusal (Some refusal) result (stream_of (E.text notes.old) (E.count notes.old)) (stream_of (E.text notes.new) (E.count notes.new)) }
+    ensures told { ToldRefusal (Some refusal) result (stream_of E.Sink notes.old) (stream_of E.Sink notes.new) }
     ensures count { RoseBy 0 (E.count notes.old) (E.count notes.new) }
 {
     end_with(notes, refusal_line(alloc, refusal), Status::Words)
@@ -87,7 +87,7 @@ fn cause_text(cause: Cause) -> &'static str
 
 /// Ends a run that stopped, with its line; or, if it is out of memory for that, with the line of status 3.
 pub fn end_stopped<E: Sink>(alloc: Global, notes: &mut E, stop: Stop) -> Status
-    ensures told { Told stop result (stream_of (E.text notes.old) (E.count notes.old)) (stream_of (E.text notes.new) (E.count notes.new)) }
+    ensures told { Told stop result (stream_of E.Sink notes.old) (stream_of E.Sink notes.new) }
     ensures count { RoseBy 0 (E.count notes.old) (E.count notes.new) }
 {
     let status = status_of(&stop);

@@ -23,7 +23,7 @@ use Rattle.tree_walk.proofs.Same.{same_paths}
 use Rattle.tree_walk.proofs.Standing.{in_list, of_all}
 use Rattle.tree_walk.proofs.Lists.{weaker}
 use Rattle.run_report.specs.declared.reports.Report.{Report}
-use Rattle.run_report.specs.Sides.{Side, side_of}
+use Rattle.run_report.specs.Sides.{Side, side_with}
 use Rattle.run_entries.specs.Choosing.{newer_in, tests_in, chosen_of}
 use Rattle.run_entries.specs.Entries.{Walked, Listed, InOrder}
 use Rattle.run_entries.specs.Naming.{failures_in}
@@ -85,8 +85,8 @@ whole one listed now first last report files given starts told valid are begins 
     let looks : r.finds.looks ≡ [] =
     no_looks r.finds.looks (recursion_from_All (λ (l : Look). Contains [] l.path) r.finds.looks
     (subst (λ choice. All (λ (l : Look). Contains (newer_in choice) l.path) r.finds.looks) all looked.none_else)) in
-    let w : Walked given r.finds.entries (side_of first.tree survey.between) (side_of first.tree r.found) =
-    subst (λ start. Listed start r.finds.entries (side_of first.tree survey.between) (side_of first.tree r.found)) begins survey.listed in
+    let w : Walked given r.finds.entries (side_with first.tree survey.between) (side_with first.tree r.found) =
+    subst (λ start. Listed start r.finds.entries (side_with first.tree survey.between) (side_with first.tree r.found)) begins survey.listed in
     let same : w.roots ≡ starts = one given w.roots starts valid w.are are in
     let is = of_told (λ files. AreWalks files w.roots r.finds.entries) first.tree files told w.told in
     let walks = walk_of files starts r.finds.entries are.ascend (subst (λ rs. AreWalks files rs r.finds.entries) same is) in

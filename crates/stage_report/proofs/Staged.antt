@@ -14,7 +14,7 @@ use Rattle.tree_walk.specs.Found.{max_entries}
 use Rattle.run_report.specs.declared.reports.Report.{Report}
 use Rattle.run_report.specs.declared.stops.Stop.{Stop}
 use Rattle.run_report.specs.declared.stops.Stop.TheVariants as stop
-use Rattle.run_report.specs.Sides.{Side, side_of}
+use Rattle.run_report.specs.Sides.{Side, side_with}
 use Rattle.run_entries.specs.declared.accounts.Account.{Account}
 use Rattle.run_entries.specs.Entries.{InOrder, notes_text}
 use Rattle.run_entries.specs.Naming.{failures_in}
@@ -91,7 +91,7 @@ not_saved asked before walked after w list account why is later stops =
       finished = whole.is;
       few = whole.few;
       later = later;
-      stops = subst (λ t. StopsSaving (output_of asked.output list) (side_of t walked.count) after why) w.same stops;
+      stops = subst (λ t. StopsSaving (output_of asked.output list) (side_with t walked.count) after why) w.same stops;
     }))))
 
 -- a checkpoint is to be written: of this list, and of the strings that each rank left
@@ -130,9 +130,9 @@ not_kept asked before walked after list handled strings why off later stops =
       cut = off.cut;
       few = off.few;
       later = later;
-      stops = subst (λ n. StopsWriting asked.lists n list (side_of before.tree walked.count) after why)
+      stops = subst (λ n. StopsWriting asked.lists n list (side_with before.tree walked.count) after why)
           (sym (length-map strings (λ strings. strings.items)))
-          (subst (λ t. StopsWriting asked.lists (length strings) list (side_of t walked.count) after why) off.same stops);
+          (subst (λ t. StopsWriting asked.lists (length strings) list (side_with t walked.count) after why) off.same stops);
     })))))
 
 -- it was

@@ -4,7 +4,7 @@ use Rattle.flat_list.specs.declared.entries.Entry.{Entry}
 use Rattle.circle_lists.specs.declared.errors.ListsError.{ListsError}
 use Rattle.circle_lists.specs.declared.errors.ListsError.TheVariants as error
 use Rattle.run_report.specs.declared.stops.Stop.TheVariants as stop
-use Rattle.run_report.specs.Sides.{Side, side_of}
+use Rattle.run_report.specs.Sides.{Side, side_with}
 use Rattle.checkpoints.specs.Stopping.{stop_by, StopsReading, StopsWriting, WroteNoRanks, WroteNoList}
 use Rattle.stage_report.specs.Laws.{StoppedStagesAreKept}
 
@@ -45,5 +45,5 @@ stopped_are_kept asked before after handled left (inr (inr (inl long))) = cc (lo
 stopped_are_kept asked before after handled left (inr (inr (inr (inl unsaved)))) = absurd unsaved.stops.stops
 stopped_are_kept asked before after handled left (inr (inr (inr (inr (inl unkept))))) =
     absurd
-    (by_writing asked.lists (length unkept.left) unkept.list (side_of before.tree unkept.found) after handled left unkept.stops)
+    (by_writing asked.lists (length unkept.left) unkept.list (side_with before.tree unkept.found) after handled left unkept.stops)
 stopped_are_kept asked before after handled left (inr (inr (inr (inr (inr kept))))) = kept

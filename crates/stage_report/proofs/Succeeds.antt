@@ -16,7 +16,7 @@ use Rattle.tree_walk.specs.Cut.{IsTooMany}
 use Rattle.run_report.specs.declared.reports.Report.{Report}
 use Rattle.run_report.specs.declared.stops.Stop.{Stop}
 use Rattle.run_report.specs.declared.stops.Stop.TheVariants as stop
-use Rattle.run_report.specs.Sides.{Side, side_of}
+use Rattle.run_report.specs.Sides.{Side, side_with}
 use Rattle.run_entries.specs.declared.saving.Output.{Output}
 use Rattle.run_entries.specs.Fine.{FinePlacesStopForMemory}
 use Rattle.run_entries.specs.Saving.{output_of}
@@ -114,7 +114,7 @@ has_place files (Some path) list can = All-from_recursion (λ (o : Output). can_
 no_saving : {asked : StageAsked} {before after : Side} (s : IsFineStage asked before after) (why : Stop) → StopsSavingStage asked before after why →
     why ≡ stop.OutOfMemory
 no_saving {asked} {before} {after} s why b =
-    s.laws.places (output_of asked.output b.list) s.fine.files (side_of before.tree b.found) after why s.fine.told
+    s.laws.places (output_of asked.output b.list) s.fine.files (side_with before.tree b.found) after why s.fine.told
     (has_place s.fine.files asked.output b.list s.fine.place) (after_still s b.begun b.found b.finished.walked.counted.kept b.later) b.stops
 
 no_keeping : {asked : StageAsked} {before after : Side} (s : IsFineStage asked before after) (why : Stop) → StopsKeeping asked before after why →
@@ -122,7 +122,7 @@ no_keeping : {asked : StageAsked} {before after : Side} (s : IsFineStage asked b
 no_keeping {asked} {before} {after} s why b =
     let room = subst (λ n. All (IsFree s.fine.files) (kept_paths n asked.lists asked.common.ranks)) b.cut.is_most s.fine.room in
     let places = subst (λ n. All (IsFree s.fine.files) (checkpoint_paths asked.lists n)) (sym b.cut.ranks) room in
-    s.laws.writes asked.lists (length b.left) b.list s.fine.files (side_of before.tree b.found) after why s.within.lists
+    s.laws.writes asked.lists (length b.left) b.list s.fine.files (side_with before.tree b.found) after why s.within.lists
     (omega (arith, b.cut.ranks, s.within.common.ranks.1)) s.fine.told (after_still s b.begun b.found b.cut.cut.counted.kept b.later) places b.stops
 
 abbrev InTime : StageAsked → Stop → Type 0

@@ -23,7 +23,7 @@ use Rattle.tree_walk.specs.Traced.{IsProgressTo}
 use Rattle.run_report.specs.declared.reports.Report.{Report}
 use Rattle.run_report.specs.declared.stops.Stop.{Stop}
 use Rattle.run_report.specs.declared.stops.Stop.TheVariants as stop
-use Rattle.run_report.specs.Sides.{Side, side_of}
+use Rattle.run_report.specs.Sides.{Side, side_with}
 use Rattle.run_entries.specs.declared.accounts.Account.{Account}
 use Rattle.run_entries.specs.Entries.{InOrder, notes_text}
 use Rattle.run_entries.specs.Fine.{IsFineWalk}
@@ -162,7 +162,7 @@ pub record StopsSavingStage (asked : StageAsked) (before after : Side) (why : St
   pub finished : IsFinished asked.stop_after asked.common before.tree begun.done begun.starts begun.count found list account
   pub few : length list ≤ max_entries
   pub later : found ≤ after.count
-  pub stops : StopsSaving (output_of asked.output list) (side_of before.tree found) after why
+  pub stops : StopsSaving (output_of asked.output list) (side_with before.tree found) after why
 
 -- the checkpoint of a walk that was cut was not written
 pub record StopsKeeping (asked : StageAsked) (before after : Side) (why : Stop) : Type 0 where
@@ -174,7 +174,7 @@ pub record StopsKeeping (asked : StageAsked) (before after : Side) (why : Stop) 
   pub cut : IsCutOff asked.stop_after asked.common before.tree begun.done begun.starts begun.count found handled list left
   pub few : length list ≤ max_entries
   pub later : found ≤ after.count
-  pub stops : StopsWriting asked.lists (length left) list (side_of before.tree found) after why
+  pub stops : StopsWriting asked.lists (length left) list (side_with before.tree found) after why
 
 -- it was written: all done entries and all left strings. The line counts the strings and the paths that this stage handled
 pub record IsStopped (asked : StageAsked) (before after : Side) (why : Stop) : Type 0 where

@@ -31,12 +31,12 @@ pub(crate) fn begin_stage<G: Ground>(
     lists: &Path,
 ) -> Result<Beginning, Stop>
     ensures begins { IfOk result (λ b. Begins (option_map (λ paths. paths.items) given) lists.now
-        (side_of (G.tree files.old) (G.count files.old)) b.done b.starts.items) }
+        (side_of G.Plot files.old) b.done b.starts.items) }
     ensures apart { IfOk result (λ b. Apart b.starts.items) }
     ensures beside { IfOk result (λ b. IsBeside b.done b.starts.items) }
     ensures writable { IfOk result (λ b. IsWritable b.done) }
     ensures stopped { IfErr result (λ why. (why ≡ Stop.OutOfMemory) ⊎ ((option_map (λ paths. paths.items) given ≡ None)
-        × StopsReading lists.now (side_of (G.tree files.old) (G.count files.old)) (side_of (G.tree files.new) (G.count files.new)) why)) }
+        × StopsReading lists.now (side_of G.Plot files.old) (side_of G.Plot files.new) why)) }
     ensures same { G.tree files.new ≡ G.tree files.old }
     ensures area { G.area files.new ≡ G.area files.old }
     ensures count { RoseBy 0 (G.count files.old) (G.count files.new) }

@@ -35,8 +35,8 @@ pub(crate) fn keep<G: Ground>(
     requires shaped { All (λ e. is_shaped e ≡ true) done.now }
     ensures named { IfOk result (λ why. why ≡ Stop.Stopped handled (length (all_of (map (λ list. list.items) left.now)))) }
     ensures kept { OnOk result (IfSome (G.tree files.new) (IsKept lists.now done.now (map (λ list. list.items) left.now))) }
-    ensures stopped { IfErr result (StopsWriting lists.now (length left.now) done.now (side_of (G.tree files.old) (G.count files.old))
-        (side_of (G.tree files.new) (G.count files.new))) }
+    ensures stopped { IfErr result (StopsWriting lists.now (length left.now) done.now (side_of G.Plot files.old)
+        (side_of G.Plot files.new)) }
     ensures tells { is_some (G.tree files.new) ≡ is_some (G.tree files.old) }
     ensures rest { IfSome (G.tree files.old) (λ old. IfSome (G.tree files.new) (SameButAll (checkpoint_paths lists.now (length left.now)) old)) }
     ensures lent { G.area files.new ≡ nothing_lent }

@@ -51,10 +51,10 @@ where
     G::Reader: Send,
     requires lent { G.area files.old ≡ nothing_lent }
     requires within { WithinStage (stage_asked task) }
-    ensures reports { IfOk result (ReportsStage (stage_asked task) (side_of (G.tree files.old) (G.count files.old))
-        (side_of (G.tree files.new) (G.count files.new))) }
-    ensures stops { IfErr result (StopsStage (stage_asked task) (side_of (G.tree files.old) (G.count files.old))
-        (side_of (G.tree files.new) (G.count files.new))) }
+    ensures reports { IfOk result (ReportsStage (stage_asked task) (side_of G.Plot files.old)
+        (side_of G.Plot files.new)) }
+    ensures stops { IfErr result (StopsStage (stage_asked task) (side_of G.Plot files.old)
+        (side_of G.Plot files.new)) }
     ensures leaves { LeavesStage (stage_asked task) (G.tree files.old) (G.tree files.new) }
     ensures lent { G.area files.new ≡ nothing_lent }
     ensures count { RoseBy 0 (G.count files.old) (G.count files.new) }
@@ -96,10 +96,10 @@ where
     G::Reader: Send,
     requires within { CommonWithin common.now }
     ensures walks { IfOk result (Walks (option_map (λ paths. paths.items) starts) lists.now stop_after common.now
-        (side_of (G.tree files.old) (G.count files.old)) (side_of (G.tree files.new) (G.count files.new))) }
+        (side_of G.Plot files.old) (side_of G.Plot files.new)) }
     ensures writable { IfOk result (λ stage. IsWritable (list_in stage)) }
     ensures stopped { IfErr result (WalksNot (option_map (λ paths. paths.items) starts) lists.now stop_after common.now
-        (side_of (G.tree files.old) (G.count files.old)) (side_of (G.tree files.new) (G.count files.new))) }
+        (side_of G.Plot files.old) (side_of G.Plot files.new)) }
     ensures same { G.tree files.new ≡ G.tree files.old }
     ensures area { G.area files.new ≡ G.area files.old }
     ensures count { RoseBy 0 (G.count files.old) (G.count files.new) }

@@ -17,7 +17,7 @@ use Rattle.tree_walk.proofs.Inside.{in_itself}
 use Rattle.tree_walk.specs.Roots.{IsRoots, RootsAreUnique, is_in, is_in_some}
 use Rattle.tree_walk.specs.Told.{EntriesAreTold, EntriesHaveParents}
 use Rattle.tree_walk.specs.Walk.{WalkListsAll, answers_in, walk}
-use Rattle.run_report.specs.Sides.{Side, side_of}
+use Rattle.run_report.specs.Sides.{Side, side_with}
 use Rattle.run_entries.specs.Both.{AreSides, WalksBoth}
 use Rattle.run_entries.specs.Entries.{Walked}
 use Rattle.run_entries.specs.declared.both.Sides.{Sides}
@@ -57,9 +57,9 @@ one_root unique top list before after v w =
     unique (top ∷ []) w.roots (top ∷ []) (All-from_recursion (λ path. refusal path ≡ None) (top ∷ []) (v, tt)) w.are (own_root top)
 
 pub from_top : RootsAreUnique → (top : List ℕ) (list : List Entry) (files : Files) (n : ℕ) (after : Side) → refusal top ≡ None →
-    Walked (top ∷ []) list (side_of (Some files) n) after → (list ≡ walk files (answers_in list) top) × IsTree files
+    Walked (top ∷ []) list (side_with (Some files) n) after → (list ≡ walk files (answers_in list) top) × IsTree files
 from_top unique top list files n after v w =
-    let same = one_root unique top list (side_of (Some files) n) after v w in (
+    let same = one_root unique top list (side_with (Some files) n) after v w in (
       w.told ∙ ap (flat_map (walk files (answers_in list))) same ∙ append-nil (walk files (answers_in list) top),
       w.valid (omega (arith, ap length same)),
     )
@@ -77,11 +77,11 @@ module _ (laws : Laws) (pair : Pair) (sides : Sides) where
     dest : IsWalk files (answers_in sides.right) pair.target sides.right
 
   walks : (tree : Option Files) (n : ℕ) (after : Side) → IsPlaced pair tree → CanSync pair sides.left sides.right →
-      WalksBoth pair.source pair.target sides.left sides.right (side_of tree n) after → IfSome tree AreBoth
+      WalksBoth pair.source pair.target sides.left sides.right (side_with tree n) after → IfSome tree AreBoth
   walks None n after p can w = tt
   walks (Some files) n after p can w =
       let off = apart pair.source pair.target p.apart in
-      let source = from_top laws.unique pair.source sides.left files n (side_of (Some files) w.between) p.from w.source in
+      let source = from_top laws.unique pair.source sides.left files n (side_with (Some files) w.between) p.from w.source in
       let dest = from_top laws.unique pair.target sides.right files w.between after p.to w.destination in
       record {
         source = record {
@@ -115,7 +115,7 @@ module _ (laws : Laws) (pair : Pair) (sides : Sides) where
 
   pub ready : (tree : Option Files) (n : ℕ) (after : Side) → IsPlaced pair tree → AreSides tree sides →
       (sides.left_top ≡ pair.source) × (sides.right_top ≡ pair.target) →
-      WalksBoth pair.source pair.target sides.left sides.right (side_of tree n) after → IsReady pair sides.left sides.right tree
+      WalksBoth pair.source pair.target sides.left sides.right (side_with tree n) after → IsReady pair sides.left sides.right tree
   ready tree n after p are tops w =
       let can : CanSync pair sides.left sides.right = record {
         left = subst (λ t. IsSide (side t sides.left)) tops.0 are.left;

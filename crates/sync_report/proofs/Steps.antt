@@ -8,7 +8,7 @@ use Rattle.tree_sync.specs.Results.{Results}
 use Rattle.tree_sync.specs.Syncing.{SameOutside}
 use Rattle.tool_words.specs.Asked.{SyncAsked}
 use Rattle.run_report.specs.declared.stops.Stop.{Stop}
-use Rattle.run_report.specs.Sides.{Side, side_of}
+use Rattle.run_report.specs.Sides.{Side, side_with}
 use Rattle.run_entries.specs.Both.{StopsWalking, WalksBoth}
 use Rattle.sync_report.specs.Placing.{Places, Surveys}
 use Rattle.sync_report.specs.Syncing.{LeavesSync, StopsSync, Syncs, pair_of}
@@ -21,19 +21,19 @@ pub record Looked (pair : Pair) (before looked : Side) : Type 0 where
 
 -- and so do the walks
 pub surveys_by : (pair : Pair) (source dest : List Entry) (before looked walked : Side) → Looked pair before looked → walked.tree ≡ looked.tree →
-    WalksBoth pair.source pair.target source dest looked walked → Surveys pair before (side_of before.tree walked.count) source dest
+    WalksBoth pair.source pair.target source dest looked walked → Surveys pair before (side_with before.tree walked.count) source dest
 surveys_by pair source dest before looked walked l same w = record {
   places = l.places;
   between = looked.count;
   kept = l.kept;
-  walks = subst (λ t. WalksBoth pair.source pair.target source dest (side_of before.tree looked.count) (side_of t walked.count)) (same ∙ l.same)
-      (subst (λ t. WalksBoth pair.source pair.target source dest (side_of t looked.count) walked) l.same w);
+  walks = subst (λ t. WalksBoth pair.source pair.target source dest (side_with before.tree looked.count) (side_with t walked.count)) (same ∙ l.same)
+      (subst (λ t. WalksBoth pair.source pair.target source dest (side_with t looked.count) walked) l.same w);
 }
 
 pub syncs_by : (pair : Pair) (source dest : List Entry) (delete : Bool) (done : Results) (before walked after : Side) → walked.tree ≡ before.tree →
-    Syncs pair source dest delete done walked after → Syncs pair source dest delete done (side_of before.tree walked.count) after
+    Syncs pair source dest delete done walked after → Syncs pair source dest delete done (side_with before.tree walked.count) after
 syncs_by pair source dest delete done before walked after same s =
-    subst (λ t. Syncs pair source dest delete done (side_of t walked.count) after) same s
+    subst (λ t. Syncs pair source dest delete done (side_with t walked.count) after) same s
 
 -- a walk stopped
 pub stops_walking : (asked : SyncAsked) (before looked after : Side) (why : Stop) → Looked (pair_of asked) before looked → after.tree ≡ looked.tree →
@@ -44,7 +44,7 @@ stops_walking asked before looked after why l same later stops = inr (
     between = looked.count;
     kept = l.kept;
     later = later;
-    stops = subst (λ t. StopsWalking asked.source asked.dest (side_of t looked.count) after why) l.same stops;
+    stops = subst (λ t. StopsWalking asked.source asked.dest (side_with t looked.count) after why) l.same stops;
   }),
   same ∙ l.same,
 )

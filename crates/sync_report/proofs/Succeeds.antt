@@ -29,7 +29,7 @@ use Rattle.run_report.specs.declared.reports.Report.{Report}
 use Rattle.run_report.specs.declared.stops.Stop.{Stop}
 use Rattle.run_report.specs.declared.stops.Stop.TheVariants as stop
 use Rattle.run_report.specs.declared.stops.Trouble.TheVariants as trouble
-use Rattle.run_report.specs.Sides.{Side, side_of}
+use Rattle.run_report.specs.Sides.{Side, side_with}
 use Rattle.run_entries.specs.Entries.{Walked}
 use Rattle.run_entries.specs.Fine.{DoneNamesNothing, FineWalksNameNothing, FineWalksStopForMemory, StillCounts}
 use Rattle.run_entries.specs.Stopping.{IsTooLongWalk, StopsListing}
@@ -79,7 +79,7 @@ no_answer (e ∷ es) h p =
     ]
 
 pub whole_walk : RootsAreUnique → (top : List ℕ) (list : List Entry) (files : Files) (n : ℕ) (after : Side) → refusal top ≡ None →
-    Walked (top ∷ []) list (side_of (Some files) n) after → sum_by weight_of list ≡ 0 → (list ≡ walk files all_told top) × IsTree files
+    Walked (top ∷ []) list (side_with (Some files) n) after → sum_by weight_of list ≡ 0 → (list ≡ walk files all_told top) × IsTree files
 whole_walk unique top list files n after v w none =
     let is = from_top unique top list files n after v w in
     (is.0 ∙ (λ i. walk files (λ p. no_answer list none p i) top), is.1)
@@ -159,9 +159,9 @@ module _ (laws : Laws) (asked : SyncAsked) (before after : Side) (within : Withi
 
   -- the walk of a side, over files that counted nothing
   walk_is : (top : List ℕ) (list : List Entry) (from : ℕ) (until : Side) → Valid top → before.count ≤ from → until.count ≤ after.count →
-      Walked (top ∷ []) list (side_of before.tree from) until → (list ≡ walk files all_told top) × IsTree files
+      Walked (top ∷ []) list (side_with before.tree from) until → (list ≡ walk files all_told top) × IsTree files
   walk_is top list from until v a c w =
-      whole_walk laws.unique top list files from until v (subst (λ t. Walked (top ∷ []) list (side_of t from) until) fine.side.told w)
+      whole_walk laws.unique top list files from until v (subst (λ t. Walked (top ∷ []) list (side_with t from) until) fine.side.told w)
       (laws.still.none (sum_by weight_of list) from until.count w.counted (still_between from until.count a w.counted.kept c))
 
   own_top : fine.side.fine.roots ≡ asked.source ∷ []
@@ -180,16 +180,16 @@ module _ (laws : Laws) (asked : SyncAsked) (before after : Side) (within : Withi
       let b = w.source.counted.kept in
       let d = w.destination.counted.kept in
       let e = r.syncs.blamed.kept in
-      let source = walk_is asked.source r.source s.between (side_of before.tree w.between) within.source a (omega (arith, d, e)) w.source in
-      let dest = walk_is asked.dest r.dest w.between (side_of before.tree r.walked) within.dest (omega (arith, a, b)) e w.destination in
-      let silent = laws.names (asked.source ∷ []) r.source false (side_of before.tree s.between) (side_of before.tree w.between)
+      let source = walk_is asked.source r.source s.between (side_with before.tree w.between) within.source a (omega (arith, d, e)) w.source in
+      let dest = walk_is asked.dest r.dest w.between (side_with before.tree r.walked) within.dest (omega (arith, a, b)) e w.destination in
+      let silent = laws.names (asked.source ∷ []) r.source false (side_with before.tree s.between) (side_with before.tree w.between)
       (one_valid asked.source within.source) (record {
         files = files;
         told = fine.side.told;
         fine = fine.side.fine;
         stood = still_between s.between w.between a b (omega (arith, d, e));
       }) w.source in
-      let silent' = dest_silent laws asked.dest r.dest files (side_of before.tree w.between) (side_of before.tree r.walked) within.dest fine.side.told
+      let silent' = dest_silent laws asked.dest r.dest files (side_with before.tree w.between) (side_with before.tree r.walked) within.dest fine.side.told
       w.destination dest.0 dest.1 fine.dest (still_between w.between r.walked (omega (arith, a, b)) d e) in
       let none = laws.still.none _ r.walked after.count r.syncs.blamed (still_between r.walked after.count (omega (arith, a, b, d)) e (omega arith)) in
       let synced : Synced pair r.source r.dest asked.delete r.done (Some files) after.tree =
@@ -228,7 +228,7 @@ module _ (laws : Laws) (asked : SyncAsked) (before after : Side) (within : Withi
   not_nowhere reason p = absurd p
 
   -- the walk of the destination is not too long
-  not_long : (from : ℕ) → before.count ≤ from → from ≤ after.count → IsTooLongWalk (asked.dest ∷ []) (side_of before.tree from) after → ⊥
+  not_long : (from : ℕ) → before.count ≤ from → from ≤ after.count → IsTooLongWalk (asked.dest ∷ []) (side_with before.tree from) after → ⊥
   not_long from a b long =
       let is = (walk_is asked.dest long.entries from after within.dest a (omega arith) long.walked).0 in
       absurd (omega (arith, ap length is, long.many, fine.dest.few))
@@ -236,13 +236,13 @@ module _ (laws : Laws) (asked : SyncAsked) (before after : Side) (within : Withi
   stops_for_memory : (reason : Stop) → StopsSync asked before after reason → reason ≡ stop.OutOfMemory
   stops_for_memory reason stops =
       ⊎_elim (λ is. is) (λ s. ⊎_elim (λ n. absurd (not_nowhere reason n)) (λ w. ⊎_elim
-      (λ first. laws.stops (asked.source ∷ []) (side_of before.tree w.between) after reason (one_valid asked.source within.source) (record {
+      (λ first. laws.stops (asked.source ∷ []) (side_with before.tree w.between) after reason (one_valid asked.source within.source) (record {
         files = files;
         told = fine.side.told;
         fine = fine.side.fine;
         stood = still_between w.between after.count w.kept w.later (omega arith);
       }) first)
-      (λ second. only_memory asked.dest (side_of before.tree second.between) after reason
+      (λ second. only_memory asked.dest (side_with before.tree second.between) after reason
       (not_long second.between (omega (arith, w.kept, second.source.counted.kept)) second.later) second.stops) w.stops) s.0) stops
 
 pub sync_succeeds : Laws → FineSyncSucceeds

@@ -8,7 +8,7 @@ use Rattle.tree_copy.specs.declared.pairs.Pair.{Pair}
 use Rattle.tree_copy.specs.declared.pairs.PlaceError.{PlaceError}
 use Rattle.tree_copy.specs.declared.pairs.PlaceError.TheVariants as place
 use Rattle.tree_sync.specs.Placing.{sync_placed}
-use Rattle.run_report.specs.Sides.{Side, side_of}
+use Rattle.run_report.specs.Sides.{Side, side_with}
 use Rattle.run_report.specs.declared.stops.Stop.{Stop}
 use Rattle.run_report.specs.declared.stops.Stop.TheVariants as stop
 use Rattle.run_entries.specs.Both.{WalksBoth, StopsWalking}
@@ -25,7 +25,7 @@ pub record Surveys (pair : Pair) (before after : Side) (source dest : List Entry
   pub places : Places pair before.tree (Ok tt)
   pub between : ℕ
   pub kept : before.count ≤ between
-  pub walks : WalksBoth pair.source pair.target source dest (side_of before.tree between) after
+  pub walks : WalksBoth pair.source pair.target source dest (side_with before.tree between) after
 
 -- source and destination overlap, or no directory is there for the destination
 abbrev pub IsNowhere : Pair → Option Files → Stop → Type 0
@@ -43,4 +43,4 @@ pub record StopsAfterLook (pair : Pair) (before after : Side) (why : Stop) : Typ
   pub between : ℕ
   pub kept : before.count ≤ between
   pub later : between ≤ after.count
-  pub stops : StopsWalking pair.source pair.target (side_of before.tree between) after why
+  pub stops : StopsWalking pair.source pair.target (side_with before.tree between) after why

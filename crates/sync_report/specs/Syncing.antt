@@ -33,7 +33,7 @@ use Rattle.tool_words.specs.Asked.{SyncAsked, roots}
 use Rattle.run_report.specs.declared.reports.Report.{Report}
 use Rattle.run_report.specs.declared.stops.Stop.{Stop}
 use Rattle.run_report.specs.declared.stops.Stop.TheVariants as stop
-use Rattle.run_report.specs.Sides.{Side, side_of}
+use Rattle.run_report.specs.Sides.{Side, side_with}
 use Rattle.run_entries.specs.Fine.{IsFineSide}
 use Rattle.run_entries.specs.Naming.{copy_notes, listing_notes, removal_notes}
 use Rattle.sync_report.specs.declared.syncing.SyncTask.{SyncTask}
@@ -110,9 +110,9 @@ pub record ReportsSynced (asked : SyncAsked) (before after : Side) (report : Rep
   pub source : List Entry
   pub dest : List Entry
   pub walked : ℕ
-  pub surveys : Surveys (pair_of asked) before (side_of before.tree walked) source dest
+  pub surveys : Surveys (pair_of asked) before (side_with before.tree walked) source dest
   pub done : Results
-  pub syncs : Syncs (pair_of asked) source dest asked.delete done (side_of before.tree walked) after
+  pub syncs : Syncs (pair_of asked) source dest asked.delete done (side_with before.tree walked) after
   pub notes : List Note
   pub names : AreInOrder (sync_failures (pair_of asked) source dest done) notes
   pub prints : report.out ≡ synced_line (counts_of done (length notes))

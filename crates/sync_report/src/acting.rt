@@ -34,8 +34,8 @@ where
     requires within { CommonWithin common.now }
     requires lent { G.area files.old ≡ nothing_lent }
     requires ready { IsReady pair.now sides.now.left sides.now.right (G.tree files.old) }
-    ensures syncs { IfOk result (λ done. Syncs pair.now sides.now.left sides.now.right delete done (side_of (G.tree files.old) (G.count files.old))
-        (side_of (G.tree files.new) (G.count files.new))) }
+    ensures syncs { IfOk result (λ done. Syncs pair.now sides.now.left sides.now.right delete done (side_of G.Plot files.old)
+        (side_of G.Plot files.new)) }
     ensures equal { IfOk result (λ done. MakesEqual pair.now sides.now.left sides.now.right delete done (G.tree files.new)) }
     ensures rest { IfSome (G.tree files.old) (λ before. IfSome (G.tree files.new) (SameOutside pair.now.target before)) }
     ensures tells { is_some (G.tree files.new) ≡ is_some (G.tree files.old) }

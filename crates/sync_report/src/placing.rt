@@ -16,7 +16,7 @@ pub(crate) fn place_pair<G: Ground>(
     files: &mut G,
 ) -> Result<(), PlaceError>
     ensures placed { OnOk result (IsPlaced pair.now (G.tree files.old)) }
-    ensures stopped { IfErr result (StopsPlacing pair.now (side_of (G.tree files.old) (G.count files.old)) (side_of (G.tree files.new) (G.count files.new))) }
+    ensures stopped { IfErr result (StopsPlacing pair.now (side_of G.Plot files.old) (side_of G.Plot files.new)) }
     ensures same { G.tree files.new ≡ G.tree files.old }
     ensures area { G.area files.new ≡ G.area files.old }
     ensures count { RoseBy 0 (G.count files.old) (G.count files.new) }

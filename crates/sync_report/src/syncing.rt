@@ -45,10 +45,10 @@ where
     G::Part: Send,
     requires lent { G.area files.old ≡ nothing_lent }
     requires within { WithinSync (sync_asked task) }
-    ensures reports { IfOk result (ReportsSync (sync_asked task) (side_of (G.tree files.old) (G.count files.old))
-        (side_of (G.tree files.new) (G.count files.new))) }
-    ensures stops { IfErr result (StopsSync (sync_asked task) (side_of (G.tree files.old) (G.count files.old))
-        (side_of (G.tree files.new) (G.count files.new))) }
+    ensures reports { IfOk result (ReportsSync (sync_asked task) (side_of G.Plot files.old)
+        (side_of G.Plot files.new)) }
+    ensures stops { IfErr result (StopsSync (sync_asked task) (side_of G.Plot files.old)
+        (side_of G.Plot files.new)) }
     ensures leaves { LeavesSync (sync_asked task) (G.tree files.old) (G.tree files.new) }
     ensures lent { G.area files.new ≡ nothing_lent }
     ensures count { RoseBy 0 (G.count files.old) (G.count files.new) }

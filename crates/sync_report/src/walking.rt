@@ -29,10 +29,10 @@ where
     requires within { CommonWithin common.now }
     requires placed { IsPlaced pair.now (G.tree files.old) }
     ensures walks { IfOk result (λ sides. WalksBoth pair.now.source pair.now.target sides.left sides.right
-        (side_of (G.tree files.old) (G.count files.old)) (side_of (G.tree files.new) (G.count files.new))) }
+        (side_of G.Plot files.old) (side_of G.Plot files.new)) }
     ensures ready { IfOk result (λ sides. IsReady pair.now sides.left sides.right (G.tree files.old)) }
-    ensures stopped { IfErr result (StopsWalking pair.now.source pair.now.target (side_of (G.tree files.old) (G.count files.old))
-        (side_of (G.tree files.new) (G.count files.new))) }
+    ensures stopped { IfErr result (StopsWalking pair.now.source pair.now.target (side_of G.Plot files.old)
+        (side_of G.Plot files.new)) }
     ensures same { G.tree files.new ≡ G.tree files.old }
     ensures area { G.area files.new ≡ G.area files.old }
     ensures count { RoseBy 0 (G.count files.old) (G.count files.new) }

@@ -16,8 +16,8 @@ use Rattle.checkpoints.proofs.reading.read_checkpoint.Goals as goal
 pub returns-in-Err-clause-stopped : goal.returns-in-Err-clause-stopped
 returns-in-Err-clause-stopped g c =
     let dir = c.args.dir.now in
-    let before = side_of (g.G.Plot.tree c.args.files.now) (g.G.Plot.count c.args.files.now) in
-    let after = side_of (g.G.Plot.tree c.read_left.new.files) (g.G.Plot.count c.read_left.new.files) in
+    let before = side_of g.G.Plot c.args.files.now in
+    let after = side_of g.G.Plot c.read_left.new.files in
     let named = named_at dir c.in-Some.is c.in_ok-path.ensures.some in
     let stops : HasNoRanks dir before after c.stop_by.result =
     no_ranks dir c.in-Some.path c.in_ok-done.done before after (g.G.Plot.tree c.read_list.new.files) (g.G.Plot.count c.read_list.new.files)
@@ -31,7 +31,7 @@ returns-clause-read g c =
     let done = c.in_ok-done.done in
     let items = λ (list : Vec Path Global). list.items in
     let left = c.in-Ok.left.items in
-    let before = side_of (g.G.Plot.tree c.args.files.now) (g.G.Plot.count c.args.files.now) in
+    let before = side_of g.G.Plot c.args.files.now in
     let named = named_at dir c.in-Some.is c.in_ok-path.ensures.some in
     record {
       list = subst (λ p. IsRead p done before) named c.in_ok-done.ensures.read;

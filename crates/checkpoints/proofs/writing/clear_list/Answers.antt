@@ -16,8 +16,8 @@ remove_old-requires-clause-below g c = ap is_root c.requires.named ∙ list_belo
 
 pub returns-clause-cleared : goal.returns-clause-cleared
 returns-clause-cleared g c =
-    let before = side_of (g.G.Plot.tree c.args.files.now) (g.G.Plot.count c.args.files.now) in
-    let after = side_of (g.G.Plot.tree c.remove_old.new.files) (g.G.Plot.count c.remove_old.new.files) in
+    let before = side_of g.G.Plot c.args.files.now in
+    let after = side_of g.G.Plot c.remove_old.new.files in
     on_ok_weaker c.remove_old.result
     (cleared_by c.args.dir.now c.args.path.now before after c.requires.named c.remove_old.ensures.tells c.remove_old.ensures.count.kept)
     c.remove_old.ensures.gone

@@ -54,8 +54,8 @@ returns-in_err-clear_list-clause-torn g c =
 
 pub returns-in_err-clear_list-clause-stopped : goal.returns-in_err-clear_list-clause-stopped
 returns-in_err-clear_list-clause-stopped g c =
-    let before = side_of (g.G.Plot.tree c.args.files.now) (g.G.Plot.count c.args.files.now) in
-    let after = side_of (g.G.Plot.tree c.clear_list.new.files) (g.G.Plot.count c.clear_list.new.files) in
+    let before = side_of g.G.Plot c.args.files.now in
+    let after = side_of g.G.Plot c.clear_list.new.files in
     let why = c.in_err-clear_list.field-0.0 in
     let stops : StopsWriting c.args.dir.now (length c.args.left.now) c.args.done.now before after why =
     kept_stops c.args.dir.now (length c.args.left.now) c.args.done.now before after why c.in_err-clear_list.ensures.stopped in
@@ -78,7 +78,7 @@ returns-in-Err-clause-torn g c =
 
 pub returns-in-Err-clause-stopped : goal.returns-in-Err-clause-stopped
 returns-in-Err-clause-stopped g c =
-    let after = side_of (g.G.Plot.tree c.write_lists.new.ground) (g.G.Plot.count c.write_lists.new.ground) in
+    let after = side_of g.G.Plot c.write_lists.new.ground in
     ranks_stop c.args.dir.now (length c.args.left.now) c.args.done.now _ _ after c.in-Err.error _ c.in_ok-clear_list.ensures.cleared
     c.write_lists.ensures.count.kept c.in-Err.ensures.stopped c.stop_by.ensures c.write_lists.ensures.rest
 
@@ -124,9 +124,9 @@ returns-clause-torn g c =
 
 pub returns-clause-stopped : goal.returns-clause-stopped
 returns-clause-stopped g c =
-    let last = side_of (g.G.Plot.tree c.write_lists.new.ground) (g.G.Plot.count c.write_lists.new.ground) in
-    let after = side_of (g.G.Plot.tree c.save_list.new.files) (g.G.Plot.count c.save_list.new.files) in
-    let between = side_of (g.G.Plot.tree c.clear_list.new.files) (g.G.Plot.count c.clear_list.new.files) in
+    let last = side_of g.G.Plot c.write_lists.new.ground in
+    let after = side_of g.G.Plot c.save_list.new.files in
+    let between = side_of g.G.Plot c.clear_list.new.files in
     list_stop c.args.dir.now c.in-Some.path (length c.args.left.now) c.args.done.now _ between last after c.save_list.result
     (named_at c.args.dir.now c.in-Some.is c.in_ok-path.ensures.some) c.in_ok-clear_list.ensures.cleared
     (record {

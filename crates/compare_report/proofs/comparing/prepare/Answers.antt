@@ -6,9 +6,9 @@ use Rattle.compare_report.proofs.comparing.prepare.Goals as goal
 
 pub returns-clause-prepared : goal.returns-clause-prepared
 returns-clause-prepared g c =
-    let before = side_of (g.G.Plot.tree c.args.files.now) (g.G.Plot.count c.args.files.now) in
-    let walked = side_of (g.G.Plot.tree c.walk_sides.new.files) (g.G.Plot.count c.walk_sides.new.files) in
-    let after = side_of (g.G.Plot.tree c.compare_sides.new.files) (g.G.Plot.count c.compare_sides.new.files) in
+    let before = side_of g.G.Plot c.args.files.now in
+    let walked = side_of g.G.Plot c.walk_sides.new.files in
+    let after = side_of g.G.Plot c.compare_sides.new.files in
     let asked = compare_asked c.args.task in
     let sides = c.in_ok-sides.sides in
     let found = c.in_ok-compared.compared in
@@ -36,7 +36,7 @@ returns-clause-prepared g c =
 
 pub returns-in_err-sides-clause-stopped : goal.returns-in_err-sides-clause-stopped
 returns-in_err-sides-clause-stopped g c =
-    let before = side_of (g.G.Plot.tree c.args.files.now) (g.G.Plot.count c.args.files.now) in
-    let after = side_of (g.G.Plot.tree c.walk_sides.new.files) (g.G.Plot.count c.walk_sides.new.files) in
+    let before = side_of g.G.Plot c.args.files.now in
+    let after = side_of g.G.Plot c.walk_sides.new.files in
     let stops : StopsCompare (compare_asked c.args.task) before after c.in_err-sides.field-0.0 =
     inr (inl (c.in_err-sides.ensures.stopped, c.in_err-sides.ensures.same)) in search rules

@@ -38,9 +38,9 @@ returns-clause-leaves g c =
 
 pub returns-in_err-save_lists-clause-stops : goal.returns-in_err-save_lists-clause-stops
 returns-in_err-save_lists-clause-stops g c =
-    let after = side_of (g.G.Plot.tree c.save_lists.new.files) (g.G.Plot.count c.save_lists.new.files) in
-    let between = side_of (g.G.Plot.tree c.prepare.new.files) (g.G.Plot.count c.prepare.new.files) in
-    let before = side_of (g.G.Plot.tree c.args.files.now) (g.G.Plot.count c.args.files.now) in
+    let after = side_of g.G.Plot c.save_lists.new.files in
+    let between = side_of g.G.Plot c.prepare.new.files in
+    let before = side_of g.G.Plot c.args.files.now in
     let why = c.in_err-save_lists.field-0.0 in
     let saving : StopsSaving c.in_ok-ready.ready.outputs.items between after why = search rules in
     let stops : StopsCompare (compare_asked c.args.task) before after why =

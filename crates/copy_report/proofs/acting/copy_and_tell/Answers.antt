@@ -10,12 +10,10 @@ use Rattle.copy_report.proofs.acting.copy_and_tell.Goals as goal
 
 pub returns-clause-told : goal.returns-clause-told
 returns-clause-told g c =
-    let tree = g.G.Plot.tree in
-    let count = g.G.Plot.count in
     let pairs = c.args.pairs.now in
     let list = c.args.list.now in
-    let before = side_of (tree c.args.files.now) (count c.args.files.now) in
-    let after = side_of (tree c.copy_entries.new.files) (count c.copy_entries.new.files) in
+    let before = side_of g.G.Plot c.args.files.now in
+    let after = side_of g.G.Plot c.copy_entries.new.files in
     let acted = c.in_ok-outcome.ensures in
     let rows = c.in_ok-outcome.outcome.0 in
     let notes = c.in_ok-notes.notes.items in

@@ -8,15 +8,13 @@ use Rattle.copy_report.proofs.copying.report_of_copy.Goals as goal
 
 pub returns-clause-reports : goal.returns-clause-reports
 returns-clause-reports g c =
-    let tree = g.G.Plot.tree in
-    let count = g.G.Plot.count in
     let asked = copy_asked c.args.task in
     let placed = c.in-Ok.ensures in
     let told = c.in_ok-list.ensures in
-    let before = side_of (tree c.args.files.now) (count c.args.files.now) in
-    let looked = side_of (tree c.place_targets.new.files) (count c.place_targets.new.files) in
-    let walked = side_of (tree c.walk_sources.new.files) (count c.walk_sources.new.files) in
-    let after = side_of (tree c.copy_and_tell.new.files) (count c.copy_and_tell.new.files) in
+    let before = side_of g.G.Plot c.args.files.now in
+    let looked = side_of g.G.Plot c.place_targets.new.files in
+    let walked = side_of g.G.Plot c.walk_sources.new.files in
+    let after = side_of g.G.Plot c.copy_and_tell.new.files in
     let pairs = c.in-Ok.pairs.items in
     let list = c.in_ok-list.list in
     let report = c.in_ok-report.report in
@@ -39,16 +37,14 @@ returns-clause-reports g c =
 
 pub returns-in_err-report-clause-leaves : goal.returns-in_err-report-clause-leaves
 returns-in_err-report-clause-leaves g c =
-    let tree = g.G.Plot.tree in
-    let count = g.G.Plot.count in
     let asked = copy_asked c.args.task in
     let placed = c.in-Ok.ensures in
     let told = c.in_ok-list.ensures in
     let acted = c.copy_and_tell.ensures in
-    let before = side_of (tree c.args.files.now) (count c.args.files.now) in
-    let looked = side_of (tree c.place_targets.new.files) (count c.place_targets.new.files) in
-    let walked = side_of (tree c.walk_sources.new.files) (count c.walk_sources.new.files) in
-    let after = side_of (tree c.copy_and_tell.new.files) (count c.copy_and_tell.new.files) in
+    let before = side_of g.G.Plot c.args.files.now in
+    let looked = side_of g.G.Plot c.place_targets.new.files in
+    let walked = side_of g.G.Plot c.walk_sources.new.files in
+    let after = side_of g.G.Plot c.copy_and_tell.new.files in
     let pairs = c.in-Ok.pairs.items in
     let list = c.in_ok-list.list in
     let surveys = surveys_by asked before looked walked pairs list
@@ -58,16 +54,14 @@ returns-in_err-report-clause-leaves g c =
 
 pub returns-clause-leaves : goal.returns-clause-leaves
 returns-clause-leaves g c =
-    let tree = g.G.Plot.tree in
-    let count = g.G.Plot.count in
     let asked = copy_asked c.args.task in
     let placed = c.in-Ok.ensures in
     let told = c.in_ok-list.ensures in
     let acted = c.copy_and_tell.ensures in
-    let before = side_of (tree c.args.files.now) (count c.args.files.now) in
-    let looked = side_of (tree c.place_targets.new.files) (count c.place_targets.new.files) in
-    let walked = side_of (tree c.walk_sources.new.files) (count c.walk_sources.new.files) in
-    let after = side_of (tree c.copy_and_tell.new.files) (count c.copy_and_tell.new.files) in
+    let before = side_of g.G.Plot c.args.files.now in
+    let looked = side_of g.G.Plot c.place_targets.new.files in
+    let walked = side_of g.G.Plot c.walk_sources.new.files in
+    let after = side_of g.G.Plot c.copy_and_tell.new.files in
     let pairs = c.in-Ok.pairs.items in
     let list = c.in_ok-list.list in
     let surveys = surveys_by asked before looked walked pairs list

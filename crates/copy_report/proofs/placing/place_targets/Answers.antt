@@ -8,14 +8,13 @@ use Rattle.copy_report.proofs.placing.place_targets.Goals as goal
 
 pub returns-in_err-pairs-clause-stopped : goal.returns-in_err-pairs-clause-stopped
 returns-in_err-pairs-clause-stopped g c =
-    let tree = g.G.Plot.tree in
     let count = g.G.Plot.count in
     let seen = g.G.Reader.Tree.count in
     let told = c.in_err-pairs.ensures in
     let sources = c.args.sources.now in
     let dest = c.args.dest.now in
-    let before = side_of (tree c.args.files.now) (count c.args.files.now) in
-    let after = side_of (tree c.take_reader.new.self) (count c.take_reader.new.self) in
+    let before = side_of g.G.Plot c.args.files.now in
+    let after = side_of g.G.Plot c.take_reader.new.self in
     let reader = c.in_ok-reader.reader in
     let below : count c.args.files.now < 2 ^ 64 = search rules in
     let why = subst (λ t. IfSome t (λ files. IsWhy (placed_over files dest sources) c.in_err-pairs.field-0.0)) c.in_ok-reader.ensures.told told.why in

@@ -4,19 +4,15 @@ use Rattle.copy_report.proofs.walking.walk_sources.Goals as goal
 
 pub returns-clause-can : goal.returns-clause-can
 returns-clause-can g c =
-    let tree = g.G.Plot.tree in
-    let count = g.G.Plot.count in
-    let before = side_of (tree c.args.files.now) (count c.args.files.now) in
-    let after = side_of (tree c.walk_side.new.files) (count c.walk_side.new.files) in
+    let before = side_of g.G.Plot c.args.files.now in
+    let after = side_of g.G.Plot c.walk_side.new.files in
     let told = c.in_ok-list.ensures in
     walk_can c.args.sources.items c.args.pairs.now c.in_ok-list.field-0.list before after c.requires.placed told.walked c.in_ok-see_paths.ensures told.ascend
 
 pub returns-clause-fits : goal.returns-clause-fits
 returns-clause-fits g c =
-    let tree = g.G.Plot.tree in
-    let count = g.G.Plot.count in
-    let before = side_of (tree c.args.files.now) (count c.args.files.now) in
-    let after = side_of (tree c.walk_side.new.files) (count c.walk_side.new.files) in
+    let before = side_of g.G.Plot c.args.files.now in
+    let after = side_of g.G.Plot c.walk_side.new.files in
     let told = c.in_ok-list.ensures in
     walk_fits c.entries_have_parents.ensures c.entries_are_told.ensures c.args.sources.items c.args.pairs.now c.in_ok-list.field-0.list before after
     c.requires.placed told.walked

@@ -4,6 +4,6 @@ use Rattle.dup_report.proofs.finding.walk_listed.Goals as goal
 
 pub returns-clause-told : goal.returns-clause-told
 returns-clause-told g c =
-    let before = side_of (g.G.Plot.tree c.args.files.now) (g.G.Plot.count c.args.files.now) in
-    let after = side_of (g.G.Plot.tree c.walk_side.new.files) (g.G.Plot.count c.walk_side.new.files) in
+    let before = side_of g.G.Plot c.args.files.now in
+    let after = side_of g.G.Plot c.walk_side.new.files in
     stats_told c.entries_are_told.ensures c.args.given.items c.in_ok-list.field-0.list before after c.in_ok-list.ensures.walked

@@ -7,9 +7,9 @@ use Rattle.dup_report.proofs.grouping.report_of_dup.Goals as goal
 
 pub returns-clause-reports : goal.returns-clause-reports
 returns-clause-reports g c =
-    let before = side_of (g.G.Plot.tree c.args.files.now) (g.G.Plot.count c.args.files.now) in
-    let walked = side_of (g.G.Plot.tree c.walk_listed.new.files) (g.G.Plot.count c.walk_listed.new.files) in
-    let after = side_of (g.G.Plot.tree c.group_listed.new.files) (g.G.Plot.count c.group_listed.new.files) in
+    let before = side_of g.G.Plot c.args.files.now in
+    let walked = side_of g.G.Plot c.walk_listed.new.files in
+    let after = side_of g.G.Plot c.group_listed.new.files in
     let list = c.in_ok-list in
     let found = c.in_ok-found in
     record {
@@ -31,8 +31,8 @@ returns-clause-reports g c =
 
 pub returns-in_err-list-clause-stops : goal.returns-in_err-list-clause-stops
 returns-in_err-list-clause-stops g c =
-    let before = side_of (g.G.Plot.tree c.args.files.now) (g.G.Plot.count c.args.files.now) in
-    let after = side_of (g.G.Plot.tree c.walk_listed.new.files) (g.G.Plot.count c.walk_listed.new.files) in
+    let before = side_of g.G.Plot c.args.files.now in
+    let after = side_of g.G.Plot c.walk_listed.new.files in
     let stops : StopsDup (dup_asked c.args.task) before after c.in_err-list.field-0.0 =
     inr (c.in_err-list.ensures.stopped, c.in_err-list.ensures.same) in search rules
 

@@ -12,8 +12,8 @@ returns-clause-reports g c =
     let asked = list_asked c.args.task in
     let found = c.in_ok-found.found in
     let told = c.in_ok-found.ensures in
-    let before = side_of (tree c.args.files.now) (count c.args.files.now) in
-    let between = side_of (tree c.find.new.files) (count c.find.new.files) in
+    let before = side_of g.G.Plot c.args.files.now in
+    let between = side_of g.G.Plot c.find.new.files in
     let saved = subst (λ t. Saved (output_of asked.output found.chosen) t (tree c.save_list.new.files)) told.same c.in_ok-save_list.ensures.saved in
     let texts = c.in_ok-list_report.ensures in
     record {
@@ -33,20 +33,16 @@ returns-clause-reports g c =
 
 pub returns-in_err-found-clause-stops : goal.returns-in_err-found-clause-stops
 returns-in_err-found-clause-stops g c =
-    let tree = g.G.Plot.tree in
-    let count = g.G.Plot.count in
-    let before = side_of (tree c.args.files.now) (count c.args.files.now) in
-    let after = side_of (tree c.find.new.files) (count c.find.new.files) in
+    let before = side_of g.G.Plot c.args.files.now in
+    let after = side_of g.G.Plot c.find.new.files in
     let stops = stops_finding (list_asked c.args.task) before after _ c.find.ensures.same c.in_err-found.ensures.stopped in search rules
 
 pub returns-in_err-save_list-clause-stops : goal.returns-in_err-save_list-clause-stops
 returns-in_err-save_list-clause-stops g c =
-    let tree = g.G.Plot.tree in
-    let count = g.G.Plot.count in
     let told = c.in_ok-found.ensures in
-    let before = side_of (tree c.args.files.now) (count c.args.files.now) in
-    let between = side_of (tree c.find.new.files) (count c.find.new.files) in
-    let after = side_of (tree c.save_list.new.files) (count c.save_list.new.files) in
+    let before = side_of g.G.Plot c.args.files.now in
+    let between = side_of g.G.Plot c.find.new.files in
+    let after = side_of g.G.Plot c.save_list.new.files in
     let stops =
     stops_saving (list_asked c.args.task) c.args.now before between after _ told.same
     told.finds c.save_list.ensures.count.kept c.in_err-save_list.ensures.stopped

@@ -10,10 +10,8 @@ use Rattle.mfu_top.proofs.running.run.Goals as goal
 
 pub returns-in-Ok-report_of-clause-complete : goal.returns-in-Ok-report_of-clause-complete
 returns-in-Ok-report_of-clause-complete g c =
-    let tree = g.G.Plot.tree in
-    let count = g.G.Plot.count in
-    let before = side_of (tree c.args.files.now) (count c.args.files.now) in
-    let after = side_of (tree c.report_of.new.files) (count c.report_of.new.files) in
+    let before = side_of g.G.Plot c.args.files.now in
+    let after = side_of g.G.Plot c.report_of.new.files in
     let outs = g.O.Sink.count in
     let notes = g.E.Sink.count in
     let made = c.in-Ok-report_of in
@@ -23,23 +21,20 @@ returns-in-Ok-report_of-clause-complete g c =
 
 pub returns-in-Err-report_of-clause-complete : goal.returns-in-Err-report_of-clause-complete
 returns-in-Err-report_of-clause-complete g c =
-    let tree = g.G.Plot.tree in
-    let count = g.G.Plot.count in
-    let before = side_of (tree c.args.files.now) (count c.args.files.now) in
-    let after = side_of (tree c.report_of.new.files) (count c.report_of.new.files) in
+    let before = side_of g.G.Plot c.args.files.now in
+    let after = side_of g.G.Plot c.report_of.new.files in
     let outs = g.O.Sink.count in
     let notes = g.E.Sink.count in
-    let text = g.E.Sink.text in
     let refused = c.in-Err-report_of in
     stopped (map string_bytes c.args.words.now) _ c.args.now before after
     (record { out = outs c.args.out.now; out' = outs c.args.out.now; notes = notes c.args.notes.now; notes' = notes c.end_stopped.new.notes })
-    refused.stop c.end_stopped.result (stream_of (text c.args.notes.now) (notes c.args.notes.now))
-    (stream_of (text c.end_stopped.new.notes) (notes c.end_stopped.new.notes))
+    refused.stop c.end_stopped.result (stream_of g.E.Sink c.args.notes.now)
+    (stream_of g.E.Sink c.end_stopped.new.notes)
     c.in-Ok.ensures.read c.fine_runs_succeed.ensures c.in-Ok.ensures.within refused.ensures.stops c.end_stopped.ensures.told
 
 pub returns-in-Err-clause-rest : goal.returns-in-Err-clause-rest
 returns-in-Err-clause-rest g c =
-    let side = side_of (g.G.Plot.tree c.args.files.now) (g.G.Plot.count c.args.files.now) in
+    let side = side_of g.G.Plot c.args.files.now in
     in_any (reading (map string_bytes c.args.words.now)) (λ asked. Leaves asked c.args.now side side) (λ asked. still asked c.args.now side)
 
 pub returns-in-Err-clause-apart : goal.returns-in-Err-clause-apart
@@ -48,11 +43,10 @@ returns-in-Err-clause-apart g c =
 
 pub returns-in-Err-clause-complete : goal.returns-in-Err-clause-complete
 returns-in-Err-clause-complete g c =
-    let side = side_of (g.G.Plot.tree c.args.files.now) (g.G.Plot.count c.args.files.now) in
+    let side = side_of g.G.Plot c.args.files.now in
     let outs = g.O.Sink.count c.args.out.now in
     let notes = g.E.Sink.count in
-    let text = g.E.Sink.text in
     refused (map string_bytes c.args.words.now) c.args.now side side
     (record { out = outs; out' = outs; notes = notes c.args.notes.now; notes' = notes c.end_refused.new.notes }) (refusal_in c.in-Err.why) c.end_refused.result
-    (stream_of (text c.args.notes.now) (notes c.args.notes.now)) (stream_of (text c.end_refused.new.notes) (notes c.end_refused.new.notes))
+    (stream_of g.E.Sink c.args.notes.now) (stream_of g.E.Sink c.end_refused.new.notes)
     c.in-Err.ensures.refused c.end_refused.ensures.told

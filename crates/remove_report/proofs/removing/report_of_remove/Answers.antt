@@ -1,5 +1,5 @@
 use Rattle.std.proofs.Common.{rules, subst}
-use Rattle.run_report.specs.Sides.{side_of}
+use Rattle.run_report.specs.Sides.{side_of, side_with}
 use Rattle.remove_report.specs.Choosing.{Acts}
 use Rattle.remove_report.specs.Removing.{remove_asked}
 use Rattle.remove_report.proofs.Steps.{chooses_by, stops_finding, leaves_all, leaves_others}
@@ -12,14 +12,14 @@ returns-clause-reports g c =
     let told = c.in_ok-found.ensures in
     let texts = c.in_ok-report.ensures.told in
     let between = g.G.Plot.count c.find_lower.new.files in
-    let after = side_of (g.G.Plot.tree c.remove_and_tell.new.files) (g.G.Plot.count c.remove_and_tell.new.files) in
+    let after = side_of g.G.Plot c.remove_and_tell.new.files in
     record {
       chosen = found.chosen;
       named = found.notes.items;
       found = between;
       chooses = chooses_by asked c.args.now _ _ found.chosen found.notes.items found.account told.finds told.same;
       rows = texts.rows;
-      acts = subst (λ t. Acts asked.dryrun found.chosen texts.rows (side_of t between) after) told.same texts.acts;
+      acts = subst (λ t. Acts asked.dryrun found.chosen texts.rows (side_with t between) after) told.same texts.acts;
       notes = texts.notes;
       names = texts.names;
       prints = texts.prints;
@@ -31,24 +31,24 @@ pub returns-clause-leaves : goal.returns-clause-leaves
 returns-clause-leaves g c =
     let told = c.in_ok-found.ensures in
     let acted = c.remove_and_tell.ensures in
-    let after = side_of (g.G.Plot.tree c.remove_and_tell.new.files) (g.G.Plot.count c.remove_and_tell.new.files) in
+    let after = side_of g.G.Plot c.remove_and_tell.new.files in
     leaves_others (remove_asked c.args.task) c.args.now _ _ after _ _ _ told.finds told.same acted.dry acted.tells acted.rest
 
 pub returns-in_err-found-clause-stops : goal.returns-in_err-found-clause-stops
 returns-in_err-found-clause-stops g c =
-    let before = side_of (g.G.Plot.tree c.args.files.now) (g.G.Plot.count c.args.files.now) in
-    let after = side_of (g.G.Plot.tree c.find_lower.new.files) (g.G.Plot.count c.find_lower.new.files) in
+    let before = side_of g.G.Plot c.args.files.now in
+    let after = side_of g.G.Plot c.find_lower.new.files in
     let stops = stops_finding (remove_asked c.args.task) before after _ c.find_lower.ensures.same c.in_err-found.ensures.stopped in search rules
 
 pub returns-in_err-report-clause-leaves : goal.returns-in_err-report-clause-leaves
 returns-in_err-report-clause-leaves g c =
     let told = c.in_ok-found.ensures in
     let acted = c.remove_and_tell.ensures in
-    let after = side_of (g.G.Plot.tree c.remove_and_tell.new.files) (g.G.Plot.count c.remove_and_tell.new.files) in
+    let after = side_of g.G.Plot c.remove_and_tell.new.files in
     leaves_others (remove_asked c.args.task) c.args.now _ _ after _ _ _ told.finds told.same acted.dry acted.tells acted.rest
 
 pub returns-in_err-found-clause-leaves : goal.returns-in_err-found-clause-leaves
 returns-in_err-found-clause-leaves g c =
-    let before = side_of (g.G.Plot.tree c.args.files.now) (g.G.Plot.count c.args.files.now) in
-    let after = side_of (g.G.Plot.tree c.find_lower.new.files) (g.G.Plot.count c.find_lower.new.files) in
+    let before = side_of g.G.Plot c.args.files.now in
+    let after = side_of g.G.Plot c.find_lower.new.files in
     leaves_all (remove_asked c.args.task) c.args.now before after c.find_lower.ensures.same

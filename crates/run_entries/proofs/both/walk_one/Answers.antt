@@ -6,16 +6,16 @@ use Rattle.run_entries.proofs.both.walk_one.Goals as goal
 
 pub returns-clause-side : goal.returns-clause-side
 returns-clause-side g c =
-    let before = side_of (g.G.Plot.tree c.args.files.now) (g.G.Plot.count c.args.files.now) in
-    let after = side_of (g.G.Plot.tree c.walk_side.new.files) (g.G.Plot.count c.walk_side.new.files) in
+    let before = side_of g.G.Plot c.args.files.now in
+    let after = side_of g.G.Plot c.walk_side.new.files in
     let list = c.in_ok-list.field-0.list in
     let walked = subst (λ given. Walked given list before after) c.in_ok-given.ensures c.in_ok-list.ensures.walked in
     is_side c.args.top.now list before after c.requires.top walked c.in_ok-see_paths.ensures c.in_ok-list.ensures.ascend
 
 pub returns-clause-told : goal.returns-clause-told
 returns-clause-told g c =
-    let before = side_of (g.G.Plot.tree c.args.files.now) (g.G.Plot.count c.args.files.now) in
-    let after = side_of (g.G.Plot.tree c.walk_side.new.files) (g.G.Plot.count c.walk_side.new.files) in
+    let before = side_of g.G.Plot c.args.files.now in
+    let after = side_of g.G.Plot c.walk_side.new.files in
     let list = c.in_ok-list.field-0.list in
     let walked = subst (λ given. Walked given list before after) c.in_ok-given.ensures c.in_ok-list.ensures.walked in
     stats_told c.entries_are_told.ensures (c.args.top.now ∷ []) list before after walked

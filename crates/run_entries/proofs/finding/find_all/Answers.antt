@@ -1,6 +1,6 @@
 use Rattle.std.proofs.Common.{rules, ◌≤◌, [], None, refl, sym, subst}
 use Rattle.tool_words.specs.Asked.{start_in}
-use Rattle.run_report.specs.Sides.{side_of}
+use Rattle.run_report.specs.Sides.{side_of, side_with}
 use Rattle.run_entries.specs.Entries.{Tells}
 use Rattle.run_entries.proofs.Found.{no_looks, stops_after}
 use Rattle.run_entries.proofs.finding.find_all.Goals as goal
@@ -12,7 +12,7 @@ returns-clause-finds g c =
     let found = c.in_ok-list.field-0 in
     let all = c.in_ok-of_all in
     let start = start_in c.args.start in
-    let after = side_of (g.G.Plot.tree c.list_from.new.files) (g.G.Plot.count c.list_from.new.files) in
+    let after = side_of g.G.Plot c.list_from.new.files in
     let most : count ≤ 18446744073709551615 = search rules in
     record {
       looks = [];
@@ -25,7 +25,7 @@ returns-clause-finds g c =
         few = c.in_ok-list.ensures.few;
       };
       tells =
-          subst (Tells c.args.common.now start found.list (side_of tree count) after c.in_ok-list.ensures.told.0) (sym all.ensures.account)
+          subst (Tells c.args.common.now start found.list (side_with tree count) after c.in_ok-list.ensures.told.0) (sym all.ensures.account)
           c.in_ok-list.ensures.told.1;
       chooses = all.ensures.chosen;
       names = all.ensures.names;
@@ -33,8 +33,8 @@ returns-clause-finds g c =
 
 pub returns-in_err-list-clause-stopped : goal.returns-in_err-list-clause-stopped
 returns-in_err-list-clause-stopped g c =
-    let before = side_of (g.G.Plot.tree c.args.files.now) (g.G.Plot.count c.args.files.now) in
-    let after = side_of (g.G.Plot.tree c.list_from.new.files) (g.G.Plot.count c.list_from.new.files) in
+    let before = side_of g.G.Plot c.args.files.now in
+    let after = side_of g.G.Plot c.list_from.new.files in
     let most : before.count ≤ 18446744073709551615 = search rules in
     let stops =
     stops_after (start_in c.args.start) None before before after [] _ refl (no_looks before.tree before.count most) c.list_from.ensures.count.kept

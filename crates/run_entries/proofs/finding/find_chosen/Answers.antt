@@ -3,7 +3,7 @@ use Rattle.flat_list.specs.Entries.{is_shaped}
 use Rattle.find_tests.specs.Tests.{is_selected}
 use Rattle.tool_text.specs.NoteOrder.{AreInOrder}
 use Rattle.tool_words.specs.Asked.{start_in, choice_in}
-use Rattle.run_report.specs.Sides.{side_of}
+use Rattle.run_report.specs.Sides.{side_of, side_with}
 use Rattle.run_entries.specs.Choosing.{newer_than}
 use Rattle.run_entries.specs.Naming.{failures_in}
 use Rattle.run_entries.specs.Entries.{Listed, Tells}
@@ -17,11 +17,11 @@ returns-clause-finds g c =
     let found = c.in_ok-list.field-0 in
     let looks = c.in_ok-looks.looks.items in
     let between = g.G.Plot.count c.look_at_each.new.files in
-    let after = side_of (g.G.Plot.tree c.list_from.new.files) (g.G.Plot.count c.list_from.new.files) in
+    let after = side_of g.G.Plot c.list_from.new.files in
     let told =
     subst
-    (λ t. (listed : Listed start found.list (side_of t between) after)
-    × Tells c.args.common.now start found.list (side_of t between) after listed found.account)
+    (λ t. (listed : Listed start found.list (side_with t between) after)
+    × Tells c.args.common.now start found.list (side_with t between) after listed found.account)
     c.look_at_each.ensures.same c.in_ok-list.ensures.told
     in
     let tests = c.args.choice.tests.items ++ map (λ l. newer_than l.seen) looks in
@@ -44,9 +44,9 @@ returns-clause-finds g c =
 
 pub returns-in_err-list-clause-stopped : goal.returns-in_err-list-clause-stopped
 returns-in_err-list-clause-stopped g c =
-    let before = side_of (g.G.Plot.tree c.args.files.now) (g.G.Plot.count c.args.files.now) in
-    let between = side_of (g.G.Plot.tree c.look_at_each.new.files) (g.G.Plot.count c.look_at_each.new.files) in
-    let after = side_of (g.G.Plot.tree c.list_from.new.files) (g.G.Plot.count c.list_from.new.files) in
+    let before = side_of g.G.Plot c.args.files.now in
+    let between = side_of g.G.Plot c.look_at_each.new.files in
+    let after = side_of g.G.Plot c.list_from.new.files in
     let stops =
     stops_after (start_in c.args.start) (Some (choice_in c.args.choice)) before between after c.in_ok-looks.looks.items _ c.look_at_each.ensures.same
     c.in_ok-looks.ensures.looks c.list_from.ensures.count.kept c.in_err-list.ensures.stopped

@@ -8,9 +8,7 @@ use Rattle.run_entries.proofs.saving.save_list.Goals as goal
 
 pub returns-clause-stopped : goal.returns-clause-stopped
 returns-clause-stopped g c =
-    let tree = g.G.Plot.tree in
-    let count = g.G.Plot.count in
-    let before = side_of (tree c.args.files.now) (count c.args.files.now) in
-    let after = side_of (tree c.save_at.new.files) (count c.save_at.new.files) in
+    let before = side_of g.G.Plot c.args.files.now in
+    let after = side_of g.G.Plot c.save_at.new.files in
     subst (λ o. IfErr c.save_at.result (StopsSaving (output_of o c.args.list.now) before after)) (sym c.in-Some.is)
     (if_one_stopped c.save_at.result _ before after c.save_at.ensures.count.kept c.save_at.ensures.stopped)

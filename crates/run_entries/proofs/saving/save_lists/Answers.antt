@@ -20,20 +20,18 @@ returns-in_err-save_at-clause-rest g c =
 
 pub returns-in_err-save_at-clause-stopped : goal.returns-in_err-save_at-clause-stopped
 returns-in_err-save_at-clause-stopped g c =
-    let tree = g.G.Plot.tree in
-    let count = g.G.Plot.count in
     let outputs = c.args.outputs.now in
     let i = c.loop-output.output-index in
     let output = c.output-item.result in
-    let before = side_of (tree c.args.files.now) (count c.args.files.now) in
-    let after = side_of (tree c.save_at.new.files) (count c.save_at.new.files) in
+    let before = side_of g.G.Plot c.args.files.now in
+    let after = side_of g.G.Plot c.save_at.new.files in
     let stops : StopsSaving outputs before after c.in_err-save_at.field-0.0 =
     record {
       earlier = take i outputs;
       first = output;
       later = drop (suc i) outputs;
       are = parted outputs i output c.loop-output-test.true c.output-item.is;
-      between = side_of (tree c.loop-output.files) (count c.loop-output.files);
+      between = side_of g.G.Plot c.loop-output.files;
       saved = c.loop-output.invariant.saved;
       kept = c.loop-output.invariant.count.kept;
       still = c.save_at.ensures.count.kept;

@@ -6,8 +6,8 @@ use Rattle.run_report.proofs.telling.end_by.Goals as goal
 
 pub returns-clause-told : goal.returns-clause-told
 returns-clause-told g c =
-    let before = stream_of (g.E.Sink.text c.args.notes.now) (g.E.Sink.count c.args.notes.now) in
-    let after = stream_of (g.E.Sink.text c.end_with.new.notes) (g.E.Sink.count c.end_with.new.notes) in
+    let before = stream_of g.E.Sink c.args.notes.now in
+    let after = stream_of g.E.Sink c.end_with.new.notes in
     let told = c.end_with.ensures in
     told_by c.refusal_line.result (refusal_line c.args.refusal) status.Words c.end_with.result before after
     c.refusal_line.ensures told.status told.line told.memory

@@ -26,8 +26,8 @@ returns-clause-walks g c =
 pub returns-in_err-beginning-clause-stopped : goal.returns-in_err-beginning-clause-stopped
 returns-in_err-beginning-clause-stopped g c =
     let given = option_map (λ paths. paths.items) c.args.starts in
-    let before = side_of (g.G.Plot.tree c.args.files.now) (g.G.Plot.count c.args.files.now) in
-    let after = side_of (g.G.Plot.tree c.begin_stage.new.files) (g.G.Plot.count c.begin_stage.new.files) in
+    let before = side_of g.G.Plot c.args.files.now in
+    let after = side_of g.G.Plot c.begin_stage.new.files in
     let stops : WalksNot given c.args.lists.now c.args.stop_after c.args.common.now before after c.in_err-beginning.field-0.0 =
     not_begun c.args.stop_after c.args.common.now c.in_err-beginning.ensures.stopped in
     search (rules, stops, c.from_residual.ensures)
@@ -35,8 +35,8 @@ returns-in_err-beginning-clause-stopped g c =
 pub returns-in_err-stage-clause-stopped : goal.returns-in_err-stage-clause-stopped
 returns-in_err-stage-clause-stopped g c =
     let given = option_map (λ paths. paths.items) c.args.starts in
-    let before = side_of (g.G.Plot.tree c.args.files.now) (g.G.Plot.count c.args.files.now) in
-    let after = side_of (g.G.Plot.tree c.walk_stage.new.files) (g.G.Plot.count c.walk_stage.new.files) in
+    let before = side_of g.G.Plot c.args.files.now in
+    let after = side_of g.G.Plot c.walk_stage.new.files in
     let tree = g.G.Plot.tree c.begin_stage.new.files in
     let count = g.G.Plot.count c.begin_stage.new.files in
     let b = c.in_ok-beginning in

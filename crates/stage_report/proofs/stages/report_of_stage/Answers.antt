@@ -12,8 +12,8 @@ use Rattle.stage_report.proofs.stages.report_of_stage.Goals as goal
 pub returns-in_err-stage-clause-stops : goal.returns-in_err-stage-clause-stops
 returns-in_err-stage-clause-stops g c =
     let asked = stage_asked c.args.task in
-    let before = side_of (g.G.Plot.tree c.args.files.now) (g.G.Plot.count c.args.files.now) in
-    let after = side_of (g.G.Plot.tree c.begin_and_walk.new.files) (g.G.Plot.count c.begin_and_walk.new.files) in
+    let before = side_of g.G.Plot c.args.files.now in
+    let after = side_of g.G.Plot c.begin_and_walk.new.files in
     let why = c.in_err-stage.field-0.0 in
     let walk : WalksNot asked.starts asked.lists asked.stop_after asked.common before after why = search rules in
     let stops : StopsStage asked before after why = not_walked asked before after why c.begin_and_walk.ensures.same walk in
@@ -29,9 +29,9 @@ returns-in_err-save_list-in-Finished-clause-leaves g c =
 pub returns-in_err-save_list-in-Finished-clause-stops : goal.returns-in_err-save_list-in-Finished-clause-stops
 returns-in_err-save_list-in-Finished-clause-stops g c =
     let asked = stage_asked c.args.task in
-    let before = side_of (g.G.Plot.tree c.args.files.now) (g.G.Plot.count c.args.files.now) in
-    let walked = side_of (g.G.Plot.tree c.begin_and_walk.new.files) (g.G.Plot.count c.begin_and_walk.new.files) in
-    let after = side_of (g.G.Plot.tree c.save_list.new.files) (g.G.Plot.count c.save_list.new.files) in
+    let before = side_of g.G.Plot c.args.files.now in
+    let walked = side_of g.G.Plot c.begin_and_walk.new.files in
+    let after = side_of g.G.Plot c.save_list.new.files in
     let why = c.in_err-save_list-in-Finished.field-0.0 in
     let all = c.in_ok-found-in-Finished in
     let saving : StopsSaving (output_of asked.output all.found.chosen) walked after why = search rules in
@@ -49,8 +49,8 @@ returns-in_err-list_report-in-Finished-clause-leaves g c =
 pub returns-in-Finished-clause-reports : goal.returns-in-Finished-clause-reports
 returns-in-Finished-clause-reports g c =
     let asked = stage_asked c.args.task in
-    let walked = side_of (g.G.Plot.tree c.begin_and_walk.new.files) (g.G.Plot.count c.begin_and_walk.new.files) in
-    let after = side_of (g.G.Plot.tree c.save_list.new.files) (g.G.Plot.count c.save_list.new.files) in
+    let walked = side_of g.G.Plot c.begin_and_walk.new.files in
+    let after = side_of g.G.Plot c.save_list.new.files in
     let list = c.in-Finished.list in
     let account = c.in-Finished.account in
     let all = c.in_ok-found-in-Finished in
@@ -76,9 +76,9 @@ returns-in_err-keep-in-Cut-clause-leaves g c =
 pub returns-in_err-keep-in-Cut-clause-stops : goal.returns-in_err-keep-in-Cut-clause-stops
 returns-in_err-keep-in-Cut-clause-stops g c =
     let asked = stage_asked c.args.task in
-    let before = side_of (g.G.Plot.tree c.args.files.now) (g.G.Plot.count c.args.files.now) in
-    let walked = side_of (g.G.Plot.tree c.begin_and_walk.new.files) (g.G.Plot.count c.begin_and_walk.new.files) in
-    let after = side_of (g.G.Plot.tree c.keep.new.files) (g.G.Plot.count c.keep.new.files) in
+    let before = side_of g.G.Plot c.args.files.now in
+    let walked = side_of g.G.Plot c.begin_and_walk.new.files in
+    let after = side_of g.G.Plot c.keep.new.files in
     let why = c.in_err-keep-in-Cut.field-0.0 in
     let writing : StopsWriting asked.lists (length c.deref.result.now) c.in-Cut.done walked after why = search rules in
     let off = cut_off asked _ _ c.in_ok-stage.ensures.walks c.in-Cut.handled c.in-Cut.done c.in-Cut.left _ c.in-Cut.is c.deref.ensures.value in
@@ -95,7 +95,7 @@ returns-clause-leaves g c =
 pub returns-clause-stops : goal.returns-clause-stops
 returns-clause-stops g c =
     let asked = stage_asked c.args.task in
-    let after = side_of (g.G.Plot.tree c.keep.new.files) (g.G.Plot.count c.keep.new.files) in
+    let after = side_of g.G.Plot c.keep.new.files in
     let off = cut_off asked _ _ c.in_ok-stage.ensures.walks c.in-Cut.handled c.in-Cut.done c.in-Cut.left _ c.in-Cut.is c.deref.ensures.value in
     let here = c.in_ok-keep-in-Cut in
     kept asked _ _ after c.in-Cut.done c.in-Cut.handled c.deref.result.now here.field-0 off c.keep.ensures.count.kept here.ensures.kept

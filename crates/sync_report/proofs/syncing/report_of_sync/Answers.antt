@@ -11,7 +11,6 @@ use Rattle.sync_report.proofs.syncing.report_of_sync.Goals as goal
 pub returns-clause-reports : goal.returns-clause-reports
 returns-clause-reports g c =
     let tree = g.G.Plot.tree in
-    let count = g.G.Plot.count in
     let asked = sync_asked c.args.task in
     let pair = pair_of asked in
     let placed = c.in-Ok.ensures in
@@ -20,10 +19,10 @@ returns-clause-reports g c =
     let texts = c.in_ok-report.ensures in
     let sides = c.in_ok-sides.sides in
     let done = c.in_ok-synced.synced in
-    let before = side_of (tree c.args.files.now) (count c.args.files.now) in
-    let looked = side_of (tree c.place_pair.new.files) (count c.place_pair.new.files) in
-    let walked = side_of (tree c.walk_pair.new.files) (count c.walk_pair.new.files) in
-    let after = side_of (tree c.sync_sides.new.files) (count c.sync_sides.new.files) in
+    let before = side_of g.G.Plot c.args.files.now in
+    let looked = side_of g.G.Plot c.place_pair.new.files in
+    let walked = side_of g.G.Plot c.walk_pair.new.files in
+    let after = side_of g.G.Plot c.sync_sides.new.files in
     let look : Looked pair before looked = record { places = placed.placed.places; same = placed.same; kept = placed.count.kept } in
     inr (record {
       source = sides.left;
@@ -43,25 +42,21 @@ returns-clause-reports g c =
 
 pub returns-in_err-sides-clause-stops : goal.returns-in_err-sides-clause-stops
 returns-in_err-sides-clause-stops g c =
-    let tree = g.G.Plot.tree in
-    let count = g.G.Plot.count in
     let asked = sync_asked c.args.task in
     let placed = c.in-Ok.ensures in
     let told = c.in_err-sides.ensures in
     let why = c.in_err-sides.field-0.0 in
-    let before = side_of (tree c.args.files.now) (count c.args.files.now) in
-    let looked = side_of (tree c.place_pair.new.files) (count c.place_pair.new.files) in
-    let after = side_of (tree c.walk_pair.new.files) (count c.walk_pair.new.files) in
+    let before = side_of g.G.Plot c.args.files.now in
+    let looked = side_of g.G.Plot c.place_pair.new.files in
+    let after = side_of g.G.Plot c.walk_pair.new.files in
     let look : Looked (pair_of asked) before looked = record { places = placed.placed.places; same = placed.same; kept = placed.count.kept } in
     let stops : StopsSync asked before after why = stops_walking asked before looked after why look told.same told.count.kept told.stopped in
     search (rules, stops, c.from_residual-in_err-sides.ensures)
 
 pub returns-in_err-report-clause-stops : goal.returns-in_err-report-clause-stops
 returns-in_err-report-clause-stops g c =
-    let tree = g.G.Plot.tree in
-    let count = g.G.Plot.count in
-    let before = side_of (tree c.args.files.now) (count c.args.files.now) in
-    let after = side_of (tree c.sync_sides.new.files) (count c.sync_sides.new.files) in
+    let before = side_of g.G.Plot c.args.files.now in
+    let after = side_of g.G.Plot c.sync_sides.new.files in
     let memory : StopsSync (sync_asked c.args.task) before after stop.OutOfMemory = inl refl in
     search (rules, memory, c.from_residual-in_err-report.ensures)
 
