@@ -7,7 +7,7 @@ use crate::answers::{is_absent, opened, text_of, was_read};
 use crate::handles::{Handle, to_read};
 use crate::known::Directory;
 use crate::names::FoundNames;
-use crate::parents::{Parents, another};
+use crate::parents::Parents;
 use crate::watch::{Call, Watch};
 use outside::{Failed, Kind, LinkError, LinkText, ListError, Listing, ReadError, Stat, Tree};
 use path_text::{OutOfMemory, Path};
@@ -181,15 +181,11 @@ where
         }
     }
 
-    /// A link is not followed, and a directory that is not the child of the known one above it is a fault.
+    /// If another directory or a link is in the place of a known one, that is a fault. A link in the place of any other is not followed.
     fn list(&mut self, alloc: Global, path: &Path) -> Result<Listing, ListError> {
-        let told = listing_of(&self.system, alloc, path, self.buffer.as_mut_slice());
-        match told {
-            Ok(_) if !self.parents.is_child(&self.system, path) => {
-                self.system.failed(Call::List, path, &another());
-                self.fault();
-                Err(ListError::Failed)
-            }
+        let told = self.parents.open_dir(&self.system, path);
+        let buffer = self.buffer.as_mut_slice();
+        match listing_of(&self.system, alloc, path, told, buffer) {
             Ok(listing) => {
                 self.count = self.count.saturating_add(listing.unnamed());
                 Ok(listing)
@@ -262,16 +258,17 @@ fn kind_of(data: &Metadata) -> Kind {
     }
 }
 
-// The names in the directory at the path, read through the buffer. The directory is opened once.
+// The names in the directory at the path, read through the buffer, if it was opened.
 fn listing_of<R: Files + Watch>(
     system: &R,
     alloc: Global,
     path: &Path,
+    told: io::Result<R::Dir>,
     buffer: &mut [u8],
 ) -> Result<Listing, ListError>
     ensures { IfOk result (λ listing. AreNames path.now listing.0) }
 {
-    let mut folder = match system.open_dir(path.text()) {
+    let mut folder = match told {
         Ok(folder) => folder,
         Err(e) if is_absent(e.kind()) => return Err(ListError::NotDir),
         Err(e) => return Err(unlisted(system, path, &e)),

@@ -22,12 +22,14 @@
 //! answers, the live line, and the lines about failed calls.
 #![tactic(auto)]
 
+mod above;
 mod answers;
 mod causes;
 mod clocks;
 mod disk;
 mod grounds;
 mod handles;
+mod here;
 mod known;
 mod live;
 mod names;

@@ -13,33 +13,30 @@
 //! above it up to `/`. None of these is a link, but one above it may be sticky, as `/tmp` is. No other user can replace anything
 //! in it, so the call names the whole path, and nothing is compared. A directory that was ever seen exposed to others stays
 //! exposed for the run.
+//!
+//! **Names are read from the open directory that was compared.** A known directory that is not private is opened to list it. Its identity
+//! and its `..` are compared as above. Then its names are read by way of `/proc/self/fd/N/`, and it stays open for later acts in it.
+//! A private directory, and one at which the run did not look, is opened by its path. The answers for a guarded directory are:
+//!
+//! - The known directory is in its place: its names. A link may lead to it, if it is still below the same directory.
+//! - Another directory, or a link to anything else or to nothing, is in its place: a failure.
+//! - The known directory is below another directory: a failure.
+//! - Nothing is in its place, or an entry that is neither a directory nor a link: "not a directory", which is not a failure.
+//! - It may be read and not entered, so the system does not tell its `..`: its names. It does not stay open.
+//! - The system has no names for open directories: the directory is compared before and after it is opened by its path. A link in its
+//!   place is not followed, and is a failure.
+use crate::above::{Place, has_exposed_from, is_in_place, is_under_own};
 use crate::answers::is_absent;
+use crate::here::Here;
 use crate::known::{Directory, Found, Identity, Known, PathHash};
 use crate::ways::{around, is_within, name_of, plain, with_slash};
-use path_text::{MAX_PATH, OutOfMemory, Path};
+use path_text::{OutOfMemory, Path};
 use std::alloc::Global;
 use std::fs::{File, Files, OpenFile};
 use std::io::ErrorKind;
 use std::os::fd::AsRawFd;
 use std::os::unix::fs::MetadataExt;
 use std::{fs, io, mem};
-
-// If a path of `..` has more bytes, its directory is opened, and the path goes on from there.
-const FAR_UP: usize = 3000;
-
-// A directory in which something was done.
-#[derive(Drop)]
-struct Here<F: Drop> {
-    path: String,
-    // Comes before a name in it when the system is asked.
-    front: String,
-    // The directory to which the front must lead, if the front is the path itself.
-    due: Option<Identity>,
-    // Whether the run looked at it and found it private, so that no other user can replace anything in it.
-    is_private: bool,
-    // Keeps the directory open that the front names.
-    _open: Option<F>,
-}
 
 /// The knowledge about directories, and the two of them that were used last.
 #[derive(Drop)]
@@ -152,32 +149,12 @@ impl<F: Drop> Parents<F> {
         if self.known.is_exposed(hash) {
             return;
         }
-        if directory.is_own(user) && self.is_under_own(system, path, user) {
+        if directory.is_own(user) && is_under_own(system, &self.known, path, user) {
             return;
         }
         self.known.expose(hash);
         self.private.clear();
         self.leave_below(path);
-    }
-
-    // Whether no other user can replace the directories above a path, up to the first known one or `/`. None of them may be a link.
-    fn is_under_own<R: Files>(&self, system: &R, path: &str, user: u32) -> bool {
-        let mut rest = path;
-        for _ in 0..MAX_PATH {
-            let Some((above, _)) = rest.rsplit_once('/') else {
-                return true;
-            };
-            if let Found::Is(_) = self.find(above) {
-                return true;
-            }
-            let at = if above.is_empty() { "/" } else { above };
-            match fs::symlink_metadata(system, at) {
-                Ok(data) if data.is_dir() && Directory::of(&data).keeps_own(user) => {}
-                _ => return false,
-            }
-            rest = above;
-        }
-        false
     }
 
     // The knowledge about the directory at a path.
@@ -203,31 +180,13 @@ impl<F: Drop> Parents<F> {
         if !self.known.has_exposed() {
             return true;
         }
-        if self.has_exposed_from(path) {
+        if has_exposed_from(&self.known, path, self.private.as_str()) {
             return false;
         }
         self.private.clear();
         // If there is no memory for the path, the next one is looked up again.
         if self.private.push_str(path).is_err() {
             self.private.clear();
-        }
-        true
-    }
-
-    // Whether the directory at a path, or one above it, is exposed. Those above the last private one are not.
-    fn has_exposed_from(&self, path: &str) -> bool {
-        let mut rest = path;
-        for _ in 0..MAX_PATH {
-            if self.known.is_exposed(self.known.hash(rest)) {
-                return true;
-            }
-            if is_within(self.private.as_str(), rest) {
-                return false;
-            }
-            let Some((above, _)) = rest.rsplit_once('/') else {
-                return false;
-            };
-            rest = above;
         }
         true
     }
@@ -252,14 +211,31 @@ impl<F: Drop> Parents<F> {
     /// Whether the current path is in a private directory, so that no other user can replace its entry.
     pub fn in_private(&self) -> bool {
         match &self.here {
-            Some(here) => here.is_private,
+            Some(here) => here.is_private(),
             None => false,
         }
     }
 
-    /// Whether the directory at a path is the child of the one above it, as far as that one is known and the system answers. In a private
-    /// directory the system is not asked.
-    pub fn is_child<R: Files>(&mut self, system: &R, path: &Path) -> bool {
+    /// The answer of the system, if the directory is still the known one. Otherwise an error.
+    pub fn told<R: Files, T: Drop>(&self, system: &R, told: io::Result<T>) -> io::Result<T> {
+        if self.stands(system) {
+            told
+        } else {
+            Err(another())
+        }
+    }
+
+    // Whether the directory is still the known one.
+    fn stands<R: Files>(&self, system: &R) -> bool {
+        match &self.here {
+            Some(here) => here.stands(system),
+            None => true,
+        }
+    }
+
+    // Whether the directory at a path is the child of the one above it, as far as that one is known and the system answers. In a private
+    // directory the system is not asked.
+    fn is_child<R: Files>(&mut self, system: &R, path: &Path) -> bool {
         let above = around(path).0;
         if self.is_private(above) {
             return true;
@@ -283,29 +259,6 @@ impl<F: Drop> Parents<F> {
         self.way.push_str(front)?;
         self.way.push_str(name)?;
         Ok(())
-    }
-
-    /// The answer of the system, if the directory is still the known one. Otherwise an error.
-    pub fn told<R: Files, T: Drop>(&self, system: &R, told: io::Result<T>) -> io::Result<T> {
-        if self.stands(system) {
-            told
-        } else {
-            Err(another())
-        }
-    }
-
-    // Whether the directory is still the known one. An open directory always is.
-    fn stands<R: Files>(&self, system: &R) -> bool {
-        let Some(here) = &self.here else {
-            return true;
-        };
-        let Some(due) = here.due else {
-            return true;
-        };
-        match fs::metadata(system, here.front.as_str()) {
-            Ok(data) => Identity::of(&data) == due,
-            Err(_) => false,
-        }
     }
 }
 
@@ -332,7 +285,7 @@ impl<F: OpenFile + AsRawFd + Drop> Parents<F> {
         }
         self.way.clear();
         if let Some(here) = &self.here {
-            self.way.push_str(here.front.as_str())?;
+            self.way.push_str(here.front())?;
         }
         self.way.push_str(name)?;
         Ok(())
@@ -341,24 +294,13 @@ impl<F: OpenFile + AsRawFd + Drop> Parents<F> {
     fn entered<R: Files<File = F>>(&mut self, system: &R, path: &str) -> io::Result<Here<F>> {
         let found = self.find(path);
         if self.is_private(path) {
-            return self.by_path(path, None, is_looked_at(found));
+            return Here::by_path(self.alloc, path, None, is_looked_at(found));
         }
         match found {
             Found::Is(due) => self.known_entered(system, path, due),
-            Found::Nothing => self.by_path(path, None, false),
+            Found::Nothing => Here::by_path(self.alloc, path, None, false),
             Found::Lost => Err(another()),
         }
-    }
-
-    // The directory at a path, by its path.
-    fn by_path(&self, path: &str, due: Option<Identity>, is_private: bool) -> io::Result<Here<F>> {
-        Ok(Here {
-            path: String::from_str(self.alloc, path)?,
-            front: with_slash(self.alloc, path)?,
-            due,
-            is_private,
-            _open: None,
-        })
     }
 
     // The directory at a path. It must be this one, and be in its place.
@@ -368,75 +310,141 @@ impl<F: OpenFile + AsRawFd + Drop> Parents<F> {
         path: &str,
         due: Identity,
     ) -> io::Result<Here<F>> {
-        let here = if self.has_names {
-            self.opened(system, path, due)?
-        } else {
-            self.by_path(path, Some(due), false)?
-        };
-        if !self.is_in_place(system, path, here.front.as_str())? {
+        let here = self.opened(system, path, due)?;
+        if !self.is_in_place(system, path, &here)? {
             return Err(another());
         }
-        self.seen.clear();
-        self.seen.push_str(path)?;
+        self.see(path)?;
         Ok(here)
     }
 
-    // The directory at a path. It must be this one. It is open if the system opens it.
+    // Whether the directory at a path is in its place, as far up as is not known yet.
+    fn is_in_place<R: Files<File = F>>(
+        &self,
+        system: &R,
+        path: &str,
+        here: &Here<F>,
+    ) -> io::Result<bool> {
+        let front = here.front();
+        let place = Place { path, front };
+        let seen = self.seen.as_str();
+        is_in_place(self.alloc, system, &self.known, place, seen, self.has_names)
+    }
+
+    // The directory at a path. It must be this one. It is open if the system has a name for it and opens it.
     fn opened<R: Files<File = F>>(
         &self,
         system: &R,
         path: &str,
         due: Identity,
     ) -> io::Result<Here<F>> {
-        let open = match File::open(system, with_slash(self.alloc, path)?.as_str()) {
-            Ok(open) => open,
-            Err(e) if is_absent(e.kind()) => return Err(e),
-            Err(_) => return self.by_path(path, Some(due), false),
-        };
-        if Identity::of(&open.metadata()?) != due {
-            return Err(another());
+        if !self.has_names {
+            return Here::by_path(self.alloc, path, Some(due), false);
         }
-        Ok(Here {
-            path: String::from_str(self.alloc, path)?,
-            front: name_of(self.alloc, &open)?,
-            due: None,
-            is_private: false,
-            _open: Some(open),
-        })
+        match File::open(system, with_slash(self.alloc, path)?.as_str()) {
+            Ok(open) => Here::held(self.alloc, path, due, open)?.ok_or(another()),
+            Err(e) if is_absent(e.kind()) => Err(e),
+            Err(_) => Here::by_path(self.alloc, path, Some(due), false),
+        }
     }
 
-    // Whether the directory at a path, to which the front leads, is the child of the one above it, and so on up. It compares up to the
-    // first directory that is unknown or was seen in its place already.
-    fn is_in_place<R: Files<File = F>>(
+    // Keeps that the directory at a path was seen to be in its place.
+    fn see(&mut self, path: &str) -> io::Result<()> {
+        self.seen.clear();
+        self.seen.push_str(path)?;
+        Ok(())
+    }
+}
+
+// The directories whose names are read.
+impl<F: OpenFile + AsRawFd + Drop> Parents<F> {
+    /// Opens the directory at a path, so that its names are read. A known directory that is not private must be the known one, and be in its
+    /// place. If a link has taken its place, that is an error also where the link leads nowhere.
+    pub fn open_dir<R: Files<File = F>>(&mut self, system: &R, path: &Path) -> io::Result<R::Dir> {
+        if self.is_private(plain(path)) {
+            return system.open_dir(path.text());
+        }
+        match self.find(plain(path)) {
+            Found::Is(due) => match self.known_dir(system, path, due) {
+                Err(e) if is_absent(e.kind()) && is_link(system, path) => Err(another()),
+                told => told,
+            },
+            Found::Nothing => {
+                let dir = system.open_dir(path.text())?;
+                if self.is_child(system, path) {
+                    Ok(dir)
+                } else {
+                    Err(another())
+                }
+            }
+            Found::Lost => Err(another()),
+        }
+    }
+
+    // Opens the directory at a path, which must be this one, so that its names are read. Then it is the one that was used last, unless it
+    // may not be entered.
+    fn known_dir<R: Files<File = F>>(
+        &mut self,
+        system: &R,
+        path: &Path,
+        due: Identity,
+    ) -> io::Result<R::Dir> {
+        let text = plain(path);
+        let here = self.to_list(system, text, due)?;
+        // The directory above it is compared again, also if this one was seen in its place.
+        if is_within(self.seen.as_str(), text) {
+            self.seen.clear();
+        }
+        let may_enter = match self.is_in_place(system, text, &here) {
+            Ok(true) => true,
+            Ok(false) => return Err(another()),
+            // Its names may be read, but the system does not tell the directory above it.
+            Err(e) if e.kind() == ErrorKind::PermissionDenied => false,
+            Err(e) => return Err(e),
+        };
+        let dir = if here.is_open() {
+            system.open_dir(here.front())?
+        } else {
+            system.open_dir(path.text())?
+        };
+        if !here.stands(system) {
+            return Err(another());
+        }
+        if may_enter {
+            self.see(text)?;
+            if !is_at(&self.here, text) {
+                self.other = self.here.take();
+            }
+            self.here = Some(here);
+        }
+        Ok(dir)
+    }
+
+    // The directory at a path, to list its names. It must be this one. It is open if the system has a name for it.
+    fn to_list<R: Files<File = F>>(
         &self,
         system: &R,
         path: &str,
-        front: &str,
-    ) -> io::Result<bool> {
-        let mut up = String::from_str(self.alloc, front)?;
-        let mut rest = path;
-        let mut _open = None;
-        for _ in 0..MAX_PATH {
-            if is_within(self.seen.as_str(), rest) {
-                return Ok(true);
-            }
-            let Some((above, _)) = rest.rsplit_once('/') else {
-                return Ok(true);
-            };
-            up.push_str("../")?;
-            match self.find(above) {
-                Found::Is(due) if Identity::of(&fs::metadata(system, up.as_str())?) == due => {}
-                Found::Nothing => return Ok(true),
-                _ => return Ok(false),
-            }
-            if up.len() > FAR_UP && self.has_names {
-                let open = File::open(system, up.as_str())?;
-                up = name_of(self.alloc, &open)?;
-                _open = Some(open);
-            }
-            rest = above;
+        due: Identity,
+    ) -> io::Result<Here<F>> {
+        if self.has_names {
+            let open = File::open(system, with_slash(self.alloc, path)?.as_str())?;
+            return Here::held(self.alloc, path, due, open)?.ok_or(another());
         }
-        Ok(false)
+        let here = Here::by_path(self.alloc, path, Some(due), false)?;
+        if Identity::of(&fs::metadata(system, here.front())?) == due {
+            Ok(here)
+        } else {
+            Err(another())
+        }
+    }
+}
+
+// Whether a link is at a path.
+fn is_link<R: Files>(system: &R, path: &Path) -> bool {
+    match fs::symlink_metadata(system, path.text()) {
+        Ok(data) => data.is_symlink(),
+        Err(_) => false,
     }
 }
 
@@ -451,7 +459,7 @@ fn is_looked_at(found: Found) -> bool {
 // Whether this is the directory at a path.
 fn is_at<F: Drop>(here: &Option<Here<F>>, path: &str) -> bool {
     match here {
-        Some(here) => here.path.as_str() == path,
+        Some(here) => here.is_at(path),
         None => false,
     }
 }
@@ -459,7 +467,7 @@ fn is_at<F: Drop>(here: &Option<Here<F>>, path: &str) -> bool {
 // Whether this directory is at a path or below it.
 fn is_below<F: Drop>(here: &Option<Here<F>>, top: &str) -> bool {
     match here {
-        Some(here) => is_within(here.path.as_str(), top),
+        Some(here) => here.is_below(top),
         None => false,
     }
 }

@@ -1,0 +1,95 @@
+//! The directories above a path, from the nearest one up.
+use crate::known::{Directory, Found, Identity, Known};
+use crate::ways::{is_within, name_of};
+use path_text::MAX_PATH;
+use std::alloc::Global;
+use std::fs::{File, Files};
+use std::os::fd::AsRawFd;
+use std::{fs, io};
+
+// If a path of `..` has more bytes, its directory is opened, and the path goes on from there.
+const FAR_UP: usize = 3000;
+
+/// Whether no other user can replace the directories above a path, up to the first known one or `/`. None of them may be a link.
+pub fn is_under_own<R: Files>(system: &R, known: &Known, path: &str, user: u32) -> bool {
+    let mut rest = path;
+    for _ in 0..MAX_PATH {
+        let Some((above, _)) = rest.rsplit_once('/') else {
+            return true;
+        };
+        if let Found::Is(_) = known.find(known.hash(above)) {
+            return true;
+        }
+        let at = if above.is_empty() { "/" } else { above };
+        match fs::symlink_metadata(system, at) {
+            Ok(data) if data.is_dir() && Directory::of(&data).keeps_own(user) => {}
+            _ => return false,
+        }
+        rest = above;
+    }
+    false
+}
+
+/// Whether the directory at a path, or one above it, is exposed. Those above the last private one are not.
+pub fn has_exposed_from(known: &Known, path: &str, private: &str) -> bool {
+    let mut rest = path;
+    for _ in 0..MAX_PATH {
+        if known.is_exposed(known.hash(rest)) {
+            return true;
+        }
+        if is_within(private, rest) {
+            return false;
+        }
+        let Some((above, _)) = rest.rsplit_once('/') else {
+            return false;
+        };
+        rest = above;
+    }
+    true
+}
+
+/// A directory, by its path and by a name that leads to it and ends in a slash.
+#[derive(Clone, Copy)]
+pub struct Place<'a> {
+    pub path: &'a str,
+    pub front: &'a str,
+}
+
+/// Whether a directory is the child of the one above it, and so on up. It compares up to the first directory that is unknown or was
+/// seen in its place already. The last one that was seen so has the path `seen`.
+pub fn is_in_place<R: Files>(
+    alloc: Global,
+    system: &R,
+    known: &Known,
+    place: Place<'_>,
+    seen: &str,
+    has_names: bool,
+) -> io::Result<bool>
+where
+    R::File: AsRawFd,
+{
+    let mut up = String::from_str(alloc, place.front)?;
+    let mut rest = place.path;
+    let mut _open = None;
+    for _ in 0..MAX_PATH {
+        if is_within(seen, rest) {
+            return Ok(true);
+        }
+        let Some((above, _)) = rest.rsplit_once('/') else {
+            return Ok(true);
+        };
+        up.push_str("../")?;
+        match known.find(known.hash(above)) {
+            Found::Is(due) if Identity::of(&fs::metadata(system, up.as_str())?) == due => {}
+            Found::Nothing => return Ok(true),
+            _ => return Ok(false),
+        }
+        if up.len() > FAR_UP && has_names {
+            let open = File::open(system, up.as_str())?;
+            up = name_of(alloc, &open)?;
+            _open = Some(open);
+        }
+        rest = above;
+    }
+    Ok(false)
+}
