@@ -172,6 +172,8 @@ fn a_directory_that_was_replaced_is_named(rt: HostRuntime) {
         so(&rt, reader.stat(&path).is_ok(), names);
     }
     swap(rt, &room).expect(&rt, "a link");
+    let own = room.at("top/a").expect(&rt, "a path");
+    so(&rt, reader.list(rt.alloc(), &own).is_err(), "no list");
     disk.take_reader(reader);
     let file = room.at("top/a/file").expect(&rt, "a path");
     so(
@@ -179,7 +181,12 @@ fn a_directory_that_was_replaced_is_named(rt: HostRuntime) {
         disk.act(rt.alloc(), Act::RemoveFile, &file).is_err(),
         "refused",
     );
-    let line = format!(in rt.alloc(); "REPLACED remove {}\n", file.text()).expect(&rt, "memory");
-    so(&rt, room.holds("errors", line.as_bytes()), "the line");
+    let lines = format!(in rt.alloc();
+        "REPLACED list {}\nREPLACED remove {}\n",
+        own.text(),
+        file.text()
+    );
+    let lines = lines.expect(&rt, "memory");
+    so(&rt, room.holds("errors", lines.as_bytes()), "the lines");
     room.remove().expect(&rt, "an empty room");
 }

@@ -1,6 +1,6 @@
 //! What the system of a test can't be made to tell: names that are no text, a directory that fails while it is read, and a clock.
-use crate::shared::{same, so};
-use outside::{Ground, ListError, Listing, Tree};
+use crate::shared::{joined, same, so};
+use outside::{Ground, ListError, Tree};
 use path_text::Path;
 use real_disk::{RealGround, Watch, seconds};
 use std::alloc::Allocator;
@@ -123,15 +123,6 @@ fn listed(
         listing.far(),
     ));
     (told, reader.faults())
-}
-
-fn joined(rt: &(impl Abort + AllocGlobal), listing: &Listing) -> String {
-    let mut names = String::new(rt.alloc());
-    for k in 0..listing.len() {
-        names.push_str(listing.name(k)).expect(rt, "memory");
-        names.push(' ').expect(rt, "memory");
-    }
-    names
 }
 
 #[test]

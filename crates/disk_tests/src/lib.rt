@@ -16,6 +16,8 @@ mod link_faults;
 #[cfg(test)]
 mod links;
 #[cfg(test)]
+mod listed_dirs;
+#[cfg(test)]
 mod lives;
 #[cfg(test)]
 mod looks;
@@ -35,6 +37,8 @@ mod screens;
 mod shared;
 #[cfg(test)]
 mod streams;
+#[cfg(test)]
+mod swapping;
 #[cfg(test)]
 mod swaps;
 #[cfg(test)]

@@ -2,100 +2,12 @@
 //! Every user may write in the directory over it.
 use crate::rooms::{Node, Room};
 use crate::shared::{same, so};
+use crate::swapping::{Moment, Swapping};
 use crate::swaps::{are_listed_by, exposed_room, is_as_before};
 use crate::whole_disk::{Act, DiskOver};
 use outside::WriteError;
-use real_disk::Watch;
-use std::alloc::Allocator;
-use std::fs::{File, Files, Metadata, OpenOptions};
 use std::io::ErrorKind;
-use std::path::PathBuf;
-use std::random::RandomSource;
 use std::{fs, io};
-
-/// The files of the system, where a link takes the place of each directory as soon as it is made, or was found to be there.
-#[derive(Clone, Copy, Drop)]
-struct Swapping<'a> {
-    host: HostRuntime,
-    /// The path to which a directory is moved.
-    aside: &'a str,
-    /// The text of the link.
-    out: &'a str,
-    /// Whether it has names for what is open.
-    has_names: bool,
-}
-
-impl Watch for Swapping<'_> {
-    fn apart(&self) -> Self {
-        *self
-    }
-}
-
-impl Files for Swapping<'_> {
-    type File = File;
-
-    type Dir = <HostRuntime as Files>::Dir;
-
-    fn open_file(&self, how: &OpenOptions, path: &str) -> io::Result<File> {
-        self.host.open_file(how, path)
-    }
-
-    fn open_dir(&self, path: &str) -> io::Result<Self::Dir> {
-        self.host.open_dir(path)
-    }
-
-    fn metadata(&self, path: &str) -> io::Result<Metadata> {
-        if !self.has_names && path.starts_with("/proc/self/fd/") {
-            return Err(io::Error::from(ErrorKind::NotFound));
-        }
-        self.host.metadata(path)
-    }
-
-    fn symlink_metadata(&self, path: &str) -> io::Result<Metadata> {
-        self.host.symlink_metadata(path)
-    }
-
-    fn copy(&self, from: &str, to: &str) -> io::Result<u64> {
-        self.host.copy(from, to)
-    }
-
-    fn rename(&self, from: &str, to: &str) -> io::Result<()> {
-        self.host.rename(from, to)
-    }
-
-    fn remove_file(&self, path: &str) -> io::Result<()> {
-        self.host.remove_file(path)
-    }
-
-    fn create_dir(&self, path: &str) -> io::Result<()> {
-        let told = self.host.create_dir(path);
-        self.host.rename(path, self.aside)?;
-        self.host.symlink(self.out, path)?;
-        told
-    }
-
-    fn remove_dir(&self, path: &str) -> io::Result<()> {
-        self.host.remove_dir(path)
-    }
-
-    fn remove_dir_all<B: Allocator>(&self, alloc: B, path: &str) -> io::Result<()> {
-        self.host.remove_dir_all(alloc, path)
-    }
-
-    fn read_link<B: Allocator>(&self, alloc: B, path: &str) -> io::Result<PathBuf<B>> {
-        self.host.read_link(alloc, path)
-    }
-
-    fn symlink(&self, original: &str, link: &str) -> io::Result<()> {
-        self.host.symlink(original, link)
-    }
-}
-
-impl RandomSource for Swapping<'_> {
-    fn fill_bytes(&self, bytes: &mut [u8]) -> io::Result<()> {
-        self.host.fill_bytes(bytes)
-    }
-}
 
 // Makes a directory in one that was looked at, and then works below it: the answer of the first call, whether each later one failed,
 // and whether nothing has changed where the link leads.
@@ -109,6 +21,8 @@ fn made_and_used(
     let (aside, out) = (room.at("top/aside")?, room.at("out")?);
     let system = Swapping {
         host,
+        moment: Moment::Made,
+        own: "",
         aside: aside.text(),
         out: out.text(),
         has_names,
@@ -163,6 +77,8 @@ fn a_directory_that_is_back_is_not_entered(rt: HostRuntime) {
     let out = room.at("out").expect(&rt, "a path");
     let system = Swapping {
         host: rt,
+        moment: Moment::Made,
+        own: "",
         aside: aside.text(),
         out: out.text(),
         has_names: true,

@@ -1,10 +1,10 @@
 //! Private directories are asked by their whole paths, and others are guarded: each test puts a link in the place of a directory
 //! between two calls, as only the user and root can in a private one.
 use crate::rooms::{Node, Room};
-use crate::shared::{same, so};
+use crate::shared::{joined, same, so};
 use crate::swaps::{are_listed, is_as_before, looked_at, room_with_modes, swap};
 use crate::whole_disk::{Act, WholeDisk};
-use outside::{LinkError, ReadError, Tree, WriteError};
+use outside::{LinkError, ListError, ReadError, Tree, WriteError};
 use path_text::MAX_PATH;
 use std::io::ErrorKind;
 use std::os::unix::fs::{MetadataExt, chown};
@@ -110,6 +110,39 @@ fn reads_the_other(rt: &impl Abort, host: HostRuntime, room: &Room, disk: &mut W
     so(rt, listed, "the list");
     same(rt, &reader.faults(), &0);
     disk.take_reader(reader);
+}
+
+// Another directory that took its place is listed, and a link is not followed.
+#[test]
+fn a_private_directory_is_listed_by_its_whole_path(rt: HostRuntime) {
+    for (node, listed) in [
+        (Node::Dir, Ok("")),
+        (Node::Link("../out"), Err(ListError::NotDir)),
+    ] {
+        let room = room_with_modes(rt, 0o755, 0o755).expect(&rt, "a room");
+        let mut disk = WholeDisk::make(rt);
+        let mut reader = disk.reader(rt.alloc()).expect(&rt, "memory");
+        let looks = are_listed(rt, &mut reader, &room, &["top", "top/a"]);
+        so(&rt, looks, "looks");
+        let own = room.at("top/a").expect(&rt, "a path");
+        let aside = room.at("top/aside").expect(&rt, "a path");
+        fs::rename(&rt, own.text(), aside.text()).expect(&rt, "aside");
+        room.put("top/a", node).expect(&rt, "another");
+        let told = reader.list(rt.alloc(), &own);
+        let names = told.map(|listing| joined(&rt, &listing));
+        let (want, faults) = if is_kept(rt, &room).expect(&rt, "an answer") {
+            (listed, 0)
+        } else {
+            (Err(ListError::Failed), 1)
+        };
+        match (&names, want) {
+            (Ok(names), Ok(want)) => same(&rt, &names.as_str(), &want),
+            (Err(told), Err(want)) => same(&rt, told, &want),
+            _ => so(&rt, false, "another answer"),
+        }
+        same(&rt, &reader.faults(), &faults);
+        room.remove().expect(&rt, "an empty room");
+    }
 }
 
 #[test]

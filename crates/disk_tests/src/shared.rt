@@ -1,4 +1,5 @@
 //! What the tests share beside rooms.
+use outside::Listing;
 use std::fmt::Debug;
 use std::process::Abort;
 
@@ -38,4 +39,14 @@ pub fn texts(rt: &(impl Abort + AllocGlobal), given: &[&str]) -> Vec<String> {
         texts.push(text).expect(rt, "room");
     }
     texts
+}
+
+/// The names of a directory, with a blank behind each.
+pub fn joined(rt: &(impl Abort + AllocGlobal), listing: &Listing) -> String {
+    let mut names = String::new(rt.alloc());
+    for k in 0..listing.len() {
+        names.push_str(listing.name(k)).expect(rt, "memory");
+        names.push(' ').expect(rt, "memory");
+    }
+    names
 }

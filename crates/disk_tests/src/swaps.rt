@@ -133,11 +133,10 @@ fn nothing_is_read_in_another_directory(rt: HostRuntime) {
     let empty = room.at("top/a/empty").expect(&rt, "a path");
     let told = reader.list(rt.alloc(), &empty).err();
     same(&rt, &told, &Some(ListError::Failed));
-    same(&rt, &reader.faults(), &3);
-    // The link itself is no directory.
     let own = room.at("top/a").expect(&rt, "a path");
     let told = reader.list(rt.alloc(), &own).err();
-    same(&rt, &told, &Some(ListError::NotDir));
+    same(&rt, &told, &Some(ListError::Failed));
+    same(&rt, &reader.faults(), &4);
     room.remove().expect(&rt, "an empty room");
 }
 
