@@ -19,6 +19,8 @@ directories are swapped directly below the tops alone, so that no swap goes thro
 
 - the directory outside: no path of it is gone or new, and no byte of it is another one;
 - dcp and dsync: no byte of a file outside stands in what was copied;
+- the names that only the directories outside have: dwalk prints none of them with one rank, as in every second of its runs. Of several ranks
+  one may take over a path, whose directory another one looked at;
 - the status: 0 or 1, and 1 where there is a note;
 - nothing is missing without a note. Files and links never move from their directory. If dwalk prints a directory, or dcmp has it on both
   sides, it prints them too, or names them or the directory. If dcp made a directory, they are in it, or it names them or the directory.
@@ -38,6 +40,7 @@ import time
 
 NOBODY, SWAPPER = 65534, 65533
 OWN, OTHER = b"own bytes\n", b"bytes from outside\n"
+ONLY_OUTSIDE = "canary"
 TOOLS = ("dwalk", "dcmp", "dcp", "dsync", "drm")
 KINDS = ("root in a user's tree", "root in its own tree", "another user", "root in its own tree in a user's directory", "the user who swaps")
 
@@ -52,6 +55,13 @@ def fill(top, content):
                 with open(f"{folder}/{name}", "wb") as file:
                     file.write(content)
             os.symlink("f0", f"{folder}/l")
+
+
+def mark(top):
+    """Puts a file into each directory of a tree."""
+    for folder, _, _ in os.walk(top):
+        with open(f"{folder}/{ONLY_OUTSIDE}", "wb") as file:
+            file.write(OTHER)
 
 
 def state(top):
@@ -125,9 +135,9 @@ def start_swapping(tops, whole, outside, aside, seed, user):
     return child
 
 
-def words(tool, work):
+def words(tool, work, ranks):
     return {
-        "dwalk": ["dwalk", f"{work}/t"],
+        "dwalk": ["dwalk", "--ranks", str(ranks), f"{work}/t"],
         "dcmp": ["dcmp", f"{work}/t", f"{work}/u"],
         "dcp": ["dcp", f"{work}/t", f"{work}/d"],
         "dsync": ["dsync", "--delete", f"{work}/t", f"{work}/u"],
@@ -182,7 +192,8 @@ def missing(tool, work, out, notes):
 
 
 def one_run(program, tool, work, kind, user, mask, swapper, seed):
-    """Runs a tool beside the swapping, and answers what was wrong."""
+    """Runs a tool beside the swapping, and answers the faults that it found."""
+    ranks = 1 if seed // len(TOOLS) % 8 < 4 else 4
     outside = f"{work}/outside/top"
     before = state(outside)
     tops = [f"{work}/t"] + ([f"{work}/d/t"] if tool == "dcp" else []) + ([f"{work}/u"] if tool in ("dcmp", "dsync") else [])
@@ -192,7 +203,7 @@ def one_run(program, tool, work, kind, user, mask, swapper, seed):
     children = [start_swapping(tops, whole, outside, f"{work}/aside", seed * 2 + k, swapper) for k in (0, 1)]
     time.sleep(0.003)
     try:
-        done = subprocess.run([program, *words(tool, work)], capture_output=True, check=False, preexec_fn=become(user, mask), timeout=60)
+        done = subprocess.run([program, *words(tool, work, ranks)], capture_output=True, check=False, preexec_fn=become(user, mask), timeout=60)
     finally:
         for child in children:
             os.kill(child, signal.SIGKILL)
@@ -207,6 +218,8 @@ def one_run(program, tool, work, kind, user, mask, swapper, seed):
         wrong += [f"copied from outside: {path}" for path, held in state(made).items() if held == OTHER]
     if done.returncode not in (0, 1) or (done.returncode == 1) != bool(done.stderr):
         wrong.append(f"status {done.returncode} with {len(done.stderr.splitlines())} notes")
+    if tool == "dwalk" and ranks == 1 and ONLY_OUTSIDE.encode() in done.stdout + done.stderr:
+        wrong.append("a name from outside")
     wrong += [f"without a note: {path}" for path in missing(tool, work, done.stdout.decode(), done.stderr.decode())]
     return wrong, len(done.stderr.splitlines())
 
@@ -230,6 +243,7 @@ def main():
         fill(f"{work}/t", OWN)
         fill(f"{work}/u", b"old" if tool == "dsync" else OWN)
         fill(f"{work}/outside/top", OTHER)
+        mark(f"{work}/outside/top")
         own(work, kind)
         user, mask = (NOBODY if kind == 2 else None), (0o022 if kind in (0, 3) else 0)
         found, noted = one_run(program, tool, work, kind, user, mask, SWAPPER if root else None, number)
