@@ -2,7 +2,7 @@
 """Checks that the documents, the man pages and the completions agree with the program. usage: check_docs.py
 
 - The table contrib/tools.txt has the options that the program reads (tool_words/specs/Table.antt) and those of its help
-  (mfu/src/help.rt and the two files of pages), and the files made from it are up to date.
+  (help_pages/src/help.rt and the two files of pages), and the files made from it are up to date.
 - Each help begins with one screen, 24 lines of 80 columns, that has the call, every status of its tool, and that paths are absolute.
 - The man page of a tool has each of its options, and bash, zsh and fish offer it. `apropos` finds a page by each word for the work of a tool.
 - `man --warnings` prints nothing, and each shell reads its completion.
@@ -70,7 +70,7 @@ def options_are_read(table):
 
 def helps_of(parts=HELP):
     """The texts of the help, or of its topics, each by the name of its constant."""
-    text = "".join(text_of(f"crates/mfu/src/{part}.rt") for part in parts)
+    text = "".join(text_of(f"crates/help_pages/src/{part}.rt") for part in parts)
     texts = re.findall(r'^(?:pub\(crate\) )?const ([A-Z]+): &str = "((?:[^"\\]|\\.)*)";', text, re.M)
     return {name: text.replace("\\\\", "\\") for name, text in texts if name != "VERSION"}
 

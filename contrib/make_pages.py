@@ -108,7 +108,7 @@ class Table:
 
 def version():
     """The version, which only the program's help has."""
-    text = open(os.path.join(TOP, "crates/mfu/src/help.rt"), encoding="utf-8").read()
+    text = open(os.path.join(TOP, "crates/help_pages/src/help.rt"), encoding="utf-8").read()
     return re.search(r'"mfu ([0-9.]+)\\n"', text).group(1)
 
 

@@ -93,7 +93,7 @@ def faults(top):
     """Each fault of each text for readers, as (file, fault)."""
     pages = [name for part in ("*.md", "docs/*.md", "bench/*.md") for name in sorted(glob.glob(os.path.join(top, part)))]
     texts = [(os.path.relpath(name, top), texts_of_page) for name in pages] + [(TABLE, texts_of_table)]
-    texts += [(f"crates/mfu/src/{name}.rt", texts_of_help) for name in HELP]
+    texts += [(f"crates/help_pages/src/{name}.rt", texts_of_help) for name in HELP]
     for name, divided in texts:
         if name != MADE:
             with open(os.path.join(top, name), encoding="utf-8") as file:

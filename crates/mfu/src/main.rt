@@ -6,24 +6,19 @@
 //!
 //! - `console` has the system that it runs on.
 //! - `given` has the words, and the file in which failures are kept.
-//! - `help` has the general help and the version, `reading_pages` and `changing_pages` the help of each tool, and `topics` the parts
-//!   that several tools share. They are printed if the words ask for nothing else, and for refused words with `--help` among
-//!   them.
-//! - `hints` has the line that follows the refusal of words.
+//!
+//! The crate `help_pages` has the help, the version and the hints. Help is printed if the words ask for nothing else, and for refused
+//! words with `--help` among them.
 //!
 //! The files, the streams and the time of the system are those of the crate `real_disk`. Only if standard error is a terminal, a line
 //! shows how far the run is, and a hint follows a refusal: every other reader gets only the text of the run.
 #![tactic(auto)]
 
-mod changing_pages;
 mod console;
 mod given;
-mod help;
-mod hints;
-mod reading_pages;
-mod topics;
 
 use console::Console;
+use help_pages::{asked, asked_among, hint, placing};
 use mfu_top::{Status, run};
 use outside::put_all;
 use real_disk::{AfterLive, Live, RealGround, RealSink, Watched, seconds};
@@ -41,7 +36,7 @@ fn main(rt: HostRuntime) -> ExitCode {
         Err(status) => return ExitCode::from(status.number()),
     };
     if let Some(text) = help_for(rt.alloc(), &words) {
-        return ExitCode::from(help::print(rt.stdout(), text).number());
+        return ExitCode::from(print_help(rt.stdout(), text).number());
     }
     let errors = given::errors_file(&rt, rt.stderr());
     let is_shown = rt.stderr().is_terminal();
@@ -73,6 +68,14 @@ fn main(rt: HostRuntime) -> ExitCode {
     ExitCode::from(status.number())
 }
 
+// Prints a help, and answers the status with which the program ends.
+fn print_help<W: Write + Drop>(out: W, text: &str) -> Status {
+    match put_all(&mut RealSink::make(out), text.as_bytes()) {
+        Ok(()) => Status::Done,
+        Err(_) => Status::Sink,
+    }
+}
+
 fn tool_of(words: &[String]) -> &str {
     match words.first() {
         Some(tool) => tool.as_str(),
@@ -82,10 +85,10 @@ fn tool_of(words: &[String]) -> &str {
 
 // The help that the words ask for, alone or among words that are refused.
 fn help_for(alloc: Global, words: &[String]) -> Option<&'static str> {
-    if let Some(text) = help::asked(words) {
+    if let Some(text) = asked(words) {
         return Some(text);
     }
-    let text = help::asked_among(words)?;
+    let text = asked_among(words)?;
     match read_words(alloc, words) {
         Err(WordsError::OutOfMemory) => None,
         Err(_) => Some(text),
@@ -98,11 +101,11 @@ fn print_hint<W: Write + Drop>(alloc: Global, words: &[String], to: W) {
     let mut to = RealSink::make(to);
     match read_words(alloc, words) {
         Ok(command) => {
-            let _ = put_all(&mut to, hints::placing(&command).as_bytes());
+            let _ = put_all(&mut to, placing(&command).as_bytes());
         }
         Err(why) => {
             if let Some(refusal) = why.refusal() {
-                if let Ok(line) = hints::hint(alloc, words, refusal) {
+                if let Ok(line) = hint(alloc, words, refusal) {
                     let _ = put_all(&mut to, line.as_bytes());
                 }
             }

@@ -1,7 +1,7 @@
 //! The lines of a script, and their calls.
 use crate::held::Held;
 use crate::troubles::Trouble;
-use crate::{commands, cuts, events, lists, notes, paths, queues, tests};
+use crate::{commands, cuts, events, lists, notes, pages, paths, queues, tests};
 use script_lines::{is_answer, is_remark, words_of};
 use std::alloc::{AllocError, Global};
 
@@ -54,6 +54,7 @@ enum Deed {
     Test,
     Expr,
     Ranges,
+    OfPages(pages::Asked),
     OfPaths(paths::Asked),
     OfQueues(queues::Asked),
     OfLists(lists::Asked),
@@ -61,7 +62,7 @@ enum Deed {
     OfEvents(events::Asked),
 }
 
-static DEEDS: [(&str, Deed); 53] = [
+static DEEDS: [(&str, Deed); 57] = [
     ("text", Deed::Text),
     ("words", Deed::Words),
     ("standard", Deed::Standard),
@@ -69,6 +70,10 @@ static DEEDS: [(&str, Deed); 53] = [
     ("test", Deed::Test),
     ("expr", Deed::Expr),
     ("ranges", Deed::Ranges),
+    ("help", Deed::OfPages(pages::Asked::Help)),
+    ("help_among", Deed::OfPages(pages::Asked::HelpAmong)),
+    ("hint", Deed::OfPages(pages::Asked::Hint)),
+    ("placing", Deed::OfPages(pages::Asked::Placing)),
     ("path", Deed::OfPaths(paths::Asked::Parse)),
     ("name", Deed::OfPaths(paths::Asked::Name)),
     ("join", Deed::OfPaths(paths::Asked::Join)),
@@ -141,6 +146,7 @@ fn do_deed(
         Deed::Test => tests::tell_test(alloc, words, told)?,
         Deed::Expr => tests::tell_expr(alloc, words, told)?,
         Deed::Ranges => cuts::tell(alloc, words, told)?,
+        Deed::OfPages(asked) => pages::tell(alloc, asked, words, told)?,
         Deed::OfPaths(asked) => paths::tell(alloc, asked, words, told)?,
         Deed::OfQueues(asked) => queues::tell(alloc, asked, held, words, told)?,
         Deed::OfLists(asked) => lists::tell(alloc, asked, held, words, told)?,

@@ -9,6 +9,8 @@
 //! | `text`, `: TEXT`, `:-TEXT` | none: begins a new text, and adds a line, or a text without a line feed, to it |
 //! | `words WORD ...` | the command of a command line, or the word that is refused and the reason |
 //! | `standard` | the defaults of a walk |
+//! | `help WORD ...`, `help_among WORD ...` | the first line of the help that the words ask for; the same for refused words |
+//! | `hint WORD ...`, `placing WORD ...` | the hint after refused words, and after a command that was refused |
 //! | `glob PATTERN TEXT` | whether the text matches |
 //! | `test NAME VALUE` | the test of an option's value, or why it is not valid |
 //! | `expr TEXT` | whether it is an expression about rows of a comparison, or why it is not valid |
@@ -51,6 +53,7 @@ mod events;
 mod held;
 mod lists;
 mod notes;
+mod pages;
 mod paths;
 mod queues;
 mod tests;
