@@ -1,7 +1,5 @@
 //! Folders that tests make for themselves, and what they put there.
-use outside::Ground;
-use path_text::{OutOfMemory, Path};
-use real_disk::{RealGround, RealReader};
+use path_text::Path;
 use std::fs::{File, OpenOptions, Permissions};
 use std::io::ErrorKind;
 use std::os::unix::fs::{PermissionsExt, symlink};
@@ -108,28 +106,6 @@ impl Room {
         }
     }
 
-    /// Whether the link there has just this text.
-    pub fn leads(&self, names: &str, text: &str) -> bool {
-        let Ok(path) = self.at(names) else {
-            return false;
-        };
-        match fs::read_link(&self.host, path.text()) {
-            Ok(told) => told.as_str() == text,
-            Err(_) => false,
-        }
-    }
-
-    /// Whether nothing stands there.
-    pub fn is_free(&self, names: &str) -> bool {
-        let Ok(path) = self.at(names) else {
-            return false;
-        };
-        match fs::symlink_metadata(&self.host, path.text()) {
-            Ok(_) => false,
-            Err(e) => e.kind() == ErrorKind::NotFound,
-        }
-    }
-
     /// Removes it, with all that is in it.
     pub fn remove(self) -> io::Result<()> {
         fs::remove_dir_all(&self.host, self.top.text())
@@ -149,9 +125,4 @@ pub fn parsed(host: HostRuntime, text: &str) -> io::Result<Path> {
         Ok(path) => Ok(path),
         Err(_) => Err(io::Error::from(ErrorKind::InvalidInput)),
     }
-}
-
-/// A reader of the files of the system.
-pub fn reader(host: HostRuntime) -> Result<RealReader<HostRuntime>, OutOfMemory> {
-    RealGround::make(host.alloc(), host).reader(host.alloc())
 }

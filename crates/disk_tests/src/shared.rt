@@ -22,25 +22,6 @@ pub fn bytes(rt: &(impl Abort + AllocGlobal), len: u32) -> Vec<u8> {
     bytes
 }
 
-/// So many times one letter.
-pub fn long(rt: &(impl Abort + AllocGlobal), letter: char, len: u32) -> String {
-    let mut name = String::new(rt.alloc());
-    for _ in 0..len {
-        name.push(letter).expect(rt, "room");
-    }
-    name
-}
-
-/// These texts.
-pub fn texts(rt: &(impl Abort + AllocGlobal), given: &[&str]) -> Vec<String> {
-    let mut texts = Vec::new(rt.alloc());
-    for text in given {
-        let text = String::from_str(rt.alloc(), text).expect(rt, "room");
-        texts.push(text).expect(rt, "room");
-    }
-    texts
-}
-
 /// The names of a directory, with a blank behind each.
 pub fn joined(rt: &(impl Abort + AllocGlobal), listing: &Listing) -> String {
     let mut names = String::new(rt.alloc());

@@ -2,7 +2,7 @@
 ghost use Rattle.std.specs.Prelude.{◌≡◌};
 ghost use Rattle.outside.specs.Tree.{is_root};
 
-use outside::{Ground, LinkText, LoadError, Plot, SaveError, WriteError, load, save};
+use outside::{Ground, LinkText, Plot, WriteError};
 use path_text::{OutOfMemory, Path};
 use real_disk::{RealGround, RealReader, Watch};
 use std::alloc::Global;
@@ -82,19 +82,6 @@ where
             Act::RemoveFile => self.files.remove_file(alloc, path),
             Act::RemoveDir => self.files.remove_dir(alloc, path),
         }
-    }
-
-    /// Saves a whole file.
-    pub fn save(&mut self, alloc: Global, path: &Path, bytes: &[u8]) -> Result<(), SaveError> {
-        save(alloc, &mut self.files, path, bytes)
-    }
-
-    /// The bytes of a whole file.
-    pub fn load(&mut self, alloc: Global, path: &Path) -> Result<Vec<u8>, LoadError> {
-        let Ok(mut reader) = self.files.reader(alloc) else {
-            return Err(LoadError::OutOfMemory);
-        };
-        load(alloc, &mut reader, path)
     }
 
     /// A reader of the files as they are now.

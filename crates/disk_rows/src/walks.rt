@@ -1,5 +1,4 @@
-//! What dwalk prints of a directory, by a walk of the tests' own.
-use path_text::Path;
+//! The text that dwalk prints of a directory, by another walk.
 use std::{fs, io};
 
 /// How many of each kind a walk met.
@@ -64,8 +63,8 @@ fn shown(host: HostRuntime, path: &str) -> io::Result<(char, u64)> {
     }
 }
 
-// The names of the children, in byte order.
-fn names(host: HostRuntime, path: &str) -> io::Result<Vec<String>> {
+/// The names of the children, in byte order.
+pub fn names(host: HostRuntime, path: &str) -> io::Result<Vec<String>> {
     let mut names = Vec::new(host.alloc());
     for entry in fs::read_dir(&host, path)? {
         names.push(String::from_str(host.alloc(), entry?.file_name())?)?;
@@ -92,12 +91,12 @@ fn line(host: HostRuntime, path: &str, kind: char, size: u64) -> io::Result<Stri
     Ok(format!(in host.alloc(); "{kind} {size:>12} {shown}\n")?)
 }
 
-/// What dwalk prints of a directory that has at most 10,000 nodes, and no others than directories, files and links.
-pub fn walked(host: HostRuntime, top: &Path) -> io::Result<String> {
+/// The text that dwalk prints of a directory that has at most 10,000 nodes, and no others than directories, files and links.
+pub fn walked(host: HostRuntime, top: &str) -> io::Result<String> {
     let mut text = String::new(host.alloc());
     let mut met = NONE;
     let mut left = Vec::new(host.alloc());
-    left.push(String::from_str(host.alloc(), top.text())?)?;
+    left.push(String::from_str(host.alloc(), top)?)?;
     for _ in 0..10_000u32 {
         let Some(path) = left.pop() else {
             break;
