@@ -1,17 +1,18 @@
 /* What the system's calls of our tools cost with nothing else: each entry and each file is asked by its whole path, as ours are.
  *
  * usage: cc -O2 -o floor floor.c
- *        floor walk TREE
- *        floor compare [-n|-o|-no] TREE COPY
- *        floor copy [-n|-o|-no] TREE TARGET
- *        floor remove TREE
+ *        floor walk [-c] TREE
+ *        floor compare [-n|-o|-c|-noc] TREE COPY
+ *        floor copy [-n|-o|-c|-noc] TREE TARGET
+ *        floor remove [-c] TREE
  *        floor order PATHS
  *
  * A walk asks one statx an entry, for a link readlink, and for a directory open, getdents64 and close. A comparison walks both trees,
  * which are to be equal, and asks for each file that is not empty, on each side, statx, open, statx of the open file, pread and close. A
  * copy makes each directory and each link, and asks for each file statx, open, statx of the open file, preads and close, and open,
  * pwrites and close. A removal walks, and removes from the last path to the first. With -n there is no statx before a file is opened, with -o none of the open file,
- * and with -no neither. The last one asks what a walk asks, in the order in which the paths stand in a file, one a line:
+ * and with -no neither. With -c the directory of each entry becomes the working directory, and the entry is asked by its last name; of two files
+ * that are compared or copied only the second one is. The last one asks what a walk asks, in the order in which the paths stand in a file, one a line:
  * `mfu dwalk --trace` tells in which order ranks handled them. It prints how many entries there are.
  */
 #define _GNU_SOURCE
@@ -37,7 +38,21 @@ struct list {
 };
 
 static char names[32768], one[65536], other[65536];
-static int looks = 1, looks_again = 1;
+static int looks = 1, looks_again = 1, moves = 0;
+
+/* The path as the system is asked for it: whole, or its last name in the working directory, which becomes the one of the path. */
+static const char *way(const char *path) {
+    static char here[8192];
+    const char *slash = strrchr(path, '/');
+    size_t len = slash - path;
+    if (!moves || !len || len >= sizeof here) return path;
+    if (strncmp(here, path, len) || here[len]) {
+        memcpy(here, path, len);
+        here[len] = 0;
+        if (chdir(here)) perror(here);
+    }
+    return slash + 1;
+}
 
 static void *grown(void *old, size_t bytes) {
     void *room = realloc(old, bytes);
@@ -85,12 +100,12 @@ static char *text_of(const char *path) {
 
 static void walk(struct list *list, char *path) {
     struct statx told;
-    look(path, &told);
+    look(way(path), &told);
     if (list->len == list->room) {
         list->room = list->room ? 2 * list->room : 1024;
         list->entries = grown(list->entries, list->room * sizeof *list->entries);
     }
-    char *text = S_ISLNK(told.stx_mode) ? text_of(path) : NULL;
+    char *text = S_ISLNK(told.stx_mode) ? text_of(way(path)) : NULL;
     list->entries[list->len++] = (struct entry){path, told.stx_mode, told.stx_size, text};
     if (!S_ISDIR(told.stx_mode)) return;
     char **paths = NULL;
@@ -108,7 +123,7 @@ static int opened(const char *path) {
 }
 
 static int same_bytes(const char *here, const char *there) {
-    int in = opened(here), to = opened(there), same = 1;
+    int in = opened(here), to = opened(way(there)), same = 1;
     long n = sizeof one, m;
     for (long at = 0; same && n == sizeof one; at += n) {
         n = pread(in, one, sizeof one, at);
@@ -130,7 +145,7 @@ static int compare(const struct list *here, const struct list *there) {
 }
 
 static void copy_file(const char *from, const char *to, long left) {
-    int in = opened(from), out = open(to, O_WRONLY | O_CREAT | O_EXCL | O_CLOEXEC, 0666);
+    int in = opened(from), out = open(way(to), O_WRONLY | O_CREAT | O_EXCL | O_CLOEXEC, 0666);
     for (long at = 0, n; left > 0 && (n = pread(in, one, left < (long)sizeof one ? left : (long)sizeof one, at)) > 0; left -= n, at += n)
         if (pwrite(out, one, n, at) != n) perror(to);
     close(in);
@@ -151,7 +166,7 @@ static void copy(const struct list *list, size_t top, const char *target) {
 static void remove_all(const struct list *list) {
     for (size_t k = list->len; k-- > 0;) {
         const struct entry *entry = &list->entries[k];
-        if (S_ISDIR(entry->mode) ? rmdir(entry->path) : unlink(entry->path)) perror(entry->path);
+        if (S_ISDIR(entry->mode) ? rmdir(way(entry->path)) : unlink(way(entry->path))) perror(entry->path);
     }
 }
 
@@ -175,10 +190,10 @@ static size_t in_order(const char *name) {
 int main(int count, char **words) {
     struct list here = {0}, there = {0};
     int at = 2;
-    if (count > 2 && words[2][0] == '-') looks = !strchr(words[2], 'n'), looks_again = !strchr(words[2], 'o'), at = 3;
+    if (count > 2 && words[2][0] == '-') looks = !strchr(words[2], 'n'), looks_again = !strchr(words[2], 'o'), moves = !!strchr(words[2], 'c'), at = 3;
     if (count == 3 && !strcmp(words[1], "order")) return printf("%zu\n", in_order(words[2])), 0;
     int paired = count > 1 && (!strcmp(words[1], "compare") || !strcmp(words[1], "copy"));
-    if (count != at + 1 + paired) return fputs("usage: floor walk|compare|copy|remove [-n|-o|-no] TREE [OTHER], or floor order PATHS\n", stderr), 2;
+    if (count != at + 1 + paired) return fputs("usage: floor walk|compare|copy|remove [-n|-o|-c|-noc] TREE [OTHER], or floor order PATHS\n", stderr), 2;
     walk(&here, words[at]);
     if (!strcmp(words[1], "compare")) {
         walk(&there, words[at + 1]);
