@@ -1,6 +1,6 @@
 //! The system of a script, which may refuse a call on links, and keeps lines about failed calls.
 //!
-//! It is a type of its own, without type parameters, so that the call of a run is checked in little time.
+//! It is a type of its own, without type parameters or a watched system in it, so that the call of a run is checked in little time.
 use path_text::Path;
 use real_disk::{Call, Watch, Watched};
 use std::alloc::Allocator;
@@ -27,10 +27,12 @@ pub struct Refusal<'a> {
     pub error: ErrorKind,
 }
 
-/// The files of the host, watched, of which one call may be refused.
+/// The files of the host, of which one call may be refused.
 #[derive(Clone, Copy, Drop)]
 pub struct Stage<'a> {
-    watched: Watched<'a, HostRuntime, HostRuntime, Stderr>,
+    host: HostRuntime,
+    // Takes lines about failed calls.
+    errors: &'a File,
     refusal: Option<Refusal<'a>>,
 }
 
@@ -38,7 +40,8 @@ impl<'a> Stage<'a> {
     /// Those that refuse nothing, and append lines about failed calls to the file.
     pub fn make(host: HostRuntime, errors: &'a File) -> Stage<'a> {
         Stage {
-            watched: Watched::make(host.alloc(), host, None, Some(errors)),
+            host,
+            errors,
             refusal: None,
         }
     }
@@ -46,9 +49,15 @@ impl<'a> Stage<'a> {
     /// The same, with one call that is refused.
     pub fn refusing(self, refusal: Refusal<'a>) -> Stage<'a> {
         Stage {
-            watched: self.watched,
+            host: self.host,
+            errors: self.errors,
             refusal: Some(refusal),
         }
+    }
+
+    // The host, with the file of lines about failed calls.
+    fn watched(&self) -> Watched<'a, HostRuntime, HostRuntime, Stderr> {
+        Watched::make(self.host.alloc(), self.host, None, Some(self.errors))
     }
 
     fn ask(&self, call: LinkCall, path: &str) -> io::Result<()> {
@@ -62,25 +71,20 @@ impl<'a> Stage<'a> {
 }
 
 impl Watch for Stage<'_> {
-    fn did(&self, call: Call, count: u64) {
-        self.watched.did(call, count);
-    }
+    fn did(&self, _call: Call, _count: u64) {}
 
     fn failed(&self, call: Call, path: &Path, cause: &io::Error) {
-        self.watched.failed(call, path, cause);
+        self.watched().failed(call, path, cause);
     }
 
     fn apart(&self) -> Self {
-        Stage {
-            watched: self.watched.apart(),
-            refusal: self.refusal,
-        }
+        *self
     }
 }
 
 impl RandomSource for Stage<'_> {
     fn fill_bytes(&self, buffer: &mut [u8]) -> io::Result<()> {
-        self.watched.fill_bytes(buffer)
+        self.host.fill_bytes(buffer)
     }
 }
 
@@ -90,53 +94,53 @@ impl Files for Stage<'_> {
     type Dir = <HostRuntime as Files>::Dir;
 
     fn open_file(&self, how: &OpenOptions, path: &str) -> io::Result<File> {
-        self.watched.open_file(how, path)
+        self.host.open_file(how, path)
     }
 
     fn open_dir(&self, path: &str) -> io::Result<Self::Dir> {
-        self.watched.open_dir(path)
+        self.host.open_dir(path)
     }
 
     fn metadata(&self, path: &str) -> io::Result<Metadata> {
-        self.watched.metadata(path)
+        self.host.metadata(path)
     }
 
     fn symlink_metadata(&self, path: &str) -> io::Result<Metadata> {
-        self.watched.symlink_metadata(path)
+        self.host.symlink_metadata(path)
     }
 
     fn copy(&self, from: &str, to: &str) -> io::Result<u64> {
-        self.watched.copy(from, to)
+        self.host.copy(from, to)
     }
 
     fn rename(&self, from: &str, to: &str) -> io::Result<()> {
-        self.watched.rename(from, to)
+        self.host.rename(from, to)
     }
 
     fn remove_file(&self, path: &str) -> io::Result<()> {
         self.ask(LinkCall::Remove, path)?;
-        self.watched.remove_file(path)
+        self.host.remove_file(path)
     }
 
     fn create_dir(&self, path: &str) -> io::Result<()> {
-        self.watched.create_dir(path)
+        self.host.create_dir(path)
     }
 
     fn remove_dir(&self, path: &str) -> io::Result<()> {
-        self.watched.remove_dir(path)
+        self.host.remove_dir(path)
     }
 
     fn remove_dir_all<B: Allocator>(&self, alloc: B, path: &str) -> io::Result<()> {
-        self.watched.remove_dir_all(alloc, path)
+        self.host.remove_dir_all(alloc, path)
     }
 
     fn read_link<B: Allocator>(&self, alloc: B, path: &str) -> io::Result<PathBuf<B>> {
         self.ask(LinkCall::Read, path)?;
-        self.watched.read_link(alloc, path)
+        self.host.read_link(alloc, path)
     }
 
     fn symlink(&self, original: &str, link: &str) -> io::Result<()> {
         self.ask(LinkCall::Make, link)?;
-        self.watched.symlink(original, link)
+        self.host.symlink(original, link)
     }
 }
