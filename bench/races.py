@@ -19,7 +19,7 @@ directories are swapped directly below the tops alone, so that no swap goes thro
 
 - the directory outside: no path of it is gone or new, and no byte of it is another one;
 - dcp and dsync: no byte of a file outside stands in what was copied;
-- the names that only the directories outside have: dwalk prints none of them with one rank, as in every second of its runs. Of several ranks
+- the names that only the directories outside have: dwalk prints none of them with one rank, as in half of its runs. Of several ranks
   one may take over a path, whose directory another one looked at;
 - the status: 0 or 1, and 1 where there is a note;
 - nothing is missing without a note. Files and links never move from their directory. If dwalk prints a directory, or dcmp has it on both
