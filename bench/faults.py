@@ -93,7 +93,7 @@ def state(top):
 def run(program, words, work, inject=None, log=None):
     """Runs the program under strace, and answers status, lines of output and lines of notes."""
     options = ["-e", "signal=none", "-qq", "-f", "-y", "-s", "0", "-o", log or os.devnull]
-    options += ["-e", f"trace={inject.split(':')[0]}", "-e", f"inject={inject}"] if inject else ["-e", "trace=" + ",".join(CALLS)]
+    options += ["-e", f"trace={inject.split(':')[0]}", "-e", f"inject={inject}"] if inject else ["-e", "trace=" + ",".join([*CALLS, "chdir"])]
     with open(f"{work}/out", "wb") as out, open(f"{work}/notes", "wb") as notes:
         status = subprocess.run(["strace", *options, program, *words], stdin=subprocess.DEVNULL, stdout=out, stderr=notes, check=False).returncode
     with open(f"{work}/out", "rb") as out, open(f"{work}/notes", "rb") as notes:
@@ -104,12 +104,15 @@ def calls_in(log, top):
     """The numbers and paths of the calls of each kind that have to do with the tree or with the outputs.
 
     A path in an open directory, as /proc/self/fd/N/NAME, counts as one below the path by which that was opened; a look at the directory
-    over a directory counts as one at the latter.
+    over a directory counts as one at the latter. A name alone counts as one in the working directory.
     """
-    counts, found, opened = dict.fromkeys(CALLS, 0), {name: [] for name in CALLS}, {}
+    counts, found, opened, here = dict.fromkeys(CALLS, 0), {name: [] for name in CALLS}, {}, ""
     with open(log, encoding="utf-8", errors="replace") as lines:
         for line in lines:
+            line = re.sub(r"AT_FDCWD<[^>]*>", "AT_FDCWD", line)
             told = re.match(r"\d+\s+(\w+)\((.*)", line)
+            if told and told[1] == "chdir" and told[2].endswith(" = 0"):
+                here = re.search(r'"([^"]*)"', told[2])[1]
             if not told or told[1] not in counts:
                 continue
             counts[told[1]] += 1
@@ -119,6 +122,9 @@ def calls_in(log, top):
             if made:
                 opened[made[1]] = made[2]
             path = re.search(rf"[\"<]({re.escape(top)}/[^\">]*)", told[2])
+            names = re.findall(r'"([^"]*)"(?!\.)', told[2])
+            if names and names[-1] and not names[-1].startswith("/"):
+                path = re.match(rf"({re.escape(top)}/.*)", f"{here}/{names[-1]}")
             if path:
                 found[told[1]].append((counts[told[1]], re.sub(r"(/\.\.)+/?$", "", path[1])))
     return found

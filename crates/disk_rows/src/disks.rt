@@ -47,6 +47,11 @@ impl<'a> Disk<'a> {
         }
     }
 
+    /// Lets calls change the working directory of the process.
+    pub fn work_alone(&mut self) {
+        self.files.work_alone(true);
+    }
+
     /// Does a call that writes. `/` is refused as `Failed`, and so is more than a line may write.
     pub fn act(&mut self, alloc: Global, act: Act<'_>, path: &Path) -> Result<(), WriteError> {
         if is_root(path) {

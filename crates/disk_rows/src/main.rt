@@ -40,6 +40,7 @@
 //! | `read_link PATH` | the text of a link |
 //! | `make_dir PATH`, `make_file PATH`, `make_link PATH TEXT`, `write PATH AT TEXT`, `remove_file PATH`, `remove_dir PATH` | the answer |
 //! | `save PATH N`, `load PATH` | the answer; the number of letters in turn that a file has |
+//! | `alone` | none: from now to `fresh` the reader and the files, which have not failed yet, may change the working directory. No run comes before `fresh` |
 //! | `faults` | how often the reader and the files have failed |
 //! | `errors` | the lines about failed calls since the last such line |
 #![tactic(auto)]

@@ -21,12 +21,14 @@ pub struct Run {
     pub notes: MemSink,
 }
 
-/// Runs the words over the files of the system.
+/// Runs the words over the files of the system. A run on one thread may change the working directory of the process.
 pub fn ran<T>(rt: &T, system: Stage<'_>, words: &[String]) -> Result<Run, OutOfMemory>
 where
     T: AllocGlobal + Clock + Threads + Wait + Sync,
 {
-    ran_over(rt, RealGround::make(rt.alloc(), system), words)
+    let mut files = RealGround::make(rt.alloc(), system);
+    files.work_alone(!words.iter().any(|word| word.as_str() == "--hosts"));
+    ran_over(rt, files, words)
 }
 
 // Runs the words over any files. It promises nothing, so that the check of a call reads no clause of `run`.

@@ -62,7 +62,7 @@ impl<'a> Stage<'a> {
 
     fn ask(&self, call: LinkCall, path: &str) -> io::Result<()> {
         match &self.refusal {
-            Some(refusal) if refusal.call == call && path.ends_with(refusal.end) => {
+            Some(refusal) if refusal.call == call && is_end_of(refusal.end, path) => {
                 Err(io::Error::from(refusal.error))
             }
             _ => Ok(()),
@@ -70,11 +70,20 @@ impl<'a> Stage<'a> {
     }
 }
 
+// Whether a path ends so. Of a path in the working directory the system hears the last name alone.
+fn is_end_of(end: &str, path: &str) -> bool {
+    path.ends_with(end) || end.strip_prefix('/') == Some(path)
+}
+
 impl Watch for Stage<'_> {
     fn did(&self, _call: Call, _count: u64) {}
 
     fn failed(&self, call: Call, path: &Path, cause: &io::Error) {
         self.watched().failed(call, path, cause);
+    }
+
+    fn work_in(&self, path: &str) -> io::Result<()> {
+        self.host.work_in(path)
     }
 
     fn apart(&self) -> Self {

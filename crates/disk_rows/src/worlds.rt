@@ -164,6 +164,10 @@ impl<'a> World<'a> {
                     self.disk.take_reader(reader);
                 }
             }
+            "alone" => {
+                self.renew();
+                self.disk.work_alone();
+            }
             "faults" => self.tell_faults(told)?,
             "errors" => put_lines(told, '|', &self.shown(&self.room.errors()?)?)?,
             _ => return Err(Trouble::Line),

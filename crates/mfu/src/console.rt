@@ -27,6 +27,10 @@ impl Watch for Console<'_> {
         self.watched.failed(call, path, cause);
     }
 
+    fn work_in(&self, path: &str) -> io::Result<()> {
+        self.watched.work_in(path)
+    }
+
     fn apart(&self) -> Self {
         Console {
             watched: self.watched.apart(),

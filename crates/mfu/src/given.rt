@@ -2,10 +2,12 @@
 ghost use Rattle.std.specs.Prelude.{◌≡◌, ◌⊎◌, IfErr};
 
 use mfu_top::Status;
+use std::alloc::Global;
 use std::fs::{File, Files, OpenOptions};
 use std::io::{ErrorKind, Write};
 use std::rt::Env;
 use std::{env, io};
+use tool_words::{Command, read_words};
 
 /// The words after the program's own name, or the status if one is not UTF-8 or no memory is found.
 pub fn words<R: Env + AllocGlobal>(rt: &R) -> Result<Vec<String>, Status>
@@ -18,6 +20,27 @@ pub fn words<R: Env + AllocGlobal>(rt: &R) -> Result<Vec<String>, Status>
     };
     let _name = words.next();
     words.collect(rt.alloc()).map_err(|_| Status::Memory)
+}
+
+/// Whether the words give a command that runs on one thread. All its paths are absolute.
+pub fn is_on_one_thread(alloc: Global, words: &[String]) -> bool {
+    match read_words(alloc, words) {
+        Ok(command) => hosts_of(&command) == 1,
+        Err(_) => false,
+    }
+}
+
+fn hosts_of(command: &Command) -> u32 {
+    match command {
+        Command::Walk { common, .. } => common.hosts,
+        Command::Find { common, .. } => common.hosts,
+        Command::Cmp { common, .. } => common.hosts,
+        Command::Copy { common, .. } => common.hosts,
+        Command::Sync { common, .. } => common.hosts,
+        Command::Dup { common, .. } => common.hosts,
+        Command::Remove { common, .. } => common.hosts,
+        Command::Test { common, .. } => common.hosts,
+    }
 }
 
 /// The file that the variable `MFU_ERRORS` names, open to append to it, if there is such a variable and it is not empty. If it

@@ -47,6 +47,7 @@ fn main(rt: HostRuntime) -> ExitCode {
     };
     let watched = Watched::make(rt.alloc(), rt, live.as_ref(), errors.as_ref());
     let mut files = RealGround::make(rt.alloc(), Console { watched });
+    files.work_alone(given::is_on_one_thread(rt.alloc(), &words));
     let mut out = RealSink::make(AfterLive::make(live.as_ref(), rt.stdout()));
     let mut notes = RealSink::make(AfterLive::make(live.as_ref(), rt.stderr()));
     let now = seconds(&rt);

@@ -3,7 +3,7 @@ use crate::known::{Directory, Found, Identity, Known};
 use crate::ways::{is_within, name_of};
 use path_text::MAX_PATH;
 use std::alloc::Global;
-use std::fs::{File, Files};
+use std::fs::{File, Files, OpenFile};
 use std::os::fd::AsRawFd;
 use std::{fs, io};
 
@@ -92,4 +92,14 @@ where
         rest = above;
     }
     Ok(false)
+}
+
+/// Whether the system has names for open directories. If it has, the name of `/` leads to `/`.
+pub fn has_names<R: Files>(alloc: Global, system: &R) -> io::Result<bool>
+where
+    R::File: AsRawFd,
+{
+    let top = File::open(system, "/")?;
+    let named = fs::metadata(system, name_of(alloc, &top)?.as_str())?;
+    Ok(Identity::of(&named) == Identity::of(&top.metadata()?))
 }

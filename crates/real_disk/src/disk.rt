@@ -91,7 +91,8 @@ where
         ensures same { self.new ≡ self.old }
         ensures size { IfOk result (λ answer. IfSome answer (λ stat. stat.kind ≢ Kind.File → stat.size ≡ 0)) }
     {
-        let data = match fs::symlink_metadata(&self.system, path.text()) {
+        let name = self.parents.name_to_look(&self.system, path);
+        let data = match fs::symlink_metadata(&self.system, name) {
             Ok(data) => data,
             Err(e) if is_absent(e.kind()) => return Ok(None),
             Err(e) => return Err(e),
@@ -126,7 +127,7 @@ where
     fn opened(&mut self, path: &Path) -> io::Result<R::File>
         ensures { self.new ≡ self.old }
     {
-        self.parents.go(&self.system, path)?;
+        self.parents.go(&self.system, path, 2)?;
         let in_private = self.parents.in_private();
         let told = to_read(&self.system, self.parents.way(), in_private);
         self.parents.told(&self.system, told)
@@ -136,7 +137,7 @@ where
     fn text_at(&mut self, alloc: Global, path: &Path) -> io::Result<PathBuf>
         ensures { self.new ≡ self.old }
     {
-        self.parents.go(&self.system, path)?;
+        self.parents.go(&self.system, path, 1)?;
         let told = self.system.read_link(alloc, self.parents.way());
         self.parents.told(&self.system, told)
     }

@@ -72,6 +72,14 @@ where
             cut: Cuttings::make(alloc),
         }
     }
+
+    /// Lets calls change the working directory of the process, if the run is alone. Until the files are dropped, nothing else in the process
+    /// may then name files by relative paths or change the working directory, and all readers and parts must be used on one thread.
+    pub fn work_alone(&mut self, is_alone: bool)
+        ensures { self.new ≡ self.old }
+    {
+        self.writer.work_alone(is_alone);
+    }
 }
 
 impl<R: Files + Watch + Copy> Plot for RealGround<R>

@@ -1,8 +1,10 @@
 //! A directory in which something was done, and its name in later calls to the system.
+use crate::answers::is_absent;
 use crate::known::Identity;
 use crate::ways::{is_within, name_of, with_slash};
 use std::alloc::Global;
-use std::fs::{Files, OpenFile};
+use std::fs::{File, Files, OpenFile};
+use std::io::ErrorKind;
 use std::os::fd::AsRawFd;
 use std::{fs, io};
 
@@ -88,4 +90,63 @@ impl<F: OpenFile + AsRawFd + Drop> Here<F> {
             open: Some(open),
         }))
     }
+
+    /// The directory at a path, to use what is in it. It must be this one. It is open if the system has a name for it and opens it.
+    pub fn to_use<R: Files<File = F>>(
+        alloc: Global,
+        system: &R,
+        path: &str,
+        due: Identity,
+        has_names: bool,
+    ) -> io::Result<Here<F>> {
+        if !has_names {
+            return Here::by_path(alloc, path, Some(due), false);
+        }
+        match File::open(system, with_slash(alloc, path)?.as_str()) {
+            Ok(open) => Here::held(alloc, path, due, open)?.ok_or(another()),
+            Err(e) if is_absent(e.kind()) => Err(e),
+            Err(_) => Here::by_path(alloc, path, Some(due), false),
+        }
+    }
+
+    /// The directory at a path, to list its names. It must be this one. It is open if the system has a name for it.
+    pub fn to_list<R: Files<File = F>>(
+        alloc: Global,
+        system: &R,
+        path: &str,
+        due: Identity,
+        has_names: bool,
+    ) -> io::Result<Here<F>> {
+        if has_names {
+            let open = File::open(system, with_slash(alloc, path)?.as_str())?;
+            return Here::held(alloc, path, due, open)?.ok_or(another());
+        }
+        let here = Here::by_path(alloc, path, Some(due), false)?;
+        if Identity::of(&fs::metadata(system, here.front())?) == due {
+            Ok(here)
+        } else {
+            Err(another())
+        }
+    }
+}
+
+/// Whether this is the directory at a path.
+pub fn is_at<F: Drop>(here: &Option<Here<F>>, path: &str) -> bool {
+    match here {
+        Some(here) => here.is_at(path),
+        None => false,
+    }
+}
+
+/// Whether this directory is at a path or below it.
+pub fn is_below<F: Drop>(here: &Option<Here<F>>, top: &str) -> bool {
+    match here {
+        Some(here) => here.is_below(top),
+        None => false,
+    }
+}
+
+/// The error if another directory is in the place of a known one.
+pub fn another() -> io::Error {
+    io::Error::from(ErrorKind::StaleNetworkFileHandle)
 }

@@ -87,6 +87,16 @@ pub enum Found {
     Lost,
 }
 
+impl Found {
+    /// Whether the run looked at the directory. It did not look at the one above a path word, in which others may write.
+    pub fn is_looked_at(self) -> bool {
+        match self {
+            Found::Is(identity) => identity != Identity::of_none(),
+            _ => false,
+        }
+    }
+}
+
 // Directories, by the hashes of their paths.
 #[derive(Drop)]
 struct Looks {

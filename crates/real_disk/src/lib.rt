@@ -14,6 +14,8 @@
 //! files.take_reader(reader);                         // adds the faults that it counted to those of the ground
 //! ```
 //!
+//! A run with one thread, whose process names no file by a relative path, asks in less time after [`RealGround::work_alone`].
+//!
 //! # What is proved
 //!
 //! They are proved safe and within the traits that they implement. They count each error of the system, and each name that is not
@@ -39,6 +41,7 @@ mod streams;
 mod watch;
 mod watched;
 mod ways;
+mod working;
 mod writers;
 
 pub use clocks::seconds;

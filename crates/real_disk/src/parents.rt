@@ -14,6 +14,10 @@
 //! in it, so the call names the whole path, and nothing is compared. A directory that was ever seen exposed to others stays
 //! exposed for the run.
 //!
+//! **In a private directory a name alone may serve.** If a run has its thread for itself, a private directory at which it looked may become
+//! the working directory of the process, and calls in it name the last name alone ([`Working`]). The working directory is forgotten
+//! before a directory is made or removed at it or above it, and when any directory is seen exposed.
+//!
 //! **Names are read from the open directory that was compared.** A known directory that is not private is opened to list it. Its identity
 //! and its `..` are compared as above. Then its names are read by way of `/proc/self/fd/N/`, and it stays open for later acts in it.
 //! A private directory, and one at which the run did not look, is opened by its path. The answers for a guarded directory are:
@@ -25,11 +29,13 @@
 //! - It may be read and not entered, so the system does not tell its `..`: its names. It does not stay open.
 //! - The system has no names for open directories: the directory is compared before and after it is opened by its path. A link in its
 //!   place is not followed, and is a failure.
-use crate::above::{Place, has_exposed_from, is_in_place, is_under_own};
+use crate::above::{Place, has_exposed_from, has_names, is_in_place, is_under_own};
 use crate::answers::is_absent;
-use crate::here::Here;
+use crate::here::{Here, another, is_at, is_below};
 use crate::known::{Directory, Found, Identity, Known, PathHash};
-use crate::ways::{around, is_within, name_of, plain, with_slash};
+use crate::watch::Watch;
+use crate::ways::{around, is_link, is_within, plain, with_slash};
+use crate::working::{Naming, Working};
 use path_text::{OutOfMemory, Path};
 use std::alloc::Global;
 use std::fs::{File, Files, OpenFile};
@@ -55,6 +61,7 @@ pub struct Parents<F: Drop> {
     // The path of the last directory that was found private.
     private: String,
     way: String,
+    working: Working,
 }
 
 impl<F: OpenFile + AsRawFd + Drop> Parents<F> {
@@ -65,12 +72,19 @@ impl<F: OpenFile + AsRawFd + Drop> Parents<F> {
             Ok(data) => Some(data.uid()),
             Err(_) => None,
         };
-        Parents::over(alloc, Known::make(alloc, key), has_names, user)
+        let working = Working::fixed(alloc);
+        Parents::over(alloc, Known::make(alloc, key), has_names, user, working)
     }
 }
 
 impl<F: Drop> Parents<F> {
-    fn over(alloc: Global, known: Known, has_names: bool, user: Option<u32>) -> Parents<F> {
+    fn over(
+        alloc: Global,
+        known: Known,
+        has_names: bool,
+        user: Option<u32>,
+        working: Working,
+    ) -> Parents<F> {
         Parents {
             alloc,
             known,
@@ -81,23 +95,40 @@ impl<F: Drop> Parents<F> {
             seen: String::new(alloc),
             private: String::new(alloc),
             way: String::new(alloc),
+            working,
         }
+    }
+
+    /// Lets calls change the working directory of the process, if the run is alone.
+    pub fn work_alone(&mut self, is_alone: bool) {
+        self.working = if is_alone {
+            Working::alone(self.alloc)
+        } else {
+            Working::fixed(self.alloc)
+        };
     }
 
     /// A copy of all knowledge, for a reader or a part.
     pub fn share(&mut self) -> Result<Parents<F>, OutOfMemory> {
         let known = self.known.share()?;
-        Ok(Parents::over(self.alloc, known, self.has_names, self.user))
+        let working = self.working.share()?;
+        Ok(Parents::over(self.alloc, known, self.has_names, self.user, working))
     }
 
     /// Takes the knowledge of a reader or a part.
     pub fn take(&mut self, other: Parents<F>) {
-        let Parents { known, .. } = other;
+        let Parents { known, working, .. } = other;
         self.here = None;
         self.other = None;
         self.seen.clear();
         self.private.clear();
         self.known.take(known);
+        self.working.take(working);
+    }
+
+    /// Forgets the working directory if it may be at a path or below it, before a directory is made or removed there.
+    pub fn forget(&mut self, path: &Path) {
+        self.working.forget(plain(path));
     }
 
     /// Keeps which directory is at a path, in place of any other one.
@@ -155,6 +186,8 @@ impl<F: Drop> Parents<F> {
         self.known.expose(hash);
         self.private.clear();
         self.leave_below(path);
+        // If there was no memory for that, each directory counts as exposed.
+        self.working.forget("");
     }
 
     // The knowledge about the directory at a path.
@@ -189,6 +222,29 @@ impl<F: Drop> Parents<F> {
             self.private.clear();
         }
         true
+    }
+
+    // Whether a call, which asks the system so often, names an entry of the directory at a path by its last name alone. It does so in the
+    // working directory. A private directory at which the run looked may become that.
+    fn is_alone<R: Watch>(&mut self, system: &R, path: &str, asks: u64) -> bool {
+        match self.working.naming(path, asks) {
+            Naming::Alone => true,
+            Naming::Due => {
+                let may_enter = self.find(path).is_looked_at() && self.is_private(path);
+                self.working.enter(system, path, may_enter)
+            }
+            Naming::Whole => false,
+        }
+    }
+
+    /// The name by which the system is asked for what is at a path, where nothing is compared.
+    pub fn name_to_look<'a, R: Watch>(&mut self, system: &R, path: &'a Path) -> &'a str {
+        let (above, name) = around(path);
+        if self.is_alone(system, above, 1) {
+            name
+        } else {
+            path.text()
+        }
     }
 
     /// Closes the directories that were used last, unless the path is in one of them.
@@ -263,9 +319,14 @@ impl<F: Drop> Parents<F> {
 }
 
 impl<F: OpenFile + AsRawFd + Drop> Parents<F> {
-    /// Makes a path the current one, so that [`Parents::way`] is its name in calls to the system. If the directory above it does not exist,
-    /// nothing is at the path.
-    pub fn go<R: Files<File = F>>(&mut self, system: &R, path: &Path) -> io::Result<()> {
+    /// Makes a path the current one, so that [`Parents::way`] is its name in calls to the system, of which so many come. If the directory above
+    /// it does not exist, nothing is at the path.
+    pub fn go<R: Files<File = F> + Watch>(
+        &mut self,
+        system: &R,
+        path: &Path,
+        asks: u64,
+    ) -> io::Result<()> {
         let (above, name) = around(path);
         if !is_at(&self.here, above) {
             mem::swap(&mut self.here, &mut self.other);
@@ -284,8 +345,10 @@ impl<F: OpenFile + AsRawFd + Drop> Parents<F> {
             return Err(another());
         }
         self.way.clear();
-        if let Some(here) = &self.here {
-            self.way.push_str(here.front())?;
+        if !self.is_alone(system, above, asks) {
+            if let Some(here) = &self.here {
+                self.way.push_str(here.front())?;
+            }
         }
         self.way.push_str(name)?;
         Ok(())
@@ -294,7 +357,7 @@ impl<F: OpenFile + AsRawFd + Drop> Parents<F> {
     fn entered<R: Files<File = F>>(&mut self, system: &R, path: &str) -> io::Result<Here<F>> {
         let found = self.find(path);
         if self.is_private(path) {
-            return Here::by_path(self.alloc, path, None, is_looked_at(found));
+            return Here::by_path(self.alloc, path, None, found.is_looked_at());
         }
         match found {
             Found::Is(due) => self.known_entered(system, path, due),
@@ -310,7 +373,7 @@ impl<F: OpenFile + AsRawFd + Drop> Parents<F> {
         path: &str,
         due: Identity,
     ) -> io::Result<Here<F>> {
-        let here = self.opened(system, path, due)?;
+        let here = Here::to_use(self.alloc, system, path, due, self.has_names)?;
         if !self.is_in_place(system, path, &here)? {
             return Err(another());
         }
@@ -331,23 +394,6 @@ impl<F: OpenFile + AsRawFd + Drop> Parents<F> {
         is_in_place(self.alloc, system, &self.known, place, seen, self.has_names)
     }
 
-    // The directory at a path. It must be this one. It is open if the system has a name for it and opens it.
-    fn opened<R: Files<File = F>>(
-        &self,
-        system: &R,
-        path: &str,
-        due: Identity,
-    ) -> io::Result<Here<F>> {
-        if !self.has_names {
-            return Here::by_path(self.alloc, path, Some(due), false);
-        }
-        match File::open(system, with_slash(self.alloc, path)?.as_str()) {
-            Ok(open) => Here::held(self.alloc, path, due, open)?.ok_or(another()),
-            Err(e) if is_absent(e.kind()) => Err(e),
-            Err(_) => Here::by_path(self.alloc, path, Some(due), false),
-        }
-    }
-
     // Keeps that the directory at a path was seen to be in its place.
     fn see(&mut self, path: &str) -> io::Result<()> {
         self.seen.clear();
@@ -362,7 +408,9 @@ impl<F: OpenFile + AsRawFd + Drop> Parents<F> {
     /// place. If a link has taken its place, that is an error also where the link leads nowhere.
     pub fn open_dir<R: Files<File = F>>(&mut self, system: &R, path: &Path) -> io::Result<R::Dir> {
         if self.is_private(plain(path)) {
-            return system.open_dir(path.text());
+            let (above, name) = around(path);
+            let is_alone = self.working.is_at(above);
+            return system.open_dir(if is_alone { name } else { path.text() });
         }
         match self.find(plain(path)) {
             Found::Is(due) => match self.known_dir(system, path, due) {
@@ -390,7 +438,7 @@ impl<F: OpenFile + AsRawFd + Drop> Parents<F> {
         due: Identity,
     ) -> io::Result<R::Dir> {
         let text = plain(path);
-        let here = self.to_list(system, text, due)?;
+        let here = Here::to_list(self.alloc, system, text, due, self.has_names)?;
         // The directory above it is compared again, also if this one was seen in its place.
         if is_within(self.seen.as_str(), text) {
             self.seen.clear();
@@ -419,70 +467,4 @@ impl<F: OpenFile + AsRawFd + Drop> Parents<F> {
         }
         Ok(dir)
     }
-
-    // The directory at a path, to list its names. It must be this one. It is open if the system has a name for it.
-    fn to_list<R: Files<File = F>>(
-        &self,
-        system: &R,
-        path: &str,
-        due: Identity,
-    ) -> io::Result<Here<F>> {
-        if self.has_names {
-            let open = File::open(system, with_slash(self.alloc, path)?.as_str())?;
-            return Here::held(self.alloc, path, due, open)?.ok_or(another());
-        }
-        let here = Here::by_path(self.alloc, path, Some(due), false)?;
-        if Identity::of(&fs::metadata(system, here.front())?) == due {
-            Ok(here)
-        } else {
-            Err(another())
-        }
-    }
-}
-
-// Whether a link is at a path.
-fn is_link<R: Files>(system: &R, path: &Path) -> bool {
-    match fs::symlink_metadata(system, path.text()) {
-        Ok(data) => data.is_symlink(),
-        Err(_) => false,
-    }
-}
-
-// Whether the run looked at a directory. It did not look at the one above a path word, in which others may write.
-fn is_looked_at(found: Found) -> bool {
-    match found {
-        Found::Is(identity) => identity != Identity::of_none(),
-        _ => false,
-    }
-}
-
-// Whether this is the directory at a path.
-fn is_at<F: Drop>(here: &Option<Here<F>>, path: &str) -> bool {
-    match here {
-        Some(here) => here.is_at(path),
-        None => false,
-    }
-}
-
-// Whether this directory is at a path or below it.
-fn is_below<F: Drop>(here: &Option<Here<F>>, top: &str) -> bool {
-    match here {
-        Some(here) => here.is_below(top),
-        None => false,
-    }
-}
-
-// Whether the system has names for open directories. If it has, the name of `/` leads to `/`.
-fn has_names<R: Files>(alloc: Global, system: &R) -> io::Result<bool>
-where
-    R::File: AsRawFd,
-{
-    let top = File::open(system, "/")?;
-    let named = fs::metadata(system, name_of(alloc, &top)?.as_str())?;
-    Ok(Identity::of(&named) == Identity::of(&top.metadata()?))
-}
-
-/// The error if another directory is in the place of a known one.
-pub fn another() -> io::Error {
-    io::Error::from(ErrorKind::StaleNetworkFileHandle)
 }

@@ -1,7 +1,7 @@
 //! The watch, which hears of the calls of a run to the files.
 use path_text::Path;
-use std::io;
 use std::rt::HostRuntime;
+use std::{env, io};
 
 /// A call to the files, by the work that it does.
 #[derive(Clone, Copy, Debug, Drop, PartialEq, Eq)]
@@ -58,6 +58,11 @@ pub trait Watch {
     /// A call failed, so the files count a fault.
     fn failed(&self, _call: Call, _path: &Path, _cause: &io::Error) {}
 
+    /// Makes a directory the working directory of the process, if the system can.
+    fn work_in(&self, _path: &str) -> io::Result<()> {
+        Err(io::Error::from(io::ErrorKind::Unsupported))
+    }
+
     /// The same system, for another reader, part or span that may run beside this one.
     fn apart(&self) -> Self
     where
@@ -65,6 +70,10 @@ pub trait Watch {
 }
 
 impl Watch for HostRuntime {
+    fn work_in(&self, path: &str) -> io::Result<()> {
+        env::set_current_dir(self, path)
+    }
+
     fn apart(&self) -> HostRuntime {
         *self
     }

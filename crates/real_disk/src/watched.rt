@@ -41,7 +41,7 @@ impl<'a, R, C, P> Watched<'a, R, C, P> {
     }
 }
 
-impl<R: Copy, C: Clock + Copy, P: Print + Copy> Watch for Watched<'_, R, C, P> {
+impl<R: Watch + Copy, C: Clock + Copy, P: Print + Copy> Watch for Watched<'_, R, C, P> {
     fn did(&self, call: Call, count: u64) {
         if let Some(live) = self.live {
             live.add(self.row, call, count);
@@ -57,6 +57,10 @@ impl<R: Copy, C: Clock + Copy, P: Print + Copy> Watch for Watched<'_, R, C, P> {
             // Linux appends to a file that is open to append, at whatever place a write names.
             let _ = errors.write_at(line.as_slice(), 0);
         }
+    }
+
+    fn work_in(&self, path: &str) -> io::Result<()> {
+        self.system.work_in(path)
     }
 
     fn apart(&self) -> Self {

@@ -1,8 +1,9 @@
 //! The names of directories and of entries, as the system is asked for them.
 use path_text::Path;
 use std::alloc::Global;
-use std::io;
+use std::fs::Files;
 use std::os::fd::AsRawFd;
+use std::{fs, io};
 
 /// The name of an open directory, with a slash after it.
 pub fn name_of<F: AsRawFd>(alloc: Global, open: &F) -> io::Result<String> {
@@ -35,5 +36,13 @@ pub fn is_within(path: &str, top: &str) -> bool {
     match path.strip_prefix(top) {
         Some(rest) => rest.is_empty() || rest.starts_with('/'),
         None => false,
+    }
+}
+
+/// Whether a link is at a path.
+pub fn is_link<R: Files>(system: &R, path: &Path) -> bool {
+    match fs::symlink_metadata(system, path.text()) {
+        Ok(data) => data.is_symlink(),
+        Err(_) => false,
     }
 }

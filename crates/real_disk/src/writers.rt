@@ -5,8 +5,9 @@ ghost use Rattle.outside.specs.Writes.{may_make, may_change, may_empty};
 
 use crate::answers::{changed, emptied, is_absent, made, wrote};
 use crate::handles::{Handle, to_make, to_write};
+use crate::here::another;
 use crate::known::Directory;
-use crate::parents::{Parents, another};
+use crate::parents::Parents;
 use crate::watch::{Call, Watch};
 use outside::{LinkText, WriteError};
 use path_text::{OutOfMemory, Path};
@@ -47,6 +48,13 @@ impl<R: Files> RealWriter<R> {
             written: None,
             count: 0,
         }
+    }
+
+    /// Lets calls change the working directory of the process, if the run is alone.
+    pub fn work_alone(&mut self, is_alone: bool)
+        ensures { self.new ≡ self.old }
+    {
+        self.parents.work_alone(is_alone);
     }
 
     /// How often it has failed.
@@ -207,7 +215,8 @@ where
     fn dir_made(&mut self, path: &Path) -> io::Result<()>
         ensures { self.new ≡ self.old }
     {
-        self.parents.go(&self.system, path)?;
+        self.parents.go(&self.system, path, 2)?;
+        self.parents.forget(path);
         let told = fs::create_dir(&self.system, self.parents.way());
         let told = self.parents.told(&self.system, told);
         match told {
@@ -242,7 +251,7 @@ where
     fn file_made(&mut self, path: &Path) -> io::Result<()>
         ensures { self.new ≡ self.old }
     {
-        self.parents.go(&self.system, path)?;
+        self.parents.go(&self.system, path, 1)?;
         let told = to_make(&self.system, self.parents.way());
         let file = self.parents.told(&self.system, told)?;
         self.written = Handle::keep(path, file);
@@ -252,7 +261,7 @@ where
     fn link_made(&mut self, path: &Path, text: &LinkText) -> io::Result<()>
         ensures { self.new ≡ self.old }
     {
-        self.parents.go(&self.system, path)?;
+        self.parents.go(&self.system, path, 1)?;
         let told = self.system.symlink(text.text(), self.parents.way());
         self.parents.told(&self.system, told)
     }
@@ -260,7 +269,7 @@ where
     fn file_opened(&mut self, path: &Path) -> io::Result<R::File>
         ensures { self.new ≡ self.old }
     {
-        self.parents.go(&self.system, path)?;
+        self.parents.go(&self.system, path, 2)?;
         let in_private = self.parents.in_private();
         let told = to_write(&self.system, self.parents.way(), in_private);
         self.parents.told(&self.system, told)
@@ -269,7 +278,7 @@ where
     fn file_removed(&mut self, path: &Path) -> io::Result<()>
         ensures { self.new ≡ self.old }
     {
-        self.parents.go(&self.system, path)?;
+        self.parents.go(&self.system, path, 1)?;
         let told = fs::remove_file(&self.system, self.parents.way());
         self.parents.told(&self.system, told)
     }
@@ -278,7 +287,8 @@ where
     fn dir_removed(&mut self, path: &Path) -> io::Result<()>
         ensures { self.new ≡ self.old }
     {
-        self.parents.go(&self.system, path)?;
+        self.parents.go(&self.system, path, 1)?;
+        self.parents.forget(path);
         let told = fs::remove_dir(&self.system, self.parents.way());
         match self.parents.told(&self.system, told) {
             Err(e) if e.kind() == ErrorKind::NotADirectory && self.is_gone() => {
