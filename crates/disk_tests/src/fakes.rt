@@ -114,15 +114,16 @@ fn listed(
 ) -> (Result<(String, u64, u64), ListError>, u64) {
     let alloc = rt.alloc();
     let path = Path::parse(alloc, "/x").expect(rt, "a path");
-    let mut reader = RealGround::make(alloc, Odd { fails })
-        .reader(alloc)
-        .expect(rt, "memory");
+    let mut files = RealGround::make(alloc, Odd { fails });
+    let mut reader = files.reader(alloc).expect(rt, "memory");
     let told = reader.list(alloc, &path).map(|listing| (
         joined(rt, &listing),
         listing.unnamed(),
         listing.far(),
     ));
-    (told, reader.faults())
+    let faults = reader.faults();
+    files.take_reader(reader);
+    (told, faults)
 }
 
 #[test]

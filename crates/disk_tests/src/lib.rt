@@ -8,6 +8,8 @@
 #[cfg(test)]
 mod causes;
 #[cfg(test)]
+mod counting;
+#[cfg(test)]
 mod fakes;
 #[cfg(test)]
 mod listed_dirs;
@@ -31,3 +33,5 @@ mod swapping;
 mod swaps;
 #[cfg(test)]
 mod whole_disk;
+#[cfg(test)]
+mod working_dirs;

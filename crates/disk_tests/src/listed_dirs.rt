@@ -41,8 +41,8 @@ fn replace(
     }
 }
 
-// Stops the test where the names in a directory are not these, or the answer is not this one.
-fn lists<R: Tree>(
+/// Stops the test where the names in a directory are not these, or the answer is not this one.
+pub fn lists<R: Tree>(
     rt: &(impl Abort + AllocGlobal),
     reader: &mut R,
     room: &Room,
@@ -67,7 +67,7 @@ fn lists_after(
     has_names: bool,
     want: Result<&str, ListError>,
 ) {
-    let room = exposed_room(host).expect(rt, "a room");
+    let room = exposed_room(rt, host);
     let system = Swapping {
         host,
         moment: Moment::Never,
@@ -83,6 +83,7 @@ fn lists_after(
     lists(rt, &mut reader, &room, "top/a", want);
     let faults = if want == Err(ListError::Failed) { 1 } else { 0 };
     same(rt, &reader.faults(), &faults);
+    disk.take_reader(reader);
     room.remove().expect(rt, "an empty room");
 }
 
@@ -148,8 +149,8 @@ fn the_same_directory_below_another_one_is_not_listed(rt: HostRuntime) {
 // Also if it was listed before in its place.
 #[test]
 fn a_listed_directory_below_another_one_is_not_listed(rt: HostRuntime) {
-    let room = exposed_room(rt).expect(&rt, "a room");
-    let mut reader = listed_before(rt, &room).expect(&rt, "a reader");
+    let room = exposed_room(&rt, rt);
+    let mut reader = listed_before(&rt, rt, &room);
     let node = Some(Node::Link("../out/moved"));
     replace(rt, &room, ("top/a", "out/moved"), node).expect(&rt, "a link");
     lists(&rt, &mut reader, &room, "top/a", Err(ListError::Failed));
@@ -157,49 +158,53 @@ fn a_listed_directory_below_another_one_is_not_listed(rt: HostRuntime) {
     room.remove().expect(&rt, "an empty room");
 }
 
+// Moves the directory away, and puts another one or a link to it in its place.
+fn put_another(rt: &impl Abort, host: HostRuntime, room: &Room, by_link: bool) {
+    let names = ("top/a", "top/aside");
+    if by_link {
+        let node = Some(Node::Link("../out"));
+        replace(host, room, names, node).expect(rt, "a link");
+    } else {
+        replace(host, room, names, None).expect(rt, "aside");
+        replace(host, room, ("out", "top/a"), None).expect(rt, "another");
+    }
+}
+
+// Stops the test where the child of another directory is listed.
+fn child_is_not_listed(rt: &(impl Abort + AllocGlobal), host: HostRuntime, by_link: bool) {
+    let room = exposed_room(rt, host);
+    let mut reader = listed_before(rt, host, &room);
+    put_another(rt, host, &room, by_link);
+    let seen = are_seen(&mut reader, &room, &["top/a/empty"]);
+    so(rt, seen, "a look");
+    let want = Err(ListError::Failed);
+    lists(rt, &mut reader, &room, "top/a/empty", want);
+    same(rt, &reader.faults(), &1);
+    room.remove().expect(rt, "an empty room");
+}
+
 // The child is the one that was looked at, and its path leads by way of another directory.
 #[test]
 fn a_child_of_another_directory_is_not_listed(rt: HostRuntime) {
     for by_link in [true, false] {
-        let room = exposed_room(rt).expect(&rt, "a room");
-        let mut reader = listed_before(rt, &room).expect(&rt, "a reader");
-        if by_link {
-            let node = Some(Node::Link("../out"));
-            replace(rt, &room, ("top/a", "top/aside"), node).expect(&rt, "a link");
-        } else {
-            replace(rt, &room, ("top/a", "top/aside"), None).expect(&rt, "aside");
-            replace(rt, &room, ("out", "top/a"), None).expect(&rt, "another");
-        }
-        so(
-            &rt,
-            are_seen(&mut reader, &room, &["top/a/empty"]),
-            "a look",
-        );
-        let want = Err(ListError::Failed);
-        lists(&rt, &mut reader, &room, "top/a/empty", want);
-        same(&rt, &reader.faults(), &1);
-        room.remove().expect(&rt, "an empty room");
+        child_is_not_listed(&rt, rt, by_link);
     }
 }
 
 // A reader that looked at two directories and listed them.
-fn listed_before(host: HostRuntime, room: &Room) -> io::Result<RealReader<HostRuntime>> {
+fn listed_before(rt: &impl Abort, host: HostRuntime, room: &Room) -> RealReader<HostRuntime> {
     let mut disk = WholeDisk::make(host);
-    let Ok(mut reader) = disk.reader(host.alloc()) else {
-        return Err(io::Error::from(io::ErrorKind::OutOfMemory));
-    };
-    if are_listed(host, &mut reader, room, &["top", "top/a"]) {
-        Ok(reader)
-    } else {
-        Err(io::Error::from(io::ErrorKind::NotFound))
-    }
+    let mut reader = disk.reader(host.alloc()).expect(rt, "memory");
+    let listed = are_listed(host, &mut reader, room, &["top", "top/a"]);
+    so(rt, listed, "looks");
+    reader
 }
 
 // After a list the files of the directory are read in that very directory, whatever takes its place.
 #[test]
 fn a_listed_directory_is_read(rt: HostRuntime) {
-    let room = exposed_room(rt).expect(&rt, "a room");
-    let mut reader = listed_before(rt, &room).expect(&rt, "a reader");
+    let room = exposed_room(&rt, rt);
+    let mut reader = listed_before(&rt, rt, &room);
     let node = Some(Node::Link("../out"));
     replace(rt, &room, ("top/a", "top/aside"), node).expect(&rt, "a link");
     let file = room.at("top/a/file").expect(&rt, "a path");
@@ -213,11 +218,26 @@ fn a_listed_directory_is_read(rt: HostRuntime) {
     room.remove().expect(&rt, "an empty room");
 }
 
+// Stops the test where a system that swaps this directory as it is opened tells other names.
+fn lists_open(
+    rt: &(impl Abort + AllocGlobal),
+    room: &Room,
+    system: Swapping<'_>,
+    want: Result<&str, ListError>,
+) {
+    let mut disk = DiskOver::over(rt.alloc(), system);
+    let mut reader = disk.reader(rt.alloc()).expect(rt, "memory");
+    let seen = are_seen(&mut reader, room, &["top", "top/a"]);
+    so(rt, seen, "looks");
+    lists(rt, &mut reader, room, "top/a", want);
+    disk.take_reader(reader);
+}
+
 // The directory is swapped as it is opened to read its names. If the system has names for what is open, the names are still its own.
 #[test]
 fn the_open_directory_is_listed(rt: HostRuntime) {
     for (has_names, want) in [(true, Ok(OWN)), (false, Err(ListError::Failed))] {
-        let room = exposed_room(rt).expect(&rt, "a room");
+        let room = exposed_room(&rt, rt);
         room.put("out/canary", Node::Dir).expect(&rt, "a canary");
         let own = room.at("top/a").expect(&rt, "a path");
         let aside = room.at("top/aside").expect(&rt, "a path");
@@ -230,14 +250,7 @@ fn the_open_directory_is_listed(rt: HostRuntime) {
             out: out.text(),
             has_names,
         };
-        let mut disk = DiskOver::over(rt.alloc(), system);
-        let mut reader = disk.reader(rt.alloc()).expect(&rt, "memory");
-        so(
-            &rt,
-            are_seen(&mut reader, &room, &["top", "top/a"]),
-            "looks",
-        );
-        lists(&rt, &mut reader, &room, "top/a", want);
+        lists_open(&rt, &room, system, want);
         room.remove().expect(&rt, "an empty room");
     }
 }
@@ -245,7 +258,7 @@ fn the_open_directory_is_listed(rt: HostRuntime) {
 // Its owner may read its names and not enter it, so the system does not tell the directory over it.
 #[test]
 fn a_directory_that_may_not_be_entered_is_listed(rt: HostRuntime) {
-    let room = room_with_modes(rt, 0o777, 0o777).expect(&rt, "a room");
+    let room = room_with_modes(&rt, rt, 0o777, 0o777);
     room.set_mode("top/a", 0o466).expect(&rt, "a mode");
     let mut disk = WholeDisk::make(rt);
     let mut reader = disk.reader(rt.alloc()).expect(&rt, "memory");
@@ -256,6 +269,7 @@ fn a_directory_that_may_not_be_entered_is_listed(rt: HostRuntime) {
     );
     lists(&rt, &mut reader, &room, "top/a", Ok(OWN));
     same(&rt, &reader.faults(), &0);
+    disk.take_reader(reader);
     room.set_mode("top/a", 0o777).expect(&rt, "a mode");
     room.remove().expect(&rt, "an empty room");
 }

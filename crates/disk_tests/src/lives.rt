@@ -5,25 +5,42 @@ use crate::shared::{bytes, same, so};
 use crate::whole_disk::{Act, DiskOver};
 use outside::{Ground, Tree};
 use real_disk::{AfterLive, Call, Live, RealGround, Watch, Watched};
+use std::fs::Files;
 use std::io::{Write, writer};
+use std::os::fd::AsRawFd;
+use std::os::unix::fs::FileExt;
 use std::process::Abort;
+use std::random::RandomSource;
 
 // So many bytes are written at a time.
 const PIECE: &[u8] = &[7; 65536];
+
+/// The line that these tests show.
+type Line<'a> = Live<&'a Hand, &'a Screen>;
 
 // The screen of a room.
 fn screen_in(rt: &impl Abort, room: &Room) -> Screen {
     Screen(room.appended("screen").expect(rt, "a screen"))
 }
 
-#[test]
-fn a_line_comes_each_half_second_and_is_erased(rt: HostRuntime) {
-    let room = Room::with(rt, &[]).expect(&rt, "a room");
-    let (hand, screen) = (Hand::with(0), screen_in(&rt, &room));
-    let live = Live::make(rt.alloc(), &hand, &screen, "dwalk").expect(&rt, "a line");
-    let system = Watched::make(rt.alloc(), rt, Some(&live), None);
+// Looks at the room so often.
+fn look<R: Tree>(rt: &impl Abort, reader: &mut R, room: &Room, times: u32) {
+    for _ in 0..times {
+        so(rt, reader.stat(room.top()).is_ok(), "a look");
+    }
+}
+
+// Looks at the room at some times, and stops the test where the screen has another text. Later looks, once the line is over, show nothing.
+fn shows_in_turn(
+    rt: &(impl Abort + AllocGlobal),
+    host: HostRuntime,
+    room: &Room,
+    hand: &Hand,
+    live: &Line<'_>,
+) {
+    let system = Watched::make(rt.alloc(), host, Some(live), None);
     let mut files = RealGround::make(rt.alloc(), system);
-    let mut reader = files.reader(rt.alloc()).expect(&rt, "memory");
+    let mut reader = files.reader(rt.alloc()).expect(rt, "memory");
     for (time, looks, text) in [
         (499, 1024u32, ""),
         (500, 64, "\rmfu: looked at 1,088 paths"),
@@ -35,19 +52,24 @@ fn a_line_comes_each_half_second_and_is_erased(rt: HostRuntime) {
         ),
     ] {
         hand.put(time);
-        for _ in 0..looks {
-            so(&rt, reader.stat(room.top()).is_ok(), "a look");
-        }
-        so(&rt, room.holds("screen", text.as_bytes()), text);
+        look(rt, &mut reader, room, looks);
+        so(rt, room.holds("screen", text.as_bytes()), text);
     }
-    let erased =
-        "\rmfu: looked at 1,088 paths\rmfu: looked at 1,216 paths\r                          \r";
     hand.put(9000);
     live.end();
     live.end();
-    for _ in 0..256u32 {
-        so(&rt, reader.stat(room.top()).is_ok(), "a look");
-    }
+    look(rt, &mut reader, room, 256);
+    files.take_reader(reader);
+}
+
+#[test]
+fn a_line_comes_each_half_second_and_is_erased(rt: HostRuntime) {
+    let room = Room::with(rt, &[]).expect(&rt, "a room");
+    let (hand, screen) = (Hand::with(0), screen_in(&rt, &room));
+    let live = Live::make(rt.alloc(), &hand, &screen, "dwalk").expect(&rt, "a line");
+    shows_in_turn(&rt, rt, &room, &hand, &live);
+    let erased =
+        "\rmfu: looked at 1,088 paths\rmfu: looked at 1,216 paths\r                          \r";
     so(&rt, room.holds("screen", erased.as_bytes()), "erased once");
     room.remove().expect(&rt, "an empty room");
 }
@@ -103,24 +125,35 @@ fn readers_beside_each_other_add_up(rt: HostRuntime) {
     room.remove().expect(&rt, "an empty room");
 }
 
-#[test]
-fn calls_to_the_disk_are_counted(rt: HostRuntime) {
-    let big = bytes(&rt, 2_200_000);
-    let nodes = [("big", Node::File(&big)), ("file", Node::File(b"text"))];
-    let room = Room::with(rt, &nodes).expect(&rt, "a room");
-    let (hand, screen) = (Hand::with(0), screen_in(&rt, &room));
-    let live = Live::make(rt.alloc(), &hand, &screen, "dsync").expect(&rt, "a line");
-    let system = Watched::make(rt.alloc(), rt, Some(&live), None);
-    let mut disk = DiskOver::over(rt.alloc(), system);
-    let mut reader = disk.reader(rt.alloc()).expect(&rt, "memory");
-    let mut buffer = bytes(&rt, 2_200_000);
+// Looks at both files of the room, and reads them.
+fn read_both<R: Files + RandomSource + Watch + Copy>(
+    rt: &(impl Abort + AllocGlobal),
+    disk: &mut DiskOver<R>,
+    room: &Room,
+)
+where
+    R::File: FileExt + AsRawFd,
+{
+    let mut reader = disk.reader(rt.alloc()).expect(rt, "memory");
+    let mut buffer = bytes(rt, 2_200_000);
     for names in ["big", "file"] {
-        let path = room.at(names).expect(&rt, "a path");
-        so(&rt, reader.stat(&path).is_ok(), names);
+        let path = room.at(names).expect(rt, "a path");
+        so(rt, reader.stat(&path).is_ok(), names);
         let told = reader.read(&path, 0, buffer.as_mut_slice());
-        so(&rt, told.is_ok(), names);
+        so(rt, told.is_ok(), names);
     }
-    // The calls that answer no are not counted.
+    disk.take_reader(reader);
+}
+
+// Makes, writes and removes. Some of the calls answer no.
+fn act_in_turn<R: Files + RandomSource + Watch + Copy>(
+    rt: &(impl Abort + AllocGlobal),
+    disk: &mut DiskOver<R>,
+    room: &Room,
+)
+where
+    R::File: FileExt + AsRawFd,
+{
     for (act, names) in [
         (Act::MakeDir, "new"),
         (Act::MakeDir, "new"),
@@ -133,9 +166,23 @@ fn calls_to_the_disk_are_counted(rt: HostRuntime) {
         (Act::RemoveFile, "new/file"),
         (Act::RemoveDir, "new"),
     ] {
-        let path = room.at(names).expect(&rt, "a path");
+        let path = room.at(names).expect(rt, "a path");
         let _ = disk.act(rt.alloc(), act, &path);
     }
+}
+
+// The calls that answer no are not counted.
+#[test]
+fn calls_to_the_disk_are_counted(rt: HostRuntime) {
+    let big = bytes(&rt, 2_200_000);
+    let nodes = [("big", Node::File(&big)), ("file", Node::File(b"text"))];
+    let room = Room::with(rt, &nodes).expect(&rt, "a room");
+    let (hand, screen) = (Hand::with(0), screen_in(&rt, &room));
+    let live = Live::make(rt.alloc(), &hand, &screen, "dsync").expect(&rt, "a line");
+    let system = Watched::make(rt.alloc(), rt, Some(&live), None);
+    let mut disk = DiskOver::over(rt.alloc(), system);
+    read_both(&rt, &mut disk, &room);
+    act_in_turn(&rt, &mut disk, &room);
     for _ in 0..15u32 {
         system.did(Call::Write, 65_536);
     }

@@ -1,12 +1,12 @@
 //! Private directories are asked by their whole paths, and others are guarded: each test puts a link in the place of a directory
 //! between two calls, as only the user and root can in a private one.
+use crate::listed_dirs::lists;
 use crate::rooms::{Node, Room};
-use crate::shared::{joined, same, so};
+use crate::shared::{same, so};
 use crate::swaps::{are_listed, is_as_before, looked_at, room_with_modes, swap};
 use crate::whole_disk::{Act, WholeDisk};
 use outside::{LinkError, ListError, ReadError, Tree, WriteError};
 use path_text::MAX_PATH;
-use std::io::ErrorKind;
 use std::os::unix::fs::{MetadataExt, chown};
 use std::process::Abort;
 use std::{fs, io};
@@ -16,9 +16,9 @@ fn another_than(user: u32) -> u32 {
     if user == 65533 { 65532 } else { 65533 }
 }
 
-// Whether nobody but the user who runs the tests and root can put something else in the place of the room: each directory above it is
-// no link and belongs to the two, and nobody else can write in it, or it is sticky.
-fn is_kept(host: HostRuntime, room: &Room) -> io::Result<bool> {
+/// Whether nobody but the user who runs the tests and root can put something else in the place of the room: each directory above it is
+/// no link and belongs to the two, and nobody else can write in it, or it is sticky.
+pub fn is_kept(host: HostRuntime, room: &Room) -> io::Result<bool> {
     let user = fs::metadata(&host, "/proc/self")?.uid();
     let mut rest = room.top().text();
     for _ in 0..MAX_PATH {
@@ -38,17 +38,14 @@ fn is_kept(host: HostRuntime, room: &Room) -> io::Result<bool> {
 }
 
 // The files of the system, where these were looked at before the swap.
-fn swapped(host: HostRuntime, room: &Room, looks: &[&str]) -> io::Result<WholeDisk> {
+fn swapped(rt: &impl Abort, host: HostRuntime, room: &Room, looks: &[&str]) -> WholeDisk {
     let mut disk = WholeDisk::make(host);
-    let Ok(mut reader) = disk.reader(host.alloc()) else {
-        return Err(io::Error::from(ErrorKind::OutOfMemory));
-    };
-    if !are_listed(host, &mut reader, room, looks) {
-        return Err(io::Error::from(ErrorKind::NotFound));
-    }
+    let mut reader = disk.reader(host.alloc()).expect(rt, "memory");
+    let listed = are_listed(host, &mut reader, room, looks);
+    so(rt, listed, "looks");
     disk.take_reader(reader);
-    swap(host, room)?;
-    Ok(disk)
+    swap(host, room).expect(rt, "a link");
+    disk
 }
 
 // Whether a file that is made in the directory that was looked at is refused, and nothing is made in the other one.
@@ -78,8 +75,8 @@ fn is_private(host: HostRuntime, room: &Room, disk: &mut WholeDisk) -> io::Resul
 
 #[test]
 fn a_private_directory_is_asked_by_its_whole_path(rt: HostRuntime) {
-    let room = room_with_modes(rt, 0o755, 0o755).expect(&rt, "a room");
-    let mut disk = looked_at(rt, &room, "top/a/empty").expect(&rt, "looks");
+    let room = room_with_modes(&rt, rt, 0o755, 0o755);
+    let mut disk = looked_at(&rt, rt, &room, "top/a/empty");
     if is_kept(rt, &room).expect(&rt, "an answer") {
         reads_the_other(&rt, rt, &room, &mut disk);
     }
@@ -112,6 +109,34 @@ fn reads_the_other(rt: &impl Abort, host: HostRuntime, room: &Room, disk: &mut W
     disk.take_reader(reader);
 }
 
+// Stops the test where something that took the place of a private directory is listed otherwise.
+fn lists_what_is_there(
+    rt: &(impl Abort + AllocGlobal),
+    host: HostRuntime,
+    room: &Room,
+    node: Node<'_>,
+    listed: Result<&str, ListError>,
+) {
+    let mut disk = WholeDisk::make(host);
+    let mut reader = disk.reader(rt.alloc()).expect(rt, "memory");
+    let looks = are_listed(host, &mut reader, room, &["top", "top/a"]);
+    so(rt, looks, "looks");
+    move_away(rt, host, room);
+    room.put("top/a", node).expect(rt, "another");
+    let kept = is_kept(host, room).expect(rt, "an answer");
+    let want = if kept { listed } else { Err(ListError::Failed) };
+    lists(rt, &mut reader, room, "top/a", want);
+    same(rt, &reader.faults(), &u64::from(!kept));
+    disk.take_reader(reader);
+}
+
+// Moves the directory that was looked at away.
+fn move_away(rt: &impl Abort, host: HostRuntime, room: &Room) {
+    let own = room.at("top/a").expect(rt, "a path");
+    let aside = room.at("top/aside").expect(rt, "a path");
+    fs::rename(&host, own.text(), aside.text()).expect(rt, "aside");
+}
+
 // Another directory that took its place is listed, and a link is not followed.
 #[test]
 fn a_private_directory_is_listed_by_its_whole_path(rt: HostRuntime) {
@@ -119,28 +144,8 @@ fn a_private_directory_is_listed_by_its_whole_path(rt: HostRuntime) {
         (Node::Dir, Ok("")),
         (Node::Link("../out"), Err(ListError::NotDir)),
     ] {
-        let room = room_with_modes(rt, 0o755, 0o755).expect(&rt, "a room");
-        let mut disk = WholeDisk::make(rt);
-        let mut reader = disk.reader(rt.alloc()).expect(&rt, "memory");
-        let looks = are_listed(rt, &mut reader, &room, &["top", "top/a"]);
-        so(&rt, looks, "looks");
-        let own = room.at("top/a").expect(&rt, "a path");
-        let aside = room.at("top/aside").expect(&rt, "a path");
-        fs::rename(&rt, own.text(), aside.text()).expect(&rt, "aside");
-        room.put("top/a", node).expect(&rt, "another");
-        let told = reader.list(rt.alloc(), &own);
-        let names = told.map(|listing| joined(&rt, &listing));
-        let (want, faults) = if is_kept(rt, &room).expect(&rt, "an answer") {
-            (listed, 0)
-        } else {
-            (Err(ListError::Failed), 1)
-        };
-        match (&names, want) {
-            (Ok(names), Ok(want)) => same(&rt, &names.as_str(), &want),
-            (Err(told), Err(want)) => same(&rt, told, &want),
-            _ => so(&rt, false, "another answer"),
-        }
-        same(&rt, &reader.faults(), &faults);
+        let room = room_with_modes(&rt, rt, 0o755, 0o755);
+        lists_what_is_there(&rt, rt, &room, node, listed);
         room.remove().expect(&rt, "an empty room");
     }
 }
@@ -155,8 +160,8 @@ fn a_directory_below_an_exposed_one_is_guarded(rt: HostRuntime) {
         (0o755, 0o777),
         (0o755, 0o775),
     ] {
-        let room = room_with_modes(rt, top, own).expect(&rt, "a room");
-        let mut disk = looked_at(rt, &room, "top").expect(&rt, "looks");
+        let room = room_with_modes(&rt, rt, top, own);
+        let mut disk = looked_at(&rt, rt, &room, "top");
         let guarded = is_guarded(rt, &room, &mut disk).expect(&rt, "an answer");
         assert!(rt; guarded, "{top:o} {own:o}");
         room.remove().expect(&rt, "an empty room");
@@ -166,8 +171,8 @@ fn a_directory_below_an_exposed_one_is_guarded(rt: HostRuntime) {
 // The order in which the two are looked at is of no weight.
 #[test]
 fn a_directory_that_was_looked_at_before_an_exposed_one_is_guarded(rt: HostRuntime) {
-    let room = room_with_modes(rt, 0o777, 0o755).expect(&rt, "a room");
-    let mut disk = swapped(rt, &room, &["top/a", "top"]).expect(&rt, "looks");
+    let room = room_with_modes(&rt, rt, 0o777, 0o755);
+    let mut disk = swapped(&rt, rt, &room, &["top/a", "top"]);
     let guarded = is_guarded(rt, &room, &mut disk).expect(&rt, "an answer");
     so(&rt, guarded, "guarded");
     room.remove().expect(&rt, "an empty room");
@@ -183,8 +188,8 @@ fn a_directory_in_one_that_others_may_write_is_guarded(rt: HostRuntime) {
         (0o1777, true),
         (0o755, true),
     ] {
-        let room = room_with_modes(rt, top, 0o755).expect(&rt, "a room");
-        let mut disk = swapped(rt, &room, &["top/a"]).expect(&rt, "looks");
+        let room = room_with_modes(&rt, rt, top, 0o755);
+        let mut disk = swapped(&rt, rt, &room, &["top/a"]);
         let told = if keeps {
             is_private(rt, &room, &mut disk)
         } else {
@@ -199,9 +204,9 @@ fn a_directory_in_one_that_others_may_write_is_guarded(rt: HostRuntime) {
 // A link stands in the middle of the path, so nothing is known of where it stands.
 #[test]
 fn a_directory_by_way_of_a_link_is_guarded(rt: HostRuntime) {
-    let room = room_with_modes(rt, 0o755, 0o755).expect(&rt, "a room");
+    let room = room_with_modes(&rt, rt, 0o755, 0o755);
     room.put("way", Node::Link("top")).expect(&rt, "a link");
-    let mut disk = swapped(rt, &room, &["way/a"]).expect(&rt, "looks");
+    let mut disk = swapped(&rt, rt, &room, &["way/a"]);
     let new = room.at("way/a/new").expect(&rt, "a path");
     let told = disk.act(rt.alloc(), Act::MakeFile, &new);
     same(&rt, &told, &Err(WriteError::Failed));
@@ -220,13 +225,13 @@ fn a_directory_of_another_user_is_guarded(rt: HostRuntime) {
         (["top", "top/a"].as_slice(), ["top", "top/a"].as_slice()),
         (["top"].as_slice(), ["top/a"].as_slice()),
     ] {
-        let room = room_with_modes(rt, 0o755, 0o755).expect(&rt, "a room");
+        let room = room_with_modes(&rt, rt, 0o755, 0o755);
         for names in others {
             let path = room.at(names).expect(&rt, "a path");
             let told = chown(&rt, path.text(), Some(other), Some(other));
             same(&rt, &told.is_ok(), &(user == 0));
         }
-        let mut disk = swapped(rt, &room, looks).expect(&rt, "looks");
+        let mut disk = swapped(&rt, rt, &room, looks);
         // Only root can give a directory to another user.
         if user == 0 {
             let guarded = is_guarded(rt, &room, &mut disk).expect(&rt, "an answer");
@@ -243,7 +248,7 @@ fn a_directory_of_another_user_is_guarded(rt: HostRuntime) {
 #[test]
 fn a_directory_that_was_exposed_stays_guarded(rt: HostRuntime) {
     for again in [0o777, 0o755] {
-        let room = room_with_modes(rt, 0o755, 0o755).expect(&rt, "a room");
+        let room = room_with_modes(&rt, rt, 0o755, 0o755);
         let mut disk = WholeDisk::make(rt);
         let aside = room.at("top/a/empty/file").expect(&rt, "a path");
         let mut reader = disk.reader(rt.alloc()).expect(&rt, "memory");
@@ -270,7 +275,7 @@ fn a_directory_that_was_exposed_stays_guarded(rt: HostRuntime) {
 // Of two readers one looked before the directory was exposed, and is taken back last.
 #[test]
 fn a_look_before_hides_no_later_one(rt: HostRuntime) {
-    let room = room_with_modes(rt, 0o755, 0o755).expect(&rt, "a room");
+    let room = room_with_modes(&rt, rt, 0o755, 0o755);
     let mut disk = WholeDisk::make(rt);
     let mut early = disk.reader(rt.alloc()).expect(&rt, "memory");
     let mut late = disk.reader(rt.alloc()).expect(&rt, "memory");

@@ -37,21 +37,23 @@ impl Room {
         let seed = nanoseconds(host)?;
         for k in 0..1000u32 {
             let text = format!(in host.alloc(); "{}/mfu_test_{seed}_{k}", above.as_str())?;
-            match fs::create_dir(&host, text.as_str()) {
-                Ok(()) => {
-                    fs::set_permissions(&host, text.as_str(), Permissions::from_mode(0o755))?;
-                    return Room::at_text(host, text.as_str());
-                }
-                Err(e) if e.kind() == ErrorKind::AlreadyExists => {}
-                Err(e) => return Err(e),
+            if let Some(room) = Room::made(host, text.as_str())? {
+                return Ok(room);
             }
         }
         Err(io::Error::from(ErrorKind::AlreadyExists))
     }
 
-    fn at_text(host: HostRuntime, text: &str) -> io::Result<Room> {
+    // The folder of a path, unless something is there.
+    fn made(host: HostRuntime, text: &str) -> io::Result<Option<Room>> {
+        match fs::create_dir(&host, text) {
+            Ok(()) => {}
+            Err(e) if e.kind() == ErrorKind::AlreadyExists => return Ok(None),
+            Err(e) => return Err(e),
+        }
+        fs::set_permissions(&host, text, Permissions::from_mode(0o755))?;
         let top = parsed(host, text)?;
-        Ok(Room { host, top })
+        Ok(Some(Room { host, top }))
     }
 
     /// The folder itself.

@@ -7,6 +7,7 @@ use outside::{LinkError, ListError, ReadError, Tree, WriteError};
 use real_disk::RealReader;
 use std::alloc::Global;
 use std::os::unix::fs::symlink;
+use std::process::Abort;
 use std::{fs, io};
 
 /// A directory that is looked at, and another one with the same names.
@@ -23,17 +24,17 @@ const NODES: [(&str, Node<'static>); 9] = [
 ];
 
 /// A room with these, in which the directory over the one that is looked at, and that one, have these modes.
-pub fn room_with_modes(host: HostRuntime, top: u32, own: u32) -> io::Result<Room> {
-    let room = Room::with(host, &NODES)?;
-    room.set_mode("top", top)?;
-    room.set_mode("top/a", own)?;
-    room.set_mode("top/a/empty", 0o755)?;
-    Ok(room)
+pub fn room_with_modes(rt: &impl Abort, host: HostRuntime, top: u32, own: u32) -> Room {
+    let room = Room::with(host, &NODES).expect(rt, "a room");
+    for (names, mode) in [("top", top), ("top/a", own), ("top/a/empty", 0o755)] {
+        room.set_mode(names, mode).expect(rt, "a mode");
+    }
+    room
 }
 
 /// A room with these, where every user may write in the directory that is looked at, and in the one over it.
-pub fn exposed_room(host: HostRuntime) -> io::Result<Room> {
-    room_with_modes(host, 0o777, 0o777)
+pub fn exposed_room(rt: &impl Abort, host: HostRuntime) -> Room {
+    room_with_modes(rt, host, 0o777, 0o777)
 }
 
 /// Puts a link to the other directory in the place of the one that was looked at.
@@ -43,18 +44,20 @@ pub fn swap(host: HostRuntime, room: &Room) -> io::Result<()> {
     symlink(&host, room.at("out")?.text(), own.text())
 }
 
+// How many names a directory has.
+fn names_in(host: HostRuntime, room: &Room, names: &str) -> io::Result<u32> {
+    let mut count = 0u32;
+    for entry in fs::read_dir(&host, room.at(names)?.text())? {
+        let _ = entry?;
+        count = count.saturating_add(1);
+    }
+    Ok(count)
+}
+
 /// Whether nothing was made, written or removed in the other directory.
 pub fn is_as_before(host: HostRuntime, room: &Room) -> io::Result<bool> {
-    let mut names = 0u32;
-    for entry in fs::read_dir(&host, room.at("out")?.text())? {
-        let _ = entry?;
-        names = names.saturating_add(1);
-    }
-    for entry in fs::read_dir(&host, room.at("out/empty")?.text())? {
-        let _ = entry?;
-        names = names.saturating_add(1);
-    }
-    Ok(names == 3 && room.holds("out/file", b"other"))
+    let same_names = names_in(host, room, "out")? == 3 && names_in(host, room, "out/empty")? == 0;
+    Ok(same_names && room.holds("out/file", b"other"))
 }
 
 /// Looks at these as a walk does; whether each is a directory.
@@ -81,18 +84,16 @@ pub fn are_listed_by<R: Tree>(alloc: Global, reader: &mut R, room: &Room, all: &
 }
 
 /// The files of the system, which were looked at before the swap, and these names after it.
-pub fn looked_at(host: HostRuntime, room: &Room, after: &str) -> io::Result<WholeDisk> {
+pub fn looked_at(rt: &impl Abort, host: HostRuntime, room: &Room, after: &str) -> WholeDisk {
     let mut disk = WholeDisk::make(host);
-    let Ok(mut reader) = disk.reader(host.alloc()) else {
-        return Err(io::Error::from(io::ErrorKind::OutOfMemory));
-    };
-    if !are_listed(host, &mut reader, room, &["top", "top/a"]) {
-        return Err(io::Error::from(io::ErrorKind::NotFound));
-    }
-    swap(host, room)?;
-    let _ = reader.stat(&room.at(after)?);
+    let mut reader = disk.reader(host.alloc()).expect(rt, "memory");
+    let listed = are_listed(host, &mut reader, room, &["top", "top/a"]);
+    so(rt, listed, "looks");
+    swap(host, room).expect(rt, "a link");
+    let path = room.at(after).expect(rt, "a path");
+    let _ = reader.stat(&path);
     disk.take_reader(reader);
-    Ok(disk)
+    disk
 }
 
 #[test]
@@ -107,8 +108,8 @@ fn nothing_is_written_in_another_directory(rt: HostRuntime) {
         // What is looked at by way of the link is not the child of the one above it.
         (Act::MakeFile, "top/a/empty/new"),
     ] {
-        let room = exposed_room(rt).expect(&rt, "a room");
-        let mut disk = looked_at(rt, &room, "top/a/empty").expect(&rt, "looks");
+        let room = exposed_room(&rt, rt);
+        let mut disk = looked_at(&rt, rt, &room, "top/a/empty");
         let path = room.at(names).expect(&rt, "a path");
         let told = disk.act(rt.alloc(), act, &path);
         same(&rt, &told, &Err(WriteError::Failed));
@@ -121,8 +122,8 @@ fn nothing_is_written_in_another_directory(rt: HostRuntime) {
 
 #[test]
 fn nothing_is_read_in_another_directory(rt: HostRuntime) {
-    let room = exposed_room(rt).expect(&rt, "a room");
-    let mut disk = looked_at(rt, &room, "top/a/empty").expect(&rt, "looks");
+    let room = exposed_room(&rt, rt);
+    let mut disk = looked_at(&rt, rt, &room, "top/a/empty");
     let mut reader = disk.reader(rt.alloc()).expect(&rt, "memory");
     let file = room.at("top/a/file").expect(&rt, "a path");
     let told = reader.read(&file, 0, &mut [0; 5]);
@@ -143,8 +144,8 @@ fn nothing_is_read_in_another_directory(rt: HostRuntime) {
 // All is done as before in a directory that was looked at and has moved, where its path still leads to it.
 #[test]
 fn the_same_directory_is_written(rt: HostRuntime) {
-    let room = exposed_room(rt).expect(&rt, "a room");
-    let mut disk = looked_at(rt, &room, "top").expect(&rt, "looks");
+    let room = exposed_room(&rt, rt);
+    let mut disk = looked_at(&rt, rt, &room, "top");
     let own = room.at("top/a").expect(&rt, "a path");
     fs::remove_file(&rt, own.text()).expect(&rt, "no link");
     symlink(&rt, "aside", own.text()).expect(&rt, "a link");

@@ -63,6 +63,11 @@ where
         }
     }
 
+    /// Lets calls change the working directory.
+    pub fn work_alone(&mut self) {
+        self.files.work_alone(true);
+    }
+
     /// Does a call that writes. `/` is refused as `Failed`, and so is what a test does not write.
     pub fn act(&mut self, alloc: Global, act: Act<'_>, path: &Path) -> Result<(), WriteError> {
         if is_root(path) {
