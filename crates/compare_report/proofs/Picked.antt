@@ -11,7 +11,7 @@ use Rattle.std.proofs.lemmas.List.Elements.{filter-append}
 use Rattle.std.proofs.lemmas.Option.{slice_get_cases}
 use Rattle.path_text.specs.Graft.{below_of, BelowKeepsOrder}
 use Rattle.path_text.specs.Order.{path_cmp, is_within}
-use Rattle.flat_list.specs.declared.entries.Entry.{Entry}
+use Rattle.entry_pages.specs.declared.entries.Entry.{Entry}
 use Rattle.flat_list.specs.Spelling.{paths}
 use Rattle.compare_report.specs.PrivatePicks.{IsPassed, IsNext}
 use Rattle.compare_report.proofs.Passed.{passed_later}

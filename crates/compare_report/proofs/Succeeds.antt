@@ -5,7 +5,7 @@ use Rattle.std.proofs.lemmas.List.Elements.{All-from_recursion, recursion_from_A
 use Rattle.outside.specs.Count.{RoseBy, StoodStill}
 use Rattle.outside.specs.Tree.{Files}
 use Rattle.outside.specs.Whole.{can_save}
-use Rattle.flat_list.specs.declared.entries.Entry.{Entry}
+use Rattle.entry_pages.specs.declared.entries.Entry.{Entry}
 use Rattle.tree_cmp.specs.declared.rows.Missed.{Missed}
 use Rattle.tree_cmp.specs.declared.rows.Row.{Row}
 use Rattle.tool_text.specs.declared.noting.Why.TheVariants as why

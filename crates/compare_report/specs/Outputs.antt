@@ -6,7 +6,7 @@ use Rattle.std.specs.List.{list_any, AllZip}
 use Rattle.std.specs.List.Sorted.{IsStrictlySortedBy, IsPermutation}
 use Rattle.path_text.specs.Graft.{below_of}
 use Rattle.path_text.specs.Order.{path_cmp}
-use Rattle.flat_list.specs.declared.entries.Entry.{Entry}
+use Rattle.entry_pages.specs.declared.entries.Entry.{Entry}
 use Rattle.flat_list.specs.Spelling.{paths}
 use Rattle.tree_cmp.specs.declared.conditions.Condition.{Condition}
 use Rattle.tree_cmp.specs.declared.rows.Row.{Row}

@@ -1,6 +1,6 @@
 -- The comparison before its lists are saved. Our own. Only clauses of this crate's own functions cite this file.
 use Rattle.std.specs.Prelude.{◌≡◌, List, length}
-use Rattle.flat_list.specs.declared.entries.Entry.{Entry}
+use Rattle.entry_pages.specs.declared.entries.Entry.{Entry}
 use Rattle.tree_cmp.specs.Rows.{Findings}
 use Rattle.tool_text.specs.declared.noting.Note.{Note}
 use Rattle.tool_text.specs.NoteOrder.{AreInOrder}

@@ -27,7 +27,8 @@ pub(crate) fn joined(
     requires right { IsSide (side sides.now.right_top sides.now.right) }
     requires of_left { IsStrictlySortedBy path_cmp of_left.now }
     requires of_right { IsStrictlySortedBy path_cmp of_right.now }
-    ensures { IfOk result (IsJoined (filter (picks sides.now.left_top of_left.now) sides.now.left) (filter (picks sides.now.right_top of_right.now) sides.now.right)) }
+    ensures { IfOk result (IsJoined (filter (picks sides.now.left_top of_left.now) sides.now.left) (filter
+        (picks sides.now.right_top of_right.now) sides.now.right)) }
 {
     let mut list = FlatList::make(alloc);
     add_picked(&mut list, &sides.left, &sides.left_top, of_left, &[])?;

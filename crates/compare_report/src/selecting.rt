@@ -2,7 +2,7 @@
 ghost use Rattle.std.specs.Prelude.{◌≡◌, ◌++◌, ◌∷◌, [], not, if◌then◌else◌, map, All, OnOk, IfOk, true};
 ghost use Rattle.std.specs.List.Sorted.{IsStrictlySortedBy};
 ghost use Rattle.path_text.specs.Order.{path_cmp};
-ghost use Rattle.flat_list.specs.Entries.{is_shaped};
+ghost use Rattle.entry_pages.specs.Entries.{is_shaped};
 ghost use Rattle.flat_list.specs.Spelling.{paths};
 ghost use Rattle.tree_cmp.specs.Expressions.{only_dest};
 ghost use Rattle.tree_cmp.specs.Sides.{side, IsSide};
@@ -28,7 +28,8 @@ pub(crate) fn outputs_of(
     requires rows { IsStrictlySortedBy path_cmp (map (λ row. row.path) compared.now.rows) }
     requires left_shaped { All (λ e. is_shaped e ≡ true) sides.now.left }
     requires right_shaped { All (λ e. is_shaped e ≡ true) sides.now.right }
-    ensures are { IfOk result (λ outputs. AreOutputs wants.items compared.now.rows sides.now.left_top sides.now.right_top sides.now.left sides.now.right outputs.items) }
+    ensures are { IfOk result (λ outputs. AreOutputs wants.items compared.now.rows
+        sides.now.left_top sides.now.right_top sides.now.left sides.now.right outputs.items) }
     ensures ascend { IfOk result (λ outputs. All (λ o. IsStrictlySortedBy path_cmp (paths o.list)) outputs.items) }
     ensures shaped { IfOk result (λ outputs. All (λ o. All (λ e. is_shaped e ≡ true) o.list) outputs.items) }
 {

@@ -13,9 +13,9 @@ use Rattle.path_text.specs.Order.{path_cmp, is_within}
 use Rattle.path_text.specs.Path.{refusal, parent_of}
 use Rattle.outside.specs.Tree.{Files, Node, IsTree, is_dir, link_at, stat_of}
 use Rattle.outside.specs.declared.trees.Stat.{Stat}
-use Rattle.flat_list.specs.declared.entries.Entry.{Entry}
-use Rattle.flat_list.specs.declared.entries.Mark.{Mark}
-use Rattle.flat_list.specs.declared.entries.Mark.TheVariants as mark
+use Rattle.entry_pages.specs.declared.entries.Entry.{Entry}
+use Rattle.entry_pages.specs.declared.entries.Mark.{Mark}
+use Rattle.entry_pages.specs.declared.entries.Mark.TheVariants as mark
 use Rattle.flat_list.specs.Spelling.{paths}
 use Rattle.tree_copy.specs.Copying.{CanCopy, FitsTree, ends_of, is_target, target_of}
 use Rattle.tree_copy.specs.Placing.{IsPair, overlap}

@@ -1,7 +1,7 @@
 -- What the steps of dcp told, as its own words say it.
 use Rattle.std.proofs.Common.{◌≡◌, inr, ℕ, ◌≤◌, List, IfSome, Ok, is_some, length, ap, sym, ◌∙◌, subst}
 use Rattle.std.proofs.lemmas.List.{length-map}
-use Rattle.flat_list.specs.declared.entries.Entry.{Entry}
+use Rattle.entry_pages.specs.declared.entries.Entry.{Entry}
 use Rattle.level_work.specs.declared.items.Fate.{Fate}
 use Rattle.tree_copy.specs.Copying.{SameButTargets, treated}
 use Rattle.tree_copy.specs.declared.pairs.Pair.{Pair}

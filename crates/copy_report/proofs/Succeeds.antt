@@ -9,8 +9,8 @@ use Rattle.std.specs.List.{All, flat_map}
 use Rattle.path_text.specs.Path.{parent_of}
 use Rattle.outside.specs.Tree.{Body, Files, Node, dir, file, is_dir, kind_of, link, other, text_of}
 use Rattle.outside.specs.declared.trees.Kind.TheVariants as kind
-use Rattle.flat_list.specs.declared.entries.Entry.{Entry}
-use Rattle.flat_list.specs.Entries.{is_kind}
+use Rattle.entry_pages.specs.declared.entries.Entry.{Entry}
+use Rattle.entry_pages.specs.Entries.{is_kind}
 use Rattle.level_work.specs.declared.items.Fate.{Fate}
 use Rattle.tree_copy.specs.Copying.{Copied, is_untold}
 use Rattle.tree_copy.specs.Laws.{FineEntriesAreCopied, IsFineEntry, TargetsAreLong}

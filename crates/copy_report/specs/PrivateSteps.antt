@@ -5,7 +5,7 @@ use Rattle.std.specs.List.{count_by}
 use Rattle.path_text.specs.Path.{parent_of}
 use Rattle.outside.specs.Count.{RoseBy}
 use Rattle.outside.specs.Tree.{Files, is_dir}
-use Rattle.flat_list.specs.declared.entries.Entry.{Entry}
+use Rattle.entry_pages.specs.declared.entries.Entry.{Entry}
 use Rattle.level_work.specs.declared.items.Fate.{Fate}
 use Rattle.tree_copy.specs.Copying.{bytes_copied, ends_of, is_done, treated}
 use Rattle.tree_copy.specs.Placing.{IsPair, overlap}

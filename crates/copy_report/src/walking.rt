@@ -12,7 +12,7 @@ ghost use Rattle.copy_report.specs.PrivateSteps.{ArePlaced};
 use flat_list::FlatList;
 use outside::Ground;
 use path_text::Path;
-use run_entries::{Entries, see_paths, walk_side};
+use run_entries::{Entries, walk_side};
 use run_report::Stop;
 use std::alloc::Global;
 use std::sync::Wait;
@@ -48,6 +48,6 @@ where
     entries_are_told();
     entries_have_parents();
     let Entries { list, .. } = walk_side(rt, alloc, common, sources, files)?;
-    see_paths(&list)?;
+    list.paths_are_valid();
     Ok(list)
 }

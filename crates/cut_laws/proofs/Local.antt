@@ -8,7 +8,7 @@ use Rattle.std.proofs.lemmas.List.Sums.{sum_by-cons}
 use Rattle.path_text.specs.Path.{joined}
 use Rattle.outside.specs.Tree.{Files, IsTree, is_dir, names_in}
 use Rattle.outside.proofs.Names.{children_are_names}
-use Rattle.flat_list.specs.declared.entries.Entry.{Entry}
+use Rattle.entry_pages.specs.declared.entries.Entry.{Entry}
 use Rattle.circle_run.specs.Balance.{Balanced}
 use Rattle.tree_walk.specs.Walk.{Answer, told, stat_failed, list_failed, Answers, answer_in, answers_in, entry_of, children_of, walk_down, walk}
 use Rattle.tree_walk.specs.Roots.{is_in, is_in_some}

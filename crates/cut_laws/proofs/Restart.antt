@@ -4,7 +4,7 @@ use Rattle.std.specs.List.{sum_by, flat_map}
 use Rattle.std.specs.Cmp.Lexicographic.{pointwise}
 use Rattle.std.proofs.lemmas.List.Sums.{sum_by-cons, sum_by-append}
 use Rattle.std.proofs.lemmas.List.Sorted.{sum_by-IsPermutation}
-use Rattle.flat_list.specs.declared.entries.Entry.{Entry}
+use Rattle.entry_pages.specs.declared.entries.Entry.{Entry}
 use Rattle.tree_walk.specs.Walk.{Answer, told, stat_failed, list_failed, all_told, answer_in, answers_in, walk, weight, weight_of}
 use Rattle.tree_walk.specs.Found.{IsWalkOf}
 use Rattle.tree_walk.specs.Cut.{IsJoined}

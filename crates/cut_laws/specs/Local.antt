@@ -5,7 +5,7 @@ use Rattle.std.specs.List.{sum_by}
 use Rattle.std.specs.FinMap.{get}
 use Rattle.path_text.specs.Path.{refusal}
 use Rattle.outside.specs.Tree.{Files, IsTree}
-use Rattle.flat_list.specs.declared.entries.Entry.{Entry}
+use Rattle.entry_pages.specs.declared.entries.Entry.{Entry}
 use Rattle.tree_walk.specs.Walk.{weight_of}
 use Rattle.tree_walk.specs.Roots.{is_in_some, Apart}
 use Rattle.tree_walk.specs.Found.{IsWalkOf}

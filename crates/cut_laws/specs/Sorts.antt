@@ -2,7 +2,7 @@
 use Rattle.std.specs.Prelude.{◌≡◌, Bool, List}
 use Rattle.std.specs.List.Sorted.{IsSorted, IsStrictlySortedBy, IsPermutation}
 use Rattle.path_text.specs.Order.{path_cmp}
-use Rattle.flat_list.specs.declared.entries.Entry.{Entry}
+use Rattle.entry_pages.specs.declared.entries.Entry.{Entry}
 use Rattle.flat_list.specs.declared.ordering.Field.{Field}
 use Rattle.flat_list.specs.Orders.{sort_order}
 use Rattle.tree_walk.specs.Walk.{paths_of}

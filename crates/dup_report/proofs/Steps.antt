@@ -1,7 +1,7 @@
 -- What the steps of ddup told, as its own words say it.
 use Rattle.std.proofs.Common.{◌≡◌, ◌≤◌, List, length, subst}
 use Rattle.outside.specs.Count.{RoseBy}
-use Rattle.flat_list.specs.declared.entries.Entry.{Entry}
+use Rattle.entry_pages.specs.declared.entries.Entry.{Entry}
 use Rattle.tree_dup.specs.Grouping.{IsGrouping}
 use Rattle.tree_dup.specs.Told.{Grouping}
 use Rattle.tool_words.specs.Asked.{DupAsked}

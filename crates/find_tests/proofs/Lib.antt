@@ -2,3 +2,4 @@ pub mod Matched
 pub mod Parsed
 pub mod Closing
 pub mod ByCases
+pub mod Selected

@@ -4,8 +4,8 @@ use Rattle.std.specs.List.{list_all}
 use Rattle.path_text.specs.Path.{base_of}
 use Rattle.outside.specs.declared.trees.Kind.TheVariants.{File, Dir, Link, Other}
 use Rattle.outside.specs.declared.trees.Stat.{Stat}
-use Rattle.flat_list.specs.declared.entries.Entry.{Entry}
-use Rattle.flat_list.specs.Entries.{is_kind}
+use Rattle.entry_pages.specs.declared.entries.Entry.{Entry}
+use Rattle.entry_pages.specs.Entries.{is_kind}
 use Rattle.find_tests.specs.declared.bounds.Bound.{Bound}
 use Rattle.find_tests.specs.declared.errors.TestError.{TestError}
 use Rattle.find_tests.specs.declared.errors.TestError.TheVariants.{BadKind}

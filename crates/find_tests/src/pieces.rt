@@ -3,7 +3,8 @@ ghost use Rattle.std.specs.Prelude.{◌≡◌, [], ◌∷◌, ◌++◌, ◌<◌,
 ghost use Rattle.std.specs.List.{list_any};
 ghost use Rattle.std.specs.Str.{chars};
 ghost use Rattle.find_tests.specs.Signs.{signs_of, is_sign};
-ghost use Rattle.find_tests.specs.Glob.{before_close, behind_close, has_close, ranges_of, members, behind_members, is_closed, bracket, is_negated, behind_negation, piece_at, behind_piece, pieces_of};
+ghost use Rattle.find_tests.specs.Glob.{before_close, behind_close, has_close, ranges_of, members, behind_members};
+ghost use Rattle.find_tests.specs.Glob.{is_closed, bracket, is_negated, behind_negation, piece_at, behind_piece, pieces_of};
 ghost use Rattle.find_tests.specs.Private.Brackets.{IsBracket, NoneCloses, IsMembers, IsRangeEnd};
 ghost use Rattle.find_tests.specs.Matching.{is_in, takes};
 

@@ -1,6 +1,6 @@
 //! Tests of a path and its stat.
 ghost use Rattle.std.specs.Prelude.{◌≡◌, ◌/◌, ◌-◌, ◌⊎◌, ◌<◌, true, Ok, Err, IfOk, IfErr, IsErrOf};
-ghost use Rattle.flat_list.specs.Entries.{is_kind};
+ghost use Rattle.entry_pages.specs.Entries.{is_kind};
 ghost use Rattle.find_tests.specs.Bounds.{bound_reading};
 ghost use Rattle.find_tests.specs.Tests.{holds, is_aged, is_newer, test_reading, kind_reading, has_glob};
 

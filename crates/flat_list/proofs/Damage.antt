@@ -8,7 +8,7 @@ use Rattle.std.proofs.lemmas.Bool.{cases_lt, false≢true}
 use Rattle.std.proofs.lemmas.Grind.{flat_map-append}
 use Rattle.path_text.specs.Escape.{ReadingUndoesWriting}
 use Rattle.outside.specs.Links.{LinkReadingUndoesWriting}
-use Rattle.flat_list.specs.declared.entries.Entry.{Entry}
+use Rattle.entry_pages.specs.declared.entries.Entry.{Entry}
 use Rattle.flat_list.specs.declared.versions.Version.{Version}
 use Rattle.flat_list.specs.declared.versions.Version.TheVariants.{One, Two}
 use Rattle.flat_list.specs.Spelling.{text_of, header_text, target_text, target_lines, lines_by, entry_lines, lines_for, IsEntry, IsKnown, IsList, Follows}

@@ -7,7 +7,7 @@ use Rattle.std.proofs.lemmas.List.FromFn.{map-range_with_len_more, length-map-ra
 use Rattle.std.specs.List.{range_with_len}
 use Rattle.std.proofs.lemmas.Bool.Decides.{nat_tests}
 use Rattle.path_text.specs.Path.{level_of}
-use Rattle.flat_list.specs.declared.entries.Entry.{Entry}
+use Rattle.entry_pages.specs.declared.entries.Entry.{Entry}
 use Rattle.flat_list.specs.Orders.{level_count, places_from, places_at, dealt_from, dealt}
 
 pub count_more : (xs : List Entry) (e : Entry) → level_count (xs ++ e ∷ []) ≡ max (level_count xs) (level_of e.path + 1)

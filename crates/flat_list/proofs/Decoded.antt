@@ -1,20 +1,20 @@
 -- The steps of reading a list file.
 use Rattle.std.proofs.Common.{◌≡◌, ℕ, suc, ◌+◌, ◌-◌, ◌<◌, ◌≤◌, Bool, true, false, cond, eqb, List, [], ◌∷◌, ◌++◌, length}
 use Rattle.std.proofs.Common.{take, Option, Some}
-use Rattle.std.proofs.Common.{None, Result, Ok, Err, length-append, refl, ap, sym, ◌∙◌, subst, arith, append_assoc}
+use Rattle.std.proofs.Common.{None, length-append, refl, ap, sym, ◌∙◌, subst, arith, append_assoc}
 use Rattle.std.specs.List.Sorted.{IsStrictlySortedBy}
 use Rattle.std.specs.Ordering.{is_lt}
 use Rattle.std.specs.Str.{IsUtf8}
 use Rattle.std.specs.declared.cmp.Ordering.{Ordering}
 use Rattle.std.specs.declared.cmp.Ordering.TheVariants.{Less, Equal, Greater}
-use Rattle.std.specs.Prelude.{slice_get, not, is_none, IfSome, IfNone, IfOk, IfErr, ◌&&◌, ◌||◌, ◌==◌}
+use Rattle.std.specs.Prelude.{slice_get, not, is_none, IfSome, ◌&&◌, ◌||◌, ◌==◌}
 use Rattle.std.specs.Option.{option_map}
 use Rattle.std.specs.Cmp.Lexicographic.{pointwise, bytes_decides}
 use Rattle.std.proofs.lemmas.Bool.{false≢true, and_parts}
 use Rattle.std.proofs.lemmas.List.{map-append, nil_from_length}
 use Rattle.path_text.specs.Order.{path_cmp}
 use Rattle.path_text.specs.Total.{path_cmp_total}
-use Rattle.flat_list.specs.declared.entries.Entry.{Entry}
+use Rattle.entry_pages.specs.declared.entries.Entry.{Entry}
 use Rattle.flat_list.specs.declared.reading.Told.{Told}
 use Rattle.flat_list.specs.declared.versions.Version.{Version}
 use Rattle.flat_list.specs.declared.versions.Version.TheVariants.{Two}
@@ -24,7 +24,7 @@ use Rattle.whole_lines.specs.Lines.{line, end_text, lines_of}
 use Rattle.flat_list.specs.Spelling.{IsTooLong, IsRefused}
 use Rattle.whole_lines.specs.Words.{cut, path_from, end_at, ◌>>=◌}
 use Rattle.flat_list.specs.Private.Reading.{told_at, told_entry, path_behind, if_behind, path_after, entry_at, entry_behind, IsLast, Adds, NoneFollows}
-use Rattle.flat_list.specs.Entries.{is_sized, shape_by, has_target, is_shaped}
+use Rattle.entry_pages.specs.Entries.{is_sized, shape_by, has_target, is_shaped}
 use Rattle.flat_list.specs.Private.Reading.{target_at, takes_target, target_and, target_line, target_behind, with_target, behind_target, line_count, found_at}
 use Rattle.flat_list.specs.Private.Reading.{IsSettled}
 use Rattle.whole_lines.proofs.Words.{IsFree, cut_takes, pair_is}
@@ -36,7 +36,7 @@ use Rattle.whole_lines.proofs.Lines.{line_same, line_first, free_uncut, torn, no
 use Rattle.flat_list.proofs.Ascending.{sorted_none, sorted_one, sorted_last, sorted_more}
 use Rattle.flat_list.proofs.Damage.{Undoes, list_more, lines_more, Stands, refused_here, refused_after, spelled}
 use Rattle.whole_lines.proofs.WholeLines.{cons_parts}
-use Rattle.flat_list.proofs.Inverse.{slice_end}
+use Rattle.entry_pages.proofs.Inverse.{slice_end}
 
 -- ---- a path behind the others
 
@@ -226,7 +226,7 @@ pub record Reads (v : Version) (bytes rest text behind : List ℕ) (es : List En
   pub few : length es ≤ max_entries
   pub first : cut 10 rest ≡ Some (text, behind)
 
-line_is : (rest : List ℕ) → target_line rest ≡ (cut 10 rest >>= λ parts. target_and (target_at parts.0) parts.1)
+pub line_is : (rest : List ℕ) → target_line rest ≡ (cut 10 rest >>= λ parts. target_and (target_at parts.0) parts.1)
 unfolding target_line
 line_is rest = refl
 
@@ -423,27 +423,7 @@ pub too_long : (v : Version) (bytes : List ℕ) (es : List Entry) (more : List (
     IsTooLong bytes
 too_long v bytes es more s many = record { version = v; entries = es; list = s.list; known = s.known; many = many; rest = more; text = s.text }
 
--- ---- as the loop has it
-
-pub if_ok_then : {A E : Type 0} (r : Result A E) (P Q : A → Type 0) → IfOk r P → ((x : A) → P x → Q x) → IfOk r Q
-if_ok_then (Ok x) P Q h f = f x h
-if_ok_then (Err e) P Q h f = tt
-
-pub if_err_then : {A E : Type 0} (r : Result A E) (P Q : E → Type 0) → IfErr r P → ((e : E) → P e → Q e) → IfErr r Q
-if_err_then (Ok x) P Q h f = tt
-if_err_then (Err e) P Q h f = f e h
-
-pub none_holds : {A : Type 0} (o : Option A) (P : Type 0) → o ≡ None → IfNone o P → P
-none_holds None P e h = h
-none_holds (Some x) P e h = absurd cc
-
-pub some_holds : {A : Type 0} (o : Option A) (x : A) (P : A → Type 0) → o ≡ Some x → IfSome o P → P x
-some_holds None x P e h = absurd cc
-some_holds (Some y) x P e h = let same : y ≡ x = cc in subst P same h
-
-pub few_lines : (found : Option (List ℕ × List ℕ)) → line_count found ≤ 2
-few_lines None = omega arith
-few_lines (Some f) = omega arith
+-- ---- tests that are turned around
 
 pub is_not : (b : Bool) → not b ≡ true → b ≡ false
 is_not true e = absurd (false≢true e)
@@ -454,45 +434,3 @@ is_so true e = refl
 is_so false e = absurd (false≢true (sym e))
 
 pub ruleset nots = (is_not, is_so)
-
-pub adds_one : (o : Option Entry) (found : Option (List ℕ × List ℕ)) (old new : List Entry) → Adds o found old new → length new ≡ length old + 1
-adds_one None found old new adds = absurd adds
-adds_one (Some e) found old new adds = ap length adds.1.1.1 ∙ length-append old (with_target e found ∷ [])
-
-pub cut_shorter : (c : ℕ) (text word rest : List ℕ) → cut c text ≡ Some (word, rest) → length rest < length text
-cut_shorter c text word rest e =
-    let parts = cut_takes c text word rest e in
-    let len : length text ≡ length word + length (c ∷ rest) = ap length parts.parts ∙ length-append word (c ∷ rest) in
-    omega arith
-
--- what is left is less
-pub left_shorter : (v : Version) (text rest behind : List ℕ) → cut 10 rest ≡ Some (text, behind) →
-    length (behind_target behind (found_at v text behind)) < length rest
-left_shorter v text rest behind first = by_entry (entry_at v text)
-  where
-    less : length behind < length rest
-    less = cut_shorter 10 rest text behind first
-
-    by_found : (o : Option (List ℕ × List ℕ)) → target_line behind ≡ o → length (behind_target behind o) < length rest
-    by_found None is = less
-    by_found (Some f) is = by_cut (cut 10 behind) refl (sym (line_is behind) ∙ is)
-      where
-        by_cut : (o : Option (List ℕ × List ℕ)) → cut 10 behind ≡ o → (o >>= λ parts. target_and (target_at parts.0) parts.1) ≡ Some f →
-            length f.1 < length rest
-        by_cut None first e = absurd cc
-        by_cut (Some parts) first e = by_target (target_at parts.0) e
-          where
-            by_target : (o : Option (List ℕ)) → target_and o parts.1 ≡ Some f → length f.1 < length rest
-            by_target None e = absurd cc
-            by_target (Some t) e =
-                let same = pair_is t f.0 parts.1 f.1 e in
-                let fewer = cut_shorter 10 behind parts.0 parts.1 first in
-                omega (arith, less, fewer, ap length same.1)
-
-    by_entry : (o : Option Entry) → length (behind_target behind (o >>= λ e. target_behind v e behind)) < length rest
-    by_entry None = less
-    by_entry (Some e) = by_test (takes_target v e)
-      where
-        by_test : (b : Bool) → length (behind_target behind (cond b (target_line behind) None)) < length rest
-        by_test true = by_found (target_line behind) refl
-        by_test false = less

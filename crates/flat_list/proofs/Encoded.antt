@@ -9,9 +9,9 @@ use Rattle.std.specs.List.Sorted.{IsStrictlySortedBy}
 use Rattle.std.proofs.lemmas.List.{take_all}
 use Rattle.std.proofs.lemmas.Grind.{flat_map-append}
 use Rattle.path_text.specs.Order.{path_cmp}
-use Rattle.flat_list.specs.declared.entries.Entry.{Entry}
-use Rattle.flat_list.specs.declared.entries.Mark.{Mark}
-use Rattle.flat_list.specs.declared.entries.Mark.TheVariants as marks
+use Rattle.entry_pages.specs.declared.entries.Entry.{Entry}
+use Rattle.entry_pages.specs.declared.entries.Mark.{Mark}
+use Rattle.entry_pages.specs.declared.entries.Mark.TheVariants as marks
 use Rattle.flat_list.specs.Spelling.{mark_word, header_text, lines_by, entry_lines, IsEntry, IsKnown, paths, SpellsAs}
 use Rattle.whole_lines.specs.Lines.{line, end_text}
 use Rattle.flat_list.specs.declared.versions.Version.TheVariants.{Two}

@@ -2,7 +2,7 @@
 use Rattle.std.proofs.Common.{◌≡◌, ℕ, List, [], ◌∷◌, ◌++◌, length, Option, Some, None, refl, ap, ◌∙◌}
 use Rattle.std.proofs.Common.{append_assoc}
 use Rattle.std.specs.List.{AllByRecursion}
-use Rattle.flat_list.specs.declared.entries.Entry.{Entry}
+use Rattle.entry_pages.specs.declared.entries.Entry.{Entry}
 use Rattle.flat_list.specs.declared.versions.Version.{Version}
 use Rattle.flat_list.specs.declared.versions.Version.TheVariants.{One, Two}
 use Rattle.flat_list.specs.Spelling.{text_of, header_text, target_text, target_lines, entry_lines, lines_for, IsEntry, SpellsAs}

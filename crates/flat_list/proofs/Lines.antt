@@ -17,15 +17,15 @@ use Rattle.whole_lines.proofs.Escapes.{utf8_escape, escape_free, free-append}
 use Rattle.outside.specs.declared.trees.Kind.{Kind}
 use Rattle.outside.specs.declared.trees.Kind.TheVariants as kind
 use Rattle.outside.specs.declared.trees.Stat.{Stat}
-use Rattle.flat_list.specs.declared.entries.Entry.{Entry}
-use Rattle.flat_list.specs.declared.entries.Mark.{Mark}
-use Rattle.flat_list.specs.declared.entries.Mark.TheVariants as mark
+use Rattle.entry_pages.specs.declared.entries.Entry.{Entry}
+use Rattle.entry_pages.specs.declared.entries.Mark.{Mark}
+use Rattle.entry_pages.specs.declared.entries.Mark.TheVariants as mark
 use Rattle.flat_list.specs.declared.reading.Told.{Told}
 use Rattle.outside.specs.Links.{link_refusal, link_of, link_reading, LinkReadingUndoesWriting}
 use Rattle.outside.specs.declared.links.LinkTextError.{LinkTextError}
 use Rattle.outside.specs.declared.links.LinkTextError.TheVariants as link
 use Rattle.flat_list.specs.declared.versions.Version.{Version}
-use Rattle.flat_list.specs.Entries.{size_by, is_sized, shape_by, has_target}
+use Rattle.entry_pages.specs.Entries.{size_by, is_sized, shape_by, has_target}
 use Rattle.flat_list.specs.Orders.{time_of}
 use Rattle.flat_list.specs.Spelling.{kind_by, kind_word, time_word, mark_word, text_of, target_text, IsTarget, IsEntry, is_marked, is_new}
 use Rattle.whole_lines.specs.Lines.{end_text}

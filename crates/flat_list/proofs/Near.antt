@@ -22,7 +22,7 @@ use Rattle.path_text.proofs.Parts.{before_made}
 use Rattle.path_text.proofs.Words.{behind, rest_of}
 use Rattle.flat_list.specs.Private.Reading.{is_plain, IsFront, IsPlainName, IsNear, path_behind, if_behind}
 use Rattle.whole_lines.specs.Words.{path_from, ok_of, ◌>>=◌}
-use Rattle.flat_list.proofs.Inverse.{prefix_same}
+use Rattle.entry_pages.proofs.Inverse.{prefix_same}
 
 -- ---- bytes that stand for themselves
 

@@ -8,9 +8,9 @@ use Rattle.std.specs.List.Sorted.{IsStrictlySortedBy}
 use Rattle.std.proofs.lemmas.Bool.{and_parts}
 use Rattle.std.proofs.lemmas.Grind.{flat_map-append}
 use Rattle.path_text.specs.Order.{path_cmp}
-use Rattle.flat_list.specs.declared.entries.Entry.{Entry}
+use Rattle.entry_pages.specs.declared.entries.Entry.{Entry}
 use Rattle.flat_list.specs.declared.versions.Version.{Version}
-use Rattle.flat_list.specs.Entries.{has_target}
+use Rattle.entry_pages.specs.Entries.{has_target}
 use Rattle.flat_list.specs.Spelling.{text_of, target_text, IsTarget, IsEntry, is_new, IsKnown, paths, IsList}
 use Rattle.whole_lines.specs.Lines.{line}
 use Rattle.flat_list.proofs.Ascending.{sorted_front}

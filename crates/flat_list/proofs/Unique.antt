@@ -4,7 +4,7 @@ use Rattle.std.proofs.Common.{◌∙◌, subst, arith}
 use Rattle.std.proofs.Common.{append-nil}
 use Rattle.std.proofs.lemmas.Bool.{cases_lt}
 use Rattle.std.proofs.lemmas.List.{append_cancel_left}
-use Rattle.flat_list.specs.declared.entries.Entry.{Entry}
+use Rattle.entry_pages.specs.declared.entries.Entry.{Entry}
 use Rattle.flat_list.specs.declared.versions.Version.{Version}
 use Rattle.whole_lines.specs.Lines.{line, end_text, lines_of}
 use Rattle.flat_list.specs.Spelling.{header_text, entry_lines, lines_for, SpellsAs, Spells, Begins, IsDamaged, max_entries, IsTooLong}

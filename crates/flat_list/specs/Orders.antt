@@ -1,17 +1,16 @@
 -- The orders of a list by a field, and how places and entries are dealt. Our own, after the sort fields of mpiFileUtils' dwalk and the
 -- spread of its flat lists over ranks.
-use Rattle.std.specs.Prelude.{ℕ, ◌+◌, ◌%◌, Bool, true, false, List, [], ◌∷◌, max, Option, Some, None, if◌then◌else◌, ◌==◌, nat_eq}
-use Rattle.std.specs.List.{position}
+use Rattle.std.specs.Prelude.{ℕ, ◌+◌, ◌%◌, Bool, true, false, List, [], ◌∷◌, max, Option, Some, None, if◌then◌else◌, ◌==◌}
 use Rattle.std.specs.Option.{option_cmp}
 use Rattle.std.specs.Ordering.{on, nat_cmp, flip_args, then_cmp}
 use Rattle.std.specs.declared.cmp.Ordering.{Ordering}
-use Rattle.std.specs.Cmp.Lexicographic.{slice_cmp, pointwise}
+use Rattle.std.specs.Cmp.Lexicographic.{slice_cmp}
 use Rattle.path_text.specs.Path.{base_of, level_of}
 use Rattle.path_text.specs.Order.{path_cmp}
 use Rattle.outside.specs.declared.trees.Kind.{Kind}
 use Rattle.outside.specs.declared.trees.Kind.TheVariants as kind
 use Rattle.outside.specs.declared.trees.Stat.{Stat}
-use Rattle.flat_list.specs.declared.entries.Entry.{Entry}
+use Rattle.entry_pages.specs.declared.entries.Entry.{Entry}
 use Rattle.flat_list.specs.declared.ordering.Field.{Field}
 use Rattle.flat_list.specs.declared.ordering.Field.TheVariants as field
 
@@ -53,10 +52,6 @@ turned true cmp = flip_args cmp
 -- the order of a sort: the field, upwards or downwards, and ascending path order if it ties
 abbrev pub sort_order : Field → Bool → Entry → Entry → Ordering
 sort_order f down = then_cmp (turned down (by_field f)) by_path
-
--- the first place of a path
-abbrev pub place_of : List ℕ → List Entry → Option ℕ
-place_of path entries = position (λ e. pointwise nat_eq e.path path) entries
 
 -- how many levels there are down to the deepest entry
 abbrev pub level_count : List Entry → ℕ

@@ -16,14 +16,14 @@ use Rattle.outside.specs.declared.trees.Kind.TheVariants as kind
 use Rattle.outside.specs.declared.trees.Stat.{Stat}
 use Rattle.outside.specs.Links.{link_refusal}
 use Rattle.whole_lines.specs.Lines.{line, lines_of, end_text}
-use Rattle.flat_list.specs.declared.entries.Entry.{Entry}
-use Rattle.flat_list.specs.declared.entries.Mark.{Mark}
-use Rattle.flat_list.specs.declared.entries.Mark.TheVariants as mark
+use Rattle.entry_pages.specs.declared.entries.Entry.{Entry}
+use Rattle.entry_pages.specs.declared.entries.Mark.{Mark}
+use Rattle.entry_pages.specs.declared.entries.Mark.TheVariants as mark
 use Rattle.flat_list.specs.declared.errors.CacheError.{CacheError}
 use Rattle.flat_list.specs.declared.errors.CacheError.TheVariants as error
 use Rattle.flat_list.specs.declared.versions.Version.{Version}
 use Rattle.flat_list.specs.declared.versions.Version.TheVariants.{One, Two}
-use Rattle.flat_list.specs.Entries.{size_by, is_of, is_shaped}
+use Rattle.entry_pages.specs.Entries.{size_by, is_of, is_shaped}
 use Rattle.flat_list.specs.Orders.{time_of}
 
 -- the words of a line

@@ -1,9 +1,8 @@
 //! A cursor over the entries of a list.
 ghost use Rattle.std.specs.Prelude.{◌≡◌, ◌+◌, ◌-◌, ◌<◌, ◌≤◌, ◌++◌, ◌∷◌, [], false, nat_lt, if◌then◌else◌, Some, length, take, slice_get, OnErr, IfOk};
-ghost use Rattle.flat_list.specs.Private.Kept.{RisesAt};
+ghost use Rattle.entry_pages.specs.Pack.{RisesAt};
 
-use crate::entries::Entry;
-use crate::passing::Reader;
+use entry_pages::{Entry, Reader};
 use path_text::OutOfMemory;
 use std::marker::Model;
 
@@ -15,7 +14,7 @@ pub struct Cursor<'a> {
 
 impl<'a> Model for Cursor<'a> {
     ghost use Rattle.std.specs.Prelude.{◌≡◌, ◌-◌, ◌<◌, ◌≤◌, List, ℕ, length, slice_get, Some};
-    ghost use Rattle.flat_list.specs.declared.entries.Entry.{Entry};
+    ghost use Rattle.entry_pages.specs.declared.entries.Entry.{Entry};
 
     ghost Value = { List Entry × ℕ };
 
@@ -25,10 +24,11 @@ impl<'a> Model for Cursor<'a> {
 }
 
 impl<'a> Cursor<'a> {
-    // A cursor before the first entry.
-    pub(crate) fn before(reader: Reader<'a>) -> Cursor<'a>
-        requires { reader.1 ≡ 0 }
-        ensures { result ≡ (reader.entry.0, 0) }
+    // A cursor that has passed as many entries as the reader.
+    pub(crate) fn at(reader: Reader<'a>) -> Cursor<'a>
+        requires inside { reader.1 ≤ length reader.0 }
+        requires last { 0 < reader.1 → slice_get reader.0 (reader.1 - 1) ≡ Some reader.2 }
+        ensures { result ≡ (reader.entry.0, reader.entry.1) }
     {
         Cursor { reader }
     }

@@ -7,11 +7,11 @@ ghost use Rattle.whole_lines.specs.Words.{cut, end_at};
 ghost use Rattle.flat_list.specs.Private.Reading.{entry_at, found_at, with_target, behind_target, line_count, IsLast, Adds, NoneFollows};
 ghost use Rattle.std.specs.Option.{option_map};
 
-use crate::entries::Entry;
 use crate::errors::CacheError;
 use crate::lists::FlatList;
 use crate::reading::{entry_behind, target_behind};
 use crate::versions::Version;
+use entry_pages::Entry;
 use outside::{LinkText, link_reading_undoes_writing};
 use path_text::{OutOfMemory, reading_undoes_writing};
 use std::alloc::Global;

@@ -4,15 +4,16 @@ ghost use Rattle.std.specs.List.{flat_map};
 ghost use Rattle.std.specs.List.Sorted.{IsStrictlySortedBy};
 ghost use Rattle.std.specs.Fmt.{decimal};
 ghost use Rattle.path_text.specs.Order.{path_cmp};
-ghost use Rattle.flat_list.specs.Entries.{is_shaped, size_by};
+ghost use Rattle.entry_pages.specs.Entries.{is_shaped, size_by};
 ghost use Rattle.flat_list.specs.Orders.{time_of};
 ghost use Rattle.flat_list.specs.Private.Reading.{IsWritten};
-ghost use Rattle.flat_list.specs.Spelling.{kind_by, kind_word, time_word, mark_word, text_of, lines_by, target_lines, target_text, header_text, IsEntry, IsTarget, paths, SpellsAs};
+ghost use Rattle.flat_list.specs.Spelling.{kind_by, kind_word, time_word, mark_word, text_of, lines_by};
+ghost use Rattle.flat_list.specs.Spelling.{target_lines, target_text, header_text, IsEntry, IsTarget, paths, SpellsAs};
 ghost use Rattle.whole_lines.specs.Lines.{line, end_text};
 
-use crate::entries::{Entry, Mark};
 use crate::lists::FlatList;
 use crate::versions::Version;
+use entry_pages::{Entry, Mark};
 use itoa::Buffer;
 use outside::{Kind, LinkText, Stat};
 use path_text::{OutOfMemory, put_escaped, put_escaped_bytes};
@@ -98,7 +99,8 @@ fn put_target_line(text: &mut Vec<u8>, target: &LinkText) -> Result<(), OutOfMem
 
 // The words of a stat, each with a space after it.
 fn put_stat(text: &mut Vec<u8>, stat: Option<Stat>) -> Result<(), OutOfMemory>
-    ensures text { OnOk result (text.new.items ≡ text.old.items ++ (kind_word (kind_by stat) ++ 32 ∷ (decimal (size_by stat) ++ 32 ∷ (time_word (time_of stat) ++ 32 ∷ [])))) }
+    ensures text { OnOk result (text.new.items ≡ text.old.items ++ (kind_word (kind_by stat) ++ 32 ∷ (decimal
+        (size_by stat) ++ 32 ∷ (time_word (time_of stat) ++ 32 ∷ [])))) }
     ensures size { OnOk result (size_by stat < 2 ^ 64) }
     ensures time { OnOk result (IfSome (time_of stat) (λ seconds. seconds < 2 ^ 64)) }
 {

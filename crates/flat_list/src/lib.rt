@@ -1,11 +1,7 @@
 //! Lists of entries in path order, as a walk makes them.
 //!
-//! - An [`Entry`] has a path, the kind, size and time of the file there, and the target of a link. Its [`Mark`] says how the
-//!   file system answered.
-//! - A [`FlatList`] is seen as the list of its entries. It keeps them packed, in pages of 256. Of each entry it keeps a head,
-//!   and the part of the path that the path before does not share. The first path of a page is whole. [`FlatList::page`] shows
-//!   a page's bytes. The targets of links are in one text beside the pages, so an entry without one takes no room there. No
-//!   slice of entries leaves the crate: it makes them again, one by one.
+//! - A [`FlatList`] is seen as the list of its entries. It keeps them packed, as the pages of `entry_pages`, which says what an
+//!   [`Entry`] is, its [`Mark`] and a [`Summary`]. No slice of entries leaves the crate: it makes them again, one by one.
 //! - [`FlatList::from_logs`] joins the packed logs of several ranks, and puts their entries in path order. It reads each log
 //!   once, in several threads if there are more. Each log becomes runs: short lists in order. It joins runs that come in
 //!   falling order, as those of one rank do, page by page as they are kept. It merges others.
@@ -17,8 +13,6 @@
 //! - [`FlatList::levels`] gives the places of each level, and [`FlatList::spread`] deals copies of the entries to pieces.
 //! - [`FlatList::encode`] writes a list as a list file of version 2, a text that other tools read. [`FlatList::decode`] reads a
 //!   list file of version 1 or 2, or names the first bad line in a [`CacheError`].
-//! - [`FlatList::summary`] counts the entries that have a stat, by kind, the bytes of the files, and the failures that the
-//!   entries name. Its answer is a [`Summary`].
 //!
 //! ```text
 //! let list = FlatList::from_logs(rt, alloc, logs, hosts)?;
@@ -34,10 +28,8 @@
 //! Proved:
 //! - A joined list has all entries of the logs and no other, and ascends by path.
 //! - A sort only moves entries, and keeps the order of those that tie.
-//! - Levels, pieces and the first place of a path are those of the definitions.
+//! - Levels and pieces are those of the definitions.
 //! - A cursor passes each entry once, in order.
-//! - The bytes of a page are those of the definition. These bytes and the heads give the entries.
-//! - The counts are those of the definition.
 //! - A call that runs out of memory leaves the list as it was.
 //!
 //! Proved of list files, over relations between bytes and lists:
@@ -50,48 +42,38 @@
 //! - Of two answers about a text only one is true ([`refusals_are_exact`]).
 //!
 //! Definitions are in `specs/`:
-//! - `Entries`: the shape of an entry, its notes, the summary.
 //! - `Orders`: fields, places, levels, pieces.
-//! - `Pack`: how entries are packed. `Spelling`: list files.
+//! - `Spelling`: list files.
 //! - `Private`: the definitions that only private clauses cite.
 //!
 //! `whole_lines` has the words of lines and the argument on whole lines. Its items are pieces of one line each: an entry's own,
 //! or a target's (`proofs/Pieces`).
 //!
-//! Limits: `decode` refuses a list file of more than 4,194,304 entries. `place_of` looks at the entries one by one. Two things
-//! are not claimed: that a call runs out of memory only if memory was refused, and how soon a list is in order.
+//! Limits: `decode` refuses a list file of more than 4,194,304 entries. Two things are not claimed: that a call runs out of
+//! memory only if memory was refused, and how soon a list is in order.
 #![tactic(auto)]
 
-mod appending;
 mod cursors;
 mod dealing;
 mod decoding;
 mod encoding;
-mod entries;
 mod errors;
 mod following;
 mod halving;
-mod heads;
 mod laws;
 mod lists;
 mod merging;
 mod ordering;
-mod packing;
-mod passing;
 mod piles;
 mod reading;
 mod runs;
-mod seeking;
-mod slims;
 mod sources;
-mod summaries;
 mod versions;
 
 pub use cursors::Cursor;
-pub use entries::{Entry, Mark};
+pub use entry_pages::{Entry, Mark, Summary};
 pub use errors::CacheError;
 pub use laws::{refusals_are_exact, spelling_is_unique};
 pub use lists::FlatList;
 pub use ordering::Field;
-pub use summaries::Summary;
 pub use versions::Version;

@@ -1,34 +1,30 @@
 //! Lists of entries.
-ghost use Rattle.std.specs.Prelude.{◌≡◌, ◌+◌, ◌*◌, ◌%◌, ◌<◌, ◌≤◌, ◌++◌, ◌∷◌, [], true, ◌==◌, Some, length, map, slice_get, slice_index_or, if◌then◌else◌, OnOk, OnErr, IfOk, IfErr, All};
+ghost use Rattle.std.specs.Prelude.{◌≡◌, ◌+◌, ◌*◌, ◌%◌, ◌<◌, ◌≤◌, ◌++◌, ◌∷◌, [], true, ◌==◌};
+ghost use Rattle.std.specs.Prelude.{Some, None, length, map, slice_get, slice_index_or, if◌then◌else◌, OnOk, OnErr, IfOk, IfErr, All};
 ghost use Rattle.std.specs.List.{flat_map, range_with_len, sum_by};
 ghost use Rattle.std.specs.Fn.{CalledAt};
 ghost use Rattle.std.specs.List.Retain.{IsFiltered};
 ghost use Rattle.std.specs.List.Sorted.{IsPermutation, IsSorted, IsSortedByKey, IsStrictlySortedBy, IsStable, IsStableByKey};
+ghost use Rattle.path_text.specs.Path.{refusal};
 ghost use Rattle.path_text.specs.Order.{path_cmp};
-ghost use Rattle.flat_list.specs.Entries.{is_shaped, summary_of};
-ghost use Rattle.flat_list.specs.Pack.{page_of};
+ghost use Rattle.entry_pages.specs.Entries.{is_shaped, summary_of};
+ghost use Rattle.entry_pages.specs.Pack.{page_of, place_of};
 ghost use Rattle.flat_list.specs.Spelling.{paths, Spells, SpellsAs, max_entries, IsCause};
-ghost use Rattle.flat_list.specs.Orders.{place_of, sort_order, level_count, places_at, dealt};
+ghost use Rattle.flat_list.specs.Orders.{sort_order, level_count, places_at, dealt};
 
-use crate::appending::{extend_reserved, put_shifted};
 use crate::cursors::Cursor;
 use crate::dealing::{levels_of, pieces_of};
 use crate::decoding::decode;
 use crate::encoding::encode;
-use crate::entries::Entry;
 use crate::errors::CacheError;
 use crate::halving::runs_by;
-use crate::heads::Heads;
 use crate::merging::{joined, len_of};
 use crate::ordering::{Field, sort_order};
-use crate::packing::{cut_back, head_of, put, shared_of};
-use crate::passing::Reader;
 use crate::runs::run_each;
-use crate::seeking::place_in;
 use crate::sources::Source;
-use crate::summaries::{Summary, path_bytes, summary_of};
 use crate::versions::Version;
-use path_text::{OutOfMemory, Path, compare};
+use entry_pages::{Entry, Pages, Summary};
+use path_text::{OutOfMemory, Path};
 use std::alloc::Global;
 use std::marker::Model;
 use std::thread::Threads;
@@ -37,25 +33,16 @@ use std::thread::Threads;
 /// does not share. The first path of a page is whole.
 #[derive(Debug, Drop)]
 pub struct FlatList {
-    heads: Heads,
-    // Where the rests of each page begin.
-    starts: Vec<usize>,
-    rests: Vec<u8>,
-    // The last path.
-    last: Vec<u8>,
+    pages: Pages,
 }
 
 impl Model for FlatList {
-    ghost use Rattle.std.specs.Prelude.{List, []};
-    ghost use Rattle.flat_list.specs.declared.entries.Entry.{Entry};
-    ghost use Rattle.flat_list.specs.Pack.{unpacked};
-    ghost use Rattle.flat_list.specs.Private.Kept.{IsKept};
+    ghost use Rattle.std.specs.Prelude.{List};
+    ghost use Rattle.entry_pages.specs.declared.entries.Entry.{Entry};
 
     ghost Value = { List Entry };
 
-    ghost view = { λ l. unpacked [] l.heads l.rests.items };
-
-    ghost invariant = { λ l. IsKept l.heads l.starts.items l.rests.items l.last.items (unpacked [] l.heads l.rests.items) };
+    ghost view = { λ l. l.pages };
 }
 
 impl FlatList {
@@ -64,22 +51,16 @@ impl FlatList {
         ensures { result ≡ [] }
     {
         FlatList {
-            heads: Heads::make(alloc),
-            starts: Vec::new(alloc),
-            rests: Vec::new(alloc),
-            last: Vec::new(alloc),
+            pages: Pages::make(alloc),
         }
     }
 
-    // No entries, with room for the heads of a number of them.
-    fn with_room(alloc: Global, count: usize) -> Result<FlatList, OutOfMemory>
+    // No entries, with room for the heads of a number of them and for a number of bytes of their paths.
+    fn with_room(alloc: Global, count: usize, bytes: usize) -> Result<FlatList, OutOfMemory>
         ensures { IfOk result (λ list. list ≡ []) }
     {
         Ok(FlatList {
-            heads: Heads::with_room(alloc, count)?,
-            starts: Vec::with_capacity(alloc, count / 256 + 1)?,
-            rests: Vec::new(alloc),
-            last: Vec::new(alloc),
+            pages: Pages::with_room(alloc, count, bytes)?,
         })
     }
 
@@ -87,16 +68,14 @@ impl FlatList {
     pub(crate) fn with_room_of(alloc: Global, lists: &[FlatList]) -> Result<FlatList, OutOfMemory>
         ensures { IfOk result (λ list. list ≡ []) }
     {
-        let mut all = FlatList::with_room(alloc, len_of(lists))?;
-        all.rests.reserve(rests_len(lists))?;
-        Ok(all)
+        FlatList::with_room(alloc, len_of(lists), rests_len(lists))
     }
 
     // The entries packed. Each is dropped as soon as it is packed.
     pub(crate) fn packed(alloc: Global, entries: Vec<Entry>) -> Result<FlatList, OutOfMemory>
         ensures { IfOk result (λ list. list ≡ entries.items) }
     {
-        let mut list = FlatList::with_room(alloc, entries.len())?;
+        let mut list = FlatList::with_room(alloc, entries.len(), 0)?;
         for entry in entries {
             list.add(&entry)?;
         }
@@ -107,7 +86,7 @@ impl FlatList {
     pub(crate) fn packed_from(alloc: Global, entries: &[Entry]) -> Result<FlatList, OutOfMemory>
         ensures { IfOk result (λ list. list ≡ entries.now) }
     {
-        let mut list = FlatList::with_room(alloc, entries.len())?;
+        let mut list = FlatList::with_room(alloc, entries.len(), 0)?;
         for entry in entries {
             list.add(entry)?;
         }
@@ -118,7 +97,7 @@ impl FlatList {
     pub(crate) fn packed_back(alloc: Global, entries: &[Entry]) -> Result<FlatList, OutOfMemory>
         ensures { IfOk result (λ list. IsPermutation entries.now list) }
     {
-        let mut list = FlatList::with_room(alloc, entries.len())?;
+        let mut list = FlatList::with_room(alloc, entries.len(), 0)?;
         let mut left = entries;
         while let Some((last, before)) = left.split_last() {
             list.add(last)?;
@@ -140,21 +119,28 @@ impl FlatList {
     }
 
     pub(crate) fn alloc(&self) -> Global {
-        *self.rests.allocator()
+        self.pages.alloc()
     }
 
     /// How many entries there are.
     pub fn len(&self) -> usize
         ensures { result ≡ length self.now }
     {
-        self.heads.len()
+        self.pages.len()
     }
 
     /// Whether there are none.
     pub fn is_empty(&self) -> bool
         ensures { result ≡ (length self.now == 0) }
     {
-        self.len() == 0
+        self.pages.is_empty()
+    }
+
+    /// Recalls the law that each entry has a valid path. It takes no time.
+    pub fn paths_are_valid(&self)
+        ensures { All (λ e. refusal e.path ≡ None) self.now }
+    {
+        self.pages.paths_are_valid();
     }
 
     /// Adds a copy of an entry after the others. A refusal leaves the list.
@@ -162,18 +148,7 @@ impl FlatList {
         ensures ok { OnOk result (self.new ≡ self.old ++ entry.now ∷ []) }
         ensures err { OnErr result (self.new ≡ self.old) }
     {
-        let path = entry.path.text();
-        let shared = shared_of(self.heads.len(), &self.last, path.as_bytes());
-        let head = head_of(entry, path, shared);
-        put(
-            &mut self.heads,
-            &mut self.starts,
-            &mut self.rests,
-            &mut self.last,
-            head,
-            &entry.target,
-            path.as_bytes(),
-        )
+        self.pages.add(entry)
     }
 
     /// Puts the entries of another list after those of this one, which ends where a page begins. It copies them as they are
@@ -183,18 +158,7 @@ impl FlatList {
         ensures ok { OnOk result (self.new ≡ self.old ++ other.now) }
         ensures err { OnErr result (self.new ≡ self.old) }
     {
-        if other.is_empty() {
-            return Ok(());
-        }
-        let base = self.rests.len();
-        self.starts.reserve(other.starts.len())?;
-        self.rests.reserve(other.rests.len())?;
-        self.last.reserve(other.last.len())?;
-        self.heads.append(&other.heads)?;
-        put_shifted(&mut self.starts, base, &other.starts);
-        extend_reserved(&mut self.rests, &other.rests);
-        cut_back(&mut self.last, 0, &other.last);
-        Ok(())
+        self.pages.append(&other.pages)
     }
 
     // Puts the entries of another list after those of this one: as they are kept, if this one ends where a page does.
@@ -209,15 +173,7 @@ impl FlatList {
 
     // Whether the last path comes before the first one of another list. Only speed depends on the answer.
     pub(crate) fn is_before(&self, other: &FlatList) -> bool {
-        let heads = other.heads.leads();
-        if heads.is_over() {
-            return true;
-        }
-        let (head, _text) = heads.next();
-        match other.rests.get(..head.rest as usize) {
-            Some(first) => compare(&self.last, first).is_lt(),
-            None => false,
-        }
+        self.pages.is_before(&other.pages)
     }
 
     /// Keeps the entries for which `keep` answers `true`, in their order, and drops the others. A refusal leaves the list. It
@@ -302,13 +258,7 @@ impl FlatList {
         requires { k < length self.now }
         ensures { IfOk result (λ entry. slice_get self.now k ≡ Some entry) }
     {
-        let page = k / 256;
-        let heads = self.heads.leads_at(page);
-        let mut reader = Reader::make(self.alloc(), heads, &self.rests, self.starts[page])?;
-        for _ in 0..k % 256 + 1 {
-            reader.pass()?;
-        }
-        Ok(reader.into_entry())
+        self.pages.entry(k)
     }
 
     /// The rests of the entries of a page, joined. The first path is whole, and each later rest is the part that the path before
@@ -317,9 +267,7 @@ impl FlatList {
         requires { 256 * k < length self.now }
         ensures { result.now ≡ page_of k self.now }
     {
-        let start = self.starts[k];
-        let end = begin_of(&self.starts, k + 1, self.rests.len());
-        &self.rests[start..end]
+        self.pages.page(k)
     }
 
     // Whether the entries are in path order. It takes the memory of one entry.
@@ -356,7 +304,7 @@ impl FlatList {
     pub fn place_of(&self, path: &Path) -> Option<usize>
         ensures { result ≡ place_of path.now self.now }
     {
-        place_in(&self.heads, &self.rests, path.text().as_bytes())
+        self.pages.place_of(path)
     }
 
     /// Puts the entries in the order of a field, with `down` from the greatest to the least. A missing size, time or kind is
@@ -376,7 +324,8 @@ impl FlatList {
 
     /// The places of the entries of each level, from level 0 to the level of the deepest entry.
     pub fn levels(&self) -> Result<Vec<Vec<usize>>, OutOfMemory>
-        ensures { IfOk result (λ levels. map (λ places. places.items) levels.items ≡ map (λ k. places_at k self.now) (range_with_len 0 (level_count self.now))) }
+        ensures { IfOk result (λ levels. map (λ places. places.items) levels.items ≡ map (λ k. places_at k self.now)
+            (range_with_len 0 (level_count self.now))) }
     {
         levels_of(self)
     }
@@ -416,22 +365,29 @@ impl FlatList {
     pub fn summary(&self) -> Summary
         ensures { result ≡ summary_of self.now }
     {
-        summary_of(self.heads.leads(), self.heads.len())
+        self.pages.summary()
     }
 
     /// How many bytes the paths of all entries have. It takes no memory, and makes no path.
     pub fn path_bytes(&self) -> u128
         ensures { result ≡ sum_by (λ e. length e.path) self.now }
     {
-        path_bytes(self.heads.leads(), self.heads.len())
+        self.pages.path_bytes()
     }
 
     /// A cursor before the first entry. It takes the memory of one entry.
     pub fn cursor(&self) -> Result<Cursor<'_>, OutOfMemory>
         ensures { IfOk result (λ cursor. cursor ≡ (self.now, 0)) }
     {
-        let reader = Reader::make(self.alloc(), self.heads.leads(), &self.rests, 0)?;
-        Ok(Cursor::before(reader))
+        Ok(Cursor::at(self.pages.reader()?))
+    }
+
+    /// A cursor that has passed this many entries. It goes over those of one page, and takes the memory of one entry.
+    pub fn cursor_at(&self, k: usize) -> Result<Cursor<'_>, OutOfMemory>
+        requires { k ≤ length self.now }
+        ensures { IfOk result (λ cursor. cursor ≡ (self.now, k)) }
+    {
+        Ok(Cursor::at(self.pages.reader_at(k)?))
     }
 }
 
@@ -439,17 +395,7 @@ impl FlatList {
 fn rests_len(lists: &[FlatList]) -> usize {
     let mut len = 0usize;
     for list in lists {
-        len = len.saturating_add(list.rests.len());
+        len = len.saturating_add(list.pages.rests_len());
     }
     len
-}
-
-// Where the rests of a page begin; if there is no such page, how many bytes there are.
-fn begin_of(starts: &[usize], page: usize, count: usize) -> usize
-    ensures { result ≡ slice_index_or starts.now page count }
-{
-    if page < starts.len() {
-        return starts[page];
-    }
-    count
 }

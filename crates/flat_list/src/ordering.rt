@@ -4,7 +4,7 @@ ghost use Rattle.std.specs.Option.{option_cmp};
 ghost use Rattle.std.specs.Ordering.{nat_cmp};
 ghost use Rattle.flat_list.specs.Orders.{by_field, sort_order, size_of, time_of, kind_of, kind_place};
 
-use crate::entries::Entry;
+use entry_pages::Entry;
 use outside::{Kind, Stat};
 use std::cmp::Ordering;
 

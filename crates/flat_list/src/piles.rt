@@ -2,9 +2,10 @@
 ghost use Rattle.std.specs.Prelude.{◌≡◌, ◌-◌, ◌++◌, ◌∷◌, [], length, take, OnOk, OnErr, IfSome, IfNone, IfOk};
 ghost use Rattle.std.specs.List.Sorted.{IsPermutation};
 
-use crate::entries::{Entry, compare_behind, write_over};
-use path_text::OutOfMemory;
+use entry_pages::Entry;
+use path_text::{OutOfMemory, Path, compare};
 use std::alloc::{AllocError, Global};
+use std::cmp::Ordering;
 use std::marker::Model;
 
 /// Copies of entries, seen as their list. An entry that is taken away leaves its slot, and the next entry is written over it.
@@ -17,7 +18,7 @@ pub(crate) struct Pile {
 
 impl Model for Pile {
     ghost use Rattle.std.specs.Prelude.{List, take, length, ◌≤◌};
-    ghost use Rattle.flat_list.specs.declared.entries.Entry.{Entry};
+    ghost use Rattle.entry_pages.specs.declared.entries.Entry.{Entry};
 
     ghost Value = { List Entry };
 
@@ -60,7 +61,7 @@ impl Pile {
         ensures err { OnErr result (self.new ≡ self.old) }
     {
         if self.len < self.slots.len() {
-            write_over(&mut self.slots[self.len], entry)?;
+            self.slots[self.len].overwrite(entry)?;
         } else {
             self.slots.push(entry.copy()?)?;
         }
@@ -98,4 +99,12 @@ impl Pile {
     {
         &self.slots[..self.len]
     }
+}
+
+// Compares two paths that share this many bytes, or more, up to the end of the shorter one: the bytes after them decide. Only
+// speed depends on the answer.
+pub(crate) fn compare_behind(a: &Path, b: &Path, shared: usize) -> Ordering {
+    let (a, b) = (a.text().as_bytes(), b.text().as_bytes());
+    let at = shared.min(a.len()).min(b.len());
+    compare(&a[at..], &b[at..])
 }

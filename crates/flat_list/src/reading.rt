@@ -3,15 +3,15 @@ ghost use Rattle.std.specs.Prelude.{◌≡◌, IfOk, IfSome, Some};
 ghost use Rattle.std.specs.Option.{option_map};
 ghost use Rattle.std.specs.Str.{IsUtf8};
 ghost use Rattle.outside.specs.Links.{link_reading};
-ghost use Rattle.flat_list.specs.Entries.{is_sized, is_kind, is_of, shape_by};
+ghost use Rattle.entry_pages.specs.Entries.{is_sized, is_kind, is_of, shape_by};
 ghost use Rattle.flat_list.specs.Spelling.{is_marked, is_old};
 ghost use Rattle.whole_lines.specs.Words.{word_at};
 ghost use Rattle.flat_list.specs.Private.Reading.{time_from, kind_from, mark_from, stat_from, is_told, told_at, entry_behind};
 ghost use Rattle.flat_list.specs.Private.Reading.{takes_target, target_behind, target_line, target_at, target_from, link_ok};
 
-use crate::entries::{Entry, Mark};
 use crate::following::path_behind;
 use crate::versions::Version;
+use entry_pages::{Entry, Mark};
 use outside::{Kind, LinkText, LinkTextError, Stat};
 use path_text::OutOfMemory;
 use std::alloc::Global;

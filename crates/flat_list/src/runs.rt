@@ -12,9 +12,10 @@ ghost use Rattle.std.specs.List.{flat_map};
 ghost use Rattle.std.specs.List.Sorted.{IsPermutation};
 ghost use Rattle.flat_list.specs.Private.Cut.{all_of, held_by};
 
-use crate::entries::{Entry, compare_behind, is_dir};
 use crate::lists::FlatList;
-use crate::piles::Pile;
+use crate::piles::{Pile, compare_behind};
+use entry_pages::Entry;
+use outside::Kind;
 use path_text::OutOfMemory;
 use std::alloc::Global;
 
@@ -306,5 +307,13 @@ impl Cut {
         let mut cut = self;
         cut.end()?;
         Ok(cut.pieces.runs)
+    }
+}
+
+// Whether a directory is there, as far as is known.
+pub(crate) fn is_dir(entry: &Entry) -> bool {
+    match entry.stat {
+        Some(stat) => stat.kind == Kind::Dir,
+        None => false,
     }
 }

@@ -2,8 +2,8 @@
 ghost use Rattle.std.specs.Prelude.{◌≡◌, ◌-◌, ◌<◌, ◌++◌, [], true, false, length, OnOk, IfOk};
 
 use crate::cursors::Cursor;
-use crate::entries::Entry;
 use crate::lists::FlatList;
+use entry_pages::Entry;
 use path_text::OutOfMemory;
 use std::marker::Model;
 
@@ -16,7 +16,7 @@ pub(crate) struct Source<'a> {
 
 impl<'a> Model for Source<'a> {
     ghost use Rattle.std.specs.Prelude.{◌≡◌, ◌<◌, ◌≤◌, false, List, length};
-    ghost use Rattle.flat_list.specs.declared.entries.Entry.{Entry};
+    ghost use Rattle.entry_pages.specs.declared.entries.Entry.{Entry};
     ghost use Rattle.flat_list.specs.Private.Left.{left_of};
 
     ghost Value = { List Entry };

@@ -6,7 +6,7 @@ use Rattle.path_text.specs.Path.{parent_of}
 use Rattle.path_text.specs.declared.errors.OutOfMemory.{OutOfMemory}
 use Rattle.outside.specs.Tree.{Files, is_dir}
 use Rattle.outside.specs.Writes.{SameBut}
-use Rattle.flat_list.specs.declared.entries.Entry.{Entry}
+use Rattle.entry_pages.specs.declared.entries.Entry.{Entry}
 use Rattle.level_work.specs.declared.items.Item.{Item}
 use Rattle.level_work.specs.declared.items.Fate.{Fate}
 use Rattle.level_work.specs.declared.items.Fate.TheVariants as fate

@@ -15,7 +15,7 @@ use std::alloc::Global;
 pub trait Act<P: Plot> {
     ghost use Rattle.outside.specs.Tree.{Files};
     ghost use Rattle.level_work.specs.Acts.{IsDone};
-    ghost use Rattle.flat_list.specs.declared.entries.Entry as entries;
+    ghost use Rattle.entry_pages.specs.declared.entries.Entry as entries;
     ghost use Rattle.level_work.specs.declared.items.Fate as fates;
 
     /// The type of its data.
@@ -62,5 +62,6 @@ pub trait Act<P: Plot> {
         ensures plain { plain self.new ≡ plain self.old }
         ensures part_count { RoseBy 0 (P.count part.old) (P.count part.new) }
         ensures count { RoseBy 0 (count self.old) (count self.new) }
-        ensures cause { IfOk result (λ fate. fate ≡ Fate.Failed → (RoseBy 1 (P.count part.old) (P.count part.new)) ⊎ (RoseBy 1 (count self.old) (count self.new))) };
+        ensures cause { IfOk result (λ fate. fate ≡ Fate.Failed
+            → (RoseBy 1 (P.count part.old) (P.count part.new)) ⊎ (RoseBy 1 (count self.old) (count self.new))) };
 }

@@ -55,8 +55,12 @@ where
     ensures actors { SameActors A.plain A.count lots.old lots.new }
     ensures count { G.count ground.old ≤ G.count ground.new }
     ensures fates { OnOk result (TellsLevel order level items.now fates.old fates.new) }
-    ensures told { OnOk result ((d : A.Plain) → AllShow d (map (λ lot. A.plain lot.actor) lots.old) → IfSome (G.tree ground.old) (λ old. IfSome (G.tree ground.new) (OneLevel (A.deed d) level items.now fates.new old))) }
-    ensures blamed { OnOk result (BlamedMore (count_by is_failed fates.old) (count_by is_failed fates.new) (G.count ground.old) (map (λ lot. A.count lot.actor) lots.old) (G.count ground.new) (map (λ lot. A.count lot.actor) lots.new)) }
+    ensures told { OnOk result ((d : A.Plain) → AllShow d (map (λ lot. A.plain lot.actor) lots.old)
+        → IfSome (G.tree ground.old) (λ old. IfSome (G.tree ground.new) (OneLevel
+        (A.deed d) level items.now fates.new old))) }
+    ensures blamed { OnOk result (BlamedMore (count_by is_failed fates.old) (count_by is_failed fates.new)
+        (G.count ground.old) (map (λ lot. A.count lot.actor) lots.old) (G.count ground.new)
+        (map (λ lot. A.count lot.actor) lots.new)) }
     ensures rest { OnErr result (IfSome (G.tree ground.old) (λ old. IfSome (G.tree ground.new) (SameButLevel level items.now old))) }
     ensures who { map (λ lot. A.who lot.actor) lots.new ≡ map (λ lot. A.who lot.actor) lots.old }
     ensures came { OnOk result (LevelCame A.may_come (map (λ lot. A.who lot.actor) lots.old) items.now fates.new level) }

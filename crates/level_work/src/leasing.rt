@@ -97,7 +97,8 @@ pub(crate) fn give_all<G: Ground, A>(ground: &mut G, lots: &mut [Lot<A, G::Part>
     ensures told { IfSome (G.tree ground.old) (λ rest. IfSome (G.tree ground.new) (AllBack (part_tree G.Part.tree) (part_area G.Part.area) lots.old rest)) }
     ensures count { G.count ground.old ≤ G.count ground.new }
     ensures counts { G.count ground.new < 2 ^ 64 - 1 → G.count ground.old + sum_by (λ lot. part_count G.Part.count lot.part) lots.old ≤ G.count ground.new }
-    ensures none_at_end { G.count ground.new < 2 ^ 64 - 1 → (i : ℕ) (lot : Lot A G.Part) → slice_get lots.old i ≡ Some lot → part_count G.Part.count lot.part < 2 ^ 64 - 1 }
+    ensures none_at_end { G.count ground.new < 2 ^ 64 - 1 → (i : ℕ) (lot : Lot A G.Part) → slice_get lots.old i ≡ Some lot
+        → part_count G.Part.count lot.part < 2 ^ 64 - 1 }
 {
     for i in 0..lots.len() {
         give_one(ground, &mut lots[i]);
@@ -110,8 +111,10 @@ fn give_one<G: Ground, A>(ground: &mut G, lot: &mut Lot<A, G::Part>)
     requires tells { (p : G.Part) → lot.old.part ≡ Some p → is_some (G.Part.tree p) ≡ is_some (G.tree ground.old) }
     ensures none { lot.new.part ≡ None }
     ensures lot { lot.new ≡ record lot.old { part = None } }
-    ensures same { lot.old.part ≡ None → (G.tree ground.new ≡ G.tree ground.old) × (G.area ground.new ≡ G.area ground.old) × (G.count ground.new ≡ G.count ground.old) }
-    ensures tree { (p : G.Part) → lot.old.part ≡ Some p → IfSome (G.tree ground.old) (λ rest. IfSome (G.Part.tree p) (λ own. IfSome (G.tree ground.new) (Joins (tops_of (G.Part.area p)) own rest))) }
+    ensures same { lot.old.part ≡ None → (G.tree ground.new ≡ G.tree ground.old) × (G.area ground.new ≡ G.area ground.old)
+        × (G.count ground.new ≡ G.count ground.old) }
+    ensures tree { (p : G.Part) → lot.old.part ≡ Some p → IfSome (G.tree ground.old) (λ rest. IfSome
+        (G.Part.tree p) (λ own. IfSome (G.tree ground.new) (Joins (tops_of (G.Part.area p)) own rest))) }
     ensures area { (p : G.Part) → lot.old.part ≡ Some p → G.area ground.new ≡ area_with (tops_of (G.Part.area p)) (G.area ground.old) }
     ensures count { (p : G.Part) → lot.old.part ≡ Some p → G.count ground.new ≡ capped (G.count ground.old) (G.Part.count p) }
     ensures kept { G.count ground.old ≤ G.count ground.new }

@@ -55,8 +55,11 @@ where
     ensures none_fell { NoneFell (map A.count actors.old.items) (map A.count actors.new.items) }
     ensures len { IfOk result (λ fates. length fates ≡ length items.now) }
     ensures failed { IfOk result (ParentsFail order items.now) }
-    ensures told { IfOk result (λ fates. (d : A.Plain) → AllShow d (map A.plain actors.old.items) → IfSome (G.tree ground.old) (λ before. IfSome (G.tree ground.new) (Acted (A.deed d) order items.now fates before))) }
-    ensures blamed { IfOk result (λ fates. BlamedAll (count_by is_failed fates) (G.count ground.old) (map A.count actors.old.items) (G.count ground.new) (map A.count actors.new.items)) }
+    ensures told { IfOk result (λ fates. (d : A.Plain) → AllShow d (map A.plain actors.old.items)
+        → IfSome (G.tree ground.old) (λ before. IfSome (G.tree ground.new) (Acted
+        (A.deed d) order items.now fates before))) }
+    ensures blamed { IfOk result (λ fates. BlamedAll (count_by is_failed fates) (G.count ground.old)
+        (map A.count actors.old.items) (G.count ground.new) (map A.count actors.new.items)) }
     ensures each_may_come { IfOk result (EachMayCome A.may_come (map A.who actors.old.items) items.now) }
     ensures rest { OnErr result (IfSome (G.tree ground.old) (λ before. IfSome (G.tree ground.new) (SameButItems items.now before))) }
 {
@@ -96,8 +99,11 @@ where
     ensures count { G.count ground.old ≤ G.count ground.new }
     ensures len { IfOk result (λ fates. length fates ≡ length items.now) }
     ensures failed { IfOk result (ParentsFail order items.now) }
-    ensures told { IfOk result (λ fates. (d : A.Plain) → AllShow d (map (λ lot. A.plain lot.actor) lots.old) → IfSome (G.tree ground.old) (λ before. IfSome (G.tree ground.new) (Acted (A.deed d) order items.now fates before))) }
-    ensures blamed { IfOk result (λ fates. BlamedMore 0 (count_by is_failed fates) (G.count ground.old) (map (λ lot. A.count lot.actor) lots.old) (G.count ground.new) (map (λ lot. A.count lot.actor) lots.new)) }
+    ensures told { IfOk result (λ fates. (d : A.Plain) → AllShow d (map (λ lot. A.plain lot.actor) lots.old)
+        → IfSome (G.tree ground.old) (λ before. IfSome (G.tree ground.new) (Acted
+        (A.deed d) order items.now fates before))) }
+    ensures blamed { IfOk result (λ fates. BlamedMore 0 (count_by is_failed fates) (G.count ground.old)
+        (map (λ lot. A.count lot.actor) lots.old) (G.count ground.new) (map (λ lot. A.count lot.actor) lots.new)) }
     ensures who { map (λ lot. A.who lot.actor) lots.new ≡ map (λ lot. A.who lot.actor) lots.old }
     ensures each_may_come { IfOk result (EachMayCome A.may_come (map (λ lot. A.who lot.actor) lots.old) items.now) }
     ensures rest { OnErr result (IfSome (G.tree ground.old) (λ before. IfSome (G.tree ground.new) (SameButItems items.now before))) }
@@ -141,8 +147,11 @@ where
     ensures count { G.count ground.old ≤ G.count ground.new }
     ensures len { OnOk result (length fates.new ≡ length items.now) }
     ensures failed { OnOk result (ParentsFail order items.now fates.new) }
-    ensures told { OnOk result ((d : A.Plain) → AllShow d (map (λ lot. A.plain lot.actor) lots.old) → IfSome (G.tree ground.old) (λ before. IfSome (G.tree ground.new) (Acted (A.deed d) order items.now fates.new before))) }
-    ensures blamed { OnOk result (BlamedMore 0 (count_by is_failed fates.new) (G.count ground.old) (map (λ lot. A.count lot.actor) lots.old) (G.count ground.new) (map (λ lot. A.count lot.actor) lots.new)) }
+    ensures told { OnOk result ((d : A.Plain) → AllShow d (map (λ lot. A.plain lot.actor) lots.old)
+        → IfSome (G.tree ground.old) (λ before. IfSome (G.tree ground.new) (Acted
+        (A.deed d) order items.now fates.new before))) }
+    ensures blamed { OnOk result (BlamedMore 0 (count_by is_failed fates.new) (G.count ground.old)
+        (map (λ lot. A.count lot.actor) lots.old) (G.count ground.new) (map (λ lot. A.count lot.actor) lots.new)) }
     ensures who { map (λ lot. A.who lot.actor) lots.new ≡ map (λ lot. A.who lot.actor) lots.old }
     ensures each_may_come { OnOk result (EachMayCome A.may_come (map (λ lot. A.who lot.actor) lots.old) items.now fates.new) }
     ensures rest { OnErr result (IfSome (G.tree ground.old) (λ before. IfSome (G.tree ground.new) (SameButItems items.now before))) }

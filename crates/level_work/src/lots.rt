@@ -77,7 +77,9 @@ pub(crate) fn work_all<R: Threads + Sync, P: Plot + Send, A: Act<P> + Send>(
 )
     requires hosts { 0 < hosts }
     requires ready { (i : ℕ) (lot : _) → i < length lots.old → lot ≡ slice_index_or lots.old i lot → Ready (part_area P.area) items.now lot }
-    ensures { (i : ℕ) (d : _) → i < length lots.old → IsWorked (part_tree P.tree) (part_area P.area) (part_count P.count) A.plain A.count A.deed A.who A.may_come items.now (slice_index_or lots.old i d) (slice_index_or lots.new i d) }
+    ensures { (i : ℕ) (d : _) → i < length lots.old → IsWorked (part_tree P.tree) (part_area P.area)
+        (part_count P.count) A.plain A.count A.deed A.who A.may_come items.now (slice_index_or lots.old i d)
+        (slice_index_or lots.new i d) }
 {
     let work = |_: usize, lot: &mut Lot<A, P>|
         requires { Ready (part_area P.area) items.now lot.old }

@@ -11,7 +11,7 @@ use Rattle.path_text.specs.Graft.{below_of}
 use Rattle.path_text.proofs.Moved.{below_undoes_graft}
 use Rattle.path_text.proofs.Parts.{below_made}
 use Rattle.path_text.proofs.Under.{one_way}
-use Rattle.flat_list.specs.declared.entries.Entry.{Entry}
+use Rattle.entry_pages.specs.declared.entries.Entry.{Entry}
 use Rattle.tree_copy.specs.Copying.{target_of}
 use Rattle.tree_copy.specs.Placing.{IsPair, overlap}
 use Rattle.tree_copy.specs.declared.pairs.Pair.{Pair}

@@ -5,7 +5,7 @@ use Rattle.std.specs.List.{zip}
 use Rattle.outside.specs.Asked.{Asks, Writes}
 use Rattle.outside.specs.Writes.{Area}
 use Rattle.flat_list.specs.Spelling.{paths}
-use Rattle.flat_list.specs.declared.entries.Entry.{Entry}
+use Rattle.entry_pages.specs.declared.entries.Entry.{Entry}
 use Rattle.level_work.specs.declared.items.Fate.{Fate}
 use Rattle.tree_copy.specs.Causes.{HasCause, HaveCauses}
 use Rattle.tree_copy.specs.Copying.{treated}

@@ -14,9 +14,9 @@ use Rattle.outside.specs.Parts.{UnderDirectories}
 use Rattle.outside.specs.Tree.{Files, IsTree, Node, Body, dir, file, link, other, is_dir, is_root, kind_of, link_at, stat_of}
 use Rattle.outside.specs.declared.trees.Kind.TheVariants as kind
 use Rattle.outside.specs.declared.trees.Stat.{Stat}
-use Rattle.flat_list.specs.Entries.{is_kind}
+use Rattle.entry_pages.specs.Entries.{is_kind}
 use Rattle.flat_list.specs.Spelling.{paths}
-use Rattle.flat_list.specs.declared.entries.Entry.{Entry}
+use Rattle.entry_pages.specs.declared.entries.Entry.{Entry}
 use Rattle.level_work.specs.declared.items.Fate.{Fate}
 use Rattle.level_work.specs.declared.items.Fate.TheVariants as fate
 use Rattle.tree_copy.specs.Copying.{FitsTree, IsCopied, IsCopyOf, clashes, due, early, is_done}

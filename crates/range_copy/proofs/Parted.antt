@@ -17,9 +17,9 @@ use Rattle.path_text.proofs.Within.{same_or_under, some_bytes, under_longer}
 use Rattle.outside.specs.Tree.{is_root}
 use Rattle.outside.specs.declared.trees.Kind.TheVariants as kind
 use Rattle.outside.specs.declared.trees.Stat.{Stat}
-use Rattle.flat_list.specs.Entries.{is_of}
+use Rattle.entry_pages.specs.Entries.{is_of}
 use Rattle.flat_list.specs.Spelling.{paths}
-use Rattle.flat_list.specs.declared.entries.Entry.{Entry}
+use Rattle.entry_pages.specs.declared.entries.Entry.{Entry}
 use Rattle.tree_copy.specs.Copying.{CanCopy, is_target, target_of, treated}
 use Rattle.tree_copy.specs.declared.pairs.Pair.{Pair}
 use Rattle.tree_copy.specs.Placing.{IsPair}

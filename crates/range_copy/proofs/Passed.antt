@@ -5,7 +5,7 @@ use Rattle.std.proofs.Common.{append_assoc, append-nil, drop_of_length-le}
 use Rattle.std.proofs.lemmas.List.{nil_from_length}
 use Rattle.std.specs.Vec.Iter.{into_iter_items, into_iter_steps}
 use Rattle.std.specs.declared.vec.IntoIter.{IntoIter}
-use Rattle.flat_list.specs.declared.entries.Entry.{Entry}
+use Rattle.entry_pages.specs.declared.entries.Entry.{Entry}
 use Rattle.range_copy.specs.PrivateParts.{ArePartsOf, exceeds, has_under, held_of, is_large, is_over, large_of, marks_of, merged, row_of, small_of}
 use Rattle.range_copy.specs.declared.parting.Parts.{Parts}
 use Rattle.range_copy.proofs.Parted.{has_stat}

@@ -7,9 +7,9 @@ use Rattle.path_text.specs.Order.{is_within}
 use Rattle.outside.specs.Count.{RoseBy}
 use Rattle.outside.specs.Parts.{UnderDirectories}
 use Rattle.outside.specs.Tree.{Files, IsTree}
-use Rattle.flat_list.specs.Entries.{bytes_by}
+use Rattle.entry_pages.specs.Entries.{bytes_by}
 use Rattle.flat_list.specs.Spelling.{paths}
-use Rattle.flat_list.specs.declared.entries.Entry.{Entry}
+use Rattle.entry_pages.specs.declared.entries.Entry.{Entry}
 use Rattle.level_work.specs.Counts.{is_failed}
 use Rattle.level_work.specs.declared.items.Fate.{Fate}
 use Rattle.tree_copy.specs.Copying.{AreEarly, CanCopy, Copied, FitsTree, IsCopied, IsEarly, SameButTargets, bytes_copied, is_done, treated}

@@ -6,7 +6,7 @@ use Rattle.std.proofs.lemmas.List.Sums.{sum_by-cons}
 use Rattle.std.specs.List.{All, AllByRecursion, count_by, sum_by, zip}
 use Rattle.std.specs.Cmp.Lexicographic.{pointwise}
 use Rattle.flat_list.specs.Spelling.{paths}
-use Rattle.flat_list.specs.declared.entries.Entry.{Entry}
+use Rattle.entry_pages.specs.declared.entries.Entry.{Entry}
 use Rattle.level_work.specs.declared.items.Fate.{Fate}
 use Rattle.tree_copy.specs.Copying.{is_done, target_of, treated}
 use Rattle.tree_copy.specs.declared.pairs.Pair.{Pair}

@@ -15,8 +15,8 @@ use Rattle.outside.specs.Writes.{Area, may_change}
 use Rattle.outside.specs.declared.plots.WriteError.{WriteError}
 use Rattle.outside.specs.declared.plots.WriteError.TheVariants as write
 use Rattle.outside.specs.declared.trees.Kind.TheVariants as kind
-use Rattle.flat_list.specs.Entries.{size_by}
-use Rattle.flat_list.specs.declared.entries.Entry.{Entry}
+use Rattle.entry_pages.specs.Entries.{size_by}
+use Rattle.entry_pages.specs.declared.entries.Entry.{Entry}
 use Rattle.level_work.specs.declared.items.Fate.{Fate}
 use Rattle.level_work.specs.declared.items.Fate.TheVariants as fate
 use Rattle.tree_copy.specs.Causes.{HasCause, IsReadTo, IsWritten, LookMeans, ReadMeans, RefusalMeans, ShowsSpans, SpansFailed, WasSpanned, WasWritten}

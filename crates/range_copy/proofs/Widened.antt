@@ -20,9 +20,9 @@ use Rattle.outside.specs.Parts.{UnderDirectories}
 use Rattle.outside.specs.Tree.{Body, Files, IsTree, Node, content, dir, file, is_dir, is_file, link, other, stat_of}
 use Rattle.outside.specs.declared.trees.Kind.TheVariants as kind
 use Rattle.outside.specs.declared.trees.Stat.{Stat}
-use Rattle.flat_list.specs.Entries.{is_kind, is_of, size_by}
+use Rattle.entry_pages.specs.Entries.{is_kind, is_of, size_by}
 use Rattle.flat_list.specs.Spelling.{paths}
-use Rattle.flat_list.specs.declared.entries.Entry.{Entry}
+use Rattle.entry_pages.specs.declared.entries.Entry.{Entry}
 use Rattle.tree_copy.specs.Copying.{AreEarly, CanCopy, Copied, FitsTree, IsCopied, IsEarly, SameButTargets, early, is_done, is_target}
 use Rattle.tree_copy.specs.Copying.{is_tried, is_untold, target_of, treated}
 use Rattle.tree_copy.specs.Placing.{IsPair}

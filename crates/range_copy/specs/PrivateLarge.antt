@@ -6,8 +6,8 @@ use Rattle.std.specs.List.{AllZip, list_any, sum_by, zip}
 use Rattle.std.specs.Cmp.Lexicographic.{pointwise}
 use Rattle.path_text.specs.Path.{parent_of, refusal}
 use Rattle.outside.specs.Tree.{Files, is_dir, is_root}
-use Rattle.flat_list.specs.Entries.{bytes_by, size_by}
-use Rattle.flat_list.specs.declared.entries.Entry.{Entry}
+use Rattle.entry_pages.specs.Entries.{bytes_by, size_by}
+use Rattle.entry_pages.specs.declared.entries.Entry.{Entry}
 use Rattle.level_work.specs.declared.items.Fate.{Fate}
 use Rattle.level_work.specs.declared.items.Fate.TheVariants as fate
 use Rattle.tree_copy.specs.Copying.{is_done, target_of}

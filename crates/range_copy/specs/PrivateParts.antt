@@ -3,8 +3,8 @@ use Rattle.std.specs.Prelude.{◌≡◌, ℕ, Bool, true, false, not, ◌&&◌, 
 use Rattle.std.specs.Prelude.{None, is_some}
 use Rattle.path_text.specs.Order.{is_under}
 use Rattle.outside.specs.declared.trees.Kind.TheVariants as kind
-use Rattle.flat_list.specs.Entries.{is_of, size_by}
-use Rattle.flat_list.specs.declared.entries.Entry.{Entry}
+use Rattle.entry_pages.specs.Entries.{is_of, size_by}
+use Rattle.entry_pages.specs.declared.entries.Entry.{Entry}
 use Rattle.range_copy.specs.declared.parting.Parts.{Parts}
 
 -- a file with more bytes than a piece has

@@ -5,7 +5,7 @@ ghost use Rattle.path_text.specs.Order.{is_within};
 ghost use Rattle.outside.specs.Count.{RoseBy};
 ghost use Rattle.outside.specs.Tree.{is_root};
 ghost use Rattle.outside.specs.Writes.{SameBut, nothing_lent};
-ghost use Rattle.flat_list.specs.Entries.{size_by};
+ghost use Rattle.entry_pages.specs.Entries.{size_by};
 ghost use Rattle.level_work.specs.Counts.{is_failed};
 ghost use Rattle.level_work.specs.declared.items.Fate.{Fate};
 ghost use Rattle.tree_copy.specs.Causes.{HasCause};

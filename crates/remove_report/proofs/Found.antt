@@ -14,9 +14,9 @@ use Rattle.path_text.specs.Order.{path_cmp, front}
 use Rattle.path_text.specs.Path.{refusal}
 use Rattle.outside.specs.Tree.{Files, Node, is_root, kind_of, stat_of}
 use Rattle.outside.specs.declared.trees.Stat.{Stat}
-use Rattle.flat_list.specs.declared.entries.Entry.{Entry}
-use Rattle.flat_list.specs.declared.entries.Mark.{Mark}
-use Rattle.flat_list.specs.declared.entries.Mark.TheVariants as mark
+use Rattle.entry_pages.specs.declared.entries.Entry.{Entry}
+use Rattle.entry_pages.specs.declared.entries.Mark.{Mark}
+use Rattle.entry_pages.specs.declared.entries.Mark.TheVariants as mark
 use Rattle.flat_list.specs.Spelling.{paths}
 use Rattle.find_tests.specs.declared.testing.Test.{Test}
 use Rattle.find_tests.specs.Tests.{is_selected, meets_all}

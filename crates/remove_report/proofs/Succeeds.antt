@@ -9,9 +9,9 @@ use Rattle.std.specs.FinMap.{get}
 use Rattle.std.specs.List.{All, AllByRecursion, flat_map}
 use Rattle.outside.specs.Count.{StoodStill}
 use Rattle.outside.specs.Tree.{Files, far_at}
-use Rattle.flat_list.specs.declared.entries.Entry.{Entry}
-use Rattle.flat_list.specs.declared.entries.Mark.{Mark}
-use Rattle.flat_list.specs.declared.entries.Mark.TheVariants as mark
+use Rattle.entry_pages.specs.declared.entries.Entry.{Entry}
+use Rattle.entry_pages.specs.declared.entries.Mark.{Mark}
+use Rattle.entry_pages.specs.declared.entries.Mark.TheVariants as mark
 use Rattle.flat_list.specs.Spelling.{paths}
 use Rattle.level_work.specs.declared.items.Fate.{Fate}
 use Rattle.tree_walk.specs.Told.{EntriesAreTold, far_by}

@@ -1,7 +1,7 @@
 -- The report of a removal. Only clauses of this crate's own functions cite this file.
 use Rattle.std.specs.Prelude.{◌≡◌, ℕ, Bool, List, ◌++◌, length}
 use Rattle.std.specs.List.{count_by}
-use Rattle.flat_list.specs.declared.entries.Entry.{Entry}
+use Rattle.entry_pages.specs.declared.entries.Entry.{Entry}
 use Rattle.level_work.specs.declared.items.Fate.{Fate}
 use Rattle.tree_remove.specs.Removing.{is_done}
 use Rattle.tool_text.specs.Lines.{lines_of}

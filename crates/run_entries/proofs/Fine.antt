@@ -15,8 +15,8 @@ use Rattle.outside.specs.Tree.{Files, Node, Body, dir, file, link, other, IsTree
 use Rattle.outside.specs.Writes.{new_file}
 use Rattle.outside.specs.Count.{RoseBy, StoodStill}
 use Rattle.outside.specs.Whole.{HoldsFile, can_save}
-use Rattle.flat_list.specs.declared.entries.Entry.{Entry}
-use Rattle.flat_list.specs.declared.entries.Mark.TheVariants as mark
+use Rattle.entry_pages.specs.declared.entries.Entry.{Entry}
+use Rattle.entry_pages.specs.declared.entries.Mark.TheVariants as mark
 use Rattle.flat_list.specs.declared.versions.Version.TheVariants.{Two}
 use Rattle.flat_list.specs.Spelling.{Spells, SpellsAs, SpellsOne, RefusesExactly, IsRefused, IsTooLong}
 use Rattle.path_looks.specs.declared.looks.Look.{Look}

@@ -3,10 +3,10 @@ use Rattle.std.proofs.Common.{◌≡◌, ◌∙◌, ℕ, ◌+◌, ◌==◌, cond
 use Rattle.std.specs.List.{AllByRecursion, sum_by}
 use Rattle.std.specs.List.Sorted.{IsStrictlySortedBy}
 use Rattle.std.proofs.lemmas.List.Sums.{sum_by-cons}
-use Rattle.flat_list.specs.declared.entries.Entry.{Entry}
-use Rattle.flat_list.specs.declared.entries.Mark.{Mark}
-use Rattle.flat_list.specs.declared.entries.Mark.TheVariants as mark
-use Rattle.flat_list.specs.Entries.{mark_notes, note_count, summary_of}
+use Rattle.entry_pages.specs.declared.entries.Entry.{Entry}
+use Rattle.entry_pages.specs.declared.entries.Mark.{Mark}
+use Rattle.entry_pages.specs.declared.entries.Mark.TheVariants as mark
+use Rattle.entry_pages.specs.Entries.{mark_notes, note_count, summary_of}
 use Rattle.tool_text.specs.NoteOrder.{AreInOrder}
 use Rattle.run_entries.specs.Naming.{on_side, failures_in}
 use Rattle.run_entries.proofs.Fine.{IsFine, no_notes}

@@ -13,9 +13,9 @@ use Rattle.path_text.proofs.Fronts.{fronts_within}
 use Rattle.path_text.specs.Order.{path_cmp, is_within}
 use Rattle.outside.specs.Tree.{Files, Node, stat_of}
 use Rattle.outside.specs.declared.trees.Stat.{Stat}
-use Rattle.flat_list.specs.declared.entries.Entry.{Entry}
-use Rattle.flat_list.specs.declared.entries.Mark.{Mark}
-use Rattle.flat_list.specs.declared.entries.Mark.TheVariants as mark
+use Rattle.entry_pages.specs.declared.entries.Entry.{Entry}
+use Rattle.entry_pages.specs.declared.entries.Mark.{Mark}
+use Rattle.entry_pages.specs.declared.entries.Mark.TheVariants as mark
 use Rattle.flat_list.specs.Spelling.{paths}
 use Rattle.tree_walk.specs.Roots.{is_in, is_in_some}
 use Rattle.tree_walk.specs.Told.{stat_by, IsTold, EntriesAreTold}

@@ -1,8 +1,8 @@
 -- The walks of a source and of a destination, each by itself. Our own; two walks are what mpiFileUtils' dcmp and dsync make.
 use Rattle.std.specs.Prelude.{◌≡◌, ◌⊎◌, ℕ, ◌≤◌, true, List, [], ◌∷◌, length, Option, IfSome, All}
 use Rattle.outside.specs.Tree.{Files}
-use Rattle.flat_list.specs.declared.entries.Entry.{Entry}
-use Rattle.flat_list.specs.Entries.{is_shaped}
+use Rattle.entry_pages.specs.declared.entries.Entry.{Entry}
+use Rattle.entry_pages.specs.Entries.{is_shaped}
 use Rattle.tree_cmp.specs.Readers.{StatsTold}
 use Rattle.tree_cmp.specs.Sides.{side, IsSide}
 use Rattle.tool_words.specs.Asked.{roots}

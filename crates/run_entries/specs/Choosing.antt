@@ -1,6 +1,6 @@
 -- What is chosen of a list. After the tests of find and of mpiFileUtils' dfind.
 use Rattle.std.specs.Prelude.{ℕ, List, [], ◌++◌, map, filter, Option, Some, None}
-use Rattle.flat_list.specs.declared.entries.Entry.{Entry}
+use Rattle.entry_pages.specs.declared.entries.Entry.{Entry}
 use Rattle.find_tests.specs.declared.testing.Test.{Test}
 use Rattle.find_tests.specs.declared.testing.Test.TheVariants as test
 use Rattle.find_tests.specs.Tests.{is_selected}

@@ -7,7 +7,7 @@ use Rattle.path_text.specs.Order.{path_cmp}
 use Rattle.outside.specs.Tree.{IsTree}
 use Rattle.outside.specs.Count.{RoseBy}
 use Rattle.outside.specs.Whole.{HoldsFile}
-use Rattle.flat_list.specs.declared.entries.Entry.{Entry}
+use Rattle.entry_pages.specs.declared.entries.Entry.{Entry}
 use Rattle.flat_list.specs.declared.ordering.Field.{Field}
 use Rattle.flat_list.specs.Orders.{sort_order}
 use Rattle.flat_list.specs.Spelling.{IsList, Spells}

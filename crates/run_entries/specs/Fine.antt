@@ -5,8 +5,8 @@ use Rattle.std.specs.List.{flat_map}
 use Rattle.outside.specs.Tree.{Files}
 use Rattle.outside.specs.Count.{RoseBy, StoodStill}
 use Rattle.outside.specs.Whole.{HoldsFile, can_save}
-use Rattle.flat_list.specs.declared.entries.Entry.{Entry}
-use Rattle.flat_list.specs.declared.entries.Mark.TheVariants as mark
+use Rattle.entry_pages.specs.declared.entries.Entry.{Entry}
+use Rattle.entry_pages.specs.declared.entries.Mark.TheVariants as mark
 use Rattle.flat_list.specs.Spelling.{Spells}
 use Rattle.level_work.specs.declared.items.Fate.{Fate}
 use Rattle.level_work.specs.declared.items.Fate.TheVariants as fate

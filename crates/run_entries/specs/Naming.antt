@@ -1,7 +1,7 @@
 -- What is named of a run's looks, of the entries of its walks, and of its copies and removals. Our own.
 use Rattle.std.specs.Prelude.{ℕ, false, Bool, List, [], ◌∷◌, ◌++◌, map}
 use Rattle.std.specs.List.{flat_map}
-use Rattle.flat_list.specs.declared.entries.Entry.{Entry}
+use Rattle.entry_pages.specs.declared.entries.Entry.{Entry}
 use Rattle.level_work.specs.declared.items.Fate.{Fate}
 use Rattle.level_work.specs.declared.items.Fate.TheVariants as fate
 use Rattle.path_looks.specs.declared.looks.Look.{Look}

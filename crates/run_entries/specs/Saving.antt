@@ -6,7 +6,7 @@ use Rattle.std.specs.List.{list_any}
 use Rattle.outside.specs.Tree.{Files}
 use Rattle.outside.specs.Writes.{new_file}
 use Rattle.outside.specs.Whole.{can_save}
-use Rattle.flat_list.specs.declared.entries.Entry.{Entry}
+use Rattle.entry_pages.specs.declared.entries.Entry.{Entry}
 use Rattle.flat_list.specs.Spelling.{SpellsAs}
 use Rattle.flat_list.specs.declared.versions.Version.TheVariants.{Two}
 use Rattle.run_entries.specs.declared.saving.Output.{Output}

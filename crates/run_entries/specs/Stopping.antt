@@ -4,7 +4,7 @@ use Rattle.std.specs.FinMap.{get}
 use Rattle.outside.specs.Tree.{is_file}
 use Rattle.outside.specs.Count.{RoseBy}
 use Rattle.outside.specs.Whole.{HoldsFile, can_save}
-use Rattle.flat_list.specs.declared.entries.Entry.{Entry}
+use Rattle.entry_pages.specs.declared.entries.Entry.{Entry}
 use Rattle.flat_list.specs.Spelling.{IsRefused, IsTooLong}
 use Rattle.path_looks.specs.declared.looks.Look.{Look}
 use Rattle.path_looks.specs.Looks.{AreLooks}

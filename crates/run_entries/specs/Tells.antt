@@ -2,7 +2,7 @@
 use Rattle.std.specs.Prelude.{◌≡◌, ℕ, ◌-◌, ◌^◌, ◌||◌, ◌&&◌, ◌==◌, Bool, true, List, [], ◌++◌, map, min, length, if◌then◌else◌, Option, None, IfSome}
 use Rattle.std.specs.List.{sum_by, range_with_len}
 use Rattle.outside.specs.Tree.{Files}
-use Rattle.flat_list.specs.declared.entries.Entry.{Entry}
+use Rattle.entry_pages.specs.declared.entries.Entry.{Entry}
 use Rattle.circle_run.specs.declared.settings.Options.{Options}
 use Rattle.circle_run.specs.Traced.{share_in}
 use Rattle.tool_text.specs.Runs.{trace_lines, share_lines, progress_lines}

@@ -1,8 +1,8 @@
 //! The walks of a source and of a destination, each by itself.
-ghost use Rattle.std.specs.Prelude.{◌≡◌, ◌≤◌, ◌∷◌, [], All, length, OnOk, IfOk, IfErr, IfSome, None, true};
+ghost use Rattle.std.specs.Prelude.{◌≡◌, ◌≤◌, ◌∷◌, [], All, length, IfOk, IfErr, IfSome, None, true};
 ghost use Rattle.path_text.specs.Path.{refusal};
 ghost use Rattle.outside.specs.Count.{RoseBy};
-ghost use Rattle.flat_list.specs.Entries.{is_shaped};
+ghost use Rattle.entry_pages.specs.Entries.{is_shaped};
 ghost use Rattle.tree_cmp.specs.Readers.{StatsTold};
 ghost use Rattle.tree_cmp.specs.Sides.{side, IsSide};
 ghost use Rattle.tool_words.specs.Asked.{roots};
@@ -96,7 +96,7 @@ where
     let _faults = files.faults();
     let given = one_path(alloc, top)?;
     let Entries { list, .. } = walk_side(rt, alloc, common, given, files)?;
-    see_paths(&list)?;
+    list.paths_are_valid();
     Ok(list)
 }
 
@@ -106,15 +106,4 @@ fn one_path(alloc: Global, path: &Path) -> Result<Vec<Path>, OutOfMemory>
     let mut paths = Vec::new(alloc);
     paths.push(path.copy()?)?;
     Ok(paths)
-}
-
-/// Looks at each path of a list, so that the proof knows it as a path.
-pub fn see_paths(list: &FlatList) -> Result<(), OutOfMemory>
-    ensures { OnOk result (All (λ e. refusal e.path ≡ None) list.now) }
-{
-    let mut cursor = list.cursor()?;
-    while cursor.advance()? {
-        let _ = cursor.entry().path.text();
-    }
-    Ok(())
 }

@@ -1,6 +1,6 @@
 //! The entries that a run finds, and their summary.
 ghost use Rattle.std.specs.Prelude.{◌≡◌};
-ghost use Rattle.flat_list.specs.Entries.{summary_of};
+ghost use Rattle.entry_pages.specs.Entries.{summary_of};
 
 use crate::accounts::Account;
 use crate::naming::counted_failures;

@@ -1,5 +1,6 @@
 //! Laws, each the contract of a function with an empty body.
-ghost use Rattle.run_entries.specs.Fine.{DoneNamesNothing, FineFindsNameNothing, FineFindsStopForMemory, FinePlacesStopForMemory, FineWalksAreWhole, FineWalksNameNothing, FineWalksStopForMemory, StillCounts};
+ghost use Rattle.run_entries.specs.Fine.{DoneNamesNothing, FineFindsNameNothing, FineFindsStopForMemory, FinePlacesStopForMemory};
+ghost use Rattle.run_entries.specs.Fine.{FineWalksAreWhole, FineWalksNameNothing, FineWalksStopForMemory, StillCounts};
 
 use flat_list::{refusals_are_exact, spelling_is_unique};
 use path_looks::looks_without_faults_are_told;

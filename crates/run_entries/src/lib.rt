@@ -55,7 +55,7 @@ mod saving;
 mod starting;
 
 pub use accounts::{Account, Entries};
-pub use both::{Sides, see_paths, walk_sides};
+pub use both::{Sides, walk_sides};
 pub use finding::find;
 pub use findings::Findings;
 pub use laws::{

@@ -6,7 +6,7 @@ ghost use Rattle.path_text.specs.Order.{path_cmp};
 ghost use Rattle.outside.specs.Count.{RoseBy};
 ghost use Rattle.outside.specs.Tree.{is_file};
 ghost use Rattle.outside.specs.Whole.{HoldsFile};
-ghost use Rattle.flat_list.specs.Entries.{is_shaped};
+ghost use Rattle.entry_pages.specs.Entries.{is_shaped};
 ghost use Rattle.flat_list.specs.Spelling.{paths};
 ghost use Rattle.tool_words.specs.Asked.{input};
 ghost use Rattle.run_report.specs.Sides.{side_of};

@@ -3,7 +3,7 @@ ghost use Rattle.std.specs.Prelude.{◌≡◌, ◌<◌, ◌≤◌, List, All, le
 ghost use Rattle.std.specs.List.Sorted.{IsStrictlySortedBy};
 ghost use Rattle.path_text.specs.Order.{path_cmp};
 ghost use Rattle.outside.specs.Count.{RoseBy};
-ghost use Rattle.flat_list.specs.Entries.{is_shaped};
+ghost use Rattle.entry_pages.specs.Entries.{is_shaped};
 ghost use Rattle.flat_list.specs.Spelling.{paths};
 ghost use Rattle.tool_words.specs.Limits.{CommonWithin};
 ghost use Rattle.tool_words.specs.Asked.{roots, start_in};

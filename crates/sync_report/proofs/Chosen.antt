@@ -20,8 +20,8 @@ use Rattle.outside.specs.Parts.{UnderDirectories}
 use Rattle.outside.specs.Tree.{Body, Files, Node, NodesHavePaths, dir, far_at, file, is_dir, is_dir_body, is_root, kind_of, link, other, stat_of}
 use Rattle.outside.specs.declared.trees.Kind.TheVariants as kind
 use Rattle.outside.specs.declared.trees.Stat.{Stat}
-use Rattle.flat_list.specs.declared.entries.Entry.{Entry}
-use Rattle.flat_list.specs.Entries.{is_kind, is_of}
+use Rattle.entry_pages.specs.declared.entries.Entry.{Entry}
+use Rattle.entry_pages.specs.Entries.{is_kind, is_of}
 use Rattle.flat_list.specs.Spelling.{paths}
 use Rattle.tree_cmp.specs.Rows.{Findings}
 use Rattle.tree_cmp.specs.Sides.{side}

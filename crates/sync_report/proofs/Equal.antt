@@ -13,7 +13,7 @@ use Rattle.path_text.proofs.Under.{is_under_by}
 use Rattle.path_text.proofs.Within.{itself, within_up}
 use Rattle.outside.specs.Tree.{Files, IsTree, is_dir, is_root, names_in}
 use Rattle.outside.proofs.Names.{children_are_names}
-use Rattle.flat_list.specs.declared.entries.Entry.{Entry}
+use Rattle.entry_pages.specs.declared.entries.Entry.{Entry}
 use Rattle.tree_copy.specs.declared.pairs.Pair.{Pair}
 use Rattle.tree_sync.specs.Laws.{IsFullList, SyncedRowsAgree}
 use Rattle.tree_sync.specs.Results.{Results}

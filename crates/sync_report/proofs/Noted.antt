@@ -12,10 +12,10 @@ use Rattle.path_text.specs.Order.{is_within}
 use Rattle.path_text.proofs.Within.{tops_are_nested}
 use Rattle.outside.specs.Tree.{Files}
 use Rattle.outside.specs.declared.trees.Kind.TheVariants as kind
-use Rattle.flat_list.specs.declared.entries.Entry.{Entry}
-use Rattle.flat_list.specs.declared.entries.Mark.{Mark}
-use Rattle.flat_list.specs.declared.entries.Mark.TheVariants as mark
-use Rattle.flat_list.specs.Entries.{has_target, is_fine, is_of, is_shaped, is_sized, shape_by}
+use Rattle.entry_pages.specs.declared.entries.Entry.{Entry}
+use Rattle.entry_pages.specs.declared.entries.Mark.{Mark}
+use Rattle.entry_pages.specs.declared.entries.Mark.TheVariants as mark
+use Rattle.entry_pages.specs.Entries.{has_target, is_fine, is_of, is_shaped, is_sized, shape_by}
 use Rattle.level_work.specs.declared.items.Fate.{Fate}
 use Rattle.level_work.specs.declared.items.Fate.TheVariants as fate
 use Rattle.tree_cmp.specs.Sides.{is_gone, side}

@@ -10,7 +10,7 @@ use Rattle.std.specs.List.{Contains, flat_map}
 use Rattle.std.specs.List.Sorted.{IsStrictlySortedBy}
 use Rattle.path_text.specs.Path.{refusal}
 use Rattle.outside.specs.Tree.{Files, IsTree, Node, NodesHavePaths}
-use Rattle.flat_list.specs.declared.entries.Entry.{Entry}
+use Rattle.entry_pages.specs.declared.entries.Entry.{Entry}
 use Rattle.tree_cmp.specs.Sides.{IsSide, side}
 use Rattle.tree_copy.specs.declared.pairs.Pair.{Pair}
 use Rattle.tree_walk.proofs.Inside.{in_itself}

@@ -2,7 +2,7 @@
 use Rattle.std.proofs.Common.{◌≡◌, inr, ◌≤◌, Bool, List, Option, Some, None, IfSome, Ok, refl, ap, sym, subst, ◌∙◌}
 use Rattle.std.specs.Option.{is_some}
 use Rattle.outside.specs.Tree.{Files}
-use Rattle.flat_list.specs.declared.entries.Entry.{Entry}
+use Rattle.entry_pages.specs.declared.entries.Entry.{Entry}
 use Rattle.tree_copy.specs.declared.pairs.Pair.{Pair}
 use Rattle.tree_sync.specs.Results.{Results}
 use Rattle.tree_sync.specs.Syncing.{SameOutside}

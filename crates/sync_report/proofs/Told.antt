@@ -15,8 +15,8 @@ use Rattle.path_text.proofs.Parts.{graft_undoes_below}
 use Rattle.outside.specs.Tree.{Files, Node, kind_of, stat_of}
 use Rattle.outside.specs.declared.trees.Kind.{Kind}
 use Rattle.outside.specs.declared.trees.Kind.TheVariants as kind
-use Rattle.flat_list.specs.declared.entries.Entry.{Entry}
-use Rattle.flat_list.specs.Entries.{is_kind, is_of}
+use Rattle.entry_pages.specs.declared.entries.Entry.{Entry}
+use Rattle.entry_pages.specs.Entries.{is_kind, is_of}
 use Rattle.tree_cmp.specs.declared.rows.Row.{Row}
 use Rattle.tree_cmp.specs.Rows.{Findings, IsComparison, IsRow, exist_of, is_missed, kinds, stat_at, two_of}
 use Rattle.tree_cmp.specs.Sides.{entry_at, is_closed, is_gone, is_hidden, is_partial, side}

@@ -17,10 +17,10 @@ use Rattle.path_text.proofs.Within.{itself}
 use Rattle.outside.specs.Tree.{Files, IsTree, Node, is_root, link_at, stat_of}
 use Rattle.outside.specs.declared.trees.Kind.TheVariants as kind
 use Rattle.outside.specs.declared.trees.Stat.{Stat}
-use Rattle.flat_list.specs.declared.entries.Entry.{Entry}
-use Rattle.flat_list.specs.declared.entries.Mark.{Mark}
-use Rattle.flat_list.specs.declared.entries.Mark.TheVariants as mark
-use Rattle.flat_list.specs.Entries.{is_fine, is_of}
+use Rattle.entry_pages.specs.declared.entries.Entry.{Entry}
+use Rattle.entry_pages.specs.declared.entries.Mark.{Mark}
+use Rattle.entry_pages.specs.declared.entries.Mark.TheVariants as mark
+use Rattle.entry_pages.specs.Entries.{is_fine, is_of}
 use Rattle.flat_list.specs.Spelling.{paths}
 use Rattle.tree_cmp.specs.Rows.{stat_at}
 use Rattle.tree_cmp.specs.Sides.{IsSide, entry_at, is_gone, side}

@@ -3,7 +3,7 @@ use Rattle.std.specs.Prelude.{◌≡◌, ℕ, ◌≤◌, Bool, List, Option, IfS
 use Rattle.std.specs.FinMap.{get}
 use Rattle.path_text.specs.Path.{parent_of}
 use Rattle.outside.specs.Tree.{Files, is_dir}
-use Rattle.flat_list.specs.declared.entries.Entry.{Entry}
+use Rattle.entry_pages.specs.declared.entries.Entry.{Entry}
 use Rattle.tree_copy.specs.declared.pairs.Pair.{Pair}
 use Rattle.tree_copy.specs.declared.pairs.PlaceError.{PlaceError}
 use Rattle.tree_copy.specs.declared.pairs.PlaceError.TheVariants as place

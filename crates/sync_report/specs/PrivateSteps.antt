@@ -4,8 +4,8 @@ use Rattle.std.specs.FinMap.{get}
 use Rattle.path_text.specs.Path.{parent_of, refusal}
 use Rattle.outside.specs.Count.{RoseBy}
 use Rattle.outside.specs.Tree.{Files, IsTree, is_dir}
-use Rattle.flat_list.specs.declared.entries.Entry.{Entry}
-use Rattle.flat_list.specs.Entries.{is_shaped}
+use Rattle.entry_pages.specs.declared.entries.Entry.{Entry}
+use Rattle.entry_pages.specs.Entries.{is_shaped}
 use Rattle.tree_cmp.specs.Sides.{side}
 use Rattle.tree_copy.specs.Placing.{overlap}
 use Rattle.tree_copy.specs.declared.pairs.Pair.{Pair}

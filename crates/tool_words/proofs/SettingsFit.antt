@@ -129,101 +129,35 @@ pub the_want : (text : List ℕ) (want : Want) → want_in text ≡ Some want �
 the_want text want e = let h = want_valid text in rw e at h
 
 -- what is set stays fine where one part of it changes
+
+sound : {how : Common} {from to : Option (List ℕ)} {since : List (List ℕ)} {saved : List Want} {piece after : Option ℕ} {folder : Option (List ℕ)} →
+    Fits how → IfSome from Valid → IfSome to Valid → AllByRecursion Valid since → AllByRecursion FileValid saved → IfSome piece Counts →
+    IfSome after Counts → IfSome folder Valid → Sound how from to since saved piece after folder
+sound c i o n w r s l = record { common = c; input = i; output = o; newer = n; wants = w; range = r; stop = s; lists = l }
+
 pub with_common : (s : Set) (common : Common) → Fine s → Fits common → Fine (record s { common = common })
-with_common s common f c = record {
-  common = c;
-  input = f.input;
-  output = f.output;
-  newer = f.newer;
-  wants = f.wants;
-  range = f.range;
-  stop = f.stop;
-  lists = f.lists;
-}
+with_common s common f c = sound c f.input f.output f.newer f.wants f.range f.stop f.lists
 
 pub with_input : (s : Set) (path : List ℕ) → Fine s → Valid path → Fine (record s { input = Some path })
-with_input s path f v = record {
-  common = f.common;
-  input = v;
-  output = f.output;
-  newer = f.newer;
-  wants = f.wants;
-  range = f.range;
-  stop = f.stop;
-  lists = f.lists;
-}
+with_input s path f v = sound f.common v f.output f.newer f.wants f.range f.stop f.lists
 
 pub with_output : (s : Set) (path : List ℕ) → Fine s → Valid path → Fine (record s { output = Some path })
-with_output s path f v = record {
-  common = f.common;
-  input = f.input;
-  output = v;
-  newer = f.newer;
-  wants = f.wants;
-  range = f.range;
-  stop = f.stop;
-  lists = f.lists;
-}
+with_output s path f v = sound f.common f.input v f.newer f.wants f.range f.stop f.lists
 
 pub with_newer : (s : Set) (path : List ℕ) → Fine s → Valid path → Fine (record s { newer = s.newer ++ path ∷ [] })
-with_newer s path f v = record {
-  common = f.common;
-  input = f.input;
-  output = f.output;
-  newer = one_more Valid s.newer path f.newer v;
-  wants = f.wants;
-  range = f.range;
-  stop = f.stop;
-  lists = f.lists;
-}
+with_newer s path f v = sound f.common f.input f.output (one_more Valid s.newer path f.newer v) f.wants f.range f.stop f.lists
 
 pub with_want : (s : Set) (want : Want) → Fine s → FileValid want → Fine (record s { wants = s.wants ++ want ∷ [] })
-with_want s want f v = record {
-  common = f.common;
-  input = f.input;
-  output = f.output;
-  newer = f.newer;
-  wants = one_more FileValid s.wants want f.wants v;
-  range = f.range;
-  stop = f.stop;
-  lists = f.lists;
-}
+with_want s want f v = sound f.common f.input f.output f.newer (one_more FileValid s.wants want f.wants v) f.range f.stop f.lists
 
 pub with_range : (s : Set) (n : ℕ) → Fine s → (1 ≤ n) × (n ≤ 2 ^ 63 - 1) → Fine (record s { range = Some n })
-with_range s n f w = record {
-  common = f.common;
-  input = f.input;
-  output = f.output;
-  newer = f.newer;
-  wants = f.wants;
-  range = (w.0, omega (arith, w.1));
-  stop = f.stop;
-  lists = f.lists;
-}
+with_range s n f w = sound f.common f.input f.output f.newer f.wants (w.0, omega (arith, w.1)) f.stop f.lists
 
 pub with_stop : (s : Set) (n : ℕ) → Fine s → (1 ≤ n) × (n ≤ 2 ^ 63 - 1) → Fine (record s { stop_after = Some n })
-with_stop s n f w = record {
-  common = f.common;
-  input = f.input;
-  output = f.output;
-  newer = f.newer;
-  wants = f.wants;
-  range = f.range;
-  stop = (w.0, omega (arith, w.1));
-  lists = f.lists;
-}
+with_stop s n f w = sound f.common f.input f.output f.newer f.wants f.range (w.0, omega (arith, w.1)) f.lists
 
 pub with_lists : (s : Set) (path : List ℕ) → Fine s → Valid path → Fine (record s { lists = Some path })
-with_lists s path f v = record {
-  common = f.common;
-  input = f.input;
-  output = f.output;
-  newer = f.newer;
-  wants = f.wants;
-  range = f.range;
-  stop = f.stop;
-  lists = v;
-}
+with_lists s path f v = sound f.common f.input f.output f.newer f.wants f.range f.stop v
 
 pub ranks_fine : (common : Common) (n : ℕ) → Fits common → (1 ≤ n) × (n ≤ 64) → Fits (record common { ranks = n })
 ranks_fine common n c w = record { ranks = w; hosts = c.hosts; seed = c.seed; width = c.width }

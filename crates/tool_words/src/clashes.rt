@@ -1,6 +1,7 @@
 //! Options of a command line that cannot be combined.
 ghost use Rattle.std.specs.Prelude.{◌≡◌, Some, None, find};
-ghost use Rattle.tool_words.specs.Clashes.{place_of, trace_on_hosts, trace_and_stop, input_and_restart, first_of, no_lists, lists_alone, input_and_stop, clash_in};
+ghost use Rattle.tool_words.specs.Clashes.{place_of, trace_on_hosts, trace_and_stop, input_and_restart};
+ghost use Rattle.tool_words.specs.Clashes.{first_of, no_lists, lists_alone, input_and_stop, clash_in};
 ghost use Rattle.tool_words.specs.Table.{text_of};
 ghost use Rattle.tool_words.specs.Value.{is};
 

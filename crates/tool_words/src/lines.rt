@@ -4,7 +4,9 @@ ghost use Rattle.std.specs.Option.{option_copied};
 ghost use Rattle.tool_words.specs.Parts.{Tells};
 ghost use Rattle.tool_words.specs.Table.{option_named, text_of, Set, set, raise};
 ghost use Rattle.tool_words.specs.Value.{is, number_in, path_in, lower_path_in};
-ghost use Rattle.tool_words.specs.Words.{Given, nothing, ends_options, is_option, name_in, value_in, with_path, with_lower, with_number, with_plain, was_given, is_repeated, with_another, with_own_value, with_next_value, with_flag, with_option, with_word, at_end};
+ghost use Rattle.tool_words.specs.Words.{Given, nothing, ends_options, is_option, name_in, value_in, with_path, with_lower, with_number};
+ghost use Rattle.tool_words.specs.Words.{with_plain, was_given, is_repeated, with_another, with_own_value};
+ghost use Rattle.tool_words.specs.Words.{with_next_value, with_flag, with_option, with_word, at_end};
 
 use crate::errors::WordsError;
 use crate::settings::Settings;

@@ -10,7 +10,7 @@ use Rattle.tree_cmp.specs.declared.reading.Missing.TheVariants as missing
 use Rattle.tree_cmp.specs.declared.reading.Outcome.TheVariants as outcome
 use Rattle.tree_cmp.specs.declared.rows.Missed.{Missed}
 use Rattle.tree_cmp.specs.Readers.{HaveCauses}
-use Rattle.tree_cmp.specs.Private.Reading.{ShowsMissing}
+use Rattle.tree_cmp.specs.Filling.{ShowsMissing}
 use Rattle.tree_cmp.specs.Private.Sharing.{IsOf, IsSettled}
 use Rattle.tree_cmp.specs.Private.Parts.{side_missed, missed_at, missed_by, findings_of}
 use Rattle.tree_cmp.proofs.OneRow.{of_map, side_is}

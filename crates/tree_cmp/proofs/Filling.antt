@@ -7,7 +7,7 @@ use Rattle.std.proofs.Math.Seq.{take-append-add, take-add}
 use borrow.Rule.Slice.PartMut.{put_mid}
 use Rattle.std.specs.FinMap.{get}
 use Rattle.outside.specs.Tree.{Files, Node, Reads, content, is_file}
-use Rattle.tree_cmp.specs.Private.Reading.{Fills}
+use Rattle.tree_cmp.specs.Filling.{Fills}
 
 front : (done k n : ℕ) (into sub : List ℕ) → done ≤ length into → n ≤ length sub → take (done + n) (put_mid done k into sub) ≡ take done into ++ take n sub
 front done k n into sub h g =

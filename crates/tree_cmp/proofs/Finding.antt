@@ -13,8 +13,8 @@ use Rattle.path_text.specs.Order.{path_cmp}
 use Rattle.path_text.specs.Graft.{below_of, grafted, GraftUndoesBelow}
 use Rattle.outside.specs.Asked.{Asks}
 use Rattle.outside.specs.Tree.{Files}
-use Rattle.flat_list.specs.declared.entries.Entry.{Entry}
-use Rattle.flat_list.specs.Entries.{size_by}
+use Rattle.entry_pages.specs.declared.entries.Entry.{Entry}
+use Rattle.entry_pages.specs.Entries.{size_by}
 use Rattle.tree_cmp.specs.declared.items.Item.{Item}
 use Rattle.tree_cmp.specs.declared.drafts.Draft.{Draft}
 use Rattle.tree_cmp.specs.declared.reading.Missing.{Missing}
@@ -29,7 +29,8 @@ use Rattle.tree_cmp.specs.Rows.{is_missed, WasToBeRead, IsComparison}
 use Rattle.tree_cmp.specs.Readers.{StatsTold}
 use Rattle.tree_cmp.specs.Private.Items.{items_of, at, to_read, links_at, content_before, draft_of, AreDrafts, paths}
 use Rattle.tree_cmp.specs.Private.Steps.{is_row}
-use Rattle.tree_cmp.specs.Private.Reading.{IsFileOf, Told}
+use Rattle.tree_cmp.specs.Filling.{IsFileOf}
+use Rattle.tree_cmp.specs.Private.Reading.{Told}
 use Rattle.tree_cmp.specs.Private.Sharing.{ToldAt, IsOf, IsSettled, unsettled}
 use Rattle.tree_cmp.specs.Private.Parts.{row_by, side_missed, missed_at, missed_by, findings_of}
 use Rattle.tree_cmp.proofs.Sided.{some-items, stat-items, shown-items}

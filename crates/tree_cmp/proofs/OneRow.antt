@@ -15,8 +15,8 @@ use Rattle.path_text.specs.Graft.{below_of, grafted, GraftUndoesBelow}
 use Rattle.outside.specs.Tree.{Files, Node, Body, stat_of, kind_of, size_of, is_file_body, bytes_of}
 use Rattle.outside.specs.declared.trees.Kind.TheVariants as kind
 use Rattle.outside.specs.declared.trees.Stat.{Stat}
-use Rattle.flat_list.specs.declared.entries.Entry.{Entry}
-use Rattle.flat_list.specs.Entries.{is_kind, size_by}
+use Rattle.entry_pages.specs.declared.entries.Entry.{Entry}
+use Rattle.entry_pages.specs.Entries.{is_kind, size_by}
 use Rattle.tree_cmp.specs.declared.drafts.Draft.{Draft}
 use Rattle.tree_cmp.specs.declared.reading.Missing.{Missing}
 use Rattle.tree_cmp.specs.declared.reading.Missing.TheVariants as missing
@@ -27,7 +27,7 @@ use Rattle.tree_cmp.specs.Sides.{Side, IsSide, is_gone, entry_at}
 use Rattle.tree_cmp.specs.Rows.{stat_at, is_read, are_files, unread, two_of, has_value, same_bytes, IsContent}
 use Rattle.tree_cmp.specs.Readers.{StatsTold}
 use Rattle.tree_cmp.specs.Private.Items.{at, to_read}
-use Rattle.tree_cmp.specs.Private.Reading.{IsFileOf}
+use Rattle.tree_cmp.specs.Filling.{IsFileOf}
 use Rattle.tree_cmp.specs.Private.Sharing.{some_counts, blames}
 use Rattle.tree_cmp.specs.Private.Parts.{content_by, side_missed, missed_at, missed_by}
 
@@ -78,7 +78,7 @@ file_body (Body.file bytes) e = (refl, refl)
 file_body (Body.link text) e = absurd (false≢true e)
 file_body Body.other e = absurd (false≢true e)
 
-file_of : (node : Option Node) (s : Stat) → option_map stat_of node ≡ Some s → is_kind kind.File s.kind ≡ true → IsFileOf node s.size
+pub file_of : (node : Option Node) (s : Stat) → option_map stat_of node ≡ Some s → is_kind kind.File s.kind ≡ true → IsFileOf node s.size
 file_of None s e h = absurd cc
 file_of (Some n) s e h =
     let same : stat_of n ≡ s = cc in

@@ -10,7 +10,8 @@ use Rattle.outside.specs.Tree.{Files, Node, content}
 use Rattle.tree_cmp.specs.declared.reading.Missing.TheVariants.{Failed, Changed}
 use Rattle.tree_cmp.specs.declared.reading.Outcome.{Outcome}
 use Rattle.tree_cmp.specs.declared.reading.Outcome.TheVariants.{Same, Missed}
-use Rattle.tree_cmp.specs.Private.Reading.{Fills, IsFileOf, Told, PieceTold, goes_on, counts}
+use Rattle.tree_cmp.specs.Filling.{Fills, IsFileOf}
+use Rattle.tree_cmp.specs.Private.Reading.{Told, PieceTold, goes_on, counts}
 use Rattle.outside.specs.Count.{RoseBy}
 
 pub filled_same : (told : Option Files) (left right : List ℕ) (at n : ℕ) (ours theirs : List ℕ) (same : Bool) → length ours ≡ n

@@ -1,11 +1,12 @@
 -- The answer of a read for which bytes are missed.
-use Rattle.std.proofs.Common.{◌≡◌, ℕ, List, Ok, Err, subst, inl, inr}
+use Rattle.std.proofs.Common.{◌≡◌, ℕ, ◌+◌, ◌<◌, List, Ok, Err, subst, inl, inr, arith}
 use Rattle.outside.specs.Asked.{Asks}
 use Rattle.outside.specs.Asked as asked
 use Rattle.outside.specs.declared.trees.ReadError.{ReadError}
 use Rattle.outside.specs.declared.trees.ReadError.TheVariants as read
+use Rattle.tree_cmp.specs.Readers.{ShowsWhole}
 use Rattle.tree_cmp.specs.declared.reading.Missing.TheVariants.{Changed}
-use Rattle.tree_cmp.specs.Private.Reading.{missing, ShowsMissing}
+use Rattle.tree_cmp.specs.Filling.{missing, ShowsMissing}
 
 module _ {S : Type 0} (gives : Asks S) where
   -- a read was refused
@@ -20,4 +21,16 @@ module _ {S : Type 0} (gives : Asks S) where
     at = at;
     after = after;
     read = inl (record { before = before; given = subst (λ k. gives before (asked.read path at (Ok k)) after) e g });
+  }
+
+  -- a read gave some bytes
+  pub gave : (path : List ℕ) (at done n : ℕ) (before after : S) → 0 < n → gives before (asked.read path (at + done) (Ok n)) after →
+      ShowsWhole gives (at + (done + n)) path
+  gave path at done n before after some g = record {
+    at = at + done;
+    bytes = n;
+    some = some;
+    ends = omega arith;
+    after = after;
+    read = record { before = before; given = g };
   }

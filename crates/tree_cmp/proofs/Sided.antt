@@ -9,7 +9,7 @@ use Rattle.std.specs.declared.cmp.Ordering.TheVariants.{Less}
 use Rattle.std.proofs.lemmas.List.Elements.{recursion_from_All}
 use Rattle.path_text.specs.Order.{path_cmp, is_under, is_within}
 use Rattle.path_text.specs.Graft.{below_of, BelowKeepsOrder}
-use Rattle.flat_list.specs.declared.entries.Entry.{Entry}
+use Rattle.entry_pages.specs.declared.entries.Entry.{Entry}
 use Rattle.tree_cmp.specs.Sides.{side, IsSide, is_gone, is_partial, entry_at, is_hidden, is_shown}
 use Rattle.tree_cmp.specs.Rows.{stat_at}
 use Rattle.tree_cmp.specs.Private.Items.{item_of, items_of, at, is_below_partial, has_row, item_stat}

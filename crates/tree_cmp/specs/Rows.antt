@@ -11,8 +11,8 @@ use Rattle.path_text.specs.Graft.{below_of}
 use Rattle.outside.specs.Tree.{Files, content}
 use Rattle.outside.specs.declared.trees.Kind.TheVariants as kind
 use Rattle.outside.specs.declared.trees.Stat.{Stat}
-use Rattle.flat_list.specs.declared.entries.Entry.{Entry}
-use Rattle.flat_list.specs.Entries.{is_kind, is_of}
+use Rattle.entry_pages.specs.declared.entries.Entry.{Entry}
+use Rattle.entry_pages.specs.Entries.{is_kind, is_of}
 use Rattle.tree_cmp.specs.declared.rows.Exist.{Exist}
 use Rattle.tree_cmp.specs.declared.rows.Exist.TheVariants as exist
 use Rattle.tree_cmp.specs.declared.rows.Two.{Two}

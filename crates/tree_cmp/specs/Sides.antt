@@ -6,9 +6,9 @@ use Rattle.std.specs.List.Sorted.{IsStrictlySortedBy}
 use Rattle.std.specs.Cmp.Lexicographic.{pointwise}
 use Rattle.path_text.specs.Order.{path_cmp, is_under, is_within}
 use Rattle.path_text.specs.Graft.{below_of}
-use Rattle.flat_list.specs.declared.entries.Entry.{Entry}
-use Rattle.flat_list.specs.declared.entries.Mark.{Mark}
-use Rattle.flat_list.specs.declared.entries.Mark.TheVariants as mark
+use Rattle.entry_pages.specs.declared.entries.Entry.{Entry}
+use Rattle.entry_pages.specs.declared.entries.Mark.{Mark}
+use Rattle.entry_pages.specs.declared.entries.Mark.TheVariants as mark
 use Rattle.flat_list.specs.Spelling.{paths}
 
 -- the list of a walk, and the path from which it was walked

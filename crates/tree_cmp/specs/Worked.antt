@@ -2,8 +2,8 @@
 use Rattle.std.specs.Prelude.{◌≡◌, ℕ, Bool, true, false, List, [], ◌∷◌, map, Option, Some, None, is_some, Ok, Err, codes}
 use Rattle.outside.specs.declared.trees.Kind.{Kind}
 use Rattle.outside.specs.declared.trees.Kind.TheVariants.{File, Dir, Link}
-use Rattle.flat_list.specs.declared.entries.Entry.{Entry}
-use Rattle.flat_list.specs.declared.entries.Mark.TheVariants.{Fine, Gone, ListFailed}
+use Rattle.entry_pages.specs.declared.entries.Entry.{Entry}
+use Rattle.entry_pages.specs.declared.entries.Mark.TheVariants.{Fine, Gone, ListFailed}
 use Rattle.tree_cmp.specs.declared.rows.Exist.{Exist}
 use Rattle.tree_cmp.specs.declared.rows.Exist.TheVariants.{OnlySrc, OnlyDest, Common as Both}
 use Rattle.tree_cmp.specs.declared.rows.Two.{Two}

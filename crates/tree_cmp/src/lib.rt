@@ -27,7 +27,8 @@
 //! `items` and `merging` go over the two lists once, and make a draft of each row. They look up nothing by its path, and copy no text
 //! of a link. `sharing` lets workers read the files of rows, each with a reader and two buffers of its own (`shared_reads`). A worker
 //! takes the next row that none has taken, by a shared count. `settling` puts the outcomes beside the rows, and reads the files whose
-//! outcome no worker could keep. `reading` compares two files, and `compared` makes the findings. `lending` takes readers from the
+//! outcome no worker could keep. `reading` compares two files, and `compared` makes the findings. [`fill`] reads
+//! the bytes of one file into a buffer. `lending` takes readers from the
 //! files for all that, and gives them back.
 //!
 //! # What is proved
@@ -67,4 +68,5 @@ pub use errors::{CmpError, ExprError};
 pub use expressions::{Expr, parse_expr};
 pub use laws::{faults_are_told, worked_expressions, worked_rows};
 pub use lending::compare_files;
+pub use reading::{Missing, fill};
 pub use rows::{Exist, Missed, Row, Two};

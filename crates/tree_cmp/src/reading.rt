@@ -3,25 +3,27 @@ ghost use Rattle.std.specs.Prelude.{◌≡◌, ℕ, ◌+◌, ◌^◌, ◌<◌, �
 ghost use Rattle.std.specs.FinMap.{get};
 ghost use Rattle.outside.specs.Count.{RoseBy};
 ghost use Rattle.outside.specs.Tree.{is_file, content};
-ghost use Rattle.tree_cmp.specs.Private.Reading.{Fills, IsShort, IsFileOf, Told, PieceTold, Shows, ShowsMissing, goes_on, counts};
+ghost use Rattle.tree_cmp.specs.Readers.{ShowsWhole};
+ghost use Rattle.tree_cmp.specs.Filling.{Fills, IsShort, IsFileOf, ShowsMissing};
+ghost use Rattle.tree_cmp.specs.Private.Reading.{Told, PieceTold, Shows, goes_on, counts};
 
 use outside::{ReadError, Tree};
 use path_text::Path;
 use shared_reads::piece;
 use std::mem;
 
-// Why the bytes of a file were not read.
+/// Why the bytes of a file were not read.
 #[derive(Clone, Copy, Debug, Drop, PartialEq, Eq)]
-pub(crate) enum Missing {
-    // The outside failed.
+pub enum Missing {
+    /// The outside failed.
     Failed,
-    // There were fewer bytes than the stat gives, or no file.
+    /// There were fewer bytes than were asked for, or no file.
     Changed,
 }
 
 impl From<ReadError> for Missing {
     ghost use Rattle.std.specs.Prelude.{◌≡◌};
-    ghost use Rattle.tree_cmp.specs.Private.Reading.{missing};
+    ghost use Rattle.tree_cmp.specs.Filling.{missing};
 
     ghost from_gives = { λ refused e. e ≡ missing refused };
 
@@ -42,13 +44,8 @@ pub(crate) enum Outcome {
     Missed(bool, Missing),
 }
 
-// Fills the buffer from the file at the path, from a place on.
-pub(crate) fn fill<R: Tree>(
-    reader: &mut R,
-    path: &Path,
-    at: u64,
-    into: &mut [u8],
-) -> Result<(), Missing>
+/// Fills the buffer from the file at the path, from a place on.
+pub fn fill<R: Tree>(reader: &mut R, path: &Path, at: u64, into: &mut [u8]) -> Result<(), Missing>
     requires some { 0 < length into.old }
     requires fits { at + length into.old < 2 ^ 64 }
     ensures told { OnOk result (IfSome (R.tree reader.old) (λ files. Fills (get files path.now) at into.new)) }
@@ -57,6 +54,7 @@ pub(crate) fn fill<R: Tree>(
     ensures count { RoseBy 0 (R.count reader.old) (R.count reader.new) }
     ensures cause { IsErrOf result Missing.Failed → RoseBy 1 (R.count reader.old) (R.count reader.new) }
     ensures shows { IfErr result (ShowsMissing R.gives path.now) }
+    ensures whole { OnOk result (ShowsWhole R.gives (at + length into.new) path.now) }
 {
     let mut done = 0;
     while done < into.len() {

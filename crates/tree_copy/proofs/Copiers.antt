@@ -9,8 +9,8 @@ use Rattle.outside.specs.Tree.{Files, Node, is_dir, is_file}
 use Rattle.outside.specs.Writes.{SameBut, new_file, new_link}
 use Rattle.outside.specs.declared.trees.Kind.TheVariants as kind
 use Rattle.outside.specs.declared.trees.Stat.{Stat}
-use Rattle.flat_list.specs.declared.entries.Entry.{Entry}
-use Rattle.flat_list.specs.Entries.{size_by}
+use Rattle.entry_pages.specs.declared.entries.Entry.{Entry}
+use Rattle.entry_pages.specs.Entries.{size_by}
 use Rattle.level_work.specs.Acts.{IsDone, at_and_under}
 use Rattle.level_work.specs.declared.items.Fate.{Fate}
 use Rattle.level_work.specs.declared.items.Fate.TheVariants as fate

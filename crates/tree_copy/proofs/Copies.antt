@@ -17,8 +17,8 @@ use Rattle.outside.specs.Writes.{empty_dir, new_file, new_link}
 use Rattle.outside.specs.declared.trees.Kind.{Kind}
 use Rattle.outside.specs.declared.trees.Kind.TheVariants as kind
 use Rattle.outside.specs.declared.trees.Stat.{Stat}
-use Rattle.flat_list.specs.declared.entries.Entry.{Entry}
-use Rattle.flat_list.specs.Entries.{is_kind, is_of, size_by}
+use Rattle.entry_pages.specs.declared.entries.Entry.{Entry}
+use Rattle.entry_pages.specs.Entries.{is_kind, is_of, size_by}
 use Rattle.level_work.specs.Acts.{at_and_under}
 use Rattle.level_work.specs.Levels.{Acted, SameButItems, found, is_item, left, with_at}
 use Rattle.level_work.specs.declared.items.Item.{Item}

@@ -14,7 +14,7 @@ use Rattle.path_text.specs.Order.{is_within}
 use Rattle.path_text.specs.Path.{is_slash, parent_of, joined}
 use Rattle.path_text.proofs.Parents.{parent_some}
 use Rattle.outside.specs.Tree.{Files}
-use Rattle.flat_list.specs.declared.entries.Entry.{Entry}
+use Rattle.entry_pages.specs.declared.entries.Entry.{Entry}
 use Rattle.flat_list.specs.Spelling.{paths}
 use Rattle.level_work.specs.Counts.{is_failed}
 use Rattle.level_work.specs.declared.items.Fate.{Fate}

@@ -21,7 +21,7 @@ use Rattle.outside.specs.declared.trees.Kind.TheVariants as kind
 use Rattle.outside.specs.declared.trees.Stat.{Stat}
 use Rattle.path_text.proofs.Parents.{parent_under}
 use Rattle.path_text.proofs.Within.{under_longer}
-use Rattle.flat_list.specs.declared.entries.Entry.{Entry}
+use Rattle.entry_pages.specs.declared.entries.Entry.{Entry}
 use Rattle.flat_list.specs.Spelling.{paths}
 use Rattle.level_work.specs.Acts.{MakesDirs}
 use Rattle.level_work.specs.Levels.{AreItems, StandIn, is_item}

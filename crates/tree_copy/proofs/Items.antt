@@ -6,7 +6,7 @@ use Rattle.std.specs.Prelude.{nat_le, IfSome}
 use Rattle.std.specs.List.{All, filter, list_any}
 use Rattle.path_text.specs.Graft.{below_of, grafted}
 use Rattle.path_text.specs.Order.{is_within}
-use Rattle.flat_list.specs.declared.entries.Entry.{Entry}
+use Rattle.entry_pages.specs.declared.entries.Entry.{Entry}
 use Rattle.level_work.specs.declared.items.Item.{Item}
 use Rattle.tree_copy.specs.declared.pairs.Pair.{Pair}
 use Rattle.tree_copy.specs.Copying.{ends_of, target_of, treated}

@@ -7,7 +7,7 @@ use Rattle.std.specs.List.{All, AllByRecursion, list_any}
 use Rattle.std.specs.Cmp.Lexicographic.{pointwise, bytes_decides}
 use Rattle.path_text.specs.Order.{is_within}
 use Rattle.path_text.specs.Path.{refusal}
-use Rattle.flat_list.specs.declared.entries.Entry.{Entry}
+use Rattle.entry_pages.specs.declared.entries.Entry.{Entry}
 use Rattle.tree_copy.specs.Copying.{CanCopy, ends_of, target_of, treated}
 use Rattle.tree_copy.specs.Laws.{TargetsAreApart, is_in_source}
 use Rattle.tree_copy.specs.Placing.{IsPair, overlap}

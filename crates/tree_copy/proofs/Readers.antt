@@ -36,7 +36,7 @@ shown f t d [] l h s = absurd (omega (arith, l))
 shown f t d (x ∷ xs) l h s = sym (s 0 (f x) refl) ∙ all_show f t (x ∷ xs) h 0 (f x) refl
 
 -- the deed of actors whose readers look at this tree
-abbrev pub DeedBy : Option Files → List ℕ → Rattle.flat_list.specs.declared.entries.Entry.Entry → Fate → Files → Files → Type 0
+abbrev pub DeedBy : Option Files → List ℕ → Rattle.entry_pages.specs.declared.entries.Entry.Entry → Fate → Files → Files → Type 0
 DeedBy t path entry f before after = IfSome t (λ seen. CopyOne seen path entry f before after)
 
 pub dirs_by : {X : Type 0} (f : X → Option Files) (t t' d : Option Files) (xs : List X) (items : List Item) → t' ≡ t → 0 < length xs →

@@ -13,8 +13,8 @@ use Rattle.outside.specs.Count.{RoseBy}
 use Rattle.outside.specs.Parts.{IsTreeIn, UnderDirectories}
 use Rattle.outside.specs.Tree.{Files}
 use Rattle.outside.specs.Writes.{Area, nothing_lent}
-use Rattle.flat_list.specs.declared.entries.Entry.{Entry}
-use Rattle.flat_list.specs.Entries.{bytes_by}
+use Rattle.entry_pages.specs.declared.entries.Entry.{Entry}
+use Rattle.entry_pages.specs.Entries.{bytes_by}
 use Rattle.flat_list.specs.Spelling.{paths}
 use Rattle.level_work.specs.Acts.{MakesDirs}
 use Rattle.level_work.specs.Counts.{is_failed}

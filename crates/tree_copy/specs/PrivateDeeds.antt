@@ -6,7 +6,7 @@ use Rattle.outside.specs.Writes.{empty_dir, new_file, new_link}
 use Rattle.outside.specs.declared.trees.Kind.{Kind}
 use Rattle.outside.specs.declared.trees.Kind.TheVariants as kind
 use Rattle.outside.specs.declared.trees.Stat.{Stat}
-use Rattle.flat_list.specs.Entries.{size_by}
+use Rattle.entry_pages.specs.Entries.{size_by}
 use Rattle.level_work.specs.Acts.{Deed}
 use Rattle.level_work.specs.declared.items.Fate.TheVariants as fate
 

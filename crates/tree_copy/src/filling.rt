@@ -5,8 +5,8 @@ ghost use Rattle.outside.specs.Count.{RoseBy};
 ghost use Rattle.outside.specs.Tree.{is_file};
 ghost use Rattle.outside.specs.Writes.{is_top, is_open, new_file, SameBut};
 ghost use Rattle.outside.specs.Asked as asked;
-ghost use Rattle.flat_list.specs.declared.entries.Entry.{Entry};
-ghost use Rattle.flat_list.specs.Entries.{size_by};
+ghost use Rattle.entry_pages.specs.declared.entries.Entry.{Entry};
+ghost use Rattle.entry_pages.specs.Entries.{size_by};
 ghost use Rattle.level_work.specs.Acts.{IsDone};
 ghost use Rattle.tree_copy.specs.Causes.{ShowsFate, WasWritten};
 ghost use Rattle.tree_copy.specs.Copying.{is_done};
@@ -32,7 +32,8 @@ pub(crate) fn file_made<P: Plot, R: Tree>(
     requires top { IsTrue (is_top (P.area part.old) path.now) }
     requires open { IsTrue (is_open (P.area part.old) path.now) }
     requires buffer { 0 < length buffer.old }
-    ensures told { IfSome (P.tree part.old) (λ before. IfSome (P.tree part.new) (IsDone (ByReader MakeFile (R.tree reader.old)) path.now entry.now result before)) }
+    ensures told { IfSome (P.tree part.old) (λ before. IfSome (P.tree part.new) (IsDone (ByReader MakeFile
+        (R.tree reader.old)) path.now entry.now result before)) }
     ensures named { IfOk result (λ fate. fate ≢ Fate.ParentFailed) }
     ensures same { R.tree reader.new ≡ R.tree reader.old }
     ensures tells { is_some (P.tree part.new) ≡ is_some (P.tree part.old) }
@@ -40,7 +41,8 @@ pub(crate) fn file_made<P: Plot, R: Tree>(
     ensures len { length buffer.new ≡ length buffer.old }
     ensures count { RoseBy 0 (P.count part.old) (P.count part.new) }
     ensures reader_count { RoseBy 0 (R.count reader.old) (R.count reader.new) }
-    ensures cause { IfOk result (λ fate. fate ≡ Fate.Failed → (RoseBy 1 (P.count part.old) (P.count part.new)) ⊎ (RoseBy 1 (R.count reader.old) (R.count reader.new))) }
+    ensures cause { IfOk result (λ fate. fate ≡ Fate.Failed → (RoseBy 1 (P.count part.old) (P.count part.new)) ⊎ (RoseBy 1
+        (R.count reader.old) (R.count reader.new))) }
     ensures shown { IfOk result (ShowsFate R.gives P.gives path.now entry.now Kind.File) }
 {
     let size = size_of(entry);
@@ -88,7 +90,8 @@ fn placed<P: Plot, R: Tree>(
     ensures area { P.area part.new ≡ P.area part.old }
     ensures count { RoseBy 0 (P.count part.old) (P.count part.new) }
     ensures reader_count { RoseBy 0 (R.count reader.old) (R.count reader.new) }
-    ensures cause { IfOk result (λ fate. fate ≡ Fate.Failed → (RoseBy 1 (P.count part.old) (P.count part.new)) ⊎ (RoseBy 1 (R.count reader.old) (R.count reader.new))) }
+    ensures cause { IfOk result (λ fate. fate ≡ Fate.Failed → (RoseBy 1 (P.count part.old) (P.count part.new)) ⊎ (RoseBy 1
+        (R.count reader.old) (R.count reader.new))) }
     ensures shown { (e : Entry) → e.path ≡ source.now → IfOk result (ShowsPlaced R.gives P.gives path.now e Kind.File asked.make_file) }
 {
     match part.make_file(alloc, path) {
@@ -125,7 +128,8 @@ fn placed_over<P: Plot, R: Tree>(
     ensures area { P.area part.new ≡ P.area part.old }
     ensures count { RoseBy 0 (P.count part.old) (P.count part.new) }
     ensures reader_count { RoseBy 0 (R.count reader.old) (R.count reader.new) }
-    ensures cause { IfOk result (λ fate. fate ≡ Fate.Failed → (RoseBy 1 (P.count part.old) (P.count part.new)) ⊎ (RoseBy 1 (R.count reader.old) (R.count reader.new))) }
+    ensures cause { IfOk result (λ fate. fate ≡ Fate.Failed → (RoseBy 1 (P.count part.old) (P.count part.new)) ⊎ (RoseBy 1
+        (R.count reader.old) (R.count reader.new))) }
     ensures shown { (e : Entry) → e.path ≡ source.now → IfOk result (ShowsPlaced R.gives P.gives path.now e Kind.File asked.make_file) }
 {
     let seen = look(reader, path, Kind::File);
@@ -185,7 +189,8 @@ fn filled<P: Plot, R: Tree>(
     ensures len { length buffer.new ≡ length buffer.old }
     ensures count { RoseBy 0 (P.count part.old) (P.count part.new) }
     ensures reader_count { RoseBy 0 (R.count reader.old) (R.count reader.new) }
-    ensures cause { IfOk result (λ fate. fate ≡ Fate.Failed → (RoseBy 1 (P.count part.old) (P.count part.new)) ⊎ (RoseBy 1 (R.count reader.old) (R.count reader.new))) }
+    ensures cause { IfOk result (λ fate. fate ≡ Fate.Failed → (RoseBy 1 (P.count part.old) (P.count part.new)) ⊎ (RoseBy 1
+        (R.count reader.old) (R.count reader.new))) }
     ensures shown { IfOk result (ShowsFilled R.gives P.gives source.now path.now size) }
 {
     let mut at = 0u64;

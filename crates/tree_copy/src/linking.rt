@@ -4,7 +4,7 @@ ghost use Rattle.std.specs.FinMap.{get};
 ghost use Rattle.outside.specs.Count.{RoseBy};
 ghost use Rattle.outside.specs.Writes.{is_top, is_open, new_link};
 ghost use Rattle.outside.specs.Asked as asked;
-ghost use Rattle.flat_list.specs.declared.entries.Entry.{Entry};
+ghost use Rattle.entry_pages.specs.declared.entries.Entry.{Entry};
 ghost use Rattle.level_work.specs.Acts.{IsDone};
 ghost use Rattle.tree_copy.specs.Causes.{ShowsFate};
 ghost use Rattle.tree_copy.specs.PrivateActs.{ByReader, IsPlaced, IsReplaced, ShowsPlaced, ShowsReplaced, ShowsSpared, Spared};
@@ -27,14 +27,16 @@ pub(crate) fn link_made<P: Plot, R: Tree>(
 ) -> Result<Fate, OutOfMemory>
     requires top { IsTrue (is_top (P.area part.old) path.now) }
     requires open { IsTrue (is_open (P.area part.old) path.now) }
-    ensures told { IfSome (P.tree part.old) (λ before. IfSome (P.tree part.new) (IsDone (ByReader CopyLink (R.tree reader.old)) path.now entry.now result before)) }
+    ensures told { IfSome (P.tree part.old) (λ before. IfSome (P.tree part.new) (IsDone (ByReader CopyLink
+        (R.tree reader.old)) path.now entry.now result before)) }
     ensures named { IfOk result (λ fate. fate ≢ Fate.ParentFailed) }
     ensures same { R.tree reader.new ≡ R.tree reader.old }
     ensures tells { is_some (P.tree part.new) ≡ is_some (P.tree part.old) }
     ensures area { P.area part.new ≡ P.area part.old }
     ensures count { RoseBy 0 (P.count part.old) (P.count part.new) }
     ensures reader_count { RoseBy 0 (R.count reader.old) (R.count reader.new) }
-    ensures cause { IfOk result (λ fate. fate ≡ Fate.Failed → (RoseBy 1 (P.count part.old) (P.count part.new)) ⊎ (RoseBy 1 (R.count reader.old) (R.count reader.new))) }
+    ensures cause { IfOk result (λ fate. fate ≡ Fate.Failed → (RoseBy 1 (P.count part.old) (P.count part.new)) ⊎ (RoseBy 1
+        (R.count reader.old) (R.count reader.new))) }
     ensures shown { IfOk result (ShowsFate R.gives P.gives path.now entry.now Kind.Link) }
 {
     match &entry.target {
@@ -53,14 +55,16 @@ fn placed<P: Plot, R: Tree>(
 ) -> Result<Fate, OutOfMemory>
     requires top { IsTrue (is_top (P.area part.old) path.now) }
     requires open { IsTrue (is_open (P.area part.old) path.now) }
-    ensures told { IfSome (P.tree part.old) (λ before. IfSome (P.tree part.new) (IsPlaced (new_link text.now) is_link (R.tree reader.old) path.now result before)) }
+    ensures told { IfSome (P.tree part.old) (λ before. IfSome (P.tree part.new) (IsPlaced (new_link text.now) is_link
+        (R.tree reader.old) path.now result before)) }
     ensures named { IfOk result (λ fate. fate ≢ Fate.ParentFailed) }
     ensures same { R.tree reader.new ≡ R.tree reader.old }
     ensures tells { is_some (P.tree part.new) ≡ is_some (P.tree part.old) }
     ensures area { P.area part.new ≡ P.area part.old }
     ensures count { RoseBy 0 (P.count part.old) (P.count part.new) }
     ensures reader_count { RoseBy 0 (R.count reader.old) (R.count reader.new) }
-    ensures cause { IfOk result (λ fate. fate ≡ Fate.Failed → (RoseBy 1 (P.count part.old) (P.count part.new)) ⊎ (RoseBy 1 (R.count reader.old) (R.count reader.new))) }
+    ensures cause { IfOk result (λ fate. fate ≡ Fate.Failed → (RoseBy 1 (P.count part.old) (P.count part.new)) ⊎ (RoseBy 1
+        (R.count reader.old) (R.count reader.new))) }
     ensures shown { (e : Entry) → IfOk result (ShowsPlaced R.gives P.gives path.now e Kind.Link (asked.make_link text.now)) }
 {
     match part.make_link(alloc, path, text) {
@@ -87,14 +91,16 @@ fn placed_over<P: Plot, R: Tree>(
     requires top { IsTrue (is_top (P.area part.old) path.now) }
     requires open { IsTrue (is_open (P.area part.old) path.now) }
     requires taken { IfSome (P.tree part.old) (λ before. is_some (get before path.now) ≡ true) }
-    ensures told { IfSome (P.tree part.old) (λ before. IfSome (P.tree part.new) (IsPlaced (new_link text.now) is_link (R.tree reader.old) path.now result before)) }
+    ensures told { IfSome (P.tree part.old) (λ before. IfSome (P.tree part.new) (IsPlaced (new_link text.now) is_link
+        (R.tree reader.old) path.now result before)) }
     ensures named { IfOk result (λ fate. fate ≢ Fate.ParentFailed) }
     ensures same { R.tree reader.new ≡ R.tree reader.old }
     ensures tells { is_some (P.tree part.new) ≡ is_some (P.tree part.old) }
     ensures area { P.area part.new ≡ P.area part.old }
     ensures count { RoseBy 0 (P.count part.old) (P.count part.new) }
     ensures reader_count { RoseBy 0 (R.count reader.old) (R.count reader.new) }
-    ensures cause { IfOk result (λ fate. fate ≡ Fate.Failed → (RoseBy 1 (P.count part.old) (P.count part.new)) ⊎ (RoseBy 1 (R.count reader.old) (R.count reader.new))) }
+    ensures cause { IfOk result (λ fate. fate ≡ Fate.Failed → (RoseBy 1 (P.count part.old) (P.count part.new)) ⊎ (RoseBy 1
+        (R.count reader.old) (R.count reader.new))) }
     ensures shown { (e : Entry) → IfOk result (ShowsPlaced R.gives P.gives path.now e Kind.Link (asked.make_link text.now)) }
 {
     match look(reader, path, Kind::Link) {

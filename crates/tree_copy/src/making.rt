@@ -5,8 +5,8 @@ ghost use Rattle.std.specs.Option.{option_map};
 ghost use Rattle.outside.specs.Count.{RoseBy};
 ghost use Rattle.outside.specs.Tree.{stat_of};
 ghost use Rattle.outside.specs.Writes.{is_top, is_open};
-ghost use Rattle.flat_list.specs.declared.entries.Entry.{Entry};
-ghost use Rattle.flat_list.specs.Entries.{is_kind};
+ghost use Rattle.entry_pages.specs.declared.entries.Entry.{Entry};
+ghost use Rattle.entry_pages.specs.Entries.{is_kind};
 ghost use Rattle.tree_copy.specs.Causes.{LookMeans, ShowsFate, refusal_means};
 ghost use Rattle.tree_copy.specs.PrivateActs.{IsDirMade, TellsFate, is_taken, look_fate};
 
@@ -31,7 +31,8 @@ pub(crate) fn dir_made<P: Plot, R: Tree>(
     ensures area { P.area part.new ≡ P.area part.old }
     ensures count { RoseBy 0 (P.count part.old) (P.count part.new) }
     ensures reader_count { RoseBy 0 (R.count reader.old) (R.count reader.new) }
-    ensures cause { IfOk result (λ fate. fate ≡ Fate.Failed → (RoseBy 1 (P.count part.old) (P.count part.new)) ⊎ (RoseBy 1 (R.count reader.old) (R.count reader.new))) }
+    ensures cause { IfOk result (λ fate. fate ≡ Fate.Failed → (RoseBy 1 (P.count part.old) (P.count part.new)) ⊎ (RoseBy 1
+        (R.count reader.old) (R.count reader.new))) }
     ensures shown { (e : Entry) → IfOk result (ShowsFate R.gives P.gives path.now e Kind.Dir) }
 {
     match part.make_dir(alloc, path) {

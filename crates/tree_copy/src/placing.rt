@@ -1,5 +1,6 @@
 //! The target of each source.
-ghost use Rattle.std.specs.Prelude.{◌≡◌, ◌≤◌, ◌<◌, ◌||◌, ◌++◌, if◌then◌else◌, false, true, length, map, None, Ok, Err, OnOk, IfNone, IfSome, IfOk, IfErr, IsErrOf, MatchOption};
+ghost use Rattle.std.specs.Prelude.{◌≡◌, ◌≤◌, ◌<◌, ◌||◌, ◌++◌, if◌then◌else◌, false, true, length, map};
+ghost use Rattle.std.specs.Prelude.{None, Ok, Err, OnOk, IfNone, IfSome, IfOk, IfErr, IsErrOf, MatchOption};
 ghost use Rattle.std.specs.FinMap.{get};
 ghost use Rattle.std.specs.List.{list_any};
 ghost use Rattle.path_text.specs.Order.{is_within};
@@ -8,7 +9,8 @@ ghost use Rattle.outside.specs.Answered.{StatMeans};
 ghost use Rattle.outside.specs.Count.{RoseBy};
 ghost use Rattle.outside.specs.Tree.{IsTree, is_dir, is_root};
 ghost use Rattle.tree_copy.specs.Looking.{IsDue, LookStopped};
-ghost use Rattle.tree_copy.specs.Placing.{IsCounted, IsWhy, PlaceStopped, Placed, asks_over, dir_told, has_targets, overlap, pairs_in, placed, placed_over, target_in};
+ghost use Rattle.tree_copy.specs.Placing.{IsCounted, IsWhy, PlaceStopped, Placed, asks_over, dir_told};
+ghost use Rattle.tree_copy.specs.Placing.{has_targets, overlap, pairs_in, placed, placed_over, target_in};
 
 use crate::pairs::{Pair, PlaceError};
 use outside::{Failed, Kind, Stat, Tree};
@@ -140,7 +142,8 @@ fn apart(
     in_dir: bool,
     over_dir: bool,
 ) -> Result<Vec<Pair>, PlaceError>
-    ensures { result ≡ (if overlap (sources.now ++ map (λ pair. pair.target) pairs.items) then Err PlaceError.Overlap else if in_dir || over_dir then Ok pairs else Err PlaceError.NoDest) }
+    ensures { result ≡ (if overlap (sources.now ++ map
+        (λ pair. pair.target) pairs.items) then Err PlaceError.Overlap else if in_dir || over_dir then Ok pairs else Err PlaceError.NoDest) }
 {
     if ends_overlap(sources, &pairs) {
         return Err(PlaceError::Overlap);
@@ -170,7 +173,8 @@ fn paired(
     in_dir: bool,
 ) -> Result<Option<Vec<Pair>>, OutOfMemory>
     ensures some { IfOk result (λ found. IfSome found (λ pairs. pairs.items ≡ pairs_in in_dir dest.now sources.now)) }
-    ensures whether { IfOk result (λ found. MatchOption found (has_targets in_dir dest.now sources.now ≡ false) (λ pairs. has_targets in_dir dest.now sources.now ≡ true)) }
+    ensures whether { IfOk result (λ found. MatchOption found (has_targets in_dir dest.now sources.now ≡ false)
+        (λ pairs. has_targets in_dir dest.now sources.now ≡ true)) }
 {
     if !in_dir && sources.len() != 1 {
         return Ok(None);

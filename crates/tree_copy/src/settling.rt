@@ -1,8 +1,9 @@
 //! The fates of the entries, by those of the items.
-ghost use Rattle.std.specs.Prelude.{◌≡◌, ◌+◌, ◌-◌, ◌^◌, ◌<◌, ◌≤◌, ◌++◌, ◌∷◌, [], Some, length, map, drop, slice_get, true, false, if◌then◌else◌, IfOk, OnOk, is_some};
+ghost use Rattle.std.specs.Prelude.{◌≡◌, ◌+◌, ◌-◌, ◌^◌, ◌<◌, ◌≤◌, ◌++◌, ◌∷◌, [], Some};
+ghost use Rattle.std.specs.Prelude.{length, map, drop, slice_get, true, false, if◌then◌else◌, IfOk, OnOk, is_some};
 ghost use Rattle.std.specs.List.{count_by, zip};
 ghost use Rattle.std.specs.Vec.Iter.{into_iter_items, into_iter_len};
-ghost use Rattle.flat_list.specs.Entries.{is_of};
+ghost use Rattle.entry_pages.specs.Entries.{is_of};
 ghost use Rattle.flat_list.specs.Spelling.{paths};
 ghost use Rattle.tree_copy.specs.Copying.{is_done, treated};
 ghost use Rattle.tree_copy.specs.PrivateSettling.{bytes_of, fates_of, fitting, gain, is_other, settled, settled_by};
@@ -72,7 +73,8 @@ fn path_of(
     items: &mut IntoIter<Item, Global>,
 ) -> Result<Path, OutOfMemory>
     requires { fit ≡ true → 0 < into_iter_len items.old }
-    ensures taken { IfOk result (λ path. fit ≡ true → map (λ x. x.entry.path) (into_iter_items items.old) ≡ path ∷ map (λ x. x.entry.path) (into_iter_items items.new)) }
+    ensures taken { IfOk result (λ path. fit ≡ true → map (λ x. x.entry.path) (into_iter_items items.old) ≡ path ∷ map
+        (λ x. x.entry.path) (into_iter_items items.new)) }
     ensures copied { IfOk result (λ path. fit ≡ false → path ≡ entry.now.path) }
     ensures kept { fit ≡ false → into_iter_items items.new ≡ into_iter_items items.old }
     ensures len { into_iter_len items.old ≡ length (into_iter_items items.old) → into_iter_len items.new ≡ length (into_iter_items items.new) }

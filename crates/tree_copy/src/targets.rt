@@ -1,5 +1,6 @@
 //! Entries as items of work, each at its target.
-ghost use Rattle.std.specs.Prelude.{◌≡◌, ◌<◌, ◌++◌, ◌∷◌, [], None, Some, All, length, map, slice_get, true, false, nat_le, if◌then◌else◌, IfOk, OnOk, IfSome, is_some};
+ghost use Rattle.std.specs.Prelude.{◌≡◌, ◌<◌, ◌++◌, ◌∷◌, [], None, Some, All, length};
+ghost use Rattle.std.specs.Prelude.{map, slice_get, true, false, nat_le, if◌then◌else◌, IfOk, OnOk, IfSome, is_some};
 ghost use Rattle.std.specs.List.{list_any};
 ghost use Rattle.path_text.specs.Graft.{below_of, grafted};
 ghost use Rattle.path_text.specs.Order.{is_within};
@@ -36,7 +37,7 @@ pub(crate) fn place_all(
     ensures paths { IfOk result (λ placed. All (λ x. refusal x.path ≡ None) placed.items.items) }
 {
     see_pairs(pairs);
-    see_paths(list)?;
+    list.paths_are_valid();
     let mut placed = Placed {
         items: Vec::with_capacity(alloc, list.len())?,
         fits: Vec::with_capacity(alloc, list.len())?,
@@ -57,17 +58,6 @@ fn see_pairs(pairs: &[Pair])
         let _ = pair.source.text();
         let _ = pair.target.text();
     }
-}
-
-// Each path of the list is a path.
-fn see_paths(list: &FlatList) -> Result<(), OutOfMemory>
-    ensures { OnOk result (All (λ e. refusal e.path ≡ None) list.now) }
-{
-    let mut cursor = list.cursor()?;
-    while cursor.advance()? {
-        let _ = cursor.entry().path.text();
-    }
-    Ok(())
 }
 
 // Adds an entry, if it has a stat. It tries the pair of the entry before first, since all entries under one source follow each
@@ -118,7 +108,9 @@ fn pair_of(path: &Path, pairs: &[Pair], last: usize) -> usize
 // The target of a path by the pair, unless that is too long.
 fn target_of(path: &Path, pair: &Pair) -> Result<Option<Path>, OutOfMemory>
     requires { is_within path.now pair.now.source ≡ true }
-    ensures told { IfOk result (λ target. target ≡ (if nat_le (length (grafted pair.now.target (below_of path.now pair.now.source))) 4095 then Some (grafted pair.now.target (below_of path.now pair.now.source)) else None)) }
+    ensures told { IfOk result (λ target. target ≡ (if nat_le (length (grafted pair.now.target
+        (below_of path.now pair.now.source))) 4095 then Some (grafted pair.now.target
+        (below_of path.now pair.now.source)) else None)) }
     ensures path { IfOk result (λ target. IfSome target (λ p. refusal p ≡ None)) }
 {
     let below = path.below(&pair.source)?;

@@ -44,7 +44,8 @@ where
     ensures tells { is_some (G.tree ground.new) ≡ is_some (G.tree ground.old) }
     ensures len { IfOk result (λ fates. length fates ≡ length items.now) }
     ensures failed { IfOk result (ParentsFail Order.TopDown items.now) }
-    ensures told { IfOk result (λ fates. IfSome (G.tree ground.old) (λ before. IfSome (G.tree ground.new) (Acted (CopyOne before) Order.TopDown items.now fates before))) }
+    ensures told { IfOk result (λ fates. IfSome (G.tree ground.old) (λ before. IfSome (G.tree ground.new) (Acted
+        (CopyOne before) Order.TopDown items.now fates before))) }
     ensures blamed { IfOk result (λ fates. RoseBy (count_by is_failed fates) (G.count ground.old) (G.count ground.new)) }
     ensures count { RoseBy 0 (G.count ground.old) (G.count ground.new) }
     ensures each_may_come { IfOk result (AllMayCopy G.Reader.gives G.Part.gives items.now) }
@@ -100,7 +101,8 @@ fn take_back<G: Ground>(ground: &mut G, copiers: Vec<Copier<G::Reader>>)
     ensures same { G.tree ground.new ≡ G.tree ground.old }
     ensures area { G.area ground.new ≡ G.area ground.old }
     ensures kept { G.count ground.old ≤ G.count ground.new }
-    ensures count { G.count ground.old < 2 ^ 64 → G.count ground.new ≡ min (G.count ground.old + sum_by (λ c. G.Reader.count c.reader) copiers.items) (2 ^ 64 - 1) }
+    ensures count { G.count ground.old < 2 ^ 64 → G.count ground.new ≡ min (G.count ground.old + sum_by
+        (λ c. G.Reader.count c.reader) copiers.items) (2 ^ 64 - 1) }
 {
     for copier in copiers {
         ground.take_reader(copier.into_reader());

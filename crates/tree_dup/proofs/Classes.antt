@@ -12,11 +12,11 @@ use Rattle.std.proofs.lemmas.List.Sorted.{All-permutation}
 use Rattle.path_text.specs.Order.{path_cmp}
 use Rattle.outside.specs.Asked.{Asks}
 use Rattle.outside.specs.Tree.{Files, content}
-use Rattle.flat_list.specs.declared.entries.Entry.{Entry}
+use Rattle.entry_pages.specs.declared.entries.Entry.{Entry}
 use Rattle.tree_dup.specs.Told.{Told, Grouping}
 use Rattle.tree_cmp.specs.Readers.{ShowsFailure, ShowsChange}
 use Rattle.tree_dup.specs.Grouping.{has, is_read, is_sized, HaveCauses, ShowsWhole, AreWhole}
-use Rattle.tree_dup.specs.declared.filling.Missing.TheVariants.{Failed, Changed}
+use Rattle.tree_cmp.specs.declared.reading.Missing.TheVariants.{Failed, Changed}
 use Rattle.tree_dup.specs.declared.runs.Standing.{Standing}
 use Rattle.tree_dup.specs.declared.runs.Standing.TheVariants.{Alike, Other, Missed}
 use Rattle.tree_dup.specs.declared.runs.File.{File}

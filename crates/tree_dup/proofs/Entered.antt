@@ -14,16 +14,17 @@ use Rattle.std.proofs.lemmas.List.Elements.{All-nil, All-push}
 use Rattle.std.proofs.lemmas.List.Folds.{list_any_at}
 use Rattle.std.proofs.lemmas.List.Sums.{sum_by_more}
 use Rattle.std.proofs.lemmas.Option.{slice_get_within, get_or_from_slice_get}
-use Rattle.outside.specs.Tree.{Files, Node, Body, stat_of, kind_of, size_of, is_file_body, bytes_of}
+use Rattle.outside.specs.Tree.{Files, stat_of}
 use Rattle.outside.specs.declared.trees.Kind.TheVariants as kind
 use Rattle.outside.specs.declared.trees.Stat.{Stat}
-use Rattle.flat_list.specs.declared.entries.Entry.{Entry}
-use Rattle.flat_list.specs.Entries.{is_kind, is_of, size_by}
+use Rattle.entry_pages.specs.declared.entries.Entry.{Entry}
+use Rattle.entry_pages.specs.Entries.{is_of, size_by}
 use Rattle.tree_cmp.specs.Readers.{StatsTold}
 use Rattle.tree_dup.specs.Grouping.{has, is_candidate, is_read, is_sized}
 use Rattle.tree_dup.specs.declared.runs.File.{File}
 use Rattle.tree_dup.specs.Private.Piles.{times}
-use Rattle.tree_dup.specs.Private.Reading.{IsFileOf}
+use Rattle.tree_cmp.specs.Filling.{IsFileOf}
+use Rattle.tree_cmp.proofs.OneRow.{file_of}
 use Rattle.tree_dup.specs.Private.Running.{IsThere, paths_of, still}
 use Rattle.tree_dup.specs.Private.Sifting.{AreListed, IsListed, candidates_in}
 use Rattle.std.specs.HashMap.{HashMap}
@@ -35,19 +36,6 @@ use Rattle.tree_dup.proofs.Parted.{if_told}
 use Rattle.tree_dup.proofs.Sifted.{path_of, both_true}
 
 -- ---- a file of its size
-
-file_body : (b : Body) → is_kind kind.File (kind_of b) ≡ true → (is_file_body b ≡ true) × (length (bytes_of b) ≡ size_of b)
-file_body (Body.dir far) e = absurd (false≢true e)
-file_body (Body.file bytes) e = (refl, refl)
-file_body (Body.link text) e = absurd (false≢true e)
-file_body Body.other e = absurd (false≢true e)
-
-file_of : (node : Option Node) (s : Stat) → option_map stat_of node ≡ Some s → is_kind kind.File s.kind ≡ true → IsFileOf node s.size
-file_of None s e h = absurd cc
-file_of (Some n) s e h =
-    let same : stat_of n ≡ s = cc in
-    let f = file_body n.body (subst (λ (t : Stat). is_kind kind.File t.kind ≡ true) (sym same) h) in
-    record { is_file = f.0; size = f.1 ∙ ap (λ (t : Stat). t.size) same }
 
 entry_there : (files : Files) (path : List ℕ) (stat : Option Stat) → is_of kind.File stat ≡ true →
     IfSome stat (λ s. option_map stat_of (get files path) ≡ Some s) → IsFileOf (get files path) (size_by stat)

@@ -8,7 +8,7 @@ use Rattle.std.specs.declared.hash.FoldHasher.{FoldHasher}
 use Rattle.outside.specs.Count.{RoseBy}
 use Rattle.outside.specs.Tree.{Files, content}
 use Rattle.tree_dup.specs.Private.Hashing.{fed, fed_all, content_hash}
-use Rattle.tree_dup.specs.Private.Reading.{Fills, IsFileOf, IsShort}
+use Rattle.tree_cmp.specs.Filling.{Fills, IsFileOf, IsShort}
 
 -- ---- a hasher that takes pieces of 64 KiB
 

@@ -11,8 +11,8 @@ use native.Mathlib.Decide.{ℕ_discrete}
 use Rattle.outside.specs.Asked.{Asks}
 use Rattle.outside.specs.Count.{RoseBy}
 use Rattle.outside.specs.Tree.{Files}
-use Rattle.tree_dup.specs.declared.filling.Missing.{Missing}
-use Rattle.tree_dup.specs.declared.filling.Missing.TheVariants.{Failed, Changed}
+use Rattle.tree_cmp.specs.declared.reading.Missing.{Missing}
+use Rattle.tree_cmp.specs.declared.reading.Missing.TheVariants.{Failed, Changed}
 use Rattle.shared_reads.proofs.Counted.{keeps_still, keeps_on}
 use Rattle.tree_dup.specs.declared.runs.File.{File}
 use Rattle.tree_dup.specs.declared.runs.Standing.{Standing}

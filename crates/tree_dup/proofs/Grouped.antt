@@ -16,7 +16,7 @@ use Rattle.sha2.specs.Sha256.{sha256}
 use Rattle.path_text.specs.Order.{path_cmp}
 use Rattle.outside.specs.Asked.{Asks}
 use Rattle.outside.specs.Tree.{Files, content}
-use Rattle.flat_list.specs.declared.entries.Entry.{Entry}
+use Rattle.entry_pages.specs.declared.entries.Entry.{Entry}
 use Rattle.tree_cmp.specs.Readers.{ShowsFailure, ShowsChange}
 use Rattle.tree_dup.specs.Told.{Told, Grouping}
 use Rattle.tree_dup.specs.Grouping.{has, is_candidate, is_read, is_missed, is_kept, is_in, are_together, first, first_path, same_bytes}

@@ -12,12 +12,12 @@ use native.Mathlib.Decide.{ℕ_discrete}
 use Rattle.outside.specs.Asked.{Asks}
 use Rattle.outside.specs.Count.{RoseBy}
 use Rattle.outside.specs.Tree.{Files, content}
-use Rattle.flat_list.specs.declared.entries.Entry.{Entry}
+use Rattle.entry_pages.specs.declared.entries.Entry.{Entry}
 use Rattle.tree_cmp.specs.Readers.{ShowsFailure, ShowsChange}
 use Rattle.tree_dup.specs.Told.{Grouping}
 use Rattle.tree_dup.specs.Grouping.{has, is_read, HaveCauses}
-use Rattle.tree_dup.specs.declared.filling.Missing.{Missing}
-use Rattle.tree_dup.specs.declared.filling.Missing.TheVariants.{Failed, Changed}
+use Rattle.tree_cmp.specs.declared.reading.Missing.{Missing}
+use Rattle.tree_cmp.specs.declared.reading.Missing.TheVariants.{Failed, Changed}
 use Rattle.tree_dup.specs.declared.runs.File.{File}
 use Rattle.tree_dup.specs.declared.runs.Standing.TheVariants.{Alike}
 use Rattle.tree_dup.specs.Private.Dealing.{with_missed}

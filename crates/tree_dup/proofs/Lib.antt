@@ -5,7 +5,6 @@ mod Dealt
 mod Entered
 mod Fed
 pub mod Few
-mod Filled
 mod Firsts
 mod Gone
 mod Grouped
@@ -14,7 +13,6 @@ mod Kept
 mod Parted
 mod Piled
 mod Ran
-mod Shown
 mod Sifted
 mod Stood
 mod Strict

@@ -2,7 +2,7 @@
 use Rattle.std.proofs.Common.{◌≡◌, ℕ, ◌+◌, ◌<◌, ◌≤◌, List, [], ◌∷◌, ◌++◌, length, Option, Some, None, IfSome, sym, ap, arith}
 use Rattle.std.specs.FinMap.{get}
 use Rattle.outside.specs.Tree.{Files, content}
-use Rattle.flat_list.specs.declared.entries.Entry.{Entry}
+use Rattle.entry_pages.specs.declared.entries.Entry.{Entry}
 use Rattle.tree_dup.specs.Private.Piles.{times, times_in, joints_in}
 use Rattle.tree_dup.specs.Private.Sifting.{candidates_in, IsUndivided}
 use Rattle.tree_dup.proofs.Piled.{divided_once, divided_joints, left_once, left_joints, times_in-split, joints_in-split}

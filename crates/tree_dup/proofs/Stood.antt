@@ -16,12 +16,12 @@ use Rattle.sha2.specs.declared.Sha256.{Sha256}
 use Rattle.outside.specs.Asked.{Asks}
 use Rattle.outside.specs.Count.{RoseBy}
 use Rattle.outside.specs.Tree.{Files, content}
-use Rattle.tree_dup.specs.declared.filling.Missing.{Missing}
-use Rattle.tree_dup.specs.declared.filling.Missing.TheVariants.{Failed, Changed}
+use Rattle.tree_cmp.specs.declared.reading.Missing.{Missing}
+use Rattle.tree_cmp.specs.declared.reading.Missing.TheVariants.{Failed, Changed}
 use Rattle.tree_dup.specs.declared.runs.Standing.{Standing}
 use Rattle.tree_dup.specs.declared.runs.Standing.TheVariants.{Alike, Other, Missed}
 use Rattle.tree_dup.specs.declared.runs.File.{File}
-use Rattle.tree_dup.specs.Private.Reading.{Fills, IsShort, IsFileOf}
+use Rattle.tree_cmp.specs.Filling.{Fills, IsShort, IsFileOf}
 use Rattle.shared_reads.specs.Counts.{KeepsUp}
 use Rattle.tree_dup.specs.Private.Running.{failures_of, StandingShows, standing_alike, is_alike, still, IsThere, Stands, StandsAt}
 use Rattle.tree_dup.specs.Private.Running.{AreDivided, AreSettled}

@@ -1,5 +1,5 @@
 -- Files of equal content. The definition divides by bytes alone: no digest and no piece decides. Our own.
-use Rattle.std.specs.Prelude.{◌≡◌, ℕ, ◌+◌, ◌<◌, ◌≤◌, Bool, true, false, not, ◌&&◌, ◌==◌, List, [], ◌∷◌, ◌++◌, length, map, Option, Ok}
+use Rattle.std.specs.Prelude.{◌≡◌, ℕ, ◌+◌, ◌<◌, ◌≤◌, Bool, true, false, not, ◌&&◌, ◌==◌, List, [], ◌∷◌, ◌++◌, length, map, Option}
 use Rattle.std.specs.Prelude.{IfSome, All, nat_eq, nat_lt}
 use Rattle.std.specs.FinMap.{get}
 use Rattle.std.specs.List.{list_any, count_by}
@@ -7,13 +7,13 @@ use Rattle.std.specs.List.Sorted.{IsStrictlySortedBy}
 use Rattle.std.specs.Cmp.Lexicographic.{pointwise}
 use Rattle.sha2.specs.Sha256.{sha256}
 use Rattle.path_text.specs.Order.{path_cmp}
-use Rattle.outside.specs.Answered.{LastRead}
 use Rattle.outside.specs.Asked.{Asks}
 use Rattle.outside.specs.Tree.{Files, content}
 use Rattle.outside.specs.declared.trees.Kind.TheVariants as kind
-use Rattle.flat_list.specs.declared.entries.Entry.{Entry}
-use Rattle.flat_list.specs.Entries.{is_of, size_by}
+use Rattle.entry_pages.specs.declared.entries.Entry.{Entry}
+use Rattle.entry_pages.specs.Entries.{is_of, size_by}
 use Rattle.tree_cmp.specs.Readers.{ShowsFailure, ShowsChange}
+pub use Rattle.tree_cmp.specs.Readers.{ShowsWhole}
 use Rattle.tree_dup.specs.Told.{Told, Grouping}
 
 -- ---- which files are looked at
@@ -90,15 +90,6 @@ pub record IsGrouping (tree : Option Files) (list : List Entry) (found : Groupin
   pub once : (p : List ℕ) → count_by (is_in p) found.groups ≤ 1
   pub order : IsStrictlySortedBy path_cmp (map first_path found.groups)
   pub told : IfSome tree (IsByBytes list found)
-
--- some read of the file gave its last bytes, so it was read up to this size
-pub record ShowsWhole {S : Type 0} (gives : Asks S) (size : ℕ) (path : List ℕ) : Type 0 where
-  pub at : ℕ
-  pub bytes : ℕ
-  pub some : 0 < bytes
-  pub ends : at + bytes ≡ size
-  pub after : S
-  pub read : LastRead gives path at (Ok bytes) after
 
 -- each file of a group that has bytes was read up to its size, so one whose read ended early is not in it
 abbrev pub AreWhole : {S : Type 0} → Asks S → Told → Type 0

@@ -2,7 +2,6 @@
 pub mod Dealing
 pub mod Hashing
 pub mod Piles
-pub mod Reading
 pub mod Running
 pub mod Sifting
 pub mod Sizes

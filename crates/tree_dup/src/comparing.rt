@@ -3,19 +3,19 @@ ghost use Rattle.std.specs.Prelude.{◌≡◌, ℕ, List, ◌+◌, ◌++◌, ◌
 ghost use Rattle.std.specs.Prelude.{if◌then◌else◌, All, IfOk, IfSome, slice_index_or};
 ghost use Rattle.std.specs.FinMap.{get};
 ghost use Rattle.outside.specs.Tree.{content};
-ghost use Rattle.tree_dup.specs.Private.Reading.{IsFileOf};
+ghost use Rattle.tree_cmp.specs.Filling.{IsFileOf};
 ghost use Rattle.tree_dup.specs.declared.runs.File.{File};
 ghost use Rattle.shared_reads.specs.Desks.{HasRoom};
 ghost use Rattle.shared_reads.specs.Counts.{KeepsUp};
 ghost use Rattle.tree_dup.specs.Private.Running.{Moved, Went, IsThere, Stands, StandsAt, StandingShows};
 ghost use Rattle.tree_dup.specs.Private.Running.{AreDivided, AreSettled, failures_of, is_alike, is_other, still};
 
-use crate::filling::fill;
 use crate::runs::{File, Standing, is_alike};
 use outside::Tree;
 use path_text::Path;
 use sha2::{Digest, Sha256};
 use shared_reads::{Desk, piece};
+use tree_cmp::fill;
 
 // Compares the files of a run with each other, and answers the SHA-256 of the lead.
 pub(crate) fn compare_run<R: Tree>(

@@ -5,7 +5,7 @@ ghost use Rattle.std.specs.List.Sorted.{IsSorted, IsStrictlySortedBy};
 ghost use Rattle.path_text.specs.Order.{path_cmp};
 ghost use Rattle.outside.specs.Count.{RoseBy};
 ghost use Rattle.flat_list.specs.Spelling.{paths};
-ghost use Rattle.flat_list.specs.declared.entries.Entry.{Entry};
+ghost use Rattle.entry_pages.specs.declared.entries.Entry.{Entry};
 ghost use Rattle.shared_reads.specs.Desks.{HasRoom};
 ghost use Rattle.shared_reads.specs.Kept.{Holds, held, faults_of};
 ghost use Rattle.tree_cmp.specs.Readers.{first_told, Alike, StatsTold, NoneFell, RoseTogether};

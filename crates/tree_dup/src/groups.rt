@@ -7,11 +7,11 @@ ghost use Rattle.tree_dup.specs.Shown.{told_of};
 ghost use Rattle.tree_dup.specs.Private.Dealing.{with_missed};
 
 use crate::errors::DupError;
-use crate::filling::Missing;
 use path_text::{Path, compare};
 use std::alloc::Global;
 use std::cmp::Ordering;
 use std::marker::Model;
+use tree_cmp::Missing;
 
 /// Files of one content.
 #[derive(Debug, Drop)]

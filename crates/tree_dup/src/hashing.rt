@@ -5,18 +5,17 @@ ghost use Rattle.std.specs.FinMap.{get};
 ghost use Rattle.std.specs.Hash.FoldHasher.{write};
 ghost use Rattle.outside.specs.Count.{RoseBy};
 ghost use Rattle.outside.specs.Tree.{content};
-ghost use Rattle.flat_list.specs.declared.entries.Entry.{Entry};
+ghost use Rattle.entry_pages.specs.declared.entries.Entry.{Entry};
 ghost use Rattle.shared_reads.specs.Kept.{IsKept, Holds, AreCut, held};
 ghost use Rattle.tree_dup.specs.Grouping.{HaveCauses, ShowsWhole};
-ghost use Rattle.tree_dup.specs.declared.filling.Missing.{Missing};
+ghost use Rattle.tree_cmp.specs.declared.reading.Missing.{Missing};
 ghost use Rattle.tree_dup.specs.Private.Hashing.{IsHash, IsWhole, AreHashes, WasPut, content_hash, hash_faults};
-ghost use Rattle.tree_dup.specs.Private.Reading.{IsFileOf, IsShort, ShowsMissing};
+ghost use Rattle.tree_cmp.specs.Filling.{IsFileOf, IsShort, ShowsMissing};
 ghost use Rattle.shared_reads.specs.Counts.{KeepsUp};
 ghost use Rattle.tree_dup.specs.Private.Running.{still};
 ghost use Rattle.tree_dup.specs.Private.Sifting.{AreListed, AreHashed};
 
 use crate::errors::DupError;
-use crate::filling::{Missing, fill};
 use crate::groups::Groups;
 use crate::runs::File;
 use outside::Tree;
@@ -24,6 +23,7 @@ use path_text::{OutOfMemory, Path};
 use shared_reads::{Desk, Job, Kept, PIECE, piece};
 use std::alloc::Global;
 use std::hash::{FoldHasher, Hasher};
+use tree_cmp::{Missing, fill};
 
 // The hash of a candidate's bytes, or why they were not read.
 pub(crate) type Hash = Result<u64, Missing>;

@@ -28,7 +28,7 @@
 //! # Parts
 //!
 //! `sizes` counts how many files have each size, and `candidates` lists the files that share theirs. `hashing` reads them for their
-//! hashes; `filling` fills a buffer. `runs` has a file with its hash and its standing in a run, and the order by content.
+//! hashes. `runs` has a file with its hash and its standing in a run, and the order by content.
 //! `comparing` compares the files of a run, and `sharing` lets workers do so. `dealing` deals the files out by their standings.
 //! `grouping` does all that, run by run, and `groups` has the findings. `lending` takes readers from the files for all that, and
 //! gives them back.
@@ -56,7 +56,6 @@ mod candidates;
 mod comparing;
 mod dealing;
 mod errors;
-mod filling;
 mod grouping;
 mod groups;
 mod hashing;

@@ -2,9 +2,9 @@
 ghost use Rattle.std.specs.Prelude.{◌≡◌};
 ghost use Rattle.tree_dup.specs.Private.Running.{content_cmp, is_alike, same_content};
 
-use crate::filling::Missing;
 use path_text::Path;
 use std::cmp::Ordering;
+use tree_cmp::Missing;
 
 // How a file stands to the others of its run: files of one size and one hash.
 #[derive(Clone, Copy, Debug, Drop, PartialEq, Eq)]

@@ -1,6 +1,6 @@
 //! The sizes that files share.
 ghost use Rattle.std.specs.Prelude.{◌≡◌, ℕ, List, ◌+◌, if◌then◌else◌, min, IfOk, OnOk};
-ghost use Rattle.flat_list.specs.declared.entries.Entry.{Entry};
+ghost use Rattle.entry_pages.specs.declared.entries.Entry.{Entry};
 ghost use Rattle.tree_dup.specs.Grouping.{is_sized};
 ghost use Rattle.tree_dup.specs.Private.Sizes.{AreCounts, counted, file_size, candidate_size};
 

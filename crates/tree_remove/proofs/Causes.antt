@@ -8,7 +8,7 @@ use Rattle.std.specs.Prelude.{Result, Ok, Err}
 use Rattle.path_text.specs.declared.errors.OutOfMemory.{OutOfMemory}
 use Rattle.outside.specs.Asked.{Writes}
 use Rattle.outside.specs.declared.plots.WriteError.{WriteError}
-use Rattle.flat_list.specs.declared.entries.Entry.{Entry}
+use Rattle.entry_pages.specs.declared.entries.Entry.{Entry}
 use Rattle.level_work.specs.Levels.{ParentsFail}
 use Rattle.level_work.specs.declared.items.Item.{Item}
 use Rattle.level_work.specs.declared.items.Fate.{Fate}

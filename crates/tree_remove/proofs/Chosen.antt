@@ -17,8 +17,8 @@ use Rattle.outside.specs.Tree.{Files, Node, Body, dir, file, link, other, IsTree
 use Rattle.outside.specs.declared.trees.Kind.{Kind}
 use Rattle.outside.specs.declared.trees.Kind.TheVariants as kind
 use Rattle.outside.specs.declared.trees.Stat.{Stat}
-use Rattle.flat_list.specs.declared.entries.Entry.{Entry}
-use Rattle.flat_list.specs.Entries.{is_of, is_kind}
+use Rattle.entry_pages.specs.declared.entries.Entry.{Entry}
+use Rattle.entry_pages.specs.Entries.{is_of, is_kind}
 use Rattle.flat_list.specs.Spelling.{paths}
 use Rattle.level_work.specs.Levels.{AreItems, StandIn}
 use Rattle.level_work.specs.declared.items.Item.{Item}

@@ -16,8 +16,8 @@ use Rattle.outside.specs.Writes.{Answers, SameBut, may_empty, remove_dir_refusal
 use Rattle.outside.specs.declared.plots.WriteError.{WriteError}
 use Rattle.outside.specs.declared.plots.WriteError.TheVariants as write
 use Rattle.outside.specs.declared.trees.Kind.TheVariants as kind
-use Rattle.flat_list.specs.declared.entries.Entry.{Entry}
-use Rattle.flat_list.specs.Entries.{is_of}
+use Rattle.entry_pages.specs.declared.entries.Entry.{Entry}
+use Rattle.entry_pages.specs.Entries.{is_of}
 use Rattle.level_work.specs.Acts.{IsDone, at_and_under}
 use Rattle.level_work.specs.declared.items.Fate.{Fate}
 use Rattle.level_work.specs.declared.items.Fate.TheVariants as fate

@@ -9,7 +9,7 @@ use Rattle.outside.specs.Tree.{Files, Node, Body, dir, file, link, other, is_dir
 use Rattle.outside.specs.Writes.{remove_dir_refusal, remove_file_refusal}
 use Rattle.outside.specs.declared.plots.WriteError.TheVariants as write
 use Rattle.outside.specs.declared.trees.Kind.TheVariants as kind
-use Rattle.flat_list.specs.Entries.{is_of}
+use Rattle.entry_pages.specs.Entries.{is_of}
 use Rattle.level_work.specs.Acts.{at_and_under}
 use Rattle.level_work.specs.Levels.{found, left}
 use Rattle.level_work.specs.declared.items.Item.{Item}

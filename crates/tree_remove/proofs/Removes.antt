@@ -15,7 +15,7 @@ use Rattle.outside.specs.Count.{RoseBy}
 use Rattle.outside.specs.Parts.{IsTreeIn, UnderDirectories}
 use Rattle.outside.specs.Tree.{Files, IsTree}
 use Rattle.outside.specs.Writes.{nothing_lent}
-use Rattle.flat_list.specs.declared.entries.Entry.{Entry}
+use Rattle.entry_pages.specs.declared.entries.Entry.{Entry}
 use Rattle.flat_list.specs.Spelling.{paths}
 use Rattle.level_work.specs.Counts.{BlamedAll, NoneAtEnd}
 use Rattle.level_work.specs.Levels.{Acted, AreItems, ParentsFail, SameButItems, StandIn, is_item}

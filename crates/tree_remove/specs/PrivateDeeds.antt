@@ -6,8 +6,8 @@ use Rattle.outside.specs.declared.plots.WriteError.TheVariants as write
 use Rattle.outside.specs.declared.trees.Kind.TheVariants as kind
 use Rattle.outside.specs.Tree.{Files}
 use Rattle.outside.specs.Writes.{remove_dir_refusal, remove_file_refusal}
-use Rattle.flat_list.specs.declared.entries.Entry.{Entry}
-use Rattle.flat_list.specs.Entries.{is_of}
+use Rattle.entry_pages.specs.declared.entries.Entry.{Entry}
+use Rattle.entry_pages.specs.Entries.{is_of}
 use Rattle.level_work.specs.Acts.{Deed}
 use Rattle.level_work.specs.declared.items.Item.{Item}
 use Rattle.level_work.specs.declared.items.Fate.{Fate}

@@ -1,5 +1,5 @@
 //! Entries as items of work on levels.
-ghost use Rattle.std.specs.Prelude.{◌≡◌, None, All, IfOk, OnOk};
+ghost use Rattle.std.specs.Prelude.{◌≡◌, None, All, IfOk};
 ghost use Rattle.path_text.specs.Path.{refusal};
 ghost use Rattle.tree_remove.specs.PrivateDeeds.{item_of, items_of};
 
@@ -13,24 +13,13 @@ pub(crate) fn items_of(alloc: Global, list: &FlatList) -> Result<Vec<Item>, OutO
     ensures items { IfOk result (λ items. items.items ≡ items_of list.now) }
     ensures valid { IfOk result (λ items. All (λ e. refusal e.path ≡ None) list.now) }
 {
-    see_paths(list)?;
+    list.paths_are_valid();
     let mut items = Vec::with_capacity(alloc, list.len())?;
     let mut cursor = list.cursor()?;
     while cursor.advance()? {
         items.push(item_of(cursor.entry())?)?;
     }
     Ok(items)
-}
-
-// Each path of the list is a path.
-fn see_paths(list: &FlatList) -> Result<(), OutOfMemory>
-    ensures { OnOk result (All (λ e. refusal e.path ≡ None) list.now) }
-{
-    let mut cursor = list.cursor()?;
-    while cursor.advance()? {
-        let _ = cursor.entry().path.text();
-    }
-    Ok(())
 }
 
 // The item of an entry, with a copy of it.

@@ -3,7 +3,7 @@ ghost use Rattle.std.specs.Prelude.{◌≡◌, ◌≢◌, ◌⊎◌, false, IsTr
 ghost use Rattle.std.specs.FinMap as map;
 ghost use Rattle.outside.specs.Count.{RoseBy};
 ghost use Rattle.outside.specs.Writes.{is_open, Answers, may_empty};
-ghost use Rattle.flat_list.specs.Entries.{is_of};
+ghost use Rattle.entry_pages.specs.Entries.{is_of};
 ghost use Rattle.tree_remove.specs.PrivateDeeds.{removal_refusal, told_fate};
 ghost use Rattle.tree_remove.specs.Removing.{fate_told, removal_of};
 
@@ -71,7 +71,8 @@ fn removed<P: Plot>(
     entry: &Entry,
 ) -> Result<(), WriteError>
     requires { IsTrue (is_open (P.area part.old) path.now) }
-    ensures told { IfSome (P.tree part.old) (λ files. Answers path.now (removal_refusal entry.now files path.now) files (map.remove files path.now) result (P.tree part.new)) }
+    ensures told { IfSome (P.tree part.old) (λ files. Answers path.now (removal_refusal entry.now files path.now) files
+        (map.remove files path.now) result (P.tree part.new)) }
     ensures tells { is_some (P.tree part.new) ≡ is_some (P.tree part.old) }
     ensures area { P.area part.new ≡ P.area part.old }
     ensures count { RoseBy 0 (P.count part.old) (P.count part.new) }

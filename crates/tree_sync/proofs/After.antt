@@ -16,8 +16,8 @@ use Rattle.path_text.proofs.Parts.{below_made}
 use Rattle.outside.specs.Tree.{Files, Node, Body, dir, file, link, other, IsTree, NodesHavePaths, bytes_of, content, kind_of, link_at, size_of}
 use Rattle.outside.specs.declared.trees.Kind.TheVariants as kind
 use Rattle.outside.specs.declared.trees.Stat.{Stat}
-use Rattle.flat_list.specs.declared.entries.Entry.{Entry}
-use Rattle.flat_list.specs.Entries.{is_kind}
+use Rattle.entry_pages.specs.declared.entries.Entry.{Entry}
+use Rattle.entry_pages.specs.Entries.{is_kind}
 use Rattle.tree_cmp.specs.declared.rows.Two.{Two}
 use Rattle.tree_cmp.specs.declared.rows.Two.TheVariants as two
 use Rattle.tree_cmp.specs.declared.rows.Row.{Row}

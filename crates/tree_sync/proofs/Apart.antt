@@ -20,7 +20,7 @@ use Rattle.path_text.proofs.Parts.{below_made}
 use Rattle.path_text.proofs.Within.{same_or_under, tops_are_nested, under_longer, under_no_root, within_longer, within_root}
 use Rattle.outside.specs.Tree.{Files, Node, IsTree, NodesHavePaths, is_root, kind_of, stat_of}
 use Rattle.outside.specs.declared.trees.Stat.{Stat}
-use Rattle.flat_list.specs.declared.entries.Entry.{Entry}
+use Rattle.entry_pages.specs.declared.entries.Entry.{Entry}
 use Rattle.flat_list.specs.Spelling.{paths}
 use Rattle.tree_cmp.specs.declared.rows.Exist.{Exist}
 use Rattle.tree_cmp.specs.declared.rows.Exist.TheVariants as exist

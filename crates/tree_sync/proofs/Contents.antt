@@ -10,8 +10,8 @@ use Rattle.outside.specs.Tree.{Files, content}
 use Rattle.outside.specs.declared.trees.Kind.{Kind}
 use Rattle.outside.specs.declared.trees.Kind.TheVariants as kind
 use Rattle.outside.specs.declared.trees.Stat.{Stat}
-use Rattle.flat_list.specs.declared.entries.Entry.{Entry}
-use Rattle.flat_list.specs.Entries.{is_kind}
+use Rattle.entry_pages.specs.declared.entries.Entry.{Entry}
+use Rattle.entry_pages.specs.Entries.{is_kind}
 use Rattle.tree_cmp.specs.declared.rows.Two.{Two}
 use Rattle.tree_cmp.specs.declared.rows.Two.TheVariants as two
 use Rattle.tree_cmp.specs.Rows.{IsContent, are_files, are_links, is_read, same_bytes, sizes, texts, two_of}

@@ -11,7 +11,7 @@ use Rattle.std.proofs.lemmas.List.Elements.{filter-append}
 use Rattle.path_text.specs.Graft.{below_of, BelowKeepsOrder}
 use Rattle.path_text.specs.Order.{path_cmp, is_within, UnderIsContiguous}
 use Rattle.path_text.specs.Path.{refusal}
-use Rattle.flat_list.specs.declared.entries.Entry.{Entry}
+use Rattle.entry_pages.specs.declared.entries.Entry.{Entry}
 use Rattle.flat_list.specs.Spelling.{paths}
 use Rattle.tree_sync.specs.PrivateSearch.{IsPassed, IsCleared, IsNext}
 use Rattle.tree_sync.proofs.Passed.{at_place, passed_later, cleared_later}

@@ -18,8 +18,8 @@ use Rattle.path_text.proofs.Within.{itself}
 use Rattle.outside.specs.Tree.{Files, Node, NodesHavePaths, bytes_of, content, kind_of, link_at, stat_of, text_of}
 use Rattle.outside.specs.declared.trees.Kind.TheVariants as kind
 use Rattle.outside.specs.declared.trees.Stat.{Stat}
-use Rattle.flat_list.specs.declared.entries.Entry.{Entry}
-use Rattle.flat_list.specs.Entries.{is_of, is_kind, is_fine}
+use Rattle.entry_pages.specs.declared.entries.Entry.{Entry}
+use Rattle.entry_pages.specs.Entries.{is_of, is_kind, is_fine}
 use Rattle.flat_list.specs.Spelling.{paths}
 use Rattle.level_work.specs.declared.items.Fate.{Fate}
 use Rattle.level_work.specs.declared.items.Fate.TheVariants as fate

@@ -18,8 +18,8 @@ use Rattle.path_text.proofs.Within.{itself, under_within}
 use Rattle.outside.specs.Tree.{Files, Node, Body, dir, file, link, other, IsTree, NodesHavePaths, is_dir, is_dir_body, kind_of, link_at, stat_of}
 use Rattle.outside.specs.declared.trees.Kind.TheVariants as kind
 use Rattle.outside.specs.declared.trees.Stat.{Stat}
-use Rattle.flat_list.specs.declared.entries.Entry.{Entry}
-use Rattle.flat_list.specs.Entries.{is_of}
+use Rattle.entry_pages.specs.declared.entries.Entry.{Entry}
+use Rattle.entry_pages.specs.Entries.{is_of}
 use Rattle.tree_cmp.specs.declared.rows.Row.{Row}
 use Rattle.tree_cmp.specs.Rows.{Findings}
 use Rattle.tree_cmp.specs.Sides.{Side, side}

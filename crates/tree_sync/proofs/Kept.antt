@@ -8,7 +8,7 @@ use Rattle.std.proofs.lemmas.List.{map-append}
 use Rattle.std.proofs.lemmas.List.Elements.{filter-append, recursion_from_All}
 use Rattle.path_text.specs.Graft.{below_of, BelowKeepsOrder}
 use Rattle.path_text.specs.Order.{path_cmp, is_within}
-use Rattle.flat_list.specs.declared.entries.Entry.{Entry}
+use Rattle.entry_pages.specs.declared.entries.Entry.{Entry}
 use Rattle.flat_list.specs.Spelling.{paths}
 use Rattle.tree_cmp.specs.Sides.{Side, side, IsSide}
 use Rattle.tree_cmp.specs.declared.rows.Row.{Row}

@@ -1,7 +1,7 @@
 -- A comparison and the choice by it are a plan.
 use Rattle.std.proofs.Common.{◌≡◌, Bool, true, false, cond, ◌&&◌, List, [], map, length, filter, Option, refl, ap, ◌∙◌}
 use Rattle.outside.specs.Tree.{Files}
-use Rattle.flat_list.specs.declared.entries.Entry.{Entry}
+use Rattle.entry_pages.specs.declared.entries.Entry.{Entry}
 use Rattle.tree_cmp.specs.Rows.{Findings, IsComparison}
 use Rattle.tree_cmp.specs.Sides.{side}
 use Rattle.tree_copy.specs.declared.pairs.Pair.{Pair}

@@ -14,7 +14,7 @@ use Rattle.path_text.specs.Path.{refusal}
 use Rattle.path_text.proofs.Parts.{graft_undoes_below}
 use Rattle.outside.specs.Tree.{Files, Node, IsTree, NodesHavePaths, link_at, stat_of}
 use Rattle.outside.specs.declared.trees.Stat.{Stat}
-use Rattle.flat_list.specs.declared.entries.Entry.{Entry}
+use Rattle.entry_pages.specs.declared.entries.Entry.{Entry}
 use Rattle.tree_cmp.specs.Rows.{stat_at}
 use Rattle.tree_cmp.specs.Sides.{Side, side, IsSide, entry_at, is_gone}
 use Rattle.tree_sync.specs.Syncing.{AreTold}

@@ -3,7 +3,7 @@ use Rattle.std.specs.Prelude.{◌≡◌, ℕ, ◌<◌, ◌≤◌, false, List, l
 use Rattle.std.specs.declared.cmp.Ordering.TheVariants.{Less}
 use Rattle.path_text.specs.Path.{refusal}
 use Rattle.path_text.specs.Order.{path_cmp, is_within}
-use Rattle.flat_list.specs.declared.entries.Entry.{Entry}
+use Rattle.entry_pages.specs.declared.entries.Entry.{Entry}
 
 -- the paths before this place all come before the one that is searched
 pub record IsPassed (paths : List (List ℕ)) (at : ℕ) (sought : List ℕ) : Type 0 where

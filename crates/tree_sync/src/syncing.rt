@@ -39,7 +39,9 @@ where
     requires can { CanSync pair.now source.now dest.now }
     requires fits { IfSome (G.tree ground.old) (FitsSync pair.now source.now dest.now) }
     ensures synced { IfOk result (λ report. Synced pair.now source.now dest.now delete report (G.tree ground.old) (G.tree ground.new)) }
-    ensures blamed { IfOk result (λ report. RoseBy (length report.failed + count_by (λ row. is_failed row.1) report.removals + count_by (λ row. is_failed row.1) report.copies) (G.count ground.old) (G.count ground.new)) }
+    ensures blamed { IfOk result (λ report. RoseBy (length report.failed + count_by
+        (λ row. is_failed row.1) report.removals + count_by (λ row. is_failed row.1) report.copies) (G.count ground.old)
+        (G.count ground.new)) }
     ensures causes { IfOk result (λ report. ReadsShow G.Reader.gives report.failed report.changed) }
     ensures rest { IfSome (G.tree ground.old) (λ before. IfSome (G.tree ground.new) (SameOutside pair.now.target before)) }
     ensures tells { is_some (G.tree ground.new) ≡ is_some (G.tree ground.old) }

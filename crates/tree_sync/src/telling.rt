@@ -1,6 +1,6 @@
 //! The reading of a row of the comparison, and of an entry alone.
 ghost use Rattle.std.specs.Prelude.{◌≡◌, ◌<◌, true, length, Some};
-ghost use Rattle.flat_list.specs.Entries.{is_of};
+ghost use Rattle.entry_pages.specs.Entries.{is_of};
 ghost use Rattle.tree_sync.specs.PrivateSteps.{row_if};
 ghost use Rattle.tree_sync.specs.Syncing.{agrees, has_other, is_foreign};
 

@@ -17,8 +17,8 @@ use Rattle.outside.specs.declared.trees.LinkError.TheVariants as link_e
 use Rattle.outside.specs.declared.trees.ListError.{ListError}
 use Rattle.outside.specs.declared.trees.ListError.TheVariants as list_e
 use Rattle.outside.specs.declared.trees.Stat.{Stat}
-use Rattle.flat_list.specs.declared.entries.Entry.{Entry}
-use Rattle.flat_list.specs.Entries.{is_kind}
+use Rattle.entry_pages.specs.declared.entries.Entry.{Entry}
+use Rattle.entry_pages.specs.Entries.{is_kind}
 use Rattle.tree_walk.specs.Held.{is_listed}
 use Rattle.tree_walk.specs.Looking.{by_stat, by_link, by_list, is_linked}
 use Rattle.tree_walk.specs.Answered.{IsAnswered}

@@ -24,7 +24,7 @@ use Rattle.outside.proofs.Children.{child_is}
 use Rattle.outside.proofs.Parents.{child_of_parent}
 use Rattle.outside.proofs.Leased.{get_part}
 use Rattle.outside.proofs.PartTrees.{leases_keep_trees}
-use Rattle.flat_list.specs.declared.entries.Entry.{Entry}
+use Rattle.entry_pages.specs.declared.entries.Entry.{Entry}
 use Rattle.tree_walk.specs.Walk.{Answer, told, stat_failed, list_failed, Answers, is_told, entry_of, children_of, walk, paths_of, WalkListsAll}
 use Rattle.tree_walk.proofs.Recursive.{walk_is, children_are, children_short}
 use Rattle.tree_walk.proofs.Lawful.{path_is}

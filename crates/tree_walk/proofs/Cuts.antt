@@ -12,7 +12,7 @@ use Rattle.std.proofs.lemmas.List.Sums.{sum_by-cons}
 use Rattle.std.proofs.lemmas.List.Sorted.{sum_by-IsPermutation, length_permutation}
 use Rattle.std.proofs.lemmas.List.Elements.{All-from_recursion, recursion_from_All}
 use Rattle.outside.specs.Tree.{Files, IsTree}
-use Rattle.flat_list.specs.declared.entries.Entry.{Entry}
+use Rattle.entry_pages.specs.declared.entries.Entry.{Entry}
 use Rattle.circle_run.specs.Balance.{handled, pushed, Balanced}
 use Rattle.circle_run.specs.Left.{all_left}
 use Rattle.tree_walk.specs.declared.reports.Walked.{Walked}

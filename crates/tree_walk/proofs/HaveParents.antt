@@ -14,8 +14,8 @@ use Rattle.path_text.proofs.Preorder.{no_slash}
 use Rattle.outside.specs.Tree.{Files, Node, Body, dir, file, link, other, IsTree, is_dir, is_dir_body, kind_of, names_in}
 use Rattle.outside.proofs.Names.{placed_path, children_are_names}
 use Rattle.outside.specs.declared.trees.Kind.TheVariants as kind
-use Rattle.flat_list.specs.declared.entries.Entry.{Entry}
-use Rattle.flat_list.specs.Entries.{is_kind, is_of}
+use Rattle.entry_pages.specs.declared.entries.Entry.{Entry}
+use Rattle.entry_pages.specs.Entries.{is_kind, is_of}
 use Rattle.tree_walk.specs.Walk.{Answer, told, stat_failed, list_failed, Answers, entry_of, children_of, walk_down, walk}
 use Rattle.tree_walk.specs.Told.{has_dir, EntriesHaveParents}
 use Rattle.tree_walk.proofs.Lists.{weaker}

@@ -7,11 +7,11 @@ use Rattle.std.proofs.lemmas.List.Sums.{sum_by_push, sum_by-cons}
 use Rattle.path_text.specs.Path.{joined}
 use Rattle.outside.specs.Tree.{Files, AreNames}
 use Rattle.outside.specs.declared.listings.Listing.{Listing}
-use Rattle.flat_list.specs.declared.entries.Entry.{Entry}
+use Rattle.entry_pages.specs.declared.entries.Entry.{Entry}
 use Rattle.tree_walk.specs.Held.{Held, IsDone, IsPush, Holds, held_of, is_listed, first_names, log_of, entries_of}
 use Rattle.tree_walk.specs.Walk.{weight_of}
 use Rattle.tree_walk.specs.Looking.{IsLook}
-use Rattle.flat_list.specs.Entries.{is_shaped}
+use Rattle.entry_pages.specs.Entries.{is_shaped}
 use Rattle.tree_walk.proofs.Lists.{all_append}
 
 abbrev listed : Entry → ℕ

@@ -20,8 +20,8 @@ use Rattle.outside.specs.Tree.{Files, Node, IsTree, is_dir_body, name_below, nam
 use Rattle.outside.proofs.Names.{placed_path}
 use Rattle.path_text.proofs.Parts as parts
 use Rattle.outside.proofs.Children.{child_is}
-use Rattle.flat_list.specs.declared.entries.Entry.{Entry}
-use Rattle.flat_list.specs.declared.entries.Mark.TheVariants as mark
+use Rattle.entry_pages.specs.declared.entries.Entry.{Entry}
+use Rattle.entry_pages.specs.declared.entries.Mark.TheVariants as mark
 use Rattle.tree_walk.proofs.Lined.{Lined}
 use Rattle.tree_walk.specs.Walk.{Answer, told, stat_failed, list_failed, Answers, all_told, entry_of, children_of, walk_down, walk, paths_of, weight}
 use Rattle.tree_walk.specs.Walk.{weight_of, answer_in, answers_in, WalkIsRecursive, WalkAscends, WalkHasEachPathOnce, WalkFindsAll, WalkWithoutFaultsIsFine}

@@ -18,10 +18,10 @@ use Rattle.outside.specs.declared.trees.LinkError.TheVariants as link_e
 use Rattle.outside.specs.declared.trees.Kind.{Kind}
 use Rattle.outside.specs.declared.trees.Kind.TheVariants as kind
 use Rattle.outside.specs.declared.trees.Stat.{Stat}
-use Rattle.flat_list.specs.declared.entries.Entry.{Entry}
-use Rattle.flat_list.specs.declared.entries.Mark.{Mark}
-use Rattle.flat_list.specs.declared.entries.Mark.TheVariants as mark
-use Rattle.flat_list.specs.Entries.{is_kind}
+use Rattle.entry_pages.specs.declared.entries.Entry.{Entry}
+use Rattle.entry_pages.specs.declared.entries.Mark.{Mark}
+use Rattle.entry_pages.specs.declared.entries.Mark.TheVariants as mark
+use Rattle.entry_pages.specs.Entries.{is_kind}
 use Rattle.tree_walk.specs.Walk.{bare, told, list_failed, entry_of}
 use Rattle.tree_walk.specs.Held.{IsDone, is_listed}
 use Rattle.tree_walk.specs.Looking.{by_stat, by_link, by_list, is_linked, IsLook}

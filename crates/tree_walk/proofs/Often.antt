@@ -4,7 +4,7 @@ use Rattle.std.specs.List.{AllByRecursion, sum_by, flat_map}
 use Rattle.std.specs.FinMap.{get}
 use Rattle.std.proofs.lemmas.List.Sums.{sum_by-cons, sum_by-append}
 use Rattle.outside.specs.Tree.{Files}
-use Rattle.flat_list.specs.declared.entries.Entry.{Entry}
+use Rattle.entry_pages.specs.declared.entries.Entry.{Entry}
 use Rattle.circle_run.specs.Balance.{handled, pushed, Balanced}
 use Rattle.tree_walk.specs.Walk.{Answers, answer_in, entry_of, children_of, walk}
 use Rattle.tree_walk.specs.Held.{Held, IsDone, log_of}

@@ -17,7 +17,7 @@ use Rattle.path_text.specs.Order.{path_cmp}
 use Rattle.path_text.specs.Total.{path_cmp_total, path_cmp_same}
 use Rattle.path_text.specs.Path.{is_name}
 use Rattle.path_text.proofs.Preorder.{some_bytes}
-use Rattle.flat_list.specs.declared.entries.Entry.{Entry}
+use Rattle.entry_pages.specs.declared.entries.Entry.{Entry}
 use Rattle.circle_run.specs.Balance.{handled, pushed, Balanced}
 use Rattle.tree_walk.specs.Held.{Held, IsPush, log_of, entries_of}
 use Rattle.tree_walk.specs.Roots.{is_in_some, Apart}

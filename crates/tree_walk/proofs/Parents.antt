@@ -13,9 +13,9 @@ use Rattle.path_text.proofs.Preorder.{front-joined, some_bytes, no_slash}
 use Rattle.outside.specs.Tree.{Files, Node, Body, dir, file, link, other, IsTree, is_dir, is_dir_body, is_root, names_in}
 use Rattle.outside.proofs.Names.{placed_path, children_are_names}
 use Rattle.outside.specs.declared.trees.Kind.TheVariants as kind
-use Rattle.flat_list.specs.declared.entries.Entry.{Entry}
-use Rattle.flat_list.specs.declared.entries.Mark.TheVariants as mark
-use Rattle.flat_list.specs.Entries.{is_of}
+use Rattle.entry_pages.specs.declared.entries.Entry.{Entry}
+use Rattle.entry_pages.specs.declared.entries.Mark.TheVariants as mark
+use Rattle.entry_pages.specs.Entries.{is_of}
 use Rattle.tree_walk.specs.Walk.{told, stat_failed, list_failed, Answers, entry_of, entry_of_node, children_of, walk}
 use Rattle.tree_walk.specs.Roots.{is_in}
 use Rattle.tree_walk.specs.Told.{IsTold, ParentsAreListed}

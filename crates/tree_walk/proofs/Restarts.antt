@@ -11,9 +11,9 @@ use Rattle.path_text.specs.Order.{path_cmp}
 use Rattle.outside.specs.Tree.{Files, IsTree, AreNames, names_in}
 use Rattle.outside.proofs.Names.{children_are_names}
 use Rattle.path_text.proofs.Parts as parts
-use Rattle.flat_list.specs.declared.entries.Entry.{Entry}
+use Rattle.entry_pages.specs.declared.entries.Entry.{Entry}
 use Rattle.circle_run.specs.Balance.{Balanced}
-use Rattle.flat_list.specs.declared.entries.Mark.TheVariants as mark
+use Rattle.entry_pages.specs.declared.entries.Mark.TheVariants as mark
 use Rattle.tree_walk.specs.Walk.{Answer, Answers, bare, answer_in, answers_in, entry_of, children_of, walk_down, walk, paths_of}
 use Rattle.tree_walk.specs.Held.{Held, IsDone, IsPush, log_of}
 use Rattle.tree_walk.specs.Roots.{Apart}
@@ -79,14 +79,14 @@ left_is_apart files starts left done t apart c =
 -- ---- no done path is too long
 
 -- by how much a path is too long
-abbrev over : List ℕ → ℕ
+abbrev pub over : List ℕ → ℕ
 over path = length path - 4095
 
-none_over : (ps : List (List ℕ)) → AllByRecursion (λ p. length p ≤ 4095) ps → sum_by over ps ≡ 0
+pub none_over : (ps : List (List ℕ)) → AllByRecursion (λ p. length p ≤ 4095) ps → sum_by over ps ≡ 0
 none_over [] h = refl
 none_over (p ∷ ps) h = omega (arith, sum_by-cons over p ps, h.0, none_over ps h.1)
 
-kids_over : (files : Files) (es : List Entry) → IsTree files → sum_by (λ e. sum_by over (kids files e)) es ≡ 0
+pub kids_over : (files : Files) (es : List Entry) → IsTree files → sum_by (λ e. sum_by over (kids files e)) es ≡ 0
 kids_over files [] t = refl
 kids_over files (e ∷ es) t =
     omega (

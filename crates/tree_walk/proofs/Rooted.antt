@@ -26,7 +26,7 @@ still : (a b c : ℕ) (p q : Bool) (r : Ordering) → (nat_lt (byte_rank a) (byt
     (nat_lt (byte_rank a) (byte_rank c) || (a == c && q)) ≡ true
 still a b c p q r e l h = grind (arith, nat_tests)
 
-before_later : (f y z : List ℕ) → before_all f y ≡ true → path_cmp y z ≡ Less → before_all f z ≡ true
+pub before_later : (f y z : List ℕ) → before_all f y ≡ true → path_cmp y z ≡ Less → before_all f z ≡ true
 before_later [] y z e l = absurd (false≢true e)
 before_later (a ∷ f) [] z e l = absurd (false≢true e)
 before_later (a ∷ f) (b ∷ y) [] e l = cc

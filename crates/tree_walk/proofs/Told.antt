@@ -4,7 +4,7 @@ use Rattle.std.specs.List.{All, AllByRecursion, flat_map}
 use Rattle.std.specs.FinMap.{get}
 use Rattle.std.proofs.lemmas.List.Elements.{All-from_recursion}
 use Rattle.outside.specs.Tree.{Files, Node, Body, dir, file, link, other}
-use Rattle.flat_list.specs.declared.entries.Entry.{Entry}
+use Rattle.entry_pages.specs.declared.entries.Entry.{Entry}
 use Rattle.tree_walk.specs.Walk.{Answer, told, stat_failed, list_failed, Answers, entry_of, entry_of_node, walk}
 use Rattle.tree_walk.specs.Told.{stat_by, StandsBy, far_by, target_by, IsTold, EntriesAreTold}
 use Rattle.tree_walk.proofs.Lawful.{IsOwn, walk_own, walks_own}

@@ -9,7 +9,7 @@ use Rattle.std.proofs.lemmas.List.Elements.{All-from_recursion}
 use Rattle.std.proofs.lemmas.List.{length-map}
 use Rattle.outside.specs.Tree.{Files}
 use Rattle.ring_core.specs.declared.events.Event.{Event}
-use Rattle.flat_list.specs.declared.entries.Entry.{Entry}
+use Rattle.entry_pages.specs.declared.entries.Entry.{Entry}
 use Rattle.circle_run.specs.Balance.{Log}
 use Rattle.circle_run.specs.Traced.{IsTraced, WasRun, IsProgress}
 use Rattle.circle_run.specs.declared.outcomes.Share.{Share}

@@ -9,8 +9,8 @@ use Rattle.path_text.specs.Path.{refusal}
 use Rattle.path_text.specs.Order.{path_cmp}
 use Rattle.outside.specs.Tree.{Files, IsTree}
 use Rattle.outside.specs.Count.{RoseBy}
-use Rattle.flat_list.specs.declared.entries.Entry.{Entry}
-use Rattle.flat_list.specs.Entries.{is_shaped}
+use Rattle.entry_pages.specs.declared.entries.Entry.{Entry}
+use Rattle.entry_pages.specs.Entries.{is_shaped}
 use Rattle.circle_run.specs.Balance.{Log, Balanced}
 use Rattle.tree_walk.specs.declared.reports.Cut.{Cut}
 use Rattle.tree_walk.specs.declared.reports.Walked.{Walked}

@@ -5,8 +5,8 @@ use Rattle.std.specs.List.Sorted.{IsStrictlySortedBy, IsPermutation}
 use Rattle.path_text.specs.Order.{path_cmp}
 use Rattle.outside.specs.Tree.{Files, IsTree}
 use Rattle.outside.specs.Count.{RoseBy}
-use Rattle.flat_list.specs.declared.entries.Entry.{Entry}
-use Rattle.flat_list.specs.Entries.{is_shaped}
+use Rattle.entry_pages.specs.declared.entries.Entry.{Entry}
+use Rattle.entry_pages.specs.Entries.{is_shaped}
 use Rattle.tree_walk.specs.declared.errors.WalkError.{WalkError}
 use Rattle.tree_walk.specs.declared.errors.WalkError.TheVariants as error
 use Rattle.tree_walk.specs.Walk.{answers_in, walk, weight_of, paths_of}

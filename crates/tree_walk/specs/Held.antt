@@ -8,8 +8,8 @@ use Rattle.outside.specs.Tree.{Files, IsTree, AreNames}
 use Rattle.outside.specs.Count.{RoseBy}
 use Rattle.outside.specs.declared.listings.Listing.{Listing}
 use Rattle.outside.specs.declared.trees.Kind.TheVariants as kind
-use Rattle.flat_list.specs.declared.entries.Entry.{Entry}
-use Rattle.flat_list.specs.Entries.{is_of, is_fine, is_shaped}
+use Rattle.entry_pages.specs.declared.entries.Entry.{Entry}
+use Rattle.entry_pages.specs.Entries.{is_of, is_fine, is_shaped}
 use Rattle.circle_run.specs.Balance.{Log}
 use Rattle.tree_walk.specs.Walk.{answer_in, entry_of, children_of, weight_of}
 

@@ -13,9 +13,9 @@ use Rattle.outside.specs.declared.trees.ListError.TheVariants as list
 use Rattle.outside.specs.declared.trees.LinkError.{LinkError}
 use Rattle.outside.specs.declared.trees.LinkError.TheVariants as link
 use Rattle.outside.specs.declared.trees.Stat.{Stat}
-use Rattle.flat_list.specs.declared.entries.Entry.{Entry}
-use Rattle.flat_list.specs.declared.entries.Mark.TheVariants as mark
-use Rattle.flat_list.specs.Entries.{has_target, is_shaped}
+use Rattle.entry_pages.specs.declared.entries.Entry.{Entry}
+use Rattle.entry_pages.specs.declared.entries.Mark.TheVariants as mark
+use Rattle.entry_pages.specs.Entries.{has_target, is_shaped}
 use Rattle.tree_walk.specs.Walk.{bare, weight_of}
 use Rattle.tree_walk.specs.Held.{IsDone, is_listed}
 

@@ -9,10 +9,10 @@ use Rattle.path_text.specs.Path.{refusal, parent_of}
 use Rattle.outside.specs.Tree.{Files, Node, IsTree, is_dir, is_root, far_at, link_at, stat_of}
 use Rattle.outside.specs.declared.trees.Kind.TheVariants as kind
 use Rattle.outside.specs.declared.trees.Stat.{Stat}
-use Rattle.flat_list.specs.declared.entries.Entry.{Entry}
-use Rattle.flat_list.specs.declared.entries.Mark.{Mark}
-use Rattle.flat_list.specs.declared.entries.Mark.TheVariants as mark
-use Rattle.flat_list.specs.Entries.{is_of}
+use Rattle.entry_pages.specs.declared.entries.Entry.{Entry}
+use Rattle.entry_pages.specs.declared.entries.Mark.{Mark}
+use Rattle.entry_pages.specs.declared.entries.Mark.TheVariants as mark
+use Rattle.entry_pages.specs.Entries.{is_of}
 use Rattle.tree_walk.specs.Walk.{Answers, entry_of, walk}
 use Rattle.tree_walk.specs.Roots.{Apart}
 

@@ -5,7 +5,7 @@ use Rattle.std.specs.List.{flat_map, range_with_len}
 use Rattle.std.specs.List.Sorted.{IsPermutation}
 use Rattle.outside.specs.Tree.{Files}
 use Rattle.ring_core.specs.declared.events.Event.{Event}
-use Rattle.flat_list.specs.declared.entries.Entry.{Entry}
+use Rattle.entry_pages.specs.declared.entries.Entry.{Entry}
 use Rattle.circle_run.specs.Balance.{Log}
 use Rattle.circle_run.specs.Progress.{Rises, Thousands, newest}
 use Rattle.circle_run.specs.Traced.{IsTraced, share_in}

@@ -9,9 +9,9 @@ use Rattle.std.specs.FinMap.{get}
 use Rattle.path_text.specs.Path.{joined, refusal}
 use Rattle.path_text.specs.Order.{path_cmp, is_under, is_within}
 use Rattle.outside.specs.Tree.{Files, Node, is_dir, is_dir_body, is_root, far_of, text_of, stat_of, names_in, IsTree}
-use Rattle.flat_list.specs.declared.entries.Entry.{Entry}
-use Rattle.flat_list.specs.declared.entries.Mark.{Mark}
-use Rattle.flat_list.specs.declared.entries.Mark.TheVariants as mark
+use Rattle.entry_pages.specs.declared.entries.Entry.{Entry}
+use Rattle.entry_pages.specs.declared.entries.Mark.{Mark}
+use Rattle.entry_pages.specs.declared.entries.Mark.TheVariants as mark
 
 -- how the files answered for a path: as they are, without a number of names that are not text. Or its stat or the reading of its
 -- link failed. Or the listing of its names failed

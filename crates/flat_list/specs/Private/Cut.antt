@@ -1,7 +1,7 @@
 -- The entries of a log that is read.
 use Rattle.std.specs.Prelude.{List, ◌++◌}
 use Rattle.std.specs.List.{flat_map}
-use Rattle.flat_list.specs.declared.entries.Entry.{Entry}
+use Rattle.entry_pages.specs.declared.entries.Entry.{Entry}
 use Rattle.flat_list.specs.declared.runs.Pieces.{Pieces}
 use Rattle.flat_list.specs.declared.runs.Cut.{Cut}
 

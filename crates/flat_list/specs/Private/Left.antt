@@ -1,6 +1,6 @@
 -- The rest of a list that is read to its end.
 use Rattle.std.specs.Prelude.{ℕ, ◌-◌, Bool, true, false, List, [], drop}
-use Rattle.flat_list.specs.declared.entries.Entry.{Entry}
+use Rattle.entry_pages.specs.declared.entries.Entry.{Entry}
 
 -- the list is over, or the entry that was passed last is still to be given
 abbrev pub left_of : Bool → List Entry × ℕ → List Entry

@@ -10,15 +10,15 @@ use Rattle.path_text.specs.Order.{path_cmp}
 use Rattle.outside.specs.declared.trees.Kind.{Kind}
 use Rattle.outside.specs.declared.trees.Kind.TheVariants as kind
 use Rattle.outside.specs.declared.trees.Stat.{Stat}
-use Rattle.flat_list.specs.declared.entries.Entry.{Entry}
-use Rattle.flat_list.specs.declared.entries.Mark.{Mark}
-use Rattle.flat_list.specs.declared.entries.Mark.TheVariants as mark
+use Rattle.entry_pages.specs.declared.entries.Entry.{Entry}
+use Rattle.entry_pages.specs.declared.entries.Mark.{Mark}
+use Rattle.entry_pages.specs.declared.entries.Mark.TheVariants as mark
 use Rattle.flat_list.specs.declared.reading.Told.{Told}
 use Rattle.whole_lines.specs.Words.{◌>>=◌, cut, number_of, word_at, path_from}
 use Rattle.flat_list.specs.declared.versions.Version.{Version}
 use Rattle.outside.specs.declared.links.LinkTextError.{LinkTextError}
 use Rattle.outside.specs.Links.{link_reading}
-use Rattle.flat_list.specs.Entries.{size_by, is_sized, shape_by, has_target}
+use Rattle.entry_pages.specs.Entries.{size_by, is_sized, shape_by, has_target}
 use Rattle.flat_list.specs.Orders.{time_of}
 use Rattle.flat_list.specs.Spelling.{Follows, is_marked, is_new}
 

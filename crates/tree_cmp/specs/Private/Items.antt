@@ -7,8 +7,8 @@ use Rattle.std.specs.Cmp.Lexicographic.{pointwise}
 use Rattle.path_text.specs.Order.{path_cmp, is_under}
 use Rattle.path_text.specs.Graft.{below_of}
 use Rattle.outside.specs.declared.trees.Stat.{Stat}
-use Rattle.flat_list.specs.declared.entries.Entry.{Entry}
-use Rattle.flat_list.specs.Entries.{size_by}
+use Rattle.entry_pages.specs.declared.entries.Entry.{Entry}
+use Rattle.entry_pages.specs.Entries.{size_by}
 use Rattle.tree_cmp.specs.declared.items.Item.{Item}
 use Rattle.tree_cmp.specs.declared.drafts.Draft.{Draft}
 use Rattle.tree_cmp.specs.declared.rows.Two.{Two}

@@ -1,35 +1,13 @@
 -- Two files that are read and compared, piece by piece. Our own.
 -- Only clauses of this crate's own functions cite this file.
-use Rattle.std.specs.Prelude.{◌≡◌, ℕ, ◌+◌, ◌<◌, ◌≤◌, Bool, true, false, List, length, take, drop, if◌then◌else◌, Option, nat_eq}
+use Rattle.std.specs.Prelude.{◌≡◌, ℕ, ◌+◌, ◌≤◌, Bool, true, false, List, length, take, drop, if◌then◌else◌, Option, nat_eq}
 use Rattle.std.specs.Cmp.Lexicographic.{pointwise}
 use Rattle.outside.specs.Asked.{Asks}
-use Rattle.outside.specs.Tree.{Node, is_file, content}
-use Rattle.outside.specs.declared.trees.ReadError.{ReadError}
-use Rattle.outside.specs.declared.trees.ReadError.TheVariants as read
-use Rattle.tree_cmp.specs.declared.reading.Missing.{Missing}
+use Rattle.outside.specs.Tree.{Node, content}
 use Rattle.tree_cmp.specs.declared.reading.Missing.TheVariants as m
 use Rattle.tree_cmp.specs.declared.reading.Outcome.{Outcome}
 use Rattle.tree_cmp.specs.declared.reading.Outcome.TheVariants as o
-use Rattle.tree_cmp.specs.Readers.{ShowsFailure, ShowsChange}
-
-abbrev pub missing : ReadError → Missing
-missing read.Failed = m.Failed
-missing read.NotFile = m.Changed
-
--- the buffer has the bytes of the file from a place on
-pub record Fills (node : Option Node) (at : ℕ) (buffer : List ℕ) : Type 0 where
-  pub is_file : is_file node ≡ true
-  pub inside : at + length buffer ≤ length (content node)
-  pub same : buffer ≡ take (length buffer) (drop at (content node))
-
--- no file with so many bytes
-abbrev pub IsShort : Option Node → ℕ → Type 0
-IsShort node end = is_file node ≡ true → length (content node) < end
-
--- the file has so many bytes
-pub record IsFileOf (node : Option Node) (bytes : ℕ) : Type 0 where
-  pub is_file : is_file node ≡ true
-  pub size : length (content node) ≡ bytes
+use Rattle.tree_cmp.specs.Filling.{IsShort, ShowsMissing}
 
 -- how many faults an outcome was counted for
 abbrev pub counts : Outcome → ℕ
@@ -50,11 +28,6 @@ PieceTold a b at n (o.Same same) = (at + n ≤ length (content a)) × (at + n �
 PieceTold a b at n (o.Missed dest m.Failed) = Unit {0}
 PieceTold a b at n (o.Missed false m.Changed) = IsShort a (at + n)
 PieceTold a b at n (o.Missed true m.Changed) = IsShort b (at + n)
-
--- the answer of a read of the path for which its bytes were missed
-abbrev pub ShowsMissing : {S : Type 0} → Asks S → List ℕ → Missing → Type 0
-ShowsMissing gives path m.Failed = ShowsFailure gives path
-ShowsMissing gives path m.Changed = ShowsChange gives path
 
 -- the file that an outcome names was asked for, and answered so
 abbrev pub Shows : {S : Type 0} → Asks S → List ℕ → List ℕ → Outcome → Type 0

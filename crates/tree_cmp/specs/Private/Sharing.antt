@@ -8,7 +8,8 @@ use Rattle.outside.specs.Asked.{Asks}
 use Rattle.outside.specs.Tree.{Files}
 use Rattle.tree_cmp.specs.declared.drafts.Draft.{Draft}
 use Rattle.tree_cmp.specs.declared.reading.Outcome.{Outcome}
-use Rattle.tree_cmp.specs.Private.Reading.{IsFileOf, Told, Shows, counts}
+use Rattle.tree_cmp.specs.Filling.{IsFileOf}
+use Rattle.tree_cmp.specs.Private.Reading.{Told, Shows, counts}
 
 -- what reading the two files of a path below two tops comes to, over files that may tell their tree
 abbrev pub ToldAt : Option Files → List ℕ → List ℕ → List ℕ → ℕ → Outcome → Type 0

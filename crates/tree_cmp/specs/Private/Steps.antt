@@ -11,7 +11,7 @@ use Rattle.std.specs.declared.cmp.Ordering.TheVariants.{Less, Greater}
 use Rattle.path_text.specs.Order.{path_cmp, is_under, is_within}
 use Rattle.path_text.specs.Graft.{below_of}
 use Rattle.path_text.specs.Path.{refusal}
-use Rattle.flat_list.specs.declared.entries.Entry.{Entry}
+use Rattle.entry_pages.specs.declared.entries.Entry.{Entry}
 use Rattle.tree_cmp.specs.declared.items.Item.{Item}
 use Rattle.tree_cmp.specs.declared.items.Feed.{Feed}
 use Rattle.tree_cmp.specs.declared.merging.Ends.{Ends}

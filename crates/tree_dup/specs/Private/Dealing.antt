@@ -2,8 +2,8 @@
 -- Only clauses of this crate's own functions cite this file.
 use Rattle.std.specs.Prelude.{◌≡◌, ℕ, List, [], ◌∷◌, ◌++◌, map, filter}
 use Rattle.tree_dup.specs.Told.{Grouping}
-use Rattle.tree_dup.specs.declared.filling.Missing.{Missing}
-use Rattle.tree_dup.specs.declared.filling.Missing.TheVariants as m
+use Rattle.tree_cmp.specs.declared.reading.Missing.{Missing}
+use Rattle.tree_cmp.specs.declared.reading.Missing.TheVariants as m
 use Rattle.tree_dup.specs.declared.runs.File.{File}
 use Rattle.tree_dup.specs.Private.Running.{is_alike, is_other, is_failed, is_changed, still, paths_of}
 

@@ -10,11 +10,11 @@ use Rattle.outside.specs.Asked.{Asks}
 use Rattle.outside.specs.Tree.{Files, content}
 use Rattle.tree_dup.specs.Grouping.{ShowsWhole}
 use Rattle.tree_dup.specs.Told.{Grouping}
-use Rattle.tree_dup.specs.declared.filling.Missing.{Missing}
-use Rattle.tree_dup.specs.declared.filling.Missing.TheVariants as m
+use Rattle.tree_cmp.specs.declared.reading.Missing.{Missing}
+use Rattle.tree_cmp.specs.declared.reading.Missing.TheVariants as m
 use Rattle.tree_dup.specs.declared.runs.File.{File}
 use Rattle.tree_dup.specs.Private.Dealing.{with_missed}
-use Rattle.tree_dup.specs.Private.Reading.{ShowsMissing}
+use Rattle.tree_cmp.specs.Filling.{ShowsMissing}
 use Rattle.tree_dup.specs.Private.Running.{IsThere}
 
 -- the hasher once it took so many pieces of 64 KiB of the bytes, or all of them

@@ -12,12 +12,12 @@ use Rattle.sha2.specs.declared.Sha256.{Sha256}
 use Rattle.outside.specs.Asked.{Asks}
 use Rattle.outside.specs.Tree.{Files, content}
 use Rattle.shared_reads.specs.Counts.{KeepsUp}
-use Rattle.tree_dup.specs.declared.filling.Missing.TheVariants as m
+use Rattle.tree_cmp.specs.declared.reading.Missing.TheVariants as m
 use Rattle.tree_dup.specs.declared.runs.Standing.{Standing}
 use Rattle.tree_dup.specs.declared.runs.Standing.TheVariants as s
 use Rattle.tree_dup.specs.declared.runs.File.{File}
 use Rattle.tree_dup.specs.declared.runs.Comparison.{Comparison}
-use Rattle.tree_dup.specs.Private.Reading.{IsFileOf, ShowsMissing}
+use Rattle.tree_cmp.specs.Filling.{IsFileOf, ShowsMissing}
 
 -- ---- files by their content
 

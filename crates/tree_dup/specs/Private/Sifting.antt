@@ -8,7 +8,7 @@ use Rattle.std.specs.Cmp.Lexicographic.{pointwise}
 use Rattle.sha2.specs.Sha256.{sha256}
 use Rattle.path_text.specs.Order.{path_cmp}
 use Rattle.outside.specs.Tree.{Files, content}
-use Rattle.flat_list.specs.declared.entries.Entry.{Entry}
+use Rattle.entry_pages.specs.declared.entries.Entry.{Entry}
 use Rattle.tree_dup.specs.Told.{Told, Grouping}
 use Rattle.tree_dup.specs.Grouping.{has, is_candidate, is_read, is_sized}
 use Rattle.tree_dup.specs.declared.runs.File.{File}

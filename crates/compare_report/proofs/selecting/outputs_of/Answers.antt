@@ -3,7 +3,7 @@ use Rattle.std.specs.List.{All}
 use Rattle.std.specs.List.Sorted.{IsStrictlySortedBy}
 use Rattle.std.proofs.lemmas.List.Elements.{All-push}
 use Rattle.path_text.specs.Order.{path_cmp}
-use Rattle.flat_list.specs.Entries.{is_shaped}
+use Rattle.entry_pages.specs.Entries.{is_shaped}
 use Rattle.flat_list.specs.Spelling.{paths}
 use Rattle.tool_words.specs.declared.commands.Want.{Want}
 use Rattle.run_entries.specs.declared.saving.Output.{Output}

@@ -7,7 +7,7 @@ returns-clause-can g c =
     let before = side_of g.G.Plot c.args.files.now in
     let after = side_of g.G.Plot c.walk_side.new.files in
     let told = c.in_ok-list.ensures in
-    walk_can c.args.sources.items c.args.pairs.now c.in_ok-list.field-0.list before after c.requires.placed told.walked c.in_ok-see_paths.ensures told.ascend
+    walk_can c.args.sources.items c.args.pairs.now c.in_ok-list.field-0.list before after c.requires.placed told.walked c.paths_are_valid.ensures told.ascend
 
 pub returns-clause-fits : goal.returns-clause-fits
 returns-clause-fits g c =
@@ -16,4 +16,4 @@ returns-clause-fits g c =
     let told = c.in_ok-list.ensures in
     walk_fits c.entries_have_parents.ensures c.entries_are_told.ensures c.args.sources.items c.args.pairs.now c.in_ok-list.field-0.list before after
     c.requires.placed told.walked
-    c.in_ok-see_paths.ensures told.ascend
+    c.paths_are_valid.ensures told.ascend

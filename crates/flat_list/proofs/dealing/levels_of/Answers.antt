@@ -2,7 +2,7 @@ use Rattle.std.proofs.Common.{rules, arith, take, ap, ◌∙◌, ◌+◌, Vec, G
 use Rattle.std.proofs.Common.{map}
 use Rattle.std.specs.List.{range_with_len}
 use Rattle.std.proofs.lemmas.List.{take_all}
-use Rattle.flat_list.specs.declared.entries.Entry.{Entry}
+use Rattle.entry_pages.specs.declared.entries.Entry.{Entry}
 use Rattle.flat_list.specs.Orders.{places_at, level_count}
 use Rattle.flat_list.proofs.Dealt.{Turn, Holds, levels_kept, below_here, as_many}
 use Rattle.flat_list.proofs.Turns.{Passes, turn_at, next_at, more_at}

@@ -1,7 +1,7 @@
 use Rattle.std.proofs.Common.{rules, ◌≡◌, ◌∙◌, ap, sym, None, Some, Option, ℕ, List, [], ◌∷◌, ◌++◌}
 use Rattle.std.specs.Option.{option_map}
 use Rattle.std.specs.Str.{IsUtf8}
-use Rattle.flat_list.specs.declared.entries.Entry.{Entry}
+use Rattle.entry_pages.specs.declared.entries.Entry.{Entry}
 use Rattle.flat_list.specs.Private.Reading.{entry_behind, behind_target, line_count}
 use Rattle.flat_list.proofs.Decoded.{none_behind, found_same, adds_found, read_utf8}
 use Rattle.flat_list.proofs.decoding.add_entry.Goals as goal

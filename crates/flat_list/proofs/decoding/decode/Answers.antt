@@ -1,12 +1,12 @@
-use Rattle.std.proofs.Common.{rules, arith, ℕ, Some, ◌≡◌, ◌<◌, ◌≤◌, ◌+◌, length, refl, sym, subst, List, None}
-use Rattle.flat_list.specs.declared.entries.Entry.{Entry}
+use Rattle.std.proofs.Common.{rules, arith, ◌≡◌, ◌≤◌, ◌+◌, length, refl, sym, subst, List, None}
+use Rattle.entry_pages.specs.declared.entries.Entry.{Entry}
 use Rattle.flat_list.specs.Spelling.{entry_lines, Spells, max_entries, IsCause, IsRefused}
 use Rattle.whole_lines.specs.Lines.{lines_of}
 use Rattle.whole_lines.specs.Words.{cut}
-use Rattle.flat_list.specs.Private.Reading.{entry_at, found_at, behind_target, line_count, Adds, NoneFollows, IsLast, IsSettled}
+use Rattle.flat_list.specs.Private.Reading.{entry_at, NoneFollows, IsLast}
 use Rattle.flat_list.proofs.Damage.{Undoes, Stands, line_len}
-use Rattle.flat_list.proofs.Decoded.{Reads, starts, goes_on, bad_torn, bad_text, at_end, past_end, too_long, if_ok_then, if_err_then, adds_one, left_shorter}
-use Rattle.flat_list.proofs.Decoded.{none_holds, some_holds, few_lines}
+use Rattle.flat_list.proofs.Decoded.{Reads, starts, bad_torn, bad_text, at_end, past_end, too_long}
+use Rattle.flat_list.proofs.Grown.{if_ok_then, if_err_then, none_holds, grown}
 use Rattle.flat_list.proofs.decoding.decode.Goals as goal
 
 pub loop-text-init : goal.loop-text-init
@@ -65,96 +65,45 @@ returns-in_default-added-clause-refused c =
 
 pub returns-then-len-gt-MAX_ENTRIES-clause-refused : goal.returns-then-len-gt-MAX_ENTRIES-clause-refused
 returns-then-len-gt-MAX_ENTRIES-clause-refused c =
-    let v = c.in-Some.version in
-    let bytes = c.args.bytes.now in
-    let text = c.in-Some-cut_line.text.now in
-    let behind = c.in-Some-cut_line.behind.now in
-    let list = c.loop-text.list in
-    let before = c.loop-text.invariant in
-    let undoes : Undoes = record { paths = c.reading_undoes_writing.ensures; links = c.link_reading_undoes_writing.ensures } in
-    let reads : Reads v bytes c.loop-text.rest.now text behind list =
-    record { stands = before.stands; few = before.few; first = sym c.in-Some-cut_line.ensures } in
-    let next = c.in-Some-added.next in
-    let some : c.in_ok-added.added ≡ Some next = c.in-Some-added.is in
-    let adds =
-    some_holds c.in_ok-added.added next (λ n. Adds (entry_at v text) (found_at v text behind) list c.add_entry.new.list) some c.in_ok-added.ensures.yes in
-    let on = goes_on undoes reads c.add_entry.new.list adds in
-    let more = adds_one (entry_at v text) (found_at v text behind) list c.add_entry.new.list adds in
-    let few = before.few in
-    too_long v bytes c.add_entry.new.list (lines_of (behind_target behind (found_at v text behind))) on.stands (omega (arith, more, few, c.len.ensures))
+    let t = grown c.in-Some.version c.args.bytes.now c.loop-text.rest.now c.in-Some-cut_line.text.now c.in-Some-cut_line.behind.now c.loop-text.list
+    c.add_entry.new.list c.add_entry.new.last c.in_ok-added.added c.in-Some-added.next (λ n. n.rest.now) (λ n. n.lines)
+    (record { paths = c.reading_undoes_writing.ensures; links = c.link_reading_undoes_writing.ensures })
+    (record { stands = c.loop-text.invariant.stands; few = c.loop-text.invariant.few; first = sym c.in-Some-cut_line.ensures })
+    c.in-Some-added.is c.in_ok-added.ensures.yes c.in_ok-added.ensures.last c.in_ok-added.ensures.rest c.in_ok-added.ensures.lines in
+    too_long c.in-Some.version c.args.bytes.now c.add_entry.new.list (lines_of c.in-Some-added.next.rest.now) t.stands
+    (omega (arith, t.more, t.few, c.len.ensures))
 
 pub overflow_add-line : goal.overflow_add-line
 overflow_add-line c =
-    let v = c.in-Some.version in
-    let bytes = c.args.bytes.now in
-    let text = c.in-Some-cut_line.text.now in
-    let behind = c.in-Some-cut_line.behind.now in
-    let list = c.loop-text.list in
-    let before = c.loop-text.invariant in
-    let undoes : Undoes = record { paths = c.reading_undoes_writing.ensures; links = c.link_reading_undoes_writing.ensures } in
-    let reads : Reads v bytes c.loop-text.rest.now text behind list =
-    record { stands = before.stands; few = before.few; first = sym c.in-Some-cut_line.ensures } in
-    let next = c.in-Some-added.next in
-    let some : c.in_ok-added.added ≡ Some next = c.in-Some-added.is in
-    let adds =
-    some_holds c.in_ok-added.added next (λ n. Adds (entry_at v text) (found_at v text behind) list c.add_entry.new.list) some c.in_ok-added.ensures.yes in
-    let on = goes_on undoes reads c.add_entry.new.list adds in
-    let rest_is : next.rest.now ≡ behind_target behind (found_at v text behind) =
-    some_holds c.in_ok-added.added next (λ n. n.rest.now ≡ behind_target behind (found_at v text behind)) some c.in_ok-added.ensures.rest in
-    let lines_is : next.lines ≡ line_count (found_at v text behind) =
-    some_holds c.in_ok-added.added next (λ n. n.lines ≡ line_count (found_at v text behind)) some c.in_ok-added.ensures.lines in
-    omega (arith, before.number, before.few, line_len list, lines_is, few_lines (found_at v text behind))
+    let t = grown c.in-Some.version c.args.bytes.now c.loop-text.rest.now c.in-Some-cut_line.text.now c.in-Some-cut_line.behind.now c.loop-text.list
+    c.add_entry.new.list c.add_entry.new.last c.in_ok-added.added c.in-Some-added.next (λ n. n.rest.now) (λ n. n.lines)
+    (record { paths = c.reading_undoes_writing.ensures; links = c.link_reading_undoes_writing.ensures })
+    (record { stands = c.loop-text.invariant.stands; few = c.loop-text.invariant.few; first = sym c.in-Some-cut_line.ensures })
+    c.in-Some-added.is c.in_ok-added.ensures.yes c.in_ok-added.ensures.last c.in_ok-added.ensures.rest c.in_ok-added.ensures.lines in
+    omega (arith, c.loop-text.invariant.number, t.few, line_len c.loop-text.list, t.small)
 
 pub loop-text-smaller : goal.loop-text-smaller
 loop-text-smaller c =
-    let v = c.in-Some.version in
-    let bytes = c.args.bytes.now in
-    let text = c.in-Some-cut_line.text.now in
-    let behind = c.in-Some-cut_line.behind.now in
-    let list = c.loop-text.list in
-    let before = c.loop-text.invariant in
-    let undoes : Undoes = record { paths = c.reading_undoes_writing.ensures; links = c.link_reading_undoes_writing.ensures } in
-    let reads : Reads v bytes c.loop-text.rest.now text behind list =
-    record { stands = before.stands; few = before.few; first = sym c.in-Some-cut_line.ensures } in
-    let next = c.in-Some-added.next in
-    let some : c.in_ok-added.added ≡ Some next = c.in-Some-added.is in
-    let adds =
-    some_holds c.in_ok-added.added next (λ n. Adds (entry_at v text) (found_at v text behind) list c.add_entry.new.list) some c.in_ok-added.ensures.yes in
-    let on = goes_on undoes reads c.add_entry.new.list adds in
-    let rest_is : next.rest.now ≡ behind_target behind (found_at v text behind) =
-    some_holds c.in_ok-added.added next (λ n. n.rest.now ≡ behind_target behind (found_at v text behind)) some c.in_ok-added.ensures.rest in
-    let lines_is : next.lines ≡ line_count (found_at v text behind) =
-    some_holds c.in_ok-added.added next (λ n. n.lines ≡ line_count (found_at v text behind)) some c.in_ok-added.ensures.lines in
-    subst (λ (r : List ℕ). length r < length c.loop-text.rest.now) (sym rest_is)
-    (left_shorter v text c.loop-text.rest.now behind (sym c.in-Some-cut_line.ensures))
+    let t = grown c.in-Some.version c.args.bytes.now c.loop-text.rest.now c.in-Some-cut_line.text.now c.in-Some-cut_line.behind.now c.loop-text.list
+    c.add_entry.new.list c.add_entry.new.last c.in_ok-added.added c.in-Some-added.next (λ n. n.rest.now) (λ n. n.lines)
+    (record { paths = c.reading_undoes_writing.ensures; links = c.link_reading_undoes_writing.ensures })
+    (record { stands = c.loop-text.invariant.stands; few = c.loop-text.invariant.few; first = sym c.in-Some-cut_line.ensures })
+    c.in-Some-added.is c.in_ok-added.ensures.yes c.in_ok-added.ensures.last c.in_ok-added.ensures.rest c.in_ok-added.ensures.lines in
+    t.less
 
 pub loop-text-preserved : goal.loop-text-preserved
 loop-text-preserved c =
-    let v = c.in-Some.version in
-    let bytes = c.args.bytes.now in
-    let text = c.in-Some-cut_line.text.now in
-    let behind = c.in-Some-cut_line.behind.now in
-    let list = c.loop-text.list in
-    let before = c.loop-text.invariant in
-    let undoes : Undoes = record { paths = c.reading_undoes_writing.ensures; links = c.link_reading_undoes_writing.ensures } in
-    let reads : Reads v bytes c.loop-text.rest.now text behind list =
-    record { stands = before.stands; few = before.few; first = sym c.in-Some-cut_line.ensures } in
-    let next = c.in-Some-added.next in
-    let some : c.in_ok-added.added ≡ Some next = c.in-Some-added.is in
-    let adds =
-    some_holds c.in_ok-added.added next (λ n. Adds (entry_at v text) (found_at v text behind) list c.add_entry.new.list) some c.in_ok-added.ensures.yes in
-    let on = goes_on undoes reads c.add_entry.new.list adds in
-    let rest_is : next.rest.now ≡ behind_target behind (found_at v text behind) =
-    some_holds c.in_ok-added.added next (λ n. n.rest.now ≡ behind_target behind (found_at v text behind)) some c.in_ok-added.ensures.rest in
-    let lines_is : next.lines ≡ line_count (found_at v text behind) =
-    some_holds c.in_ok-added.added next (λ n. n.lines ≡ line_count (found_at v text behind)) some c.in_ok-added.ensures.lines in
-    let last = some_holds c.in_ok-added.added next (λ n. IsLast c.add_entry.new.last c.add_entry.new.list) some c.in_ok-added.ensures.last in
+    let t = grown c.in-Some.version c.args.bytes.now c.loop-text.rest.now c.in-Some-cut_line.text.now c.in-Some-cut_line.behind.now c.loop-text.list
+    c.add_entry.new.list c.add_entry.new.last c.in_ok-added.added c.in-Some-added.next (λ n. n.rest.now) (λ n. n.lines)
+    (record { paths = c.reading_undoes_writing.ensures; links = c.link_reading_undoes_writing.ensures })
+    (record { stands = c.loop-text.invariant.stands; few = c.loop-text.invariant.few; first = sym c.in-Some-cut_line.ensures })
+    c.in-Some-added.is c.in_ok-added.ensures.yes c.in_ok-added.ensures.last c.in_ok-added.ensures.rest c.in_ok-added.ensures.lines in
     record {
-      stands = subst (λ (r : List ℕ). Stands v bytes c.add_entry.new.list (lines_of r)) (sym rest_is) on.stands;
+      stands = t.stands;
       few = omega (arith, c.len.ensures);
-      last = last;
-      number = omega (arith, before.number, lines_is, on.lines);
-      settled = subst (IsSettled v c.add_entry.new.last) (sym rest_is) (on.settled c.add_entry.new.last last);
+      last = t.last;
+      number = omega (arith, c.loop-text.invariant.number, t.number);
+      settled = t.settled;
     }
 
 pub returns-clause-refused : goal.returns-clause-refused

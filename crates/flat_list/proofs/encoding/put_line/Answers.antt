@@ -1,7 +1,7 @@
 use Rattle.std.proofs.Common.{rules, ◌∙◌, ap, [], ◌∷◌, ◌++◌}
 use Rattle.std.specs.Fmt.{decimal}
 use Rattle.path_text.specs.Escape.{escape}
-use Rattle.flat_list.specs.Entries.{size_by}
+use Rattle.entry_pages.specs.Entries.{size_by}
 use Rattle.flat_list.specs.Orders.{time_of}
 use Rattle.flat_list.specs.Spelling.{kind_by, kind_word, time_word, mark_word}
 use Rattle.flat_list.specs.Private.Reading.{IsWritten}

@@ -2,7 +2,7 @@ use Rattle.std.proofs.Common.{◌≡◌, ◌∙◌, ◌-◌, ◌++◌, ◌∷◌
 use Rattle.std.proofs.lemmas.List.{take_all}
 use Rattle.std.proofs.lemmas.List.Elements.{All-append, All-cons, All-nil}
 use Rattle.path_text.specs.Path.{refusal}
-use Rattle.flat_list.specs.declared.entries.Entry.{Entry}
+use Rattle.entry_pages.specs.declared.entries.Entry.{Entry}
 use Rattle.flat_list.proofs.Turns.{no_more}
 use Rattle.tree_copy.proofs.Tallies.{moved_on, next_of}
 use Rattle.range_copy.specs.PrivateParts.{ArePartsOf, held_of, large_of, marks_of, small_of}

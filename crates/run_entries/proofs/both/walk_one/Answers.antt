@@ -10,7 +10,7 @@ returns-clause-side g c =
     let after = side_of g.G.Plot c.walk_side.new.files in
     let list = c.in_ok-list.field-0.list in
     let walked = subst (λ given. Walked given list before after) c.in_ok-given.ensures c.in_ok-list.ensures.walked in
-    is_side c.args.top.now list before after c.requires.top walked c.in_ok-see_paths.ensures c.in_ok-list.ensures.ascend
+    is_side c.args.top.now list before after c.requires.top walked c.paths_are_valid.ensures c.in_ok-list.ensures.ascend
 
 pub returns-clause-told : goal.returns-clause-told
 returns-clause-told g c =

@@ -1,5 +1,5 @@
 use Rattle.std.proofs.Common.{rules, ◌≡◌, ◌++◌, map, filter, subst, Some, true}
-use Rattle.flat_list.specs.Entries.{is_shaped}
+use Rattle.entry_pages.specs.Entries.{is_shaped}
 use Rattle.find_tests.specs.Tests.{is_selected}
 use Rattle.tool_text.specs.NoteOrder.{AreInOrder}
 use Rattle.tool_words.specs.Asked.{start_in, choice_in}

@@ -1,5 +1,5 @@
 use Rattle.std.proofs.Common.{◌≡◌, [], sym, subst, arith}
-use Rattle.flat_list.specs.Entries.{summary_of}
+use Rattle.entry_pages.specs.Entries.{summary_of}
 use Rattle.tool_text.specs.NoteOrder.{AreInOrder}
 use Rattle.run_entries.specs.Naming.{failures_in}
 use Rattle.run_entries.proofs.Nothing.{nothing_failed}

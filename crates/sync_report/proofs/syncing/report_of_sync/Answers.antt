@@ -53,6 +53,13 @@ returns-in_err-sides-clause-stops g c =
     let stops : StopsSync asked before after why = stops_walking asked before looked after why look told.same told.count.kept told.stopped in
     search (rules, stops, c.from_residual-in_err-sides.ensures)
 
+pub returns-in_err-notes-clause-stops : goal.returns-in_err-notes-clause-stops
+returns-in_err-notes-clause-stops g c =
+    let before = side_of g.G.Plot c.args.files.now in
+    let after = side_of g.G.Plot c.sync_sides.new.files in
+    let memory : StopsSync (sync_asked c.args.task) before after stop.OutOfMemory = inl refl in
+    search (rules, memory, c.from_residual-in_err-notes.ensures)
+
 pub returns-in_err-report-clause-stops : goal.returns-in_err-report-clause-stops
 returns-in_err-report-clause-stops g c =
     let before = side_of g.G.Plot c.args.files.now in

@@ -1,5 +1,5 @@
 use Rattle.std.proofs.Common.{ℕ, List, subst, sym, drop}
-use Rattle.flat_list.specs.declared.entries.Entry.{Entry}
+use Rattle.entry_pages.specs.declared.entries.Entry.{Entry}
 use Rattle.tree_cmp.specs.Private.Items.{items_of}
 use Rattle.tree_cmp.specs.Private.Steps.{Ascend}
 use Rattle.tree_cmp.proofs.Sided.{items_ascend}

@@ -1,9 +1,10 @@
 use Rattle.std.proofs.Common.{rules, arith, ◌≡◌, ◌≤◌, ◌<◌, ◌+◌, ◌-◌, length, IfSome, subst, ◌∙◌}
 use Rattle.std.proofs.lemmas.Grind.{common_steps}
 use Rattle.outside.specs.Tree.{Reads}
-use Rattle.tree_cmp.specs.Private.Reading.{ShowsMissing, missing}
+use Rattle.tree_cmp.specs.Readers.{ShowsWhole}
+use Rattle.tree_cmp.specs.Filling.{ShowsMissing, missing}
 use Rattle.tree_cmp.proofs.Filling.{filled}
-use Rattle.tree_cmp.proofs.Shown.{refused, ended}
+use Rattle.tree_cmp.proofs.Shown.{refused, ended, gave}
 use Rattle.tree_cmp.proofs.reading.fill.Goals as goal
 
 pub loop-done-preserved : goal.loop-done-preserved
@@ -22,7 +23,14 @@ loop-done-preserved g c =
           c.loop-done.invariant.filled told;
       same = c.in_ok-n.ensures.same ∙ c.loop-done.invariant.same;
       count = search rules;
+      whole = λ h. gave g.R.Tree.gives c.args.path.now c.args.at c.loop-done.done c.in_ok-n.n _ _ some c.in_ok-n.ensures.given;
     }
+
+pub returns-clause-whole : goal.returns-clause-whole
+returns-clause-whole g c =
+    let i = c.loop-done.invariant in
+    let all : c.loop-done.done ≡ length c.loop-done.into = (let h = i.inside in omega arith) in
+    subst (λ n. ShowsWhole g.R.Tree.gives (c.args.at + n) c.args.path.now) all (i.whole (let h = i.inside in omega (arith, c.requires.some)))
 
 pub returns-in_err-n-clause-shows : goal.returns-in_err-n-clause-shows
 returns-in_err-n-clause-shows g c =

@@ -1,7 +1,8 @@
-use Rattle.std.proofs.Common.{◌≡◌, ◌-◌, ◌<◌, ◌≤◌, length, take, IfSome}
+use Rattle.std.proofs.Common.{◌≡◌, ◌+◌, ◌-◌, ◌<◌, ◌≤◌, length, take, IfSome}
 use Rattle.std.specs.FinMap.{get}
 use Rattle.outside.specs.Count.{RoseBy}
-use Rattle.tree_cmp.specs.Private.Reading.{Fills}
+use Rattle.tree_cmp.specs.Readers.{ShowsWhole}
+use Rattle.tree_cmp.specs.Filling.{Fills}
 use Rattle.tree_cmp.proofs.reading.fill.Given as goal
 
 abbrev pub invariant-loop-done : goal.invariant-loop-done
@@ -12,6 +13,7 @@ invariant-loop-done g l =
       filled : 0 < l.done → IfSome (reader.tree l.fn.reader) (λ files. Fills (get files l.path) l.at (take l.done l.into));
       same : reader.tree l.reader ≡ reader.tree l.fn.reader;
       count : RoseBy 0 (reader.count l.fn.reader) (reader.count l.reader);
+      whole : 0 < l.done → ShowsWhole reader.gives (l.at + l.done) l.path;
     }
 
 abbrev pub decreases-loop-done : goal.decreases-loop-done

@@ -1,5 +1,5 @@
 use Rattle.std.proofs.Common.{◌∙◌, refl, sym, subst, IfOk, IfSome}
-use Rattle.flat_list.specs.Entries.{size_by}
+use Rattle.entry_pages.specs.Entries.{size_by}
 use Rattle.outside.specs.Asked as asked
 use Rattle.outside.specs.declared.trees.Kind.TheVariants as kind
 use Rattle.tree_copy.specs.PrivateActs.{IsFilled, ShowsFilled}

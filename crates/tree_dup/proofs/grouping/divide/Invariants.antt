@@ -1,5 +1,5 @@
 use Rattle.std.proofs.Common.{◌≡◌, ◌+◌, List, ◌∷◌, length, map, All, IfSome}
-use Rattle.flat_list.specs.declared.entries.Entry.{Entry}
+use Rattle.entry_pages.specs.declared.entries.Entry.{Entry}
 use Rattle.tree_dup.specs.Grouping.{HaveCauses}
 use Rattle.tree_dup.specs.declared.runs.File.{File}
 use Rattle.shared_reads.specs.Desks.{HasRoom}

@@ -1,5 +1,5 @@
 use Rattle.std.proofs.Common.{◌≡◌, ◌+◌, List, [], ◌∷◌, length, map, take, All, IsSorted}
-use Rattle.flat_list.specs.declared.entries.Entry.{Entry}
+use Rattle.entry_pages.specs.declared.entries.Entry.{Entry}
 use Rattle.tree_dup.specs.Grouping.{HaveCauses}
 use Rattle.shared_reads.specs.Desks.{HasRoom}
 use Rattle.shared_reads.specs.Kept.{Holds, held}

@@ -1,5 +1,5 @@
 use Rattle.std.proofs.Common.{List, length, map, OnOk, subst}
-use Rattle.flat_list.specs.declared.entries.Entry.{Entry}
+use Rattle.entry_pages.specs.declared.entries.Entry.{Entry}
 use Rattle.shared_reads.specs.Kept.{Holds, held}
 use Rattle.shared_reads.proofs.Counted.{fell_same}
 use Rattle.tree_dup.specs.declared.runs.File.{File}

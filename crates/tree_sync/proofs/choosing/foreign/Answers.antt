@@ -3,12 +3,15 @@ use Rattle.std.specs.List.{list_any}
 use Rattle.path_text.specs.Graft.{below_of}
 use Rattle.path_text.specs.Order.{is_within}
 use Rattle.path_text.specs.Path.{refusal}
-use Rattle.flat_list.specs.declared.entries.Entry.{Entry}
+use Rattle.entry_pages.specs.declared.entries.Entry.{Entry}
 use Rattle.tree_cmp.specs.Sides.{side}
 use Rattle.tree_sync.specs.PrivateSearch.{IsCleared, IsPassed}
 use Rattle.tree_sync.specs.PrivateSteps.{is_chosen_off, row_paths}
 use Rattle.tree_sync.specs.Syncing.{is_foreign, row_at}
 use Rattle.tree_sync.proofs.Cursor.{IsHere, filtered_more, here, next_cleared, next_passed, step, whole}
+use Rattle.std.proofs.Common.{filter}
+use Rattle.std.proofs.lemmas.List.{take_all}
+use Rattle.flat_list.proofs.Turns.{no_more}
 use Rattle.tree_sync.proofs.choosing.foreign.Goals as goal
 
 pub seek_row-at_here-requires-clause-passed : goal.seek_row-at_here-requires-clause-passed
@@ -70,3 +73,11 @@ loop-cursor-preserved c =
       masks = next_cleared c.below_keeps_order.ensures c.under_is_contiguous.ensures top list old.cursor.1 e new masks c.seek_mask-past_here.result.0 at
           c.requires.side.ascends c.requires.side.within valid cleared;
     }
+
+pub returns : goal.returns
+returns c =
+    let list = c.args.dest.now in
+    let over = no_more list c.loop-cursor.cursor c.in_ok-advance.field-0 c.loop-cursor.invariant.of_list
+    c.in_ok-advance.ensures.answer c.if-branch.false in
+    c.loop-cursor.invariant.chosen
+    ∙ ap (filter (is_chosen_off c.args.masks.now (side c.args.top.now list) c.args.found.now.rows)) (take_all c.loop-cursor.cursor.1 list over)

@@ -1,12 +1,16 @@
 use Rattle.std.proofs.Common.{◌≡◌, ◌+◌, ◌&&◌, ◌++◌, ◌∷◌, [], ◌∙◌, ap, sym, subst, not, is_some, arith, cond, take}
 use Rattle.path_text.specs.Graft.{below_of}
-use Rattle.flat_list.specs.declared.entries.Entry.{Entry}
+use Rattle.entry_pages.specs.declared.entries.Entry.{Entry}
 use Rattle.tree_cmp.specs.Sides.{side}
 use Rattle.tree_sync.specs.PrivateSearch.{IsPassed}
 use Rattle.tree_sync.specs.PrivateSteps.{row_paths}
 use Rattle.tree_sync.specs.Syncing.{agrees, has_other, is_copied, is_kept, row_at}
 use Rattle.tree_sync.proofs.Cursor.{IsHere, counted_more, few_more, filtered_more, here, next_passed, step, taken, whole}
 use Rattle.tree_sync.proofs.Kept.{masks_more}
+use Rattle.std.proofs.Common.{List, filter, length}
+use Rattle.std.proofs.lemmas.List.{take_all}
+use Rattle.flat_list.proofs.Turns.{no_more}
+use Rattle.tree_sync.specs.PrivateSteps.{masks_of}
 use Rattle.tree_sync.proofs.dividing.divided.Goals as goal
 
 pub seek_row-here-requires-clause-passed : goal.seek_row-here-requires-clause-passed
@@ -54,4 +58,18 @@ loop-cursor-preserved c =
           old.invariant.masks (c.in_ok-add_mask.ensures ∙ ap (λ b. old.masks.items ++ cond (has_other e) (b ∷ []) []) c.in_ok-below.ensures);
       next = next_passed c.below_keeps_order.ensures top list old.cursor.1 e new (row_paths rows) c.seek_row-here.result.0 at c.requires.side.ascends
           c.requires.side.within passed;
+    }
+
+pub returns : goal.returns
+returns c =
+    let list = c.args.source.now in
+    let here = side c.args.top.now list in
+    let rows = c.args.found.now.rows in
+    let i = c.loop-cursor.invariant in
+    let over = no_more list c.loop-cursor.cursor c.in_ok-advance.field-0 i.of_list c.in_ok-advance.ensures.answer c.if-branch.false in
+    let all = take_all c.loop-cursor.cursor.1 list over in
+    record {
+      kept = i.kept ∙ ap (λ (es : List Entry). length (filter (is_kept here rows) es)) all;
+      copied = i.copied ∙ ap (filter (is_copied here rows)) all;
+      masks = i.masks ∙ ap (λ (es : List Entry). masks_of (side c.args.top.now es)) all;
     }

@@ -1,7 +1,7 @@
 use Rattle.std.proofs.Common.{◌≡◌, ◌-◌, ◌<◌, ◌∙◌, ℕ, List, [], ◌∷◌, ◌++◌, take, ap, sym, subst}
 use Rattle.std.specs.Prelude.{Some}
-use Rattle.flat_list.specs.declared.entries.Entry.{Entry}
-use Rattle.flat_list.proofs.Passed.{taken_last}
+use Rattle.entry_pages.specs.declared.entries.Entry.{Entry}
+use Rattle.entry_pages.proofs.Passed.{taken_last}
 use Rattle.flat_list.proofs.cursors.Cursor.entry.Goals as goal
 
 pub returns-clause-last : goal.returns-clause-last

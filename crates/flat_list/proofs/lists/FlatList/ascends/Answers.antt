@@ -1,7 +1,7 @@
 use Rattle.std.proofs.Common.{◌≡◌, ◌+◌, ◌-◌, ◌≤◌, ◌∙◌, ℕ, arith, ap, subst, length, List, inl, inr}
 use Rattle.std.proofs.lemmas.Bool.{cases_lt}
-use Rattle.flat_list.specs.declared.entries.Entry.{Entry}
-use Rattle.flat_list.specs.Private.Kept.{RisesAt}
+use Rattle.entry_pages.specs.declared.entries.Entry.{Entry}
+use Rattle.entry_pages.specs.Pack.{RisesAt}
 use Rattle.flat_list.proofs.Turns.{no_more, step_more}
 use Rattle.flat_list.proofs.lists.FlatList.ascends.Goals as goal
 

@@ -4,7 +4,7 @@ use Rattle.std.specs.List.Sorted.{IsPermutation, IsSortedByKey, IsStableByKey}
 use Rattle.std.proofs.lemmas.List.Sorted.{ranks_by, answers_always}
 use Rattle.path_text.specs.Order.{path_cmp}
 use Rattle.path_text.specs.Total.{path_cmp_total}
-use Rattle.flat_list.specs.declared.entries.Entry.{Entry}
+use Rattle.entry_pages.specs.declared.entries.Entry.{Entry}
 use Rattle.flat_list.proofs.lists.FlatList.sort_path.Goals as goal
 
 pub returns-clause-all : goal.returns-clause-all

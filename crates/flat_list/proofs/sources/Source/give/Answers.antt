@@ -1,5 +1,5 @@
 use Rattle.std.proofs.Common.{◌++◌, ◌∙◌, ap, sym, Bool, List}
-use Rattle.flat_list.specs.declared.entries.Entry.{Entry}
+use Rattle.entry_pages.specs.declared.entries.Entry.{Entry}
 use Rattle.flat_list.specs.Private.Left.{left_of}
 use Rattle.flat_list.proofs.Sourced.{Stepped, given}
 use Rattle.flat_list.proofs.sources.Source.give.Goals as goal

@@ -1,0 +1,35 @@
+use Rattle.std.proofs.Common.{◌∙◌, ap, ap₂, List, [], ◌∷◌, ◌++◌}
+use Rattle.entry_pages.specs.Pack.{Head, starts_by}
+use Rattle.entry_pages.specs.Private.Slim.{with_text}
+use Rattle.entry_pages.proofs.Slimmed.{ArePut, put_slim, put_heads}
+use Rattle.entry_pages.proofs.heads.Heads.push.Goals as goal
+
+pub invariant_of-self-2 : goal.invariant_of-self-2
+invariant_of-self-2 c =
+    let h = c.self.inside in
+    let put : ArePut h.slims.items c.put_slim.new.slims.items h.odds.items c.put_slim.new.odds.items h.starts.items c.put_slim.new.starts.items
+    h.texts.items c.extend_reserved.new.items.items h.text_starts.items c.put_start.new.starts.items (with_text c.args.head c.args.target.now) = record {
+      slims = c.in_ok-put_slim.ensures.slims;
+      odds = c.in_ok-put_slim.ensures.odds;
+      odds_begin = c.in_ok-put_slim.ensures.starts;
+      texts = c.extend_reserved.ensures ∙ ap₂ ◌++◌ c.reserve.ensures.items c.bytes_of-text.ensures;
+      texts_begin = c.put_start.ensures
+          ∙ (λ i. starts_by ((c.len-place.ensures ∙ h.slims.ok.0) i) ((c.len-at.ensures ∙ h.texts.ok.0) i) (c.reserve-2.ensures.items i));
+      valid = c.put_slim.ensures.valid;
+    } in
+    put_slim c.self.invariant put
+
+pub returns-clause-ok : goal.returns-clause-ok
+returns-clause-ok c =
+    let h = c.self.inside in
+    let put : ArePut h.slims.items c.put_slim.new.slims.items h.odds.items c.put_slim.new.odds.items h.starts.items c.put_slim.new.starts.items
+    h.texts.items c.extend_reserved.new.items.items h.text_starts.items c.put_start.new.starts.items (with_text c.args.head c.args.target.now) = record {
+      slims = c.in_ok-put_slim.ensures.slims;
+      odds = c.in_ok-put_slim.ensures.odds;
+      odds_begin = c.in_ok-put_slim.ensures.starts;
+      texts = c.extend_reserved.ensures ∙ ap₂ ◌++◌ c.reserve.ensures.items c.bytes_of-text.ensures;
+      texts_begin = c.put_start.ensures
+          ∙ (λ i. starts_by ((c.len-place.ensures ∙ h.slims.ok.0) i) ((c.len-at.ensures ∙ h.texts.ok.0) i) (c.reserve-2.ensures.items i));
+      valid = c.put_slim.ensures.valid;
+    } in
+    put_heads c.self.invariant put ∙ ap (λ (v : List Head). v ++ with_text c.args.head c.args.target.now ∷ []) c.self.view_is

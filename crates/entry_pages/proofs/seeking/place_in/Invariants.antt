@@ -1,0 +1,10 @@
+use Rattle.std.proofs.Common.{◌≡◌, []}
+use Rattle.entry_pages.specs.Pack.{unpacked}
+use Rattle.entry_pages.specs.Private.Kept.{IsSeek}
+use Rattle.entry_pages.proofs.seeking.place_in.Given as goal
+
+abbrev pub invariant-loop-k : goal.invariant-loop-k
+invariant-loop-k l = record {
+  here : l.leads ≡ (l.heads, l.k);
+  seek : IsSeek l.heads l.rests l.wanted l.k l.at l.same (unpacked [] l.heads l.rests);
+}

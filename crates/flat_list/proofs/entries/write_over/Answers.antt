@@ -1,5 +1,0 @@
-use Rattle.std.proofs.lemmas.Str.{is_utf8-from_IsUtf8}
-use Rattle.flat_list.proofs.entries.write_over.Goals as goal
-
-pub rewrite-requires-clause-text : goal.rewrite-requires-clause-text
-rewrite-requires-clause-text c = is_utf8-from_IsUtf8 c.as_bytes.result.now c.as_bytes.ensures.utf8

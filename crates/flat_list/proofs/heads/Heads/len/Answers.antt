@@ -1,6 +1,0 @@
-use Rattle.std.proofs.Common.{ap, length, arith}
-use Rattle.flat_list.proofs.Slimmed.{slim_long}
-use Rattle.flat_list.proofs.heads.Heads.len.Goals as goal
-
-pub returns : goal.returns
-returns c = omega (arith, c.len.ensures, slim_long c.self.invariant, ap length c.self.view_is, c.self.inside.slims.ok.0)

@@ -1,9 +1,0 @@
-use Rattle.std.proofs.Common.{ap, ◌∙◌, subst}
-use Rattle.std.specs.Str.{IsUtf8}
-use Rattle.flat_list.specs.Private.Slim.{is_text}
-use Rattle.flat_list.proofs.Slimmed.{text_is}
-use Rattle.flat_list.proofs.slims.text_len.Goals as goal
-
-pub returns-in-Some-clause-valid : goal.returns-in-Some-clause-valid
-returns-in-Some-clause-valid c =
-    ap is_text c.in-Some.is ∙ text_is c.in-Some.target c.text.ensures.valid (subst IsUtf8 c.text.ensures.text c.text.utf8)
