@@ -22,8 +22,8 @@ use Rattle.path_text.specs.Order.{path_cmp}
 use Rattle.path_text.specs.Path.{refusal}
 use Rattle.path_text.specs.Total.{path_cmp_total, path_cmp_ties}
 use Rattle.outside.specs.Tree.{Files, Node, far_at, IsTree}
-use Rattle.flat_list.specs.declared.entries.Entry.{Entry}
-use Rattle.flat_list.specs.declared.entries.Mark.TheVariants as mark
+use Rattle.entry_pages.specs.declared.entries.Entry.{Entry}
+use Rattle.entry_pages.specs.declared.entries.Mark.TheVariants as mark
 use Rattle.tree_walk.specs.Walk.{walk, walk_down, all_told, told, entry_of, children_of, paths_of, WalkAscends, WalkFindsAll}
 use Rattle.tree_walk.specs.Roots.{is_in, is_in_some, IsRoots}
 use Rattle.test_tree.specs.Nodes.{test_files}

@@ -4,8 +4,8 @@ use Rattle.std.specs.Prelude.{◌≡◌, ◌⊎◌, ℕ, ◌≤◌, ◌++◌, Li
 use Rattle.std.specs.Option.{option_map, option_to_list}
 use Rattle.outside.specs.Tree.{Files}
 use Rattle.outside.specs.Whole.{can_save}
-use Rattle.flat_list.specs.declared.entries.Entry.{Entry}
-use Rattle.flat_list.specs.Entries.{summary_of}
+use Rattle.entry_pages.specs.declared.entries.Entry.{Entry}
+use Rattle.entry_pages.specs.Entries.{summary_of}
 use Rattle.tool_text.specs.Lines.{lines_of, summary_line}
 use Rattle.tool_text.specs.declared.noting.Note.{Note}
 use Rattle.tool_words.specs.Asked.{ListAsked, start_in, choice_in}

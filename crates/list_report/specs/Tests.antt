@@ -2,7 +2,7 @@
 -- made-up tree is libcircle's own benchmark (LaFon et al., SC 2012); the rest is our own.
 use Rattle.std.specs.Prelude.{◌≡◌, ℕ, List, [], ◌∷◌, length, codes, Option, Some}
 use Rattle.outside.specs.Tree.{Files}
-use Rattle.flat_list.specs.declared.entries.Entry.{Entry}
+use Rattle.entry_pages.specs.declared.entries.Entry.{Entry}
 use Rattle.test_tree.specs.Nodes.{test_files}
 use Rattle.tool_text.specs.declared.noting.Note.{Note}
 use Rattle.tool_words.specs.Asked.{TestAsked, roots, choice_in}

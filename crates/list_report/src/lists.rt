@@ -61,5 +61,5 @@ where
     } = task;
     let found = find(rt, alloc, &common, start, tests, now, files)?;
     save_list(alloc, files, output, &found.chosen)?;
-    Ok(list_report(alloc, found, &common, sort)?)
+    Ok(list_report(rt, alloc, found, &common, sort)?)
 }

@@ -1,7 +1,7 @@
 //! The texts of the entries found.
 ghost use Rattle.std.specs.Prelude.{◌≡◌, ◌++◌, List, length, IfOk};
-ghost use Rattle.flat_list.specs.declared.entries.Entry.{Entry};
-ghost use Rattle.flat_list.specs.Entries.{summary_of};
+ghost use Rattle.entry_pages.specs.declared.entries.Entry.{Entry};
+ghost use Rattle.entry_pages.specs.Entries.{summary_of};
 ghost use Rattle.tool_text.specs.Lines.{lines_of};
 ghost use Rattle.run_entries.specs.Entries.{InOrder, notes_text};
 ghost use Rattle.list_report.specs.Lists.{summary_text};
@@ -11,11 +11,14 @@ use path_text::OutOfMemory;
 use run_entries::{Findings, in_asked_order, notes_text};
 use run_report::Report;
 use std::alloc::Global;
-use tool_text::{Text, put_list, put_summary};
+use std::thread::Threads;
+use tool_text::{Text, list_text, put_summary};
 use tool_words::Common;
 
-/// The report of a list: a line for each chosen entry, in the order that is asked for, and the summary.
-pub fn list_report(
+/// The report of a list: a line for each chosen entry, in the order that is asked for, and the summary. Up to as many threads as
+/// there are hosts make the lines.
+pub fn list_report<R: Threads + Sync>(
+    rt: &R,
     alloc: Global,
     found: Findings,
     common: &Common,
@@ -30,8 +33,7 @@ pub fn list_report(
     let notes = notes_text(alloc, common, &found.account, &found.notes)?;
     let Findings { chosen, .. } = found;
     let printed = in_asked_order(chosen, order)?;
-    let mut out = Text::make(alloc);
-    put_list(&mut out, &printed)?;
+    let mut out = list_text(rt, alloc, &printed, common.hosts)?;
     put_summary(&mut out, &summary)?;
     Ok(Report {
         failed: summary.failed,

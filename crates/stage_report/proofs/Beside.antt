@@ -4,7 +4,7 @@ use Rattle.std.specs.Prelude.{nat_lt, not}
 use Rattle.std.specs.List.{AllByRecursion, list_any, count_by}
 use Rattle.std.proofs.lemmas.Bool.{false≢true, or_parts}
 use Rattle.std.proofs.lemmas.List.Elements.{All-from_recursion, recursion_from_All}
-use Rattle.flat_list.specs.declared.entries.Entry.{Entry}
+use Rattle.entry_pages.specs.declared.entries.Entry.{Entry}
 use Rattle.tree_walk.specs.Roots.{is_in, is_in_some}
 use Rattle.tree_walk.proofs.Lists.{weaker, swapped}
 use Rattle.checkpoints.specs.Placing.{clashes, is_misplaced, ArePlaced, is_open}

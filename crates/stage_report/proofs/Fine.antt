@@ -13,8 +13,8 @@ use Rattle.path_text.specs.Order.{path_cmp}
 use Rattle.outside.specs.Tree.{Files, IsTree}
 use Rattle.outside.specs.Count.{StoodStill}
 use Rattle.path_text.proofs.Parts as parts
-use Rattle.flat_list.specs.declared.entries.Entry.{Entry}
-use Rattle.flat_list.specs.declared.entries.Mark.TheVariants as mark
+use Rattle.entry_pages.specs.declared.entries.Entry.{Entry}
+use Rattle.entry_pages.specs.declared.entries.Mark.TheVariants as mark
 use Rattle.tool_text.specs.declared.noting.Why.TheVariants as why
 use Rattle.tool_text.specs.Notes.{mark_whys, number_whys, whys_of, notes_of}
 use Rattle.tool_words.specs.Limits.{Valid}

@@ -14,8 +14,8 @@ use Rattle.std.proofs.lemmas.List.Sorted.{IsPermutation-refl, All-permutation, s
 use Rattle.std.proofs.lemmas.List.Elements.{All-append, All-nil, recursion_from_All}
 use Rattle.path_text.specs.Order.{path_cmp}
 use Rattle.path_text.specs.Total.{path_cmp_total}
-use Rattle.flat_list.specs.declared.entries.Entry.{Entry}
-use Rattle.flat_list.specs.Entries.{is_shaped}
+use Rattle.entry_pages.specs.declared.entries.Entry.{Entry}
+use Rattle.entry_pages.specs.Entries.{is_shaped}
 use Rattle.tree_walk.specs.Walk.{paths_of}
 use Rattle.tree_walk.specs.Cut.{IsJoined}
 use Rattle.tree_walk.specs.Roots.{is_in_some}

@@ -1,34 +1,15 @@
 -- A cut of a walk in which no answer failed has done no more than the walk finds.
-use Rattle.std.proofs.Common.{◌≡◌, ℕ, ◌+◌, ◌-◌, ◌≤◌, List, [], ◌∷◌, length, refl, ap, ◌∙◌, sym, arith, suc}
+use Rattle.std.proofs.Common.{◌≡◌, ℕ, ◌+◌, ◌≤◌, List, [], ◌∷◌, length, refl, ap, ◌∙◌, sym, arith, suc}
 use Rattle.std.specs.List.{AllByRecursion, sum_by}
 use Rattle.std.proofs.lemmas.List.Sums.{sum_by-cons}
 use Rattle.std.proofs.lemmas.List.Concat.{length-flat_map}
 use Rattle.outside.specs.Tree.{Files, IsTree}
-use Rattle.flat_list.specs.declared.entries.Entry.{Entry}
+use Rattle.entry_pages.specs.declared.entries.Entry.{Entry}
 use Rattle.tree_walk.specs.Walk.{Answer, told, stat_failed, list_failed, all_told, answer_in, children_of, walk, weight, weight_of}
 use Rattle.tree_walk.specs.Cut.{IsCut}
-use Rattle.tree_walk.proofs.Recursive.{children_short, walk_is}
+use Rattle.tree_walk.proofs.Recursive.{walk_is}
 use Rattle.tree_walk.proofs.Cuts.{kids, handled_by, pushed_by}
-
--- ---- no done path is too long
-
--- by how much a path is too long
-abbrev over : List ℕ → ℕ
-over path = length path - 4095
-
-none_over : (ps : List (List ℕ)) → AllByRecursion (λ p. length p ≤ 4095) ps → sum_by over ps ≡ 0
-none_over [] h = refl
-none_over (p ∷ ps) h = omega (arith, sum_by-cons over p ps, h.0, none_over ps h.1)
-
-kids_over : (files : Files) (es : List Entry) → IsTree files → sum_by (λ e. sum_by over (kids files e)) es ≡ 0
-kids_over files [] t = refl
-kids_over files (e ∷ es) t =
-    omega (
-      arith,
-      sum_by-cons (λ (e : Entry). sum_by over (kids files e)) e es,
-      none_over (kids files e) (children_short files (answer_in e) e.path t),
-      kids_over files es t,
-    )
+use Rattle.tree_walk.proofs.Restarts.{over, none_over, kids_over}
 
 -- ---- each done entry stands for itself and the walks of its children
 

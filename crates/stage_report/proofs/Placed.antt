@@ -10,7 +10,7 @@ use Rattle.std.proofs.lemmas.List.Sums.{sum_by-cons}
 use Rattle.std.proofs.lemmas.List.Sorted.{sum_by-IsPermutation}
 use Rattle.path_text.specs.Order.{front}
 use Rattle.outside.specs.Tree.{Files}
-use Rattle.flat_list.specs.declared.entries.Entry.{Entry}
+use Rattle.entry_pages.specs.declared.entries.Entry.{Entry}
 use Rattle.circle_lists.specs.Spelling.{IsWritable}
 use Rattle.circle_lists.specs.Checkpoint.{HoldLists}
 use Rattle.tool_words.specs.Limits.{Valid}

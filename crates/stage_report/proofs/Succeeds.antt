@@ -6,7 +6,7 @@ use Rattle.std.proofs.lemmas.List.Elements.{All-from_recursion}
 use Rattle.outside.specs.Tree.{Files}
 use Rattle.outside.specs.Count.{StoodStill}
 use Rattle.outside.specs.Whole.{can_save}
-use Rattle.flat_list.specs.declared.entries.Entry.{Entry}
+use Rattle.entry_pages.specs.declared.entries.Entry.{Entry}
 use Rattle.tool_text.specs.NoteOrder.{AreInOrder, NothingToOrder}
 use Rattle.tool_words.specs.Asked.{StageAsked}
 use Rattle.tool_words.specs.Limits.{WithinStage}

@@ -4,7 +4,7 @@ use Rattle.std.specs.Prelude.{◌≡◌, ◌⊎◌, ℕ, List, [], Option, Some,
 use Rattle.std.specs.List.{sum_by}
 use Rattle.outside.specs.Tree.{Files, IsTree}
 use Rattle.outside.specs.Count.{StoodStill}
-use Rattle.flat_list.specs.declared.entries.Entry.{Entry}
+use Rattle.entry_pages.specs.declared.entries.Entry.{Entry}
 use Rattle.tool_words.specs.Asked.{StageAsked, ListAsked, roots}
 use Rattle.tool_words.specs.Limits.{Valid, WithinStage}
 use Rattle.tree_walk.specs.Walk.{weight_of}

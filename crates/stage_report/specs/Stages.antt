@@ -7,8 +7,8 @@ use Rattle.std.specs.List.{sum_by, flat_map}
 use Rattle.outside.specs.Tree.{Files}
 use Rattle.outside.specs.Count.{StoodStill}
 use Rattle.outside.specs.Whole.{can_save}
-use Rattle.flat_list.specs.declared.entries.Entry.{Entry}
-use Rattle.flat_list.specs.declared.entries.Mark.TheVariants as mark
+use Rattle.entry_pages.specs.declared.entries.Entry.{Entry}
+use Rattle.entry_pages.specs.declared.entries.Mark.TheVariants as mark
 use Rattle.circle_run.specs.declared.outcomes.Share.{Share}
 use Rattle.tool_text.specs.Lines.{lines_of}
 use Rattle.tool_text.specs.declared.noting.Note.{Note}

@@ -72,7 +72,7 @@ where
         Stage::Finished { list, account } => {
             let found = Findings::of_all(alloc, list, account)?;
             save_list(alloc, files, output, &found.chosen)?;
-            Ok(list_report(alloc, found, &common, sort)?)
+            Ok(list_report(rt, alloc, found, &common, sort)?)
         }
         Stage::Cut {
             handled,

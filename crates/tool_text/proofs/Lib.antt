@@ -3,3 +3,4 @@ pub mod Noted
 pub mod Ascending
 pub mod NotesCompared
 pub mod NotesOrdered
+pub mod Between

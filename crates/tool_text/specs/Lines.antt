@@ -1,14 +1,14 @@
 -- What dwalk prints: a line for each entry that has a stat, and the line of the summary. After mpiFileUtils' dwalk, with the signs of
 -- `find`, and the arrow of `ls` behind a link; the texts are our own.
-use Rattle.std.specs.Prelude.{ℕ, ◌-◌, List, [], ◌∷◌, ◌++◌, length, replicate, Option, Some, None, codes}
+use Rattle.std.specs.Prelude.{ℕ, ◌-◌, List, [], ◌∷◌, ◌++◌, length, take, drop, replicate, Option, Some, None, codes}
 use Rattle.std.specs.List.{flat_map}
 use Rattle.std.specs.Fmt.{decimal}
 use Rattle.path_text.specs.Escape.{escape}
 use Rattle.outside.specs.declared.trees.Kind.{Kind}
 use Rattle.outside.specs.declared.trees.Kind.TheVariants as kind
 use Rattle.outside.specs.declared.trees.Stat.{Stat}
-use Rattle.flat_list.specs.declared.entries.Entry.{Entry}
-use Rattle.flat_list.specs.declared.summaries.Summary.{Summary}
+use Rattle.entry_pages.specs.declared.entries.Entry.{Entry}
+use Rattle.entry_pages.specs.declared.summaries.Summary.{Summary}
 
 -- the letter of a kind: `f`, `d`, `l`, `o`
 abbrev pub letter : Kind → ℕ
@@ -41,6 +41,10 @@ line_of e = line_by e.stat e.path e.target
 -- the lines of the entries, in their order
 abbrev pub lines_of : List Entry → List ℕ
 lines_of entries = flat_map line_of entries
+
+-- the lines of the entries from one place to another
+abbrev pub lines_between : ℕ → ℕ → List Entry → List ℕ
+lines_between from to entries = lines_of (drop from (take to entries))
 
 -- the line of a summary
 abbrev pub summary_line : Summary → List ℕ

@@ -3,7 +3,7 @@
 //! - [`Text`] is text in the making, seen as its bytes. It goes to a sink at once, when it is whole.
 //! - [`put_list`] appends a line for each entry that has a stat: the letter of its kind, its size right-aligned in 12 columns, and its path
 //!   with escapes. For a link whose text is known ` -> ` and the text follow. [`put_summary`] appends the line of a
-//!   [`Summary`](flat_list::Summary).
+//!   [`Summary`](flat_list::Summary). [`list_text`] makes the lines of a list in several threads.
 //! - [`notes_of`] makes the failure notes of a list, as many as its summary counts, and [`put_notes`] appends a line for each
 //!   [`Note`].
 //! - [`in_order`] puts notes from several places into one order, each once: in path order; at one path those of a destination
@@ -32,6 +32,7 @@
 mod comparing;
 mod drafts;
 mod grouping;
+mod halving;
 mod laws;
 mod listing;
 mod noting;
@@ -46,6 +47,6 @@ pub use noting::{Note, Why, notes_of};
 pub use ordering::in_order;
 pub use syncing::SyncCounts;
 pub use texts::{
-    Text, put_groups, put_line, put_list, put_notes, put_path_line, put_progress, put_rows,
-    put_shares, put_summary, put_synced, put_trace,
+    Text, list_text, put_groups, put_line, put_list, put_notes, put_path_line, put_progress,
+    put_rows, put_shares, put_summary, put_synced, put_trace,
 };

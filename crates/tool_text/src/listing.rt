@@ -1,7 +1,7 @@
 //! The lines of a list, and of its summary.
-ghost use Rattle.std.specs.Prelude.{◌≡◌, ◌+◌, ◌++◌, ◌∷◌, [], OnOk, codes};
+ghost use Rattle.std.specs.Prelude.{◌≡◌, ◌+◌, ◌≤◌, ◌++◌, ◌∷◌, [], length, OnOk, codes};
 ghost use Rattle.std.specs.Fmt.{decimal};
-ghost use Rattle.tool_text.specs.Lines.{letter, target_part, stat_line, line_of, lines_of, summary_line};
+ghost use Rattle.tool_text.specs.Lines.{letter, target_part, stat_line, line_of, lines_of, lines_between, summary_line};
 
 use crate::drafts::Draft;
 use crate::numbers::{put_decimal, put_right, put_wide};
@@ -22,16 +22,32 @@ pub(crate) fn add_list(draft: &mut Draft, list: &FlatList) -> Result<(), OutOfMe
     ensures stands { draft.new.0 ≡ draft.old.0 }
 {
     draft.reserve(expected_len(list))?;
-    let mut cursor = list.cursor()?;
-    while cursor.advance()? {
+    add_between(draft, list, 0, list.len())
+}
+
+/// Adds a line for each entry from one place to another that has a stat.
+pub(crate) fn add_between(
+    draft: &mut Draft,
+    list: &FlatList,
+    from: usize,
+    to: usize,
+) -> Result<(), OutOfMemory>
+    requires order { from ≤ to }
+    requires inside { to ≤ length list.now }
+    ensures ok { OnOk result (draft.new.1 ≡ draft.old.1 ++ lines_between from to list.now) }
+    ensures stands { draft.new.0 ≡ draft.old.0 }
+{
+    let mut cursor = list.cursor_at(from)?;
+    for _ in from..to {
+        cursor.advance()?;
         add_entry(draft, cursor.entry())?;
     }
     Ok(())
 }
 
-// The room that the lines and a summary take at first. An eighth more than the paths and the numbers is for the texts of links and for
-// escapes: room that is not used costs no memory.
-fn expected_len(list: &FlatList) -> usize {
+/// The room that the lines and a summary take at first. An eighth more than the paths and the numbers is for the texts of links and for
+/// escapes: room that is not used costs no memory.
+pub(crate) fn expected_len(list: &FlatList) -> usize {
     let paths = usize::try_from(list.path_bytes()).unwrap_or(usize::MAX);
     let lines = paths.saturating_add(list.len().saturating_mul(LINE_LEN));
     lines.saturating_add(lines / 8).saturating_add(SUMMARY_LEN)

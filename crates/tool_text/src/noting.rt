@@ -3,7 +3,7 @@ ghost use Rattle.std.specs.Prelude.{◌≡◌, ◌++◌, ◌∷◌, [], false, l
 ghost use Rattle.std.specs.Option.{option_to_list};
 ghost use Rattle.std.specs.Fmt.{decimal};
 ghost use Rattle.path_text.specs.Escape.{escape};
-ghost use Rattle.flat_list.specs.Entries.{summary_of};
+ghost use Rattle.entry_pages.specs.Entries.{summary_of};
 ghost use Rattle.tool_text.specs.Notes.{mark_whys, entry_notes, notes_of, why_text, note_line, note_lines};
 
 use crate::drafts::Draft;

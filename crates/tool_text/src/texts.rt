@@ -1,5 +1,5 @@
 //! Text, and the calls that add to it.
-ghost use Rattle.std.specs.Prelude.{◌≡◌, ◌==◌, ◌<◌, ◌^◌, ◌++◌, ◌∷◌, [], length, OnOk, OnErr};
+ghost use Rattle.std.specs.Prelude.{◌≡◌, ◌==◌, ◌<◌, ◌^◌, ◌++◌, ◌∷◌, [], length, OnOk, OnErr, IfOk};
 ghost use Rattle.std.specs.List.{sum_by};
 ghost use Rattle.path_text.specs.Escape.{escape};
 ghost use Rattle.tool_text.specs.Groups.{file_count, groups_text};
@@ -12,6 +12,7 @@ ghost use Rattle.tool_text.specs.Synced.{synced_line};
 use crate::comparing::add_rows;
 use crate::drafts::Draft;
 use crate::grouping::add_groups;
+use crate::halving::list_by;
 use crate::listing::{add_list, add_summary};
 use crate::noting::{Note, add_notes};
 use crate::running::{add_progress, add_shares, add_trace};
@@ -22,6 +23,7 @@ use path_text::{OutOfMemory, Path};
 use ring_core::Event;
 use std::alloc::Global;
 use std::marker::Model;
+use std::thread::Threads;
 use tree_cmp::Compared;
 use tree_dup::Groups;
 
@@ -81,6 +83,20 @@ pub fn put_list(text: &mut Text, list: &FlatList) -> Result<(), OutOfMemory>
 {
     let put = add_list(&mut text.draft, list);
     text.draft.end(put)
+}
+
+/// The text of a list, by up to `hosts` threads: a line for each entry that has a stat.
+pub fn list_text<R: Threads + Sync>(
+    rt: &R,
+    alloc: Global,
+    list: &FlatList,
+    hosts: u32,
+) -> Result<Text, OutOfMemory>
+    ensures { IfOk result (λ text. text ≡ lines_of list.now) }
+{
+    let mut draft = list_by(rt, alloc, list, hosts)?;
+    draft.end(Ok(()))?;
+    Ok(Text { draft })
 }
 
 /// Appends the line of a summary. An error leaves the text as it was.
