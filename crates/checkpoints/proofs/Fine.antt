@@ -11,7 +11,7 @@ use Rattle.path_text.specs.Path.{refusal, parent_of}
 use Rattle.outside.specs.Tree.{Files, Node, is_file, is_dir, is_root}
 use Rattle.outside.specs.Count.{RoseBy, StoodStill}
 use Rattle.outside.specs.Whole.{HoldsFile, can_save}
-use Rattle.flat_list.specs.declared.entries.Entry.{Entry}
+use Rattle.entry_pages.specs.declared.entries.Entry.{Entry}
 use Rattle.flat_list.specs.Spelling.{Spells, SpellsOne, RefusesExactly, IsRefused, IsTooLong}
 use Rattle.circle_lists.specs.declared.errors.ListsError.{ListsError}
 use Rattle.circle_lists.specs.declared.errors.ListsError.TheVariants as error

@@ -10,7 +10,7 @@ use Rattle.std.proofs.lemmas.List.{drop-map, map-append, get_or_default}
 use Rattle.std.proofs.lemmas.List.Sorted.{sorted_far, ranks_by}
 use Rattle.path_text.specs.Order.{path_cmp}
 use Rattle.path_text.specs.Total.{path_cmp_total}
-use Rattle.flat_list.specs.declared.entries.Entry.{Entry}
+use Rattle.entry_pages.specs.declared.entries.Entry.{Entry}
 use Rattle.tree_walk.specs.Roots.{is_in}
 use Rattle.tree_walk.proofs.Lists.{weaker}
 use Rattle.checkpoints.specs.Placing.{clashes, is_misplaced}

@@ -8,7 +8,7 @@ use Rattle.std.proofs.lemmas.List.{length-append}
 use Rattle.std.proofs.lemmas.List.Concat.{flat_map-append}
 use Rattle.std.proofs.lemmas.List.FromFn.{length-enumerate_from, get_or-enumerate_from}
 use Rattle.std.proofs.lemmas.List.Sorted.{All-permutation, IsPermutation-sym, IsPermutation-map, Contains-permutation, sum_by-IsPermutation}
-use Rattle.flat_list.specs.declared.entries.Entry.{Entry}
+use Rattle.entry_pages.specs.declared.entries.Entry.{Entry}
 use Rattle.tree_walk.specs.Roots.{is_in}
 use Rattle.checkpoints.specs.Placing.{clashes, is_misplaced, ArePlaced, IsFirstMisplaced}
 use Rattle.checkpoints.specs.Passing.{Numbered, paths_in, IsUpTo, IsLowest, IsPlace}

@@ -3,7 +3,7 @@ use Rattle.std.proofs.Common.{◌≡◌, ℕ, ◌<◌, ◌≤◌, List, [], ◌�
 use Rattle.std.proofs.Common.{subst, arith, length-append}
 use Rattle.std.proofs.Math.Seq.{get_or-append_seam}
 use Rattle.outside.specs.Tree.{Files}
-use Rattle.flat_list.specs.declared.entries.Entry.{Entry}
+use Rattle.entry_pages.specs.declared.entries.Entry.{Entry}
 use Rattle.circle_lists.specs.declared.errors.ListsError.{ListsError}
 use Rattle.circle_lists.specs.declared.errors.ListsError.TheVariants as error
 use Rattle.circle_lists.specs.Checkpoint.{StopsReading}

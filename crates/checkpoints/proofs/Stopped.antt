@@ -4,7 +4,7 @@ use Rattle.std.specs.Prelude.{IfErr, IfSome, Result, Ok, Err, is_some}
 use Rattle.outside.specs.Count.{RoseBy}
 use Rattle.outside.specs.declared.plots.WriteError.{WriteError}
 use Rattle.outside.specs.declared.plots.WriteError.TheVariants as write
-use Rattle.flat_list.specs.declared.entries.Entry.{Entry}
+use Rattle.entry_pages.specs.declared.entries.Entry.{Entry}
 use Rattle.circle_lists.specs.declared.errors.ListsError.{ListsError}
 use Rattle.circle_lists.specs.Checkpoint.{HasPlace, SameButFiles}
 use Rattle.circle_lists.specs.Checkpoint as lists

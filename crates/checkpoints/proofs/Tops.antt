@@ -1,7 +1,7 @@
 -- Of paths in path order the last one that is in no earlier one covers, of all that follows, what any of them covers.
 use Rattle.std.proofs.Common.{◌≡◌, ℕ, ◌<◌, ◌≤◌, Bool, true, false, ◌&&◌, ◌||◌, List, [], ◌∷◌, ◌++◌, length, refl, ap, ◌∙◌, sym, subst, arith, cond}
 use Rattle.std.proofs.Common.{Option, Some, None, length-append}
-use Rattle.std.specs.Prelude.{◌==◌, nat_lt}
+use Rattle.std.specs.Prelude.{◌==◌}
 use Rattle.std.specs.List.{AllByRecursion, list_any}
 use Rattle.std.specs.Ordering.{nat_cmp, ordering_then, is_lt, ordering_reverse}
 use Rattle.std.specs.declared.cmp.Ordering.{Ordering}
@@ -10,24 +10,14 @@ use Rattle.std.proofs.lemmas.Bool.{false≢true}
 use Rattle.std.proofs.lemmas.Bool.Decides.{nat_tests}
 use Rattle.path_text.specs.Order.{path_cmp, byte_rank, front}
 use Rattle.path_text.specs.Total.{path_cmp_total, path_cmp_same}
-use Rattle.path_text.proofs.Preorder.{before_all, precedes}
+use Rattle.path_text.proofs.Preorder.{precedes}
 use Rattle.tree_walk.specs.Roots.{is_in}
 use Rattle.tree_walk.proofs.Inside.{begins, both, is_in_is, in_itself, in_trans, begins-itself, begins-less, begins-length}
 use Rattle.tree_walk.proofs.Covers.{in_line, not_both}
+use Rattle.tree_walk.proofs.Rooted.{before_later}
 use Rattle.checkpoints.specs.Passing.{Behind, AllBehind, covered, top_with, IsTop}
 
--- ---- what comes before y, with all that is under it, comes before what follows y
-
-still : (a b c : ℕ) (p q : Bool) (r : Ordering) → (nat_lt (byte_rank a) (byte_rank b) || (a == b && p)) ≡ true →
-    ordering_then (nat_cmp (byte_rank b) (byte_rank c)) r ≡ Less → (p ≡ true → r ≡ Less → q ≡ true) →
-    (nat_lt (byte_rank a) (byte_rank c) || (a == c && q)) ≡ true
-still a b c p q r e l h = grind (arith, nat_tests)
-
-before_later : (f y z : List ℕ) → before_all f y ≡ true → path_cmp y z ≡ Less → before_all f z ≡ true
-before_later [] y z e l = absurd (false≢true e)
-before_later (a ∷ f) [] z e l = absurd (false≢true e)
-before_later (a ∷ f) (b ∷ y) [] e l = cc
-before_later (a ∷ f) (b ∷ y) (c ∷ z) e l = still a b c (before_all f y) (before_all f z) (path_cmp y z) e l (λ p q. before_later f y z p q)
+-- ---- what stands behind a path
 
 -- what stands behind a path is that path, or is greater
 behind_cases : (Q : Type 0) (x y : List ℕ) → Behind x y → (x ≡ y → Q) → (path_cmp x y ≡ Less → Q) → Q

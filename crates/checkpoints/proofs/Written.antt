@@ -10,7 +10,7 @@ use Rattle.outside.specs.Tree.{Files, is_dir}
 use Rattle.outside.specs.Writes.{SameBut, new_file}
 use Rattle.outside.specs.Whole.{HoldsFile}
 use Rattle.outside.proofs.Saved.{put_one}
-use Rattle.flat_list.specs.declared.entries.Entry.{Entry}
+use Rattle.entry_pages.specs.declared.entries.Entry.{Entry}
 use Rattle.flat_list.specs.Spelling.{Spells}
 use Rattle.flat_list.specs.declared.versions.Version.TheVariants.{Two}
 use Rattle.circle_lists.specs.Checkpoint.{file_path, HoldLists, SameButFiles}

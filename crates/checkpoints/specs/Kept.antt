@@ -6,7 +6,7 @@ use Rattle.std.specs.FinMap.{get}
 use Rattle.path_text.specs.Path.{joined}
 use Rattle.outside.specs.Tree.{Files}
 use Rattle.outside.specs.Whole.{HoldsFile}
-use Rattle.flat_list.specs.declared.entries.Entry.{Entry}
+use Rattle.entry_pages.specs.declared.entries.Entry.{Entry}
 use Rattle.flat_list.specs.Spelling.{Spells, SpellsAs}
 use Rattle.flat_list.specs.declared.versions.Version.TheVariants.{Two}
 use Rattle.circle_lists.specs.Spelling.{IsRank}

@@ -5,7 +5,7 @@ use Rattle.path_text.specs.Path.{refusal}
 use Rattle.outside.specs.Tree.{Files}
 use Rattle.outside.specs.Count.{StoodStill}
 use Rattle.outside.specs.Whole.{can_save}
-use Rattle.flat_list.specs.declared.entries.Entry.{Entry}
+use Rattle.entry_pages.specs.declared.entries.Entry.{Entry}
 use Rattle.circle_lists.specs.Checkpoint.{AllFit}
 use Rattle.run_report.specs.declared.stops.Stop.{Stop}
 use Rattle.run_report.specs.declared.stops.Stop.TheVariants as stop

@@ -2,8 +2,8 @@
 use Rattle.std.specs.Prelude.{◌≡◌, ℕ, Bool, true, false, not, ◌&&◌, ◌||◌, List, ◌∷◌, ◌++◌, length, All, nat_lt}
 use Rattle.std.specs.List.{flat_map, list_any, count_by}
 use Rattle.outside.specs.declared.trees.Kind.TheVariants as kind
-use Rattle.flat_list.specs.declared.entries.Entry.{Entry}
-use Rattle.flat_list.specs.Entries.{is_of, is_fine}
+use Rattle.entry_pages.specs.declared.entries.Entry.{Entry}
+use Rattle.entry_pages.specs.Entries.{is_of, is_fine}
 use Rattle.tree_walk.specs.Roots.{is_in}
 
 -- the paths under it may still be left: a directory whose names were listed

@@ -5,7 +5,7 @@ ghost use Rattle.std.specs.List.Sorted.{IsStrictlySortedBy};
 ghost use Rattle.std.specs.Option.{option_copied};
 ghost use Rattle.std.specs.Ordering.{is_lt};
 ghost use Rattle.path_text.specs.Order.{path_cmp};
-ghost use Rattle.flat_list.specs.Entries.{is_of};
+ghost use Rattle.entry_pages.specs.Entries.{is_of};
 ghost use Rattle.flat_list.specs.Spelling.{paths};
 ghost use Rattle.outside.specs.declared.trees.Kind.TheVariants as kind;
 ghost use Rattle.checkpoints.specs.Placing.{is_open, clashes};
@@ -27,7 +27,7 @@ pub(crate) struct Ahead<'a> {
 
 impl<'a> Model for Ahead<'a> {
     ghost use Rattle.std.specs.Prelude.{◌≡◌, ◌<◌, ◌≤◌, false, List, length};
-    ghost use Rattle.flat_list.specs.declared.entries.Entry.{Entry};
+    ghost use Rattle.entry_pages.specs.declared.entries.Entry.{Entry};
     ghost use Rattle.checkpoints.specs.Passing.{passed_of, ahead_of};
 
     ghost Value = { List Entry × List Entry };

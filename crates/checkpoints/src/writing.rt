@@ -5,7 +5,7 @@ ghost use Rattle.path_text.specs.Order.{path_cmp};
 ghost use Rattle.outside.specs.Count.{RoseBy};
 ghost use Rattle.outside.specs.Tree.{is_root};
 ghost use Rattle.outside.specs.Writes.{nothing_lent, SameBut};
-ghost use Rattle.flat_list.specs.Entries.{is_shaped};
+ghost use Rattle.entry_pages.specs.Entries.{is_shaped};
 ghost use Rattle.flat_list.specs.Spelling.{paths};
 ghost use Rattle.circle_lists.specs.Checkpoint.{AllFit};
 ghost use Rattle.run_report.specs.Sides.{side_of};

@@ -1,5 +1,5 @@
 use Rattle.std.proofs.Common.{◌++◌, ◌∙◌, ap, sym, subst, rules, List, ℕ, Option}
-use Rattle.flat_list.specs.declared.entries.Entry.{Entry}
+use Rattle.entry_pages.specs.declared.entries.Entry.{Entry}
 use Rattle.checkpoints.specs.Passing.{closed_with, ArePassed}
 use Rattle.checkpoints.proofs.Stepping.{moved_all}
 use Rattle.checkpoints.proofs.Clashing.{Ascend, IsNext, passed_more}

@@ -1,5 +1,5 @@
 use Rattle.std.proofs.Common.{◌≡◌, ◌∷◌, ◌∙◌, ap, sym, Bool, false, List, drop}
-use Rattle.flat_list.specs.declared.entries.Entry.{Entry}
+use Rattle.entry_pages.specs.declared.entries.Entry.{Entry}
 use Rattle.flat_list.proofs.Sourced.{entry_left}
 use Rattle.checkpoints.specs.Passing.{ahead_of, first_of}
 use Rattle.checkpoints.proofs.passing.Ahead.next.Goals as goal

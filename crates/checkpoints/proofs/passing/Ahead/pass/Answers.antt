@@ -1,5 +1,5 @@
 use Rattle.std.proofs.Common.{◌∙◌, ap, sym, Bool, List}
-use Rattle.flat_list.specs.declared.entries.Entry.{Entry}
+use Rattle.entry_pages.specs.declared.entries.Entry.{Entry}
 use Rattle.flat_list.proofs.Sourced.{Stepped}
 use Rattle.checkpoints.specs.Passing.{passed_of, ahead_of, moved}
 use Rattle.checkpoints.proofs.Stepping.{stepped}
