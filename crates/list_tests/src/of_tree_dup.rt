@@ -6,7 +6,6 @@ use outside::Ground;
 use path_text::Path;
 use std::alloc::Global;
 use std::process::Abort;
-use std::test::Fail;
 use std::thread::Threads;
 use tree_dup::{Groups, find_groups};
 
@@ -41,14 +40,10 @@ fn reader(a: &'static [u8], b: &'static [u8], c: &'static [u8]) -> Counting {
 }
 
 // The files of the list, grouped by one reader.
-fn grouped_by_one<R: Threads + Sync>(
-    rt: &R,
-    alloc: Global,
-    reader: Counting,
-) -> Result<Groups, Fail> {
-    let list = FlatList::decode(alloc, WORKED.as_bytes())?;
-    let mut readers = vec![in alloc; reader]?;
-    Ok(find_groups(rt, alloc, &list, &mut readers, 1)?)
+fn grouped_by_one<R: Abort + Threads + Sync>(rt: &R, alloc: Global, reader: Counting) -> Groups {
+    let list = FlatList::decode(alloc, WORKED.as_bytes()).expect(rt, "a list");
+    let mut readers = vec![in alloc; reader].expect(rt, "memory");
+    find_groups(rt, alloc, &list, &mut readers, 1).expect(rt, "memory")
 }
 
 // Stops the test if the paths are others.
@@ -70,9 +65,9 @@ fn same_groups(rt: &impl Abort, found: &Groups, want: &[[&'static str; 2]]) {
 }
 
 #[test]
-fn a_group_has_its_size_and_digest(rt: HostRuntime) -> Result<(), Fail> {
+fn a_group_has_its_size_and_digest(rt: HostRuntime) {
     let alloc = rt.alloc();
-    let found = grouped_by_one(&rt, alloc, reader(b"abc", b"abd", b"abc"))?;
+    let found = grouped_by_one(&rt, alloc, reader(b"abc", b"abd", b"abc"));
     same_groups(&rt, &found, &[["/g/a", "/g/c"], ["/g/e", "/g/f"]]);
     if found.len() > 0 {
         assert_eq!(rt; found.group(0).size, 3);
@@ -80,7 +75,6 @@ fn a_group_has_its_size_and_digest(rt: HostRuntime) -> Result<(), Fail> {
     }
     same_paths(&rt, found.failed(), &[]);
     same_paths(&rt, found.changed(), &[]);
-    Ok(())
 }
 
 // Stops the test if a file was read from its front more often than so.
@@ -97,11 +91,11 @@ fn read_at_most(rt: &impl Abort, readers: &[Counting], most: [u64; 6]) {
 // A file whose size no other shares is not read, nor is an empty one. A file that shares its size is read once for its hash, and
 // once more if another one has that hash too.
 #[test]
-fn files_are_read_twice_at_most(rt: HostRuntime) -> Result<(), Fail> {
+fn files_are_read_twice_at_most(rt: HostRuntime) {
     let alloc = rt.alloc();
-    let list = FlatList::decode(alloc, WORKED.as_bytes())?;
-    let mut one = vec![in alloc; reader(b"abc", b"abd", b"abc")]?;
-    let found = find_groups(&rt, alloc, &list, &mut one, 1)?;
+    let list = FlatList::decode(alloc, WORKED.as_bytes()).expect(&rt, "a list");
+    let mut one = vec![in alloc; reader(b"abc", b"abd", b"abc")].expect(&rt, "memory");
+    let found = find_groups(&rt, alloc, &list, &mut one, 1).expect(&rt, "memory");
     same_groups(&rt, &found, &[["/g/a", "/g/c"], ["/g/e", "/g/f"]]);
     read_at_most(&rt, &one, [2, 1, 2, 0, 0, 0]);
     let mut four = vec![in alloc;
@@ -109,11 +103,11 @@ fn files_are_read_twice_at_most(rt: HostRuntime) -> Result<(), Fail> {
         reader(b"abc", b"abd", b"abc"),
         reader(b"abc", b"abd", b"abc"),
         reader(b"abc", b"abd", b"abc"),
-    ]?;
-    let found = find_groups(&rt, alloc, &list, &mut four, 4)?;
+    ]
+    .expect(&rt, "memory");
+    let found = find_groups(&rt, alloc, &list, &mut four, 4).expect(&rt, "memory");
     same_groups(&rt, &found, &[["/g/a", "/g/c"], ["/g/e", "/g/f"]]);
     read_at_most(&rt, &four, [2, 1, 2, 0, 0, 0]);
-    Ok(())
 }
 
 // One of three equal files is read in this way when it is read again. Stops the test if they come to other groups than these two,
@@ -124,9 +118,9 @@ fn same_parts<R: Abort + Threads + Sync>(
     name: &'static str,
     then: Then,
     left: [&'static str; 2],
-) -> Result<(), Fail> {
+) {
     let files = reader(b"abc", b"abc", b"abc").then(name, then);
-    let found = grouped_by_one(rt, alloc, files)?;
+    let found = grouped_by_one(rt, alloc, files);
     same_groups(rt, &found, &[left, ["/g/e", "/g/f"]]);
     let named = [name];
     match then {
@@ -143,95 +137,103 @@ fn same_parts<R: Abort + Threads + Sync>(
             same_paths(rt, found.changed(), &[]);
         }
     }
-    Ok(())
 }
 
 // The others stay together, be it the first of them or another.
 #[test]
-fn a_file_that_is_read_otherwise_the_second_time_leaves_the_others(
-    rt: HostRuntime,
-) -> Result<(), Fail> {
+fn a_file_that_is_read_otherwise_the_second_time_leaves_the_others(rt: HostRuntime) {
     let alloc = rt.alloc();
     for then in [Then::IsOther, Then::IsShort, Then::IsGone, Then::Fails] {
-        same_parts(&rt, alloc, "/g/a", then, ["/g/b", "/g/c"])?;
-        same_parts(&rt, alloc, "/g/b", then, ["/g/a", "/g/c"])?;
-        same_parts(&rt, alloc, "/g/c", then, ["/g/a", "/g/b"])?;
+        same_parts(&rt, alloc, "/g/a", then, ["/g/b", "/g/c"]);
+        same_parts(&rt, alloc, "/g/b", then, ["/g/a", "/g/c"]);
+        same_parts(&rt, alloc, "/g/c", then, ["/g/a", "/g/b"]);
     }
-    Ok(())
 }
 
 // A file with more bytes than its size in the list is grouped by so many bytes, and one with fewer has changed.
 #[test]
-fn a_file_that_is_shorter_than_listed_has_changed(rt: HostRuntime) -> Result<(), Fail> {
+fn a_file_that_is_shorter_than_listed_has_changed(rt: HostRuntime) {
     let alloc = rt.alloc();
-    let found = grouped_by_one(&rt, alloc, reader(b"ab", b"abcd", b"abc"))?;
+    let found = grouped_by_one(&rt, alloc, reader(b"ab", b"abcd", b"abc"));
     same_groups(&rt, &found, &[["/g/b", "/g/c"], ["/g/e", "/g/f"]]);
     same_paths(&rt, found.failed(), &[]);
     same_paths(&rt, found.changed(), &["/g/a"]);
-    let found = grouped_by_one(&rt, alloc, reader(b"", b"ab", b"abc"))?;
+    let found = grouped_by_one(&rt, alloc, reader(b"", b"ab", b"abc"));
     same_groups(&rt, &found, &[["/g/e", "/g/f"]]);
     same_paths(&rt, found.changed(), &["/g/a", "/g/b"]);
-    Ok(())
 }
 
 // 600 files of three bytes: the numbers below 300, each twice.
-fn many(alloc: Global) -> Result<MemGround, Fail> {
-    let mut files = MemGround::empty(alloc)?;
-    files.put_dir(&Path::parse(alloc, "/g")?, 0, None)?;
+fn many(rt: &impl Abort, alloc: Global) -> MemGround {
+    let mut files = MemGround::empty(alloc).expect(rt, "memory");
+    files
+        .put_dir(&Path::parse(alloc, "/g").expect(rt, "a path"), 0, None)
+        .expect(rt, "memory");
     for at in 0..600u64 {
-        let path = format!(in alloc; "/g/{at:03}")?;
-        let text = format!(in alloc; "{:03}", at % 300)?;
-        files.put_file(&Path::parse(alloc, &path)?, text.as_bytes(), None)?;
+        let path = format!(in alloc; "/g/{at:03}").expect(rt, "memory");
+        let text = format!(in alloc; "{:03}", at % 300).expect(rt, "memory");
+        files
+            .put_file(
+                &Path::parse(alloc, &path).expect(rt, "a path"),
+                text.as_bytes(),
+                None,
+            )
+            .expect(rt, "an entry");
     }
-    Ok(files)
+    files
 }
 
 // The list file of these files.
-fn many_listed(alloc: Global) -> Result<String, Fail> {
-    let mut text = String::from_str(alloc, "mfu list 2\nd 0 - ok 0 0 /g\n")?;
+fn many_listed(rt: &impl Abort, alloc: Global) -> String {
+    let mut text = String::from_str(alloc, "mfu list 2\nd 0 - ok 0 0 /g\n").expect(rt, "memory");
     for at in 0..600u64 {
-        text.push_str(&format!(in alloc; "f 3 - ok 0 0 /g/{at:03}\n")?)?;
+        text.push_str(&format!(in alloc; "f 3 - ok 0 0 /g/{at:03}\n").expect(rt, "memory"))
+            .expect(rt, "memory");
     }
-    text.push_str("end 601\n")?;
-    Ok(text)
+    text.push_str("end 601\n").expect(rt, "memory");
+    text
 }
 
 // Stops the test if these are not the groups of the files but for one pair.
-fn are_pairs(rt: &impl Abort, alloc: Global, found: &Groups, missed: u64) -> Result<(), Fail> {
+fn are_pairs(rt: &impl Abort, alloc: Global, found: &Groups, missed: u64) {
     assert_eq!(rt; found.len(), 299);
     let mut numbers = (0..300u64).filter(|at| *at != missed);
     for k in 0..found.len() {
         let Some(at) = numbers.next() else {
-            return Ok(());
+            return;
         };
-        let one = format!(in alloc; "/g/{at:03}")?;
-        let other = format!(in alloc; "/g/{}", at.saturating_add(300))?;
+        let one = format!(in alloc; "/g/{at:03}").expect(rt, "memory");
+        let other = format!(in alloc; "/g/{}", at.saturating_add(300)).expect(rt, "memory");
         same_paths(rt, &found.group(k).paths, &[&one, &other]);
     }
-    Ok(())
 }
 
 // The groups are the same for any number of readers, in the order of their first paths.
 #[test]
-fn many_files_of_one_size_are_grouped(rt: HostRuntime) -> Result<(), Fail> {
+fn many_files_of_one_size_are_grouped(rt: HostRuntime) {
     let alloc = rt.alloc();
-    let text = many_listed(alloc)?;
-    let list = FlatList::decode(alloc, text.as_bytes())?;
-    let mut files = many(alloc)?;
-    files.plan(Call::Read, &Path::parse(alloc, "/g/417")?)?;
+    let text = many_listed(&rt, alloc);
+    let list = FlatList::decode(alloc, text.as_bytes()).expect(&rt, "a list");
+    let mut files = many(&rt, alloc);
+    files
+        .plan(
+            Call::Read,
+            &Path::parse(alloc, "/g/417").expect(&rt, "a path"),
+        )
+        .expect(&rt, "memory");
     let mut files = Blind::make(files);
-    let mut one = vec![in alloc; files.reader(alloc)?]?;
-    let found = find_groups(&rt, alloc, &list, &mut one, 1)?;
-    are_pairs(&rt, alloc, &found, 117)?;
+    let mut one = vec![in alloc; files.reader(alloc).expect(&rt, "memory")].expect(&rt, "memory");
+    let found = find_groups(&rt, alloc, &list, &mut one, 1).expect(&rt, "memory");
+    are_pairs(&rt, alloc, &found, 117);
     same_paths(&rt, found.failed(), &["/g/417"]);
     let mut four = vec![in alloc;
-        files.reader(alloc)?,
-        files.reader(alloc)?,
-        files.reader(alloc)?,
-        files.reader(alloc)?,
-    ]?;
-    let found = find_groups(&rt, alloc, &list, &mut four, 4)?;
-    are_pairs(&rt, alloc, &found, 117)?;
+        files.reader(alloc).expect(&rt, "memory"),
+        files.reader(alloc).expect(&rt, "memory"),
+        files.reader(alloc).expect(&rt, "memory"),
+        files.reader(alloc).expect(&rt, "memory"),
+    ]
+    .expect(&rt, "memory");
+    let found = find_groups(&rt, alloc, &list, &mut four, 4).expect(&rt, "memory");
+    are_pairs(&rt, alloc, &found, 117);
     same_paths(&rt, found.failed(), &["/g/417"]);
-    Ok(())
 }

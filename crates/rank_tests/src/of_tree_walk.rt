@@ -11,7 +11,6 @@ use outside::{
 use path_text::{OutOfMemory, Path};
 use std::alloc::Global;
 use std::process::Abort;
-use std::test::Fail;
 use tree_walk::{WalkReport, Walked, roots_of, walk};
 
 const OPTIONS: Options = Options {
@@ -25,34 +24,27 @@ const OPTIONS: Options = Options {
 };
 
 // Whether the list has just these paths, each with its mark.
-fn has(rt: &impl Abort, report: &WalkReport, entries: &[(&str, Mark)]) -> Result<(), Fail> {
+fn has(rt: &impl Abort, report: &WalkReport, entries: &[(&str, Mark)]) {
     assert!(rt; matches!(report.walked, Walked::Whole));
     assert_eq!(rt; report.list.len(), entries.len());
-    let mut cursor = report.list.cursor()?;
+    let mut cursor = report.list.cursor().expect(rt, "memory");
     for (path, mark) in entries {
-        assert!(rt; cursor.advance()?);
+        assert!(rt; cursor.advance().expect(rt, "memory"));
         assert_eq!(rt; cursor.entry().path.text(), *path);
         assert!(rt; cursor.entry().mark == *mark, "{path}");
     }
-    Ok(())
 }
 
 // Whether the entry of a path in a list has this target.
-fn has_target(
-    rt: &impl Abort,
-    report: &WalkReport,
-    place: usize,
-    target: Option<&str>,
-) -> Result<(), Fail>
+fn has_target(rt: &impl Abort, report: &WalkReport, place: usize, target: Option<&str>)
     requires { place < length report.now.list }
 {
-    let entry = report.list.entry(place)?;
+    let entry = report.list.entry(place).expect(rt, "memory");
     match (entry.target, target) {
         (Some(text), Some(told)) => assert_eq!(rt; text.text(), told),
         (None, None) => {}
         _ => assert!(rt; false, "{place}"),
     }
-    Ok(())
 }
 
 // Files that tell no tree and change. A stat answers that `/t/a` is a directory, but it has no names to list. A stat answers that
@@ -256,45 +248,52 @@ impl Ground for Shifting {
 }
 
 // `/t` with the links `a` and `b`, and the file `c`.
-fn tree_that_shifts(alloc: Global) -> Result<Shifting, Fail> {
-    let mut files = MemGround::empty(alloc)?;
-    files.put_dir(&Path::parse(alloc, "/t")?, 0, None)?;
-    let text = LinkText::parse(alloc, "b")?;
+fn tree_that_shifts(rt: &impl Abort, alloc: Global) -> Shifting {
+    let mut files = MemGround::empty(alloc).expect(rt, "memory");
+    files
+        .put_dir(&Path::parse(alloc, "/t").expect(rt, "a path"), 0, None)
+        .expect(rt, "memory");
+    let text = LinkText::parse(alloc, "b").expect(rt, "memory");
     for path in ["/t/a", "/t/b"] {
-        files.put_link(&Path::parse(alloc, path)?, &text, None)?;
+        files
+            .put_link(&Path::parse(alloc, path).expect(rt, "a path"), &text, None)
+            .expect(rt, "memory");
     }
-    files.put_file(&Path::parse(alloc, "/t/c")?, b"", None)?;
-    Ok(Shifting {
+    files
+        .put_file(&Path::parse(alloc, "/t/c").expect(rt, "a path"), b"", None)
+        .expect(rt, "memory");
+    Shifting {
         files,
         lent: Lent::make(alloc),
         stats: 0,
         lists: 0,
         links: 0,
-    })
+    }
 }
 
 // Any number of ranks asks once for the stat of each path, for the names of each directory, and for the text of each link.
 #[test]
-fn what_changes_between_two_answers_is_marked(rt: HostRuntime) -> Result<(), Fail> {
+fn what_changes_between_two_answers_is_marked(rt: HostRuntime) {
     let alloc = rt.alloc();
     for ranks in 1..4 {
-        let mut files = tree_that_shifts(alloc)?;
+        let mut files = tree_that_shifts(&rt, alloc);
         let options = Options { ranks, ..OPTIONS };
-        let starts = roots_of(vec![in alloc; Path::parse(alloc, "/t")?]?)?;
-        let report = walk(&rt, alloc, &mut files, starts, &options)?;
+        let start = Path::parse(alloc, "/t").expect(&rt, "a path");
+        let starts = vec![in alloc; start].expect(&rt, "memory");
+        let starts = roots_of(starts).expect(&rt, "memory");
+        let report = walk(&rt, alloc, &mut files, starts, &options).expect(&rt, "memory");
         let found = [
             ("/t", Mark::Fine),
             ("/t/a", Mark::Changed),
             ("/t/b", Mark::Fine),
             ("/t/c", Mark::Changed),
         ];
-        has(&rt, &report, &found)?;
+        has(&rt, &report, &found);
         assert_eq!(rt; report.list.len(), 4);
-        has_target(&rt, &report, 2, Some("b"))?;
-        has_target(&rt, &report, 3, None)?;
+        has_target(&rt, &report, 2, Some("b"));
+        has_target(&rt, &report, 3, None);
         assert_eq!(rt; files.stats, 4);
         assert_eq!(rt; files.lists, 2);
         assert_eq!(rt; files.links, 2);
     }
-    Ok(())
 }
