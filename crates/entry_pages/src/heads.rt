@@ -2,6 +2,7 @@
 ghost use Rattle.std.specs.Prelude.{◌≡◌, ◌+◌, ◌*◌, ◌%◌, ◌^◌, ◌<◌, ◌≤◌, ◌++◌, ◌∷◌, [], true};
 ghost use Rattle.std.specs.Prelude.{false, Some, None, length, drop, slice_get, if◌then◌else◌, OnOk, OnErr, IfOk, IfSome};
 ghost use Rattle.std.specs.Option.{option_map};
+ghost use Rattle.std.specs.Vec.{vec_len, vec_capacity};
 ghost use Rattle.outside.specs.Links.{link_refusal};
 ghost use Rattle.entry_pages.specs.Private.Slim.{with_text, target_by, target_bytes, is_text};
 
@@ -92,8 +93,7 @@ impl Heads {
     {
         let place = self.slims.len();
         let at = self.texts.len();
-        let text = bytes_of(target);
-        self.texts.reserve(text.len())?;
+        reserve_target(&mut self.texts, target)?;
         self.text_starts.reserve(1)?;
         put_slim(
             &mut self.slims,
@@ -103,7 +103,7 @@ impl Heads {
             target,
         )?;
         put_start(&mut self.text_starts, place, at);
-        extend_reserved(&mut self.texts, text);
+        put_target(&mut self.texts, target);
         Ok(())
     }
 
@@ -232,13 +232,30 @@ fn text_at(texts: &[u8], at: usize, len: u16) -> Option<&str>
     Some(unsafe { str::from_utf8_unchecked(&texts[at..end]) })
 }
 
-// The bytes of a target; none if there is no target.
-fn bytes_of(target: &Option<LinkText>) -> &[u8]
-    ensures { result.now ≡ target_bytes target.now }
+// Makes room for the bytes of a target. Most entries have none.
+#[inline(always)]
+fn reserve_target(texts: &mut Vec<u8>, target: &Option<LinkText>) -> Result<(), OutOfMemory>
+    ensures same { texts.new.items ≡ texts.old.items }
+    ensures room { OnOk result (vec_len texts.new + length (target_bytes target.now) ≤ vec_capacity texts.new) }
 {
     match target {
-        None => &[],
-        Some(target) => target.text().as_bytes(),
+        None => Ok(()),
+        Some(target) => {
+            texts.reserve(target.text().len())?;
+            Ok(())
+        }
+    }
+}
+
+// Puts the bytes of a target after those of others. There is room.
+#[inline(always)]
+fn put_target(texts: &mut Vec<u8>, target: &Option<LinkText>)
+    requires { vec_len texts.old + length (target_bytes target.now) ≤ vec_capacity texts.old }
+    ensures { texts.new.items ≡ texts.old.items ++ target_bytes target.now }
+{
+    match target {
+        None => {}
+        Some(target) => extend_reserved(texts, target.text().as_bytes()),
     }
 }
 

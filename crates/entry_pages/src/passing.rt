@@ -150,8 +150,18 @@ fn rewrite(
     entry.mark = head.mark;
     entry.unnamed = head.unnamed;
     entry.far = head.far;
-    entry.target = target;
+    put_target(&mut entry.target, target);
     Ok(())
+}
+
+// Replaces a target. Most entries have none, and then nothing is dropped.
+#[inline(always)]
+fn put_target(place: &mut Option<LinkText>, target: Option<LinkText>)
+    ensures { place.new ≡ target }
+{
+    if place.is_some() || target.is_some() {
+        *place = target;
+    }
 }
 
 // The target that is this text, which is known to be one.
