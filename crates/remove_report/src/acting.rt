@@ -57,7 +57,7 @@ where
 {
     let acted = remove_unless(rt, alloc, dryrun, common, chosen, files)?;
     let notes = failures(named, &acted.rows)?;
-    let report = remove_report(alloc, chosen, acted.removed, &notes)?;
+    let report = remove_report(rt, alloc, chosen, acted.removed, &notes, common.hosts)?;
     Ok(report)
 }
 

@@ -5,7 +5,7 @@ ghost use Rattle.run_report.specs.Ends.{Grew, GrewBySome, Printed};
 ghost use Rattle.run_report.specs.Sides.{stream_of};
 
 use crate::statuses::Status;
-use outside::{Sink, put_all};
+use outside::Sink;
 use tool_text::Text;
 
 /// Both texts of a run that did all its work.
@@ -40,10 +40,10 @@ impl Report {
             → result ≡ Status.Done }
         ensures counts { RoseBy 0 (O.count out.old) (O.count out.new) × RoseBy 0 (E.count notes.old) (E.count notes.new) }
     {
-        if put_all(out, self.out.bytes()).is_err() {
+        if self.out.put(out).is_err() {
             return Status::Sink;
         }
-        if put_all(notes, self.notes.bytes()).is_err() {
+        if self.notes.put(notes).is_err() {
             return Status::Sink;
         }
         if self.failed == 0 {

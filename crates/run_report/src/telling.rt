@@ -25,18 +25,26 @@ fn end_with<E: Sink>(notes: &mut E, line: Result<Text, OutOfMemory>, status: Sta
 {
     match line {
         Ok(text) => {
-            put_or_fail(notes, text.bytes());
+            put_text(notes, &text);
             status
         }
         Err(OutOfMemory) => {
-            put_or_fail(notes, b"out of memory\n");
+            put_bytes(notes, b"out of memory\n");
             Status::Memory
         }
     }
 }
 
+// Puts a text, or as much of it as a sink takes before it fails.
+fn put_text<E: Sink>(notes: &mut E, text: &Text)
+    ensures line { GrewByLine text.now (stream_of E.Sink notes.old) (stream_of E.Sink notes.new) }
+    ensures count { RoseBy 0 (E.count notes.old) (E.count notes.new) }
+{
+    let _ = text.put(notes);
+}
+
 // Puts a line, or as much of it as a sink takes before it fails.
-fn put_or_fail<E: Sink>(notes: &mut E, line: &[u8])
+fn put_bytes<E: Sink>(notes: &mut E, line: &[u8])
     ensures line { GrewByLine line.now (stream_of E.Sink notes.old) (stream_of E.Sink notes.new) }
     ensures count { RoseBy 0 (E.count notes.old) (E.count notes.new) }
 {

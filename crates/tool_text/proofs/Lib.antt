@@ -4,3 +4,4 @@ pub mod Ascending
 pub mod NotesCompared
 pub mod NotesOrdered
 pub mod Between
+pub mod PutBehind

@@ -1,9 +1,10 @@
 //! The texts that the tools print: the lines of a list, its summary, and the notes of failures.
 //!
-//! - [`Text`] is text in the making, seen as its bytes. It goes to a sink at once, when it is whole.
+//! - [`Text`] is text in the making, seen as its bytes. When it is whole, [`Text::put`] puts it to a sink, one piece after another.
 //! - [`put_list`] appends a line for each entry that has a stat: the letter of its kind, its size right-aligned in 12 columns, and its path
 //!   with escapes. For a link whose text is known ` -> ` and the text follow. [`put_summary`] appends the line of a
-//!   [`Summary`](flat_list::Summary). [`list_text`] makes the lines of a list in several threads.
+//!   [`Summary`](flat_list::Summary). [`list_text`] makes the lines of a list in several threads, each thread a piece of
+//!   the text, and copies no line.
 //! - [`notes_of`] makes the failure notes of a list, as many as its summary counts, and [`put_notes`] appends a line for each
 //!   [`Note`].
 //! - [`in_order`] puts notes from several places into one order, each once: in path order; at one path those of a destination
@@ -23,10 +24,10 @@
 //! ```
 //!
 //! Proved: each call appends exactly the text of its definition, and a call that finds no memory leaves the text as
-//! it was. Laws: the notes of a list in path order are in order ([`notes_stand_in_order`]), and notes have
-//! one order ([`order_is_unique`]), which is empty only for no notes ([`nothing_to_order`]). The definitions are in `specs/`:
-//! `Lines` (entries and the summary), `Rows` (a comparison), `Groups` (files with equal contents), `Synced` (dsync), `Notes`,
-//! `NoteOrder`, `Runs`.
+//! it was. A sink takes all bytes of a text, or a front of them if it fails. Laws: the notes of a list in path order are in order
+//! ([`notes_stand_in_order`]), and notes have one order ([`order_is_unique`]), which is empty only for no notes ([`nothing_to_order`]).
+//! The definitions are in `specs/`: `Lines` (entries and the summary), `Rows` (a comparison), `Groups` (files with equal contents),
+//! `Synced` (dsync), `Notes`, `NoteOrder`, `Runs`.
 #![tactic(auto)]
 
 mod comparing;

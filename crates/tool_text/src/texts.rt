@@ -1,6 +1,9 @@
 //! Text, and the calls that add to it.
-ghost use Rattle.std.specs.Prelude.{◌≡◌, ◌==◌, ◌<◌, ◌^◌, ◌++◌, ◌∷◌, [], length, OnOk, OnErr, IfOk};
+ghost use Rattle.std.specs.Prelude.{◌≡◌, ◌<◌, ◌^◌, ◌++◌, ◌∷◌, [], OnOk, OnErr, IfOk, IfSome, Some};
 ghost use Rattle.std.specs.List.{sum_by};
+ghost use Rattle.std.specs.Option.{is_some};
+ghost use Rattle.outside.specs.Count.{RoseBy};
+ghost use Rattle.outside.specs.Sinks.{GrewByPrefix};
 ghost use Rattle.path_text.specs.Escape.{escape};
 ghost use Rattle.tool_text.specs.Groups.{file_count, groups_text};
 ghost use Rattle.tool_text.specs.Lines.{lines_of, summary_line};
@@ -19,6 +22,7 @@ use crate::running::{add_progress, add_shares, add_trace};
 use crate::syncing::{SyncCounts, add_synced};
 use circle_run::Share;
 use flat_list::{FlatList, Summary};
+use outside::{Failed, Sink};
 use path_text::{OutOfMemory, Path};
 use ring_core::Event;
 use std::alloc::Global;
@@ -53,25 +57,15 @@ impl Text {
         }
     }
 
-    /// Its bytes.
-    pub fn bytes(&self) -> &[u8]
-        ensures { result.now ≡ self.now }
+    /// Puts all its bytes, as [`put_all`](outside::put_all) does.
+    pub fn put<S: Sink>(&self, sink: &mut S) -> Result<(), Failed>
+        ensures all { OnOk result (IfSome (S.text sink.old) (λ old. S.text sink.new ≡ Some (old ++ self.now))) }
+        ensures part { OnErr result (IfSome (S.text sink.old) (λ old. IfSome (S.text sink.new) (GrewByPrefix self.now old))) }
+        ensures tells { is_some (S.text sink.new) ≡ is_some (S.text sink.old) }
+        ensures ok { OnOk result (RoseBy 0 (S.count sink.old) (S.count sink.new)) }
+        ensures cause { OnErr result (RoseBy 1 (S.count sink.old) (S.count sink.new)) }
     {
-        self.draft.bytes()
-    }
-
-    /// How many bytes it has.
-    pub fn len(&self) -> usize
-        ensures { result ≡ length self.now }
-    {
-        self.bytes().len()
-    }
-
-    /// Whether it has none.
-    pub fn is_empty(&self) -> bool
-        ensures { result ≡ (length self.now == 0) }
-    {
-        self.bytes().is_empty()
+        self.draft.put(sink)
     }
 }
 
@@ -85,7 +79,8 @@ pub fn put_list(text: &mut Text, list: &FlatList) -> Result<(), OutOfMemory>
     text.draft.end(put)
 }
 
-/// The text of a list, by up to `hosts` threads: a line for each entry that has a stat.
+/// The text of a list, by up to `hosts` threads: a line for each entry that has a stat. The lines of each thread are a piece of the text, and
+/// no line is copied.
 pub fn list_text<R: Threads + Sync>(
     rt: &R,
     alloc: Global,
@@ -94,9 +89,9 @@ pub fn list_text<R: Threads + Sync>(
 ) -> Result<Text, OutOfMemory>
     ensures { IfOk result (λ text. text ≡ lines_of list.now) }
 {
-    let mut draft = list_by(rt, alloc, list, hosts)?;
-    draft.end(Ok(()))?;
-    Ok(Text { draft })
+    Ok(Text {
+        draft: list_by(rt, alloc, list, hosts)?,
+    })
 }
 
 /// Appends the line of a summary. An error leaves the text as it was.

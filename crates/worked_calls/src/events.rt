@@ -1,8 +1,9 @@
 //! Events of ranks.
+use crate::lists::tell_text;
 use crate::troubles::{Trouble, number_of, small_of};
 use path_text::{Path, unescape};
 use ring_core::{Colour, Event, World, check_run, step};
-use script_lines::{put_bytes, put_value};
+use script_lines::put_value;
 use std::alloc::Global;
 use tool_text::{Text, put_trace};
 
@@ -27,8 +28,7 @@ pub fn tell(
         (Asked::Trace, []) => {
             let mut lines = Text::make(alloc);
             put_trace(&mut lines, &events)?;
-            put_bytes(told, '|', lines.bytes())?;
-            Ok(())
+            tell_text(alloc, &lines, told)
         }
         (Asked::Check, [ranks, starts]) => {
             let ranks = small_of(ranks)?;

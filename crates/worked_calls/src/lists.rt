@@ -4,7 +4,7 @@ use crate::tests::test_named;
 use crate::troubles::{Trouble, number_of, small_of};
 use find_tests::{Test, parse_test, select};
 use flat_list::{Entry, Field, FlatList, Mark};
-use outside::{Kind, Stat};
+use outside::{Kind, MemSink, Stat};
 use path_text::Path;
 use script_lines::{put_bytes, put_value};
 use std::alloc::Global;
@@ -69,12 +69,12 @@ fn tell_of(
         (Asked::Lines, []) => {
             let mut text = Text::make(alloc);
             put_list(&mut text, list)?;
-            tell_text(&text, told)
+            tell_text(alloc, &text, told)
         }
         (Asked::Summary, []) => {
             let mut text = Text::make(alloc);
             put_summary(&mut text, &list.summary())?;
-            tell_text(&text, told)
+            tell_text(alloc, &text, told)
         }
         (Asked::Levels, []) => tell_levels(alloc, list, told),
         (Asked::Spread, [pieces]) => tell_spread(list, small_of(pieces)?, told),
@@ -89,9 +89,13 @@ fn tell_of(
     }
 }
 
-/// Adds the lines of a text.
-pub fn tell_text(text: &Text, told: &mut String) -> Result<(), Trouble> {
-    put_bytes(told, '|', text.bytes())?;
+/// Adds the lines of a text of at most 64 KiB.
+pub fn tell_text(alloc: Global, text: &Text, told: &mut String) -> Result<(), Trouble> {
+    let mut sink = MemSink::limited(alloc, 65536)?;
+    if text.put(&mut sink).is_err() {
+        return Err(Trouble::Memory);
+    }
+    put_bytes(told, '|', sink.text())?;
     Ok(())
 }
 

@@ -47,7 +47,7 @@ pub fn tell(
         (Asked::Shares, _) => put_shares(&mut text, &shares_of(alloc, words)?)?,
         _ => return Err(Trouble::Line),
     }
-    tell_text(&text, told)
+    tell_text(alloc, &text, told)
 }
 
 fn numbers_of(alloc: Global, words: &[String]) -> Result<Vec<u64>, Trouble> {
