@@ -10,24 +10,37 @@ use std::{fs, io};
 // If a path of `..` has more bytes, its directory is opened, and the path goes on from there.
 const FAR_UP: usize = 3000;
 
-/// Whether no other user can replace the directories above a path, up to the first known one or `/`. None of them may be a link.
-pub fn is_under_own<R: Files>(system: &R, known: &Known, path: &str, user: u32) -> bool {
+/// Whether another user can replace a directory above a path, as far as the first known one or `/`.
+#[derive(Clone, Copy, Debug, Drop, PartialEq, Eq)]
+pub enum Above {
+    /// Another user can, or one of them is a link.
+    Exposed,
+    /// No other user can. The nearest one is known.
+    Known,
+    /// No other user can. The system was asked about the nearest one.
+    Asked,
+}
+
+/// Asks the system about the directories above a path, up to the first known one or `/`.
+pub fn look_above<R: Files>(system: &R, known: &Known, path: &str, user: u32) -> Above {
     let mut rest = path;
+    let mut safe = Above::Known;
     for _ in 0..MAX_PATH {
         let Some((above, _)) = rest.rsplit_once('/') else {
-            return true;
+            return safe;
         };
         if let Found::Is(_) = known.find(known.hash(above)) {
-            return true;
+            return safe;
         }
         let at = if above.is_empty() { "/" } else { above };
         match fs::symlink_metadata(system, at) {
             Ok(data) if data.is_dir() && Directory::of(&data).keeps_own(user) => {}
-            _ => return false,
+            _ => return Above::Exposed,
         }
+        safe = Above::Asked;
         rest = above;
     }
-    false
+    Above::Exposed
 }
 
 /// Whether the directory at a path, or one above it, is exposed. Those above the last private one are not.

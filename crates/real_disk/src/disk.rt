@@ -92,16 +92,34 @@ where
         ensures size { IfOk result (λ answer. IfSome answer (λ stat. stat.kind ≢ Kind.File → stat.size ≡ 0)) }
     {
         let name = self.parents.name_to_look(&self.system, path);
-        let data = match fs::symlink_metadata(&self.system, name) {
-            Ok(data) => data,
-            Err(e) if is_absent(e.kind()) => return Ok(None),
-            Err(e) => return Err(e),
-        };
+        let told = fs::symlink_metadata(&self.system, name);
+        // The answer is large, so it is read in its place.
+        match &told {
+            Ok(data) => self.seen(path, data),
+            Err(_) => unseen(told),
+        }
+    }
+
+    // The stat of the entry that the system found at the path. A directory is known from then on.
+    fn seen(&mut self, path: &Path, data: &Metadata) -> io::Result<Option<Stat>>
+        ensures same { self.new ≡ self.old }
+        ensures size { IfOk result (λ answer. IfSome answer (λ stat. stat.kind ≢ Kind.File → stat.size ≡ 0)) }
+    {
         if data.is_dir() {
-            let directory = Directory::of(&data);
+            let directory = Directory::of(data);
             self.parents.keep_first(&self.system, path, directory)?;
         }
-        Ok(Some(stat_of(&data)))
+        Ok(Some(stat_of(data)))
+    }
+
+    // Closes the files that were read last.
+    fn close(&mut self)
+        ensures { self.new ≡ self.old }
+    {
+        if self.last.is_some() || self.before.is_some() {
+            self.last = None;
+            self.before = None;
+        }
     }
 
     // Reads through the open handle of the file, or opens one.
@@ -167,8 +185,7 @@ where
 
     /// A link is not followed. If a name in the middle of the path is not a directory, nothing is at the path.
     fn stat(&mut self, path: &Path) -> Result<Option<Stat>, Failed> {
-        self.last = None;
-        self.before = None;
+        self.close();
         self.parents.leave(path);
         match self.look(path) {
             Ok(stat) => {
@@ -227,6 +244,16 @@ fn file_of<'a, F: Drop>(kept: &'a Option<Handle<F>>, path: &Path) -> Option<&'a 
     match kept {
         Some(handle) => handle.of(path),
         None => None,
+    }
+}
+
+// The error of the system, or nothing if nothing is at the path.
+fn unseen(told: io::Result<Metadata>) -> io::Result<Option<Stat>>
+    ensures { IfOk result (λ answer. answer ≡ None) }
+{
+    match told {
+        Err(e) if !is_absent(e.kind()) => Err(e),
+        _ => Ok(None),
     }
 }
 

@@ -29,7 +29,7 @@
 //! - It may be read and not entered, so the system does not tell its `..`: its names. It does not stay open.
 //! - The system has no names for open directories: the directory is compared before and after it is opened by its path. A link in its
 //!   place is not followed, and is a failure.
-use crate::above::{Place, has_exposed_from, has_names, is_in_place, is_under_own};
+use crate::above::{Above, Place, has_exposed_from, has_names, is_in_place, look_above};
 use crate::answers::is_absent;
 use crate::here::{Here, another, is_at, is_below};
 use crate::known::{Directory, Found, Identity, Known, PathHash};
@@ -60,6 +60,8 @@ pub struct Parents<F: Drop> {
     seen: String,
     // The path of the last directory that was found private.
     private: String,
+    // The path of the last directory about which the system was asked, with those above it, and which no other user can replace.
+    safe: String,
     way: String,
     working: Working,
 }
@@ -94,6 +96,7 @@ impl<F: Drop> Parents<F> {
             other: None,
             seen: String::new(alloc),
             private: String::new(alloc),
+            safe: String::new(alloc),
             way: String::new(alloc),
             working,
         }
@@ -122,6 +125,7 @@ impl<F: Drop> Parents<F> {
         self.other = None;
         self.seen.clear();
         self.private.clear();
+        self.safe.clear();
         self.known.take(known);
         self.working.take(working);
     }
@@ -180,14 +184,36 @@ impl<F: Drop> Parents<F> {
         if self.known.is_exposed(hash) {
             return;
         }
-        if directory.is_own(user) && is_under_own(system, &self.known, path, user) {
+        if directory.is_own(user) && self.is_under_own(system, path, user) {
             return;
         }
         self.known.expose(hash);
         self.private.clear();
+        self.safe.clear();
         self.leave_below(path);
         // If there was no memory for that, each directory counts as exposed.
         self.working.forget("");
+    }
+
+    // Whether no other user can replace the directories above a path. If the system was asked, the nearest one is kept, so that it is not asked
+    // again for another path in that directory.
+    fn is_under_own<R: Files>(&mut self, system: &R, path: &str, user: u32) -> bool {
+        let above = path.rsplit_once('/').unwrap_or(("", "")).0;
+        if !above.is_empty() && self.safe.as_str() == above {
+            return true;
+        }
+        match look_above(system, &self.known, path, user) {
+            Above::Exposed => false,
+            Above::Known => true,
+            Above::Asked => {
+                self.safe.clear();
+                // If there is no memory for the path, the system is asked again.
+                if self.safe.push_str(above).is_err() {
+                    self.safe.clear();
+                }
+                true
+            }
+        }
     }
 
     // The knowledge about the directory at a path.
@@ -239,6 +265,9 @@ impl<F: Drop> Parents<F> {
 
     /// The name by which the system is asked for what is at a path, where nothing is compared.
     pub fn name_to_look<'a, R: Watch>(&mut self, system: &R, path: &'a Path) -> &'a str {
+        if self.working.is_fixed() {
+            return path.text();
+        }
         let (above, name) = around(path);
         if self.is_alone(system, above, 1) {
             name

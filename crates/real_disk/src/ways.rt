@@ -1,4 +1,5 @@
 //! The names of directories and of entries, as the system is asked for them.
+use memchr::memrchr;
 use path_text::Path;
 use std::alloc::Global;
 use std::fs::Files;
@@ -28,7 +29,17 @@ pub fn plain(path: &Path) -> &str {
 
 /// The path of the directory above a path, without a slash at its end, and the last name.
 pub fn around(path: &Path) -> (&str, &str) {
-    path.text().rsplit_once('/').unwrap_or(("", ""))
+    around_last(path.text())
+}
+
+// The text before the last slash, and the one behind it.
+fn around_last(text: &str) -> (&str, &str) {
+    let Some(at) = memrchr(b'/', text.as_bytes()) else {
+        return ("", "");
+    };
+    let above = text.get(..at).unwrap_or("");
+    let name = text.get(at.saturating_add(1)..).unwrap_or("");
+    (above, name)
 }
 
 /// Whether a path is another one or is under it.

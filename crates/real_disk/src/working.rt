@@ -132,6 +132,11 @@ impl Working {
         self.forget("");
     }
 
+    /// Whether the run does not change the working directory, so that each call names its whole path.
+    pub fn is_fixed(&self) -> bool {
+        self.turns.is_none()
+    }
+
     /// Whether this is the working directory.
     pub fn is_at(&self, path: &str) -> bool {
         match &self.turns {
@@ -141,19 +146,24 @@ impl Working {
     }
 
     /// How a call names an entry of the directory at a path, which asks the system so often by that name. The second time makes the directory
-    /// due, if the working directory was of no use for two calls, and for as many as there are readers and parts.
+    /// due, if the working directory was of no use for two calls, and for as many as there are readers and parts. If there are several, earlier
+    /// calls do not count.
     pub fn naming(&mut self, path: &str, asks: u64) -> Naming {
         let Some(turns) = &self.turns else {
             return Naming::Whole;
         };
-        let call = turns.calls.load(Ordering::SeqCst).wrapping_add(1);
-        turns.calls.store(call, Ordering::SeqCst);
+        let call = turns.calls.load(Ordering::Relaxed).wrapping_add(1);
+        turns.calls.store(call, Ordering::Relaxed);
         if turns.is_last(self.change) && self.here.as_str() == path {
-            turns.used.store(call, Ordering::SeqCst);
+            turns.used.store(call, Ordering::Relaxed);
             return Naming::Alone;
         }
-        let idle = call.wrapping_sub(turns.used.load(Ordering::SeqCst));
-        let is_free = idle > 1 && turns.sharers.load(Ordering::SeqCst) <= idle;
+        let idle = call.wrapping_sub(turns.used.load(Ordering::Relaxed));
+        let sharers = turns.sharers.load(Ordering::Relaxed);
+        let is_free = idle > 1 && sharers <= idle;
+        if !is_free && sharers > 1 {
+            return Naming::Whole;
+        }
         if !self.near.is_at(path) {
             mem::swap(&mut self.near, &mut self.other);
         }
