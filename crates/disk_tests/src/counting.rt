@@ -1,4 +1,4 @@
-//! The system of a test, which counts the names alone by which it is asked, and the changes of the working directory.
+//! The system of a test, which counts the names alone and the whole paths by which it is asked, and the changes of the working directory.
 use real_disk::Watch;
 use std::alloc::Allocator;
 use std::fs::{File, Files, Metadata, OpenOptions};
@@ -8,10 +8,11 @@ use std::path::PathBuf;
 use std::random::RandomSource;
 use std::sync::atomic::{AtomicU64, Ordering};
 
-/// How often a system was asked by a name alone, and how often to change the working directory.
+/// How often a system was asked by a name alone, how often by a whole path, and how often to change the working directory.
 #[derive(Drop)]
 pub struct Counts {
     names: AtomicU64,
+    paths: AtomicU64,
     changes: AtomicU64,
 }
 
@@ -20,6 +21,7 @@ impl Counts {
     pub fn none() -> Counts {
         Counts {
             names: AtomicU64::new(0),
+            paths: AtomicU64::new(0),
             changes: AtomicU64::new(0),
         }
     }
@@ -27,6 +29,11 @@ impl Counts {
     /// How often it was asked by a name alone.
     pub fn names(&self) -> u64 {
         self.names.load(Ordering::SeqCst)
+    }
+
+    /// How often it was asked by a whole path.
+    pub fn paths(&self) -> u64 {
+        self.paths.load(Ordering::SeqCst)
     }
 
     /// How often it was asked to change the working directory.
@@ -46,9 +53,12 @@ pub struct Counting<'a> {
 
 impl Counting<'_> {
     fn ask(&self, path: &str) {
-        if !path.starts_with('/') {
-            self.counts.names.fetch_add(1, Ordering::SeqCst);
-        }
+        let kind = if path.starts_with('/') {
+            &self.counts.paths
+        } else {
+            &self.counts.names
+        };
+        kind.fetch_add(1, Ordering::SeqCst);
     }
 }
 

@@ -32,6 +32,8 @@ mod swapping;
 #[cfg(test)]
 mod swaps;
 #[cfg(test)]
+mod taken_over;
+#[cfg(test)]
 mod whole_disk;
 #[cfg(test)]
 mod working_dirs;

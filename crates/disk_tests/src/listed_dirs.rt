@@ -68,23 +68,34 @@ fn lists_after(
     want: Result<&str, ListError>,
 ) {
     let room = exposed_room(rt, host);
-    let system = Swapping {
+    let mut disk = DiskOver::over(host.alloc(), still(host, has_names));
+    let mut reader = disk.reader(host.alloc()).expect(rt, "memory");
+    so(rt, are_seen(&mut reader, &room, &["top", "top/a"]), "looks");
+    replace(host, &room, names, node).expect(rt, "another");
+    lists(rt, &mut reader, &room, "top/a", want);
+    same(rt, &reader.faults(), &faults_of(want));
+    disk.take_reader(reader);
+    room.remove().expect(rt, "an empty room");
+}
+
+// A system in which nothing takes the place of a directory.
+fn still(host: HostRuntime, has_names: bool) -> Swapping<'static> {
+    Swapping {
         host,
         moment: Moment::Never,
         own: "",
         aside: "",
         out: "",
         has_names,
-    };
-    let mut disk = DiskOver::over(host.alloc(), system);
-    let mut reader = disk.reader(host.alloc()).expect(rt, "memory");
-    so(rt, are_seen(&mut reader, &room, &["top", "top/a"]), "looks");
-    replace(host, &room, names, node).expect(rt, "another");
-    lists(rt, &mut reader, &room, "top/a", want);
-    let faults = if want == Err(ListError::Failed) { 1 } else { 0 };
-    same(rt, &reader.faults(), &faults);
-    disk.take_reader(reader);
-    room.remove().expect(rt, "an empty room");
+    }
+}
+
+// How many faults a list with this answer counts.
+fn faults_of(told: Result<&str, ListError>) -> u64 {
+    match told {
+        Err(ListError::Failed) => 1,
+        _ => 0,
+    }
 }
 
 #[test]
@@ -233,26 +244,35 @@ fn lists_open(
     disk.take_reader(reader);
 }
 
-// The directory is swapped as it is opened to read its names. If the system has names for what is open, the names are still its own.
+// Swaps the directory as it is opened to read its names, and stops the test where it is listed otherwise.
+fn lists_swapped(
+    rt: &(impl Abort + AllocGlobal),
+    host: HostRuntime,
+    has_names: bool,
+    want: Result<&str, ListError>,
+) {
+    let room = exposed_room(rt, host);
+    room.put("out/canary", Node::Dir).expect(rt, "a canary");
+    let own = room.at("top/a").expect(rt, "a path");
+    let aside = room.at("top/aside").expect(rt, "a path");
+    let out = room.at("out").expect(rt, "a path");
+    let system = Swapping {
+        host,
+        moment: Moment::Listed,
+        own: own.text(),
+        aside: aside.text(),
+        out: out.text(),
+        has_names,
+    };
+    lists_open(rt, &room, system, want);
+    room.remove().expect(rt, "an empty room");
+}
+
+// If the system has names for what is open, the names are still its own.
 #[test]
 fn the_open_directory_is_listed(rt: HostRuntime) {
-    for (has_names, want) in [(true, Ok(OWN)), (false, Err(ListError::Failed))] {
-        let room = exposed_room(&rt, rt);
-        room.put("out/canary", Node::Dir).expect(&rt, "a canary");
-        let own = room.at("top/a").expect(&rt, "a path");
-        let aside = room.at("top/aside").expect(&rt, "a path");
-        let out = room.at("out").expect(&rt, "a path");
-        let system = Swapping {
-            host: rt,
-            moment: Moment::Listed,
-            own: own.text(),
-            aside: aside.text(),
-            out: out.text(),
-            has_names,
-        };
-        lists_open(&rt, &room, system, want);
-        room.remove().expect(&rt, "an empty room");
-    }
+    lists_swapped(&rt, rt, true, Ok(OWN));
+    lists_swapped(&rt, rt, false, Err(ListError::Failed));
 }
 
 // Its owner may read its names and not enter it, so the system does not tell the directory over it.

@@ -30,17 +30,8 @@ fn look<R: Tree>(rt: &impl Abort, reader: &mut R, room: &Room, times: u32) {
     }
 }
 
-// Looks at the room at some times, and stops the test where the screen has another text. Later looks, once the line is over, show nothing.
-fn shows_in_turn(
-    rt: &(impl Abort + AllocGlobal),
-    host: HostRuntime,
-    room: &Room,
-    hand: &Hand,
-    live: &Line<'_>,
-) {
-    let system = Watched::make(rt.alloc(), host, Some(live), None);
-    let mut files = RealGround::make(rt.alloc(), system);
-    let mut reader = files.reader(rt.alloc()).expect(rt, "memory");
+// Looks at the room at some times, and stops the test where the screen has another text.
+fn shows_in_turn<R: Tree>(rt: &impl Abort, reader: &mut R, room: &Room, hand: &Hand) {
     for (time, looks, text) in [
         (499, 1024u32, ""),
         (500, 64, "\rmfu: looked at 1,088 paths"),
@@ -52,9 +43,23 @@ fn shows_in_turn(
         ),
     ] {
         hand.put(time);
-        look(rt, &mut reader, room, looks);
+        look(rt, reader, room, looks);
         so(rt, room.holds("screen", text.as_bytes()), text);
     }
+}
+
+// Does so, and then ends the line. Later looks show nothing.
+fn shows_and_ends(
+    rt: &(impl Abort + AllocGlobal),
+    host: HostRuntime,
+    room: &Room,
+    hand: &Hand,
+    live: &Line<'_>,
+) {
+    let system = Watched::make(rt.alloc(), host, Some(live), None);
+    let mut files = RealGround::make(rt.alloc(), system);
+    let mut reader = files.reader(rt.alloc()).expect(rt, "memory");
+    shows_in_turn(rt, &mut reader, room, hand);
     hand.put(9000);
     live.end();
     live.end();
@@ -67,11 +72,39 @@ fn a_line_comes_each_half_second_and_is_erased(rt: HostRuntime) {
     let room = Room::with(rt, &[]).expect(&rt, "a room");
     let (hand, screen) = (Hand::with(0), screen_in(&rt, &room));
     let live = Live::make(rt.alloc(), &hand, &screen, "dwalk").expect(&rt, "a line");
-    shows_in_turn(&rt, rt, &room, &hand, &live);
+    shows_and_ends(&rt, rt, &room, &hand, &live);
     let erased =
         "\rmfu: looked at 1,088 paths\rmfu: looked at 1,216 paths\r                          \r";
     so(&rt, room.holds("screen", erased.as_bytes()), "erased once");
     room.remove().expect(&rt, "an empty room");
+}
+
+// Tells a system of calls to the disk.
+fn tell_calls<R: Watch>(system: &R) {
+    for (call, count) in [
+        (Call::Stat, 3),
+        (Call::MakeFile, 2),
+        (Call::Write, 6_000_000),
+        (Call::RemoveFile, 4),
+        (Call::RemoveDir, 1_000_001),
+        (Call::Open, 7),
+        (Call::Read, 4_000_000),
+    ] {
+        system.did(call, count);
+    }
+}
+
+// Stops the test where the line of a tool has another text.
+fn shows(rt: &impl Abort, host: HostRuntime, tool: &str, text: &str) {
+    let room = Room::with(host, &[]).expect(rt, "a room");
+    let (hand, screen) = (Hand::with(0), screen_in(rt, &room));
+    let live = Live::make(host.alloc(), &hand, &screen, tool).expect(rt, "a line");
+    let system = Watched::make(host.alloc(), host, Some(&live), None);
+    tell_calls(&system);
+    hand.put(500);
+    system.did(Call::List, 64);
+    so(rt, room.holds("screen", text.as_bytes()), tool);
+    room.remove().expect(rt, "an empty room");
 }
 
 #[test]
@@ -87,25 +120,7 @@ fn a_tool_shows_its_own_numbers(rt: HostRuntime) {
         ),
         ("ddup", "\rmfu: looked at 3 paths, read 3 MB"),
     ] {
-        let room = Room::with(rt, &[]).expect(&rt, "a room");
-        let (hand, screen) = (Hand::with(0), screen_in(&rt, &room));
-        let live = Live::make(rt.alloc(), &hand, &screen, tool).expect(&rt, "a line");
-        let system = Watched::make(rt.alloc(), rt, Some(&live), None);
-        for (call, count) in [
-            (Call::Stat, 3),
-            (Call::MakeFile, 2),
-            (Call::Write, 6_000_000),
-            (Call::RemoveFile, 4),
-            (Call::RemoveDir, 1_000_001),
-            (Call::Open, 7),
-            (Call::Read, 4_000_000),
-        ] {
-            system.did(call, count);
-        }
-        hand.put(500);
-        system.did(Call::List, 64);
-        so(&rt, room.holds("screen", text.as_bytes()), tool);
-        room.remove().expect(&rt, "an empty room");
+        shows(&rt, rt, tool, text);
     }
 }
 

@@ -40,10 +40,7 @@ pub fn is_kept(host: HostRuntime, room: &Room) -> io::Result<bool> {
 // The files of the system, where these were looked at before the swap.
 fn swapped(rt: &impl Abort, host: HostRuntime, room: &Room, looks: &[&str]) -> WholeDisk {
     let mut disk = WholeDisk::make(host);
-    let mut reader = disk.reader(host.alloc()).expect(rt, "memory");
-    let listed = are_listed(host, &mut reader, room, looks);
-    so(rt, listed, "looks");
-    disk.take_reader(reader);
+    look_at(rt, host, &mut disk, room, looks);
     swap(host, room).expect(rt, "a link");
     disk
 }
@@ -190,11 +187,7 @@ fn a_directory_in_one_that_others_may_write_is_guarded(rt: HostRuntime) {
     ] {
         let room = room_with_modes(&rt, rt, top, 0o755);
         let mut disk = swapped(&rt, rt, &room, &["top/a"]);
-        let told = if keeps {
-            is_private(rt, &room, &mut disk)
-        } else {
-            is_guarded(rt, &room, &mut disk)
-        };
+        let told = guarded_or_private(rt, &room, &mut disk, !keeps);
         let holds = told.expect(&rt, "an answer");
         assert!(rt; holds, "{top:o}");
         room.remove().expect(&rt, "an empty room");
@@ -216,60 +209,102 @@ fn a_directory_by_way_of_a_link_is_guarded(rt: HostRuntime) {
     room.remove().expect(&rt, "an empty room");
 }
 
+// Gives these to another user, as only root can.
+fn give_away(rt: &impl Abort, host: HostRuntime, room: &Room, user: u32, all: &[&str]) {
+    let other = Some(another_than(user));
+    for names in all {
+        let path = room.at(names).expect(rt, "a path");
+        let told = chown(&host, path.text(), other, other);
+        so(rt, told.is_ok() == (user == 0), names);
+    }
+}
+
+// Stops the test where a directory is not guarded if these belong to another user.
+fn guards_those_of_another(
+    rt: &impl Abort,
+    host: HostRuntime,
+    user: u32,
+    others: &[&str],
+    looks: &[&str],
+) {
+    let room = room_with_modes(rt, host, 0o755, 0o755);
+    give_away(rt, host, &room, user, others);
+    let mut disk = swapped(rt, host, &room, looks);
+    let told = guarded_or_private(host, &room, &mut disk, user == 0);
+    so(rt, told.expect(rt, "an answer"), "the directory");
+    room.remove().expect(rt, "an empty room");
+}
+
+// Whether the directory that was looked at is guarded, or is asked as a private one is.
+fn guarded_or_private(
+    host: HostRuntime,
+    room: &Room,
+    disk: &mut WholeDisk,
+    guarded: bool,
+) -> io::Result<bool> {
+    if guarded {
+        is_guarded(host, room, disk)
+    } else {
+        is_private(host, room, disk)
+    }
+}
+
 // Also where the other user has only the directory above the one that is looked at, which is not looked at itself.
 #[test]
 fn a_directory_of_another_user_is_guarded(rt: HostRuntime) {
     let user = fs::metadata(&rt, "/proc/self").expect(&rt, "a user").uid();
-    let other = another_than(user);
-    for (others, looks) in [
-        (["top", "top/a"].as_slice(), ["top", "top/a"].as_slice()),
-        (["top"].as_slice(), ["top/a"].as_slice()),
-    ] {
-        let room = room_with_modes(&rt, rt, 0o755, 0o755);
-        for names in others {
-            let path = room.at(names).expect(&rt, "a path");
-            let told = chown(&rt, path.text(), Some(other), Some(other));
-            same(&rt, &told.is_ok(), &(user == 0));
-        }
-        let mut disk = swapped(&rt, rt, &room, looks);
-        // Only root can give a directory to another user.
-        if user == 0 {
-            let guarded = is_guarded(rt, &room, &mut disk).expect(&rt, "an answer");
-            so(&rt, guarded, "guarded");
-        } else {
-            let made = is_private(rt, &room, &mut disk).expect(&rt, "an answer");
-            so(&rt, made, "by the whole path");
-        }
-        room.remove().expect(&rt, "an empty room");
-    }
+    let both = ["top", "top/a"];
+    guards_those_of_another(&rt, rt, user, &both, &both);
+    guards_those_of_another(&rt, rt, user, &["top"], &["top/a"]);
 }
 
 // The directory over the one that is looked at is exposed between two looks. It is private again after them, which changes nothing.
 #[test]
 fn a_directory_that_was_exposed_stays_guarded(rt: HostRuntime) {
     for again in [0o777, 0o755] {
-        let room = room_with_modes(&rt, rt, 0o755, 0o755);
-        let mut disk = WholeDisk::make(rt);
-        let aside = room.at("top/a/empty/file").expect(&rt, "a path");
-        let mut reader = disk.reader(rt.alloc()).expect(&rt, "memory");
-        let looks = ["top", "top/a", "top/a/empty"];
-        let listed = are_listed(rt, &mut reader, &room, &looks);
-        so(&rt, listed, "looks");
-        disk.take_reader(reader);
-        same(&rt, &disk.act(rt.alloc(), Act::MakeFile, &aside), &Ok(()));
-        let mut reader = disk.reader(rt.alloc()).expect(&rt, "memory");
-        for mode in [0o777, again] {
-            room.set_mode("top", mode).expect(&rt, "a mode");
-            let listed = are_listed(rt, &mut reader, &room, &["top"]);
-            so(&rt, listed, "a look");
-        }
-        disk.take_reader(reader);
-        same(&rt, &disk.act(rt.alloc(), Act::RemoveFile, &aside), &Ok(()));
-        swap(rt, &room).expect(&rt, "a link");
-        let guarded = is_guarded(rt, &room, &mut disk).expect(&rt, "an answer");
-        so(&rt, guarded, "guarded");
-        room.remove().expect(&rt, "an empty room");
+        stays_guarded(&rt, rt, again);
     }
+}
+
+fn stays_guarded(rt: &impl Abort, host: HostRuntime, again: u32) {
+    let room = room_with_modes(rt, host, 0o755, 0o755);
+    let mut disk = WholeDisk::make(host);
+    look_at(rt, host, &mut disk, &room, &["top", "top/a", "top/a/empty"]);
+    let aside = room.at("top/a/empty/file").expect(rt, "a path");
+    let told = disk.act(host.alloc(), Act::MakeFile, &aside);
+    same(rt, &told, &Ok(()));
+    look_at_modes(rt, host, &mut disk, &room, [0o777, again]);
+    let told = disk.act(host.alloc(), Act::RemoveFile, &aside);
+    same(rt, &told, &Ok(()));
+    swap(host, &room).expect(rt, "a link");
+    let guarded = is_guarded(host, &room, &mut disk).expect(rt, "an answer");
+    so(rt, guarded, "guarded");
+    room.remove().expect(rt, "an empty room");
+}
+
+// Looks at these by a reader, which is taken back.
+fn look_at(rt: &impl Abort, host: HostRuntime, disk: &mut WholeDisk, room: &Room, looks: &[&str]) {
+    let mut reader = disk.reader(host.alloc()).expect(rt, "memory");
+    let listed = are_listed(host, &mut reader, room, looks);
+    so(rt, listed, "looks");
+    disk.take_reader(reader);
+}
+
+// The same, by one reader under each of these modes.
+fn look_at_modes(
+    rt: &impl Abort,
+    host: HostRuntime,
+    disk: &mut WholeDisk,
+    room: &Room,
+    modes: [u32; 2],
+) {
+    let mut reader = disk.reader(host.alloc()).expect(rt, "memory");
+    for mode in modes {
+        room.set_mode("top", mode).expect(rt, "a mode");
+        let listed = are_listed(host, &mut reader, room, &["top"]);
+        so(rt, listed, "a look");
+    }
+    disk.take_reader(reader);
 }
 
 // Of two readers one looked before the directory was exposed, and is taken back last.

@@ -1,5 +1,6 @@
 //! A directory stays the one that was looked at: each test puts a link in the place of a directory between two calls. Every user may
 //! write in the directories.
+use crate::listed_dirs::lists;
 use crate::rooms::{Node, Room};
 use crate::shared::{same, so};
 use crate::whole_disk::{Act, WholeDisk};
@@ -96,6 +97,19 @@ pub fn looked_at(rt: &impl Abort, host: HostRuntime, room: &Room, after: &str) -
     disk
 }
 
+// Stops the test where a call writes in the other directory.
+fn is_refused(rt: &impl Abort, host: HostRuntime, act: Act<'_>, names: &str) {
+    let room = exposed_room(rt, host);
+    let mut disk = looked_at(rt, host, &room, "top/a/empty");
+    let path = room.at(names).expect(rt, "a path");
+    let told = disk.act(host.alloc(), act, &path);
+    same(rt, &told, &Err(WriteError::Failed));
+    same(rt, &disk.faults(), &1);
+    let stands = is_as_before(host, &room).expect(rt, "names");
+    so(rt, stands, names);
+    room.remove().expect(rt, "an empty room");
+}
+
 #[test]
 fn nothing_is_written_in_another_directory(rt: HostRuntime) {
     for (act, names) in [
@@ -108,15 +122,7 @@ fn nothing_is_written_in_another_directory(rt: HostRuntime) {
         // What is looked at by way of the link is not the child of the one above it.
         (Act::MakeFile, "top/a/empty/new"),
     ] {
-        let room = exposed_room(&rt, rt);
-        let mut disk = looked_at(&rt, rt, &room, "top/a/empty");
-        let path = room.at(names).expect(&rt, "a path");
-        let told = disk.act(rt.alloc(), act, &path);
-        same(&rt, &told, &Err(WriteError::Failed));
-        same(&rt, &disk.faults(), &1);
-        let stands = is_as_before(rt, &room).expect(&rt, "names");
-        so(&rt, stands, names);
-        room.remove().expect(&rt, "an empty room");
+        is_refused(&rt, rt, act, names);
     }
 }
 
@@ -125,20 +131,27 @@ fn nothing_is_read_in_another_directory(rt: HostRuntime) {
     let room = exposed_room(&rt, rt);
     let mut disk = looked_at(&rt, rt, &room, "top/a/empty");
     let mut reader = disk.reader(rt.alloc()).expect(&rt, "memory");
-    let file = room.at("top/a/file").expect(&rt, "a path");
-    let told = reader.read(&file, 0, &mut [0; 5]);
-    same(&rt, &told, &Err(ReadError::Failed));
-    let link = room.at("top/a/link").expect(&rt, "a path");
-    let told = reader.read_link(rt.alloc(), &link).err();
-    same(&rt, &told, &Some(LinkError::Failed));
-    let empty = room.at("top/a/empty").expect(&rt, "a path");
-    let told = reader.list(rt.alloc(), &empty).err();
-    same(&rt, &told, &Some(ListError::Failed));
-    let own = room.at("top/a").expect(&rt, "a path");
-    let told = reader.list(rt.alloc(), &own).err();
-    same(&rt, &told, &Some(ListError::Failed));
+    reads_nothing(&rt, &mut reader, &room);
+    for names in ["top/a/empty", "top/a"] {
+        lists(&rt, &mut reader, &room, names, Err(ListError::Failed));
+    }
     same(&rt, &reader.faults(), &4);
+    disk.take_reader(reader);
     room.remove().expect(&rt, "an empty room");
+}
+
+// A file and a link, whose bytes and text are refused.
+fn reads_nothing(
+    rt: &(impl Abort + AllocGlobal),
+    reader: &mut RealReader<HostRuntime>,
+    room: &Room,
+) {
+    let file = room.at("top/a/file").expect(rt, "a path");
+    let told = reader.read(&file, 0, &mut [0; 5]);
+    same(rt, &told, &Err(ReadError::Failed));
+    let link = room.at("top/a/link").expect(rt, "a path");
+    let told = reader.read_link(rt.alloc(), &link).err();
+    same(rt, &told, &Some(LinkError::Failed));
 }
 
 // All is done as before in a directory that was looked at and has moved, where its path still leads to it.
@@ -149,6 +162,14 @@ fn the_same_directory_is_written(rt: HostRuntime) {
     let own = room.at("top/a").expect(&rt, "a path");
     fs::remove_file(&rt, own.text()).expect(&rt, "no link");
     symlink(&rt, "aside", own.text()).expect(&rt, "a link");
+    are_done(&rt, &mut disk, &room);
+    so(&rt, room.holds("top/aside/new/file", b"new"), "the file");
+    so(&rt, room.holds("top/aside/to_new/file", b"new"), "the link");
+    room.remove().expect(&rt, "an empty room");
+}
+
+// Stops the test where one of these calls fails.
+fn are_done(rt: &(impl Abort + AllocGlobal), disk: &mut WholeDisk, room: &Room) {
     for (act, names) in [
         (Act::MakeDir, "top/a/new"),
         (Act::MakeFile, "top/a/new/file"),
@@ -157,12 +178,9 @@ fn the_same_directory_is_written(rt: HostRuntime) {
         (Act::RemoveDir, "top/a/empty"),
         (Act::MakeLink("new"), "top/a/to_new"),
     ] {
-        let path = room.at(names).expect(&rt, "a path");
+        let path = room.at(names).expect(rt, "a path");
         let told = disk.act(rt.alloc(), act, &path);
-        so(&rt, told == Ok(()), names);
+        so(rt, told == Ok(()), names);
     }
-    same(&rt, &disk.faults(), &0);
-    so(&rt, room.holds("top/aside/new/file", b"new"), "the file");
-    so(&rt, room.holds("top/aside/to_new/file", b"new"), "the link");
-    room.remove().expect(&rt, "an empty room");
+    same(rt, &disk.faults(), &0);
 }
