@@ -35,6 +35,11 @@ pub of_actors : {A P X : Type 0} (f : A → X) (lots : List (Lot A P)) → map f
 of_actors f [] = refl
 of_actors f (lot ∷ lots) = ap (λ r. f lot.actor ∷ r) (of_actors f lots)
 
+-- those that were hired into lots, of which these were lent
+pub of_hired : {A P X : Type 0} (f : A → X) (actors : List A) (lots lent : List (Lot A P)) → map (λ (l : Lot A P). l.actor) lots ≡ actors → lent ≡ lots →
+    map f actors ≡ map (λ (l : Lot A P). f l.actor) lent
+of_hired f actors lots lent hired same = ap (map f) (sym hired) ∙ of_actors f lots ∙ ap (map (λ (l : Lot _ _). f l.actor)) (sym same)
+
 pub shows_all : {A P D : Type 0} (plain : A → D) (lots : List (Lot A P)) (d : D) → AllShow d (map (λ (l : Lot A P). plain l.actor) lots)
     → ShowAll plain d (map (λ (l : Lot A P). l.actor) lots)
 shows_all plain lots d show i a at = show i (plain a) (ap (λ xs. slice_get xs i) (sym (of_actors plain lots)) ∙ map_get plain (map (λ l. l.actor) lots) i a at)
