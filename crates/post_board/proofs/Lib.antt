@@ -9,6 +9,7 @@ pub mod PlainServing
 pub mod PlainStart
 pub mod AskerLemmas
 pub mod PlainHalts
+pub mod PlainDone
 pub mod PlainWithdraw
 pub mod Puts
 pub mod Sheets

@@ -1,5 +1,5 @@
 -- What a rank that asks, takes or sees the end does to a plain board.
-use Rattle.std.proofs.Common.{◌≡◌, ℕ, ◌-◌, ◌<◌, ◌≢◌, refl, sym, subst, ap, ◌∙◌, true, false}
+use Rattle.std.proofs.Common.{◌≡◌, ℕ, ◌<◌, ◌≢◌, refl, sym, subst, ap, ◌∙◌, true, false}
 use Rattle.std.proofs.Common.{List, length, map, set, Option, Some, None}
 use Rattle.std.proofs.lemmas.List.{length-map}
 use Rattle.ring_core.specs.declared.states.Colour.{Colour}

@@ -1,34 +1,19 @@
-use Rattle.std.proofs.Common.{◌≡◌, ap, refl, inr}
-use Rattle.std.proofs.lemmas.List.{get_or_read}
-use Rattle.post_board.specs.Plain.{no_rank, plain}
+use Rattle.std.proofs.Common.{refl, inr}
 use Rattle.post_board.proofs.PlainDeeds.{over_deed}
 use Rattle.post_board.proofs.PlainToken.{over_quiet}
-use Rattle.post_board.specs.Plain.{wants}
-use Rattle.post_board.specs.declared.plain_ranks.PlainRank.{PlainRank}
-use Rattle.post_board.proofs.AskerLemmas.{noted_same}
-use Rattle.post_board.proofs.PlainHalts.{done_by, keeps_own}
+use Rattle.post_board.proofs.PlainDone.{own_read, done_kept}
 use Rattle.post_board.proofs.plain_posts.PlainBoardPost.ring.Goals as goal
 
 pub returns-in-Over : goal.returns-in-Over
 returns-in-Over c =
-    let ranks = c.args.self.now.ranks.items in
-    let seat = c.args.seat.now in
-    let fits = c.requires.seat.0.0 in
-    let masks = c.args.self.now.askers.masks.items in
-    let N = c.requires.seat.1 in
-    let halts = c.requires.seat.2 in
-    let halter = c.args.self.now.halter in
-    let stops = c.args.self.now.stops.items in
-    let rank = c.index_mut.result.now in
-    let read : rank ≡ plain ranks seat.number = get_or_read ranks seat.number rank fits.inside c.index_mut.ensures.value no_rank in
-    let token = c.args.self.now.token in
-    let done = done_by
-    (over_deed ranks token seat rank read c.in-Over.is c.requires.seat.0 c.requires.live.0)
-    (noted_same ranks masks N seat.number fits.inside _ (λ v. ap (λ (y : PlainRank). wants y.mailbox v) read))
-    halts (keeps_own halter stops ranks seat _ halts c.requires.live.1 (ap (λ (y : PlainRank). y.mailbox) read)) (refl, refl, refl, refl) in
+    let b = c.args.self.now in let s = c.args.seat.now in let rank = c.index_mut.result.now in
+    let read = own_read b s c.requires.seat rank c.index_mut.ensures.value in
+    let done = done_kept b s c.requires.seat _
+    (over_deed b.ranks.items b.token s rank read c.in-Over.is c.requires.seat.0 c.requires.live.0) read refl
+    (refl, refl, refl, refl) c.requires.live.1 in
     record {
       shown = refl;
-      over = λ _. over_quiet ranks token seat c.requires.seat.0 c.in-Over.is;
+      over = λ _. over_quiet b.ranks.items b.token s c.requires.seat.0 c.in-Over.is;
       elsewhere = λ e. cc;
       halted = λ _. inr refl;
       still = λ e. cc;
