@@ -1,11 +1,11 @@
 use Rattle.std.proofs.Common.{◌≡◌, ◌≢◌, ◌∙◌, ◌+◌, ◌*◌, ◌⊎◌, ⊎_elim, sym, ap, arith, true, false}
-use Rattle.post_board.specs.Words.{asking, serving, full, emptied, sign, has_bit}
-use Rattle.post_board.specs.BoardSteps.{SeatState, knowing, learn, after_rest}
+use Rattle.post_board.specs.Words.{asking, serving, emptied, sign, has_bit}
+use Rattle.post_board.specs.BoardSteps.{SeatState, knowing, after_rest}
 use Rattle.post_board.specs.LateSteps.{stop_seen}
-use Rattle.post_board.specs.declared.board_views.OwnMailbox.TheVariants.{Open, Filled, Emptied}
+use Rattle.post_board.specs.declared.board_views.OwnMailbox.TheVariants.{Open}
 use Rattle.post_board.proofs.WordLemmas.{sign_of_word}
-use Rattle.post_board.proofs.CallLemmas.{pending, full_word, learn_full, learn_empty, learn_none}
-use Rattle.post_board.proofs.FindLemmas.{stops_open, looked}
+use Rattle.post_board.proofs.CallLemmas.{pending, full_word, learn_none}
+use Rattle.post_board.proofs.FindLemmas.{stops_open, finds_after, finds_full, finds_refused}
 use Rattle.post_board.proofs.boards.Board.find.Goals as goal
 
 pub look_step-found-requires-clause-open : goal.look_step-found-requires-clause-open
@@ -29,63 +29,34 @@ returns-then-found-asks-clause-finds c =
 
 pub returns-then-found-asks-2-clause-finds : goal.returns-then-found-asks-2-clause-finds
 returns-then-found-asks-2-clause-finds c =
-    let s = c.stops_step-stops.result in
-    let w = c.withdraw_step-found.result in
-    let v = c.args.victim in
-    let is : w ≡ 8 * v + 3 = (let e = c.if-found-asks-2.true in omega arith) in
-    record {
-      stops = s;
-      word = w;
-      replied = ap sign is ∙ sign_of_word (full v);
-      after = looked c.args.self.now.n c.args.me s w c.args.seat.now.me c.stops_step-stops.new.seat.me c.withdraw_step-found.new.seat.me (Filled v)
-          c.stops_step-stops.ensures.after (c.withdraw_step-found.ensures.miss c.if-found-asks.false).1
-          (learn_full (stop_seen c.args.seat.now.me.0.own.own s) w v is);
-    }
+    finds_full c.args.self.now.n c.args.me c.stops_step-stops.result c.withdraw_step-found.result c.args.seat.now.me
+    c.stops_step-stops.new.seat.me c.withdraw_step-found.new.seat.me c.stops_step-stops.ensures.after
+    (c.withdraw_step-found.ensures.miss c.if-found-asks.false).1
+    (let e = c.if-found-asks-2.true in omega arith)
 
 pub returns-else-found-asks-2-clause-finds : goal.returns-else-found-asks-2-clause-finds
 returns-else-found-asks-2-clause-finds c =
-    let s = c.stops_step-stops.result in
     let w = c.withdraw_step-found.result in
     let v = c.args.victim in
     let not_full : w ≢ 8 * v + 3 = (λ e. c.if-found-asks-2.false (let f = e in omega arith)) in
-    let refused : sign w ≡ emptied v =
-    ⊎_elim (λ e. absurd (not_full (full_word w v e))) (λ e. e) (c.withdraw_step-found.ensures.miss c.if-found-asks.false).0 in
-    record {
-      stops = s;
-      word = w;
-      replied = refused;
-      after = looked c.args.self.now.n c.args.me s w c.args.seat.now.me c.stops_step-stops.new.seat.me c.withdraw_step-found.new.seat.me (Emptied v)
-          c.stops_step-stops.ensures.after (c.withdraw_step-found.ensures.miss c.if-found-asks.false).1
-          (ap (learn (stop_seen c.args.seat.now.me.0.own.own s)) refused);
-    }
+    let missed = c.withdraw_step-found.ensures.miss c.if-found-asks.false in
+    let refused : sign w ≡ emptied v = ⊎_elim (λ e. absurd (not_full (full_word w v e))) (λ e. e) missed.0 in
+    finds_refused c.args.self.now.n c.args.me c.stops_step-stops.result c.withdraw_step-found.result c.args.seat.now.me
+    c.stops_step-stops.new.seat.me c.withdraw_step-found.new.seat.me c.stops_step-stops.ensures.after
+    missed.1 refused
 
 pub returns-then-found-asks-3-clause-finds : goal.returns-then-found-asks-3-clause-finds
 returns-then-found-asks-3-clause-finds c =
-    let s = c.stops_step-stops.result in
-    let w = c.look_step-found.result in
-    let v = c.args.victim in
-    let is : w ≡ 8 * v + 3 = (let e = c.if-found-asks-3.true in omega arith) in
-    record {
-      stops = s;
-      word = w;
-      replied = ap sign is ∙ sign_of_word (full v);
-      after = looked c.args.self.now.n c.args.me s w c.args.seat.now.me c.stops_step-stops.new.seat.me c.look_step-found.new.seat.me (Filled v)
-          c.stops_step-stops.ensures.after c.look_step-found.ensures.after (learn_full (stop_seen c.args.seat.now.me.0.own.own s) w v is);
-    }
+    finds_full c.args.self.now.n c.args.me c.stops_step-stops.result c.look_step-found.result c.args.seat.now.me
+    c.stops_step-stops.new.seat.me c.look_step-found.new.seat.me c.stops_step-stops.ensures.after
+    c.look_step-found.ensures.after (let e = c.if-found-asks-3.true in omega arith)
 
 pub returns-then-found-asks-4-clause-finds : goal.returns-then-found-asks-4-clause-finds
 returns-then-found-asks-4-clause-finds c =
-    let s = c.stops_step-stops.result in
-    let w = c.look_step-found.result in
-    let v = c.args.victim in
-    let is : w ≡ 8 * v + 5 = (let e = c.if-found-asks-4.true in omega arith) in
-    record {
-      stops = s;
-      word = w;
-      replied = ap sign is ∙ sign_of_word (emptied v);
-      after = looked c.args.self.now.n c.args.me s w c.args.seat.now.me c.stops_step-stops.new.seat.me c.look_step-found.new.seat.me (Emptied v)
-          c.stops_step-stops.ensures.after c.look_step-found.ensures.after (learn_empty (stop_seen c.args.seat.now.me.0.own.own s) w v is);
-    }
+    let is : c.look_step-found.result ≡ 8 * c.args.victim + 5 = (let e = c.if-found-asks-4.true in omega arith) in
+    finds_refused c.args.self.now.n c.args.me c.stops_step-stops.result c.look_step-found.result c.args.seat.now.me
+    c.stops_step-stops.new.seat.me c.look_step-found.new.seat.me c.stops_step-stops.ensures.after
+    c.look_step-found.ensures.after (ap sign is ∙ sign_of_word (emptied c.args.victim))
 
 pub returns-else-found-asks-4-clause-finds : goal.returns-else-found-asks-4-clause-finds
 returns-else-found-asks-4-clause-finds c =
@@ -103,6 +74,6 @@ returns-else-found-asks-4-clause-finds c =
       stops = s;
       word = w;
       replied = (stays, waits);
-      after = looked c.args.self.now.n c.args.me s w c.args.seat.now.me c.stops_step-stops.new.seat.me c.look_step-found.new.seat.me own first
-          c.look_step-found.ensures.after (learn_none (stop_seen own s) (sign w) v waits ∙ still ∙ sym c.requires.open);
+      after = finds_after c.args.self.now.n c.args.me s w c.args.seat.now.me c.stops_step-stops.new.seat.me
+          c.look_step-found.new.seat.me first c.look_step-found.ensures.after own (learn_none (stop_seen own s) (sign w) v waits ∙ still ∙ sym c.requires.open);
     }
