@@ -2,6 +2,7 @@
 use Rattle.std.proofs.Common.{◌≡◌, ℕ, ◌+◌, ◌<◌, ◌≤◌, ◌⊎◌, refl, sym, subst, ap, ◌∙◌, arith, Bool, true, false, List, [], ◌∷◌, ◌++◌, map}
 use Rattle.std.proofs.Common.{cond, ne_eqb, None, length, length-append, get_or}
 use Rattle.std.specs.List.{All, Contains}
+use Rattle.std.proofs.Math.Seq.{get_or-append_seam}
 use Rattle.std.proofs.lemmas.List.{get_or_append_left, get_or_default}
 use Rattle.std.proofs.lemmas.List.Elements.{All-nil, All-cons, All-append, Contains-append_left, Contains-get_or, Contains-push}
 use Rattle.std.proofs.lemmas.List.Sorted.{Contains-permutation, IsPermutation-sym, length_permutation}
@@ -20,10 +21,6 @@ use Rattle.post_board.specs.declared.boards.BoardSeat.{BoardSeat}
 
 abbrev pub IsDone : Known → Type 0
 IsDone x = (x.ended ≡ true) ⊎ (x.stopped ≡ true)
-
-pub get_or-append_seam : {A : Type 0} (xs : List A) (y : A) (ys : List A) (d : A) → get_or (xs ++ y ∷ ys) (length xs) d ≡ y
-get_or-append_seam [] y ys d = refl
-get_or-append_seam (x ∷ xs) y ys d = get_or-append_seam xs y ys d
 
 empty_list : {A : Type 0} (xs : List A) → length xs ≡ 0 → xs ≡ []
 empty_list [] e = refl
@@ -141,10 +138,10 @@ module _ (b : Board) (all : List BoardSeat) (D : AllDone shown_by (IsSeat b) all
   holds_none : (other : BoardSeat) → IsSeat b other → ((r : ℕ) → get_or other.seat.me.0.own.serves r false ≡ false) → other.seat.me.1 ≡ []
   holds_none other S none = S.held ∙ ap (map (λ r. (r, None))) (empty_list other.held.items (S.count ∙ serves_none other.seat.me.0.own.serves none))
 
-  pub begun : (left : List BoardSeat) (last : BoardSeat) (id : TableId) (m : SeatState) (over : Bool) → all ≡ left ++ last ∷ [] → id ≡ last.seat.table_id
+  pub begun : {left : List BoardSeat} (last : BoardSeat) {id : TableId} {m : SeatState} {over : Bool} → all ≡ left ++ last ∷ [] → id ≡ last.seat.table_id
       → m ≡ last.seat.me → over ≡ first_ended last.number last.ended false
       → (id ≡ b.table.shared.table_id) × (m.0.live ≡ true) × Together all left m.0 over
-  begun left last id m over e id_is m_is over_is =
+  begun {left} last {id} {m} {over} e id_is m_is over_is =
       let long : length all ≡ length left + 1 = ap length e ∙ length-append left (last ∷ []) in
       let at : get_or all (length left) last ≡ last = ap (λ xs. get_or xs (length left) last) e ∙ get_or-append_seam left last [] last in
       let of = seat_at left last (omega arith) at in (
@@ -153,19 +150,19 @@ module _ (b : Board) (all : List BoardSeat) (D : AllDone shown_by (IsSeat b) all
         subst (λ (x : View). Together all left x over) (sym (ap (λ (x : SeatState). x.0) m_is)) (begins left last over e of over_is),
       )
 
-  pub fits : (left left' : List BoardSeat) (other : BoardSeat) (v : View) (over : Bool) → Together all left v over → left ≡ left' ++ other ∷ []
-      → (id : TableId) (m : SeatState) → id ≡ other.seat.table_id → m ≡ other.seat.me
+  pub fits : {left : List BoardSeat} (left' : List BoardSeat) (other : BoardSeat) {v : View} {over : Bool} {id : TableId} {m : SeatState}
+      → Together all left v over → left ≡ left' ++ other ∷ [] → id ≡ other.seat.table_id → m ≡ other.seat.me
       → (id ≡ b.table.shared.table_id) × (m.0.live ≡ true) × (m.1 ≡ [])
-  fits left left' other v over T e id m id_is m_is =
+  fits {left} left' other {v} {over} {id} {m} T e id_is m_is =
       let long : length left ≡ length left' + 1 = ap length e ∙ length-append left' (other ∷ []) in
       let short : length left < length all = T.short in
       let of = seat_at left' other (omega arith) (came left left' other v over T e) in
       (id_is ∙ of.0.table, ap (λ (x : SeatState). x.0.live) m_is ∙ of.0.live, ap (λ (x : SeatState). x.1) m_is ∙ holds_none other of.0 of.4)
 
-  pub went_on : (left left' : List BoardSeat) (other : BoardSeat) (v : View) (over over' : Bool) → Together all left v over → left ≡ left' ++ other ∷ []
-      → (m : SeatState) (u : View) → m ≡ other.seat.me → over' ≡ first_ended other.number other.ended over → u ≡ both v m.0
+  pub went_on : {left left' : List BoardSeat} (other : BoardSeat) {v u : View} {over over' : Bool} {m : SeatState} → Together all left v over
+      → left ≡ left' ++ other ∷ [] → m ≡ other.seat.me → over' ≡ first_ended other.number other.ended over → u ≡ both v m.0
       → Together all left' u over'
-  went_on left left' other v over over' T e m u m_is over_is u_is =
+  went_on {left} {left'} other {v} {u} {over} {over'} {m} T e m_is over_is u_is =
       let long : length left ≡ length left' + 1 = ap length e ∙ length-append left' (other ∷ []) in
       let short : length left < length all = T.short in
       let there = came left left' other v over T e in
@@ -173,9 +170,9 @@ module _ (b : Board) (all : List BoardSeat) (D : AllDone shown_by (IsSeat b) all
       (goes_on left left' other v over over' T e there (seat_at left' other (omega arith) there) over_is)
 
   -- all have come together
-  pub over_of : (left : List BoardSeat) (v : View) (over : Bool) → Together all left v over → length left ≡ 0
+  pub over_of : {left : List BoardSeat} {v : View} {over : Bool} → Together all left v over → length left ≡ 0
       → (s : BoardSeat) → Contains all s → s.seat.me.0.own.number ≡ 0 → over ≡ s.seat.me.0.own.ended
-  over_of left v over T none s (i, lt, at) lowest =
+  over_of {left} {v} {over} T none s (i, lt, at) lowest =
       T.over_is i s (omega arith) lt (ap (λ (x : BoardSeat). x.seat.me.0.own.number) at ∙ lowest) ∙ ap (λ (x : BoardSeat). x.seat.me.0.own.ended) at
 
   -- then each is among what was taken in
@@ -184,9 +181,9 @@ module _ (b : Board) (all : List BoardSeat) (D : AllDone shown_by (IsSeat b) all
   among left v over T none s (i, lt, at) =
       subst (λ (x : BoardSeat). Contains (v.own ∷ v.kept) x.seat.me.0.own) at (T.has i s (omega arith) lt)
 
-  pub squares_of : (left : List BoardSeat) (v : View) (over : Bool) → Together all left v over → length left ≡ 0 → Squares v
+  pub squares_of : {left : List BoardSeat} {v : View} {over : Bool} → Together all left v over → length left ≡ 0 → Squares v
       → AllEven shown_by (IsSeat b) all
-  squares_of left v over T none S r s cr cs =
+  squares_of {left} {v} {over} T none S r s cr cs =
       let x : Known = r.seat.me.0.own in
       let y : Known = s.seat.me.0.own in
       let ks : List Known = v.own ∷ v.kept in
@@ -199,9 +196,9 @@ module _ (b : Board) (all : List BoardSeat) (D : AllDone shown_by (IsSeat b) all
       ∙ sq ∙ ap (λ (z : Known). get_or z.given (get_or ks cy.0 y).number []) cx.2 ∙ ap (λ (z : Known). get_or x.given z.number []) cy.2
 
   -- where one knows of the halt, one has halted
-  pub halters_of : (left : List BoardSeat) (v : View) (over : Bool) → Together all left v over → length left ≡ 0 → Halters v
+  pub halters_of : {left : List BoardSeat} {v : View} {over : Bool} → Together all left v over → length left ≡ 0 → Halters v
       → HaltersAmong shown_by (IsSeat b) all
-  halters_of left v over T none H k d h knows =
+  halters_of {left} {v} {over} T none H k d h knows =
       let ks : List Known = v.own ∷ v.kept in
       let x : Known = (get_or all k d).seat.me.0.own in
       let cx : Contains ks x = T.has k d (omega arith) h in

@@ -1,6 +1,6 @@
 use Rattle.std.proofs.Common.{◌≡◌, ℕ, ◌+◌, ◌∙◌, refl, sym, ap, subst, arith, List, [], ◌∷◌, ◌++◌, length, length-append, get_or, Some}
 use Rattle.std.specs.List.{All}
-use Rattle.std.proofs.lemmas.List.{get_or_append_left}
+use Rattle.std.proofs.lemmas.List.{get_or_append_left, get_or_push}
 use Rattle.std.proofs.lemmas.List.Elements.{All-nil, All-cons, All-append}
 use mathlib.Core.Logic.{dite}
 use native.Mathlib.Decide.{ℕ_discrete}
@@ -8,7 +8,6 @@ use Rattle.post_board.specs.Fresh.{fresh as fresh_shown}
 use Rattle.post_board.specs.BoardSteps.{SeatState}
 use Rattle.post_board.specs.BoardSeats.{IsSeat, IsUnread, shown_by, unused}
 use Rattle.post_board.specs.declared.boards.BoardSeat.{BoardSeat}
-use Rattle.post_board.proofs.GatherLemmas.{get_or-append_seam}
 use Rattle.post_board.proofs.boards.Board.deal_all.Goals as goal
 
 pub loop-number-preserved : goal.loop-number-preserved
@@ -21,6 +20,7 @@ loop-number-preserved c =
     let items : c.push.new.self.items ≡ xs ++ x ∷ [] = c.in_ok-push.ensures.items in
     let long : length c.push.new.self.items ≡ length xs + 1 = ap length items ∙ length-append xs (x ∷ []) in
     let count : length xs + 1 ≡ c.loop-number.number = inv.count in
+    let Is : ℕ → BoardSeat → Type 0 = λ k y. IsSeat c.args.self.now y × (shown_by y ≡ fresh_shown n (k + 1) (Some (unused n))) in
     record {
       table = D.0 ∙ inv.table;
       size = refl;
@@ -30,13 +30,10 @@ loop-number-preserved c =
       alone = ap (λ (m : SeatState). m.0.kept) D.1 ∙ inv.alone;
       made = ap (λ (m : SeatState). m.0.made) D.1 ∙ ap (λ (k : ℕ). k + 1) inv.made;
       count = omega arith;
-      each = λ k d h. subst (λ ys. IsSeat c.args.self.now (get_or ys k d) × (shown_by (get_or ys k d) ≡ fresh_shown n (k + 1) (Some (unused n)))) (sym items)
-          (dite (ℕ_discrete k (length xs))
-          (λ e. subst (λ (y : BoardSeat). IsSeat c.args.self.now y × (shown_by y ≡ fresh_shown n (k + 1) (Some (unused n))))
-          (sym (ap (λ (j : ℕ). get_or (xs ++ x ∷ []) j d) e ∙ get_or-append_seam xs x [] d))
+      each = λ k d h. subst (λ ys. Is k (get_or ys k d)) (sym items) (dite (ℕ_discrete k (length xs))
+          (λ e. subst (Is k) (sym (get_or_push xs x d k (sym e)))
           (c.in_ok-fresh.ensures.seat, c.in_ok-fresh.ensures.shown ∙ ap (λ (j : ℕ). fresh_shown n j (Some (unused n))) (omega arith)))
-          (λ ne. subst (λ (y : BoardSeat). IsSeat c.args.self.now y × (shown_by y ≡ fresh_shown n (k + 1) (Some (unused n))))
-          (sym (get_or_append_left xs (x ∷ []) d k (omega arith))) (inv.each k d (omega arith))));
+          (λ ne. subst (Is k) (sym (get_or_append_left xs (x ∷ []) d k (omega arith))) (inv.each k d (omega arith))));
       unread = subst (λ (ys : List BoardSeat). All IsUnread ys) (sym items)
           (All-append IsUnread xs (x ∷ []) inv.unread (All-cons IsUnread x [] c.in_ok-fresh.ensures.unread (All-nil IsUnread)));
     }
