@@ -8,6 +8,7 @@ ghost use Rattle.post_board.specs.BoardSeats.{shown_by, IsSeat};
 use crate::answers::{Answer, Gathered, Ring};
 use crate::board_answers::Reply;
 use crate::boards::{Board, BoardSeat};
+use crate::plain_boards::shaded;
 use crate::posts::Post;
 use crate::ring_words::word_at;
 use rank_queue::Batch;
@@ -70,9 +71,7 @@ impl<'b> Post for &'b Board {
         self.front_slot(seat, to);
         self.fill_slot(&mut seat.seat, to, batch);
         self.post_step(&mut seat.seat, seat.number, to);
-        if to > seat.number {
-            seat.colour = Colour::Black;
-        }
+        seat.colour = shaded(to > seat.number, seat.colour);
     }
 
     fn refuse(&mut self, seat: &mut BoardSeat, to: u32) {
