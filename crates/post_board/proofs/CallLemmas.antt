@@ -13,7 +13,7 @@ use Rattle.post_board.specs.declared.answers.Reading.{Reading}
 use Rattle.post_board.specs.BoardSeats.{shown_known}
 use Rattle.post_board.specs.declared.board_views.Known.{Known}
 use Rattle.post_board.specs.declared.board_views.OwnMailbox.{OwnMailbox}
-use Rattle.post_board.specs.declared.board_views.OwnMailbox.TheVariants.{Open, Filled, Emptied}
+use Rattle.post_board.specs.declared.board_views.OwnMailbox.TheVariants.{Open, Filled}
 use Rattle.post_board.specs.declared.boards.Board.{Board}
 use Rattle.post_board.specs.declared.boards.BoardSeat.{BoardSeat}
 use Rattle.post_board.specs.BoardRule.{asked_of, OpenFits, OwnFits}
@@ -26,7 +26,7 @@ use Rattle.std.proofs.lemmas.List.Sums.{sum_by-set, sum_by-cons}
 use Rattle.std.specs.List.{Contains}
 use Rattle.std.proofs.lemmas.List.{append-nil, map-append}
 use Rattle.std.proofs.lemmas.List.Elements.{All-nil, All-cons, All-append}
-use Rattle.post_board.proofs.MailboxLemmas.{one_word}
+use Rattle.post_board.proofs.MailboxLemmas.{name, one_word}
 use mathlib.Core.Logic.{dite}
 use native.Mathlib.Decide.{ℕ_discrete}
 
@@ -72,14 +72,6 @@ code (full r) = 3
 code (fetching r) = 4
 code (emptied r) = 5
 
-abbrev name : Sign → ℕ
-name resting = 0
-name (asking r) = r
-name (serving r) = r
-name (full r) = r
-name (fetching r) = r
-name (emptied r) = r
-
 abbrev Coded : ℕ → ℕ → Sign → Type 0
 Coded kind r d = (d ≡ resting) ⊎ ((kind ≡ code d) × (r ≡ name d))
 
@@ -117,9 +109,6 @@ pending o w v is fits full_not empty_not = let f : OpenFits v (sign w) = subst (
 
 pub learn_full : (o : OwnMailbox) (w v : ℕ) → w ≡ 8 * v + 3 → learn o (sign w) ≡ Filled v
 learn_full o w v e = ap (learn o) (ap sign e ∙ sign_of_word (full v))
-
-pub learn_empty : (o : OwnMailbox) (w v : ℕ) → w ≡ 8 * v + 5 → learn o (sign w) ≡ Emptied v
-learn_empty o w v e = ap (learn o) (ap sign e ∙ sign_of_word (emptied v))
 
 pub learn_none : (o : OwnMailbox) (d : Sign) (v : ℕ) → (d ≡ asking v) ⊎ (d ≡ serving v) → learn o d ≡ o
 learn_none o d v p = ⊎_elim (λ e. ap (learn o) e) (λ e. ap (learn o) e) p

@@ -183,7 +183,7 @@ module _ (n : ℕ) (known : ℕ → Known) (ws : List ℕ) (hs : List (Core.Opti
 
 -- The pattern of a kind of step. A seat that is in use steps on one word and comes to know W of what it knew; what is owed is the three parts of the rule
 -- afterwards, for the words, the slots and what the seats then know: (1) mailboxes, by `unmoved` or a lemma of MailboxLemmas; (2) the ring, by `calm_all` or,
--- where the step is a deed, a lemma of RingLemmas; (3) the halt, by `halt_same` or `halt_moved`. (4) `reads` and `writes` put them into the rule.
+-- where the step is a deed, a lemma of RingLemmas; (3) the halt, by `same_halt` of GoingSteps or `halt_moved`. (4) `reads` and `writes` put them into the rule.
 module _ (n : ℕ) (s : TableState) (o : Rule n s) (id : ℕ) (v : View) (W : Known → Known) where
   -- the word i is read and stays as it is
   pub reads : (i : ℕ) → get_elem? s.views id ≡ some v → v.live ≡ true

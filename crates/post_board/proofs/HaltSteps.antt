@@ -11,7 +11,7 @@ use Rattle.ring_core.specs.Picture.{put}
 use Rattle.ring_core.proofs.PictureLemmas.{put_here, put_all}
 use Rattle.post_board.specs.Words.{has_bit, Sign, resting, asking, serving, full, fetching, emptied, sign, word_of}
 use Rattle.post_board.proofs.WordLemmas.{sign_of_word}
-use Rattle.post_board.specs.BoardRule.{Parcel, TableState, MailboxFacts, RingFacts, Rule, serves, signs_in, slots_in, token_in, halt_in, stops_in}
+use Rattle.post_board.specs.BoardRule.{Parcel, TableState, RingFacts, Rule, serves, signs_in, slots_in, token_in, halt_in, stops_in}
 use Rattle.post_board.specs.BoardRule.{OwnFits, OpenFits, Away, asked_of}
 use Rattle.post_board.specs.BoardSteps.{Going, SeatState, noted, knows, after_rest, after_look, learn}
 use Rattle.post_board.specs.LateSteps.{SetHaltTells, halt_seen, LoadHaltTells, StopTells, stop_seen, after_stops, LoadStopsTells, WithdrawTells}
@@ -21,10 +21,11 @@ use Rattle.post_board.specs.declared.board_views.OwnMailbox.{OwnMailbox}
 use Rattle.post_board.specs.declared.board_views.OwnMailbox.TheVariants.{Resting, Open, Left, Filled, Emptied, Getting}
 use Rattle.post_board.proofs.Puts.{put_same}
 use Rattle.post_board.proofs.FactLemmas.{unmoved}
-use Rattle.post_board.proofs.MailboxLemmas.{one_word, own_moves, slot_under, learns, learns_away}
+use Rattle.post_board.proofs.MailboxLemmas.{one_word, slot_under, learns, learns_away}
 use Rattle.post_board.proofs.RingLemmas.{calm_all, withdraws}
-use Rattle.post_board.proofs.HaltLemmas.{IsGone, halt_moved, halt_same}
-use Rattle.post_board.proofs.Frames.{frame, at_halt, at_stops, mailbox_there, reads, writes}
+use Rattle.post_board.proofs.HaltLemmas.{IsGone, halt_moved}
+use Rattle.post_board.proofs.Frames.{frame, at_halt, at_stops, reads}
+use Rattle.post_board.proofs.GoingSteps.{at_own, same_halt, own_rests}
 
 pub allows_set_halt : (n slots id : ℕ) (m : SeatState) → Going m → Allows (Rule n) slots id m (n + 1) (λ _. 1)
     (SetHaltTells (step slots (n + 1) 1 0 none) m)
@@ -190,9 +191,7 @@ allows_load_stops n slots id m G s o wide here small =
           (stop_fits k.own r (signs_in n s.words id) (o.moment.mailboxes.own id was.0))
           (λ v e. o.moment.mailboxes.away id was.0 v (sym (stop_asked k.own r) ∙ e)))
           (calm_all n o.known (signs_in n s.words) (token_in s.words) o.moment.ring id was.0 (W k) refl (o.moment.ring.here id was.0))
-          (halt_same n o.known (halt_in n s.words) (stops_in n s.words) id (W k) was.0 o.moment.halt (ap (λ (v : Known). v.stopped) was.1 ∙ G.goes) refl
-          refl refl
-          (λ v e. ⊎_elim (λ q. o.moment.halt.left id v was.0 q)
+          (same_halt n s o id m here G (W k) refl refl refl (λ v e. ⊎_elim (λ q. o.moment.halt.left id v was.0 q)
           (λ q. o.moment.halt.bits v (o.moment.mailboxes.away id was.0 v (ap asked_of q.0)).0 ∙ q.1) (stop_left k.own r v e))),
       (
         refl,
@@ -221,50 +220,43 @@ allows_withdraw n slots id r v m G mine leaves s o wide here small =
     let was = o.seated id m.0 here G.live in
     let found : ℕ = get_or s.words (r + 1) 0 in
     let k : Known = o.known id in
-    let number : r ≡ id = sym mine ∙ ap (λ (x : Known). x.number) (sym was.1) ∙ (o.moment.mailboxes.named id was.0).0 in
-    let below : r < n = subst (λ (j : ℕ). j < n) (sym number) was.0 in
-    let sign_now : signs_in n s.words id ≡ sign found = ap (signs_in n s.words) (sym number) ∙ mailbox_there n s.words r below in
+    let A = at_own n s o id m here G r mine in
     let left_own : k.own ≡ Left v = ap (λ (x : Known). x.own) was.1 ∙ leaves in
     let away : (v < n) × (v ≢ id) = o.moment.mailboxes.away id was.0 v (ap asked_of left_own) in
     let gone : IsGone (o.known v) = o.moment.halt.gone v away.0 (o.moment.halt.left id v was.0 left_own) in
-    let stopped_not : k.stopped ≡ false = ap (λ (x : Known). x.stopped) was.1 ∙ G.goes in
     let fits : OpenFits v (signs_in n s.words id) = subst (λ (x : OwnMailbox). OwnFits x (signs_in n s.words id)) left_own (o.moment.mailboxes.own id was.0) in
     exchanged found (word_of (asking v)) (word_of resting) (Goes n s (r + 1) id m
     (WithdrawTells (step slots (r + 1) (word_of (asking v)) (word_of resting) none) m))
     (λ hit.
     let W : Known → Known = λ x. after_rest x (r + 1) found true in
-    let asks : signs_in n s.words id ≡ asking v = sign_now ∙ ap sign hit ∙ sign_of_word (asking v) in (
+    let asks : signs_in n s.words id ≡ asking v = A.found ∙ ap sign hit ∙ sign_of_word (asking v) in (
       knows m.0 (W m.0.own),
       keeps,
       tt,
-      writes n s o id m.0 W r (word_of resting) resting s.homes (slots_in s.homes) here G.live refl (sign_of_word resting) below refl
-          (subst (λ (j : ℕ). MailboxFacts n (put o.known id (W k)) (put (signs_in n s.words) j resting) (slots_in s.homes)) (sym number)
-          (own_moves n o.known (signs_in n s.words) (slots_in s.homes) o.moment.mailboxes id was.0 (W k) resting refl refl refl refl refl refl (λ u e. cc)
-          (slot_under n o.known (signs_in n s.words) (slots_in s.homes) o.moment.mailboxes id was.0 (asking v) asks) refl (λ j e. cc) (λ j e. cc)))
-          (subst (λ (j : ℕ). RingFacts n (put o.known id (W k)) (put (signs_in n s.words) j resting) (token_in s.words)) (sym number)
+      own_rests n s o id m here G r A (λ j e. cc)
+          (slot_under n o.known (signs_in n s.words) (slots_in s.homes) o.moment.mailboxes id was.0 (asking v) asks)
           (withdraws n o.known (signs_in n s.words) (token_in s.words) o.moment.ring id was.0 (W k) v away.0 (λ e. away.1 (sym e))
-          (ap (λ (x : Known). x.ended) was.1 ∙ G.runs) gone.1 asks refl refl))
-          (halt_same n o.known (halt_in n s.words) (stops_in n s.words) id (W k) was.0 o.moment.halt stopped_not refl refl refl (λ u e. absurd (cc))),
+          (ap (λ (x : Known). x.ended) was.1 ∙ G.runs) gone.1 asks refl refl),
       (λ u e. ((λ q. refl), (λ q. absurd (q hit)))),
     ))
     (λ miss.
     let W : Known → Known = λ x. after_look x (r + 1) found in
     let no_ask : sign found ≢ asking v = λ e. miss (one_word found v e) in
-    let no_serve : sign found ≢ serving v = λ e. (let yes : serves (o.known v) id ≡ true = o.moment.mailboxes.served id v was.0 away.0 (sign_now ∙ e) in
+    let no_serve : sign found ≢ serving v = λ e. (let yes : serves (o.known v) id ≡ true = o.moment.mailboxes.served id v was.0 away.0 (A.found ∙ e) in
     let never : serves (o.known v) id ≡ false = gone.2 id in cc) in
-    let answered : (sign found ≡ full v) ⊎ (sign found ≡ emptied v) = ⊎_elim (λ a. absurd (no_ask (sym sign_now ∙ a)))
-    (λ b. ⊎_elim (λ c. absurd (no_serve (sym sign_now ∙ c))) (λ d. ⊎_elim (λ e. inl (sym sign_now ∙ e)) (λ e. inr (sym sign_now ∙ e)) d) b) fits in
-    let found_fits : OwnFits k.own (sign found) = subst (OwnFits k.own) sign_now (o.moment.mailboxes.own id was.0) in (
+    let answered : (sign found ≡ full v) ⊎ (sign found ≡ emptied v) = ⊎_elim (λ a. absurd (no_ask (sym A.found ∙ a)))
+    (λ b. ⊎_elim (λ c. absurd (no_serve (sym A.found ∙ c))) (λ d. ⊎_elim (λ e. inl (sym A.found ∙ e)) (λ e. inr (sym A.found ∙ e)) d) b) fits in
+    let found_fits : OwnFits k.own (sign found) = subst (OwnFits k.own) A.found (o.moment.mailboxes.own id was.0) in (
       knows m.0 (W m.0.own),
       keeps,
       tt,
       reads n s o id m.0 W (r + 1) here G.live
           (unmoved n o.known (signs_in n s.words) (slots_in s.homes) id (W k) was.0 o.moment.mailboxes refl refl refl refl refl
-          (subst (OwnFits (learn k.own (sign found))) (sym sign_now) (learns k.own (sign found) found_fits))
+          (subst (OwnFits (learn k.own (sign found))) (sym A.found) (learns k.own (sign found) found_fits))
           (λ u e. o.moment.mailboxes.away id was.0 u (learns_away k.own (sign found) found_fits u e)))
           (calm_all n o.known (signs_in n s.words) (token_in s.words) o.moment.ring id was.0 (W k) refl (o.moment.ring.here id was.0))
-          (halt_same n o.known (halt_in n s.words) (stops_in n s.words) id (W k) was.0 o.moment.halt stopped_not refl refl refl
-          (λ u e. subst (λ (j : ℕ). (o.known j).stopped ≡ true) (learn_left k.own (sign found) v u left_own e) (o.moment.halt.left id v was.0 left_own))),
+          (same_halt n s o id m here G (W k) refl refl refl (λ u e. subst (λ (j : ℕ). (o.known j).stopped ≡ true)
+          (learn_left k.own (sign found) v u left_own e) (o.moment.halt.left id v was.0 left_own))),
       (λ u e. (let same : u ≡ v = (let p : Left u ≡ Left v = sym e ∙ leaves in cc) in
           ((λ q. absurd (miss q)), (λ q. (subst (λ (j : ℕ). (sign found ≡ full j) ⊎ (sign found ≡ emptied j)) (sym same) answered, refl))))),
     ))

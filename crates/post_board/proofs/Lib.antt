@@ -17,6 +17,7 @@ pub mod FactLemmas
 pub mod RingLemmas
 pub mod HaltLemmas
 pub mod Frames
+pub mod GoingSteps
 pub mod RingSteps
 pub mod MailboxLemmas
 pub mod HaltSteps

@@ -1,5 +1,5 @@
 -- Each kind of step on a mailbox keeps the facts of mailboxes.
-use Rattle.std.proofs.Common.{◌≡◌, ℕ, ◌/◌, ◌%◌, ◌==◌, ◌<◌, ◌≢◌, inl, inr, ⊎_elim, refl, sym, subst, ap, ◌∙◌, arith, Bool, true, false, cond, [], ◌∷◌}
+use Rattle.std.proofs.Common.{◌≡◌, ℕ, ◌/◌, ◌%◌, ◌==◌, ◌<◌, ◌≢◌, inl, inr, ⊎_elim, ◌⊎◌, refl, sym, subst, ap, ◌∙◌, arith, Bool, true, false, cond, [], ◌∷◌}
 use Rattle.std.proofs.Common.{◌++◌, length, get_or, set, get_or-set_same, get_or-set_other, length-set, eq-eqb, ne_eqb, Some, None}
 use Rattle.std.proofs.lemmas.List.{append-nil}
 use mathlib.Core.Option.{none, some}
@@ -10,7 +10,7 @@ use Rattle.ring_core.specs.Picture.{put}
 use Rattle.ring_core.proofs.PictureLemmas.{put_here, put_elsewhere}
 use Rattle.post_board.specs.Shown.{Strings}
 use Rattle.post_board.specs.Words.{Sign, resting, asking, serving, full, fetching, emptied, sign, sign_by, word_of}
-use Rattle.post_board.specs.BoardRule.{Parcel, MailboxFacts, serves, given, taken, OwnFits, SlotFits, Away, asked_of, on_way}
+use Rattle.post_board.specs.BoardRule.{Parcel, MailboxFacts, serves, given, taken, OpenFits, OwnFits, SlotFits, Away, asked_of, on_way}
 use Rattle.post_board.specs.BoardSteps.{learn}
 use Rattle.post_board.specs.declared.board_views.Known.{Known}
 use Rattle.post_board.specs.declared.board_views.OwnMailbox.{OwnMailbox}
@@ -67,38 +67,59 @@ not_full (full k) i z ne = absurd (ne k refl)
 not_full (fetching k) i z ne = refl
 not_full (emptied k) i z ne = refl
 
--- an own mailbox that is served is one whose request is open
+-- the rank that a sign names
+abbrev pub name : Sign → ℕ
+name resting = 0
+name (asking r) = r
+name (serving r) = r
+name (full r) = r
+name (fetching r) = r
+name (emptied r) = r
+
+open_name : (v : ℕ) (d : Sign) → OpenFits v d → name d ≡ v
+open_name v d e = ⊎_elim (λ a. ap name a) (λ o. ⊎_elim (λ a. ap name a) (λ p. ⊎_elim (λ a. ap name a) (λ a. ap name a) p) o) e
+
+open_never_rests : (v : ℕ) (d : Sign) → OpenFits v d → d ≢ resting
+open_never_rests v d e rests = ⊎_elim (λ a. cc) (λ o. ⊎_elim (λ a. cc) (λ p. ⊎_elim (λ a. cc) (λ a. cc) p) o) e
+
+-- an own mailbox that names i belongs to a request to i
+named : (o : OwnMailbox) (d : Sign) (i : ℕ) → OwnFits o d → OpenFits i d → asked_of o ≡ Some i
+named Resting d i e q = absurd (open_never_rests i d q e)
+named (Open v) d i e q = ap Some (sym (open_name v d e) ∙ open_name i d q)
+named (Left v) d i e q = ap Some (sym (open_name v d e) ∙ open_name i d q)
+named (Filled v) d i e q = ap Some (sym (ap name e) ∙ open_name i d q)
+named (Emptied v) d i e q = ap Some (sym (ap name e) ∙ open_name i d q)
+named (Getting v) d i e q = ap Some (sym (ap name e) ∙ open_name i d q)
+
+open_rank : (v i : ℕ) (d : Sign) → OpenFits v d → (d ≡ asking i) ⊎ (d ≡ serving i) → v ≡ i
+open_rank v i d e q = sym (open_name v d e) ∙ ⊎_elim (λ a. ap name a) (λ a. ap name a) q
+
+-- an own mailbox that asks i, or that i serves, is one whose request to i is open
+open_is : (o : OwnMailbox) (i : ℕ) (d : Sign) → (d ≡ asking i) ⊎ (d ≡ serving i) → OwnFits o d → (o ≡ Open i) ⊎ (o ≡ Left i)
+open_is Resting i d q e = absurd (⊎_elim (λ a. cc) (λ a. cc) q)
+open_is (Open v) i d q e = inl (ap Open (open_rank v i d e q))
+open_is (Left v) i d q e = inr (ap Left (open_rank v i d e q))
+open_is (Filled v) i d q e = absurd (⊎_elim (λ a. cc) (λ a. cc) q)
+open_is (Emptied v) i d q e = absurd (⊎_elim (λ a. cc) (λ a. cc) q)
+open_is (Getting v) i d q e = absurd (⊎_elim (λ a. cc) (λ a. cc) q)
+
+-- so i can take it up, fill it or refuse it
+stays_open : (o : OwnMailbox) (i : ℕ) (d d' : Sign) → (d ≡ asking i) ⊎ (d ≡ serving i) → OwnFits o d → OpenFits i d' → OwnFits o d'
+stays_open o i d d' q e f =
+    let back : (x : OwnMailbox) → o ≡ x → OwnFits x d' → OwnFits o d' = λ x p. subst (λ (y : OwnMailbox). OwnFits y d') (sym p) in
+    ⊎_elim (λ p. back (Open i) p f) (λ p. back (Left i) p f) (open_is o i d q e)
+
 served_open : (o : OwnMailbox) (i : ℕ) → OwnFits o (serving i) → asked_of o ≡ Some i
-served_open Resting i e = cc
-served_open (Open v) i e = ⊎_elim (λ a. cc) (λ o. ⊎_elim (λ b. cc) (λ p. ⊎_elim (λ c. cc) (λ d. cc) p) o) e
-served_open (Left v) i e = ⊎_elim (λ a. cc) (λ o. ⊎_elim (λ b. cc) (λ p. ⊎_elim (λ c. cc) (λ d. cc) p) o) e
-served_open (Filled v) i e = cc
-served_open (Emptied v) i e = cc
-served_open (Getting v) i e = cc
+served_open o i e = named o (serving i) i e (inr (inl refl))
 
 asked_own : (o : OwnMailbox) (i : ℕ) → OwnFits o (asking i) → OwnFits o (serving i)
-asked_own Resting i e = absurd (cc)
-asked_own (Open v) i e = ⊎_elim (λ a. inr (inl (cc))) (λ o. ⊎_elim (λ b. absurd (cc)) (λ p. ⊎_elim (λ c. absurd (cc)) (λ d. absurd (cc)) p) o) e
-asked_own (Left v) i e = ⊎_elim (λ a. inr (inl (cc))) (λ o. ⊎_elim (λ b. absurd (cc)) (λ p. ⊎_elim (λ c. absurd (cc)) (λ d. absurd (cc)) p) o) e
-asked_own (Filled v) i e = absurd (cc)
-asked_own (Emptied v) i e = absurd (cc)
-asked_own (Getting v) i e = absurd (cc)
+asked_own o i e = stays_open o i (asking i) (serving i) (inl refl) e (inr (inl refl))
 
 served_own : (o : OwnMailbox) (i : ℕ) → OwnFits o (serving i) → OwnFits o (full i)
-served_own Resting i e = absurd (cc)
-served_own (Open v) i e = ⊎_elim (λ a. absurd (cc)) (λ o. ⊎_elim (λ b. inr (inr (inl (cc)))) (λ p. ⊎_elim (λ c. absurd (cc)) (λ d. absurd (cc)) p) o) e
-served_own (Left v) i e = ⊎_elim (λ a. absurd (cc)) (λ o. ⊎_elim (λ b. inr (inr (inl (cc)))) (λ p. ⊎_elim (λ c. absurd (cc)) (λ d. absurd (cc)) p) o) e
-served_own (Filled v) i e = absurd (cc)
-served_own (Emptied v) i e = absurd (cc)
-served_own (Getting v) i e = absurd (cc)
+served_own o i e = stays_open o i (serving i) (full i) (inr refl) e (inr (inr (inl refl)))
 
 refused_own : (o : OwnMailbox) (i : ℕ) → OwnFits o (serving i) → OwnFits o (emptied i)
-refused_own Resting i e = absurd (cc)
-refused_own (Open v) i e = ⊎_elim (λ a. absurd (cc)) (λ o. ⊎_elim (λ b. inr (inr (inr (cc)))) (λ p. ⊎_elim (λ c. absurd (cc)) (λ d. absurd (cc)) p) o) e
-refused_own (Left v) i e = ⊎_elim (λ a. absurd (cc)) (λ o. ⊎_elim (λ b. inr (inr (inr (cc)))) (λ p. ⊎_elim (λ c. absurd (cc)) (λ d. absurd (cc)) p) o) e
-refused_own (Filled v) i e = absurd (cc)
-refused_own (Emptied v) i e = absurd (cc)
-refused_own (Getting v) i e = absurd (cc)
+refused_own o i e = stays_open o i (serving i) (emptied i) (inr refl) e (inr (inr (inr refl)))
 
 pub learns : (o : OwnMailbox) (d : Sign) → OwnFits o d → OwnFits (learn o d) d
 learns o resting fits = fits
@@ -113,19 +134,9 @@ pub learns_away : (o : OwnMailbox) (d : Sign) → OwnFits o d → (v : ℕ) → 
 learns_away o resting fits v e = e
 learns_away o (asking i) fits v e = e
 learns_away o (serving i) fits v e = e
-learns_away Resting (full i) fits v e = cc
-learns_away (Open k) (full i) fits v e = ⊎_elim (λ a. cc) (λ o. ⊎_elim (λ b. cc) (λ p. ⊎_elim (λ c. cc) (λ d. cc) p) o) fits
-learns_away (Left k) (full i) fits v e = ⊎_elim (λ a. cc) (λ o. ⊎_elim (λ b. cc) (λ p. ⊎_elim (λ c. cc) (λ d. cc) p) o) fits
-learns_away (Filled k) (full i) fits v e = cc
-learns_away (Emptied k) (full i) fits v e = cc
-learns_away (Getting k) (full i) fits v e = cc
+learns_away o (full i) fits v e = named o (full i) i fits (inr (inr (inl refl))) ∙ e
 learns_away o (fetching i) fits v e = e
-learns_away Resting (emptied i) fits v e = cc
-learns_away (Open k) (emptied i) fits v e = ⊎_elim (λ a. cc) (λ o. ⊎_elim (λ b. cc) (λ p. ⊎_elim (λ c. cc) (λ d. cc) p) o) fits
-learns_away (Left k) (emptied i) fits v e = ⊎_elim (λ a. cc) (λ o. ⊎_elim (λ b. cc) (λ p. ⊎_elim (λ c. cc) (λ d. cc) p) o) fits
-learns_away (Filled k) (emptied i) fits v e = cc
-learns_away (Emptied k) (emptied i) fits v e = cc
-learns_away (Getting k) (emptied i) fits v e = cc
+learns_away o (emptied i) fits v e = named o (emptied i) i fits (inr (inr (inr refl))) ∙ e
 
 module _ (n : ℕ) (known : ℕ → Known) (signs : ℕ → Sign) (slot : ℕ → Core.Option Parcel) (F : MailboxFacts n known signs slot) (id : ℕ) (me : id < n) where
   -- no rank serves itself

@@ -23,8 +23,8 @@ use Rattle.post_board.specs.declared.board_views.OwnMailbox.{OwnMailbox}
 use Rattle.post_board.specs.declared.board_views.OwnMailbox.TheVariants.{Resting}
 use Rattle.post_board.proofs.FactLemmas.{unmoved}
 use Rattle.post_board.proofs.RingLemmas.{calm_all, sees_over, passes, restarts, concludes, over_quiet, many}
-use Rattle.post_board.proofs.HaltLemmas.{halt_same}
 use Rattle.post_board.proofs.Frames.{frame, at_ring, reads}
+use Rattle.post_board.proofs.GoingSteps.{same_halt}
 
 -- what the ring tells this seat, which has not ended
 hears : (n : ℕ) (known : ℕ → Known) (signs : ℕ → Sign) (token : Token) → RingFacts n known signs token → (id : ℕ) → id < n → (known id).ended ≡ false
@@ -67,8 +67,7 @@ allows_hear n slots id m G s o wide here small =
           (subst (λ (x : OwnMailbox). OwnFits x (signs_in n s.words id)) (sym f.5) (o.moment.mailboxes.own id was.0))
           (subst (λ (x : OwnMailbox). Rattle.post_board.specs.BoardRule.Away n id x) (sym f.5) (o.moment.mailboxes.away id was.0)))
           (hears n o.known (signs_in n s.words) t o.moment.ring id was.0 (ap (λ (v : Known). v.ended) was.1 ∙ G.runs) number 0 r r)
-          (halt_same n o.known (halt_in n s.words) (stops_in n s.words) id (W k) was.0 o.moment.halt
-          (ap (λ (v : Known). v.stopped) was.1 ∙ G.goes) h.0 h.1 h.2 (λ v e. o.moment.halt.left id v was.0 (sym f.5 ∙ e))),
+          (same_halt n s o id m here G (W k) h.0 h.1 h.2 (λ v e. o.moment.halt.left id v was.0 (sym f.5 ∙ e))),
       (
         refl,
         (λ e. ap (λ (v : Known). v.busy) (sym was.1) ∙ (over_quiet n o.known (signs_in n s.words) t o.moment.ring e id was.0).0),
@@ -110,8 +109,7 @@ swaps n slots id m new t W then G reads same turns tells s o wide here small =
           (subst (λ (x : OwnMailbox). OwnFits x (signs_in n s.words id)) (sym f.5) (o.moment.mailboxes.own id was.0))
           (subst (λ (x : OwnMailbox). Rattle.post_board.specs.BoardRule.Away n id x) (sym f.5) (o.moment.mailboxes.away id was.0)))
           (turns s o r here was.0 was.1)
-          (halt_same n o.known (halt_in n s.words) (stops_in n s.words) id (W r k) was.0 o.moment.halt
-          (ap (λ (v : Known). v.stopped) was.1 ∙ G.goes) f.6 f.7 f.8 (λ v e. o.moment.halt.left id v was.0 (sym f.5 ∙ e)))),
+          (same_halt n s o id m here G (W r k) f.6 f.7 f.8 (λ v e. o.moment.halt.left id v was.0 (sym f.5 ∙ e)))),
       tells s o was.0 was.1,
     )
 
