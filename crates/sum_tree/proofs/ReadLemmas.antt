@@ -34,7 +34,7 @@ loaded_none v a = record {
   same = refl;
 }
 
-pub seen_grows : (w : Known) (c found : ℕ) → c < length w.seen → seen_of w c ≤ found / 2 → (e : ℕ) → seen_of w e ≤ seen_of (after_load w c found) e
+seen_grows : (w : Known) (c found : ℕ) → c < length w.seen → seen_of w c ≤ found / 2 → (e : ℕ) → seen_of w e ≤ seen_of (after_load w c found) e
 seen_grows w c found inside up e = dite (ℕ_discrete e c)
     (λ q. let at : seen_of (after_load w c found) e ≡ found / 2 = ap (λ (j : ℕ). get_or (set w.seen c (found / 2)) j 0) q
     ∙ get_or-set_same w.seen c (found / 2) 0 inside in let same : seen_of w e ≡ seen_of w c = ap (seen_of w) q in omega arith)
@@ -67,7 +67,7 @@ loaded_more v w a k found L inside =
     )
 
 -- a part of what was read below
-pub part_below : (w : Known) (k : ℕ) → k ≤ min w.width (w.n - (w.number * w.width + 1))
+part_below : (w : Known) (k : ℕ) → k ≤ min w.width (w.n - (w.number * w.width + 1))
     → sum_by (seen_of w) (range_with_len (w.number * w.width + 1) k) ≤ below w
 part_below w k h =
     let a : ℕ = w.number * w.width + 1 in
@@ -79,10 +79,13 @@ part_below w k h =
     let e : sum_by (seen_of w) (range_with_len a (k + (m - k))) ≡ below w = ap (λ (i : ℕ). sum_by (seen_of w) (range_with_len a i)) whole in
     omega arith
 
+-- the rank of a seat, its count and its answer stay
+abbrev pub SameRank : SumSeat → SumSeat → Type 0
+SameRank s s' = (s'.number ≡ s.number) × (s'.n ≡ s.n) × (s'.width ≡ s.width) × (s'.count ≡ s.count) × (s'.answer ≡ s.answer)
+
 pub still : (t : SumTree) (s s' : SumSeat) (c found : ℕ) → IsSeat t s → c < t.n → s'.seat.table_id ≡ s.seat.table_id
-    → s'.seat.me ≡ knowing s.seat.me (after_load s.seat.me.0.own c found) → seen_of s.seat.me.0.own c ≤ found / 2
-    → s'.number ≡ s.number → s'.n ≡ s.n → s'.width ≡ s.width → s'.count ≡ s.count → s'.answer ≡ s.answer → IsSeat t s'
-still t s s' c found S bound table me up number n width count answer =
+    → s'.seat.me ≡ knowing s.seat.me (after_load s.seat.me.0.own c found) → seen_of s.seat.me.0.own c ≤ found / 2 → SameRank s s' → IsSeat t s'
+still t s s' c found S bound table me up (number, n, width, count, answer) =
     let v : Known = s.seat.me.0.own in
     let w : Known = after_load v c found in
     let inside : c < length v.seen = (let e = S.long in omega arith) in
@@ -112,7 +115,7 @@ still t s s' c found S bound table me up number n width count answer =
       low = subst (λ (x : Known). x.word ≤ x.count + below x) (sym at) (let l = S.low in omega arith);
     }
 
-pub sum_more : (w : Known) (a k found : ℕ) → a + k < length w.seen
+sum_more : (w : Known) (a k found : ℕ) → a + k < length w.seen
     → sum_by (seen_of w) (range_with_len a k) + found / 2 ≡ sum_by (seen_of (after_load w (a + k) found)) (range_with_len a (k + 1))
 sum_more w a k found inside =
     let w' : Known = after_load w (a + k) found in
@@ -123,7 +126,7 @@ sum_more w a k found inside =
     joined_sums (seen_of w') a k 1 in
     let o = sum_of_one (seen_of w') (a + k) in omega arith
 
-pub bounded : (t : SumTree) (s : SumSeat) (a k : ℕ) → IsSeat t s → a ≡ s.number * s.width + 1 → k ≤ min s.width (s.n - a)
+bounded : (t : SumTree) (s : SumSeat) (a k : ℕ) → IsSeat t s → a ≡ s.number * s.width + 1 → k ≤ min s.width (s.n - a)
     → sum_by (seen_of s.seat.me.0.own) (range_with_len a k) ≤ below s.seat.me.0.own
 bounded t s a k S is few =
     let w : Known = s.seat.me.0.own in
@@ -134,6 +137,59 @@ bounded t s a k S is few =
     subst (λ (j : ℕ). k ≤ min w.width (w.n - j)) (sym first)
     (subst (λ (j : ℕ). k ≤ min w.width (j - a)) (sym size) (subst (λ (j : ℕ). k ≤ min j (s.n - a)) (sym wide) few)) in
     subst (λ (j : ℕ). sum_by (seen_of w) (range_with_len j k) ≤ below w) first (part_below w k few2)
+
+-- the first child of a seat's rank, and how many children it has
+abbrev pub first_child : SumSeat → ℕ
+first_child s = s.number * s.width + 1
+
+abbrev pub many_children : SumSeat → ℕ
+many_children s = min s.width (s.n - first_child s)
+
+-- a seat that began as v has become s, and becomes s' as it loads the word of one child more
+pub record OneLoaded (t : SumTree) (v s s' : SumSeat) (child found : ℕ) : Type 0 where
+  pub mine : IsSeat t s'
+  pub long : first_child v + (child - first_child v) < length s.seat.me.0.own.seen
+  pub wide : first_child v + (child - first_child v) < length s.seat.me.0.own.finals
+  pub is : s'.seat.me.0.own ≡ after_load s.seat.me.0.own (first_child v + (child - first_child v)) found
+  pub next : child - first_child v + 1 ≡ child + 1 - first_child v
+  pub room : child - first_child v < many_children v
+
+pub one_loaded : (t : SumTree) (v s s' : SumSeat) (child count found : ℕ) → v.n ≡ t.n → IsSeat t s → count ≡ many_children v → first_child v ≤ child
+    → child < first_child v + count → s'.seat.table_id ≡ s.seat.table_id → s'.seat.me ≡ knowing s.seat.me (after_load s.seat.me.0.own child found)
+    → seen_of s.seat.me.0.own child ≤ found / 2 → SameRank s s' → OneLoaded t v s s' child found
+one_loaded t v s s' child count found size S many low high table me up same =
+    let a : ℕ = first_child v in
+    let back : a + (child - a) ≡ child = omega arith in
+    let inside : child < t.n = omega arith in
+    record {
+      mine = still t s s' child found S inside table me up same;
+      long = (let e = S.long in omega arith);
+      wide = (let e = S.wide in omega arith);
+      is = ap (λ (m : SeatState). m.0.own) me ∙ ap (λ (j : ℕ). after_load s.seat.me.0.own j found) (sym back);
+      next = omega arith;
+      room = omega arith;
+    }
+
+module _ {t : SumTree} {v s s' : SumSeat} {child found : ℕ} (L : OneLoaded t v s s' child found) where
+  -- a fact of the words that were loaded
+  pub on_load : (P : ℕ → Known → Type 0) → P (child - first_child v + 1) (after_load s.seat.me.0.own (first_child v + (child - first_child v)) found)
+      → P (child + 1 - first_child v) s'.seat.me.0.own
+  on_load P p = subst (λ (j : ℕ). P j s'.seat.me.0.own) L.next (subst (P (child - first_child v + 1)) (sym L.is) p)
+
+  -- the sum with the number that was found
+  pub on_sum : (sum : ℕ) → sum ≡ sum_by (seen_of s.seat.me.0.own) (range_with_len (first_child v) (child - first_child v)) → SameRank v s'
+      → (sum + found / 2 ≡ sum_by (seen_of s'.seat.me.0.own) (range_with_len (first_child v) (child + 1 - first_child v)))
+      × (sum + found / 2 ≤ below s'.seat.me.0.own)
+  on_sum sum e same =
+      let a : ℕ = first_child v in
+      let w : Known = s'.seat.me.0.own in
+      let is : sum + found / 2 ≡ sum_by (seen_of w) (range_with_len a (child + 1 - a)) =
+      ap (λ (x : ℕ). x + found / 2) e ∙ sum_more s.seat.me.0.own a (child - a) found L.long
+      ∙ ap (λ (u : Known). sum_by (seen_of u) (range_with_len a (child - a + 1))) (sym L.is)
+      ∙ ap (λ (j : ℕ). sum_by (seen_of w) (range_with_len a j)) L.next in
+      let few : child + 1 - a ≤ min s'.width (s'.n - a) = (let p = same.1 in let q = same.2 in let r = L.room in let n = L.next in omega arith) in
+      let first : a ≡ s'.number * s'.width + 1 = ap (λ (j : ℕ). j * v.width + 1) (sym same.0) ∙ ap (λ (j : ℕ). s'.number * j + 1) (sym same.2) in
+      let part = bounded t s' a (child + 1 - a) L.mine first few in (is, omega arith)
 
 pub final_none : (v : Known) (a : ℕ) → LoadedFinal v a 0 v
 final_none v a = record {
