@@ -3,8 +3,8 @@ use Rattle.std.proofs.Common.{◌≡◌, ℕ, ◌+◌, ◌<◌, ◌≤◌, refl,
 use Rattle.std.proofs.Common.{length, length-append, get_or, sum_by, Option, Some, None, is_some, IsSome}
 use Rattle.std.proofs.Common.{Bool, false, cond, ne_eqb}
 use Rattle.std.specs.Prelude.{unwrap_or}
+use Rattle.std.proofs.Math.Seq.{get_or-append_seam}
 use Rattle.std.specs.List.{Contains, range_with_len}
-use Rattle.std.specs.List.Sorted.{IsPermutation}
 use Rattle.std.proofs.lemmas.List.{get_or_append_left, get_or_default}
 use Rattle.std.proofs.lemmas.List.Elements.{Contains-append_left, Contains-get_or, Contains-push}
 use Rattle.std.proofs.lemmas.List.Sorted.{Contains-permutation, IsPermutation-sym, length_permutation, sum_by-IsPermutation}
@@ -12,7 +12,7 @@ use Rattle.std.proofs.lemmas.Simd.{pick_l_whole}
 use mathlib.Core.Logic.{dite}
 use native.Mathlib.Decide.{ℕ_discrete}
 use Rattle.atomic_table.specs.Seated.{TableId}
-use Rattle.sum_tree.specs.Shown.{ByNumber, AllFinished}
+use Rattle.sum_tree.specs.Shown.{AllFinished}
 use Rattle.sum_tree.proofs.Ranges.{sum_of_map, same_sums}
 use Rattle.sum_tree.specs.TreeRule.{both}
 use Rattle.sum_tree.specs.TreeSteps.{SeatState, Totals}
@@ -21,10 +21,6 @@ use Rattle.sum_tree.specs.declared.tree_views.Known.{Known}
 use Rattle.sum_tree.specs.declared.tree_views.View.{View}
 use Rattle.sum_tree.specs.declared.sum_trees.SumTree.{SumTree}
 use Rattle.sum_tree.specs.declared.sum_trees.SumSeat.{SumSeat}
-
-seam : {A : Type 0} (xs : List A) (y : A) (ys : List A) (d : A) → get_or (xs ++ y ∷ ys) (length xs) d ≡ y
-seam [] y ys d = refl
-seam (x ∷ xs) y ys d = seam xs y ys d
 
 first_is : (number : ℕ) (answer : Option ℕ) (known : ℕ) → number ≡ 0 → first_answer number answer known ≡ unwrap_or answer 0
 first_is number answer known e = ap (λ (k : ℕ). first_answer k answer known) e
@@ -70,12 +66,12 @@ module _ (t : SumTree) (all : List SumSeat) (D : AllFinished shown_by (IsSeat t)
   seat_at : (left : List SumSeat) (other : SumSeat) → length left < length all → get_or all (length left) other ≡ other → IsSeat t other
   seat_at left other short at = (rank_of other (length left, short, at)).3.0
 
-  pub begun : (left : List SumSeat) (last : SumSeat) (id : TableId) (m : SeatState) (answer : ℕ) → all ≡ left ++ last ∷ []
+  pub begun : {left : List SumSeat} (last : SumSeat) {id : TableId} {m : SeatState} {answer : ℕ} → all ≡ left ++ last ∷ []
       → id ≡ last.seat.table_id → m ≡ last.seat.me → answer ≡ first_answer last.number last.answer 0
       → (id ≡ t.table.shared.table_id) × (m.0.live ≡ true) × Together t.n all left m.0 answer
-  begun left last id m answer e id_is m_is answer_is =
+  begun {left} last {id} {m} {answer} e id_is m_is answer_is =
       let long : length all ≡ length left + 1 = ap length e ∙ length-append left (last ∷ []) in
-      let at : (d : SumSeat) → get_or all (length left) d ≡ last = λ d. ap (λ xs. get_or xs (length left) d) e ∙ seam left last [] d in
+      let at : (d : SumSeat) → get_or all (length left) d ≡ last = λ d. ap (λ xs. get_or xs (length left) d) e ∙ get_or-append_seam left last [] d in
       let S : IsSeat t last = seat_at left last (omega arith) (at last) in
       let here : (i : ℕ) (d : SumSeat) → length left ≤ i → i < length all → get_or all i d ≡ last =
       λ i d low high. (let is : i ≡ length left = omega arith in ap (λ (k : ℕ). get_or all k d) is ∙ at d) in (
@@ -101,21 +97,21 @@ module _ (t : SumTree) (all : List SumSeat) (D : AllFinished shown_by (IsSeat t)
       → left ≡ left' ++ other ∷ [] → (d : SumSeat) → get_or all (length left') d ≡ other
   came left left' other v answer T e d =
       let long : length left ≡ length left' + 1 = ap length e ∙ length-append left' (other ∷ []) in
-      sym (T.same (length left') d (omega arith)) ∙ ap (λ xs. get_or xs (length left') d) e ∙ seam left' other [] d
+      sym (T.same (length left') d (omega arith)) ∙ ap (λ xs. get_or xs (length left') d) e ∙ get_or-append_seam left' other [] d
 
-  pub fits : (left left' : List SumSeat) (other : SumSeat) (v : View) (answer : ℕ) → Together t.n all left v answer
-      → left ≡ left' ++ other ∷ [] → (id : TableId) (m : SeatState) → id ≡ other.seat.table_id → m ≡ other.seat.me
+  pub fits : {left : List SumSeat} (left' : List SumSeat) (other : SumSeat) {v : View} {answer : ℕ} {id : TableId} {m : SeatState}
+      → Together t.n all left v answer → left ≡ left' ++ other ∷ [] → id ≡ other.seat.table_id → m ≡ other.seat.me
       → (id ≡ t.table.shared.table_id) × (m.0.live ≡ true) × (m.1 ≡ [])
-  fits left left' other v answer T e id m id_is m_is =
+  fits {left} left' other {v} {answer} {id} {m} T e id_is m_is =
       let long : length left ≡ length left' + 1 = ap length e ∙ length-append left' (other ∷ []) in
       let short : length left < length all = T.short in
       let S = seat_at left' other (omega arith) (came left left' other v answer T e other) in
       (id_is ∙ S.mine.table, ap (λ (x : SeatState). x.0.live) m_is ∙ S.mine.live, ap (λ (x : SeatState). x.1) m_is ∙ S.alone.1)
 
-  pub went_on : (left left' : List SumSeat) (other : SumSeat) (v : View) (answer answer' : ℕ) → Together t.n all left v answer
-      → left ≡ left' ++ other ∷ [] → (m : SeatState) (u : View) → m ≡ other.seat.me
+  pub went_on : {left left' : List SumSeat} (other : SumSeat) {v u : View} {answer answer' : ℕ} {m : SeatState} → Together t.n all left v answer
+      → left ≡ left' ++ other ∷ [] → m ≡ other.seat.me
       → answer' ≡ first_answer other.number other.answer answer → u ≡ both v m.0 → Together t.n all left' u answer'
-  went_on left left' other v answer answer' T e m u m_is answer_is u_is =
+  went_on {left} {left'} other {v} {u} {answer} {answer'} {m} T e m_is answer_is u_is =
       let long : length left ≡ length left' + 1 = ap length e ∙ length-append left' (other ∷ []) in
       let short : length left < length all = T.short in
       let at : (d : SumSeat) → get_or all (length left') d ≡ other = came left left' other v answer T e in
@@ -158,11 +154,11 @@ module _ (t : SumTree) (all : List SumSeat) (D : AllFinished shown_by (IsSeat t)
       ranks_of d = let inside = (rank_of (get_or all 0 d) (Contains-get_or all 0 d some)).3.0.mine.inside in omega arith
 
   -- all have come together
-  pub total_of : (left : List SumSeat) (v : View) (answer : ℕ) → Together t.n all left v answer → length left ≡ 0
+  pub total_of : {left : List SumSeat} {v : View} {answer : ℕ} → Together t.n all left v answer → length left ≡ 0
       → 0 < length all → Totals v
       → (answer ≡ sum_by (λ s. (shown_by s).count) all)
       × ((s : SumSeat) → Contains all s → (shown_by s).number ≡ 0 → (shown_by s).answer ≡ Some answer)
-  total_of left v answer T none some totals = (whole (spare all some), first)
+  total_of {left} {v} {answer} T none some totals = (whole (spare all some), first)
     where
       first : (s : SumSeat) → Contains all s → (shown_by s).number ≡ 0 → s.answer ≡ Some answer
       first s c lowest =

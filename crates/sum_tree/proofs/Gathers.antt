@@ -2,10 +2,11 @@
 use Rattle.std.proofs.Common.{◌≡◌, ℕ, ◌<◌, ◌≤◌, refl, sym, subst, ap, ◌∙◌, arith, true, false, List, [], ◌∷◌, length, get_or, sum_by}
 use Rattle.std.proofs.Common.{Option, Some, None, is_some, IsSome, IfSome}
 use Rattle.std.specs.List.{Contains, range_with_len}
+use Rattle.std.proofs.lemmas.List.{get_or_read}
 use Rattle.std.proofs.lemmas.List.Sorted.{Contains-permutation, IsPermutation-sym, length_permutation, sum_by-IsPermutation}
 use Rattle.std.proofs.lemmas.Simd.{pick_l_whole}
-use Rattle.sum_tree.specs.Told.{SumTold, rank_of, count_of, word_of, is_final}
-use Rattle.sum_tree.specs.Shown.{SumShown, ByNumber, AllFinished}
+use Rattle.sum_tree.specs.Told.{SumTold, uncounted, rank_of, count_of, word_of, is_final}
+use Rattle.sum_tree.specs.Shown.{SumShown, AllFinished}
 use Rattle.sum_tree.specs.Plain.{IsSeat}
 use Rattle.sum_tree.specs.declared.ranks.RankSum.{RankSum}
 use Rattle.sum_tree.proofs.Ranges.{same_sums, sum_of_map}
@@ -33,6 +34,12 @@ module _ (t : SumTold) (all : List SumShown) (finished : AllFinished (λ s. s) (
   some_rank some =
       let as_many = length_permutation finished.ranks all finished.same in
       let inside = (finished.by_number 0 (spare all some) (omega arith)).0.shown.inside in omega arith
+
+  -- the word of rank 0 as a body reads it, from a list with the ranks
+  pub first_word : (xs : List RankSum) (x : RankSum) → xs ≡ t.ranks → 0 < length all → x ≡ get_or xs 0 x → x.word ≡ word_of t 0
+  first_word xs x are some read =
+      let inside : 0 < length xs = subst (λ (ys : List RankSum). 0 < length ys) (sym are) (some_rank some) in
+      ap (λ (y : RankSum). y.word) (get_or_read xs 0 x inside read uncounted) ∙ ap (λ (ys : List RankSum). word_of (record t { ranks = ys }) 0) are
 
   -- the word of rank 0
   pub gathered : 0 < length all → word_of t 0 ≡ sum_by (λ (s : SumShown). s.count) all

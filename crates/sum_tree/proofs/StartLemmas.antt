@@ -1,5 +1,5 @@
 -- The table of sums at the start.
-use Rattle.std.proofs.Common.{◌≡◌, ℕ, zero, suc, ◌<◌, ◌≤◌, ◌⊎◌, inr, refl, sym, subst, ap, ◌∙◌, arith, false, List, [], ◌∷◌, ◌++◌}
+use Rattle.std.proofs.Common.{◌≡◌, ℕ, zero, suc, ◌<◌, ◌≤◌, ◌⊎◌, inr, refl, sym, subst, ap, ◌∙◌, arith, false, List, [], ◌∷◌}
 use Rattle.std.proofs.Common.{map, replicate, length, get_or}
 use Rattle.std.specs.List.{All, range_with_len}
 use Rattle.std.proofs.lemmas.List.{ext_get_or, get_or-replicate, length-replicate}
@@ -67,7 +67,3 @@ pub starts_at : (n width : ℕ) (key : ℕ × ℕ) (ws : List ℕ) → key ≡ (
     → Rule key.0 key.1 (opening ws [] (opened key.0 key.1))
 starts_at n width key ws k some_rank few wide narrow e =
     subst (λ (q : ℕ × ℕ). Rule q.0 q.1 (opening ws [] (opened q.0 q.1))) (sym k) (starts n width ws some_rank few wide narrow e)
-
-pub get_or-append_seam : {A : Type 0} (xs : List A) (y : A) (ys : List A) (d : A) → get_or (xs ++ y ∷ ys) (length xs) d ≡ y
-get_or-append_seam [] y ys d = refl
-get_or-append_seam (x ∷ xs) y ys d = get_or-append_seam xs y ys d

@@ -1,6 +1,6 @@
 use Rattle.std.proofs.Common.{◌≡◌, ℕ, ◌+◌, ◌∙◌, refl, sym, ap, subst, arith, List, [], ◌∷◌, ◌++◌, length, length-append, get_or}
 use Rattle.std.specs.List.{All}
-use Rattle.std.proofs.lemmas.List.{get_or_append_left}
+use Rattle.std.proofs.lemmas.List.{get_or_append_left, get_or_push}
 use Rattle.std.proofs.lemmas.List.Elements.{All-nil, All-cons, All-append}
 use mathlib.Core.Logic.{dite}
 use native.Mathlib.Decide.{ℕ_discrete}
@@ -8,7 +8,6 @@ use Rattle.sum_tree.specs.Plain.{fresh as fresh_shown}
 use Rattle.sum_tree.specs.TreeSteps.{SeatState}
 use Rattle.sum_tree.specs.TreeSeats.{IsSeat, IsUnread, shown_by}
 use Rattle.sum_tree.specs.declared.sum_trees.SumSeat.{SumSeat}
-use Rattle.sum_tree.proofs.StartLemmas.{get_or-append_seam}
 use Rattle.sum_tree.proofs.sum_trees.SumTree.deal_all.Goals as goal
 
 pub loop-number-preserved : goal.loop-number-preserved
@@ -22,6 +21,7 @@ loop-number-preserved c =
     let items : c.push.new.self.items ≡ xs ++ x ∷ [] = c.in_ok-push.ensures.items in
     let long : length c.push.new.self.items ≡ length xs + 1 = ap length items ∙ length-append xs (x ∷ []) in
     let count : length xs + 1 ≡ c.loop-number.number = inv.count in
+    let Is : ℕ → SumSeat → Type 0 = λ k y. IsSeat c.args.self.now y × (shown_by y ≡ fresh_shown n w (k + 1)) in
     record {
       table = D.0 ∙ inv.table;
       size = refl;
@@ -31,13 +31,10 @@ loop-number-preserved c =
       alone = ap (λ (m : SeatState). m.0.kept) D.1 ∙ inv.alone;
       made = ap (λ (m : SeatState). m.0.made) D.1 ∙ ap (λ (k : ℕ). k + 1) inv.made;
       count = omega arith;
-      each = λ k d h. subst (λ ys. IsSeat c.args.self.now (get_or ys k d) × (shown_by (get_or ys k d) ≡ fresh_shown n w (k + 1))) (sym items)
-          (dite (ℕ_discrete k (length xs))
-          (λ e. subst (λ (y : SumSeat). IsSeat c.args.self.now y × (shown_by y ≡ fresh_shown n w (k + 1)))
-          (sym (ap (λ (j : ℕ). get_or (xs ++ x ∷ []) j d) e ∙ get_or-append_seam xs x [] d))
+      each = λ k d h. subst (λ ys. Is k (get_or ys k d)) (sym items) (dite (ℕ_discrete k (length xs))
+          (λ e. subst (Is k) (sym (get_or_push xs x d k (sym e)))
           (c.fresh.ensures.seat, c.fresh.ensures.shown ∙ ap (λ (j : ℕ). fresh_shown n w j) (omega arith)))
-          (λ ne. subst (λ (y : SumSeat). IsSeat c.args.self.now y × (shown_by y ≡ fresh_shown n w (k + 1)))
-          (sym (get_or_append_left xs (x ∷ []) d k (omega arith))) (inv.each k d (omega arith))));
+          (λ ne. subst (Is k) (sym (get_or_append_left xs (x ∷ []) d k (omega arith))) (inv.each k d (omega arith))));
       unread = subst (λ (ys : List SumSeat). All IsUnread ys) (sym items)
           (All-append IsUnread xs (x ∷ []) inv.unread (All-cons IsUnread x [] c.fresh.ensures.unread (All-nil IsUnread)));
     }
