@@ -1,10 +1,10 @@
 -- Answers to requests, one after the other.
-use Rattle.std.proofs.Common.{◌≡◌, ℕ, ◌+◌, ◌<◌, sym, ap, ◌∙◌, arith, Bool, true, false, nat_lt, List, [], ◌++◌, length, length-append, length-set, ne_eqb}
+use Rattle.std.proofs.Common.{◌≡◌, ℕ, ◌+◌, ◌<◌, sym, ap, ◌∙◌, arith, Bool, true, false, nat_lt, List, [], ◌++◌, length, length-append, set, length-set, ne_eqb}
 use Rattle.std.specs.Prelude.{if◌then◌else◌}
 use Rattle.ring_core.specs.declared.states.Colour.{Colour}
 use Rattle.ring_core.specs.declared.states.Colour.TheVariants.{Black}
 use Rattle.ring_core.specs.declared.events.Event.{Event}
-use Rattle.post_board.specs.Shown.{Strings, Shown}
+use Rattle.post_board.specs.Shown.{Strings, Shown, with_given}
 use Rattle.post_board.specs.Deeds.{give, refuse}
 use Rattle.post_board.specs.Calls.{given, served}
 use Rattle.circle_run.specs.Moves.{answer_of}
@@ -14,6 +14,7 @@ use Rattle.circle_run.specs.Ranks.{Knows}
 use Rattle.circle_run.specs.declared.books.Book.{Book}
 use Rattle.circle_run.specs.declared.ranks.Rank.{Rank}
 use Rattle.circle_run.proofs.Asked.{not_true, true_not_false}
+use Rattle.circle_run.proofs.Known.{knows_seen, knows_served}
 
 pub answer_gives : (to : ℕ) (batch : Strings) → 0 < length batch → answer_of (to, batch) ≡ give to batch
 answer_gives to batch some = ap (λ (b : Bool). if b then refuse to else give to batch) (ne_eqb (length batch) 0 (λ e. absurd (omega (arith, e, some))))
@@ -33,43 +34,16 @@ module _ {J S T : Type 0} (shows : S → Shown) where
   pub knows_gave : (r : Rank J S T) (seat : S) (queue : Strings) (c : Colour) (book : Book) (to : ℕ) (batch : Strings) → Knows shows r
       → r.ended ≡ false → shows seat ≡ given (shows r.seat) to batch → c ≡ (if nat_lt r.me to then Black else r.colour)
       → r.queue ≡ batch ++ queue → 0 < length queue → Knows shows (record r { seat = seat; queue = queue; colour = c; book = book })
-  knows_gave r seat queue c book to batch k live shown shade oldest some = record {
-    number = ap (λ (s : Shown). s.number) shown ∙ k.number;
-    ranks = ap (λ (s : Shown). s.n) shown ∙ k.ranks;
-    colour = ap (λ (s : Shown). s.colour) shown ∙ ap (λ (n : ℕ). if nat_lt n to then Black else (shows r.seat).colour) k.number
-        ∙ ap (λ (z : Colour). if nat_lt r.me to then Black else z) k.colour ∙ sym shade;
-    tried = ap (λ (s : Shown). s.tried) shown ∙ k.tried;
-    asked = ap (λ (s : Shown). s.asked) shown ∙ k.asked;
-    ended = ap (λ (s : Shown). s.ended) shown ∙ k.ended;
-    stopped = ap (λ (s : Shown). s.stopped) shown ∙ k.stopped;
-    inside = k.inside;
-    few = k.few;
-    asks = k.asks;
-    wide = ap (λ (s : Shown). length s.serves) shown ∙ length-set (shows r.seat).serves to false ∙ k.wide;
-    idle = λ e. absurd (let none : length r.queue ≡ 0 = ap length (k.idle (sym (ap (λ (s : Shown). s.busy) shown) ∙ e)) in
-        let all : length r.queue ≡ length batch + length queue = ap length oldest ∙ length-append batch queue in omega arith);
-    waits = λ v e. absurd (let none : length r.queue ≡ 0 = ap length (k.waits v e) in
-        let all : length r.queue ≡ length batch + length queue = ap length oldest ∙ length-append batch queue in omega arith);
-    over = λ e. absurd (true_not_false r.ended e live);
-    empty = k.empty;
-  }
+  knows_gave r seat queue c book to batch k live shown shade oldest some =
+      let emptied : r.queue ≡ [] → queue ≡ [] = λ e. absurd (let none : length r.queue ≡ 0 = ap length e in
+      let all : length r.queue ≡ length batch + length queue = ap length oldest ∙ length-append batch queue in omega arith) in
+      knows_seen shows r seat queue c (if nat_lt (shows r.seat).number to then Black else (shows r.seat).colour) book
+      (set (shows r.seat).serves to false) (with_given (shows r.seat).batches to batch) k shown (length-set (shows r.seat).serves to false)
+      (ap (λ (n : ℕ). if nat_lt n to then Black else (shows r.seat).colour) k.number
+      ∙ ap (λ (z : Colour). if nat_lt r.me to then Black else z) k.colour ∙ sym shade)
+      (λ e. emptied (k.idle e)) (λ v e. emptied (k.waits v e)) (λ e. absurd (true_not_false r.ended e live))
 
   pub knows_refused : (r : Rank J S T) (seat : S) (queue : Strings) (book : Book) (to : ℕ) → Knows shows r
       → shows seat ≡ served (shows r.seat) to → queue ≡ r.queue → Knows shows (record r { seat = seat; queue = queue; book = book })
-  knows_refused r seat queue book to k shown same = record {
-    number = ap (λ (s : Shown). s.number) shown ∙ k.number;
-    ranks = ap (λ (s : Shown). s.n) shown ∙ k.ranks;
-    colour = ap (λ (s : Shown). s.colour) shown ∙ k.colour;
-    tried = ap (λ (s : Shown). s.tried) shown ∙ k.tried;
-    asked = ap (λ (s : Shown). s.asked) shown ∙ k.asked;
-    ended = ap (λ (s : Shown). s.ended) shown ∙ k.ended;
-    stopped = ap (λ (s : Shown). s.stopped) shown ∙ k.stopped;
-    inside = k.inside;
-    few = k.few;
-    asks = k.asks;
-    wide = ap (λ (s : Shown). length s.serves) shown ∙ length-set (shows r.seat).serves to false ∙ k.wide;
-    idle = λ e. same ∙ k.idle (sym (ap (λ (s : Shown). s.busy) shown) ∙ e);
-    waits = λ v e. same ∙ k.waits v e;
-    over = λ e. same ∙ k.over e;
-    empty = k.empty;
-  }
+  knows_refused r seat queue book to k shown same =
+      knows_served shows r seat queue book (set (shows r.seat).serves to false) k shown (length-set (shows r.seat).serves to false) same

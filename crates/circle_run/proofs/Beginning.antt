@@ -34,13 +34,13 @@ module _ {J S T P Q : Type 0} (log : J → Log) (shows : S → Shown) (tells : P
     pub begun_is : stage_of log tells ranks (fresh_told o.ranks) ≡ begun o starts
 
   pub begins : (o : Options) (starts : Strings) (jobs : List J) (all_seats : List S) (all_sums : List T) (queues : List Strings)
-      (ranks : List (Rank J S T)) (p : P) (q : Q)
+      (ranks made : List (Rank J S T)) (p : P) (q : Q) → made ≡ ranks
       → AreNew log o jobs all_seats all_sums queues ranks → length jobs ≡ o.ranks → o.ranks ≤ 64 → o.width ≤ 64
       → AllFresh shows (seats p) o.ranks None all_seats
       → map sums_shows all_sums ≡ map (fresh_sums o.ranks o.width) (range_with_len 0 o.ranks)
       → ((k : ℕ) (d : T) → k < o.ranks → sums_seats q (get_or all_sums k d))
-      → queues ≡ map (dealt_to o.ranks starts) (range_with_len 0 o.ranks) → Begins o starts ranks p q
-  begins o starts jobs all_seats all_sums queues ranks p q new count few narrow fresh_seats sums_shown sums_mine dealt =
+      → queues ≡ map (dealt_to o.ranks starts) (range_with_len 0 o.ranks) → Begins o starts made p q
+  begins o starts jobs all_seats all_sums queues ranks made p q same new count few narrow fresh_seats sums_shown sums_mine dealt =
       let long : length ranks ≡ o.ranks = sym (length-map ranks (λ (r : Rank J S T). r.job)) ∙ ap length new.jobs_are ∙ count in
       let me : (k : ℕ) (d : Rank J S T) → k < length ranks → (get_or ranks k d).me ≡ k = λ k d h. ap (λ (r : Rank J S T). r.me) (new.new k d h).same in
       let seat_is : (k : ℕ) (d : Rank J S T) → k < length ranks → get_or all_seats k d.seat ≡ (get_or ranks k d).seat =
@@ -53,7 +53,7 @@ module _ {J S T P Q : Type 0} (log : J → Log) (shows : S → Shown) (tells : P
       ap sums_shows (sym (sum_is k d h)) ∙ sym (get_or-map sums_shows all_sums k d.sums_seat none (omega (arith, h, long, sums_long)))
       ∙ ap (λ (l : List SumShown). get_or l k none) sums_shown
       ∙ get_or-map-range_with_len (fresh_sums o.ranks o.width) 0 o.ranks k k none (omega (arith, h, long)) (omega arith)) in
-      record {
+      subst (λ (xs : List (Rank J S T)). Begins o starts xs p q) (sym same) (record {
         order = λ j k d below inside. (let a = me j d (omega arith) in let b = me k d inside in omega arith);
         ready = λ k d h. (let within : k < o.ranks = omega (arith, h, long) in
             let r : Rank J S T = get_or ranks k d in
@@ -76,4 +76,4 @@ module _ {J S T P Q : Type 0} (log : J → Log) (shows : S → Shown) (tells : P
             let draws = ap (λ (x : Rank J S T). x.draws) (new.new k d h).same in
             ap (λ (x : Strings). a_side x (log r.job) r.draws) queue ∙ ap (λ (x : Log). a_side (dealt_to o.ranks starts k) x r.draws) (new.unused k d h)
             ∙ ap (λ (x : Lcg). a_side (dealt_to o.ranks starts k) [] x) draws)));
-      }
+      })

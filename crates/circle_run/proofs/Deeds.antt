@@ -72,35 +72,17 @@ record Holds (ranks : List RankState) (token : Token) (rank : ℕ) : Type 0 wher
 pass_legal : (ranks : List RankState) (token : Token) (rank : ℕ) (colour : Colour) → Holds ranks token rank → 0 < rank
     → differs (is_black colour) (is_black (rank_of ranks rank).colour || is_token_black token) ≡ false → refusal ranks token (Pass rank colour) ≡ None
 pass_legal ranks token rank colour h h6 h7 =
-    let h0 = h.within in
-    let h1 = h.live in
-    let h2 = h.idle in
-    let h3 = h.rests in
-    let h4 = h.here in
-    let h5 = h.tried in
-    grind (arith, nat_tests)
+    grind (arith, nat_tests, h.within, h.live, h.idle, h.rests, h.here, h.tried)
 
 restart_legal : (ranks : List RankState) (token : Token) (rank : ℕ) → Holds ranks token rank → rank ≡ 0
     → (is_black (rank_of ranks rank).colour || is_token_black token) ≡ true → refusal ranks token (Restart rank) ≡ None
 restart_legal ranks token rank h h6 h7 =
-    let h0 = h.within in
-    let h1 = h.live in
-    let h2 = h.idle in
-    let h3 = h.rests in
-    let h4 = h.here in
-    let h5 = h.tried in
-    grind (arith, nat_tests)
+    grind (arith, nat_tests, h.within, h.live, h.idle, h.rests, h.here, h.tried)
 
 conclude_legal : (ranks : List RankState) (token : Token) (rank : ℕ) → Holds ranks token rank → rank ≡ 0
     → (is_black (rank_of ranks rank).colour || is_token_black token) ≡ false → refusal ranks token (Conclude rank) ≡ None
 conclude_legal ranks token rank h h6 h7 =
-    let h0 = h.within in
-    let h1 = h.live in
-    let h2 = h.idle in
-    let h3 = h.rests in
-    let h4 = h.here in
-    let h5 = h.tried in
-    grind (arith, nat_tests)
+    grind (arith, nat_tests, h.within, h.live, h.idle, h.rests, h.here, h.tried)
 
 see_over_legal : (ranks : List RankState) (token : Token) (rank : ℕ) → rank < length ranks → (rank_of ranks rank).ended ≡ false
     → is_over token ≡ true → refusal ranks token (SeeOver rank) ≡ None

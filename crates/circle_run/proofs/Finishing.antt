@@ -41,6 +41,7 @@ use Rattle.circle_run.proofs.Fairness.{turns_are_played}
 use Rattle.circle_run.proofs.Prompt.{moves_answer_first}
 use Rattle.circle_run.proofs.Sounding.{plays_sound, begun_sound}
 use Rattle.circle_run.proofs.Counting.{capped, share_told, share_counts}
+use Rattle.circle_run.proofs.Columns.{job_of, queue_of, share_of}
 use Rattle.circle_run.proofs.Maps.{map_is, map_same, map_each, flat_first, sum_by-map, some_of, sum_same, capped_sum}
 use Rattle.circle_run.proofs.Beginning.{Begins}
 use Rattle.circle_run.proofs.Turning.{either}
@@ -147,15 +148,6 @@ module _ {J S T P Q D : Type 0} (log : J → Log) (plain : J → D) (shows : S �
             omega (arith, c, below))) ∙ sym (sum-map f (x ∷ ranks));
         alone = λ one. (let a = kept.alone (n ∙ sym all.count ∙ sym (length-map (x ∷ ranks) f) ∙ one) in (a.1, a.2));
       }
-
-  abbrev job_of : Rank J S T → J
-  job_of r = r.job
-
-  abbrev queue_of : Rank J S T → Strings
-  queue_of r = r.queue
-
-  abbrev share_of : Rank J S T → Share
-  share_of r = r.book.share
 
   -- what is known of a run once its ranks were taken apart
   pub record Ending (o : Options) (starts : Strings) (jobs : List J) (ranks0 ranks : List (Rank J S T)) (p0 p : P) (q0 q : Q) (total : ℕ)

@@ -1,6 +1,8 @@
 pub mod Weighed
 pub mod Counted
+pub mod Known
 pub mod Stepped
+pub mod Called
 pub mod Bounding
 pub mod Winding
 pub mod Asked
@@ -40,6 +42,7 @@ pub mod Counting
 pub mod Sounding
 pub mod Beginning
 pub mod Leaving
+pub mod Columns
 pub mod Finishing
 pub mod Gathering
 pub mod Lone

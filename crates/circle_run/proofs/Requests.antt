@@ -10,27 +10,13 @@ use Rattle.circle_run.specs.Ranks.{Knows, ServesNone}
 use Rattle.circle_run.specs.Private.Services.{unserved, InOrderIfTold, Taken}
 use Rattle.circle_run.specs.declared.ranks.Rank.{Rank}
 use Rattle.circle_run.proofs.Stepped.{stays_same, still_then}
+use Rattle.circle_run.proofs.Known.{knows_served}
 use Rattle.circle_run.proofs.Asked.{unserved_set, unserved_all, asks_more, asks_none, ordered_none, ordered_more}
 
 module _ {J S T P : Type 0} (log : J → Log) (shows : S → Shown) (tells : P → Option Told) (seats : P → S → Type 0) where
   knows_serves : (r : Rank J S T) (seat : S) (to : ℕ) → Knows shows r → shows seat ≡ serving (shows r.seat) (Some to) → Knows shows (record r { seat = seat })
-  knows_serves r seat to k shown = record {
-    number = ap (λ (s : Shown). s.number) shown ∙ k.number;
-    ranks = ap (λ (s : Shown). s.n) shown ∙ k.ranks;
-    colour = ap (λ (s : Shown). s.colour) shown ∙ k.colour;
-    tried = ap (λ (s : Shown). s.tried) shown ∙ k.tried;
-    asked = ap (λ (s : Shown). s.asked) shown ∙ k.asked;
-    ended = ap (λ (s : Shown). s.ended) shown ∙ k.ended;
-    stopped = ap (λ (s : Shown). s.stopped) shown ∙ k.stopped;
-    inside = k.inside;
-    few = k.few;
-    asks = k.asks;
-    wide = ap (λ (s : Shown). length s.serves) shown ∙ length-set (shows r.seat).serves to true ∙ k.wide;
-    idle = λ e. k.idle (sym (ap (λ (s : Shown). s.busy) shown) ∙ e);
-    waits = k.waits;
-    over = k.over;
-    empty = k.empty;
-  }
+  knows_serves r seat to k shown =
+      knows_served shows r seat r.queue r.book (set (shows r.seat).serves to true) k shown (length-set (shows r.seat).serves to true) refl
 
   pub taken_room : (r : Rank J S T) (p : P) (r1 : Rank J S T) (p1 : P) (asks : List ℕ) (count to : ℕ)
       → Taken log shows tells seats r p r1 p1 asks count → Found (shows r1.seat) (Some to) → count < 64

@@ -1,16 +1,18 @@
 -- Ranks that have their turns in rounds: what one turn keeps of all of them.
 use Rattle.std.proofs.Common.{◌≡◌, ℕ, zero, suc, ◌<◌, ◌≤◌, ◌≢◌, ⊎_elim, refl, sym, subst, ap, ◌∙◌, arith, Bool, true, false, List, [], ◌∷◌, length}
-use Rattle.std.proofs.Common.{length-set, set, get_or, take, get_or-set_same, get_or-set_other}
+use Rattle.std.proofs.Common.{Option, length-set, set, get_or, get_or-set_same, get_or-set_other}
 use Rattle.std.proofs.lemmas.Bool.{cases_lt}
-use Rattle.std.proofs.lemmas.List.{get_or_read, get_or_default, get_or-take, length-take-le}
+use Rattle.std.proofs.lemmas.List.{get_or_read, get_or_default}
 use mathlib.Core.Logic.{dite}
 use native.Mathlib.Decide.{ℕ_discrete}
 use Rattle.post_board.specs.Shown.{Shown}
+use Rattle.post_board.specs.Told.{Told}
 use Rattle.sum_tree.specs.Shown.{SumShown}
 use Rattle.circle_run.specs.Balance.{Log}
-use Rattle.circle_run.specs.Hosts.{IsAscending, NoneLost, NoneWrote, AreAll, Same, Placed, AllPlaced, AllReady, AllEnded}
+use Rattle.circle_run.specs.Hosts.{IsAscending, NoneLost, NoneWrote, AreAll, Same, Placed, AllPlaced, AllReady, AllEnded, Took}
 use Rattle.circle_run.specs.declared.settings.Options.{Options}
 use Rattle.circle_run.specs.declared.ranks.Rank.{Rank}
+use Rattle.circle_run.proofs.Known.{knows_queue}
 use Rattle.circle_run.proofs.Asked.{not_true, true_not_false}
 
 -- the events of a rank are elsewhere
@@ -69,10 +71,10 @@ module _ {J S T : Type 0} where
       (cases_lt j k)
 
 module _ {J S T D : Type 0} (plain : J → D) where
-  pub same_first : (ranks : List (Rank J S T)) → Same plain ranks ranks
+  same_first : (ranks : List (Rank J S T)) → Same plain ranks ranks
   same_first ranks = record { count = refl; me = λ k d h. refl; options = λ k d h. refl; facts = λ k d h. refl }
 
-  pub same_order : (ranks ranks' : List (Rank J S T)) → Same plain ranks ranks' → IsAscending ranks → IsAscending ranks'
+  same_order : (ranks ranks' : List (Rank J S T)) → Same plain ranks ranks' → IsAscending ranks → IsAscending ranks'
   same_order ranks ranks' same order j k d below inside =
       let n = same.count in
       subst (λ (x : ℕ). x < (get_or ranks' k d).me) (sym (same.me j d (omega arith)))
@@ -85,7 +87,7 @@ module _ {J S T D : Type 0} (plain : J → D) where
         (same.me k d within ∙ (all.each k d within).0, same.options k d within ∙ (all.each k d within).1));
   }
 
-  pub same_more : (ranks0 ranks : List (Rank J S T)) (k : ℕ) (r r' : Rank J S T) → k < length ranks → r ≡ get_or ranks k r → r'.me ≡ r.me
+  same_more : (ranks0 ranks : List (Rank J S T)) (k : ℕ) (r r' : Rank J S T) → k < length ranks → r ≡ get_or ranks k r → r'.me ≡ r.me
       → r'.options ≡ r.options → plain r'.job ≡ plain r.job
       → Same plain ranks0 ranks → Same plain ranks0 (set ranks k r')
   same_more ranks0 ranks k r r' inside is me options facts same =
@@ -109,14 +111,15 @@ module _ {J S T D : Type 0} (plain : J → D) where
       }
 
 module _ {J S T P Q : Type 0} (log : J → Log) (shows : S → Shown) (seats : P → S → Type 0) (sums_shows : T → SumShown) (sums_seats : Q → T → Type 0) where
-  -- a rank whose seats are still those of the board and the sums
-  placed_still : (done : Bool) (r : Rank J S T) (p p' : P) (q q' : Q) → seats p' r.seat → sums_seats q' r.sums_seat
-      → Placed log shows seats sums_shows sums_seats done r p q → Placed log shows seats sums_shows sums_seats done r p' q'
-  placed_still done r p p' q q' mine sums_mine old =
+  -- a rank whose seats are still those of the board and the sums, and whose events may be elsewhere
+  placed_as : (done : Bool) (r r' : Rank J S T) (p p' : P) (q q' : Q) → seats p' r.seat → sums_seats q' r.sums_seat
+      → Placed log shows seats sums_shows sums_seats done r p q
+      → Placed log shows seats sums_shows sums_seats done (record r { book = record r.book { events = r'.book.events } }) p' q'
+  placed_as done r r' p p' q q' mine sums_mine old =
       let sums = old.ready.sums in
       record {
         ready = record {
-          knows = old.ready.knows;
+          knows = knows_queue shows r r.queue (record r.book { events = r'.book.events }) old.ready.knows (λ e. e);
           none = old.ready.none;
           mine = mine;
           lost = old.ready.lost;
@@ -135,7 +138,7 @@ module _ {J S T P Q : Type 0} (log : J → Log) (shows : S → Shown) (seats : P
         going = old.going;
       }
 
-  pub placed_more : (flags : List Bool) (ranks : List (Rank J S T)) (p p' : P) (q q' : Q) (k : ℕ) (r r' : Rank J S T) (done' : Bool)
+  placed_more : (flags : List Bool) (ranks : List (Rank J S T)) (p p' : P) (q q' : Q) (k : ℕ) (r r' : Rank J S T) (done' : Bool)
       → IsAscending ranks → k < length ranks → k < length flags → r ≡ get_or ranks k r
       → ((other : S) → (shows other).number ≢ r.me → seats p other → seats p' other)
       → ((other : T) → (sums_shows other).number ≢ r.me → sums_seats q other → sums_seats q' other)
@@ -149,76 +152,74 @@ module _ {J S T P Q : Type 0} (log : J → Log) (shows : S → Shown) (seats : P
       let away : (get_or ranks j d).me ≢ r.me =
       λ e. other_number ranks j k d order below inside ne (e ∙ ap (λ (x : Rank J S T). x.me) (sym (at_place ranks k r d inside is))) in
       subst (λ (b : Bool). Placed log shows seats sums_shows sums_seats b (get_or ranks j d) p' q') (sym (get_or-set_other flags k j done' false ne))
-      (placed_still (get_or flags j false) (get_or ranks j d) p p' q q'
+      (placed_as (get_or flags j false) (get_or ranks j d) (get_or ranks j d) p p' q q'
       (others (get_or ranks j d).seat (λ e. away (sym old.ready.knows.number ∙ e)) old.ready.mine)
       (sums_others (get_or ranks j d).sums_seat (λ e. away (sym old.ready.sums.number ∙ e)) old.ready.sums.mine) old))
 
-  few_ranks : (ranks : List (Rank J S T)) (p : P) (q : Q) → IsAscending ranks → AllReady log shows seats sums_shows sums_seats ranks p q → length ranks ≤ 64
-  few_ranks [] p q order ready = omega arith
-  few_ranks (x ∷ xs) p q order ready =
+  at_most_64 : (ranks : List (Rank J S T)) (p : P) (q : Q) → IsAscending ranks → AllReady log shows seats sums_shows sums_seats ranks p q → length ranks ≤ 64
+  at_most_64 [] p q order ready = omega arith
+  at_most_64 (x ∷ xs) p q order ready =
       let last = ready (length xs) x (omega arith) in
       let least = at_least (x ∷ xs) x order (length xs) (omega arith) in
       let inside = last.ready.knows.inside in
       let few = last.ready.knows.few in
       omega arith
 
-  pub at_most_64 : (ranks : List (Rank J S T)) (p : P) (q : Q) → IsAscending ranks
-      → AllReady log shows seats sums_shows sums_seats ranks p q → length ranks ≤ 64
-  at_most_64 ranks p q order ready = few_ranks ranks p q order ready
-
-  pub placed_first : (flags : List Bool) (ranks : List (Rank J S T)) (p : P) (q : Q) → ((k : ℕ) → get_or flags k false ≡ false)
-      → AllReady log shows seats sums_shows sums_seats ranks p q → AllPlaced log shows seats sums_shows sums_seats flags ranks p q
-  placed_first flags ranks p q unset ready k d inside =
-      subst (λ (b : Bool). Placed log shows seats sums_shows sums_seats b (get_or ranks k d) p q) (sym (unset k)) (ready k d inside)
-
-  pub placed_last : (flags : List Bool) (ranks : List (Rank J S T)) (p : P) (q : Q) (n : ℕ) → n ≡ length ranks → n ≤ length flags
-      → ((k : ℕ) → k < length (take n flags) → get_or (take n flags) k false ≡ true)
-      → AllPlaced log shows seats sums_shows sums_seats flags ranks p q → AllEnded log shows seats sums_shows sums_seats ranks p q
-  placed_last flags ranks p q n is few set all k d inside =
-      let below : k < n = omega arith in
-      let within : k < length (take n flags) = (let l = length-take-le n flags few in omega arith) in
-      subst (λ (b : Bool). Placed log shows seats sums_shows sums_seats b (get_or ranks k d) p q)
-      (sym (get_or-take n flags k false below) ∙ set k within) (all k d inside)
-
   -- a rank whose events were taken away
-  pub placed_moved : (done : Bool) (r r' : Rank J S T) (p : P) (q : Q) → moved_on r r'
+  placed_moved : (done : Bool) (r r' : Rank J S T) (p : P) (q : Q) → moved_on r r'
       → Placed log shows seats sums_shows sums_seats done r p q → Placed log shows seats sums_shows sums_seats done r' p q
-  placed_moved done r r' p q same old =
-      let knows = old.ready.knows in
-      let sums = old.ready.sums in
-      subst (λ (x : Rank J S T). Placed log shows seats sums_shows sums_seats done x p q) (sym same) (record {
-        ready = record {
-          knows = record {
-            number = knows.number;
-            ranks = knows.ranks;
-            colour = knows.colour;
-            tried = knows.tried;
-            asked = knows.asked;
-            ended = knows.ended;
-            stopped = knows.stopped;
-            inside = knows.inside;
-            few = knows.few;
-            asks = knows.asks;
-            wide = knows.wide;
-            idle = knows.idle;
-            waits = knows.waits;
-            over = knows.over;
-            empty = knows.empty;
-          };
-          none = old.ready.none;
-          mine = old.ready.mine;
-          lost = old.ready.lost;
-          bounded = λ found. (let b = old.ready.bounded found in record { counted = b.counted; most = b.most; halts = b.halts; stops = b.stops });
-          sums = record {
-            mine = sums.mine;
-            number = sums.number;
-            ranks = sums.ranks;
-            width = sums.width;
-            narrow = sums.narrow;
-            counted = sums.counted;
-            progress = sums.progress;
-          };
-        };
-        over = old.over;
-        going = old.going;
-      })
+  placed_moved done r r' p q same old = subst (λ (x : Rank J S T). Placed log shows seats sums_shows sums_seats done x p q) (sym same)
+      (placed_as done r r' p p q q old.ready.mine old.ready.sums.mine old)
+
+module _ {J S T P Q D : Type 0} (log : J → Log) (plain : J → D) (shows : S → Shown) (tells : P → Option Told) (seats : P → S → Type 0)
+    (sums_shows : T → SumShown) (sums_seats : Q → T → Type 0) where
+  -- ranks in the rounds of a host, with the flags of those that are done
+  pub record InRound (ranks0 ranks : List (Rank J S T)) (flags : List Bool) (p : P) (q : Q) : Type 0 where
+    pub placed : AllPlaced log shows seats sums_shows sums_seats flags ranks p q
+    pub wide : length flags ≡ 64
+    pub few : length ranks0 ≤ 64
+    pub same : Same plain ranks0 ranks
+
+  pub round_first : (ranks : List (Rank J S T)) (flags : List Bool) (p : P) (q : Q) → length flags ≡ 64 → ((k : ℕ) → get_or flags k false ≡ false)
+      → IsAscending ranks → AllReady log shows seats sums_shows sums_seats ranks p q → InRound ranks ranks flags p q
+  round_first ranks flags p q wide unset order ready = record {
+    placed = λ k d inside. subst (λ (b : Bool). Placed log shows seats sums_shows sums_seats b (get_or ranks k d) p q) (sym (unset k))
+        (ready k d inside);
+    wide = wide;
+    few = at_most_64 log shows seats sums_shows sums_seats ranks p q order ready;
+    same = same_first plain ranks;
+  }
+
+  -- a rank has its turn, after which its events may move away
+  pub round_more : (ranks0 ranks : List (Rank J S T)) (flags : List Bool) (p p' : P) (q q' : Q) (k : ℕ) (r r' moved : Rank J S T) (done' : Bool)
+      → IsAscending ranks0 → k < length ranks → r ≡ get_or ranks k r → Took log plain shows tells seats r p r' p' → moved_on r' moved
+      → ((other : S) → (shows other).number ≢ r.me → seats p other → seats p' other)
+      → ((other : T) → (sums_shows other).number ≢ r.me → sums_seats q other → sums_seats q' other)
+      → Placed log shows seats sums_shows sums_seats done' r' p' q' → InRound ranks0 ranks flags p q
+      → InRound ranks0 (set ranks k moved) (set flags k done') p' q'
+  round_more ranks0 ranks flags p p' q q' k r r' moved done' order inside is took on others sums_others placed i =
+      let n = i.same.count in
+      let w = i.wide in
+      let f = i.few in
+      record {
+        placed = placed_more log shows seats sums_shows sums_seats flags ranks p p' q q' k r moved done' (same_order plain ranks0 ranks i.same order)
+            inside (omega arith) is others sums_others
+            (placed_moved log shows seats sums_shows sums_seats done' r' moved p' q' on placed) i.placed;
+        wide = length-set flags k done' ∙ i.wide;
+        few = i.few;
+        same = same_more plain ranks0 ranks k r moved inside is (ap (λ (x : Rank J S T). x.me) on ∙ took.me)
+            (ap (λ (x : Rank J S T). x.options) on ∙ took.options) (ap (λ (x : Rank J S T). plain x.job) on ∙ took.facts) i.same;
+      }
+
+  -- a rank that was read from its place
+  pub round_at : (ranks0 ranks : List (Rank J S T)) (flags : List Bool) (p : P) (q : Q) (k : ℕ) (r : Rank J S T) → k < length ranks
+      → r ≡ get_or ranks k r → InRound ranks0 ranks flags p q → Placed log shows seats sums_shows sums_seats (get_or flags k false) r p q
+  round_at ranks0 ranks flags p q k r inside is i =
+      subst (λ (x : Rank J S T). Placed log shows seats sums_shows sums_seats (get_or flags k false) x p q) (sym is) (i.placed k r inside)
+
+  -- each of so many flags is set
+  pub round_last : (ranks0 ranks : List (Rank J S T)) (flags : List Bool) (p : P) (q : Q) (n : ℕ) → n ≡ length ranks
+      → ((k : ℕ) → k < n → get_or flags k false ≡ true) → InRound ranks0 ranks flags p q
+      → AllEnded log shows seats sums_shows sums_seats ranks p q
+  round_last ranks0 ranks flags p q n is set i k d inside =
+      subst (λ (b : Bool). Placed log shows seats sums_shows sums_seats b (get_or ranks k d) p q) (set k (omega arith)) (i.placed k d inside)

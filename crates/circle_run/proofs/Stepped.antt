@@ -1,5 +1,5 @@
 -- What steps of a rank come to, one after the other.
-use Rattle.std.proofs.Common.{◌≡◌, ℕ, ◌<◌, refl, sym, subst, ap, ◌∙◌, arith, Bool, true, false, List, [], ◌∷◌, ◌++◌, length, append_assoc, append-nil}
+use Rattle.std.proofs.Common.{◌≡◌, ◌≢◌, ℕ, ◌<◌, refl, sym, subst, ap, ◌∙◌, arith, Bool, true, false, List, [], ◌∷◌, ◌++◌, length, append_assoc, append-nil}
 use Rattle.std.proofs.Common.{Option, Some, None}
 use Rattle.std.specs.Prelude.{if◌then◌else◌}
 use Rattle.std.specs.List.{flat_map}
@@ -27,6 +27,7 @@ use Rattle.circle_run.specs.Private.Steps.{Came, HandledNewest}
 use Rattle.circle_run.specs.declared.settings.Options.{Options}
 use Rattle.circle_run.specs.declared.outcomes.Share.{Share}
 use Rattle.circle_run.specs.declared.ranks.Rank.{Rank}
+use Rattle.circle_run.proofs.Known.{knows_queue}
 
 abbrev made : Strings → Log → Lcg → Option Batches → Option Told → Side
 made queue log draws batches told = record { queue = queue; log = log; draws = draws; batches = batches; told = told }
@@ -126,13 +127,13 @@ module _ {J S T P Q : Type 0} (log : J → Log) (plain : J → Q) (shows : S →
     went = λ found. (let w = b.went found in went_then A B C r p r1 p1 r2 p2 both a.me a.options (a.went w.had) w);
   }
 
-  -- moves of a kind are moves of another, where what they do shows it
-  pub came_as : (A B : List Move → Type 0) (r : Rank J S T) (p : P) (r1 : Rank J S T) (p1 : P)
-      → ((moves : List Move) → r1.book.lost ≡ false → A moves
-      → DoesAll r.options r.me moves (side log plain shows tells seats r p) (side log plain shows tells seats r1 p1) → B moves)
-      → Came log plain shows tells seats A r p r1 p1 → Came log plain shows tells seats B r p r1 p1
-  came_as A B r p r1 p1 turn a = record {
-    knows = a.knows;
+  -- the moves are seen as moves of another kind, after which the queue is another
+  came_queue : (A B : List Move → Type 0) (r : Rank J S T) (p : P) (r1 : Rank J S T) (p1 : P) (queue : List (List ℕ))
+      → Knows shows (record r1 { queue = queue })
+      → (r1.book.lost ≡ false → Went log plain shows tells seats A r p r1 p1 → Went log plain shows tells seats B r p (record r1 { queue = queue }) p1)
+      → Came log plain shows tells seats A r p r1 p1 → Came log plain shows tells seats B r p (record r1 { queue = queue }) p1
+  came_queue A B r p r1 p1 queue knows becomes a = record {
+    knows = knows;
     mine = a.mine;
     none = a.none;
     others = a.others;
@@ -143,17 +144,22 @@ module _ {J S T P Q : Type 0} (log : J → Log) (plain : J → Q) (shows : S →
     sums = a.sums;
     facts = a.facts;
     lost = a.lost;
-    went = λ found.
-        let w = a.went found in
-        record {
-          had = w.had;
-          moves = w.moves;
-          are = turn w.moves found w.are w.does;
-          does = w.does;
-          kept = w.kept;
-          share = w.share;
-        };
+    went = λ found. becomes found (a.went found);
   }
+
+  -- moves of a kind are moves of another, where what they do shows it
+  pub came_as : (A B : List Move → Type 0) (r : Rank J S T) (p : P) (r1 : Rank J S T) (p1 : P)
+      → ((moves : List Move) → r1.book.lost ≡ false → A moves
+      → DoesAll r.options r.me moves (side log plain shows tells seats r p) (side log plain shows tells seats r1 p1) → B moves)
+      → Came log plain shows tells seats A r p r1 p1 → Came log plain shows tells seats B r p r1 p1
+  came_as A B r p r1 p1 turn a = came_queue A B r p r1 p1 r1.queue a.knows (λ found w. record {
+    had = w.had;
+    moves = w.moves;
+    are = turn w.moves found w.are w.does;
+    does = w.does;
+    kept = w.kept;
+    share = w.share;
+  }) a
 
   -- nothing was done
   pub went_still : (A : List Move → Type 0) (r : Rank J S T) (p : P) (r1 : Rank J S T) (p1 : P) → A [] → r1.book ≡ r.book
@@ -322,85 +328,48 @@ module _ {J S T P Q : Type 0} (log : J → Log) (plain : J → Q) (shows : S →
       → (r1.book.lost ≡ true → queue ≡ []) → (r1.book.lost ≡ false → queue ≡ r1.queue)
       → Came log plain shows tells seats A r p r1 p1 → Came log plain shows tells seats A r p (record r1 { queue = queue }) p1
   came_settled A r p r1 p1 queue lost kept a =
-      let k = a.knows in
       let none : r1.queue ≡ []
       → queue ≡ [] = λ q. elim r1.book.lost as
       (λ (b : Bool). r1.book.lost ≡ b → queue ≡ []) [ true ↦ λ e. lost e | false ↦ λ e. kept e ∙ q ] refl in
-      record {
-        knows = record {
-          number = k.number;
-          ranks = k.ranks;
-          colour = k.colour;
-          tried = k.tried;
-          asked = k.asked;
-          ended = k.ended;
-          stopped = k.stopped;
-          inside = k.inside;
-          few = k.few;
-          asks = k.asks;
-          wide = k.wide;
-          idle = λ e. none (k.idle e);
-          waits = λ v e. none (k.waits v e);
-          over = λ e. none (k.over e);
-          empty = k.empty;
-        };
-        mine = a.mine;
-        none = a.none;
-        others = a.others;
-        still = a.still;
-        me = a.me;
-        options = a.options;
-        sums_seat = a.sums_seat;
-        sums = a.sums;
-        facts = a.facts;
-        lost = a.lost;
-        went = λ found. (let w = a.went found in record {
-          had = w.had;
-          moves = w.moves;
-          are = w.are;
-          does = subst (λ (q : List (List ℕ)).
-              DoesAll r.options r.me w.moves (side log plain shows tells seats r p)
-              (side log plain shows tells seats (record r1 { queue = q }) p1)) (sym (kept found)) w.does;
-          kept = w.kept;
-          share = w.share;
-        });
-      }
-
-pub waited_alone : (some : Bool) (done : Did) → with_service some done ≡ Waited → done ≡ Waited
-waited_alone some Handled e = e
-waited_alone some Acted e = e
-waited_alone some Stopped e = e
-waited_alone true Waited e = refl
-waited_alone false Waited e = refl
+      came_queue A A r p r1 p1 queue (knows_queue shows r1 queue r1.book a.knows none) (λ found w. record {
+        had = w.had;
+        moves = w.moves;
+        are = w.are;
+        does = subst (λ (q : List (List ℕ)).
+            DoesAll r.options r.me w.moves (side log plain shows tells seats r p)
+            (side log plain shows tells seats (record r1 { queue = q }) p1)) (sym (kept found)) w.does;
+        kept = w.kept;
+        share = w.share;
+      }) a
 
 pub handled_still : (some : Bool) (done : Did) → done ≡ Handled → with_service some done ≡ Handled
 handled_still some done e = ap (with_service some) e
 
-abbrev is_handled : Did → Bool
-is_handled Handled = true
-is_handled Acted = false
-is_handled Waited = false
-is_handled Stopped = false
+-- a service changes nothing but a wait
+before_service : (some : Bool) (done by : Did) → by ≢ Acted → with_service some done ≡ by → done ≡ by
+before_service some Handled by ne e = e
+before_service some Acted by ne e = e
+before_service some Stopped by ne e = e
+before_service true Waited by ne e = absurd (ne (sym e))
+before_service false Waited by ne e = e
+
+abbrev is_act : Did → Bool
+is_act Handled = false
+is_act Acted = true
+is_act Waited = false
+is_act Stopped = false
+
+no_act : (by : Did) → is_act by ≡ false → by ≢ Acted
+no_act by other e = (let f : true ≡ false = sym (ap is_act e) ∙ other in cc)
+
+pub waited_alone : (some : Bool) (done : Did) → with_service some done ≡ Waited → done ≡ Waited
+waited_alone some done e = before_service some done Waited (no_act Waited refl) e
 
 pub handled_before : (some : Bool) (done : Did) → with_service some done ≡ Handled → done ≡ Handled
-handled_before some Handled e = refl
-handled_before some Acted e = e
-handled_before some Stopped e = e
-handled_before true Waited e = (let f : false ≡ true = ap is_handled e in cc)
-handled_before false Waited e = e
-
-abbrev is_stop : Did → Bool
-is_stop Handled = false
-is_stop Acted = false
-is_stop Waited = false
-is_stop Stopped = true
+handled_before some done e = before_service some done Handled (no_act Handled refl) e
 
 pub stopped_before : (some : Bool) (done : Did) → with_service some done ≡ Stopped → done ≡ Stopped
-stopped_before some Handled e = e
-stopped_before some Acted e = e
-stopped_before some Stopped e = refl
-stopped_before true Waited e = (let f : false ≡ true = ap is_stop e in cc)
-stopped_before false Waited e = e
+stopped_before some done e = before_service some done Stopped (no_act Stopped refl) e
 
 pub stopped_still : (some : Bool) (done : Did) → done ≡ Stopped → with_service some done ≡ Stopped
 stopped_still some done e = ap (with_service some) e

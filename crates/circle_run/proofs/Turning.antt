@@ -10,11 +10,12 @@ use Rattle.post_board.specs.Shown.{Strings, Shown}
 use Rattle.post_board.specs.Told.{Told, place, is_stopped}
 use Rattle.post_board.specs.Deeds.{event_of, halt, TellsLate}
 use Rattle.post_board.specs.Calls.{AgreesIfTold}
+use Rattle.sum_tree.specs.Shown.{SumShown}
 use Rattle.circle_run.specs.Balance.{Log}
-use Rattle.circle_run.specs.Moves.{Move, served, did, noted, Side, answer_of, events_of}
+use Rattle.circle_run.specs.Moves.{Move, served, noted, Side, answer_of, events_of}
 use Rattle.circle_run.specs.Fair.{MayFollow, HandlesLast, is_waiting}
 use Rattle.circle_run.specs.Ranks.{DoesAll, side, Knows}
-use Rattle.circle_run.specs.Ready.{Turned}
+use Rattle.circle_run.specs.Ready.{Ready, Turned}
 use Rattle.circle_run.specs.Turns.{IsAct, Worked, MayHalt, Waits, IsTurn}
 use Rattle.circle_run.specs.Choices.{is_done, halt_if}
 use Rattle.circle_run.specs.Hosts.{MayIdleIfTold, Took}
@@ -133,7 +134,7 @@ nothing_more true xs = sym (append-nil xs)
 nothing_more false xs = sym (append-nil xs)
 
 -- a rank that has stopped remains so
-pub remains : {J S T : Type 0} (r r' : Rank J S T) (turn : Turn) → (turn ≡ TurnStopped → r'.stopped ≡ true) → (turn ≢ TurnStopped → r'.stopped ≡ r.stopped)
+remains : {J S T : Type 0} (r r' : Rank J S T) (turn : Turn) → (turn ≡ TurnStopped → r'.stopped ≡ true) → (turn ≢ TurnStopped → r'.stopped ≡ r.stopped)
     → r.stopped ≡ true → r'.stopped ≡ true
 remains r r' TurnStopped stopped goes was = stopped refl
 remains r r' TurnWent stopped goes was = goes (λ e. true_not_false (is_stop_turn TurnStopped) refl (ap is_stop_turn (sym e))) ∙ was
@@ -170,7 +171,7 @@ module _ {J S T P D : Type 0} (log : J → Log) (plain : J → D) (shows : S →
   idles TurnStopped false r p r' p' moves done me i is does none = stops TurnStopped r p r' p' me i (i.stopped refl)
   idles TurnEnded false r p r' p' moves done me i is does none = absurd is
 
-  pub took : (heard : J → Option (List ℕ)) (turn : Turn) (r : Rank J S T) (p : P) (r' : Rank J S T) (p' : P)
+  took : (heard : J → Option (List ℕ)) (turn : Turn) (r : Rank J S T) (p : P) (r' : Rank J S T) (p' : P)
       → Idling shows tells turn r p r' p' → Turned log heard plain shows tells seats turn r p r' p' → Took log plain shows tells seats r p r' p'
   took heard turn r p r' p' i turned = record {
     me = turned.me;
@@ -210,3 +211,21 @@ module _ {J S T P D : Type 0} (log : J → Log) (plain : J → D) (shows : S →
           (λ stopped. stopped_idles (tells p) (tells p) (shows r.seat) r.me agrees knows.number (knows.stopped ∙ stopped)) (either r.ended r.stopped done);
     };
   }
+
+module _ {J S T P U D : Type 0} (log : J → Log) (heard : J → Option (List ℕ)) (plain : J → D) (shows : S → Shown) (tells : P → Option Told)
+    (seats : P → S → Type 0) (sums_shows : T → SumShown) (sums_seats : U → T → Type 0) where
+  -- the result of a turn of a rank that is ready for it, and for the next
+  pub took_ready : (turn : Turn) (r : Rank J S T) (p : P) (q : U) (r' : Rank J S T) (p' : P) (q' : U)
+      → ((b : P) (s : S) → seats b s → AgreesIfTold (tells b) (shows s)) → Ready log shows seats sums_shows sums_seats r p q
+      → Ready log shows seats sums_shows sums_seats r' p' q' → (turn ≡ TurnWaited → is_done r ≡ false → Waits r.me (tells p'))
+      → (turn ≡ TurnStopped → r'.stopped ≡ true) → (turn ≢ TurnStopped → r'.stopped ≡ r.stopped)
+      → Turned log heard plain shows tells seats turn r p r' p' → Took log plain shows tells seats r p r' p'
+  took_ready turn r p q r' p' q' agrees ready ready' waits stopped goes = took log plain shows tells seats heard turn r p r' p' (record {
+    agrees = agrees p r.seat ready.mine;
+    knows = ready.knows;
+    agrees' = agrees p' r'.seat ready'.mine;
+    knows' = ready'.knows;
+    waits = waits;
+    stopped = stopped;
+    remains = remains r r' turn stopped goes;
+  })

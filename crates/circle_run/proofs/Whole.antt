@@ -32,6 +32,7 @@ use Rattle.circle_run.specs.Traced.{IsProgress}
 use Rattle.circle_run.specs.Private.Outcomes.{IsOutcome}
 use Rattle.circle_run.specs.declared.outcomes.Share.{Share}
 use Rattle.circle_run.specs.declared.outcomes.Finished.{Finished}
+use Rattle.circle_run.proofs.Columns.{job_of, queue_of, share_of}
 use Rattle.circle_run.proofs.Maps.{map_same, sum_by-map, some_of, sum_same, capped_sum}
 use Rattle.circle_run.proofs.Counting.{capped, share_alone}
 use Rattle.circle_run.proofs.Apart.{of_all, evened, whole as apart_whole}
@@ -281,15 +282,6 @@ module _ {J S T P Q D : Type 0} (log : J → Log) (plain : J → D) (shows : S �
     pub sums_are : f.sums.items ≡ flat_map (λ (r : Rank J S T). r.book.sums.items) final
     pub answer : (d : Rank J S T) → (sums_shows (get_or final 0 d).sums_seat).answer ≡ Some total
     pub total_is : total ≡ sum_by (λ (r : Rank J S T). (sums_shows r.sums_seat).count) final
-
-  abbrev job_of : Rank J S T → J
-  job_of r = r.job
-
-  abbrev queue_of : Rank J S T → Strings
-  queue_of r = r.queue
-
-  abbrev share_of : Rank J S T → Share
-  share_of r = r.book.share
 
   outcome : (o : Options) (starts : Strings) (jobs : List J) (whole final : List (Rank J S T)) (p : P) (q : Q) (kept : S → Batches)
       (all_seats : List S) (total : ℕ) (f : Finished J)

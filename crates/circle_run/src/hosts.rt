@@ -1,5 +1,5 @@
 //! Ranks that have their turns in rounds on one thread.
-ghost use Rattle.std.specs.Prelude.{◌≡◌, ◌≢◌, ℕ, ◌++◌, ◌<◌, [], length, true, false, Some, slice_index_or, OnOk, IfOk, None};
+ghost use Rattle.std.specs.Prelude.{◌≡◌, ◌≢◌, ℕ, ◌++◌, ◌<◌, ◌≤◌, [], length, true, false, Some, slice_index_or, OnOk, IfOk, None};
 ghost use Rattle.post_board.specs.Told.{Told};
 ghost use Rattle.circle_run.specs.Hosts.{IsAscending, NoneLost, NoneWrote, AreAll, Same, Placed, AllReady, AllEnded, Took, Ran, KeptByEach};
 ghost use Rattle.circle_run.specs.Hosts.{KeptInOrder, AllAlone};
@@ -68,7 +68,7 @@ impl<J: Job, S, T> Host<J, S, T> {
             for k in 0..ranks.len() {
                 ranks[k].step(&mut done[k], post, sums);
             }
-            if are_set(&done[..ranks.len()]) {
+            if all_set(&done, ranks.len()) {
                 return ranks;
             }
             idle.rest(rt, &ranks);
@@ -107,7 +107,7 @@ impl<J: Job, S, T> Host<J, S, T> {
                 rank.step(&mut done[k], post, sums);
                 rank.hand_over(events)?;
             }
-            if are_set(&done[..ranks.len()]) {
+            if all_set(&done, ranks.len()) {
                 return Ok(ranks);
             }
         }
@@ -167,4 +167,12 @@ fn are_set(flags: &[bool]) -> bool
     ensures { result ≡ true → (k : ℕ) → k < length flags.now → slice_index_or flags.now k false ≡ true }
 {
     flags.iter().all(|flag| *flag)
+}
+
+// Whether the flags of so many ranks are set.
+fn all_set(flags: &[bool; 64], ranks: usize) -> bool
+    requires { ranks ≤ length flags.now }
+    ensures { result ≡ true → (k : ℕ) → k < ranks → slice_index_or flags.now k false ≡ true }
+{
+    are_set(&flags[..ranks])
 }

@@ -15,17 +15,17 @@ pub fn balance_is_as_often()
     ensures { BalanceIsAsOften }
 {}
 
-/// The events of all moves that are played from the start are legal, one after the other, and leave the world of the last
-/// stage: each rank with as many strings as its queue has, and the told mailbox and token.
-pub fn moves_are_legal_run()
-    ensures { MovesAreLegalRun }
-{}
-
 /// Moves that are played from the start are balanced: each string was handled, or waits at a rank or in a mailbox, as often
 /// as it was a start or was pushed. If nothing waits, each was handled that often.
 pub fn moves_are_balanced()
     ensures always { MovesAreBalanced }
     ensures whole { AllIsHandled }
+{}
+
+/// The events of all moves that are played from the start are legal, one after the other, and leave the world of the last
+/// stage: each rank with as many strings as its queue has, and the told mailbox and token.
+pub fn moves_are_legal_run()
+    ensures { MovesAreLegalRun }
 {}
 
 /// No rank sees the end too early: if one has, no string waits at a rank or in a mailbox.

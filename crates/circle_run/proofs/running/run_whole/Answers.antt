@@ -1,4 +1,4 @@
-use Rattle.std.proofs.Common.{List, length, Option, sym, subst, ap, ◌∙◌, arith}
+use Rattle.std.proofs.Common.{List, length, Option, refl, sym, subst, ap, ◌∙◌, arith}
 use Rattle.std.proofs.lemmas.List.{length-map}
 use Rattle.std.proofs.lemmas.List.FromFn.{length-map-range_with_len}
 use Rattle.std.specs.List.{sum_by}
@@ -27,27 +27,21 @@ new_ranks-requires-clause-queues g c = ap length c.in_ok-queues.ensures ∙ leng
 pub make-requires : goal.make-requires
 make-requires g c = (begins g.J.Job.log g.P.Post.shows g.P.Post.tells g.P.Post.seats g.Q.Sums.shows g.Q.Sums.seats c.args.options.now
     c.args.starts.items c.args.jobs.items c.args.seats.items c.args.sums_seats.items c.in_ok-queues.queues.items c.in_ok-ranks.ranks.items
-    c.args.post.now c.args.sums.now c.in_ok-ranks.ensures
+    c.in_ok-ranks.ranks.items c.args.post.now c.args.sums.now refl c.in_ok-ranks.ensures
     c.requires.jobs c.requires.ranks.1 c.requires.width c.requires.seats c.requires.sums_shown c.requires.sums_seats c.in_ok-queues.ensures).order
 
 pub run_traced-requires : goal.run_traced-requires
 run_traced-requires g c =
-    let new = subst (AreNew g.J.Job.log c.args.options.now c.args.jobs.items c.args.seats.items c.args.sums_seats.items c.in_ok-queues.queues.items)
-    (sym c.make.ensures) c.in_ok-ranks.ensures in
     let first = begins g.J.Job.log g.P.Post.shows g.P.Post.tells g.P.Post.seats g.Q.Sums.shows g.Q.Sums.seats c.args.options.now c.args.starts.items
-    c.args.jobs.items c.args.seats.items c.args.sums_seats.items c.in_ok-queues.queues.items c.make.result c.args.post.now
-    c.args.sums.now new
-    c.requires.jobs c.requires.ranks.1 c.requires.width c.requires.seats c.requires.sums_shown c.requires.sums_seats c.in_ok-queues.ensures in
+    _ _ _ _ _ c.make.result c.args.post.now c.args.sums.now c.make.ensures c.in_ok-ranks.ensures c.requires.jobs c.requires.ranks.1
+    c.requires.width c.requires.seats c.requires.sums_shown c.requires.sums_seats c.in_ok-queues.ensures in
     record { order = first.order; ready = first.ready; unwritten = first.unwritten; empty = c.new-events.ensures.items }
 
 pub gather-requires-clause-all : goal.gather-requires-clause-all
 gather-requires-clause-all g c =
-    let new = subst (AreNew g.J.Job.log c.args.options.now c.args.jobs.items c.args.seats.items c.args.sums_seats.items c.in_ok-queues.queues.items)
-    (sym c.make.ensures) c.in_ok-ranks.ensures in
     let first = begins g.J.Job.log g.P.Post.shows g.P.Post.tells g.P.Post.seats g.Q.Sums.shows g.Q.Sums.seats c.args.options.now c.args.starts.items
-    c.args.jobs.items c.args.seats.items c.args.sums_seats.items c.in_ok-queues.queues.items c.make.result c.args.post.now
-    c.args.sums.now new
-    c.requires.jobs c.requires.ranks.1 c.requires.width c.requires.seats c.requires.sums_shown c.requires.sums_seats c.in_ok-queues.ensures in
+    _ _ _ _ _ c.make.result c.args.post.now c.args.sums.now c.make.ensures c.in_ok-ranks.ensures c.requires.jobs c.requires.ranks.1
+    c.requires.width c.requires.seats c.requires.sums_shown c.requires.sums_seats c.in_ok-queues.ensures in
     let all = same_all g.J.Job.plain c.args.options.now c.make.result c.in_ok-ranks-2.ranks.items c.in_ok-ranks-2.ensures.same first.all in
     all_done g.P.Post.shows (g.P.Post.seats c.run_traced.new.post) c.in_ok-parts.parts.seats.items
     (seats_done g.J.Job.log g.J.Job.plain g.P.Post.shows g.P.Post.tells g.P.Post.seats g.Q.Sums.shows g.Q.Sums.seats c.args.options.now
@@ -56,12 +50,9 @@ gather-requires-clause-all g c =
 
 pub gather-requires-2-clause-all : goal.gather-requires-2-clause-all
 gather-requires-2-clause-all g c =
-    let new = subst (AreNew g.J.Job.log c.args.options.now c.args.jobs.items c.args.seats.items c.args.sums_seats.items c.in_ok-queues.queues.items)
-    (sym c.make.ensures) c.in_ok-ranks.ensures in
     let first = begins g.J.Job.log g.P.Post.shows g.P.Post.tells g.P.Post.seats g.Q.Sums.shows g.Q.Sums.seats c.args.options.now c.args.starts.items
-    c.args.jobs.items c.args.seats.items c.args.sums_seats.items c.in_ok-queues.queues.items c.make.result c.args.post.now
-    c.args.sums.now new
-    c.requires.jobs c.requires.ranks.1 c.requires.width c.requires.seats c.requires.sums_shown c.requires.sums_seats c.in_ok-queues.ensures in
+    _ _ _ _ _ c.make.result c.args.post.now c.args.sums.now c.make.ensures c.in_ok-ranks.ensures c.requires.jobs c.requires.ranks.1
+    c.requires.width c.requires.seats c.requires.sums_shown c.requires.sums_seats c.in_ok-queues.ensures in
     let all = same_all g.J.Job.plain c.args.options.now c.make.result c.in_ok-ranks-2.ranks.items c.in_ok-ranks-2.ensures.same first.all in
     all_finished g.Q.Sums.shows (g.Q.Sums.seats c.run_traced.new.sums) c.in_ok-parts.parts.sums_seats.items
     (sums_done g.J.Job.log g.J.Job.plain g.P.Post.shows g.P.Post.tells g.P.Post.seats g.Q.Sums.shows g.Q.Sums.seats c.args.options.now
@@ -74,9 +65,8 @@ returns g c =
     let new = subst (AreNew g.J.Job.log c.args.options.now c.args.jobs.items c.args.seats.items c.args.sums_seats.items c.in_ok-queues.queues.items)
     (sym c.make.ensures) c.in_ok-ranks.ensures in
     let first = begins g.J.Job.log g.P.Post.shows g.P.Post.tells g.P.Post.seats g.Q.Sums.shows g.Q.Sums.seats c.args.options.now c.args.starts.items
-    c.args.jobs.items c.args.seats.items c.args.sums_seats.items c.in_ok-queues.queues.items c.make.result c.args.post.now
-    c.args.sums.now new
-    c.requires.jobs c.requires.ranks.1 c.requires.width c.requires.seats c.requires.sums_shown c.requires.sums_seats c.in_ok-queues.ensures in
+    _ _ _ _ _ c.make.result c.args.post.now c.args.sums.now c.make.ensures c.in_ok-ranks.ensures c.requires.jobs c.requires.ranks.1
+    c.requires.width c.requires.seats c.requires.sums_shown c.requires.sums_seats c.in_ok-queues.ensures in
     let ranks = c.in_ok-ranks-2.ranks.items in
     let parts = c.in_ok-parts.ensures in
     let all = same_all g.J.Job.plain o c.make.result ranks c.in_ok-ranks-2.ensures.same first.all in

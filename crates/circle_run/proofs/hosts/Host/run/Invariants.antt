@@ -1,15 +1,15 @@
 use Rattle.std.proofs.Common.{◌≡◌, length, Some, None}
 use Rattle.post_board.specs.Told.{Told}
-use Rattle.circle_run.specs.Hosts.{AllPlaced, Same, NoneLost, AreAll, KeptByEach, AllAlone}
+use Rattle.circle_run.specs.Hosts.{NoneLost, AreAll, KeptByEach, AllAlone}
 use Rattle.circle_run.specs.declared.settings.Options.{Options}
 use Rattle.circle_run.proofs.Playing.{Going}
+use Rattle.circle_run.proofs.Rounds.{InRound}
 use Rattle.circle_run.proofs.hosts.Host.run.Given as goal
 
 abbrev pub invariant-loop-k : goal.invariant-loop-k
 invariant-loop-k g l = record {
-  placed : AllPlaced g.J.Job.log g.P.Post.shows g.P.Post.seats g.Q.Sums.shows g.Q.Sums.seats l.done l.ranks.items l.post l.sums;
-  wide : length l.done ≡ 64;
-  same : Same g.J.Job.plain l.fn.self l.ranks.items;
+  round : InRound g.J.Job.log g.J.Job.plain g.P.Post.shows g.P.Post.tells g.P.Post.seats g.Q.Sums.shows g.Q.Sums.seats l.fn.self
+      l.ranks.items l.done l.post l.sums;
   end : l.k-end ≡ length l.fn.self;
   ran : NoneLost l.ranks.items → (o : Options) (t : Told) → AreAll o l.fn.self → g.P.Post.tells l.fn.post ≡ Some t
       → Going g.J.Job.log g.J.Job.plain g.P.Post.shows g.P.Post.tells g.P.Post.seats
@@ -24,9 +24,8 @@ abbrev pub invariant-loop : goal.invariant-loop
 invariant-loop g l = record {
   next : (goal.iterator-loop g).can_next l.iterator';
   finite : (goal.iterator-loop g).is_finite l.iterator';
-  placed : AllPlaced g.J.Job.log g.P.Post.shows g.P.Post.seats g.Q.Sums.shows g.Q.Sums.seats l.done l.ranks.items l.post l.sums;
-  wide : length l.done ≡ 64;
-  same : Same g.J.Job.plain l.fn.self l.ranks.items;
+  round : InRound g.J.Job.log g.J.Job.plain g.P.Post.shows g.P.Post.tells g.P.Post.seats g.Q.Sums.shows g.Q.Sums.seats l.fn.self
+      l.ranks.items l.done l.post l.sums;
   ran : NoneLost l.ranks.items → (o : Options) (t : Told) → AreAll o l.fn.self → g.P.Post.tells l.fn.post ≡ Some t
       → Going g.J.Job.log g.J.Job.plain g.P.Post.shows g.P.Post.tells g.P.Post.seats
       (KeptByEach o l.fn.self l.ranks.items) o t l.fn.self l.ranks.items l.post 0;

@@ -1,6 +1,6 @@
 use Rattle.std.proofs.Common.{refl, true}
 use Rattle.circle_run.proofs.Asked.{true_not_false}
-use Rattle.circle_run.proofs.Turning.{took, skipped, remains}
+use Rattle.circle_run.proofs.Turning.{took_ready, skipped}
 use Rattle.circle_run.proofs.ranks.Rank.step.Goals as goal
 
 pub returns-then-done-clause-took : goal.returns-then-done-clause-took
@@ -12,16 +12,9 @@ returns-then-done-clause-took g c =
 pub returns-in-Ended : goal.returns-in-Ended
 returns-in-Ended g c = record {
   placed = record { ready = c.turn.ensures.ready; over = λ e. c.in-Ended.ensures.ended refl; going = λ e. absurd (true_not_false true refl e) };
-  took = took g.J.Job.log g.J.Job.plain g.P.Post.shows g.P.Post.tells g.P.Post.seats g.J.Job.heard c.turn.result c.args.self.now
-      c.args.post.now c.turn.new.self c.turn.new.post (record {
-        agrees = g.met.P.Post.agrees c.args.post.now c.args.self.now.seat c.requires.ready.mine;
-        knows = c.requires.ready.knows;
-        agrees' = g.met.P.Post.agrees c.turn.new.post c.turn.new.self.seat c.turn.ensures.ready.mine;
-        knows' = c.turn.ensures.ready.knows;
-        waits = c.turn.ensures.waits;
-        stopped = c.turn.ensures.stopped;
-        remains = remains c.args.self.now c.turn.new.self c.turn.result c.turn.ensures.stopped c.turn.ensures.goes;
-      }) c.turn.ensures.turned;
+  took = took_ready g.J.Job.log g.J.Job.heard g.J.Job.plain g.P.Post.shows g.P.Post.tells g.P.Post.seats g.Q.Sums.shows g.Q.Sums.seats
+      c.turn.result _ _ _ _ _ _ g.met.P.Post.agrees c.requires.ready c.turn.ensures.ready c.turn.ensures.waits c.turn.ensures.stopped
+      c.turn.ensures.goes c.turn.ensures.turned;
   others = c.turn.ensures.others;
   sums_others = c.turn.ensures.sums_others;
   sums_still = c.turn.ensures.sums_still;
@@ -34,16 +27,9 @@ returns-in_default g c = record {
     over = λ e. absurd (true_not_false c.args.done.now e c.if-done.false);
     going = λ e. c.turn.ensures.unfinished c.in_default.not-Ended;
   };
-  took = took g.J.Job.log g.J.Job.plain g.P.Post.shows g.P.Post.tells g.P.Post.seats g.J.Job.heard c.turn.result c.args.self.now
-      c.args.post.now c.turn.new.self c.turn.new.post (record {
-        agrees = g.met.P.Post.agrees c.args.post.now c.args.self.now.seat c.requires.ready.mine;
-        knows = c.requires.ready.knows;
-        agrees' = g.met.P.Post.agrees c.turn.new.post c.turn.new.self.seat c.turn.ensures.ready.mine;
-        knows' = c.turn.ensures.ready.knows;
-        waits = c.turn.ensures.waits;
-        stopped = c.turn.ensures.stopped;
-        remains = remains c.args.self.now c.turn.new.self c.turn.result c.turn.ensures.stopped c.turn.ensures.goes;
-      }) c.turn.ensures.turned;
+  took = took_ready g.J.Job.log g.J.Job.heard g.J.Job.plain g.P.Post.shows g.P.Post.tells g.P.Post.seats g.Q.Sums.shows g.Q.Sums.seats
+      c.turn.result _ _ _ _ _ _ g.met.P.Post.agrees c.requires.ready c.turn.ensures.ready c.turn.ensures.waits c.turn.ensures.stopped
+      c.turn.ensures.goes c.turn.ensures.turned;
   others = c.turn.ensures.others;
   sums_others = c.turn.ensures.sums_others;
   sums_still = c.turn.ensures.sums_still;

@@ -1,12 +1,12 @@
-use Rattle.std.proofs.Common.{ap, sym, ◌∙◌, refl, subst, rules, [], ◌∷◌}
-use Rattle.post_board.specs.Shown.{Shown, is_served}
+use Rattle.std.proofs.Common.{ap, sym, refl, subst, rules, [], ◌∷◌}
+use Rattle.post_board.specs.Shown.{Shown}
 use Rattle.post_board.specs.Deeds.{stop}
 use Rattle.circle_run.specs.Moves.{noted}
 use Rattle.circle_run.specs.Choices.{Closes}
 use Rattle.circle_run.specs.Private.Steps.{Ends}
 use Rattle.circle_run.specs.declared.steps.Did.TheVariants.{Stopped as DidStop}
 use Rattle.circle_run.proofs.Winding.{came_looked}
-use Rattle.circle_run.proofs.Stepped.{late_as, went_silent}
+use Rattle.circle_run.proofs.Called.{came_noted}
 use Rattle.circle_run.proofs.ranks.RankState.close.Goals as goal
 
 pub returns-in-Some-clause-came : goal.returns-in-Some-clause-came
@@ -16,25 +16,18 @@ returns-in-Some-clause-came g c =
 
 pub returns-clause-came : goal.returns-clause-came
 returns-clause-came g c =
-    record {
-      knows = search rules;
-      mine = c.stop.ensures.mine;
-      none = λ k. ap (λ (s : Shown). is_served s k) c.stop.ensures.shown ∙ c.requires.none k;
-      others = λ other ne s. c.stop.ensures.others other (λ e. ne (e ∙ c.requires.knows.number)) s;
-      still = c.stop.ensures.still;
-      me = refl;
-      options = refl;
-      sums_seat = refl;
-      sums = refl;
-      facts = refl;
-      lost = λ l. l;
-      went = λ found. went_silent g.J.Job.log g.J.Job.plain g.P.Post.shows g.P.Post.tells g.P.Post.seats
-          (Ends DidStop c.args.self.now.me c.args.self.now.asked) _ _ _ _ stop
-          (record {
-            acts = refl;
-            closes = subst (λ (v : _). Closes c.args.self.now.me v (noted stop ∷ [])) (sym c.in_default.is) refl;
-          }) refl refl (c.requires.halted found)
-          (late_as (g.P.Post.shows c.args.self.now.seat).number c.args.self.now.me stop stop (g.P.Post.tells c.args.post.now)
-          (g.P.Post.tells c.stop.new.self) c.requires.knows.number refl c.stop.ensures.told)
-          refl refl refl (ap (λ (s : Shown). s.batches) c.stop.ensures.shown) found;
-    }
+    let call = c.stop.ensures in
+    came_noted g.J.Job.log g.J.Job.plain g.P.Post.shows g.P.Post.tells g.P.Post.seats
+    (Ends DidStop c.args.self.now.me c.args.self.now.asked) _ _ _ _ stop
+    (record { before = c.requires.knows; none = c.requires.none; knows = search rules; same = refl })
+    (record { mine = call.mine; others = call.others; still = call.still; serves = ap (λ (s : Shown). s.serves) call.shown })
+    (record { acts = refl; closes = subst (λ (v : _). Closes c.args.self.now.me v (noted stop ∷ [])) (sym c.in_default.is) refl })
+    (record {
+      silent = refl;
+      may = c.requires.halted;
+      told = call.told;
+      book = refl;
+      queue = refl;
+      draws = refl;
+      batches = ap (λ (s : Shown). s.batches) call.shown;
+    })

@@ -1,38 +1,29 @@
-use Rattle.std.proofs.Common.{◌≡◌, ap, sym, ◌∙◌, refl, subst, arith, rules, [], ◌∷◌, length}
-use Rattle.post_board.specs.Shown.{Shown, is_served}
+use Rattle.std.proofs.Common.{ap, sym, refl, subst, rules, [], ◌∷◌}
+use Rattle.post_board.specs.Shown.{Shown}
 use Rattle.post_board.specs.Deeds.{see_over}
 use Rattle.post_board.specs.declared.answers.Ring.{Ring}
 use Rattle.circle_run.specs.Moves.{did}
 use Rattle.circle_run.specs.Private.Steps.{Heard}
-use Rattle.circle_run.proofs.Stepped.{tells_as, went_did}
+use Rattle.circle_run.proofs.Called.{came_idle}
 use Rattle.circle_run.proofs.Hearing.{halt_read, knows_read}
 use Rattle.circle_run.proofs.ranks.RankState.hear.Goals as goal
 
 pub returns-in-Over-clause-came : goal.returns-in-Over-clause-came
-returns-in-Over-clause-came g c = record {
-  knows = search rules;
-  mine = c.ring-ring.ensures.mine;
-  none = λ k. ap (λ (s : Shown). is_served s k) c.in-Over.ensures.shown ∙ c.requires.none k;
-  others = λ other ne s. c.ring-ring.ensures.others other (λ e. ne (e ∙ c.requires.knows.number)) s;
-  still = c.ring-ring.ensures.still;
-  me = refl;
-  options = refl;
-  sums_seat = refl;
-  sums = c.note.ensures.sums;
-  facts = refl;
-  lost = c.note.ensures.lost;
-  went = went_did g.J.Job.log g.J.Job.plain g.P.Post.shows g.P.Post.tells g.P.Post.seats (Heard c.ring-ring.result) _ _ _ _ see_over
-      (subst (λ (x : Ring). Heard x (did see_over ∷ [])) (sym c.in-Over.is) refl) c.note.ensures (record {
-        queue = ((c.requires.knows.idle (c.in-Over.ensures.over refl)), (c.requires.knows.idle (c.in-Over.ensures.over refl)));
-        few = (let n : length c.args.self.now.queue ≡ 0 = ap length (c.requires.knows.idle (c.in-Over.ensures.over refl)) in omega arith);
-        names = tt;
-        drawn = refl;
-        log = refl;
-        batches = ap (λ (s : Shown). s.batches) c.in-Over.ensures.shown;
-        told = tells_as (g.P.Post.shows c.args.self.now.seat).number c.args.self.now.me see_over see_over (g.P.Post.tells c.args.post.now)
-            (g.P.Post.tells c.ring-ring.new.self) c.requires.knows.number refl c.in-Over.ensures.told;
-      });
-}
+returns-in-Over-clause-came g c =
+    let call = c.ring-ring.ensures in
+    let shown = c.in-Over.ensures.shown in
+    let empty = c.requires.knows.idle (c.in-Over.ensures.over refl) in
+    came_idle g.J.Job.log g.J.Job.plain g.P.Post.shows g.P.Post.tells g.P.Post.seats (Heard c.ring-ring.result) _ _ _ _ see_over
+    (record { before = c.requires.knows; none = c.requires.none; knows = search rules; same = refl })
+    (record { mine = call.mine; others = call.others; still = call.still; serves = ap (λ (s : Shown). s.serves) shown })
+    (subst (λ (x : Ring). Heard x (did see_over ∷ [])) (sym c.in-Over.is) refl) c.note.ensures (record {
+      idle = tt;
+      empty = empty;
+      left = empty;
+      drawn = refl;
+      batches = ap (λ (s : Shown). s.batches) shown;
+      told = c.in-Over.ensures.told;
+    })
 
 pub returns-in_default-clause-told : goal.returns-in_default-clause-told
 returns-in_default-clause-told g c = λ is. halt_read c.ring-ring.result (g.P.Post.shows c.args.self.now.seat) (g.P.Post.tells c.args.post.now)

@@ -1,0 +1,14 @@
+-- The parts of a rank, of which the lists of a run are made.
+use Rattle.post_board.specs.Shown.{Strings}
+use Rattle.circle_run.specs.declared.outcomes.Share.{Share}
+use Rattle.circle_run.specs.declared.ranks.Rank.{Rank}
+
+module _ {J S T : Type 0} where
+  abbrev pub job_of : Rank J S T → J
+  job_of r = r.job
+
+  abbrev pub queue_of : Rank J S T → Strings
+  queue_of r = r.queue
+
+  abbrev pub share_of : Rank J S T → Share
+  share_of r = r.book.share
