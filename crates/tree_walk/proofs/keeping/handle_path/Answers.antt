@@ -6,47 +6,34 @@ use Rattle.tree_walk.specs.Answered.{IsAnswered}
 use Rattle.tree_walk.specs.Held.{log_of, held_of}
 use Rattle.tree_walk.proofs.Held.{IsStep, step_holds, step_log}
 use Rattle.tree_walk.proofs.Lists.{all_append}
+use Rattle.tree_walk.proofs.keeping.handle_path.Given as given
 use Rattle.tree_walk.proofs.keeping.handle_path.Goals as goal
+use Rattle.tree_walk.proofs.keeping.handle_path.Goals.{In-Ok-keep}
 
-pub returns-clause-holds : goal.returns-clause-holds
-returns-clause-holds g c =
-    let tree = g.R.Tree.tree in
-    let count = g.R.Tree.count in
+-- A path that was looked at and kept is a step.
+stepped : (g : given.Over) (c : In-Ok-keep g)
+    → IsStep (g.R.Tree.tree c.args.reader.now) (g.R.Tree.tree c.look.new.reader) (g.R.Tree.count c.args.reader.now) (g.R.Tree.count c.look.new.reader)
+    (held_of c.args.entries.now c.args.names.now.items) (held_of c.keep.new.entries c.keep.new.names.items)
+    c.in_ok-path.path c.push_children.new.fresh c.in_ok-entry.entry c.in_ok-entry.listing
+stepped g c =
     let entry = c.in_ok-entry.entry in
-    let names = c.in_ok-entry.listing in
-    let entries = c.args.entries.now in
-    let old = held_of entries c.args.names.now.items in
-    let new = held_of c.keep.new.entries c.keep.new.names.items in
-    let step : IsStep (tree c.args.reader.now) (tree c.look.new.reader) (count c.args.reader.now) (count c.look.new.reader) old new
-    c.in_ok-path.path c.push_children.new.fresh entry names =
+    let children = map (joined entry.path) c.in_ok-entry.listing.0 in
     record {
       look = c.in_ok-entry.ensures.look;
       same = c.in_ok-entry.ensures.same;
       kept = c.in-Ok-keep.ensures.held
-          ∙ ap (λ (ls : List Listing). held_of entries ls ++ (entry, map (joined entry.path) names.0) ∷ []) c.reserve.ensures.items;
-      pushed = c.in-Ok.ensures ∙ ap (λ x. x ++ map (joined entry.path) names.0) c.requires.empty;
-    } in
-    step_holds step c.requires.holds
+          ∙ ap (λ (ls : List Listing). held_of c.args.entries.now ls ++ (entry, children) ∷ []) c.reserve.ensures.items;
+      pushed = c.in-Ok.ensures ∙ ap (λ x. x ++ children) c.requires.empty;
+    }
+
+pub returns-clause-holds : goal.returns-clause-holds
+returns-clause-holds g c = step_holds (stepped g (goal.at.returns-clause-holds g c).In-Ok-keep) c.requires.holds
 
 pub returns-clause-ok : goal.returns-clause-ok
 returns-clause-ok g c =
-    let tree = g.R.Tree.tree in
-    let count = g.R.Tree.count in
-    let entry = c.in_ok-entry.entry in
-    let names = c.in_ok-entry.listing in
-    let entries = c.args.entries.now in
-    let old = held_of entries c.args.names.now.items in
-    let new = held_of c.keep.new.entries c.keep.new.names.items in
-    let step : IsStep (tree c.args.reader.now) (tree c.look.new.reader) (count c.args.reader.now) (count c.look.new.reader) old new
-    c.in_ok-path.path c.push_children.new.fresh entry names =
-    record {
-      look = c.in_ok-entry.ensures.look;
-      same = c.in_ok-entry.ensures.same;
-      kept = c.in-Ok-keep.ensures.held
-          ∙ ap (λ (ls : List Listing). held_of entries ls ++ (entry, map (joined entry.path) names.0) ∷ []) c.reserve.ensures.items;
-      pushed = c.in-Ok.ensures ∙ ap (λ x. x ++ map (joined entry.path) names.0) c.requires.empty;
-    } in
-    step_log step ∙ ap (λ x. log_of old ++ (x, c.push_children.new.fresh) ∷ []) c.in_ok-path.ensures
+    let old = held_of c.args.entries.now c.args.names.now.items in
+    step_log (stepped g (goal.at.returns-clause-ok g c).In-Ok-keep)
+    ∙ ap (λ x. log_of old ++ (x, c.push_children.new.fresh) ∷ []) c.in_ok-path.ensures
 
 pub returns-clause-answered : goal.returns-clause-answered
 returns-clause-answered g c =
