@@ -1,7 +1,7 @@
 -- All lots at work, level after level.
-use Rattle.std.proofs.Common.{◌≡◌, ℕ, suc, ◌+◌, ◌<◌, ◌≤◌, Bool, true, false, cond, List, [], ◌∷◌, length, map, Option, Some, None, IfSome, refl, ap}
+use Rattle.std.proofs.Common.{◌≡◌, ℕ, suc, ◌+◌, ◌<◌, ◌≤◌, true, false, cond, List, [], ◌∷◌, length, map, Option, Some, None, IfSome, refl, ap}
 use Rattle.std.proofs.Common.{◌∙◌, sym, subst, arith, is_some, slice_get}
-use Rattle.std.proofs.lemmas.Bool.{false≢true}
+use Rattle.std.proofs.lemmas.Bool.{false≢true, false_from_ne_true}
 use Rattle.std.proofs.lemmas.Option.{slice_get_within}
 use Rattle.std.proofs.lemmas.List.{length-map}
 use Rattle.std.proofs.lemmas.List.Sums.{sum_by-cons}
@@ -12,7 +12,7 @@ use Rattle.outside.specs.Writes.{Area, nothing_lent}
 use Rattle.level_work.specs.Acts.{Deed, Alike, AllShow, MakesDirs}
 use Rattle.level_work.specs.Counts.{NoneFell, BlamedAll, is_failed}
 use Rattle.level_work.specs.Levels.{AreItems, StandIn, ParentsFail, Acted, SameButItems}
-use Rattle.level_work.specs.Chain.{AllBelow, OneLevel, is_done, mark_at, level_at}
+use Rattle.level_work.specs.Chain.{AllBelow, OneLevel, is_level_done, mark_at, level_at}
 use Rattle.level_work.specs.Private.Steps.{CanStep, TellsLevel, SameButLevel, Ran}
 use Rattle.level_work.specs.Private.Crews.{AtHome, BlamedMore, SameActors, ShowAll}
 use Rattle.level_work.specs.Private.Dealing.{AreOnLevel, Knows, has_path}
@@ -48,10 +48,6 @@ none_failed : (fates : List Fate) → ((k : ℕ) (f : Fate) → slice_get fates 
 none_failed [] h = refl
 none_failed (f ∷ fates) h = let e = ap {B = ℕ} (λ x. cond (is_failed x) 1 0) (h 0 f refl) in
     omega (arith, sum_by-cons (λ x. cond (is_failed x) 1 0) f fates, e, none_failed fates (λ k g at. h (suc k) g at))
-
-flip : (b : Bool) → (b ≡ true → ⊥) → b ≡ false
-flip true n = absurd (n refl)
-flip false n = refl
 
 blamed_on : (l m n g g' g'' : ℕ) (c c' c'' : List ℕ) → length c'' ≡ length c' → BlamedMore l m g c g' c' → BlamedMore m n g' c' g'' c''
     → ((i k k' : ℕ) → slice_get c i ≡ Some k → slice_get c'' i ≡ Some k' → k ≤ k') → BlamedMore l n g c g'' c''
@@ -101,9 +97,9 @@ pub all_blamed : (n g g' : ℕ) (c c' : List ℕ) → BlamedMore 0 n g c g' c' �
 all_blamed n g g' c c' b = record { rose = λ low none. omega (arith, b.rose low none) }
 
 -- a level that is next is not done
-next_fresh : (o : Order) (top turn m : ℕ) → turn < top → m ≡ level_at o top turn → is_done o (mark_at o top turn) m ≡ false
+next_fresh : (o : Order) (top turn m : ℕ) → turn < top → m ≡ level_at o top turn → is_level_done o (mark_at o top turn) m ≡ false
 next_fresh o top turn m l e =
-    flip (is_done o (mark_at o top turn) m)
+    false_from_ne_true (is_level_done o (mark_at o top turn) m)
     (λ done. not_here o (mark_at o top turn) (level_at o top turn) (mark_at o top (turn + 1)) m (next_at o top turn l) done e)
 
 module _ {A P D : Type 0} (plain : A → D) (count : A → ℕ) (deed : D → Deed) (o : Order) (top : ℕ) (items : List Item) where
@@ -129,85 +125,86 @@ module _ {A P D : Type 0} (plain : A → D) (count : A → ℕ) (deed : D → De
       }
       knows order.BottomUp = tt
 
-  module _ (lots now : List (Lot A P)) (fates : List Fate) (paths : List (List ℕ)) (a : Area) (t0 t : Option Files) (g0 g turn : ℕ)
-      (v : Turned plain count deed o top turn items lots now fates paths a t0 t g0 g)
-      (some : 0 < length lots) (alike : Alike (map (λ (l : Lot A P). plain l.actor) lots)) where
-    of_first : Ran (deed (shown plain count lots some alike).0) o top turn items fates t0 t
-    of_first = v.ran (shown plain count lots some alike).0 (shown plain count lots some alike).1
+module _ {A P D : Type 0} {plain : A → D} {count : A → ℕ} {deed : D → Deed} {o : Order} {top turn g0 g : ℕ} {items : List Item}
+    {lots now : List (Lot A P)} {fates : List Fate} {paths : List (List ℕ)} {a : Area} {t0 t : Option Files}
+    (v : Turned plain count deed o top turn items lots now fates paths a t0 t g0 g)
+    (some : 0 < length lots) (alike : Alike (map (λ (l : Lot A P). plain l.actor) lots)) where
+  of_first : Ran (deed (shown plain count lots some alike).0) o top turn items fates t0 t
+  of_first = v.ran (shown plain count lots some alike).0 (shown plain count lots some alike).1
 
-    pub turned_some : 0 < length now
-    turned_some = omega (arith, some, same_length plain count lots now v.actors)
+  pub turned_some : 0 < length now
+  turned_some = omega (arith, some, same_length plain count lots now v.actors)
 
-    pub turned_len : length fates ≡ length items
-    turned_len = of_first.len
+  pub turned_len : length fates ≡ length items
+  turned_len = of_first.len
 
-    pub turned_tells : is_some t ≡ is_some t0
-    turned_tells = of_first.tells
+  pub turned_tells : is_some t ≡ is_some t0
+  turned_tells = of_first.tells
 
-    pub turned_step : turn < top → AreItems items → IfSome t0 (StandIn o items)
-        → ((d : D) → AllShow d (map (λ (l : Lot A P). plain l.actor) lots) → IfSome t0 (MakesDirs o (deed d) items))
-        → IfSome t (CanStep o (level_at o top turn) items fates)
-    turned_step l are stand dirs = let d = shown plain count lots some alike in
-        can_step (deed d.0) o top turn items fates t0 t l are stand (dirs d.0 d.1) (v.ran d.0 d.1)
+  pub turned_step : turn < top → AreItems items → IfSome t0 (StandIn o items)
+      → ((d : D) → AllShow d (map (λ (l : Lot A P). plain l.actor) lots) → IfSome t0 (MakesDirs o (deed d) items))
+      → IfSome t (CanStep o (level_at o top turn) items fates)
+  turned_step l are stand dirs = let d = shown plain count lots some alike in
+      can_step (deed d.0) o top turn items fates t0 t l are stand (dirs d.0 d.1) (v.ran d.0 d.1)
 
-    pub turned_told : top ≤ turn → turn ≤ top → AllBelow top items → ParentsFail o items fates
-    turned_told l m below = ran_told (deed (shown plain count lots some alike).0) o top turn items fates t0 t (omega (arith, l, m)) below of_first
+  pub turned_told : top ≤ turn → turn ≤ top → AllBelow top items → ParentsFail o items fates
+  turned_told l m below = ran_told (deed (shown plain count lots some alike).0) o top turn items fates t0 t (omega (arith, l, m)) below of_first
 
-    pub turned_acted : top ≤ turn → turn ≤ top → AllBelow top items → (d : D) → AllShow d (map (λ (l : Lot A P). plain l.actor) lots)
-        → IfSome t0 (λ before. IfSome t (Acted (deed d) o items fates before))
-    turned_acted l m below d show = ran_acted (deed d) o top turn items fates t0 t (omega (arith, l, m)) below (v.ran d show)
+  pub turned_acted : top ≤ turn → turn ≤ top → AllBelow top items → (d : D) → AllShow d (map (λ (l : Lot A P). plain l.actor) lots)
+      → IfSome t0 (λ before. IfSome t (Acted (deed d) o items fates before))
+  turned_acted l m below d show = ran_acted (deed d) o top turn items fates t0 t (omega (arith, l, m)) below (v.ran d show)
 
-    module _ (level : ℕ) (next : Option Files) (now' : List (Lot A P)) (fates' : List Fate) (g' : ℕ) (is : level ≡ level_at o top turn) (l : turn < top) where
-      pub turned_lost : IfSome t (λ old. IfSome next (SameButLevel level items old)) → IfSome t0 (λ before. IfSome next (SameButItems items before))
-      turned_lost h = ran_lost (deed (shown plain count lots some alike).0) o top turn level items fates t0 t next of_first h
+  module _ (level : ℕ) (next : Option Files) (now' : List (Lot A P)) (fates' : List Fate) (g' : ℕ) (is : level ≡ level_at o top turn) (l : turn < top) where
+    pub turned_lost : IfSome t (λ old. IfSome next (SameButLevel level items old)) → IfSome t0 (λ before. IfSome next (SameButItems items before))
+    turned_lost h = ran_lost (deed (shown plain count lots some alike).0) o top turn level items fates t0 t next of_first h
 
-      only_level : (told : (d : D) → AllShow d (map (λ (l : Lot A P). plain l.actor) now)
-          → IfSome t (λ old. IfSome next (OneLevel (deed d) level items fates' old)))
-          → IfSome t (λ old. IfSome next (SameButLevel level items old))
-      only_level told = let d = shown plain count lots some alike in
-          others (deed d.0) t next (told d.0 (subst (AllShow d.0) (sym v.actors.plains) d.1))
-        where
-          others : (e : Deed) (t next : Option Files) → IfSome t (λ old. IfSome next (OneLevel e level items fates' old))
-              → IfSome t (λ old. IfSome next (SameButLevel level items old))
-          others e None next h = tt
-          others e (Some x) None h = tt
-          others e (Some x) (Some y) h = h.others
+    only_level : (told : (d : D) → AllShow d (map (λ (l : Lot A P). plain l.actor) now)
+        → IfSome t (λ old. IfSome next (OneLevel (deed d) level items fates' old)))
+        → IfSome t (λ old. IfSome next (SameButLevel level items old))
+    only_level told = let d = shown plain count lots some alike in
+        others (deed d.0) t next (told d.0 (subst (AllShow d.0) (sym v.actors.plains) d.1))
+      where
+        others : (e : Deed) (t next : Option Files) → IfSome t (λ old. IfSome next (OneLevel e level items fates' old))
+            → IfSome t (λ old. IfSome next (SameButLevel level items old))
+        others e None next h = tt
+        others e (Some x) None h = tt
+        others e (Some x) (Some y) h = h.others
 
-      pub turned_stopped : ((d : D) → AllShow d (map (λ (l : Lot A P). plain l.actor) now)
-          → IfSome t (λ old. IfSome next (OneLevel (deed d) level items fates' old)))
-          → IfSome t0 (λ before. IfSome next (SameButItems items before))
-      turned_stopped told = turned_lost (only_level told)
+    pub turned_stopped : ((d : D) → AllShow d (map (λ (l : Lot A P). plain l.actor) now)
+        → IfSome t (λ old. IfSome next (OneLevel (deed d) level items fates' old)))
+        → IfSome t0 (λ before. IfSome next (SameButItems items before))
+    turned_stopped told = turned_lost (only_level told)
 
-      pub turned_more : (places : List ℕ) (paths' : List (List ℕ)) (a' : Area) → AreItems items → a' ≡ nothing_lent → AtHome now'
-          → SameActors plain count now now' → g ≤ g' → is_some next ≡ is_some t → TellsLevel o level items fates fates' →
-          ((d : D) → AllShow d (map (λ (l : Lot A P). plain l.actor) now) → IfSome t (λ old. IfSome next (OneLevel (deed d) level items fates' old))) →
-          BlamedMore (count_by is_failed fates) (count_by is_failed fates') g (map (λ (l : Lot A P). count l.actor) now) g'
-          (map (λ (l : Lot A P). count l.actor) now') →
-          AreOnLevel (length items) level items places → Notes o items fates' places paths paths'
-          → Turned plain count deed o top (turn + 1) items lots now' fates' paths' a' t0 next g0 g'
-      turned_more places paths' a' are area home actors up tells t' told blamed on notes = record {
-        area = area;
-        home = home;
-        actors = actors_on plain count lots now now' v.actors actors;
-        kept = omega (arith, v.kept, up);
-        ran = λ d show. ran_more (deed d) o top turn items fates fates' t0 t next l are (subst (λ m. TellsLevel o m items fates fates') is t')
-            (subst (λ m. IfSome t (λ old. IfSome next (OneLevel (deed d) m items fates' old))) is
-            (told d (subst (AllShow d) (sym v.actors.plains) show))) tells (v.ran d show);
-        fresh = fresh;
-        knows = knows_more o level items places fates fates' paths paths' on
-            (λ k x f at has lev. v.fresh k x f at has (next_fresh o top turn (level_of x.path) l (lev ∙ is))) t' turned_len v.knows notes;
-        blamed = blamed_on _ _ _ _ _ _ _ _ _ (same_counts plain count now now' actors) v.blamed blamed
-            (actors_on plain count lots now now' v.actors actors).counts;
-      }
-        where
-          fresh : (k : ℕ) (x : Item) (f : Fate) → slice_get items k ≡ Some x → slice_get fates' k ≡ Some f
-              → is_done o (mark_at o top (turn + 1)) (level_of x.path) ≡ false → f ≡ fate.Done
-          fresh k x f at has off =
-              let n = next_at o top turn l in
-              v.fresh k x f at
-              (sym (t'.others k x at (λ e.
-              false≢true (sym off ∙ subst (λ m. is_done o (mark_at o top (turn + 1)) m ≡ true) (sym (e ∙ is))
-              (now_done o (mark_at o top turn) (level_at o top turn) (mark_at o top (turn + 1)) n)))) ∙ has)
-              (flip (is_done o (mark_at o top turn) (level_of x.path))
-              (λ done. false≢true (sym off
-              ∙ still_done o (mark_at o top turn) (level_at o top turn) (mark_at o top (turn + 1)) (level_of x.path) n done)))
+    pub turned_more : (places : List ℕ) (paths' : List (List ℕ)) (a' : Area) → AreItems items → a' ≡ nothing_lent → AtHome now'
+        → SameActors plain count now now' → g ≤ g' → is_some next ≡ is_some t → TellsLevel o level items fates fates' →
+        ((d : D) → AllShow d (map (λ (l : Lot A P). plain l.actor) now) → IfSome t (λ old. IfSome next (OneLevel (deed d) level items fates' old))) →
+        BlamedMore (count_by is_failed fates) (count_by is_failed fates') g (map (λ (l : Lot A P). count l.actor) now) g'
+        (map (λ (l : Lot A P). count l.actor) now') →
+        AreOnLevel (length items) level items places → Notes o items fates' places paths paths'
+        → Turned plain count deed o top (turn + 1) items lots now' fates' paths' a' t0 next g0 g'
+    turned_more places paths' a' are area home actors up tells t' told blamed on notes = record {
+      area = area;
+      home = home;
+      actors = actors_on plain count lots now now' v.actors actors;
+      kept = omega (arith, v.kept, up);
+      ran = λ d show. ran_more (deed d) o top turn items fates fates' t0 t next l are (subst (λ m. TellsLevel o m items fates fates') is t')
+          (subst (λ m. IfSome t (λ old. IfSome next (OneLevel (deed d) m items fates' old))) is
+          (told d (subst (AllShow d) (sym v.actors.plains) show))) tells (v.ran d show);
+      fresh = fresh;
+      knows = knows_more o level items places fates fates' paths paths' on
+          (λ k x f at has lev. v.fresh k x f at has (next_fresh o top turn (level_of x.path) l (lev ∙ is))) t' turned_len v.knows notes;
+      blamed = blamed_on _ _ _ _ _ _ _ _ _ (same_counts plain count now now' actors) v.blamed blamed
+          (actors_on plain count lots now now' v.actors actors).counts;
+    }
+      where
+        fresh : (k : ℕ) (x : Item) (f : Fate) → slice_get items k ≡ Some x → slice_get fates' k ≡ Some f
+            → is_level_done o (mark_at o top (turn + 1)) (level_of x.path) ≡ false → f ≡ fate.Done
+        fresh k x f at has off =
+            let n = next_at o top turn l in
+            v.fresh k x f at
+            (sym (t'.others k x at (λ e.
+            false≢true (sym off ∙ subst (λ m. is_level_done o (mark_at o top (turn + 1)) m ≡ true) (sym (e ∙ is))
+            (now_done o (mark_at o top turn) (level_at o top turn) (mark_at o top (turn + 1)) n)))) ∙ has)
+            (false_from_ne_true (is_level_done o (mark_at o top turn) (level_of x.path))
+            (λ done. false≢true (sym off
+            ∙ still_done o (mark_at o top turn) (level_at o top turn) (mark_at o top (turn + 1)) (level_of x.path) n done)))
