@@ -1,5 +1,5 @@
 -- Fillers at work on their spans, turn after turn.
-use Rattle.std.proofs.Common.{◌≡◌, ◌⊎◌, inl, inr, ℕ, zero, suc, ◌+◌, ◌*◌, ◌<◌, List, [], ◌∷◌, ◌++◌, map, length, Option}
+use Rattle.std.proofs.Common.{◌≡◌, ◌⊎◌, inl, inr, ℕ, zero, suc, ◌+◌, ◌*◌, ◌<◌, ◌≤◌, List, [], ◌∷◌, ◌++◌, map, length, Option}
 use Rattle.std.proofs.Common.{IfSome, refl, ap, ◌∙◌, sym}
 use Rattle.std.proofs.Common.{subst, arith, is_some, append_assoc, append-nil, length-append}
 use Rattle.std.specs.Prelude.{slice_index_or}
@@ -52,6 +52,9 @@ paired P [] [] l h = tt
 paired P [] (y ∷ ys) l h = absurd (omega (arith, l))
 paired P (x ∷ xs) [] l h = absurd (omega (arith, l))
 paired P (x ∷ xs) (y ∷ ys) l h = (h 0 x (omega arith), paired P xs ys (omega (arith, l)) (λ k d m. h (suc k) d (omega (arith, m))))
+
+pub many_left : {S : Type 0} (loads : List (Load S)) → length (spans_left loads) ≡ length loads
+many_left loads = length-reverse (map (λ (l : Load _). l.span) loads) ∙ length-map loads (λ (l : Load _). l.span)
 
 module _ {T S : Type 0} (tree : T → Option Files) (piece : S → Piece) (holds : S → Option (List ℕ)) (source : List ℕ) (total : ℕ) where
   -- each has worked
@@ -139,12 +142,11 @@ module _ {T S : Type 0} (tree : T → Option Files) (piece : S → Piece) (holds
         short = λ seen h. none_short seen fillers fine;
       }
 
-  pub filling_turns : (fillers0 : List (Filler T S)) (spans0 : List S) (fillers fillers' : List (Filler T S)) (loads loads' : List (Load S))
-      (done done' : List S) →
+  pub filling_turns : {fillers0 fillers fillers' : List (Filler T S)} {spans0 done done' : List S} {loads loads' : List (Load S)} →
       Filling fillers0 spans0 fillers loads done (done ++ spans_of fillers) →
       (AreLoads piece total loads → IsTurn piece total fillers loads done fillers' loads' done') →
       Filling fillers0 spans0 fillers' loads' done' done'
-  filling_turns fillers0 spans0 fillers fillers' loads loads' done done' f turns =
+  filling_turns {fillers = fillers} {fillers' = fillers'} {done = done} {done' = done'} {loads = loads} {loads' = loads'} f turns =
       let t = turns f.are_loads in
       let whole : done' ++ (spans_of fillers' ++ spans_left loads') ≡ done ++ (spans_of fillers ++ spans_left loads) =
       ap (λ r. done' ++ r) t.dealt ∙ ap (λ r. r ++ spans_left loads) t.taken ∙ append_assoc done (spans_of fillers) (spans_left loads) in
@@ -158,9 +160,9 @@ module _ {T S : Type 0} (tree : T → Option Files) (piece : S → Piece) (holds
         short = λ seen h. by_hands (λ hand. hand.1 ≡ filled.Changed → IfSome seen (IsShort source total)) fillers fillers' t.hands (f.short seen h);
       }
 
-  pub filling_works : (fillers0 : List (Filler T S)) (spans0 : List S) (fillers fillers' : List (Filler T S)) (loads : List (Load S)) (done : List S) →
+  pub filling_works : {fillers0 fillers : List (Filler T S)} {spans0 done : List S} {loads : List (Load S)} (fillers' : List (Filler T S)) →
       Filling fillers0 spans0 fillers loads done done → AllWorked fillers fillers' → Filling fillers0 spans0 fillers' loads done (done ++ spans_of fillers')
-  filling_works fillers0 spans0 fillers fillers' loads done f w = record {
+  filling_works {fillers = fillers} {done = done} {loads = loads} fillers' f w = record {
     pieces = map_both piece done done (spans_of fillers ++ spans_left loads) (spans_of fillers' ++ spans_left loads) refl
         (map_both piece (spans_of fillers) (spans_of fillers') (spans_left loads) (spans_left loads) (worked_pieces fillers fillers' w) refl) ∙ f.pieces;
     tells = map_both (λ s. is_some (holds s)) done done (spans_of fillers ++ spans_left loads) (spans_of fillers' ++ spans_left loads) refl
@@ -173,25 +175,11 @@ module _ {T S : Type 0} (tree : T → Option Files) (piece : S → Piece) (holds
     short = λ seen h. worked_short seen fillers fillers' w (f.see seen h) (f.short seen h);
   }
 
-  pub filling_ends : (fillers0 : List (Filler T S)) (spans0 : List S) (fillers : List (Filler T S)) (loads : List (Load S)) (done : List S) →
-      Filling fillers0 spans0 fillers loads done (done ++ spans_of fillers) → length (spans_of fillers) ≡ 0 → length loads ≡ 0 →
-      AreFilled tree piece holds source total fillers0 spans0 fillers done
-  filling_ends fillers0 spans0 fillers loads done f none over =
-      let have : spans_of fillers ≡ [] = empty_of (spans_of fillers) none in
-      let left : spans_left loads ≡ [] = ap spans_left (empty_of loads over) in
-      let whole : done ≡ done ++ (spans_of fillers ++ spans_left loads) = sym (append-nil done) ∙ (λ i. done ++ (sym have i ++ sym left i)) in
-      record {
-        pieces = ap (map piece) whole ∙ f.pieces;
-        tells = ap (map (λ s. is_some (holds s))) whole ∙ f.tells;
-        ranges = λ seen h d. subst (AllByRecursion (HasRange piece holds source seen)) (ap (λ r. done ++ r) have ∙ append-nil done) (f.ranges seen h d);
-        short = f.short;
-      }
-
   -- how many there are
 
-  pub as_many : (fillers0 : List (Filler T S)) (spans0 : List S) (fillers : List (Filler T S)) (loads : List (Load S)) (done so_far : List S) →
+  pub as_many : {fillers0 fillers : List (Filler T S)} {spans0 done so_far : List S} {loads : List (Load S)} →
       Filling fillers0 spans0 fillers loads done so_far → length done + length (spans_of fillers) + length (spans_left loads) ≡ length spans0
-  as_many fillers0 spans0 fillers loads done so_far f =
+  as_many {fillers = fillers} {spans0 = spans0} {done = done} {loads = loads} f =
       let a = length-append done (spans_of fillers ++ spans_left loads) in
       let b = length-append (spans_of fillers) (spans_left loads) in
       let c = sym (length-map (done ++ (spans_of fillers ++ spans_left loads)) piece) ∙ ap length f.pieces ∙ length-map spans0 piece in
@@ -200,8 +188,29 @@ module _ {T S : Type 0} (tree : T → Option Files) (piece : S → Piece) (holds
   pub worked_many : (xs ys : List (Filler T S)) → AllWorked xs ys → length (spans_of ys) ≡ length (spans_of xs)
   worked_many xs ys w = sym (length-map (spans_of ys) piece) ∙ ap length (worked_pieces xs ys w) ∙ length-map (spans_of xs) piece
 
-pub many_left : {S : Type 0} (loads : List (Load S)) → length (spans_left loads) ≡ length loads
-many_left loads = length-reverse (map (λ (l : Load _). l.span) loads) ∙ length-map loads (λ (l : Load _). l.span)
+  -- once as many are done as were to be dealt, none is with a filler and none is left
+
+  pub none_out : {fillers0 fillers : List (Filler T S)} {done so_far : List S} {loads : List (Load S)} (loads0 : List (Load S)) →
+      Filling fillers0 (spans_left loads0) fillers loads done so_far → length loads0 ≤ length done → spans_of fillers ≡ []
+  none_out {fillers = fillers} loads0 f over = empty_of (spans_of fillers) (omega (arith, as_many f, many_left loads0, over))
+
+  none_left : {fillers0 fillers : List (Filler T S)} {done so_far : List S} {loads : List (Load S)} (loads0 : List (Load S)) →
+      Filling fillers0 (spans_left loads0) fillers loads done so_far → length loads0 ≤ length done → loads ≡ []
+  none_left {loads = loads} loads0 f over = empty_of loads (omega (arith, as_many f, many_left loads0, many_left loads, over))
+
+  pub filling_ends : {fillers0 fillers : List (Filler T S)} {done : List S} {loads : List (Load S)} (loads0 : List (Load S)) →
+      Filling fillers0 (spans_left loads0) fillers loads done (done ++ spans_of fillers) → length loads0 ≤ length done →
+      AreFilled tree piece holds source total fillers0 (spans_left loads0) fillers done
+  filling_ends {fillers = fillers} {done = done} {loads = loads} loads0 f over =
+      let have : spans_of fillers ≡ [] = none_out loads0 f over in
+      let left : spans_left loads ≡ [] = ap spans_left (none_left loads0 f over) in
+      let whole : done ≡ done ++ (spans_of fillers ++ spans_left loads) = sym (append-nil done) ∙ (λ i. done ++ (sym have i ++ sym left i)) in
+      record {
+        pieces = ap (map piece) whole ∙ f.pieces;
+        tells = ap (map (λ s. is_some (holds s))) whole ∙ f.tells;
+        ranges = λ seen h d. subst (AllByRecursion (HasRange piece holds source seen)) (ap (λ r. done ++ r) have ∙ append-nil done) (f.ranges seen h d);
+        short = f.short;
+      }
 
 -- a turn leaves fewer to deal, or none with the fillers
 pub shrinks : (s s' t l l' d n : ℕ) → s' ≡ t → t + l' ≡ l → (0 < l → l' < l) → d + s + l ≡ n → d < n → s' + 2 * l' < s + 2 * l
