@@ -1,15 +1,9 @@
 //! Looks at a small tree, and at files that change.
-ghost use Rattle.std.specs.Prelude.{◌≡◌, []};
-
 use crate::shared::{all_parsed, parsed, same, so};
 use files_mem::{Call, MemGround};
-use outside::{
-    Failed, Ground, Kind, Lent, LinkError, LinkText, ListError, Listing, Plot, ReadError, Stat,
-    Tops, Tree, WriteError,
-};
+use outside::{Ground, LinkText};
 use path_looks::{Seen, look_at_each, looks_without_faults_are_told};
-use path_text::{OutOfMemory, Path};
-use std::alloc::Global;
+use shifting_files::{Closed, Shifting};
 use std::process::Abort;
 
 // `/t` without a time, with the file `a` of 86400, the link `b` of 0 and the file `b-x` of the last second.
@@ -94,194 +88,25 @@ fn no_path_is_no_look(rt: HostRuntime) {
     same(&rt, &do_look(&rt, &mut files, &[], &[]), &0);
 }
 
-// Files that tell no tree and change at each look: the nth stat answers n as the time of last change.
-#[derive(Drop)]
-struct Restless {
-    stats: u64,
-    lent: Lent,
-}
-
-// A part that tells no nodes, and answers out of memory to each call that writes.
-#[derive(Drop)]
-struct Quiet {
-    tops: Tops,
-}
-
-impl Plot for Quiet {
-    ghost use Rattle.std.specs.Prelude.{None};
-    ghost use Rattle.outside.specs.Writes.{under};
-
-    ghost tree = { λ _. None };
-
-    ghost count = { λ _. 0 };
-
-    ghost area = { λ part. under part.tops };
-
-    fn faults(&self) -> u64 {
-        0
+// Files at `/a`, `/b` and `/c` whose nth stat answers n as the time of last change.
+fn restless(rt: &(impl Abort + AllocGlobal)) -> Closed<Shifting> {
+    let mut seen = MemGround::empty(rt.alloc()).expect(rt, "room");
+    for path in all_parsed(rt, &["/a", "/b", "/c"]) {
+        same(rt, &seen.put_file(&path, b"", None), &Ok(()));
     }
-
-    fn make_dir(&mut self, _alloc: Global, _path: &Path) -> Result<(), WriteError> {
-        Err(WriteError::OutOfMemory)
-    }
-
-    fn make_file(&mut self, _alloc: Global, _path: &Path) -> Result<(), WriteError> {
-        Err(WriteError::OutOfMemory)
-    }
-
-    fn make_link(
-        &mut self,
-        _alloc: Global,
-        _path: &Path,
-        _text: &LinkText,
-    ) -> Result<(), WriteError> {
-        Err(WriteError::OutOfMemory)
-    }
-
-    fn write_at(
-        &mut self,
-        _alloc: Global,
-        _path: &Path,
-        _at: u64,
-        _bytes: &[u8],
-    ) -> Result<(), WriteError> {
-        Err(WriteError::OutOfMemory)
-    }
-
-    fn remove_file(&mut self, _alloc: Global, _path: &Path) -> Result<(), WriteError> {
-        Err(WriteError::OutOfMemory)
-    }
-
-    fn remove_dir(&mut self, _alloc: Global, _path: &Path) -> Result<(), WriteError> {
-        Err(WriteError::OutOfMemory)
-    }
-}
-
-impl Tree for Restless {
-    ghost use Rattle.std.specs.Prelude.{None};
-
-    ghost tree = { λ _. None };
-
-    ghost count = { λ _. 0 };
-
-    fn faults(&self) -> u64 {
-        0
-    }
-
-    fn stat(&mut self, _path: &Path) -> Result<Option<Stat>, Failed> {
-        self.stats = self.stats.saturating_add(1);
-        Ok(Some(Stat {
-            kind: Kind::File,
-            size: 0,
-            mtime: Some(self.stats),
-        }))
-    }
-
-    fn list(&mut self, _alloc: Global, _path: &Path) -> Result<Listing, ListError> {
-        Err(ListError::NotDir)
-    }
-
-    fn read(&mut self, _path: &Path, _at: u64, _into: &mut [u8]) -> Result<usize, ReadError> {
-        Err(ReadError::NotFile)
-    }
-
-    fn read_link(&mut self, _alloc: Global, _path: &Path) -> Result<LinkText, LinkError> {
-        Err(LinkError::NotLink)
-    }
-}
-
-impl Plot for Restless {
-    ghost use Rattle.std.specs.Prelude.{None, []};
-    ghost use Rattle.outside.specs.Writes.{all_but};
-
-    ghost tree = { λ _. None };
-
-    ghost count = { λ _. 0 };
-
-    ghost area = { λ files. all_but files.lent [] };
-
-    fn faults(&self) -> u64 {
-        0
-    }
-
-    fn make_dir(&mut self, _alloc: Global, _path: &Path) -> Result<(), WriteError> {
-        Err(WriteError::OutOfMemory)
-    }
-
-    fn make_file(&mut self, _alloc: Global, _path: &Path) -> Result<(), WriteError> {
-        Err(WriteError::OutOfMemory)
-    }
-
-    fn make_link(
-        &mut self,
-        _alloc: Global,
-        _path: &Path,
-        _text: &LinkText,
-    ) -> Result<(), WriteError> {
-        Err(WriteError::OutOfMemory)
-    }
-
-    fn write_at(
-        &mut self,
-        _alloc: Global,
-        _path: &Path,
-        _at: u64,
-        _bytes: &[u8],
-    ) -> Result<(), WriteError> {
-        Err(WriteError::OutOfMemory)
-    }
-
-    fn remove_file(&mut self, _alloc: Global, _path: &Path) -> Result<(), WriteError> {
-        Err(WriteError::OutOfMemory)
-    }
-
-    fn remove_dir(&mut self, _alloc: Global, _path: &Path) -> Result<(), WriteError> {
-        Err(WriteError::OutOfMemory)
-    }
-}
-
-impl Ground for Restless {
-    type Part = Quiet;
-
-    type Reader = Restless;
-
-    fn reader(&mut self, alloc: Global) -> Result<Restless, OutOfMemory> {
-        Ok(made_restless(alloc))
-    }
-
-    fn take_reader(&mut self, reader: Restless) {
-        self.stats = self.stats.saturating_add(reader.stats);
-    }
-
-    fn lease(&mut self, alloc: Global, tops: &[Path]) -> Result<Quiet, OutOfMemory> {
-        let tops = self.lent.lend(alloc, tops)?;
-        Ok(Quiet { tops })
-    }
-
-    fn give_back(&mut self, part: Quiet) {
-        self.lent.end(&part.tops);
-    }
-}
-
-// Such files, before any call.
-fn made_restless(alloc: Global) -> Restless
-    ensures { result.lent ≡ [] }
-{
-    Restless {
-        stats: 0,
-        lent: Lent::make(alloc),
-    }
+    let found = MemGround::empty(rt.alloc()).expect(rt, "room");
+    Closed::make(rt.alloc(), seen, found)
 }
 
 // A second stat of a path would answer a later time, for it or for the paths after it.
 #[test]
 fn each_path_is_asked_once(rt: HostRuntime) {
-    let mut files = made_restless(rt.alloc());
+    let mut files = restless(&rt);
     let told = [
         ("/a", Seen::At(Some(1))),
         ("/b", Seen::At(Some(2))),
         ("/c", Seen::At(Some(3))),
     ];
     do_look(&rt, &mut files, &["/b", "/a", "/c", "/a", "/b"], &told);
-    same(&rt, &files.stats, &3);
+    same(&rt, &files.calls().stats, &3);
 }

@@ -1,14 +1,13 @@
 //! Lines that call the readers and the files of `real_disk`.
-use crate::disks::{Act, Disk};
-use crate::making::{letters, number_of};
+use crate::making::letters;
 use crate::systems::Stage;
-use crate::troubles::Trouble;
 use outside::Tree;
 use path_text::Path;
 use real_disk::RealReader;
-use script_lines::{put_bytes, put_lines, put_value};
+use script_lines::{Trouble, number_of, put_bytes, put_lines, put_value};
 use std::alloc::Global;
 use std::time::{SystemTime, UNIX_EPOCH};
+use whole_disk::{Act, DiskOver};
 
 // So many names of a listing are told.
 const TOLD: usize = 20;
@@ -143,7 +142,7 @@ fn tell_link(
 /// Does the words of a line that calls the files; whether it does.
 pub fn act(
     alloc: Global,
-    disk: &mut Disk<'_>,
+    disk: &mut DiskOver<Stage<'_>>,
     words: &[String],
     told: &mut String,
 ) -> Result<(), Trouble> {
@@ -180,7 +179,7 @@ fn act_of<'a>(word: &str, rest: &'a [String]) -> Result<Act<'a>, Trouble> {
 
 fn tell_load(
     alloc: Global,
-    disk: &mut Disk<'_>,
+    disk: &mut DiskOver<Stage<'_>>,
     path: &Path,
     told: &mut String,
 ) -> Result<(), Trouble> {

@@ -46,13 +46,11 @@
 #![tactic(auto)]
 
 mod calls;
-mod disks;
 mod making;
 mod rooms;
 mod runs;
 mod scripts;
 mod systems;
-mod troubles;
 mod walks;
 mod worlds;
 

@@ -1,6 +1,5 @@
 //! Nodes that lines make, by calls of the system.
-use crate::troubles::Trouble;
-use script_lines::number;
+use script_lines::{Trouble, number_of};
 use std::alloc::{AllocError, Global};
 use std::fs::Permissions;
 use std::io::ErrorKind;
@@ -62,11 +61,6 @@ fn make_by_number(host: HostRuntime, word: &str, at: &str, value: &str) -> Resul
         _ => return Ok(false),
     }
     Ok(true)
-}
-
-/// The number of a word.
-pub fn number_of(word: &str) -> Result<u64, Trouble> {
-    number(word).ok_or(Trouble::Number)
 }
 
 /// So many small letters in turn.

@@ -1,8 +1,7 @@
 //! Scripts, and the answers of their lines.
 use crate::rooms::Room;
-use crate::troubles::Trouble;
 use crate::worlds::World;
-use script_lines::{is_answer, is_remark};
+use script_lines::{Trouble, is_answer, is_remark};
 use std::fs::File;
 use std::io;
 use std::rt::Clock;

@@ -1,15 +1,13 @@
 //! The directory and the system of a script, and its lines.
 use crate::calls;
-use crate::disks::Disk;
-use crate::making::{deepened, make, number_of};
+use crate::making::{deepened, make};
 use crate::rooms::Room;
 use crate::runs::{Run, ran};
 use crate::systems::{LinkCall, Refusal, Stage};
-use crate::troubles::Trouble;
 use crate::walks::{names, walked};
 use outside::Tree;
 use real_disk::RealReader;
-use script_lines::{put_lines, put_value, words_of};
+use script_lines::{Trouble, number_of, put_lines, put_value, words_of};
 use std::alloc::{AllocError, Global};
 use std::fs;
 use std::fs::File;
@@ -17,6 +15,7 @@ use std::io::ErrorKind;
 use std::rt::Clock;
 use std::sync::Wait;
 use std::thread::Threads;
+use whole_disk::DiskOver;
 
 /// A directory, the system, its files and a reader of them.
 #[derive(Drop)]
@@ -26,7 +25,7 @@ pub struct World<'a> {
     errors: &'a File,
     deep: String,
     stage: Stage<'a>,
-    disk: Disk<'a>,
+    disk: DiskOver<Stage<'a>>,
     reader: Option<RealReader<Stage<'a>>>,
 }
 
@@ -45,7 +44,7 @@ impl<'a> World<'a> {
             errors,
             deep: String::new(host.alloc()),
             stage,
-            disk: Disk::over(host.alloc(), stage),
+            disk: DiskOver::over(host.alloc(), stage),
             reader: None,
         })
     }
@@ -134,7 +133,7 @@ impl<'a> World<'a> {
     // The files of the system, which have not failed yet.
     fn renew(&mut self) {
         self.reader = None;
-        self.disk = Disk::over(self.host.alloc(), self.stage);
+        self.disk = DiskOver::over(self.host.alloc(), self.stage);
     }
 
     /// Does the words of another line, and adds its answer.

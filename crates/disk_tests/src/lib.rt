@@ -2,7 +2,7 @@
 //! up. Calls and runs over a tree that stays are rows of `disk_rows`.
 //!
 //! They stand here, and not in `real_disk`, so that it is proved once: what they call is proved, and they are proved over its
-//! contracts. `rooms` has the folders, and `whole_disk` the files of the system as the tests write them.
+//! contracts. `rooms` has the folders, and the crate `whole_disk` the files of the system as the tests write them.
 #![tactic(auto)]
 
 #[cfg(test)]
@@ -33,7 +33,5 @@ mod swapping;
 mod swaps;
 #[cfg(test)]
 mod taken_over;
-#[cfg(test)]
-mod whole_disk;
 #[cfg(test)]
 mod working_dirs;

@@ -4,11 +4,11 @@ use crate::rooms::{Node, Room};
 use crate::shared::{joined, same, so};
 use crate::swapping::{Moment, Swapping};
 use crate::swaps::{are_listed, exposed_room, room_with_modes};
-use crate::whole_disk::{DiskOver, WholeDisk};
 use outside::{ListError, Tree};
 use real_disk::RealReader;
 use std::process::Abort;
 use std::{fs, io};
+use whole_disk::{DiskOver, WholeDisk};
 
 /// The names in the directory that is looked at.
 const OWN: &str = "empty file link ";

@@ -2,7 +2,6 @@
 use crate::rooms::{Node, Room};
 use crate::screens::{Hand, Screen};
 use crate::shared::{bytes, same, so};
-use crate::whole_disk::{Act, DiskOver};
 use outside::{Ground, Tree};
 use real_disk::{AfterLive, Call, Live, RealGround, Watch, Watched};
 use std::fs::Files;
@@ -11,6 +10,7 @@ use std::os::fd::AsRawFd;
 use std::os::unix::fs::FileExt;
 use std::process::Abort;
 use std::random::RandomSource;
+use whole_disk::{Act, DiskOver};
 
 // So many bytes are written at a time.
 const PIECE: &[u8] = &[7; 65536];

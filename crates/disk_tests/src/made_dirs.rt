@@ -4,11 +4,11 @@ use crate::rooms::{Node, Room};
 use crate::shared::{same, so};
 use crate::swapping::{Moment, Swapping};
 use crate::swaps::{are_listed_by, exposed_room, is_as_before};
-use crate::whole_disk::{Act, DiskOver};
 use outside::WriteError;
 use path_text::Path;
 use std::fs;
 use std::process::Abort;
+use whole_disk::{Act, DiskOver};
 
 // The files of a system in which these two directories were looked at.
 fn looked_over<'a>(

@@ -4,12 +4,12 @@ use crate::listed_dirs::lists;
 use crate::rooms::{Node, Room};
 use crate::shared::{same, so};
 use crate::swaps::{are_listed, is_as_before, looked_at, room_with_modes, swap};
-use crate::whole_disk::{Act, WholeDisk};
 use outside::{LinkError, ListError, ReadError, Tree, WriteError};
 use path_text::MAX_PATH;
 use std::os::unix::fs::{MetadataExt, chown};
 use std::process::Abort;
 use std::{fs, io};
+use whole_disk::{Act, WholeDisk};
 
 // A user other than the one who runs the tests.
 fn another_than(user: u32) -> u32 {

@@ -3,13 +3,13 @@
 use crate::listed_dirs::lists;
 use crate::rooms::{Node, Room};
 use crate::shared::{same, so};
-use crate::whole_disk::{Act, WholeDisk};
 use outside::{LinkError, ListError, ReadError, Tree, WriteError};
 use real_disk::RealReader;
 use std::alloc::Global;
 use std::os::unix::fs::symlink;
 use std::process::Abort;
 use std::{fs, io};
+use whole_disk::{Act, WholeDisk};
 
 /// A directory that is looked at, and another one with the same names.
 const NODES: [(&str, Node<'static>); 9] = [

@@ -5,10 +5,10 @@ use crate::private_dirs::is_kept;
 use crate::rooms::{Node, Room};
 use crate::shared::{same, so};
 use crate::swaps::{are_listed, is_as_before, room_with_modes, swap};
-use crate::whole_disk::{Act, DiskOver, WholeDisk};
 use outside::{Tree, WriteError};
 use real_disk::RealReader;
 use std::process::Abort;
+use whole_disk::{Act, DiskOver, WholeDisk};
 
 // How often a reader asks by a whole path for one look at a directory.
 fn asked_for(

@@ -5,12 +5,12 @@ use crate::private_dirs::is_kept;
 use crate::rooms::Room;
 use crate::shared::{same, so};
 use crate::swaps::{are_listed_by, room_with_modes};
-use crate::whole_disk::{Act, DiskOver};
 use outside::{Kind, Tree};
 use real_disk::RealReader;
 use std::alloc::Global;
 use std::fs;
 use std::process::Abort;
+use whole_disk::{Act, DiskOver};
 
 // A room whose directories only the user and root can write to.
 fn private_room(rt: &impl Abort, host: HostRuntime) -> Room {

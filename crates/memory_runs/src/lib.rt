@@ -30,7 +30,6 @@
 mod blind;
 mod making;
 mod scripts;
-mod troubles;
 mod whole;
 mod worlds;
 

@@ -1,9 +1,9 @@
 //! Nodes that lines make.
-use crate::troubles::Trouble;
 use crate::whole::WholeFiles;
-use files_mem::Call;
+use files_mem::{Call, PutError};
 use outside::LinkText;
 use path_text::Path;
+use script_lines::{Trouble, number_of};
 use std::alloc::Global;
 
 /// A node that a line makes.
@@ -92,22 +92,29 @@ impl Making {
 
     /// Makes the node.
     pub(crate) fn put(self, alloc: Global, files: &mut WholeFiles) -> Result<(), Trouble> {
-        match self.kind {
-            Kind::Dir => files.put_dir(&self.path, self.far, self.time)?,
-            Kind::File => files.put_file(&self.path, self.text.as_bytes(), self.time)?,
-            Kind::Link => {
-                let text = LinkText::parse(alloc, &self.text)?;
-                files.put_link(&self.path, &text, self.time)?;
-            }
-            Kind::Other => files.put_other(&self.path, self.time)?,
+        let put = match self.kind {
+            Kind::Dir => files.put_dir(&self.path, self.far, self.time),
+            Kind::File => files.put_file(&self.path, self.text.as_bytes(), self.time),
+            Kind::Link => match LinkText::parse(alloc, &self.text) {
+                Ok(text) => files.put_link(&self.path, &text, self.time),
+                Err(_) => return Err(Trouble::Link),
+            },
+            Kind::Other => files.put_other(&self.path, self.time),
+        };
+        match put {
+            Ok(()) => Ok(()),
+            Err(error) => Err(trouble_of(error)),
         }
-        Ok(())
     }
 }
 
-/// The number of a word.
-pub(crate) fn number_of(word: &str) -> Result<u64, Trouble> {
-    script_lines::number(word).ok_or(Trouble::Number)
+// Why the line is not done whose node is not put.
+fn trouble_of(error: PutError) -> Trouble {
+    match error {
+        PutError::NoParent => Trouble::NoParent,
+        PutError::Exists => Trouble::Taken,
+        PutError::OutOfMemory => Trouble::Memory,
+    }
 }
 
 static CALLS: [(&str, Call); 12] = [

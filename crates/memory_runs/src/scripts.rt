@@ -1,7 +1,6 @@
 //! Scripts, and the answers of their lines.
-use crate::troubles::Trouble;
 use crate::worlds::World;
-use script_lines::{is_answer, is_remark, meant_by, words_of};
+use script_lines::{Trouble, is_answer, is_remark, meant_by, words_of};
 use std::alloc::{AllocError, Global};
 use std::sync::Wait;
 use std::thread::Threads;

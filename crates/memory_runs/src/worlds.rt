@@ -1,11 +1,10 @@
 //! The files, sinks and time of a script.
 use crate::blind::WholeBlind;
-use crate::making::{Making, call_of, number_of};
-use crate::troubles::Trouble;
+use crate::making::{Making, call_of};
 use crate::whole::WholeFiles;
 use outside::MemSink;
 use path_text::Path;
-use script_lines::put_bytes;
+use script_lines::{Trouble, number_of, put_bytes};
 use std::alloc::Global;
 use std::mem;
 use std::sync::Wait;
@@ -184,7 +183,9 @@ impl World {
         told: &mut String,
     ) -> Result<(), Trouble> {
         let path = Path::parse(alloc, path)?;
-        let bytes = self.whole()?.load(alloc, &path)?;
+        let Ok(bytes) = self.whole()?.load(alloc, &path) else {
+            return Err(Trouble::File);
+        };
         put_bytes(told, '|', &bytes)?;
         Ok(())
     }

@@ -5,6 +5,8 @@
 #![tactic(auto)]
 
 #[cfg(test)]
+mod boards;
+#[cfg(test)]
 mod of_board;
 #[cfg(test)]
 mod of_circle_run;

@@ -3,7 +3,8 @@ ghost use Rattle.std.specs.Prelude.{◌≡◌, ◌<◌, length};
 ghost use Rattle.post_board.specs.Fresh.{fresh};
 ghost use Rattle.post_board.specs.BoardSeats.{IsSeat, shown_by};
 
-use crate::of_post_board::{newest_of, share_and_end, two_of, two_paths};
+use crate::boards::board_of_words;
+use crate::of_post_board::{newest_of, share_and_end, two_paths};
 use post_board::{Answer, Board, BoardSeat, Post, Ring};
 use rank_queue::Batch;
 use ring_core::Colour;
@@ -69,8 +70,7 @@ fn exchange<R: Threads + Sync>(
 
 #[test]
 fn two_threads_exchange_a_batch(rt: HostRuntime) -> Result<(), Fail> {
-    let (board, seats) = Board::make(rt.alloc(), 2)?;
-    let (zero, one) = two_of(seats).ok_or("two seats")?;
+    let (board, zero, one) = board_of_words(rt.alloc())?;
     let batch = two_paths(rt.alloc())?;
     let got = exchange(&rt, &board, zero, one, batch);
     let newest = newest_of(rt.alloc(), got.ok_or("a batch")?)?;
@@ -80,8 +80,7 @@ fn two_threads_exchange_a_batch(rt: HostRuntime) -> Result<(), Fail> {
 
 #[test]
 fn two_ranks_share_strings_over_words_and_end(rt: HostRuntime) -> Result<(), Fail> {
-    let (board, seats) = Board::make(rt.alloc(), 2)?;
-    let (zero, one) = two_of(seats).ok_or("two seats")?;
+    let (board, zero, one) = board_of_words(rt.alloc())?;
     let batch = two_paths(rt.alloc())?;
     let mut post = &board;
     let given = share_and_end(&mut post, rt.alloc(), zero, one, batch)?;
@@ -104,8 +103,7 @@ fn begins<P: Post>(post: &mut P, zero: &mut P::Seat, one: &mut P::Seat) -> bool
 
 #[test]
 fn a_board_of_two_begins(rt: HostRuntime) -> Result<(), Fail> {
-    let (board, seats) = Board::make(rt.alloc(), 2)?;
-    let (mut zero, mut one) = two_of(seats).ok_or("two seats")?;
+    let (board, mut zero, mut one) = board_of_words(rt.alloc())?;
     let mut post = &board;
     assert!(rt; begins(&mut post, &mut zero, &mut one));
     Ok(())

@@ -1,38 +1,14 @@
 //! Ranks of a board hear that all must halt, and take back a request to a rank that has stopped.
-ghost use Rattle.std.specs.Prelude.{◌≡◌, ◌<◌, length, IfOk};
+ghost use Rattle.std.specs.Prelude.{◌≡◌, ◌<◌, length};
 ghost use Rattle.post_board.specs.Fresh.{fresh};
-ghost use Rattle.post_board.specs.Plain.{Seats, shown_by as shown_plainly};
-ghost use Rattle.post_board.specs.BoardSeats.{IsSeat, shown_by};
 
-use crate::of_post_board::{newest_of, two_of, two_paths};
-use post_board::{Answer, Board, BoardSeat, PlainBoard, PlainSeat, Post, Ring};
+use crate::boards::{board_of_words, plain_board};
+use crate::of_post_board::{newest_of, two_paths};
+use post_board::{Answer, Post, Ring};
 use rank_queue::Batch;
 use ring_core::Colour;
-use std::alloc::Global;
 use std::process::Abort;
 use std::test::Fail;
-
-// A plain board of two ranks before any call, and their seats.
-fn plain_board(alloc: Global) -> Result<(PlainBoard, PlainSeat, PlainSeat), Fail>
-    ensures seats { IfOk result (λ made. Seats made.0 made.1 × Seats made.0 made.2) }
-    ensures zero { IfOk result (λ made. shown_plainly made.1 ≡ fresh 2 0 (shown_plainly made.1).batches) }
-    ensures one { IfOk result (λ made. shown_plainly made.2 ≡ fresh 2 1 (shown_plainly made.2).batches) }
-{
-    let (board, seats) = PlainBoard::make(alloc, 2)?;
-    let (zero, one) = two_of(seats).ok_or("two seats")?;
-    Ok((board, zero, one))
-}
-
-// A board of words of two ranks before any call, and their seats.
-fn board_of_words(alloc: Global) -> Result<(Board, BoardSeat, BoardSeat), Fail>
-    ensures seats { IfOk result (λ made. IsSeat made.0 made.1 × IsSeat made.0 made.2) }
-    ensures zero { IfOk result (λ made. shown_by made.1 ≡ fresh 2 0 (shown_by made.1).batches) }
-    ensures one { IfOk result (λ made. shown_by made.2 ≡ fresh 2 1 (shown_by made.2).batches) }
-{
-    let (board, seats) = Board::make(alloc, 2)?;
-    let (zero, one) = two_of(seats).ok_or("two seats")?;
-    Ok((board, zero, one))
-}
 
 // Whether rank 0 has the token and rank 1 has not, and both hear of the halt once rank 0 told all to.
 fn both_hear_a_halt<P: Post>(post: &mut P, zero: &mut P::Seat, one: &mut P::Seat) -> bool

@@ -1,26 +1,17 @@
 //! Two ranks share strings over a board and come to the end, by its trait alone.
-ghost use Rattle.std.specs.Prelude.{◌≡◌, ◌∷◌, ◌<◌, ℕ, [], true, false, length, Option, Some, IfSome, IfOk};
+ghost use Rattle.std.specs.Prelude.{◌≡◌, ◌<◌, ℕ, true, false, length, IfSome, IfOk};
 ghost use Rattle.ring_core.specs.declared.states.Colour.TheVariants.{Black};
-ghost use Rattle.post_board.specs.Fresh.{fresh, AllFresh};
-ghost use Rattle.post_board.specs.Shown.{Batches, Shown, is_served};
+ghost use Rattle.post_board.specs.Fresh.{fresh};
+ghost use Rattle.post_board.specs.Shown.{is_served};
 
+use crate::boards::plain_board;
 use path_text::{OutOfMemory, Path};
-use post_board::{Answer, PlainBoard, Post, Ring};
+use post_board::{Answer, Post, Ring};
 use rank_queue::{Batch, RankQueue};
 use ring_core::Colour;
 use std::alloc::Global;
 use std::process::Abort;
 use std::test::Fail;
-
-/// The two seats of a board of two ranks.
-pub(crate) fn two_of<S: Drop>(mut seats: Vec<S>) -> Option<(S, S)>
-    requires { length seats.items ≡ 2 }
-    ensures { IfSome result (λ pair. seats.items ≡ pair.0 ∷ pair.1 ∷ []) }
-{
-    let one = seats.pop()?;
-    let zero = seats.pop()?;
-    Some((zero, one))
-}
 
 /// The paths `/a` and `/b`.
 pub(crate) fn two_paths(alloc: Global) -> Result<Batch, Fail>
@@ -180,8 +171,7 @@ pub(crate) fn newest_of(alloc: Global, mut given: Batch) -> Result<Option<Path>,
 
 #[test]
 fn two_ranks_share_strings_and_end(rt: HostRuntime) -> Result<(), Fail> {
-    let (mut board, seats) = PlainBoard::make(rt.alloc(), 2)?;
-    let (zero, one) = two_of(seats).ok_or("two seats")?;
+    let (mut board, zero, one) = plain_board(rt.alloc())?;
     let batch = two_paths(rt.alloc())?;
     let given = share_and_end(&mut board, rt.alloc(), zero, one, batch)?;
     let newest = newest_of(rt.alloc(), given.ok_or("a batch")?)?;

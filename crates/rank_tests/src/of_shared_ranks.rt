@@ -4,11 +4,11 @@ ghost use Rattle.post_board.specs.Fresh.{fresh};
 ghost use Rattle.sum_tree.specs.Plain.{fresh as fresh_sums};
 ghost use Rattle.circle_run.specs.Hosts.{Placed};
 
+use crate::boards::{board_of_words, two_of};
 use crate::of_circle_run::Family;
-use crate::of_post_board::two_of;
 use circle_run::{Host, Job, Options, Rank, Share, Split};
 use path_text::{OutOfMemory, Path};
-use post_board::{Board, Post};
+use post_board::Post;
 use rank_queue::{Batch, RankQueue};
 use ring_core::{Event, put_event};
 use std::alloc::Global;
@@ -122,9 +122,8 @@ fn two_ranks_share_one_start_over_words(rt: HostRuntime) -> Result<(), Fail> {
         trace: true,
         stop_after: None,
     };
-    let (board, seats) = Board::make(alloc, 2)?;
+    let (board, zero, one) = board_of_words(alloc)?;
     let (mut sums, sum_seats) = PlainSums::make(alloc, 2, 2)?;
-    let (zero, one) = two_of(seats).ok_or("two seats")?;
     let (zero_sum, one_sum) = two_of(sum_seats).ok_or("two seats of sums")?;
     let mut starts = Batch::make(alloc);
     starts.push(Path::parse(alloc, "/u")?)?;

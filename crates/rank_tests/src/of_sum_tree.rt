@@ -2,7 +2,7 @@
 ghost use Rattle.std.specs.Prelude.{◌≡◌, IsSome};
 ghost use Rattle.sum_tree.specs.Plain.{fresh};
 
-use crate::of_post_board::two_of;
+use crate::boards::two_of;
 use path_text::OutOfMemory;
 use std::alloc::Global;
 use std::process::Abort;

@@ -12,11 +12,13 @@
 //!
 //! A space follows the mark, or a `-` if the line has no line feed. A line that is empty, or begins with `#`, is a remark.
 //! Words are separated by single spaces. In a word `\x20` is a space, and each byte below 128 may be written so. The word `""` is an
-//! empty one.
+//! empty one. A [`Trouble`] says why a line is not done.
 #![tactic(auto)]
 
 mod telling;
+mod troubles;
 mod words;
 
 pub use telling::{other_lines, put_bytes, put_lines, put_value};
+pub use troubles::{Trouble, number_of, small_of};
 pub use words::{is_answer, is_remark, meant_by, number, words_of};

@@ -1,9 +1,8 @@
 //! Command lines, and their commands.
 use crate::tests::said;
-use crate::troubles::Trouble;
 use flat_list::Field;
 use path_text::Path;
-use script_lines::put_value;
+use script_lines::{Trouble, put_value};
 use std::alloc::Global;
 use tool_words::{Command, Common, Start, Tests, Want, WordsError, read_words};
 use tree_cmp::{Exist, Row, Two};

@@ -1,7 +1,6 @@
 //! The cuts of files into ranges.
-use crate::troubles::{Trouble, number_of};
 use range_copy::ranges;
-use script_lines::put_value;
+use script_lines::{Trouble, number_of, put_value};
 use std::alloc::Global;
 
 // If there are more than twice as many cuts, the answer has so many from the front and from the end.
@@ -16,7 +15,9 @@ pub fn tell(alloc: Global, words: &[String], told: &mut String) -> Result<(), Tr
     if piece == 0 || size <= piece {
         return Err(Trouble::Number);
     }
-    let cuts = ranges(alloc, size, piece)?;
+    let Ok(cuts) = ranges(alloc, size, piece) else {
+        return Err(Trouble::Memory);
+    };
     let mut text = String::new(alloc);
     let last = cuts.len().saturating_sub(SHOWN);
     for (k, cut) in cuts.iter().enumerate() {

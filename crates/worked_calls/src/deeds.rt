@@ -1,8 +1,7 @@
 //! The lines of a script, and their calls.
 use crate::held::Held;
-use crate::troubles::Trouble;
 use crate::{commands, cuts, events, lists, notes, pages, paths, queues, tests};
-use script_lines::{is_answer, is_remark, words_of};
+use script_lines::{Trouble, is_answer, is_remark, words_of};
 use std::alloc::{AllocError, Global};
 
 /// The script with the answers of its lines.

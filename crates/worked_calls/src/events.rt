@@ -1,9 +1,8 @@
 //! Events of ranks.
 use crate::lists::tell_text;
-use crate::troubles::{Trouble, number_of, small_of};
 use path_text::{Path, unescape};
 use ring_core::{Colour, Event, World, check_run, step};
-use script_lines::put_value;
+use script_lines::{Trouble, number_of, put_value, small_of};
 use std::alloc::Global;
 use tool_text::{Text, put_trace};
 

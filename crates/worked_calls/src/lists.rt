@@ -1,12 +1,11 @@
 //! Lists: read from a list file, kept, sorted and taken apart.
 use crate::held::Held;
 use crate::tests::test_named;
-use crate::troubles::{Trouble, number_of, small_of};
 use find_tests::{Test, parse_test, select};
 use flat_list::{Entry, Field, FlatList, Mark};
 use outside::{Kind, MemSink, Stat};
 use path_text::Path;
-use script_lines::{put_bytes, put_value};
+use script_lines::{Trouble, number_of, put_bytes, put_value, small_of};
 use std::alloc::Global;
 use tool_text::{Text, put_list, put_summary};
 

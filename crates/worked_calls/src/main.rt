@@ -57,7 +57,6 @@ mod pages;
 mod paths;
 mod queues;
 mod tests;
-mod troubles;
 
 use std::io;
 

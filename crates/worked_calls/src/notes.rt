@@ -1,9 +1,9 @@
 //! Notes, and the lines beside them.
 use crate::held::Held;
 use crate::lists::tell_text;
-use crate::troubles::{Trouble, number_of};
 use circle_run::Share;
 use path_text::Path;
+use script_lines::{Trouble, number_of};
 use std::alloc::Global;
 use std::mem;
 use tool_text::{

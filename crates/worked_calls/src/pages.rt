@@ -1,7 +1,6 @@
 //! The help that words ask for, and the hint after refused words.
-use crate::troubles::Trouble;
 use help_pages::{asked, asked_among, hint, placing};
-use script_lines::{put_lines, put_value};
+use script_lines::{Trouble, put_lines, put_value};
 use std::alloc::{AllocError, Global};
 use tool_words::read_words;
 

@@ -1,9 +1,8 @@
 //! Paths, names and the texts of links.
 use crate::tests::yes_or_no;
-use crate::troubles::{Trouble, number_of};
 use outside::LinkText;
 use path_text::{Path, escape, put_escaped, put_escaped_bytes, unescape, valid_name};
-use script_lines::{put_bytes, put_value};
+use script_lines::{Trouble, number_of, put_bytes, put_value};
 use std::alloc::Global;
 use std::cmp::Ordering;
 

@@ -1,11 +1,10 @@
 //! Queues of ranks, and their random draws.
 use crate::held::Held;
-use crate::troubles::{Trouble, number_of, small_of};
 use path_text::Path;
 use rand_core::utils::NextWord;
 use rand_pcg::Pcg32;
 use rank_queue::{Batch, RankQueue, equal_share, generator, random_share, victim};
-use script_lines::put_value;
+use script_lines::{Trouble, number_of, put_value, small_of};
 use std::alloc::Global;
 use std::mem;
 

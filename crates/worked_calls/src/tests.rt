@@ -1,7 +1,6 @@
 //! Globs, and the tests and expressions of options.
-use crate::troubles::Trouble;
 use find_tests::{Test, TestName, glob_match, parse_test};
-use script_lines::put_value;
+use script_lines::{Trouble, put_value};
 use std::alloc::Global;
 use tree_cmp::parse_expr;
 

@@ -1,8 +1,8 @@
-//! The files of the system as the tests write them: nothing is asked of a path.
+//! The files of a system.
 ghost use Rattle.std.specs.Prelude.{◌≡◌};
 ghost use Rattle.outside.specs.Tree.{is_root};
 
-use outside::{Ground, LinkText, Plot, WriteError};
+use outside::{Ground, LinkText, LoadError, Plot, SaveError, WriteError, load, save};
 use path_text::{OutOfMemory, Path};
 use real_disk::{RealGround, RealReader, Watch};
 use std::alloc::Global;
@@ -12,7 +12,7 @@ use std::os::fd::AsRawFd;
 use std::os::unix::fs::FileExt;
 use std::random::RandomSource;
 
-// More is not written by a test.
+// A call does not write more bytes, nor writes at a later place.
 const MOST: u64 = 1_000_000;
 
 /// A call that writes, with the place and the bytes of a write.
@@ -63,12 +63,12 @@ where
         }
     }
 
-    /// Lets calls change the working directory.
+    /// Lets calls change the working directory of the process.
     pub fn work_alone(&mut self) {
         self.files.work_alone(true);
     }
 
-    /// Does a call that writes. `/` is refused as `Failed`, and so is what a test does not write.
+    /// Does a call that writes. `/` is refused as `Failed`, and so is a write of more than 1,000,000 bytes, or at a later place.
     pub fn act(&mut self, alloc: Global, act: Act<'_>, path: &Path) -> Result<(), WriteError> {
         if is_root(path) {
             return Err(WriteError::Failed);
@@ -87,6 +87,19 @@ where
             Act::RemoveFile => self.files.remove_file(alloc, path),
             Act::RemoveDir => self.files.remove_dir(alloc, path),
         }
+    }
+
+    /// Saves a whole file.
+    pub fn save(&mut self, alloc: Global, path: &Path, bytes: &[u8]) -> Result<(), SaveError> {
+        save(alloc, &mut self.files, path, bytes)
+    }
+
+    /// The bytes of a whole file.
+    pub fn load(&mut self, alloc: Global, path: &Path) -> Result<Vec<u8>, LoadError> {
+        let Ok(mut reader) = self.files.reader(alloc) else {
+            return Err(LoadError::OutOfMemory);
+        };
+        load(alloc, &mut reader, path)
     }
 
     /// A reader of the files as they are now.

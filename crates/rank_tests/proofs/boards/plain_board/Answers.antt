@@ -1,6 +1,6 @@
 use Rattle.post_board.specs.Plain.{shown_by, Seats}
 use Rattle.rank_tests.proofs.Pairs.{both_new}
-use Rattle.rank_tests.proofs.of_halts.plain_board.Goals as goal
+use Rattle.rank_tests.proofs.boards.plain_board.Goals as goal
 
 pub returns : goal.returns
 returns c =

@@ -1,6 +1,6 @@
 use Rattle.post_board.specs.BoardSeats.{shown_by, IsSeat}
 use Rattle.rank_tests.proofs.Pairs.{both_new}
-use Rattle.rank_tests.proofs.of_halts.board_of_words.Goals as goal
+use Rattle.rank_tests.proofs.boards.board_of_words.Goals as goal
 
 pub returns : goal.returns
 returns c =
