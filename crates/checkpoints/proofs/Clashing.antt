@@ -14,11 +14,11 @@ use Rattle.entry_pages.specs.declared.entries.Entry.{Entry}
 use Rattle.flat_list.specs.Spelling.{paths}
 use Rattle.tree_walk.specs.Roots.{is_in}
 use Rattle.tree_walk.proofs.Inside.{in_itself}
-use Rattle.tree_walk.proofs.Lists.{weaker}
 use Rattle.checkpoints.specs.Placing.{is_open, clashes}
 use Rattle.checkpoints.specs.Passing.{Behind, AllBehind, covered, top_with, IsTop, closed_paths, closed_with}
 use Rattle.checkpoints.specs.Passing.{IsBelow, ArePassed, StartsBehind, starts_in, moved, first_of}
 use Rattle.checkpoints.proofs.Tops.{between, behind_trans, behind_in, same_place, less_out, top_push, no_top}
+use Rattle.outside.proofs.Names.{all_weaker}
 
 pub some_bytes : (path : List ℕ) → refusal path ≡ None → 0 < length path
 some_bytes [] r = absurd (cc r)
@@ -180,7 +180,7 @@ clash_passed path (e ∷ es) h =
     one_clash path e (list_any (clashes path) es) (closed_paths es) (less_out e.path path h.0.1 h.0.0) (clash_passed path es h.1)
 
 below_behind : (path : List ℕ) (es : List Entry) → AllByRecursion (IsBelow path) es → AllByRecursion (λ e. Behind e.path path) es
-below_behind path es h = weaker (IsBelow path) (λ e. Behind e.path path) (λ e b. less_behind e.path path b.0) es h
+below_behind path es h = all_weaker (IsBelow path) (λ e. Behind e.path path) (λ e b. less_behind e.path path b.0) es h
 
 or_less : (a b c : Bool) → (b ≡ true → a ≡ true) → (a || (b && c)) ≡ a
 or_less true b c h = refl
@@ -202,7 +202,7 @@ starts_all path e (r ∷ es) some n h t =
       | false ↦ λ f t. starts_all path e es some n h.1 t
     ] refl t
 
-or_first : (a b : Bool) → (b ≡ true → a ≡ true) → (a || b) ≡ a
+pub or_first : (a b : Bool) → (b ≡ true → a ≡ true) → (a || b) ≡ a
 or_first true b h = refl
 or_first false true h = absurd (false≢true (h refl))
 or_first false false h = refl

@@ -18,6 +18,7 @@ use Rattle.tree_walk.proofs.Inside.{in_itself}
 use Rattle.tree_walk.proofs.Lists.{all_map}
 use Rattle.checkpoints.specs.Passing.{Behind, AllBehind, covered, IsTop, starts_at, Numbered, paths_in}
 use Rattle.checkpoints.proofs.Tops.{behind_in, same_place}
+use Rattle.checkpoints.proofs.Clashing.{or_first}
 
 -- ---- paths in path order, each maybe several times
 
@@ -72,11 +73,6 @@ any_later x y (z ∷ zs) some n h g t =
           ap (is_in x) (sym same) ∙ in_itself x
       | false ↦ λ e t. any_later x y zs some n h.1 g.1 t
     ] refl t
-
-or_first : (a b : Bool) → (b ≡ true → a ≡ true) → (a || b) ≡ a
-or_first true b h = refl
-or_first false true h = absurd (false≢true (h refl))
-or_first false false h = refl
 
 any_behind : (x : List ℕ) (behind : List (List ℕ)) → 0 < length x → AllByRecursion (Behind x) behind → Rises behind →
     list_any (is_in x) behind ≡ starts_at x behind

@@ -31,7 +31,7 @@ use Rattle.run_entries.specs.Saving.{output_of}
 use Rattle.run_entries.specs.Stopping.{StopsListing}
 use Rattle.checkpoints.specs.Kept.{list_path, checkpoint_paths, HoldsEntries, IsKept}
 use Rattle.checkpoints.specs.Placing.{is_misplaced, ArePlaced, IsFirstMisplaced}
-use Rattle.checkpoints.specs.Stopping.{stop_by, HasNoRanks, HasMisplaced, IsGone, WroteNoRanks, WroteNoList, WroteTorn}
+use Rattle.checkpoints.specs.Stopping.{stop_of_lists, HasNoRanks, HasMisplaced, IsGone, WroteNoRanks, WroteNoList, WroteTorn}
 use Rattle.checkpoints.specs.Laws.{CheckpointsAreOne, IsFineKept, FineReadsStopForMemory, IsFree, FineWritesStopForMemory}
 use Rattle.checkpoints.proofs.Paths.{dir_differs, file_differs, list_differs, parent_of_list}
 
@@ -174,7 +174,7 @@ ranks_for_memory dir done left files before after why laws told stood f s =
     let stops = subst (λ t. lists.StopsReading dir t before.count after.count s.error) told s.stops in
     let is = one_of dir left files stops.rank stops.known laws.ranks f.some f.kept.ranks stops.reached in
     let error = rank_for_memory dir left files stops.rank stops.known before.count after.count s.error laws.damage stood f.kept.ranks f.fit is stops.stops in
-    s.told ∙ ap stop_by error
+    s.told ∙ ap stop_of_lists error
 
 pub reads_for_memory : Laws → FineReadsStopForMemory
 reads_for_memory laws dir done left files before after why told stood f (inl is) = is
@@ -210,7 +210,7 @@ ranks_written : (dir : List ℕ) (ranks : ℕ) (files : Files) (before after : S
     WroteNoRanks dir ranks before after why → why ≡ stop.OutOfMemory
 ranks_written dir ranks files before after why told stood free s =
     let stops = subst (λ t. lists.StopsWriting dir ranks t before.count after.count s.error) told s.stops in
-    s.told ∙ ap stop_by (rank_written dir stops.rank files before.count after.count s.error stood (free stops.rank stops.within) stops.stops)
+    s.told ∙ ap stop_of_lists (rank_written dir stops.rank files before.count after.count s.error stood (free stops.rank stops.within) stops.stops)
 
 -- the removal of the old list file leaves each file its place
 place_left : (dir p : List ℕ) (old mid : Files) → parent_of p ≡ dir → pointwise nat_eq p (list_path dir) ≡ false → IsGone (list_path dir) old mid →

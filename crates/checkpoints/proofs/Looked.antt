@@ -12,7 +12,6 @@ use Rattle.path_text.specs.Order.{path_cmp}
 use Rattle.path_text.specs.Total.{path_cmp_total}
 use Rattle.entry_pages.specs.declared.entries.Entry.{Entry}
 use Rattle.tree_walk.specs.Roots.{is_in}
-use Rattle.tree_walk.proofs.Lists.{weaker}
 use Rattle.checkpoints.specs.Placing.{clashes, is_misplaced}
 use Rattle.checkpoints.specs.Passing.{Behind, covered, top_with, IsTop, IsBelow, ArePassed, starts_at, Numbered, paths_in, lowest_with, IsLowest}
 use Rattle.checkpoints.proofs.Tops.{no_top, top_push, less_after}
@@ -20,6 +19,7 @@ use Rattle.checkpoints.proofs.Clashing.{nothing_passed}
 use Rattle.checkpoints.proofs.Counting.{Rises, rises, rises_before, again_is}
 use Rattle.checkpoints.proofs.Lowest.{no_lowest, lowest_push}
 use Rattle.checkpoints.proofs.Numbers.{IsAt, take_push}
+use Rattle.outside.proofs.Names.{all_weaker}
 
 -- how far the pass has come: so many left strings were looked at, and this is known of them and of the entries
 pub record State : Type 0 where
@@ -54,7 +54,7 @@ pub record IsLook (lefts : Numbered) (s : State) (l : ℕ × List ℕ) (ahead : 
 later_passed : (passed : List Entry) (closed : Option (List ℕ)) (x y : List ℕ) → Behind x y → ArePassed passed closed x → ArePassed passed closed y
 later_passed passed closed x y n p = record {
   top = p.top;
-  below = weaker (IsBelow x) (IsBelow y) (λ e b. (less_after e.path x y b.0 n, b.1)) passed p.below;
+  below = all_weaker (IsBelow x) (IsBelow y) (λ e b. (less_after e.path x y b.0 n, b.1)) passed p.below;
 }
 
 cut : (lefts : Numbered) (at : ℕ) (l : ℕ × List ℕ) → IsAt lefts at l → paths_in lefts ≡ paths_in (take at lefts) ++ l.1 ∷ drop (at + 1) (paths_in lefts)

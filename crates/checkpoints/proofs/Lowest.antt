@@ -3,7 +3,7 @@ use Rattle.std.proofs.Common.{◌≡◌, ℕ, ◌+◌, ◌<◌, Bool, true, fals
 use Rattle.std.proofs.Common.{Option, Some, None, min}
 use Rattle.std.specs.Prelude.{nat_lt}
 use Rattle.std.specs.List.{All, Contains, enumerate_from}
-use Rattle.std.proofs.lemmas.Bool.{false≢true}
+use Rattle.std.proofs.lemmas.Bool.{false≢true, false_from_ne_true}
 use Rattle.std.proofs.lemmas.Bool.Decides.{nat_tests}
 use Rattle.std.proofs.lemmas.List.{get_or_append_left, get_or_at, length-append}
 use Rattle.std.proofs.lemmas.List.Elements.{All-nil, All-push, All-weaker, Contains-append_left, Contains-push}
@@ -82,10 +82,6 @@ lowest_push test lefts l lowest low =
 
 -- ---- where the numbers are places
 
-not_true : (b : Bool) → (b ≡ true → ⊥) → b ≡ false
-not_true true h = absurd (h refl)
-not_true false h = refl
-
 -- of those that pass no number is as low as this
 low_at : (test : List ℕ → Bool) (lowest : Option ℕ) (flat : List (List ℕ)) → All (λ l. test l.1 ≡ true → IsUpTo lowest l.0) (enumerate_from 0 flat) →
     (k : ℕ) (d : List ℕ) → k < length flat → test (get_or flat k d) ≡ true → IsUpTo lowest k
@@ -98,11 +94,11 @@ low_at test lowest flat u k d h t =
 
 pub none_passes : (test : List ℕ → Bool) (flat : List (List ℕ)) → All (λ l. test l.1 ≡ true → IsUpTo None l.0) (enumerate_from 0 flat) →
     All (λ q. test q ≡ false) flat
-none_passes test flat u k d h = not_true (test (get_or flat k d)) (λ t. low_at test None flat u k d h t)
+none_passes test flat u k d h = false_from_ne_true (test (get_or flat k d)) (λ t. low_at test None flat u k d h t)
 
 pub before_passes : (test : List ℕ → Bool) (before rest : List (List ℕ)) →
     All (λ l. test l.1 ≡ true → IsUpTo (Some (length before)) l.0) (enumerate_from 0 (before ++ rest)) → All (λ q. test q ≡ false) before
-before_passes test before rest u k d h = not_true (test (get_or before k d)) (λ t.
+before_passes test before rest u k d h = false_from_ne_true (test (get_or before k d)) (λ t.
     let inside : k < length (before ++ rest) = omega (arith, h, length-append before rest) in
     let low = low_at test (Some (length before)) (before ++ rest) u k d inside (ap test (get_or_append_left before rest d k h) ∙ t) in
     absurd (omega (arith, low, h)))

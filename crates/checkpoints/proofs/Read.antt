@@ -13,7 +13,7 @@ use Rattle.run_report.specs.Sides.{Side}
 use Rattle.run_entries.specs.Entries.{IsRead}
 use Rattle.checkpoints.specs.Kept.{list_path}
 use Rattle.checkpoints.specs.Placing.{IsFirstMisplaced}
-use Rattle.checkpoints.specs.Stopping.{stop_by, HasNoRanks}
+use Rattle.checkpoints.specs.Stopping.{stop_of_lists, HasNoRanks}
 
 -- no memory for the first file
 pub starved : (dir : List ℕ) (tree : Option Files) (before after : ℕ) → StopsReading dir tree before after error.OutOfMemory
@@ -23,7 +23,7 @@ starved dir tree before after = record { rank = 0; known = None; reached = refl;
 
 pub no_ranks : (dir path : List ℕ) (done : List Entry) (before after : Side) (tree : Option Files) (between : ℕ) (error : ListsError) (why : Stop) →
     path ≡ list_path dir → IsRead path done before → tree ≡ before.tree → before.count ≤ between → StopsReading dir tree between after.count error →
-    why ≡ stop_by error → HasNoRanks dir before after why
+    why ≡ stop_of_lists error → HasNoRanks dir before after why
 no_ranks dir path done before after tree between error why is list same later s told = record {
   done = done;
   list = subst (λ p. IsRead p done before) is list;

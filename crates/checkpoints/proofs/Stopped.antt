@@ -16,7 +16,7 @@ use Rattle.run_entries.specs.Saving.{output_of}
 use Rattle.run_entries.specs.Stopping.{StopsSaving}
 use Rattle.checkpoints.specs.Kept.{list_path}
 use Rattle.checkpoints.specs.PrivateRemoval.{IsMeant}
-use Rattle.checkpoints.specs.Stopping.{stop_by, IsCleared, StopsWriting}
+use Rattle.checkpoints.specs.Stopping.{stop_of_lists, IsCleared, StopsWriting}
 
 -- why the old list file is not removed
 abbrev pub NotRemoved : List ℕ → ℕ → ℕ → Stop → Type 0
@@ -46,7 +46,7 @@ kept_stops dir ranks done before after why (inl memory) = inl memory
 kept_stops dir ranks done before after why (inr fault) = inr (inr (inl (record { counted = fault.1; told = fault.0 })))
 
 pub ranks_stop : (dir : List ℕ) (ranks : ℕ) (done : List Entry) (before mid after : Side) (error : ListsError) (why : Stop) → IsCleared dir before mid →
-    mid.count ≤ after.count → lists.StopsWriting dir ranks mid.tree mid.count after.count error → why ≡ stop_by error →
+    mid.count ≤ after.count → lists.StopsWriting dir ranks mid.tree mid.count after.count error → why ≡ stop_of_lists error →
     IfSome mid.tree (λ files. IfSome after.tree (SameButFiles dir ranks files)) → StopsWriting dir ranks done before after why
 ranks_stop dir ranks done before mid after error why cleared still stops told rest =
     inr (inr (inr (record {

@@ -6,13 +6,13 @@ use Rattle.std.specs.List.{AllByRecursion, list_any}
 use Rattle.std.specs.Ordering.{nat_cmp, ordering_then, is_lt, ordering_reverse}
 use Rattle.std.specs.declared.cmp.Ordering.{Ordering}
 use Rattle.std.specs.declared.cmp.Ordering.TheVariants.{Less, Equal, Greater}
-use Rattle.std.proofs.lemmas.Bool.{false≢true}
+use Rattle.std.proofs.lemmas.Bool.{false≢true, and_parts}
 use Rattle.std.proofs.lemmas.Bool.Decides.{nat_tests}
 use Rattle.path_text.specs.Order.{path_cmp, byte_rank, front}
 use Rattle.path_text.specs.Total.{path_cmp_total, path_cmp_same}
 use Rattle.path_text.proofs.Preorder.{precedes}
 use Rattle.tree_walk.specs.Roots.{is_in}
-use Rattle.tree_walk.proofs.Inside.{begins, both, is_in_is, in_itself, in_trans, begins-itself, begins-less, begins-length}
+use Rattle.tree_walk.proofs.Inside.{begins, is_in_is, in_itself, in_trans, begins-itself, begins-less, begins-length}
 use Rattle.tree_walk.proofs.Covers.{in_line, not_both}
 use Rattle.tree_walk.proofs.Rooted.{before_later}
 use Rattle.checkpoints.specs.Passing.{Behind, AllBehind, covered, top_with, IsTop}
@@ -63,10 +63,6 @@ behind_trans x y z n m = behind_cases (Behind x z) x y n (λ s. subst (λ w. Beh
     let less = path_cmp_total.trans x y z l r in ap is_lt (path_cmp_total.antisymm z x ∙ ap ordering_reverse less)))
 
 -- ---- the top of paths
-
-or_true : (a b : Bool) → b ≡ true → (a || b) ≡ true
-or_true true b e = refl
-or_true false b e = e
 
 or_false : (b : Bool) → (b || false) ≡ b
 or_false true = refl
@@ -135,7 +131,7 @@ begins_front : (p x r : List ℕ) → begins p (x ++ r) ≡ true → length p �
 begins_front [] x r e l = refl
 begins_front (a ∷ p) [] r e l = absurd (omega arith)
 begins_front (a ∷ p) (b ∷ x) r e l =
-    let h = both (a == b) (begins p (x ++ r)) e in
+    let h = and_parts (a == b) (begins p (x ++ r)) e in
     ap (λ c. c && begins p x) h.0 ∙ begins_front p x r h.1 (omega arith)
 
 not_less : (a b : ℕ) (p : Bool) (r : Ordering) → (a == b && p) ≡ true → (p ≡ true → is_lt r ≡ false) →
@@ -143,7 +139,7 @@ not_less : (a b : ℕ) (p : Bool) (r : Ordering) → (a == b && p) ≡ true → 
 not_less a b p r e h =
     let same : byte_rank b ≡ byte_rank a = grind (arith, nat_tests) in
     let tie : nat_cmp (byte_rank b) (byte_rank a) ≡ Equal = grind (arith, nat_tests) in
-    ap (λ c. is_lt (ordering_then c r)) tie ∙ h (both (a == b) p e).1
+    ap (λ c. is_lt (ordering_then c r)) tie ∙ h (and_parts (a == b) p e).1
 
 behind_begins : (p x : List ℕ) → begins p x ≡ true → Behind p x
 behind_begins [] [] e = refl

@@ -7,7 +7,7 @@ use Rattle.path_text.specs.Path.{joined}
 use Rattle.outside.specs.Tree.{Files}
 use Rattle.outside.specs.Whole.{HoldsFile}
 use Rattle.entry_pages.specs.declared.entries.Entry.{Entry}
-use Rattle.flat_list.specs.Spelling.{Spells, SpellsAs}
+use Rattle.flat_list.specs.Spelling.{Spells, SpellsAs, max_entries}
 use Rattle.flat_list.specs.declared.versions.Version.TheVariants.{Two}
 use Rattle.circle_lists.specs.Spelling.{IsRank}
 use Rattle.circle_lists.specs.Checkpoint.{file_path, HoldLists}
@@ -39,7 +39,7 @@ pub record IsKept (dir : List ℕ) (done : List Entry) (left : List (List (List 
 -- a checkpoint was read: where the files tell their tree they hold it
 pub record IsCheckpoint (dir : List ℕ) (before : Side) (done : List Entry) (left : List (List (List ℕ))) : Type 0 where
   pub list : IsRead (list_path dir) done before
-  pub few : length done ≤ 4194304
+  pub few : length done ≤ max_entries
   pub ranks : IfSome before.tree (HoldLists dir left)
   pub number : IsRank 0 (length left)
   -- and each left string can stand beside the done entries and the other left strings

@@ -6,6 +6,7 @@ use Rattle.outside.specs.Tree.{Files}
 use Rattle.outside.specs.Count.{StoodStill}
 use Rattle.outside.specs.Whole.{can_save}
 use Rattle.entry_pages.specs.declared.entries.Entry.{Entry}
+use Rattle.flat_list.specs.Spelling.{max_entries}
 use Rattle.circle_lists.specs.Checkpoint.{AllFit}
 use Rattle.run_report.specs.declared.stops.Stop.{Stop}
 use Rattle.run_report.specs.declared.stops.Stop.TheVariants as stop
@@ -25,7 +26,7 @@ CheckpointsAreOne =
 pub record IsFineKept (dir : List ℕ) (done : List Entry) (left : List (List (List ℕ))) (files : Files) : Type 0 where
   pub kept : IsKept dir done left files
   pub some : 0 < length left
-  pub few : length done ≤ 4194304
+  pub few : length done ≤ max_entries
   pub placed : ArePlaced done (flat_map (λ l. l) left)
   pub near : length (list_path dir) ≤ 4095
   pub fit : AllFit dir (length left)

@@ -22,12 +22,12 @@ use Rattle.checkpoints.specs.Kept.{list_path}
 use Rattle.checkpoints.specs.Placing.{IsFirstMisplaced}
 
 -- the stop that an error of the ranks' files is
-abbrev pub stop_by : ListsError → Stop
-stop_by (error.Failed path) = stop.ListFile trouble.Fault path
-stop_by error.OutOfMemory = stop.OutOfMemory
-stop_by (error.Damaged path line) = stop.Damaged path line
-stop_by (error.NoFile path) = stop.ListFile trouble.Absent path
-stop_by (error.NoPlace path) = stop.ListFile trouble.NoPlace path
+abbrev pub stop_of_lists : ListsError → Stop
+stop_of_lists (error.Failed path) = stop.ListFile trouble.Fault path
+stop_of_lists error.OutOfMemory = stop.OutOfMemory
+stop_of_lists (error.Damaged path line) = stop.Damaged path line
+stop_of_lists (error.NoFile path) = stop.ListFile trouble.Absent path
+stop_of_lists (error.NoPlace path) = stop.ListFile trouble.NoPlace path
 
 -- ---- reading
 
@@ -47,7 +47,7 @@ pub record HasNoRanks (dir : List ℕ) (before after : Side) (why : Stop) : Type
   pub list : IsRead (list_path dir) done before
   pub error : ListsError
   pub stops : lists.StopsReading dir before.tree before.count after.count error
-  pub told : why ≡ stop_by error
+  pub told : why ≡ stop_of_lists error
 
 -- the stop names the first left string that is misplaced, by the file of its rank and by its line. The head is line 1
 pub record TellsMisplaced (dir : List ℕ) (done : List Entry) (left : List (List (List ℕ))) (why : Stop) : Type 0 where
@@ -97,7 +97,7 @@ pub record IsCleared (dir : List ℕ) (before after : Side) : Type 0 where
 pub record WroteNoRanks (dir : List ℕ) (ranks : ℕ) (before after : Side) (why : Stop) : Type 0 where
   pub error : ListsError
   pub stops : lists.StopsWriting dir ranks before.tree before.count after.count error
-  pub told : why ≡ stop_by error
+  pub told : why ≡ stop_of_lists error
   pub rest : IfSome before.tree (λ files. IfSome after.tree (SameButFiles dir ranks files))
 
 -- they were, each at a place that it had before, and the list file was not

@@ -1,7 +1,7 @@
 //! The path of the list file, and the stop of an error at the files of the ranks.
 ghost use Rattle.std.specs.Prelude.{◌≡◌, ◌<◌, ◌≤◌, IfOk, IfSome, IfNone, length};
 ghost use Rattle.checkpoints.specs.Kept.{list_path};
-ghost use Rattle.checkpoints.specs.Stopping.{stop_by};
+ghost use Rattle.checkpoints.specs.Stopping.{stop_of_lists};
 
 use circle_lists::ListsError;
 use path_text::{JoinError, OutOfMemory, Path};
@@ -21,8 +21,8 @@ pub(crate) fn list_in(dir: &Path) -> Result<Option<Path>, OutOfMemory>
 }
 
 /// The stop of an error at the files of the ranks.
-pub(crate) fn stop_by(error: ListsError) -> Stop
-    ensures { result ≡ stop_by error }
+pub(crate) fn stop_of_lists(error: ListsError) -> Stop
+    ensures { result ≡ stop_of_lists error }
 {
     match error {
         ListsError::Failed(path) => Stop::ListFile(Trouble::Fault, path),

@@ -14,7 +14,7 @@ ghost use Rattle.checkpoints.specs.Placing.{ArePlaced};
 ghost use Rattle.checkpoints.specs.Kept.{IsCheckpoint};
 ghost use Rattle.checkpoints.specs.Stopping.{TellsMisplaced, StopsReading};
 
-use crate::naming::{list_in, stop_by};
+use crate::naming::{list_in, stop_of_lists};
 use crate::placing::first_misplaced;
 use circle_lists::{ListsError, file_in, read_lists};
 use flat_list::FlatList;
@@ -55,7 +55,7 @@ pub fn read_checkpoint<G: Ground>(
     let done = read_list(alloc, files, path)?;
     let left = match read_left(alloc, files, dir) {
         Ok(left) => left,
-        Err(error) => return Err(stop_by(error)),
+        Err(error) => return Err(stop_of_lists(error)),
     };
     look_placed(alloc, dir, &done, &left)?;
     Ok(Checkpoint { done, left })

@@ -14,7 +14,7 @@ ghost use Rattle.checkpoints.specs.Kept.{list_path, checkpoint_paths, IsKept, Ho
 ghost use Rattle.checkpoints.specs.Stopping.{IsCleared, IsGone, IsTorn, StopsWriting};
 ghost use Rattle.checkpoints.specs.PrivateRemoval.{IsMeant};
 
-use crate::naming::{list_in, stop_by};
+use crate::naming::{list_in, stop_of_lists};
 use circle_lists::write_lists;
 use flat_list::FlatList;
 use outside::{Ground, Plot, WriteError};
@@ -55,7 +55,7 @@ pub fn write_checkpoint<G: Ground>(
     };
     clear_list(alloc, files, dir, &path)?;
     if let Err(error) = write_lists(alloc, files, dir, left) {
-        return Err(stop_by(error));
+        return Err(stop_of_lists(error));
     }
     save_list(alloc, files, Some(path), done)
 }

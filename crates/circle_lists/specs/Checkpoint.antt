@@ -60,7 +60,7 @@ pub record HasPlace (dir : List ℕ) (tree : Option Files) (rank : ℕ) : Type 0
   pub free : IfSome tree (λ files. can_save files (file_path dir rank) ≡ true)
 
 -- the path is the folder's, since that of the rank's file would be too long
-pub record IsTooLong (dir : List ℕ) (rank : ℕ) (path : List ℕ) : Type 0 where
+pub record HasTooLongName (dir : List ℕ) (rank : ℕ) (path : List ℕ) : Type 0 where
   pub folder : path ≡ dir
   pub long : 4095 < length (file_path dir rank)
 
@@ -82,7 +82,7 @@ StopsWritingAt dir rank tree before after (error.Failed path) = FailedAt dir ran
 StopsWritingAt dir rank tree before after error.OutOfMemory = Unit {0}
 StopsWritingAt dir rank tree before after (error.Damaged path line) = ⊥
 StopsWritingAt dir rank tree before after (error.NoFile path) = ⊥
-StopsWritingAt dir rank tree before after (error.NoPlace path) = IsTooLong dir rank path ⊎ HasNoPlace dir rank tree path
+StopsWritingAt dir rank tree before after (error.NoPlace path) = HasTooLongName dir rank path ⊎ HasNoPlace dir rank tree path
 
 -- why not all lists are written: one of them is not written, and there is a place for those before it
 pub record StopsWriting (dir : List ℕ) (ranks : ℕ) (tree : Option Files) (before after : ℕ) (why : ListsError) : Type 0 where
@@ -110,7 +110,7 @@ abbrev pub StopsReadingAt : List ℕ → ℕ → Option ℕ → Option Files →
 StopsReadingAt dir rank known tree before after (error.Failed path) = FailedAt dir rank path before after
 StopsReadingAt dir rank known tree before after error.OutOfMemory = Unit {0}
 StopsReadingAt dir rank known tree before after (error.Damaged path line) = IsDamagedAt dir rank known tree path line
-StopsReadingAt dir rank known tree before after (error.NoFile path) = IsTooLong dir rank path ⊎ IsAbsent dir rank tree path
+StopsReadingAt dir rank known tree before after (error.NoFile path) = HasTooLongName dir rank path ⊎ IsAbsent dir rank tree path
 StopsReadingAt dir rank known tree before after (error.NoPlace path) = ⊥
 
 -- the files of the lower ranks hold lists of a checkpoint of this number of ranks. Before the first file, the number is not known

@@ -20,7 +20,7 @@ use Rattle.run_report.specs.declared.stops.Stop.{Stop}
 use Rattle.run_report.specs.declared.stops.Stop.TheVariants as stop
 use Rattle.run_report.specs.Sides.{Side, side_with}
 use Rattle.run_entries.specs.declared.saving.Output.{Output}
-use Rattle.run_entries.specs.Both.{WalksBoth, StopsWalking}
+use Rattle.run_entries.specs.Both.{WalksBoth, StopsEitherWalk}
 use Rattle.run_entries.specs.Fine.{IsFineSide}
 use Rattle.run_entries.specs.Naming.{failures_of}
 use Rattle.run_entries.specs.Saving.{Saved, SameButOutputs}
@@ -85,7 +85,7 @@ pub record StopsAfterComparing (asked : CompareAsked) (before after : Side) (why
 abbrev pub StopsCompare : CompareAsked → Side → Side → Stop → Type 0
 StopsCompare asked before after why =
     (why ≡ stop.OutOfMemory)
-    ⊎ ((StopsWalking asked.left asked.right before after why × (after.tree ≡ before.tree)) ⊎ StopsAfterComparing asked before after why)
+    ⊎ ((StopsEitherWalk asked.left asked.right before after why × (after.tree ≡ before.tree)) ⊎ StopsAfterComparing asked before after why)
 
 -- the paths that it may have changed: the files that are to be written, and no other
 abbrev pub LeavesCompare : CompareAsked → Option Files → Option Files → Type 0

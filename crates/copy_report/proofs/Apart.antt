@@ -1,9 +1,9 @@
 -- What stands apart: the sources of pairs, and where the paths within them go.
-use Rattle.std.proofs.Common.{◌≡◌, ◌⊎◌, inl, inr, ⊎_elim, ℕ, ◌<◌, ◌≤◌, zero, suc, get_or, Bool, true, false, cond, ◌||◌, List, [], ◌∷◌}
-use Rattle.std.proofs.Common.{◌++◌, length, None, refl, ap, ◌∙◌, sym, subst, arith, length-append}
+use Rattle.std.proofs.Common.{◌≡◌, ◌⊎◌, inl, inr, ⊎_elim, ℕ, ◌≤◌, Bool, true, false, cond, ◌||◌, List, [], ◌∷◌}
+use Rattle.std.proofs.Common.{◌++◌, None, refl, ap, ◌∙◌, sym, subst, length-append}
 use Rattle.std.proofs.lemmas.Bool.{false≢true, or_parts}
 use Rattle.std.specs.Prelude.{nat_eq, ◌==◌}
-use Rattle.std.specs.List.{AllByRecursion, Contains, list_any}
+use Rattle.std.specs.List.{AllByRecursion, list_any}
 use Rattle.std.specs.Cmp.Lexicographic.{pointwise, bytes_decides}
 use Rattle.path_text.specs.Path.{refusal, parent_of}
 use Rattle.path_text.specs.Order.{front, is_under, is_within}
@@ -15,20 +15,9 @@ use Rattle.outside.specs.Tree.{is_root}
 use Rattle.tree_copy.specs.Copying.{target_of}
 use Rattle.tree_copy.specs.Placing.{overlap}
 use Rattle.tree_copy.specs.declared.pairs.Pair.{Pair}
+use Rattle.tree_walk.proofs.Standing.{In}
 
 -- ---- what stands in a list of paths
-
-abbrev pub In : List ℕ → List (List ℕ) → Type 0
-In x [] = ⊥
-In x (y ∷ ys) = (x ≡ y) ⊎ In x ys
-
-pub in_list : (xs : List (List ℕ)) (x : List ℕ) → Contains xs x → In x xs
-in_list xs x c = at xs c.0 x c.1 c.2
-  where
-    at : (xs : List (List ℕ)) (k : ℕ) (x : List ℕ) → k < length xs → get_or xs k x ≡ x → In x xs
-    at [] k x h e = absurd (omega (arith, h))
-    at (y ∷ ys) zero x h e = inl (sym e)
-    at (y ∷ ys) (suc k) x h e = inr (at ys k x (omega (arith, h)) e)
 
 pub in_front : (x : List ℕ) (xs ys : List (List ℕ)) → In x xs → In x (xs ++ ys)
 in_front x [] ys i = absurd i

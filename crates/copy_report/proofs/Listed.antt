@@ -1,6 +1,6 @@
 -- Where an entry stands whose directory was listed.
-use Rattle.std.proofs.Common.{◌≡◌, ◌⊎◌, inl, inr, ⊎_elim, ℕ, Bool, true, false, cond, ◌||◌, ◌&&◌, List, [], ◌∷◌, map, Option, Some, None, refl, ap, ◌∙◌, sym}
-use Rattle.std.proofs.lemmas.Bool.{false≢true}
+use Rattle.std.proofs.Common.{◌≡◌, ◌⊎◌, inl, inr, ⊎_elim, ℕ, true, false, cond, ◌||◌, ◌&&◌, List, [], ◌∷◌, map, Option, Some, None, refl, ap, ◌∙◌, sym}
+use Rattle.std.proofs.lemmas.Bool.{false≢true, or_left, or_right, and_parts, or_cases}
 use Rattle.std.specs.Prelude.{is_some, nat_eq}
 use Rattle.std.specs.List.{list_any, filter}
 use Rattle.std.specs.Cmp.Lexicographic.{pointwise, bytes_decides}
@@ -11,33 +11,17 @@ use Rattle.entry_pages.specs.Entries.{is_of}
 use Rattle.tree_copy.specs.Copying.{target_of, is_target}
 use Rattle.tree_copy.specs.declared.pairs.Pair.{Pair}
 use Rattle.tree_walk.specs.Told.{has_dir}
-use Rattle.copy_report.proofs.Apart.{In}
-
-or_left : (a b : Bool) → a ≡ true → (a || b) ≡ true
-or_left true b e = refl
-or_left false b e = absurd (false≢true e)
-
-or_right : (a b : Bool) → b ≡ true → (a || b) ≡ true
-or_right true b e = refl
-or_right false b e = e
-
-both_of : (a b : Bool) → (a && b) ≡ true → (a ≡ true) × (b ≡ true)
-both_of true b e = (refl, e)
-both_of false b e = absurd (false≢true e)
-
-one_of : (a b : Bool) → (a || b) ≡ true → (a ≡ true) ⊎ (b ≡ true)
-one_of true b e = inl refl
-one_of false b e = inr e
+use Rattle.tree_walk.proofs.Standing.{In}
 
 among : (x : List ℕ) (xs : List (List ℕ)) → list_any (pointwise nat_eq x) xs ≡ true → In x xs
 among x [] e = absurd (false≢true e)
 among x (y ∷ ys) e =
-    ⊎_elim (λ here. inl ((bytes_decides x y).0 here)) (λ more. inr (among x ys more)) (one_of (pointwise nat_eq x y) (list_any (pointwise nat_eq x) ys) e)
+    ⊎_elim (λ here. inl ((bytes_decides x y).0 here)) (λ more. inr (among x ys more)) (or_cases (pointwise nat_eq x y) (list_any (pointwise nat_eq x) ys) e)
 
 -- the entry stands at a root, or its directory has an entry
 pub comes : (roots : List (List ℕ)) (list : List Entry) (x q : List ℕ) → (list_any (pointwise nat_eq x) roots || has_dir list q) ≡ true →
     In x roots ⊎ (has_dir list q ≡ true)
-comes roots list x q e = ⊎_elim (λ here. inl (among x roots here)) (λ dir. inr dir) (one_of (list_any (pointwise nat_eq x) roots) (has_dir list q) e)
+comes roots list x q e = ⊎_elim (λ here. inl (among x roots here)) (λ dir. inr dir) (or_cases (list_any (pointwise nat_eq x) roots) (has_dir list q) e)
 
 has_stat : (stat : Option Stat) → is_of kind.Dir stat ≡ true → is_some stat ≡ true
 has_stat None e = absurd (false≢true e)
@@ -49,14 +33,14 @@ has_target pairs [] q h = absurd (false≢true h)
 has_target pairs (e ∷ es) q h =
     let t = target_of pairs q in
     let more = filter (λ (e : Entry). is_some e.stat) es in
-    let found = one_of (pointwise nat_eq q e.path && is_of kind.Dir e.stat) (has_dir es q) h in
+    let found = or_cases (pointwise nat_eq q e.path && is_of kind.Dir e.stat) (has_dir es q) h in
     elim (is_some e.stat) as (λ b. is_some e.stat ≡ b →
     list_any (pointwise nat_eq t) (map (λ (e : Entry). target_of pairs e.path) (cond b (e ∷ more) more)) ≡ true) [
       | true ↦ λ _. ⊎_elim
           (λ here. or_left (pointwise nat_eq t (target_of pairs e.path)) _ ((bytes_decides t (target_of pairs e.path)).1
-          (ap (target_of pairs) ((bytes_decides q e.path).0 (both_of (pointwise nat_eq q e.path) (is_of kind.Dir e.stat) here).0))))
+          (ap (target_of pairs) ((bytes_decides q e.path).0 (and_parts (pointwise nat_eq q e.path) (is_of kind.Dir e.stat) here).0))))
           (λ later. or_right (pointwise nat_eq t (target_of pairs e.path)) _ (has_target pairs es q later)) found
       | false ↦ λ off. ⊎_elim
-          (λ here. absurd (false≢true (sym off ∙ has_stat e.stat (both_of (pointwise nat_eq q e.path) (is_of kind.Dir e.stat) here).1)))
+          (λ here. absurd (false≢true (sym off ∙ has_stat e.stat (and_parts (pointwise nat_eq q e.path) (is_of kind.Dir e.stat) here).1)))
           (λ later. has_target pairs es q later) found
     ] refl

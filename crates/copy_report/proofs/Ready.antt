@@ -7,12 +7,11 @@ use Rattle.std.specs.Prelude.{is_some, nat_eq, ◌||◌}
 use Rattle.std.specs.FinMap.{get}
 use Rattle.std.specs.List.{All, AllByRecursion, Contains, flat_map, list_any}
 use Rattle.std.specs.List.Sorted.{IsStrictlySortedBy}
-use Rattle.std.specs.Option.{option_map}
 use Rattle.std.specs.Cmp.Lexicographic.{pointwise}
 use Rattle.path_text.specs.Order.{path_cmp, is_within}
 use Rattle.path_text.specs.Path.{refusal, parent_of}
-use Rattle.outside.specs.Tree.{Files, Node, IsTree, is_dir, link_at, stat_of}
-use Rattle.outside.specs.declared.trees.Stat.{Stat}
+use Rattle.outside.specs.Tree.{Files, Node, IsTree, is_dir, link_at}
+use Rattle.outside.proofs.Names.{all_weaker}
 use Rattle.entry_pages.specs.declared.entries.Entry.{Entry}
 use Rattle.entry_pages.specs.declared.entries.Mark.{Mark}
 use Rattle.entry_pages.specs.declared.entries.Mark.TheVariants as mark
@@ -21,26 +20,17 @@ use Rattle.tree_copy.specs.Copying.{CanCopy, FitsTree, ends_of, is_target, targe
 use Rattle.tree_copy.specs.Placing.{IsPair, overlap}
 use Rattle.tree_copy.specs.declared.pairs.Pair.{Pair}
 use Rattle.tree_walk.specs.Roots.{is_in_some}
-use Rattle.tree_walk.specs.Told.{EntriesAreTold, EntriesHaveParents, IsTold, has_dir, stat_by, target_by}
+use Rattle.tree_walk.specs.Told.{EntriesAreTold, EntriesHaveParents, IsTold, has_dir, target_by}
 use Rattle.tree_walk.specs.Walk.{answers_in, walk}
+use Rattle.tree_walk.proofs.Lists.{both}
+use Rattle.tree_walk.proofs.Standing.{In, above, in_list, of_all}
 use Rattle.run_report.specs.Sides.{Side}
 use Rattle.run_entries.specs.Entries.{Walked}
+use Rattle.run_entries.proofs.Sided.{stat_told}
 use Rattle.copy_report.specs.PrivateSteps.{ArePlaced}
-use Rattle.copy_report.proofs.Apart.{In, in_list, in_front, none_under, AreValid, goes}
-use Rattle.copy_report.proofs.Inside.{root_of, within_source}
+use Rattle.copy_report.proofs.Apart.{in_front, none_under, AreValid, goes}
+use Rattle.copy_report.proofs.Inside.{within_source}
 use Rattle.copy_report.proofs.Listed.{comes, has_target}
-
-weaker : {X : Type 0} (P Q : X → Type 0) → ((x : X) → P x → Q x) → (xs : List X) → AllByRecursion P xs → AllByRecursion Q xs
-weaker P Q t [] h = h
-weaker P Q t (x ∷ xs) h = (t x h.0, weaker P Q t xs h.1)
-
-both : {X : Type 0} (P Q : X → Type 0) (xs : List X) → AllByRecursion P xs → AllByRecursion Q xs → AllByRecursion (λ x. P x × Q x) xs
-both P Q [] h g = tt
-both P Q (x ∷ xs) h g = ((h.0, g.0), both P Q xs h.1 g.1)
-
-of_all : (P : List ℕ → Type 0) (xs : List (List ℕ)) (x : List ℕ) → AllByRecursion P xs → In x xs → P x
-of_all P [] x h i = absurd i
-of_all P (y ∷ ys) x h i = ⊎_elim (λ e. subst P (sym e) h.0) (λ j. of_all P ys x h.1 j) i
 
 abbrev pub sources_of : List Pair → List (List ℕ)
 sources_of pairs = map (λ pair. pair.source) pairs
@@ -54,7 +44,7 @@ pub record AreReady (pairs : List Pair) (roots : List (List ℕ)) : Type 0 where
 in_sources : (pairs : List Pair) (roots : List (List ℕ)) → All (Contains (sources_of pairs)) roots → (x : List ℕ) → In x roots → In x (sources_of pairs)
 in_sources pairs roots among x i =
     of_all (λ r. In r (sources_of pairs)) roots x
-    (weaker (Contains (sources_of pairs)) (λ r. In r (sources_of pairs)) (λ r c. in_list (sources_of pairs) r c) roots
+    (all_weaker (Contains (sources_of pairs)) (λ r. In r (sources_of pairs)) (λ r c. in_list (sources_of pairs) r c) roots
     (recursion_from_All (Contains (sources_of pairs)) roots among)) i
 
 -- ---- each entry is within a source
@@ -66,8 +56,8 @@ sourced : (pairs : List Pair) (roots : List (List ℕ)) → AreReady pairs roots
     AllByRecursion (λ e. is_in_some roots e.path ≡ true) es → AllByRecursion (IsSourced pairs) es
 sourced pairs roots r [] valid h = tt
 sourced pairs roots r (e ∷ es) valid h =
-    let root = root_of e.path roots h.0 in (
-      within_source e.path root.path pairs valid.0 (weaker AreValid (λ pair. refusal pair.source ≡ None) (λ pair v. v.0) pairs r.valid)
+    let root = above e.path roots h.0 in (
+      within_source e.path root.path pairs valid.0 (all_weaker AreValid (λ pair. refusal pair.source ≡ None) (λ pair v. v.0) pairs r.valid)
           (in_sources pairs roots r.among root.path root.stands) root.is,
       sourced pairs roots r es valid.1 h.1,
     )
@@ -83,14 +73,6 @@ can_copy pairs roots list r valid within ascend = record {
 }
 
 -- ---- each entry tells what stands there
-
-stat_told : (m : Mark) (found : Option Node) (told : Option Stat) → told ≡ stat_by m found → IfSome told (λ stat. option_map stat_of found ≡ Some stat)
-stat_told m found None e = tt
-stat_told mark.StatFailed found (Some stat) e = absurd (cc)
-stat_told mark.Gone found (Some stat) e = sym e
-stat_told mark.Fine found (Some stat) e = sym e
-stat_told mark.ListFailed found (Some stat) e = sym e
-stat_told mark.Changed found (Some stat) e = sym e
 
 text_told : (m : Mark) (found : Option Node) (target : Option (List ℕ)) → target ≡ target_by m found → IfSome target (λ text. link_at found ≡ Some text)
 text_told m found None e = tt
@@ -110,7 +92,7 @@ own_sources : (pairs : List Pair) → AllByRecursion (λ pair. In pair.source (s
 own_sources [] = tt
 own_sources (pair ∷ pairs) = (
   inl refl,
-  weaker (λ p. In p.source (sources_of pairs)) (λ p. In p.source (sources_of (pair ∷ pairs))) (λ p i. inr i) pairs
+  all_weaker (λ p. In p.source (sources_of pairs)) (λ p. In p.source (sources_of (pair ∷ pairs))) (λ p i. inr i) pairs
       (own_sources pairs),
 )
 
@@ -123,7 +105,7 @@ module _ (files : Files) (pairs : List Pair) (roots : List (List ℕ)) (r : AreR
   ends : AllByRecursion (Stands files pairs) pairs
   ends =
       both (λ pair. is_dir (get files (parent_of pair.target)) ≡ true) (λ pair. In pair.source (ends_of pairs)) pairs stand
-      (weaker (λ pair. In pair.source (sources_of pairs)) (λ pair. In pair.source (ends_of pairs))
+      (all_weaker (λ pair. In pair.source (sources_of pairs)) (λ pair. In pair.source (ends_of pairs))
       (λ pair i. in_front pair.source (sources_of pairs) (map (λ p. p.target) pairs) i) pairs
       (own_sources pairs))
 
@@ -167,7 +149,7 @@ fits_tree law told files pairs roots list r can valid stand is tree = record {
     parents (x ∷ rs) e =
         let HasParent : List Entry → Entry → Type 0 = λ es e. (list_any (pointwise nat_eq e.path) roots || has_dir es (parent_of e.path)) ≡ true in
         let all = subst (λ es. All (HasParent es) es) (sym is) (law files (answers_in list) roots (tree (omega (arith, ap length e)))) in
-        weaker (HasParent list) (λ e. In e.path roots ⊎ (has_dir list (parent_of e.path) ≡ true)) (λ e h. comes roots list e.path (parent_of e.path) h) list
+        all_weaker (HasParent list) (λ e. In e.path roots ⊎ (has_dir list (parent_of e.path) ≡ true)) (λ e h. comes roots list e.path (parent_of e.path) h) list
         (recursion_from_All (HasParent list) list all)
 
     every : AllByRecursion (StandsIn files pairs list) list
@@ -180,7 +162,7 @@ fits_tree law told files pairs roots list r can valid stand is tree = record {
 ready_by : (given : List (List ℕ)) (pairs : List Pair) (list : List Entry) (before after : Side) → ArePlaced given before.tree pairs →
     (w : Walked given list before after) → AreReady pairs w.roots
 ready_by given pairs list before after p w = record {
-  valid = weaker IsPair AreValid (λ pair h. (h.source, h.target)) pairs (recursion_from_All IsPair pairs p.valid);
+  valid = all_weaker IsPair AreValid (λ pair h. (h.source, h.target)) pairs (recursion_from_All IsPair pairs p.valid);
   apart = p.apart;
   among = subst (λ ss. All (Contains ss) w.roots) (sym p.sources) w.are.among;
 }

@@ -2,6 +2,7 @@
 use Rattle.std.proofs.Common.{◌≡◌, inr, ℕ, ◌≤◌, List, IfSome, Ok, is_some, length, ap, sym, ◌∙◌, subst}
 use Rattle.std.proofs.lemmas.List.{length-map}
 use Rattle.entry_pages.specs.declared.entries.Entry.{Entry}
+use Rattle.flat_list.specs.Spelling.{max_entries}
 use Rattle.level_work.specs.declared.items.Fate.{Fate}
 use Rattle.tree_copy.specs.Copying.{SameButTargets, treated}
 use Rattle.tree_copy.specs.declared.pairs.Pair.{Pair}
@@ -30,7 +31,7 @@ looked_by asked before looked pairs sources is places same kept = record {
 -- and so does the walk
 pub surveys_by : (asked : CopyAsked) (before looked walked : Side) (pairs : List Pair) (entries : List Entry) → Looked asked before looked pairs →
     walked.tree ≡ looked.tree →
-    Walked asked.sources entries looked walked → length entries ≤ 4194304 → Surveys asked before (side_with before.tree walked.count) pairs entries
+    Walked asked.sources entries looked walked → length entries ≤ max_entries → Surveys asked before (side_with before.tree walked.count) pairs entries
 surveys_by asked before looked walked pairs entries l same w few = record {
   places = l.places;
   between = looked.count;

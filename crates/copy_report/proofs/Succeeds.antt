@@ -1,7 +1,6 @@
 -- When dcp succeeds.
-use Rattle.std.proofs.Common.{◌≡◌, ⊎_elim, ℕ, zero, suc, ◌<◌, ◌≤◌, true, false, List, [], ◌∷◌, ◌++◌, length, Option, Some, None, IfSome}
+use Rattle.std.proofs.Common.{◌≡◌, ⊎_elim, ℕ, zero, suc, ◌<◌, ◌≤◌, true, false, List, [], ◌∷◌, ◌++◌, length, Option, Some, None}
 use Rattle.std.proofs.Common.{◌&&◌, get_or, Result, Ok, Err, refl, ap, ◌∙◌, sym, subst, arith}
-use Rattle.std.proofs.lemmas.Bool.{false≢true}
 use Rattle.std.proofs.lemmas.List.Elements.{All-filter}
 use Rattle.std.specs.Prelude.{is_none, is_some}
 use Rattle.std.specs.FinMap.{get}
@@ -29,6 +28,7 @@ use Rattle.run_report.specs.declared.stops.Stop.TheVariants as stop
 use Rattle.run_report.specs.Sides.{Side, side_with}
 use Rattle.run_entries.specs.Fine.{IsFineSide, DoneNamesNothing, FineWalksAreWhole, FineWalksNameNothing, FineWalksStopForMemory, StillCounts}
 use Rattle.run_entries.specs.Naming.{copy_notes}
+use Rattle.run_entries.proofs.Fine.{of_told, some_of}
 use Rattle.copy_report.specs.Copying.{ReportsCopies, StopsCopy, ReportsCopy, FineCopy, Copies}
 use Rattle.copy_report.specs.Laws.{FineCopySucceeds}
 use Rattle.copy_report.specs.Placing.{Places, IsNowhere}
@@ -48,19 +48,6 @@ pub record Laws : Type 0 where
   pub still : StillCounts
 
 -- ---- what is told
-
-of_told : (P : Files → Type 0) (tree : Option Files) (files : Files) → tree ≡ Some files → IfSome tree P → P files
-of_told P tree files told h = subst (λ t. IfSome t P) told h
-
-some_of : (P : Files → Files → Type 0) (t t' : Option Files) (files : Files) → t ≡ Some files → is_some t' ≡ is_some t → IfSome t (λ old. IfSome t' (P old)) →
-    (after : Files) × P files after
-some_of P None t' files e tells h = cc
-some_of P (Some old) None files e tells h = absurd (false≢true tells)
-some_of P (Some old) (Some after) files e tells h = (after, subst (λ o. P o after) (ap (λ o. the o files) e) h)
-  where
-    the : Option Files → Files → Files
-    the None d = d
-    the (Some x) d = x
 
 -- what is due by the files is the answer
 told_due : (asked : CopyAsked) (tree : Option Files) (files : Files) (answer : Result (List Pair) PlaceError) → tree ≡ Some files →

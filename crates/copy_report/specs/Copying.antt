@@ -7,9 +7,9 @@ use Rattle.path_text.specs.Path.{parent_of}
 use Rattle.outside.specs.Count.{RoseBy}
 use Rattle.entry_pages.specs.declared.entries.Entry.{Entry}
 use Rattle.flat_list.specs.Spelling.{paths}
-use Rattle.level_work.specs.Counts.{is_failed}
+use Rattle.level_work.specs.Counts.{is_failed, is_done}
 use Rattle.level_work.specs.declared.items.Fate.{Fate}
-use Rattle.tree_copy.specs.Copying.{AreEarly, Copied, SameButTargets, bytes_copied, is_done, treated}
+use Rattle.tree_copy.specs.Copying.{AreEarly, Copied, SameButTargets, bytes_copied, treated}
 use Rattle.tree_copy.specs.Laws.{IsFineEntry}
 use Rattle.tree_copy.specs.Placing.{placed_over}
 use Rattle.tree_copy.specs.declared.pairs.Pair.{Pair}

@@ -4,6 +4,7 @@ use Rattle.std.specs.FinMap.{get}
 use Rattle.path_text.specs.Path.{parent_of}
 use Rattle.outside.specs.Tree.{Files, is_dir}
 use Rattle.entry_pages.specs.declared.entries.Entry.{Entry}
+use Rattle.flat_list.specs.Spelling.{max_entries}
 use Rattle.tree_copy.specs.Placing.{placed}
 use Rattle.tree_copy.specs.declared.pairs.Pair.{Pair}
 use Rattle.tree_copy.specs.declared.pairs.PlaceError.{PlaceError}
@@ -29,7 +30,7 @@ pub record Surveys (asked : CopyAsked) (before after : Side) (pairs : List Pair)
   pub between : ℕ
   pub kept : before.count ≤ between
   pub walked : Walked asked.sources entries (side_with before.tree between) after
-  pub few : length entries ≤ 4194304
+  pub few : length entries ≤ max_entries
 
 -- two of all sources and targets overlap, or no directory is there for the targets
 abbrev pub IsNowhere : CopyAsked → Option Files → Stop → Type 0

@@ -7,7 +7,8 @@ use Rattle.outside.specs.Count.{RoseBy}
 use Rattle.outside.specs.Tree.{Files, is_dir}
 use Rattle.entry_pages.specs.declared.entries.Entry.{Entry}
 use Rattle.level_work.specs.declared.items.Fate.{Fate}
-use Rattle.tree_copy.specs.Copying.{bytes_copied, ends_of, is_done, treated}
+use Rattle.level_work.specs.Counts.{is_done}
+use Rattle.tree_copy.specs.Copying.{bytes_copied, ends_of, treated}
 use Rattle.tree_copy.specs.Placing.{IsPair, overlap}
 use Rattle.tree_copy.specs.declared.pairs.Pair.{Pair}
 use Rattle.tree_copy.specs.declared.pairs.PlaceError.{PlaceError}

@@ -1,6 +1,7 @@
 //! The walk of the sources.
 ghost use Rattle.std.specs.Prelude.{◌≡◌, ◌≤◌, length, IfOk, IfErr, IfSome};
 ghost use Rattle.outside.specs.Count.{RoseBy};
+ghost use Rattle.flat_list.specs.Spelling.{max_entries};
 ghost use Rattle.tree_copy.specs.Copying.{CanCopy, FitsTree};
 ghost use Rattle.tool_words.specs.Asked.{roots};
 ghost use Rattle.tool_words.specs.Limits.{CommonWithin};
@@ -36,7 +37,7 @@ where
     requires placed { ArePlaced sources.items (G.tree files.old) pairs.now }
     ensures walked { IfOk result (λ list. Walked sources.items list (side_of G.Plot files.old)
         (side_of G.Plot files.new)) }
-    ensures few { IfOk result (λ list. length list ≤ 4194304) }
+    ensures few { IfOk result (λ list. length list ≤ max_entries) }
     ensures can { IfOk result (λ list. CanCopy list pairs.now) }
     ensures fits { IfOk result (λ list. IfSome (G.tree files.old) (FitsTree list pairs.now)) }
     ensures stopped { IfErr result (StopsListing (roots sources.items) (side_of G.Plot files.old)

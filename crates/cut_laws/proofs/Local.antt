@@ -7,13 +7,13 @@ use Rattle.std.proofs.lemmas.List.Elements.{recursion_from_All, All-from_recursi
 use Rattle.std.proofs.lemmas.List.Sums.{sum_by-cons}
 use Rattle.path_text.specs.Path.{joined}
 use Rattle.outside.specs.Tree.{Files, IsTree, is_dir, names_in}
-use Rattle.outside.proofs.Names.{children_are_names}
+use Rattle.outside.proofs.Names.{children_are_names, all_weaker}
 use Rattle.entry_pages.specs.declared.entries.Entry.{Entry}
 use Rattle.circle_run.specs.Balance.{Balanced}
 use Rattle.tree_walk.specs.Walk.{Answer, told, stat_failed, list_failed, Answers, answer_in, answers_in, entry_of, children_of, walk_down, walk}
 use Rattle.tree_walk.specs.Roots.{is_in, is_in_some}
 use Rattle.tree_walk.specs.Cut.{IsCut, log_by}
-use Rattle.tree_walk.proofs.Lists.{weaker, flat_same}
+use Rattle.tree_walk.proofs.Lists.{flat_same}
 use Rattle.tree_walk.proofs.Names.{no_names}
 use Rattle.tree_walk.proofs.Recursive.{of_children}
 use Rattle.tree_walk.proofs.Inside.{in_itself, in_trans}
@@ -47,7 +47,7 @@ deeper : (starts : List (List ℕ)) (x y : List ℕ) → is_in x y ≡ true → 
 deeper starts x y h w = let a = above y starts w in in_some x a.path starts a.stands (in_trans x y a.path h a.is)
 
 each_within : (starts : List (List ℕ)) → AllByRecursion (Within starts) starts
-each_within starts = weaker (λ p. In p starts) (Within starts) (λ p i. in_some p p starts i (in_itself p)) starts (each_in starts)
+each_within starts = all_weaker (λ p. In p starts) (Within starts) (λ p i. in_some p p starts i (in_itself p)) starts (each_in starts)
 
 -- what is at or under paths that are all at or under starts
 pub all_deeper : (starts left : List (List ℕ)) → AllByRecursion (Within starts) left → (q : List ℕ) → Within left q → Within starts q
@@ -68,7 +68,7 @@ kids_within : (starts : List (List ℕ)) (files : Files) (answer : Answer) (p : 
     AllByRecursion (Within starts) (children_of answer files p)
 kids_within starts files answer p w =
     of_children (AllByRecursion (Within starts)) files answer p tt
-    (weaker (λ q. is_in q p ≡ true) (Within starts) (λ q h. deeper starts q p h w) (map (joined p) (names_in files p)) (children_in files p))
+    (all_weaker (λ q. is_in q p ≡ true) (Within starts) (λ q h. deeper starts q p h w) (map (joined p) (names_in files p)) (children_in files p))
 
 -- ---- walks
 
@@ -80,7 +80,7 @@ down_same starts old new same a (suc levels) p w =
     (λ i. entry_of (a p) (same p w i) p ∷ flat_map (walk_down levels new a) (kids_alike starts old new same (a p) p w i))
     ∙ ap (λ rest. entry_of (a p) (get old p) p ∷ rest)
     (flat_same (walk_down levels new a) (walk_down levels old a) children
-    (weaker (Within starts) (λ c. walk_down levels new a c ≡ walk_down levels old a c) (down_same starts old new same a levels) children
+    (all_weaker (Within starts) (λ c. walk_down levels new a c ≡ walk_down levels old a c) (down_same starts old new same a levels) children
     (kids_within starts old (a p) p w)))
 
 walk_same : (starts : List (List ℕ)) (old new : Files) → SameBelow starts old new → (a : Answers) (p : List ℕ) → Within starts p →
@@ -94,7 +94,7 @@ walks_are_local old new starts list same walks ordered m o =
     let within = moved (Within starts) starts ordered m (each_within starts) in
     walks ordered m o
     ∙ sym (flat_same (walk new a) (walk old a) ordered
-    (weaker (Within starts) (λ p. walk new a p ≡ walk old a p) (walk_same starts old new same a) ordered within))
+    (all_weaker (Within starts) (λ p. walk new a p ≡ walk old a p) (walk_same starts old new same a) ordered within))
 
 -- ---- what was done and what is left of a walk is at or under its starts
 
@@ -127,10 +127,10 @@ cut_covered files starts left done t c x =
 done_within : (files : Files) (starts left : List (List ℕ)) (done : List Entry) → IsTree files → IsCut files starts done left →
     AllByRecursion (λ e. Within starts e.path) done
 done_within files starts left done t c =
-    weaker (λ (e : Entry). 1 ≤ sum_by (λ f. one e.path f.path) done) (λ (e : Entry). Within starts e.path)
+    all_weaker (λ (e : Entry). 1 ≤ sum_by (λ f. one e.path f.path) done) (λ (e : Entry). Within starts e.path)
     (λ e n. some_covers e.path starts (omega (arith, n, cut_covered files starts left done t c e.path))) done (each_here done)
 
-stands_covered : (p : List ℕ) (ps : List (List ℕ)) → In p ps → 1 ≤ sum_by (covers p) ps
+pub stands_covered : (p : List ℕ) (ps : List (List ℕ)) → In p ps → 1 ≤ sum_by (covers p) ps
 stands_covered p [] i = absurd i
 stands_covered p (q ∷ ps) i =
     let parts = sum_by-cons (covers p) q ps in
@@ -141,7 +141,7 @@ stands_covered p (q ∷ ps) i =
 pub left_within : (files : Files) (starts left : List (List ℕ)) (done : List Entry) → IsTree files → IsCut files starts done left →
     AllByRecursion (Within starts) left
 left_within files starts left done t c =
-    weaker (λ q. In q left) (Within starts)
+    all_weaker (λ q. In q left) (Within starts)
     (λ q i. some_covers q starts (omega (arith, stands_covered q left i, cut_covered files starts left done t c q))) left (each_in left)
 
 -- ---- cuts

@@ -22,7 +22,7 @@ restart_is_walk_in_each stopped again other starts left done later list t valid 
 
 -- ---- where no answer failed
 
-weightless : (answer : Answer) → weight answer ≡ 0 → answer ≡ told 0
+pub weightless : (answer : Answer) → weight answer ≡ 0 → answer ≡ told 0
 weightless (told unnamed) h = ap told h
 weightless stat_failed h = absurd (omega (arith, h))
 weightless list_failed h = absurd (omega (arith, h))

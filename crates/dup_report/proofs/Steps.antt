@@ -2,6 +2,7 @@
 use Rattle.std.proofs.Common.{◌≡◌, ◌≤◌, List, length, subst}
 use Rattle.outside.specs.Count.{RoseBy}
 use Rattle.entry_pages.specs.declared.entries.Entry.{Entry}
+use Rattle.flat_list.specs.Spelling.{max_entries}
 use Rattle.tree_dup.specs.Grouping.{IsGrouping}
 use Rattle.tree_dup.specs.Told.{Grouping}
 use Rattle.tool_words.specs.Asked.{DupAsked}
@@ -12,7 +13,7 @@ use Rattle.dup_report.specs.Grouping.{FindsGroups}
 -- the roots were walked, and then the files were grouped
 pub record Steps (asked : DupAsked) (entries : List Entry) (found : Grouping) (before walked after : Side) : Type 0 where
   pub walks : Walked asked.roots entries before walked
-  pub few : length entries ≤ 4194304
+  pub few : length entries ≤ max_entries
   pub same : walked.tree ≡ before.tree
   pub grouped : IsGrouping walked.tree entries found
   pub counted : RoseBy (length found.failed) walked.count after.count

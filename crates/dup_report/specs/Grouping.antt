@@ -3,6 +3,7 @@ use Rattle.std.specs.Prelude.{◌≡◌, ◌⊎◌, ℕ, ◌≤◌, false, List,
 use Rattle.outside.specs.Count.{RoseBy}
 use Rattle.outside.specs.Tree.{Files}
 use Rattle.entry_pages.specs.declared.entries.Entry.{Entry}
+use Rattle.flat_list.specs.Spelling.{max_entries}
 use Rattle.tree_dup.specs.Grouping.{IsGrouping}
 use Rattle.tree_dup.specs.Told.{Grouping}
 use Rattle.tool_text.specs.declared.noting.Note.{Note}
@@ -30,7 +31,7 @@ dup_asked task = record { common = task.common; roots = task.roots.items }
 pub record FindsGroups (asked : DupAsked) (entries : List Entry) (found : Grouping) (before after : Side) : Type 0 where
   pub walked : ℕ
   pub walks : Walked asked.roots entries before (side_with before.tree walked)
-  pub few : length entries ≤ 4194304
+  pub few : length entries ≤ max_entries
   pub grouped : IsGrouping before.tree entries found
   pub counted : RoseBy (length found.failed) walked after.count
 

@@ -3,7 +3,7 @@ ghost use Rattle.std.specs.Prelude.{◌≡◌, ◌≤◌, length, IfOk, IfErr, I
 ghost use Rattle.std.specs.List.Sorted.{IsStrictlySortedBy};
 ghost use Rattle.path_text.specs.Order.{path_cmp};
 ghost use Rattle.outside.specs.Count.{RoseBy};
-ghost use Rattle.flat_list.specs.Spelling.{paths};
+ghost use Rattle.flat_list.specs.Spelling.{paths, max_entries};
 ghost use Rattle.tree_cmp.specs.Readers.{StatsTold};
 ghost use Rattle.tree_dup.specs.Grouping.{IsGrouping};
 ghost use Rattle.tool_words.specs.Asked.{roots};
@@ -37,7 +37,7 @@ where
     requires within { CommonWithin common.now }
     ensures walked { IfOk result (λ list. Walked given.items list (side_of G.Plot files.old)
         (side_of G.Plot files.new)) }
-    ensures few { IfOk result (λ list. length list ≤ 4194304) }
+    ensures few { IfOk result (λ list. length list ≤ max_entries) }
     ensures ascend { IfOk result (λ list. IsStrictlySortedBy path_cmp (paths list)) }
     ensures told { IfOk result (λ list. IfSome (G.tree files.old) (λ tree. StatsTold tree list)) }
     ensures stopped { IfErr result (StopsListing (roots given.items) (side_of G.Plot files.old)

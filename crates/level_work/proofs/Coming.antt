@@ -5,7 +5,7 @@ use Rattle.std.proofs.lemmas.Bool.{false≢true}
 use Rattle.std.proofs.lemmas.List.{length-map}
 use Rattle.std.proofs.lemmas.Option.{slice_get_within, get_or_from_slice_get}
 use Rattle.path_text.specs.Path.{level_of}
-use Rattle.level_work.specs.Chain.{AllBelow, is_done, mark_at, level_at}
+use Rattle.level_work.specs.Chain.{AllBelow, is_level_done, mark_at, level_at}
 use Rattle.level_work.specs.Fates.{ComesAt, EachMayCome, MayCome, place_of}
 use Rattle.level_work.specs.Levels.{FailsWith}
 use Rattle.level_work.specs.Private.Coming.{OneCame, HaveCome, Came, LevelCame, CameSofar}
@@ -123,7 +123,7 @@ module _ {Who : Type 0} (may_come : MayCome Who) (actors : List Who) (items : Li
       next : Next o (mark_at o top turn) (level_at o top turn) (mark_at o top (turn + 1))
       next = next_at o top turn l
 
-      by : (level_of x.path ≡ level_at o top turn) ⊎ (is_done o (mark_at o top turn) (level_of x.path) ≡ true)
+      by : (level_of x.path ≡ level_at o top turn) ⊎ (is_level_done o (mark_at o top turn) (level_of x.path) ≡ true)
           → Came may_come actors items new (level_of x.path) k x
       by (inl here) = subst (λ m. Came may_come actors items new m k x) (is ∙ sym here) (came k x at (here ∙ sym is))
       by (inr past) = λ f has. sofar k x at past f
@@ -133,4 +133,4 @@ module _ {Who : Type 0} (may_come : MayCome Who) (actors : List Who) (items : Li
   pub all_levels_came : (turn : ℕ) (fates : List Fate) → turn ≡ top → CameSofar may_come actors items fates o (mark_at o top turn)
       → EachMayCome may_come actors items fates
   all_levels_came turn fates e sofar k x f at has =
-      sofar k x at (subst (λ t. is_done o (mark_at o top t) (level_of x.path) ≡ true) (sym e) (at_last o top (level_of x.path) (below k x at))) f has
+      sofar k x at (subst (λ t. is_level_done o (mark_at o top t) (level_of x.path) ≡ true) (sym e) (at_last o top (level_of x.path) (below k x at))) f has

@@ -3,7 +3,7 @@ use Rattle.std.proofs.Common.{◌≡◌, ◌⊎◌, inl, inr, ℕ, zero, suc, �
 use Rattle.std.proofs.Common.{ap, ◌∙◌, sym, subst, arith, slice_get, is_some}
 use Rattle.std.proofs.lemmas.Bool.{false≢true}
 use Rattle.std.proofs.lemmas.Option.{slice_get_within}
-use Rattle.std.specs.Prelude.{slice_index_or, OnOk, OnErr, Result, Ok, Err}
+use Rattle.std.specs.Prelude.{slice_index_or, OnOk, Result, Ok, Err}
 use Rattle.outside.specs.Tree.{Files}
 use Rattle.outside.specs.Writes.{Area, under}
 use Rattle.path_text.specs.Path.{level_of}
@@ -222,7 +222,3 @@ idle_rest tree area level items lots (Some b) (Some r) (Some a) told out back = 
         → Comes tree area lots r a q → get a q ≡ get b q
     by q off (stays none e) = e ∙ out.left q none
     by q off (comes i lot own here shows on e) = e ∙ out.out i lot own q here shows on
-
-pub on_err : {T E : Type 0} (r : Result T E) (X : Type 0) → X → OnErr r X
-on_err (Ok v) X x = tt
-on_err (Err e) X x = x

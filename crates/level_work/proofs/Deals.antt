@@ -24,9 +24,10 @@ use Rattle.level_work.specs.declared.items.Order.{Order}
 use Rattle.level_work.specs.declared.items.Order.TheVariants as order
 use Rattle.level_work.specs.declared.lots.Lot.{Lot}
 use Rattle.level_work.proofs.Crewed.{map_get}
-use Rattle.level_work.proofs.Giving.{get_set_same, get_set_other, get_end, get_front, length_set, map_set, split_take_suc}
+use Rattle.level_work.proofs.Giving.{get_set_same, get_set_other, get_front, length_set, map_set, split_take_suc}
 use Rattle.level_work.proofs.Leases.{Written, written_here, written_there, written, same_number, other_number, is_less, not_less}
 use Rattle.level_work.proofs.Working.{same_some, get_more}
+use Rattle.entry_pages.proofs.Inverse.{slice_end}
 
 pub failed_parent : (items : List Item) (fates : List Fate) (paths : List (List ℕ)) (x : Item) → AreFailed items fates paths
     → has_path paths (parent_of x.path) ≡ true → HasFailedParent items fates x
@@ -121,7 +122,7 @@ module _ {A P : Type 0} where
       place = length lot.places.items;
       lot = new;
       is_lot = new_here;
-      at = ap (λ ps. slice_get ps (length lot.places.items)) more ∙ get_end lot.places.items k;
+      at = ap (λ ps. slice_get ps (length lot.places.items)) more ∙ slice_end lot.places.items k;
     }
 
     fresh : (j t : ℕ) → In lots j t k → ⊥
@@ -335,7 +336,7 @@ one_place_more f n level items x levels v v' at lev has more w l places e = by (
 
         case_all : (k : ℕ) (y : Item) → slice_get items k ≡ Some y → level_of y.path ≡ level → (k ≡ n) ⊎ (k < n)
             → IsAmong (length (f v ++ n ∷ [])) (f v ++ n ∷ []) k
-        case_all k y is le (inl s) = let e' = get_end (f v) n ∙ ap Some (sym s) in
+        case_all k y is le (inl s) = let e' = slice_end (f v) n ∙ ap Some (sym s) in
             record { place = length (f v); at = e'; early = slice_get_within (f v ++ n ∷ []) (length (f v)) k e' }
         case_all k y is le (inr less) = let a = d.all k y less is le in let e' = get_front (f v) n k a.place a.at in
             record { place = a.place; at = e'; early = slice_get_within (f v ++ n ∷ []) a.place k e' }

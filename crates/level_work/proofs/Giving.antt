@@ -19,6 +19,7 @@ use Rattle.level_work.specs.Private.Giving.{Giving}
 use Rattle.level_work.specs.declared.lots.Lot.{Lot}
 use Rattle.level_work.proofs.Lent.{same_tops_self}
 use Rattle.level_work.proofs.Working.{same_some, get_more}
+use Rattle.entry_pages.proofs.Inverse.{slice_end}
 
 more : (i : ℕ) → i + 1 ≡ suc i
 more i = omega arith
@@ -44,10 +45,6 @@ take_all [] zero l = refl
 take_all [] (suc i) l = refl
 take_all (x ∷ xs) zero l = absurd (omega (arith, l))
 take_all (x ∷ xs) (suc i) l = ap (λ r. x ∷ r) (take_all xs i (omega (arith, l)))
-
-pub get_end : {X : Type 0} (xs : List X) (y : X) → slice_get (xs ++ y ∷ []) (length xs) ≡ Some y
-get_end [] y = refl
-get_end (x ∷ xs) y = get_end xs y
 
 pub get_front : {X : Type 0} (xs : List X) (y f : X) (j : ℕ) → slice_get xs j ≡ Some f → slice_get (xs ++ y ∷ []) j ≡ Some f
 get_front [] y f j e = cc
@@ -114,7 +111,7 @@ module _ {A P : Type 0} (tree : P → Option Files) (area : P → Area) (count :
   back_more done lot p own rest now next is tells j all q =
       elim (in_tops (tops_of (area p)) q) as
       (λ b. in_tops (tops_of (area p)) q ≡ b → Comes (part_tree tree) (part_area area) (done ++ lot ∷ []) rest next q) [
-        | true ↦ λ on. comes (length done) lot own (get_end done lot) (ap (part_tree tree) is ∙ tells)
+        | true ↦ λ on. comes (length done) lot own (slice_end done lot) (ap (part_tree tree) is ∙ tells)
             (ap (λ o. in_tops (tops_of (part_area area o)) q) is ∙ on) (j q ∙ ap (λ b. cond b (get own q) (get now q)) on)
         | false ↦ λ off. by (j q ∙ ap (λ b. cond b (get own q) (get now q)) off) (ap (λ o. in_tops (tops_of (part_area area o)) q) is ∙ off) (all q)
       ] refl

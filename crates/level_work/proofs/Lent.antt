@@ -20,10 +20,7 @@ use Rattle.level_work.specs.declared.items.Item.{Item}
 use Rattle.level_work.specs.declared.lots.Lot.{Lot}
 use Rattle.path_text.proofs.Within.{itself}
 use Rattle.level_work.proofs.Working.{item_at, same_some}
-
-get_end : {X : Type 0} (xs : List X) (y : X) → slice_get (xs ++ y ∷ []) (length xs) ≡ Some y
-get_end [] y = refl
-get_end (x ∷ xs) y = get_end xs y
+use Rattle.entry_pages.proofs.Inverse.{slice_end}
 
 get_front : {X : Type 0} (xs : List X) (y : X) (j : ℕ) → j < length xs → slice_get (xs ++ y ∷ []) j ≡ slice_get xs j
 get_front [] y j l = absurd (omega arith)
@@ -36,7 +33,7 @@ one_path_more items places paths n p a h = record {
   len = length-append paths (p ∷ []) ∙ ap (λ k. k + 1) a.len;
   of_item = λ j x l at. elim (eqb j n) as (λ b. eqb j n ≡ b → slice_get (paths ++ p ∷ []) j ≡ Some x.path) [
     | true ↦ λ is. let e = same j n is in
-        ap (slice_get (paths ++ p ∷ [])) (e ∙ sym a.len) ∙ get_end paths p ∙ ap Some (h x (subst (λ k. IsAt items places k x) e at))
+        ap (slice_get (paths ++ p ∷ [])) (e ∙ sym a.len) ∙ slice_end paths p ∙ ap Some (h x (subst (λ k. IsAt items places k x) e at))
     | false ↦ λ off. get_front paths p j (omega (arith, a.len, before j n l off)) ∙ a.of_item j x (before j n l off) at
   ] refl;
 }

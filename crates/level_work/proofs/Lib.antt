@@ -16,6 +16,7 @@ pub mod Leases
 pub mod Deals
 pub mod Stores
 pub mod Turning
+pub mod Unfailed
 pub mod Hands
 pub mod Sets
 pub mod Coming

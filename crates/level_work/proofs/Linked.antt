@@ -1,7 +1,7 @@
 -- The maps between the levels follow from the maps before and after.
 use Rattle.std.proofs.Common.{◌≡◌, ◌≢◌, ◌⊎◌, inl, inr, ℕ, zero, suc, Bool, true, false, cond, not, ◌||◌, ◌&&◌, List, [], ◌∷◌, Option, Some, None}
 use Rattle.std.proofs.Common.{refl, ap, ◌∙◌, sym, subst, arith, nat_eq, is_some, slice_get}
-use Rattle.std.proofs.lemmas.Bool.{false≢true}
+use Rattle.std.proofs.lemmas.Bool.{false≢true, and_from, and_parts}
 use Rattle.std.specs.FinMap.{get, entries, retain_keys, get-entries, get-retain_keys, same_map}
 use Rattle.std.specs.Cmp.Lexicographic.{pointwise, bytes_decides}
 use Rattle.path_text.specs.Path.{level_of}
@@ -10,7 +10,7 @@ use Rattle.outside.specs.Tree.{Files, Node}
 use Rattle.outside.specs.Laid.{get_put_all}
 use Rattle.level_work.specs.Acts.{Deed, at_and_under}
 use Rattle.level_work.specs.Levels.{with_at, Acted, AreItems, is_item}
-use Rattle.level_work.specs.Chain.{OneLevel, is_done, mark_at, is_done_path, stage, ActedIsChain}
+use Rattle.level_work.specs.Chain.{OneLevel, is_level_done, mark_at, is_done_path, stage, ActedIsChain}
 use Rattle.level_work.specs.declared.items.Item.{Item}
 use Rattle.level_work.specs.declared.items.Fate.{Fate}
 use Rattle.level_work.specs.declared.items.Fate.TheVariants as fate
@@ -42,31 +42,28 @@ get_stage o t items before after q =
     by true (Some n) r = refl
     by false m r = refl
 
-both : (a b : Bool) → a ≡ true → b ≡ true → (a && b) ≡ true
-both a b e f = ap (λ a. a && b) e ∙ f
-
 or_true : (b : Bool) → (b || true) ≡ true
 or_true true = refl
 or_true false = refl
 
 -- an item's path is done where its level is
-its_path : (o : Order) (t : ℕ) (items : List Item) (k : ℕ) (x : Item) → slice_get items k ≡ Some x → is_done o t (level_of x.path) ≡ true
+its_path : (o : Order) (t : ℕ) (items : List Item) (k : ℕ) (x : Item) → slice_get items k ≡ Some x → is_level_done o t (level_of x.path) ≡ true
     → is_done_path o t items x.path ≡ true
 its_path o t [] k x at d = cc
 its_path o t (y ∷ items) zero x at d =
     ap (λ b. b || is_done_path o t items x.path)
-    (both (pointwise nat_eq x.path y.path) _ ((bytes_decides x.path y.path).1 (ap (λ (z : Item). z.path) (sym (same_some y x at))))
-    (subst (λ (z : Item). is_done o t (level_of z.path) ≡ true) (sym (same_some y x at)) d))
+    (and_from (pointwise nat_eq x.path y.path) _ ((bytes_decides x.path y.path).1 (ap (λ (z : Item). z.path) (sym (same_some y x at))))
+    (subst (λ (z : Item). is_level_done o t (level_of z.path) ≡ true) (sym (same_some y x at)) d))
 its_path o t (y ∷ items) (suc k) x at d =
-    ap (λ b. (pointwise nat_eq x.path y.path && is_done o t (level_of y.path)) || b) (its_path o t items k x at d) ∙ or_true _
+    ap (λ b. (pointwise nat_eq x.path y.path && is_level_done o t (level_of y.path)) || b) (its_path o t items k x at d) ∙ or_true _
 
 -- where no done item has the path
 no_path : (o : Order) (t : ℕ) (items : List Item) (q : List ℕ)
-    → ((k : ℕ) (x : Item) → slice_get items k ≡ Some x → is_done o t (level_of x.path) ≡ true → pointwise nat_eq q x.path ≡ false)
+    → ((k : ℕ) (x : Item) → slice_get items k ≡ Some x → is_level_done o t (level_of x.path) ≡ true → pointwise nat_eq q x.path ≡ false)
     → is_done_path o t items q ≡ false
 no_path o t [] q h = refl
 no_path o t (y ∷ items) q h =
-    ap (λ b. b || is_done_path o t items q) (by (pointwise nat_eq q y.path) (is_done o t (level_of y.path)) (h 0 y refl))
+    ap (λ b. b || is_done_path o t items q) (by (pointwise nat_eq q y.path) (is_level_done o t (level_of y.path)) (h 0 y refl))
     ∙ no_path o t items q (λ k x at. h (suc k) x at)
   where
     by : (a b : Bool) → (b ≡ true → a ≡ false) → (a && b) ≡ false
@@ -79,19 +76,15 @@ record DonePath (o : Order) (t : ℕ) (items : List Item) (q : List ℕ) : Type 
   item : Item
   at : slice_get items place ≡ Some item
   is : q ≡ item.path
-  done : is_done o t (level_of item.path) ≡ true
-
-parts : (a b : Bool) → (a && b) ≡ true → (a ≡ true) × (b ≡ true)
-parts true b e = (refl, e)
-parts false b e = absurd (false≢true e)
+  done : is_level_done o t (level_of item.path) ≡ true
 
 a_path : (o : Order) (t : ℕ) (items : List Item) (q : List ℕ) → is_done_path o t items q ≡ true → DonePath o t items q
 a_path o t [] q e = absurd (false≢true e)
 a_path o t (y ∷ items) q e =
-    elim (pointwise nat_eq q y.path && is_done o t (level_of y.path)) as
-    (λ b. (pointwise nat_eq q y.path && is_done o t (level_of y.path)) ≡ b → (b || is_done_path o t items q) ≡ true
+    elim (pointwise nat_eq q y.path && is_level_done o t (level_of y.path)) as
+    (λ b. (pointwise nat_eq q y.path && is_level_done o t (level_of y.path)) ≡ b → (b || is_done_path o t items q) ≡ true
     → DonePath o t (y ∷ items) q) [
-      | true ↦ λ is e. let p = parts (pointwise nat_eq q y.path) _ is in
+      | true ↦ λ is e. let p = and_parts (pointwise nat_eq q y.path) _ is in
           record { place = 0; item = y; at = refl; is = (bytes_decides q y.path).0 p.0; done = p.1 }
       | false ↦ λ _ e. let s = a_path o t items q e in record { place = suc s.place; item = s.item; at = s.at; is = s.is; done = s.done }
     ] refl e
@@ -104,11 +97,11 @@ module _ (deed : Deed) (items : List Item) (fates : List Fate) (before after : F
   at_done o t q on = get_stage o t items before after q ∙ ap (λ b. cond b (get after q) (get before q)) on
 
   -- of the items of a level, and of what is not done, the map is the one before
-  not_done : (o : Order) (t : ℕ) (q : List ℕ) → (is_done o t (level_of q) ≡ true → ⊥) → is_done_path o t items q ≡ false
-  not_done o t q n = no_path o t items q (λ k x at d. other_level q x.path (λ e. n (subst (λ l. is_done o t l ≡ true) (sym e) d)))
+  not_done : (o : Order) (t : ℕ) (q : List ℕ) → (is_level_done o t (level_of q) ≡ true → ⊥) → is_done_path o t items q ≡ false
+  not_done o t q n = no_path o t items q (λ k x at d. other_level q x.path (λ e. n (subst (λ l. is_level_done o t l ≡ true) (sym e) d)))
 
   -- what is done, or was never touched, is as after
-  as_after : (o : Order) (t : ℕ) (q : List ℕ) → is_done o t (level_of q) ≡ true → Acted deed o items fates before after
+  as_after : (o : Order) (t : ℕ) (q : List ℕ) → is_level_done o t (level_of q) ≡ true → Acted deed o items fates before after
       → get (stage o t items before after) q ≡ get after q
   as_after o t q d acted = elim (is_item items q) as (λ b. is_item items q ≡ b → get (stage o t items before after) q ≡ get after q) [
     | true ↦ λ on. elim (is_done_path o t items q) as (λ b. is_done_path o t items q ≡ b → get (stage o t items before after) q ≡ get after q) [
@@ -122,7 +115,7 @@ module _ (deed : Deed) (items : List Item) (fates : List Fate) (before after : F
       never off k x at = elim (pointwise nat_eq q x.path) as (λ b. pointwise nat_eq q x.path ≡ b → b ≡ false) [
         | true ↦ λ is. let e = (bytes_decides q x.path).0 is in
             absurd (false≢true (sym off ∙ ap (is_done_path o t items) e
-            ∙ its_path o t items k x at (subst (λ p. is_done o t (level_of p) ≡ true) e d)))
+            ∙ its_path o t items k x at (subst (λ p. is_level_done o t (level_of p) ≡ true) e d)))
         | false ↦ λ _. refl
       ] refl
 
@@ -133,7 +126,7 @@ module _ (deed : Deed) (items : List Item) (fates : List Fate) (before after : F
         ∙ sym (get_stage o t items before after q);
     touched = λ k x f at has lev g. moved o t t' n acted k x f at has lev g;
     untouched = λ k x f at has lev g.
-        at_done o t' x.path (its_path o t' items k x at (subst (λ m. is_done o t' m ≡ true) (sym lev) (now_done o t l t' n)))
+        at_done o t' x.path (its_path o t' items k x at (subst (λ m. is_level_done o t' m ≡ true) (sym lev) (now_done o t l t' n)))
         ∙ (acted.each k x f at has).untouched g
         ∙ sym (at_none o t x.path (not_done o t x.path (λ d. not_here o t l t' (level_of x.path) n d lev)));
   }
@@ -147,7 +140,7 @@ module _ (deed : Deed) (items : List Item) (fates : List Fate) (before after : F
         | false ↦ λ none. no_path o t' items q (λ k x at d. by k x at (done_after o t l t' (level_of x.path) n d) none)
       ] refl
         where
-          by : (k : ℕ) (x : Item) → slice_get items k ≡ Some x → (level_of x.path ≡ l) ⊎ (is_done o t (level_of x.path) ≡ true)
+          by : (k : ℕ) (x : Item) → slice_get items k ≡ Some x → (level_of x.path ≡ l) ⊎ (is_level_done o t (level_of x.path) ≡ true)
               → is_done_path o t items q ≡ false → pointwise nat_eq q x.path ≡ false
           by k x at (inl lev) none = off k x at lev
           by k x at (inr d) none = elim (pointwise nat_eq q x.path) as (λ b. pointwise nat_eq q x.path ≡ b → b ≡ false) [
@@ -168,7 +161,7 @@ module _ (deed : Deed) (items : List Item) (fates : List Fate) (before after : F
           let here : get (stage order.TopDown t' items before after) x.path ≡ get after x.path =
           at_done order.TopDown t' x.path
           (its_path order.TopDown t' items k x at
-          (subst (λ m. is_done order.TopDown t' m ≡ true) (sym lev) (now_done order.TopDown t l t' n))) in
+          (subst (λ m. is_level_done order.TopDown t' m ≡ true) (sym lev) (now_done order.TopDown t l t' n))) in
           let is : with_at x.path (get (stage order.TopDown t' items before after) x.path) (at_and_under x.path before)
           ≡ at_and_under x.path (stage order.TopDown t' items before after) =
           with_here x.path before _

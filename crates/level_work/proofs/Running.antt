@@ -11,7 +11,7 @@ use Rattle.path_text.specs.Path.{level_of, parent_of, refusal}
 use Rattle.outside.specs.Tree.{Files, is_dir, is_root}
 use Rattle.level_work.specs.Acts.{Deed, at_and_under, MakesDirs}
 use Rattle.level_work.specs.Levels.{found, left, Acted, SameButItems, is_item, FailsWith, ParentsFail, StandIn, AreItems}
-use Rattle.level_work.specs.Chain.{OneLevel, is_done, AllBelow, mark_at, level_at}
+use Rattle.level_work.specs.Chain.{OneLevel, is_level_done, AllBelow, mark_at, level_at}
 use Rattle.level_work.specs.Private.Steps.{Sofar, SameButLevel, CanStep, TellsLevel, Ran}
 use Rattle.level_work.specs.declared.items.Item.{Item}
 use Rattle.level_work.specs.declared.items.Fate.{Fate}
@@ -51,11 +51,11 @@ pub next_at : (o : Order) (top turn : ℕ) → turn < top → Next o (mark_at o 
 next_at order.TopDown top turn l = (refl, refl)
 next_at order.BottomUp top turn l = (omega (arith, l), omega (arith, l))
 
-pub not_yet : (o : Order) (top m : ℕ) → m < top → is_done o (mark_at o top 0) m ≡ false
+pub not_yet : (o : Order) (top m : ℕ) → m < top → is_level_done o (mark_at o top 0) m ≡ false
 not_yet order.TopDown top m l = grind (arith, nat_tests)
 not_yet order.BottomUp top m l = let e : top - 0 ≡ top = omega arith in ap (λ t. nat_le t m) e ∙ grind (arith, nat_tests)
 
-pub at_last : (o : Order) (top m : ℕ) → m < top → is_done o (mark_at o top top) m ≡ true
+pub at_last : (o : Order) (top m : ℕ) → m < top → is_level_done o (mark_at o top top) m ≡ true
 at_last order.TopDown top m l = true_lt m top l
 at_last order.BottomUp top m l = true_le (top - top) m (omega arith)
 
@@ -144,7 +144,7 @@ module _ (deed : Deed) (items : List Item) (fates : List Fate) (ok : AreItems it
           g : (f : Fate) × (slice_get fates p.place ≡ Some f)
           g = some_at fates p.place (omega (arith, len, slice_get_within items p.place p.item p.at))
 
-          below : is_done order.TopDown t (level_of p.item.path) ≡ true
+          below : is_level_done order.TopDown t (level_of p.item.path) ≡ true
           below = true_lt (level_of p.item.path) t (let a = parent_above x.path (ok.valid k x at) (ok.no_root k x at) in
               omega (arith, a, lev, n.0, ap level_of p.is))
 
@@ -191,13 +191,13 @@ ran_more deed o top turn items old new was now next l ok t one tells r = record 
 }
   where
     -- an item that is done, or is on the level, stands no deeper than it from the top down
-    no_deeper : (o : Order) (m : ℕ) → (m ≡ level_at o top turn) ⊎ (is_done o (mark_at o top turn) m ≡ true) → (m ≤ level_at o top turn) ⊎ (o ≡ order.BottomUp)
+    no_deeper : (o : Order) (m : ℕ) → (m ≡ level_at o top turn) ⊎ (is_level_done o (mark_at o top turn) m ≡ true) → (m ≤ level_at o top turn) ⊎ (o ≡ order.BottomUp)
     no_deeper order.BottomUp m h = inr refl
     no_deeper order.TopDown m (inl e) = inl (omega (arith, e))
     no_deeper order.TopDown m (inr d) = inl (let k = lt_true m turn d in omega (arith, k))
 
     told : (k : ℕ) (x : Item) (f : Fate) → slice_get items k ≡ Some x → slice_get new k ≡ Some f → (level_of x.path ≡ level_at o top turn)
-        ⊎ (is_done o (mark_at o top turn) (level_of x.path) ≡ true) → (f ≡ fate.ParentFailed) ↔ FailsWith o items new x
+        ⊎ (is_level_done o (mark_at o top turn) (level_of x.path) ≡ true) → (f ≡ fate.ParentFailed) ↔ FailsWith o items new x
     told k x f at has (inl lev) =
         both_ways (t.failed k x f at has lev)
         (fails_same o (level_at o top turn) items old new x (ok.valid k x at) (ok.no_root k x at)
@@ -211,7 +211,7 @@ ran_more deed o top turn items old new was now next l ok t one tells r = record 
 pub ran_told : (deed : Deed) (o : Order) (top turn : ℕ) (items : List Item) (fates : List Fate) (was now : Option Files) → turn ≡ top
     → AllBelow top items → Ran deed o top turn items fates was now → ParentsFail o items fates
 ran_told deed o top turn items fates was now e below r k x f at has =
-    r.told k x f at has (subst (λ u. is_done o (mark_at o top u) (level_of x.path) ≡ true) (sym e)
+    r.told k x f at has (subst (λ u. is_level_done o (mark_at o top u) (level_of x.path) ≡ true) (sym e)
     (at_last o top (level_of x.path) (below k x at)))
 
 pub ran_acted : (deed : Deed) (o : Order) (top turn : ℕ) (items : List Item) (fates : List Fate) (was now : Option Files) → turn ≡ top
@@ -221,7 +221,7 @@ ran_acted deed o top turn items fates was now e below r =
     (λ a b c s w. let v = subst (λ m. Sofar deed o (mark_at o top turn) items fates m c) (sym s) w in record {
       others = λ q off. v.pending q (λ k x at done. is_no_item items q k x off at);
       each = λ k x f at has. v.each k x f at has
-          (subst (λ u. is_done o (mark_at o top u) (level_of x.path) ≡ true) (sym e) (at_last o top (level_of x.path) (below k x at)));
+          (subst (λ u. is_level_done o (mark_at o top u) (level_of x.path) ≡ true) (sym e) (at_last o top (level_of x.path) (below k x at)));
     })
     (same_told (λ a b. a ≡ b) was (λ a. refl)) r.sofar
 

@@ -11,7 +11,7 @@ use Rattle.path_text.specs.Total.{path_cmp_total, path_cmp_ties, path_cmp_same}
 use Rattle.outside.specs.Tree.{Files, Node}
 use Rattle.level_work.specs.Acts.{Deed, at_and_under}
 use Rattle.level_work.specs.Levels.{with_at, HasFate}
-use Rattle.level_work.specs.Chain.{OneLevel, is_done}
+use Rattle.level_work.specs.Chain.{OneLevel, is_level_done}
 use Rattle.level_work.specs.Private.Steps.{Sofar}
 use Rattle.level_work.specs.declared.items.Item.{Item}
 use Rattle.level_work.specs.declared.items.Fate.{Fate}
@@ -67,7 +67,7 @@ true_lt a b e = grind (arith, nat_tests)
 pub true_le : (a b : ℕ) → a ≤ b → nat_le a b ≡ true
 true_le a b e = grind (arith, nat_tests)
 
-pub done_after : (o : Order) (t l t' m : ℕ) → Next o t l t' → is_done o t' m ≡ true → (m ≡ l) ⊎ (is_done o t m ≡ true)
+pub done_after : (o : Order) (t l t' m : ℕ) → Next o t l t' → is_level_done o t' m ≡ true → (m ≡ l) ⊎ (is_level_done o t m ≡ true)
 done_after order.TopDown t l t' m n e = elim (nat_lt m t) as (λ c. nat_lt m t ≡ c → (m ≡ l) ⊎ (nat_lt m t ≡ true)) [
   | true ↦ λ is. inr is
   | false ↦ λ is. inl (let k = lt_true m t' e in grind (arith, nat_tests))
@@ -78,22 +78,22 @@ done_after order.BottomUp t l t' m n e = elim (nat_le t m) as (λ c. nat_le t m 
 ] refl
 
 -- no item of the next level is done
-pub not_here : (o : Order) (t l t' m : ℕ) → Next o t l t' → is_done o t m ≡ true → m ≡ l → ⊥
+pub not_here : (o : Order) (t l t' m : ℕ) → Next o t l t' → is_level_done o t m ≡ true → m ≡ l → ⊥
 not_here order.TopDown t l t' m n e s = let k = lt_true m t e in omega (arith, n.0, s, k)
 not_here order.BottomUp t l t' m n e s = let k = le_true t m e in omega (arith, n.0, s, k)
 
-pub still_done : (o : Order) (t l t' m : ℕ) → Next o t l t' → is_done o t m ≡ true → is_done o t' m ≡ true
+pub still_done : (o : Order) (t l t' m : ℕ) → Next o t l t' → is_level_done o t m ≡ true → is_level_done o t' m ≡ true
 still_done order.TopDown t l t' m n e = let k = lt_true m t e in true_lt m t' (omega (arith, k, n.1))
 still_done order.BottomUp t l t' m n e = let k = le_true t m e in true_le t' m (omega (arith, k, n.0, n.1))
 
-pub now_done : (o : Order) (t l t' : ℕ) → Next o t l t' → is_done o t' l ≡ true
+pub now_done : (o : Order) (t l t' : ℕ) → Next o t l t' → is_level_done o t' l ≡ true
 now_done order.TopDown t l t' n = true_lt l t' (omega (arith, n.0, n.1))
 now_done order.BottomUp t l t' n = true_le t' l (omega (arith, n.1))
 
 module _ (deed : Deed) (items : List Item) (fates : List Fate) (before now next : Files) where
   -- an item that was done before keeps its fate
   old_fate : (o : Order) (t l t' : ℕ) (x : Item) (f : Fate) → Next o t l t' → 0 < length x.path → OneLevel deed l items fates now next
-      → is_done o t (level_of x.path) ≡ true → HasFate deed o before now x f → HasFate deed o before next x f
+      → is_level_done o t (level_of x.path) ≡ true → HasFate deed o before now x f → HasFate deed o before next x f
   old_fate order.TopDown t l t' x f n some one done h =
       let same : get next x.path ≡ get now x.path =
       one.others x.path (λ k y at on.
@@ -118,7 +118,7 @@ module _ (deed : Deed) (items : List Item) (fates : List Fate) (before now next 
 
   -- what an item of the next level finds is not yet touched
   new_fate : (o : Order) (t l t' k : ℕ) (x : Item) (f : Fate) → Next o t l t' → 0 < length x.path
-      → ((q : List ℕ) → ((k : ℕ) (x : Item) → slice_get items k ≡ Some x → is_done o t (level_of x.path) ≡ true
+      → ((q : List ℕ) → ((k : ℕ) (x : Item) → slice_get items k ≡ Some x → is_level_done o t (level_of x.path) ≡ true
       → pointwise nat_eq q x.path ≡ false) → get now q ≡ get before q) →
       OneLevel deed l items fates now next → slice_get items k ≡ Some x → slice_get fates k ≡ Some f → level_of x.path ≡ l → HasFate deed o before next x f
   new_fate order.TopDown t l t' k x f n some pending one at has lev =
@@ -150,15 +150,15 @@ module _ (deed : Deed) (items : List Item) (fates : List Fate) (before now next 
 
   -- one level more
   pub level_more : (o : Order) (t l t' : ℕ) (old : List Fate) → Next o t l t' → ((k : ℕ) (x : Item) → slice_get items k ≡ Some x → 0 < length x.path) →
-      ((k : ℕ) (x : Item) → slice_get items k ≡ Some x → is_done o t (level_of x.path) ≡ true → slice_get fates k ≡ slice_get old k) →
+      ((k : ℕ) (x : Item) → slice_get items k ≡ Some x → is_level_done o t (level_of x.path) ≡ true → slice_get fates k ≡ slice_get old k) →
       Sofar deed o t items old before now → OneLevel deed l items fates now next → Sofar deed o t' items fates before next
   level_more o t l t' old n some kept s one = record {
-    pending = λ q off. one.others q (λ k y at lev. off k y at (subst (λ m. is_done o t' m ≡ true) (sym lev) (now_done o t l t' n)))
+    pending = λ q off. one.others q (λ k y at lev. off k y at (subst (λ m. is_level_done o t' m ≡ true) (sym lev) (now_done o t l t' n)))
         ∙ s.pending q (λ k y at done. off k y at (still_done o t l t' (level_of y.path) n done));
     each = λ k x f at has done. by_level k x f at has (done_after o t l t' (level_of x.path) n done);
   }
     where
       by_level : (k : ℕ) (x : Item) (f : Fate) → slice_get items k ≡ Some x → slice_get fates k ≡ Some f → (level_of x.path ≡ l)
-          ⊎ (is_done o t (level_of x.path) ≡ true) → HasFate deed o before next x f
+          ⊎ (is_level_done o t (level_of x.path) ≡ true) → HasFate deed o before next x f
       by_level k x f at has (inl lev) = new_fate o t l t' k x f n (some k x at) s.pending one at has lev
       by_level k x f at has (inr done) = old_fate o t l t' x f n (some k x at) one done (s.each k x f at (sym (kept k x at done) ∙ has) done)

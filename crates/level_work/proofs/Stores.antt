@@ -2,7 +2,7 @@
 use Rattle.std.proofs.Common.{◌≡◌, ◌≢◌, ◌⊎◌, inl, inr, ℕ, zero, suc, ◌+◌, ◌<◌, ◌≤◌, Bool, true, false, cond, ◌||◌, List, [], ◌∷◌, length, take, Some}
 use Rattle.std.proofs.Common.{refl, ap, ◌∙◌, sym, arith, eqb, nat_eq, nat_lt, slice_get}
 use Rattle.std.specs.Prelude.{slice_set}
-use Rattle.std.proofs.lemmas.Bool.{false≢true}
+use Rattle.std.proofs.lemmas.Bool.{false≢true, or_right}
 use Rattle.std.proofs.lemmas.Option.{slice_get_within}
 use Rattle.std.proofs.lemmas.List.Sums.{sum_by-cons, sum_by-append}
 use Rattle.std.specs.List.{count_by, sum_by}
@@ -177,10 +177,6 @@ noted_skip n k f items fates places old now at has done w = record {
         let same : m ≡ k = same_some m k (sym at' ∙ ap (slice_get places) e ∙ at) in
         absurd (not (same_some g f (sym has' ∙ ap (slice_get fates) same ∙ has) ∙ done))
     by j m x g at' is has' not (inr l) = w.each j m x g l at' is has' not
-
-or_right : (a b : Bool) → b ≡ true → (a || b) ≡ true
-or_right true b e = refl
-or_right false b e = e
 
 pub noted_more : (n k : ℕ) (f : Fate) (x : Item) (items : List Item) (fates : List Fate) (places : List ℕ) (old now next : List (List ℕ))
     → slice_get places n ≡ Some k → slice_get items k ≡ Some x → slice_get fates k ≡ Some f → f ≢ fate.Done →

@@ -28,9 +28,9 @@ level_at order.TopDown top turn = turn
 level_at order.BottomUp top turn = top - 1 - turn
 
 -- whether the items of a level are done: from the top down those of the levels below t are, from the bottom up those from t on
-abbrev pub is_done : Order → ℕ → ℕ → Bool
-is_done order.TopDown t level = nat_lt level t
-is_done order.BottomUp t level = nat_le t level
+abbrev pub is_level_done : Order → ℕ → ℕ → Bool
+is_level_done order.TopDown t level = nat_lt level t
+is_level_done order.BottomUp t level = nat_le t level
 
 -- the work on one level
 pub record OneLevel (deed : Deed) (level : ℕ) (items : List Item) (fates : List Fate) (old new : Files) : Type 0 where
@@ -44,7 +44,7 @@ pub record OneLevel (deed : Deed) (level : ℕ) (items : List Item) (fates : Lis
 
 -- the path of an item whose level is done
 abbrev pub is_done_path : Order → ℕ → List Item → List ℕ → Bool
-is_done_path o t items q = list_any (λ item. pointwise nat_eq q item.path && is_done o t (level_of item.path)) items
+is_done_path o t items q = list_any (λ item. pointwise nat_eq q item.path && is_level_done o t (level_of item.path)) items
 
 -- the map once some levels are done: at the paths of their items as afterwards, at all others as before
 unfoldable pub stage : Order → ℕ → List Item → Files → Files → Files

@@ -13,6 +13,16 @@ is_failed fate.Changed = false
 is_failed fate.NotEmpty = false
 is_failed fate.TooLong = false
 
+abbrev pub is_done : Fate → Bool
+is_done fate.Done = true
+is_done fate.Failed = false
+is_done fate.Conflict = false
+is_done fate.Skipped = false
+is_done fate.ParentFailed = false
+is_done fate.Changed = false
+is_done fate.NotEmpty = false
+is_done fate.TooLong = false
+
 -- as many counts, none of which fell
 pub record NoneFell (old new : List ℕ) : Type 0 where
   pub len : length new ≡ length old

@@ -1,6 +1,6 @@
 -- The walk of a made-up tree, in which nothing fails: no child is too far down, and it is no longer than the nodes and `/`.
-use Rattle.std.proofs.Common.{◌≡◌, ℕ, ◌-◌, ◌≤◌, zero, suc, Bool, true, false, ◌||◌, cond, List}
-use Rattle.std.proofs.Common.{[], ◌∷◌, ◌++◌, length, Option, Some, None, refl, ap, ◌∙◌, sym, subst, arith}
+use Rattle.std.proofs.Common.{◌≡◌, ℕ, ◌-◌, ◌≤◌, zero, suc, true, false, ◌||◌, cond, List}
+use Rattle.std.proofs.Common.{[], ◌∷◌, length, Option, Some, None, refl, ap, ◌∙◌, sym, subst, arith}
 use Rattle.std.specs.Prelude.{All}
 use Rattle.std.specs.Option.{is_some, IsSome}
 use Rattle.std.specs.List.{AllByRecursion, Contains, flat_map, list_any, count_by}
@@ -24,18 +24,16 @@ use Rattle.path_text.specs.Total.{path_cmp_total, path_cmp_ties}
 use Rattle.outside.specs.Tree.{Files, Node, far_at, IsTree}
 use Rattle.entry_pages.specs.declared.entries.Entry.{Entry}
 use Rattle.entry_pages.specs.declared.entries.Mark.TheVariants as mark
+use Rattle.entry_pages.proofs.Counted.{bit}
 use Rattle.tree_walk.specs.Walk.{walk, walk_down, all_told, told, entry_of, children_of, paths_of, WalkAscends, WalkFindsAll}
 use Rattle.tree_walk.specs.Roots.{is_in, is_in_some, IsRoots}
+use Rattle.tree_walk.proofs.Lists.{all_append}
 use Rattle.test_tree.specs.Nodes.{test_files}
 use Rattle.test_tree.specs.Laws.{FirstNodeIsThere, TestFilesAreTree, NoChildIsFar, NodesAreCounted}
 use Rattle.list_report.specs.Laws.{MadeWalkIsFine}
 use Rattle.list_report.specs.Tests.{made_root}
 
 -- what holds of the entry of each path holds of a walk
-
-all_append : {X : Type 0} (P : X → Type 0) (xs ys : List X) → AllByRecursion P xs → AllByRecursion P ys → AllByRecursion P (xs ++ ys)
-all_append P [] ys h g = g
-all_append P (x ∷ xs) ys h g = (h.0, all_append P xs ys h.1 g)
 
 all_flat : {X Y : Type 0} (P : Y → Type 0) (f : X → List Y) → ((x : X) → AllByRecursion P (f x)) → (xs : List X) → AllByRecursion P (flat_map f xs)
 all_flat P f h [] = tt
@@ -96,12 +94,8 @@ is_short ascends finds files root tree valid there =
 
 -- ---- one root
 
-at_most_one : (b : Bool) → cond b 1 0 ≤ 1
-at_most_one true = omega arith
-at_most_one false = omega arith
-
 one_apart : (x root : List ℕ) → count_by (is_in x) (root ∷ []) ≤ 1
-one_apart x root = let parts = sum_by-cons (λ r. cond (is_in x r) 1 0) root [] in omega (arith, parts, at_most_one (is_in x root))
+one_apart x root = let parts = sum_by-cons (λ r. cond (is_in x r) 1 0) root [] in omega (arith, parts, bit (is_in x root))
 
 is_its_root : IsRoots (made_root ∷ []) (made_root ∷ [])
 unfolding IsStrictlySortedBy

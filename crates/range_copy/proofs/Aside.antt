@@ -1,7 +1,7 @@
 -- The targets of large files are no sources, no parents of targets, and no other entry's targets.
 use Rattle.std.proofs.Common.{◌≡◌, ℕ, zero, suc, Bool, true, false, cond, ◌||◌, List, [], ◌∷◌, ◌++◌, map}
 use Rattle.std.proofs.Common.{Some, None, refl, ap, ◌∙◌, sym, subst, nat_eq, slice_get}
-use Rattle.std.proofs.lemmas.Bool.{false≢true, or_parts}
+use Rattle.std.proofs.lemmas.Bool.{false≢true, or_parts, false_from_ne_true}
 use Rattle.std.specs.List.{AllByRecursion, list_any}
 use Rattle.std.specs.Cmp.Lexicographic.{pointwise, bytes_decides}
 use Rattle.std.specs.declared.cmp.Ordering.TheVariants.{Less}
@@ -16,10 +16,12 @@ use Rattle.tree_copy.specs.Copying.{target_of}
 use Rattle.tree_copy.specs.Placing.{IsPair, overlap}
 use Rattle.tree_copy.specs.declared.pairs.Pair.{Pair}
 use Rattle.tree_copy.proofs.Ends.{Fine, Goes, all_at, at_of, meets, no_root, one_over, one_path}
+use Rattle.tree_copy.proofs.Comes.{weaker}
+use Rattle.tree_copy.proofs.Fits.{Ascend, once}
 use Rattle.range_copy.specs.PrivateLarge.{AreApart, is_target_of}
 use Rattle.range_copy.specs.PrivateParts.{is_large, large_of, small_of}
 use Rattle.range_copy.proofs.Fitted.{Free, Known}
-use Rattle.range_copy.proofs.Parted.{Ascend, large_all, off_by, small_all, weaker}
+use Rattle.range_copy.proofs.Parted.{large_all, small_all}
 
 -- a source and a target of any two pairs are apart
 
@@ -50,12 +52,13 @@ map_get f (y ∷ xs) (suc k) x e = map_get f xs k x e
 -- entries of two parts, and two large ones, have other paths
 
 differ : (a b : List ℕ) → path_cmp a b ≡ Less → pointwise nat_eq a b ≡ false
-differ a b less = off_by (pointwise nat_eq a b) (λ same.
+differ a b less = false_from_ne_true (pointwise nat_eq a b) (λ same.
     let is = (bytes_decides a b).0 same in
     one_way a a (ap (path_cmp a) is ∙ less) (ap (path_cmp a) is ∙ less))
 
 differ_back : (a b : List ℕ) → path_cmp a b ≡ Less → pointwise nat_eq b a ≡ false
-differ_back a b less = off_by (pointwise nat_eq b a) (λ same. false≢true (sym (differ a b less) ∙ (bytes_decides a b).1 (sym ((bytes_decides b a).0 same))))
+differ_back a b less =
+    false_from_ne_true (pointwise nat_eq b a) (λ same. false≢true (sym (differ a b less) ∙ (bytes_decides a b).1 (sym ((bytes_decides b a).0 same))))
 
 pub other_paths : (piece : ℕ) (es : List Entry) → Ascend es →
     AllByRecursion (λ e. AllByRecursion (λ l. pointwise nat_eq e.path l.path ≡ false) (large_of piece es)) (small_of piece es)
@@ -63,7 +66,7 @@ other_paths piece [] s = tt
 other_paths piece (x ∷ rest) s =
     elim (is_large piece x rest) as (λ b. AllByRecursion (λ (e : Entry). AllByRecursion (λ (l : Entry). pointwise nat_eq e.path l.path ≡ false)
     (cond b (x ∷ large_of piece rest) (large_of piece rest))) (cond b (small_of piece rest) (x ∷ small_of piece rest))) [
-      | true ↦ Rattle.range_copy.proofs.Parted.together (λ (e : Entry). path_cmp x.path e.path ≡ Less)
+      | true ↦ Rattle.tree_copy.proofs.Copies.together (λ (e : Entry). path_cmp x.path e.path ≡ Less)
           (λ (e : Entry). AllByRecursion (λ (l : Entry). pointwise nat_eq e.path l.path ≡ false) (large_of piece rest))
           (λ (e : Entry). AllByRecursion (λ (l : Entry). pointwise nat_eq e.path l.path ≡ false) (x ∷ large_of piece rest)) (small_of piece rest)
           (λ e less all. (differ_back x.path e.path less, all)) (small_all (λ e. path_cmp x.path e.path ≡ Less) piece rest s.0) (other_paths piece rest s.1)
@@ -74,21 +77,6 @@ other_paths piece (x ∷ rest) s =
       )
     ]
 
-lower_at : (e : Entry) (es : List Entry) → AllByRecursion (λ f. path_cmp e.path f.path ≡ Less) es → (k : ℕ) (f : Entry) → slice_get es k ≡ Some f →
-    e.path ≡ f.path → ⊥
-lower_at e es h k f at same =
-    let l = at_of (λ (f : Entry). path_cmp e.path f.path ≡ Less) es h k f at in
-    let m : path_cmp e.path e.path ≡ Less = ap (path_cmp e.path) same ∙ l in
-    one_way e.path e.path m m
-
-once : (es : List Entry) → Ascend es → (j k : ℕ) (e f : Entry) → slice_get es j ≡ Some e → slice_get es k ≡ Some f → e.path ≡ f.path → j ≡ k
-once [] s zero k e f a b same = cc
-once [] s (suc j) k e f a b same = cc
-once (x ∷ es) s zero zero e f a b same = refl
-once (x ∷ es) s zero (suc k) e f a b same = let is : x ≡ e = cc in absurd (lower_at x es s.0 k f b (ap (λ (y : Entry). y.path) is ∙ same))
-once (x ∷ es) s (suc j) zero e f a b same = let is : x ≡ f = cc in absurd (lower_at x es s.0 j e a (ap (λ (y : Entry). y.path) is ∙ sym same))
-once (x ∷ es) s (suc j) (suc k) e f a b same = ap suc (once es s.1 j k e f a b same)
-
 module _ (pairs : List Pair) (f : Fine pairs) where
   -- a small entry's target is no large file's
   pub aside : (e : Entry) → Known pairs e → (ls : List Entry) → AllByRecursion (Known pairs) ls →
@@ -96,7 +84,7 @@ module _ (pairs : List Pair) (f : Fine pairs) where
       is_target_of pairs ls (target_of pairs e.path) ≡ false
   aside e k [] ks off = refl
   aside e k (l ∷ ls) ks off =
-      let here = off_by (pointwise nat_eq (target_of pairs e.path) (target_of pairs l.path)) (λ same.
+      let here = false_from_ne_true (pointwise nat_eq (target_of pairs e.path) (target_of pairs l.path)) (λ same.
       let is = one_path pairs f e.path l.path k.0 ks.0.0 k.1 ks.0.1 ((bytes_decides (target_of pairs e.path) (target_of pairs l.path)).0 same) in
       false≢true (sym off.0 ∙ (bytes_decides e.path l.path).1 is))
       in
@@ -106,7 +94,7 @@ module _ (pairs : List Pair) (f : Fine pairs) where
       AllByRecursion (λ e. is_target_of pairs (large_of piece es) (target_of pairs e.path) ≡ false) (small_of piece es)
   all_aside piece es s k =
       let ls = large_all (Known pairs) piece es k in
-      Rattle.range_copy.proofs.Parted.together (Known pairs)
+      Rattle.tree_copy.proofs.Copies.together (Known pairs)
       (λ (e : Entry). AllByRecursion (λ (l : Entry). pointwise nat_eq e.path l.path ≡ false) (large_of piece es))
       (λ (e : Entry). is_target_of pairs (large_of piece es) (target_of pairs e.path) ≡ false) (small_of piece es)
       (λ e h o. aside e h (large_of piece es) ls o) (small_all (Known pairs) piece es k) (other_paths piece es s)
@@ -117,7 +105,7 @@ module _ (pairs : List Pair) (f : Fine pairs) where
 
   -- a source is no target
   no_source : (e l : Entry) → Known pairs e → Known pairs l → pointwise nat_eq e.path (target_of pairs l.path) ≡ false
-  no_source e l k m = off_by (pointwise nat_eq e.path (target_of pairs l.path)) (λ same.
+  no_source e l k m = false_from_ne_true (pointwise nat_eq e.path (target_of pairs l.path)) (λ same.
       let g = k.0 in
       let h = m.0 in
       let is = (bytes_decides e.path (target_of pairs l.path)).0 same in

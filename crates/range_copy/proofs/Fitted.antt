@@ -1,7 +1,7 @@
 -- The small entries of a list fit the tree as all of them do, and where their copy is done the large ones can be made.
 use Rattle.std.proofs.Common.{◌≡◌, ◌⊎◌, inl, inr, ℕ, Bool, true, false, not, cond, ◌||◌, ◌&&◌, List, [], ◌∷◌, map}
 use Rattle.std.proofs.Common.{Option, Some, None, IfSome, refl, ap, ◌∙◌, sym, subst, nat_eq, is_some}
-use Rattle.std.proofs.lemmas.Bool.{false≢true, or_parts}
+use Rattle.std.proofs.lemmas.Bool.{false≢true, or_parts, false_from_ne_true}
 use Rattle.std.proofs.lemmas.List.Elements.{All-from_recursion, recursion_from_All}
 use Rattle.std.specs.FinMap.{get}
 use Rattle.std.specs.List.{All, AllByRecursion, list_any, zip}
@@ -19,15 +19,20 @@ use Rattle.flat_list.specs.Spelling.{paths}
 use Rattle.entry_pages.specs.declared.entries.Entry.{Entry}
 use Rattle.level_work.specs.declared.items.Fate.{Fate}
 use Rattle.level_work.specs.declared.items.Fate.TheVariants as fate
-use Rattle.tree_copy.specs.Copying.{FitsTree, IsCopied, IsCopyOf, clashes, due, early, is_done}
+use Rattle.level_work.specs.Counts.{is_done}
+use Rattle.tree_copy.specs.Copying.{FitsTree, IsCopied, IsCopyOf, clashes, due, early}
 use Rattle.tree_copy.specs.Copying.{is_target, is_untold, may_fail, or_else, target_of, treated}
 use Rattle.tree_copy.specs.declared.pairs.Pair.{Pair}
 use Rattle.tree_copy.proofs.Ends.{Fine, Goes, goes}
 use Rattle.tree_copy.proofs.Fits.{told_dir, told_there}
+use Rattle.tree_copy.proofs.Copiers.{done_is}
+use Rattle.tree_copy.proofs.Comes.{weaker}
+use Rattle.tree_copy.proofs.Copies.{together}
+use Rattle.tree_copy.proofs.Fits.{Ascend}
 use Rattle.range_copy.specs.PrivateLarge.{is_target_of}
 use Rattle.range_copy.specs.PrivateParts.{large_of, small_of}
-use Rattle.range_copy.proofs.Parted.{Ascend, large_all, none_under, off_by, over_target, small_all, target_in_parts}
-use Rattle.range_copy.proofs.Parted.{together, treated_small, weaker}
+use Rattle.range_copy.proofs.Parted.{large_all, none_under, over_target, small_all, target_in_parts}
+use Rattle.range_copy.proofs.Parted.{treated_small}
 
 -- what is known of each entry
 abbrev pub Known : List Pair → Entry → Type 0
@@ -63,7 +68,7 @@ module _ (moves : ParentMovesToo) (over : ParentIsOver) (order : IsPreorder) (ne
       is_target_of pairs ls (parent_of (target_of pairs e.path)) ≡ false
   no_parent e k [] ks off = refl
   no_parent e k (l ∷ ls) ks off =
-      let here = off_by (pointwise nat_eq (parent_of (target_of pairs e.path)) (target_of pairs l.path)) (λ same.
+      let here = false_from_ne_true (pointwise nat_eq (parent_of (target_of pairs e.path)) (target_of pairs l.path)) (λ same.
       let is = (bytes_decides (parent_of (target_of pairs e.path)) (target_of pairs l.path)).0 same in
       false≢true (sym off.0 ∙ over_target moves over pairs f e.path l.path k.0 ks.0.0 k.1 ks.0.1 (sym is)))
       in
@@ -132,16 +137,6 @@ copied_dir stat source None new k c copy = dir_after new (subst (λ k. IsCopyOf 
 copied_dir stat source (Some n) new k c copy =
     let same : new ≡ Some n = subst (λ k. IsCopyOf k source (Some n) new) k copy in
     ap is_dir same ∙ dir_kind n.body (ap (λ k. is_kind (kind_of n.body) k) (sym k) ∙ not_on (is_kind (kind_of n.body) stat.kind) c)
-
-done_is : (f : Fate) → is_done f ≡ true → f ≡ fate.Done
-done_is fate.Done e = refl
-done_is fate.Failed e = absurd (false≢true e)
-done_is fate.Conflict e = absurd (false≢true e)
-done_is fate.Skipped e = absurd (false≢true e)
-done_is fate.ParentFailed e = absurd (false≢true e)
-done_is fate.Changed e = absurd (false≢true e)
-done_is fate.NotEmpty e = absurd (false≢true e)
-done_is fate.TooLong e = absurd (false≢true e)
 
 abbrev Row : Type 0
 Row = Entry × (List ℕ × Fate)

@@ -2,7 +2,7 @@
 use Rattle.std.proofs.Common.{◌≡◌, ℕ, zero, suc, ◌+◌, ◌*◌, ◌<◌, ◌≤◌, Bool, true, false, cond, ◌||◌, List, [], ◌∷◌, ◌++◌}
 use Rattle.std.proofs.Common.{length, take, Option, Some, None, IfSome}
 use Rattle.std.proofs.Common.{refl, ap, ◌∙◌, sym, subst, arith, nat_eq, get_or, is_some, slice_get, length-append}
-use Rattle.std.proofs.lemmas.Bool.{false≢true, or_parts}
+use Rattle.std.proofs.lemmas.Bool.{false≢true, or_parts, false_from_ne_true}
 use Rattle.std.proofs.lemmas.Slice.Zip.{all_zipped_more}
 use Rattle.std.proofs.lemmas.List.Folds.{list_any-append}
 use Rattle.std.proofs.lemmas.List.Sums.{sum_by-cons}
@@ -14,15 +14,15 @@ use Rattle.outside.specs.Count.{RoseBy}
 use Rattle.outside.specs.Tree.{Files, content, is_dir, is_file}
 use Rattle.outside.specs.Writes.{SameBut}
 use Rattle.entry_pages.specs.declared.entries.Entry.{Entry}
-use Rattle.level_work.specs.Counts.{is_failed}
+use Rattle.level_work.specs.Counts.{is_failed, is_done}
 use Rattle.level_work.specs.declared.items.Fate.{Fate}
-use Rattle.tree_copy.specs.Copying.{IsCopied, IsEarly, is_done, target_of}
+use Rattle.level_work.proofs.Working.{both_told}
+use Rattle.tree_copy.specs.Copying.{IsCopied, IsEarly, target_of}
 use Rattle.tree_copy.specs.declared.pairs.Pair.{Pair}
 use Rattle.tree_copy.proofs.Ends.{at_of}
 use Rattle.range_copy.specs.PrivateLarge.{AreApart, AreFailed, AreRows, CanMake, IsRow, SameButFor, bytes_over, gain, is_target_of}
 use Rattle.range_copy.proofs.Composed.{StandApart, both_copied}
-use Rattle.tree_copy.proofs.Puts.{both_told, mapped}
-use Rattle.range_copy.proofs.Parted.{off_by}
+use Rattle.tree_copy.proofs.Puts.{mapped}
 use Rattle.range_copy.proofs.Rows.{Row, Told}
 
 -- what is so at every place before one
@@ -51,7 +51,7 @@ any_taken p (e ∷ es) (suc k) h =
 module _ (pairs : List Pair) (large : List Entry) (apart : AreApart pairs large) (k : ℕ) (e : Entry) (at : slice_get large k ≡ Some e) where
   no_target : is_target_of pairs (take k large) (target_of pairs e.path) ≡ false
   no_target = none_below (λ l. pointwise nat_eq (target_of pairs e.path) (target_of pairs l.path)) large k
-      (λ j l less there. off_by (pointwise nat_eq (target_of pairs e.path) (target_of pairs l.path)) (λ same.
+      (λ j l less there. false_from_ne_true (pointwise nat_eq (target_of pairs e.path) (target_of pairs l.path)) (λ same.
       let is = apart.distinct k j e l at there same in absurd (omega (arith, is, less))))
 
   no_source : is_target_of pairs (take k large) e.path ≡ false
@@ -65,7 +65,7 @@ module _ (pairs : List Pair) (large : List Entry) (apart : AreApart pairs large)
   pub next_apart : StandApart pairs (take k large) (e ∷ [])
   next_apart = record {
     first = all_below (λ l. is_target_of pairs (e ∷ []) (target_of pairs l.path) ≡ false) large k
-        (λ j l less there. ap (λ b. b || false) (off_by (pointwise nat_eq (target_of pairs l.path) (target_of pairs e.path)) (λ same.
+        (λ j l less there. ap (λ b. b || false) (false_from_ne_true (pointwise nat_eq (target_of pairs l.path) (target_of pairs e.path)) (λ same.
         let is = apart.distinct j k l e there at same in absurd (omega (arith, is, less)))));
     second = (no_target, tt);
     sources = (no_source, tt);

@@ -3,13 +3,13 @@ use Rattle.std.proofs.Common.{◌≡◌, ℕ, zero, suc, ◌+◌, ◌-◌, ◌�
 use Rattle.std.proofs.Common.{slice_get, append_assoc}
 use Rattle.std.specs.Prelude.{reverse, nat_lt}
 use Rattle.std.specs.List.{AllByRecursion}
-use Rattle.std.proofs.lemmas.Bool.{false≢true, ltb-true}
+use Rattle.std.proofs.lemmas.Bool.{false≢true, ltb-true, and_parts}
 use Rattle.std.proofs.lemmas.List.{length-map, map-append, reverse-append}
 use Rattle.outside.specs.Spans.{Piece, are_cuts, ascends_above, pieces, pieces_from}
 use Rattle.range_copy.specs.PrivateFilling.{IsLoad, spans_left}
 use Rattle.range_copy.specs.Ranges.{end_of, last_of}
 use Rattle.range_copy.specs.declared.loads.Load.{Load}
-use Rattle.range_copy.proofs.Cover.{both, last_above}
+use Rattle.range_copy.proofs.Cover.{last_above}
 
 pub same_some : {X : Type 0} (a b : X) → Some a ≡ Some b → a ≡ b
 same_some a b e = cc
@@ -43,9 +43,9 @@ up_at : (at : ℕ) (cuts : List ℕ) (k a b : ℕ) → ascends_above at cuts ≡
 up_at at [] zero a b u e f = cc
 up_at at [] (suc k) a b u e f = cc
 up_at at (cut ∷ cuts) zero a b u e f =
-    let t = both (nat_lt at cut) (ascends_above cut cuts) u in
+    let t = and_parts (nat_lt at cut) (ascends_above cut cuts) u in
     (omega (arith, ltb-true at cut t.0, same_some at a e, same_some cut b f), omega (arith, last_above cut cuts t.1, same_some cut b f))
-up_at at (cut ∷ cuts) (suc k) a b u e f = up_at cut cuts k a b (both (nat_lt at cut) (ascends_above cut cuts) u).1 e f
+up_at at (cut ∷ cuts) (suc k) a b u e f = up_at cut cuts k a b (and_parts (nat_lt at cut) (ascends_above cut cuts) u).1 e f
 
 -- two cuts of a file that stand side by side
 pub record SideBySide (cuts : List ℕ) (k a b : ℕ) : Type 0 where
@@ -58,7 +58,7 @@ side_by_side [] k a b c e f = absurd (false≢true c)
 side_by_side (first ∷ []) k a b c e f = absurd (false≢true c)
 side_by_side (first ∷ second ∷ cuts) k a b c e f =
     let next : slice_get (first ∷ second ∷ cuts) (suc k) ≡ Some b = ap (slice_get (first ∷ second ∷ cuts)) (sym (more k)) ∙ f in
-    let u = both (Rattle.std.specs.Prelude.◌==◌ first 0) (ascends_above first (second ∷ cuts)) c in
+    let u = and_parts (Rattle.std.specs.Prelude.◌==◌ first 0) (ascends_above first (second ∷ cuts)) c in
     let r = up_at first (second ∷ cuts) k a b u.1 e next in
     record { up = r.0; inside = r.1; piece = λ path. pieces_at path first (second ∷ cuts) k a b e next }
   where

@@ -13,11 +13,12 @@ use Rattle.outside.specs.Tree.{Files, is_dir, is_root}
 use Rattle.outside.specs.Writes.{Area, in_area, is_open, is_top, make_refusal, new_file}
 use Rattle.outside.specs.declared.plots.WriteError.TheVariants as write
 use Rattle.tree_copy.proofs.Places.{Gone}
-use Rattle.tree_copy.proofs.Puts.{answered, both_told, free, put_here, put_others}
+use Rattle.tree_copy.proofs.Puts.{answered, free, put_here, put_others}
 use Rattle.range_copy.specs.declared.came.Came.{Came}
 use Rattle.range_copy.specs.declared.came.Came.TheVariants as came
 use Rattle.range_copy.specs.declared.cutting.RangeError.{RangeError}
 use Rattle.range_copy.specs.PrivatePlacing.{Leaves, MadeAs, ReplacedAs, freed}
+use Rattle.level_work.proofs.Working.{both_told}
 
 pub made : (area : Area) (p : List ℕ) (t t' : Option Files) →
     IfSome t (λ files. (make_refusal area files p ≡ None) × (t' ≡ Some (insert files p (new_file [])))) →

@@ -1,7 +1,7 @@
 -- The multiples below a size, and the size, are cuts.
-use Rattle.std.proofs.Common.{◌≡◌, ℕ, zero, suc, ◌+◌, ◌-◌, ◌*◌, ◌/◌, ◌≤◌, ◌<◌, Bool, true, false, ◌&&◌, List, [], ◌∷◌, ◌++◌, length}
+use Rattle.std.proofs.Common.{◌≡◌, ℕ, zero, suc, ◌+◌, ◌-◌, ◌*◌, ◌/◌, ◌≤◌, ◌<◌, Bool, true, false, List, [], ◌∷◌, ◌++◌, length}
 use Rattle.std.proofs.Common.{refl, ap, ◌∙◌, sym, cond, arith}
-use Rattle.std.proofs.lemmas.Bool.{false≢true, lt-ltb, ltb-true, ltb-false}
+use Rattle.std.proofs.lemmas.Bool.{lt-ltb, ltb-true, ltb-false, and_from}
 use Rattle.std.proofs.lemmas.List.{length-append}
 use Rattle.std.proofs.Math.Numerals.{suc-eq-add-one}
 use Rattle.std.proofs.lemmas.Nat.{div_below}
@@ -22,17 +22,13 @@ one_step at step (suc n) =
     let e : at + step + n * step ≡ at + suc n * step = grind arith in
     ap (λ xs. at ∷ xs) (one_step (at + step) step n ∙ ap (λ x. steps_from (at + step) step n ++ x ∷ []) e)
 
-two_true : (a b : Bool) → a ≡ true → b ≡ true → (a && b) ≡ true
-two_true true b p q = q
-two_true false b p q = absurd (false≢true p)
-
 up : (n before at step size : ℕ) → 1 ≤ step → before < at → before < size → at + n * step < size + step
     → ascends_above before (steps_from at step n ++ size ∷ []) ≡ true
-up zero before at step size s p q l = two_true (nat_lt before size) true (lt-ltb before size q) refl
+up zero before at step size s p q l = and_from (nat_lt before size) true (lt-ltb before size q) refl
 up (suc n) before at step size s p q l =
     let inside : at < size = grind arith in
     let next : at + step + n * step < size + step = grind arith in
-    two_true (nat_lt before at) (ascends_above at (steps_from (at + step) step n ++ size ∷ [])) (lt-ltb before at p)
+    and_from (nat_lt before at) (ascends_above at (steps_from (at + step) step n ++ size ∷ [])) (lt-ltb before at p)
     (up n at (at + step) step size s (omega (arith, s)) inside next)
 
 some_cuts : (rest : List ℕ) → 0 < length rest → ascends_above 0 rest ≡ true → are_cuts (0 ∷ rest) ≡ true

@@ -2,7 +2,7 @@
 use Rattle.std.proofs.Common.{◌≡◌, ℕ, zero, suc, ◌+◌, Bool, true, false, not, cond, ◌||◌, ◌&&◌, List, [], ◌∷◌, ◌++◌}
 use Rattle.std.proofs.Common.{length, take, Option, Some, None, refl, ap}
 use Rattle.std.proofs.Common.{◌∙◌, sym, arith, nat_eq, slice_get}
-use Rattle.std.proofs.lemmas.Bool.{false≢true}
+use Rattle.std.proofs.lemmas.Bool.{false≢true, false_from_ne_true}
 use Rattle.std.proofs.lemmas.List.Folds.{list_any-append}
 use Rattle.std.specs.Prelude.{nat_le, Result, Ok, Err, OnOk}
 use Rattle.std.specs.List.{list_any}
@@ -11,10 +11,11 @@ use Rattle.std.specs.Cmp.Lexicographic.{pointwise, bytes_decides}
 use Rattle.path_text.specs.Graft.{below_of, grafted}
 use Rattle.path_text.specs.Order.{is_within}
 use Rattle.level_work.specs.declared.items.Fate.{Fate}
-use Rattle.tree_copy.specs.Copying.{is_done, target_of}
+use Rattle.level_work.specs.Counts.{is_done}
+use Rattle.tree_copy.specs.Copying.{target_of}
 use Rattle.tree_copy.specs.declared.pairs.Pair.{Pair}
 use Rattle.range_copy.specs.PrivateLarge.{AreFailed, failed_at, fitting_target, has_path}
-use Rattle.range_copy.proofs.Parted.{off_by, turned_off}
+use Rattle.range_copy.proofs.Parted.{turned_off}
 use Rattle.range_copy.proofs.Rows.{Row}
 use Rattle.range_copy.proofs.Tried.{fits, too_long}
 
@@ -35,7 +36,7 @@ or_none : (b : Bool) → (b || (false || false)) ≡ b
 or_none true = refl
 or_none false = refl
 
-and_done : (b : Bool) → (b && false) ≡ false
+pub and_done : (b : Bool) → (b && false) ≡ false
 and_done true = refl
 and_done false = refl
 
@@ -58,7 +59,7 @@ noted_done pairs rows paths p f is h q short =
 pub noted_long : (pairs : List Pair) (rows : List Row) (paths : List (List ℕ)) (p : List ℕ) (f : Fate) → fitting_target pairs p ≡ None →
     AreFailed pairs rows paths → AreFailed pairs (rows ++ (p, f) ∷ []) paths
 noted_long pairs rows paths p f is h q short =
-    let off = off_by (pointwise nat_eq (target_of pairs p) q) (λ same.
+    let off = false_from_ne_true (pointwise nat_eq (target_of pairs p) q) (λ same.
     let e = (bytes_decides (target_of pairs p) q).0 same in
     false≢true (sym (too_long pairs p is) ∙ ap (λ t. nat_le (length t) 4095) e ∙ short)) in
     h q short

@@ -1,7 +1,7 @@
 -- The parts of a list: nothing stands under a large file, and no target of a large file is another entry's, or the parent of one.
 use Rattle.std.proofs.Common.{◌≡◌, ◌≢◌, ⊎_elim, ℕ, Bool, true, false, not, cond, ◌||◌, ◌&&◌, List, [], ◌∷◌, map}
 use Rattle.std.proofs.Common.{length, Option, Some, None, refl, ap, ◌∙◌, sym, subst, arith, nat_eq, is_some}
-use Rattle.std.proofs.lemmas.Bool.{false≢true}
+use Rattle.std.proofs.lemmas.Bool.{false≢true, not-true, false_from_ne_true}
 use Rattle.std.proofs.lemmas.List.Elements.{All-from_recursion, recursion_from_All}
 use Rattle.std.specs.List.{AllByRecursion, list_any}
 use Rattle.std.specs.List.Sorted.{IsStrictlySortedBy}
@@ -24,6 +24,8 @@ use Rattle.tree_copy.specs.Copying.{CanCopy, is_target, target_of, treated}
 use Rattle.tree_copy.specs.declared.pairs.Pair.{Pair}
 use Rattle.tree_copy.specs.Placing.{IsPair}
 use Rattle.tree_copy.proofs.Ends.{Fine, Goes, all_at, no_root, one_path, target_by, under_kept}
+use Rattle.tree_copy.proofs.Copies.{together}
+use Rattle.tree_copy.proofs.Fits.{Ascend, ascends}
 use Rattle.range_copy.specs.PrivateLarge.{is_target_of}
 use Rattle.range_copy.specs.PrivateParts.{exceeds, has_under, is_large, large_of, small_of}
 
@@ -41,14 +43,6 @@ large_all P piece (e ∷ rest) h =
     elim (is_large piece e rest) as (λ b. AllByRecursion P (cond b (e ∷ large_of piece rest) (large_of piece rest)))
     [ true ↦ (h.0, large_all P piece rest h.1) | false ↦ large_all P piece rest h.1 ]
 
-pub weaker : {X : Type 0} (P Q : X → Type 0) (xs : List X) → ((x : X) → P x → Q x) → AllByRecursion P xs → AllByRecursion Q xs
-weaker P Q [] h p = tt
-weaker P Q (x ∷ xs) h p = (h x p.0, weaker P Q xs h p.1)
-
-pub together : {X : Type 0} (P Q R : X → Type 0) (xs : List X) → ((x : X) → P x → Q x → R x) → AllByRecursion P xs → AllByRecursion Q xs → AllByRecursion R xs
-together P Q R [] h p q = tt
-together P Q R (x ∷ xs) h p q = (h x p.0 q.0, together P Q R xs h p.1 q.1)
-
 -- a large file has a stat, and exceeds the piece
 
 and_left : (a b : Bool) → (a && b) ≡ true → a ≡ true
@@ -58,10 +52,6 @@ and_left false b e = absurd (false≢true e)
 and_right : (a b : Bool) → (a && b) ≡ true → b ≡ true
 and_right true b e = e
 and_right false b e = absurd (false≢true e)
-
-not_off : (b : Bool) → not b ≡ true → b ≡ false
-not_off true e = absurd (false≢true e)
-not_off false e = refl
 
 pub has_stat : (piece : ℕ) (e : Entry) (rest : List Entry) → is_large piece e rest ≡ true → is_some e.stat ≡ true
 has_stat piece e rest l = by e.stat (and_left _ _ (and_left (exceeds piece e) (not (has_under e rest)) l))
@@ -156,22 +146,9 @@ target_in_parts pairs piece es q =
 
 -- entries that ascend
 
-abbrev pub Ascend : List Entry → Type 0
-Ascend [] = Unit {0}
-Ascend (e ∷ es) = AllByRecursion (λ f. path_cmp e.path f.path ≡ Less) es × Ascend es
-
-above : (p : List ℕ) (es : List Entry) → AllByRecursion (λ q. path_cmp p q ≡ Less) (paths es) → AllByRecursion (λ e. path_cmp p e.path ≡ Less) es
-above p [] h = tt
-above p (e ∷ es) h = (h.0, above p es h.1)
-
 below : (p : List ℕ) (es : List Entry) → AllByRecursion (λ e. path_cmp p e.path ≡ Less) es → AllByRecursion (λ q. path_cmp p q ≡ Less) (paths es)
 below p [] h = tt
 below p (e ∷ es) h = (h.0, below p es h.1)
-
-pub ascends : (es : List Entry) → IsStrictlySortedBy path_cmp (paths es) → Ascend es
-unfolding IsStrictlySortedBy
-ascends [] s = tt
-ascends (e ∷ es) s = (above e.path es s.0, ascends es s.1)
 
 pub sorted : (es : List Entry) → Ascend es → IsStrictlySortedBy path_cmp (paths es)
 unfolding IsStrictlySortedBy
@@ -203,13 +180,9 @@ can_small piece es pairs c =
       apart = c.apart;
     }
 
-pub off_by : (b : Bool) → (b ≡ true → ⊥) → b ≡ false
-off_by true h = absurd (h refl)
-off_by false h = refl
-
 -- two paths differ either way round
 pub turned_off : (a b : List ℕ) → pointwise nat_eq a b ≡ false → pointwise nat_eq b a ≡ false
-turned_off a b off = off_by (pointwise nat_eq b a) (λ same. false≢true (sym off ∙ (bytes_decides a b).1 (sym ((bytes_decides b a).0 same))))
+turned_off a b off = false_from_ne_true (pointwise nat_eq b a) (λ same. false≢true (sym off ∙ (bytes_decides a b).1 (sym ((bytes_decides b a).0 same))))
 
 -- nothing stands under a large file
 
@@ -218,16 +191,16 @@ Valid e = refusal e.path ≡ None
 
 module _ (order : IsPreorder) (near : UnderIsContiguous) where
   not_above : (x l : List ℕ) → path_cmp x l ≡ Less → is_under x l ≡ false
-  not_above x l less = off_by (is_under x l) (λ u. one_way x l less (order.top_down x l u))
+  not_above x l less = false_from_ne_true (is_under x l) (λ u. one_way x l less (order.top_down x l u))
 
   not_itself : (x : List ℕ) → is_under x x ≡ false
-  not_itself x = off_by (is_under x x) (λ u. absurd (omega (arith, under_longer x x u)))
+  not_itself x = false_from_ne_true (is_under x x) (λ u. absurd (omega (arith, under_longer x x u)))
 
   behind : (x h : Entry) → Valid x → Valid h → path_cmp x.path h.path ≡ Less → is_under h.path x.path ≡ false → (es : List Entry) →
       AllByRecursion (λ e. path_cmp h.path e.path ≡ Less) es → AllByRecursion (λ e. is_under e.path x.path ≡ false) es
   behind x h v w less off [] a = tt
   behind x h v w less off (e ∷ es) a = (
-    off_by (is_under e.path x.path) (λ u. false≢true (sym off ∙ near.between x.path h.path e.path v w less a.0 u)),
+    false_from_ne_true (is_under e.path x.path) (λ u. false≢true (sym off ∙ near.between x.path h.path e.path v w less a.0 u)),
     behind x h v w less off es a.1,
   )
 
@@ -235,7 +208,7 @@ module _ (order : IsPreorder) (near : UnderIsContiguous) where
       AllByRecursion (λ e. is_under e.path x.path ≡ false) rest
   after piece x [] s v l = tt
   after piece x (h ∷ rest) s v l =
-      let off = not_off (is_under h.path x.path) (and_right (exceeds piece x) (not (is_under h.path x.path)) l) in
+      let off = not-true (is_under h.path x.path) (and_right (exceeds piece x) (not (is_under h.path x.path)) l) in
       (off, behind x h v.0 v.1.0 s.0.0 off rest s.1.0)
 
   pub none_under : (piece : ℕ) (es : List Entry) → Ascend es → AllByRecursion Valid es →

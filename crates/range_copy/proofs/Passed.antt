@@ -9,15 +9,12 @@ use Rattle.entry_pages.specs.declared.entries.Entry.{Entry}
 use Rattle.range_copy.specs.PrivateParts.{ArePartsOf, exceeds, has_under, held_of, is_large, is_over, large_of, marks_of, merged, row_of, small_of}
 use Rattle.range_copy.specs.declared.parting.Parts.{Parts}
 use Rattle.range_copy.proofs.Parted.{has_stat}
+use Rattle.range_copy.proofs.Noted.{and_done}
 
 -- whether an entry is large
 
-and_off : (b : Bool) → (b && false) ≡ false
-and_off true = refl
-and_off false = refl
-
 pub small_over : (piece : ℕ) (e : Entry) (rest : List Entry) → has_under e rest ≡ true → is_large piece e rest ≡ false
-small_over piece e rest h = ap (λ b. exceeds piece e && not b) h ∙ and_off (exceeds piece e)
+small_over piece e rest h = ap (λ b. exceeds piece e && not b) h ∙ and_done (exceeds piece e)
 
 pub small_less : (piece : ℕ) (e : Entry) (rest : List Entry) → exceeds piece e ≡ false → is_large piece e rest ≡ false
 small_less piece e rest h = ap (λ b. b && not (has_under e rest)) h

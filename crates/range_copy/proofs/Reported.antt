@@ -10,9 +10,9 @@ use Rattle.outside.specs.Tree.{Files, IsTree}
 use Rattle.entry_pages.specs.Entries.{bytes_by}
 use Rattle.flat_list.specs.Spelling.{paths}
 use Rattle.entry_pages.specs.declared.entries.Entry.{Entry}
-use Rattle.level_work.specs.Counts.{is_failed}
+use Rattle.level_work.specs.Counts.{is_failed, is_done}
 use Rattle.level_work.specs.declared.items.Fate.{Fate}
-use Rattle.tree_copy.specs.Copying.{AreEarly, CanCopy, Copied, FitsTree, IsCopied, IsEarly, SameButTargets, bytes_copied, is_done, treated}
+use Rattle.tree_copy.specs.Copying.{AreEarly, CanCopy, Copied, FitsTree, IsCopied, IsEarly, SameButTargets, bytes_copied, treated}
 use Rattle.tree_copy.specs.declared.pairs.Pair.{Pair}
 use Rattle.range_copy.specs.PrivateLarge.{AreApart, AreFailed, AreRows, CanMake, SameButFor, bytes_over}
 use Rattle.range_copy.specs.PrivateParts.{exceeds, large_of, marks_of, merged, small_of}
@@ -148,6 +148,3 @@ module _ (list : List Entry) (pairs : List Pair) (given : Given list pairs) (pie
   all_reported small large marks s l m ran (Err e) own copied bytes = tt
 
 -- what is so of a result where something else is
-pub if_so : {X E : Type 0} (P Q : X → Type 0) (r : Result X E) → ((x : X) → P x → Q x) → IfOk r P → IfOk r Q
-if_so P Q (Ok x) h p = h x p
-if_so P Q (Err e) h p = tt

@@ -3,7 +3,7 @@ use Rattle.std.proofs.Common.{◌≡◌, ◌≢◌, ◌⊎◌, inl, inr, ℕ, �
 use Rattle.std.proofs.Common.{map, drop, Option, Some, None}
 use Rattle.std.proofs.Common.{refl, ap, ◌∙◌, sym, subst, arith, append-nil}
 use Rattle.std.specs.Prelude.{Result, Ok, Err, IfOk, IsTrue, nat_lt, ◌==◌}
-use Rattle.std.proofs.lemmas.Bool.{false≢true, ltb-true}
+use Rattle.std.proofs.lemmas.Bool.{false≢true, ltb-true, and_parts}
 use Rattle.std.proofs.lemmas.List.Elements.{All-from_recursion}
 use Rattle.std.proofs.lemmas.List.Sums.{sum_by-append, sum_by-cons}
 use Rattle.std.specs.List.{AllByRecursion, sum_by}
@@ -39,7 +39,6 @@ use Rattle.range_copy.specs.declared.filled.Filled.TheVariants as filled
 use Rattle.range_copy.specs.declared.fillers.Filler.{Filler}
 use Rattle.range_copy.specs.declared.loads.Load.{Load}
 use Rattle.range_copy.proofs.Counted.{rose_after}
-use Rattle.range_copy.proofs.Cover.{both}
 use Rattle.range_copy.proofs.Joined.{head_of, tail_of}
 use Rattle.range_copy.proofs.Loaded.{all_both}
 use Rattle.range_copy.proofs.Outcomes.{outcome_by, outcome_rest}
@@ -286,7 +285,7 @@ module _ {T S : Type 0} (asks : Asks T) (piece : S → Piece) (span_count : S �
   read_from path at [] done e a h = tt
   read_from path at (cut ∷ cuts) [] e a h = cc
   read_from path at (cut ∷ cuts) (s ∷ done) e a h =
-      let up = both (nat_lt at cut) (ascends_above cut cuts) a in
+      let up = and_parts (nat_lt at cut) (ascends_above cut cuts) a in
       let here = head_of (piece s) (record { path = path; start = at; size = cut - at }) (map piece done) (pieces_from path cut cuts) e in
       let rest = tail_of (piece s) (record { path = path; start = at; size = cut - at }) (map piece done) (pieces_from path cut cuts) e in
       (by (ltb-true at cut up.0) (subst (IsRead asks source) here h.0), read_from path cut cuts done rest up.1 h.1)
@@ -301,7 +300,7 @@ module _ {T S : Type 0} (asks : Asks T) (piece : S → Piece) (span_count : S �
   read_cuts path [] done e a h = absurd (false≢true a)
   read_cuts path (first ∷ []) done e a h = absurd (false≢true a)
   read_cuts path (first ∷ second ∷ cuts) done e a h =
-      read_from path first (second ∷ cuts) done e (both (first == 0) (ascends_above first (second ∷ cuts)) a).1 h
+      read_from path first (second ∷ cuts) done e (and_parts (first == 0) (ascends_above first (second ∷ cuts)) a).1 h
 
 -- the cuts end at the size
 

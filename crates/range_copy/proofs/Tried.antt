@@ -16,11 +16,11 @@ use Rattle.outside.specs.declared.trees.Kind.TheVariants as kind
 use Rattle.outside.specs.declared.trees.Stat.{Stat}
 use Rattle.entry_pages.specs.Entries.{is_kind, is_of, size_by}
 use Rattle.entry_pages.specs.declared.entries.Entry.{Entry}
-use Rattle.level_work.specs.Counts.{is_failed}
+use Rattle.level_work.specs.Counts.{is_failed, is_done}
 use Rattle.level_work.specs.declared.items.Fate.{Fate}
 use Rattle.level_work.specs.declared.items.Fate.TheVariants as fate
 use Rattle.tree_copy.specs.Copying.{IsCopied, IsCopyOf, IsEarly, body_of}
-use Rattle.tree_copy.specs.Copying.{clashes, early, is_done, is_tried, is_untold, may_fail, parent_failed, target_of}
+use Rattle.tree_copy.specs.Copying.{clashes, early, is_tried, is_untold, may_fail, parent_failed, target_of}
 use Rattle.tree_copy.specs.declared.pairs.Pair.{Pair}
 use Rattle.range_copy.specs.Large.{HasBytes, IsSource, in_way}
 use Rattle.range_copy.specs.Large as large

@@ -23,7 +23,8 @@ use Rattle.outside.specs.declared.trees.Stat.{Stat}
 use Rattle.entry_pages.specs.Entries.{is_kind, is_of, size_by}
 use Rattle.flat_list.specs.Spelling.{paths}
 use Rattle.entry_pages.specs.declared.entries.Entry.{Entry}
-use Rattle.tree_copy.specs.Copying.{AreEarly, CanCopy, Copied, FitsTree, IsCopied, IsEarly, SameButTargets, early, is_done, is_target}
+use Rattle.level_work.specs.Counts.{is_done}
+use Rattle.tree_copy.specs.Copying.{AreEarly, CanCopy, Copied, FitsTree, IsCopied, IsEarly, SameButTargets, early, is_target}
 use Rattle.tree_copy.specs.Copying.{is_tried, is_untold, target_of, treated}
 use Rattle.tree_copy.specs.Placing.{IsPair}
 use Rattle.tree_copy.specs.declared.pairs.Pair.{Pair}
@@ -35,11 +36,15 @@ use Rattle.range_copy.specs.PrivateParts.{exceeds, large_of, marks_of, merged, s
 use Rattle.range_copy.proofs.Aside.{all_aside, are_apart, aside, other_paths}
 use Rattle.range_copy.proofs.Composed.{StandApart, both_copied, copied_by}
 use Rattle.range_copy.proofs.Fitted.{Free, Known, fits_small, free_all, known_all, parent_done, treated_all, turned}
-use Rattle.tree_copy.proofs.Puts.{both_told, mapped}
-use Rattle.range_copy.proofs.Parted.{Ascend, all_exceed, any_map, ascends, can_small, large_all, large_ascend, small_all, target_in_parts, together}
-use Rattle.range_copy.proofs.Parted.{treated_large, turned_off, weaker}
+use Rattle.tree_copy.proofs.Puts.{mapped}
+use Rattle.tree_copy.proofs.Comes.{weaker}
+use Rattle.tree_copy.proofs.Copies.{together}
+use Rattle.tree_copy.proofs.Fits.{Ascend, ascends}
+use Rattle.range_copy.proofs.Parted.{all_exceed, any_map, can_small, large_all, large_ascend, small_all, target_in_parts}
+use Rattle.range_copy.proofs.Parted.{treated_large, turned_off}
 use Rattle.range_copy.proofs.Rows.{Row, Told, merged_failed, merged_rows, rows_told, rows_with, told_rows}
 use Rattle.range_copy.proofs.Tried.{early_by, is_file_of, less_too}
+use Rattle.level_work.proofs.Working.{both_told}
 
 abbrev InSource : List Pair → Entry → Type 0
 InSource pairs e = list_any (λ (pair : Pair). is_within e.path pair.source) pairs ≡ true

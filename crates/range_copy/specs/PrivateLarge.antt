@@ -10,7 +10,8 @@ use Rattle.entry_pages.specs.Entries.{bytes_by, size_by}
 use Rattle.entry_pages.specs.declared.entries.Entry.{Entry}
 use Rattle.level_work.specs.declared.items.Fate.{Fate}
 use Rattle.level_work.specs.declared.items.Fate.TheVariants as fate
-use Rattle.tree_copy.specs.Copying.{is_done, target_of}
+use Rattle.level_work.specs.Counts.{is_done}
+use Rattle.tree_copy.specs.Copying.{target_of}
 use Rattle.tree_copy.specs.declared.pairs.Pair.{Pair}
 use Rattle.range_copy.specs.Large.{IsSource}
 use Rattle.range_copy.specs.declared.came.Came.{Came}

@@ -7,7 +7,7 @@ ghost use Rattle.path_text.specs.Order.{is_within};
 ghost use Rattle.path_text.specs.Path.{parent_of, refusal};
 ghost use Rattle.outside.specs.Tree.{is_root};
 ghost use Rattle.level_work.specs.declared.items.Fate.{Fate};
-ghost use Rattle.tree_copy.specs.Copying.{is_done};
+ghost use Rattle.level_work.specs.Counts.{is_done};
 ghost use Rattle.range_copy.specs.PrivateLarge.{AreFailed, fitting, fitting_target, has_path};
 
 use crate::cutting::RangeError;

@@ -6,10 +6,10 @@ ghost use Rattle.outside.specs.Count.{RoseBy};
 ghost use Rattle.outside.specs.Tree.{is_root};
 ghost use Rattle.outside.specs.Writes.{SameBut, nothing_lent};
 ghost use Rattle.entry_pages.specs.Entries.{size_by};
-ghost use Rattle.level_work.specs.Counts.{is_failed};
+ghost use Rattle.level_work.specs.Counts.{is_failed, is_done};
 ghost use Rattle.level_work.specs.declared.items.Fate.{Fate};
 ghost use Rattle.tree_copy.specs.Causes.{HasCause};
-ghost use Rattle.tree_copy.specs.Copying.{IsCopied, IsEarly, is_done, target_of};
+ghost use Rattle.tree_copy.specs.Copying.{IsCopied, IsEarly, target_of};
 ghost use Rattle.range_copy.specs.PrivateLarge.{AreApart, AreFailed, AreRows, CanMake, SameButFor, bytes_over, fate_of, gain};
 ghost use Rattle.range_copy.specs.PrivateParts.{exceeds};
 

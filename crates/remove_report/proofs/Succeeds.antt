@@ -1,7 +1,6 @@
 -- When drm succeeds.
 use Rattle.std.proofs.Common.{◌≡◌, inr, ⊎_elim, ℕ, zero, suc, ◌+◌, ◌<◌, ◌≤◌, Bool, true, false, cond, ◌||◌, ◌&&◌, List, [], ◌∷◌, ◌++◌, length, map}
-use Rattle.std.proofs.Common.{Option, Some, None, IfSome, refl, ap, ◌∙◌, sym, subst, arith, nat_eq, nat_lt, is_some, get_or, length-append}
-use Rattle.std.proofs.lemmas.Bool.{false≢true}
+use Rattle.std.proofs.Common.{Some, refl, ap, ◌∙◌, sym, subst, arith, nat_eq, nat_lt, get_or, length-append}
 use Rattle.std.proofs.lemmas.Bool.Decides.{nat_tests}
 use Rattle.std.proofs.lemmas.List.Elements.{All-filter, All-from_recursion, recursion_from_All}
 use Rattle.std.specs.Prelude.{◌==◌}
@@ -31,6 +30,7 @@ use Rattle.run_report.specs.declared.stops.Stop.TheVariants as stop
 use Rattle.run_report.specs.Sides.{Side, side_with}
 use Rattle.run_entries.specs.Fine.{IsFineSide, DoneNamesNothing, StillCounts, FineFindsNameNothing, FineFindsStopForMemory, FineWalksNameNothing}
 use Rattle.run_entries.specs.Naming.{on_side, removal_notes}
+use Rattle.run_entries.proofs.Fine.{of_told, some_of}
 use Rattle.remove_report.specs.Choosing.{Acts, Chooses, Removes}
 use Rattle.remove_report.specs.Laws.{FineRemoveSucceeds}
 use Rattle.remove_report.specs.Removing.{ReportsRemove, StopsRemove, FineRemove}
@@ -110,19 +110,6 @@ pub record Laws : Type 0 where
   pub go : WholeChoicesGo
   pub done : DoneNamesNothing
   pub still : StillCounts
-
-some_of : (P : Files → Files → Type 0) (t t' : Option Files) (files : Files) → t ≡ Some files → is_some t' ≡ is_some t → IfSome t (λ old. IfSome t' (P old)) →
-    (after : Files) × P files after
-some_of P None t' files e tells h = cc
-some_of P (Some old) None files e tells h = absurd (false≢true tells)
-some_of P (Some old) (Some after) files e tells h = (after, subst (λ o. P o after) (ap (λ o. the o files) e) h)
-  where
-    the : Option Files → Files → Files
-    the None d = d
-    the (Some f) d = f
-
-of_told : (P : Files → Type 0) (tree : Option Files) (files : Files) → tree ≡ Some files → IfSome tree P → P files
-of_told P tree files told h = subst (λ t. IfSome t P) told h
 
 no_notes : Laws → (asked : RemoveAsked) (now : ℕ) (before after : Side) → WithinRemove asked → FineRemove asked now before after →
     (chosen : List Entry) (named : List Note) (found : ℕ) → Chooses asked now before (side_with before.tree found) chosen named → (rows : List Row) →

@@ -3,7 +3,7 @@ use Rattle.std.specs.Prelude.{◌≡◌, ℕ, Bool, List, ◌++◌, length}
 use Rattle.std.specs.List.{count_by}
 use Rattle.entry_pages.specs.declared.entries.Entry.{Entry}
 use Rattle.level_work.specs.declared.items.Fate.{Fate}
-use Rattle.tree_remove.specs.Removing.{is_done}
+use Rattle.level_work.specs.Counts.{is_done}
 use Rattle.tool_text.specs.Lines.{lines_of}
 use Rattle.tool_text.specs.declared.noting.Note.{Note}
 use Rattle.tool_text.specs.Notes.{note_lines}

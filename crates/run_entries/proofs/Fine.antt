@@ -39,7 +39,7 @@ use Rattle.run_entries.specs.Choosing.{newer_in}
 use Rattle.run_entries.specs.Naming.{look_whys, look_notes, on_side, listing_notes}
 use Rattle.run_entries.specs.Saving.{Saved}
 use Rattle.run_entries.specs.Entries.{Walked, Listed}
-use Rattle.run_entries.specs.Stopping.{IsTooMuch, IsDamagedList, IsAbsent, StopsListing, StopsAt}
+use Rattle.run_entries.specs.Stopping.{HasTooManyEntries, IsDamagedList, IsAbsent, StopsListing, StopsAt}
 use Rattle.run_entries.specs.Fine.{IsFineWalk, IsFineList, IsFineStart, FineFindsNameNothing, FineFindsStopForMemory, FineWalksNameNothing}
 use Rattle.run_entries.specs.Fine.{FineWalksAreWhole, FineWalksStopForMemory, FinePlacesStopForMemory}
 
@@ -92,8 +92,19 @@ pub record Laws : Type 0 where
   pub one_roots : RootsAreUnique
 
 -- what is so of files that tell their tree
-of_told : (P : Files → Type 0) (tree : Option Files) (files : Files) → tree ≡ Some files → IfSome tree P → P files
+pub of_told : (P : Files → Type 0) (tree : Option Files) (files : Files) → tree ≡ Some files → IfSome tree P → P files
 of_told P tree files told h = subst (λ t. IfSome t P) told h
+
+-- a relation of two trees is so of the one that is told
+pub some_of : (P : Files → Files → Type 0) (t t' : Option Files) (files : Files) → t ≡ Some files → is_some t' ≡ is_some t →
+    IfSome t (λ old. IfSome t' (P old)) → (after : Files) × P files after
+some_of P None t' files e tells h = cc
+some_of P (Some old) None files e tells h = absurd (false≢true tells)
+some_of P (Some old) (Some after) files e tells h = (after, subst (λ o. P o after) (ap (λ o. the o files) e) h)
+  where
+    the : Option Files → Files → Files
+    the None d = d
+    the (Some x) d = x
 
 fine : (files : Files) (starts : List (List ℕ)) (entries : List Entry) → WalkWithoutFaultsIsFine → (0 < length starts → IsTree files) →
     All (λ root. is_some (get files root) ≡ true) starts → entries ≡ flat_map (walk files (answers_in entries)) starts → sum_by weight_of entries ≡ 0 →
@@ -171,7 +182,7 @@ names_nothing laws one told order common start choice now before after chosen no
 -- ---- what is fine does not stop a run
 
 too_much : (start : Origin) (files : Files) (before after : Side) → Laws → RefusesExactly → All Valid (paths_in start) → before.tree ≡ Some files →
-    IsTooMuch start before after → IsFineStart files start → StoodStill before.count after.count → ⊥
+    HasTooManyEntries start before after → IsFineStart files start → StoodStill before.count after.count → ⊥
 too_much (roots given) files before after laws exact valid told long f stood =
     absurd (omega (arith, long.many, f.few, ap length (whole given files long.entries before after laws valid told long.walked f stood).same))
 too_much (input path) files before after laws exact valid told long f stood =

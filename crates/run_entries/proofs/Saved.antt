@@ -1,5 +1,5 @@
 -- The tree after outputs are saved.
-use Rattle.std.proofs.Common.{◌≡◌, ℕ, ◌+◌, ◌<◌, ◌≤◌, suc, Bool, true, false, ◌||◌, List, [], ◌∷◌, ◌++◌, map, length, take, drop, get_or, cond, Option}
+use Rattle.std.proofs.Common.{◌≡◌, ℕ, ◌+◌, ◌<◌, ◌≤◌, suc, true, List, [], ◌∷◌, ◌++◌, map, length, take, drop, get_or, cond, Option}
 use Rattle.std.proofs.Common.{Some, None, IfSome, refl, sym, ap, subst, ◌∙◌, arith, add-one}
 use Rattle.std.specs.Prelude.{Result, Ok, Err, IfErr}
 use Rattle.std.specs.Option.{is_some}
@@ -8,7 +8,7 @@ use Rattle.std.specs.Cmp.Lexicographic.{pointwise}
 use Rattle.std.specs.Prelude.{nat_eq}
 use Rattle.std.specs.FinMap.{get, insert, get-insert}
 use Rattle.std.proofs.Math.Seq.{drop-cons, take-suc}
-use Rattle.std.proofs.lemmas.Bool.{false≢true}
+use Rattle.std.proofs.lemmas.Bool.{false≢true, or_parts}
 use Rattle.std.proofs.lemmas.List.{take-append-drop}
 use Rattle.path_text.specs.Total.{path_cmp_total, path_cmp_ties}
 use Rattle.outside.specs.Tree.{Files}
@@ -32,10 +32,6 @@ pub record KeptBut (path : List ℕ) (old new : Option Files) : Type 0 where
   pub tells : is_some new ≡ is_some old
   pub same : IfSome old (λ files. IfSome new (SameBut path files))
 
-not_either : (a b : Bool) → (a || b) ≡ false → (a ≡ false) × (b ≡ false)
-not_either true b e = absurd (false≢true (sym e))
-not_either false b e = (refl, e)
-
 all_kept : (paths : List (List ℕ)) (tree : Option Files) → Kept paths tree tree
 all_kept paths None = record { tells = refl; same = tt }
 all_kept paths (Some files) = record { tells = refl; same = λ q off. refl }
@@ -48,7 +44,7 @@ first_kept path paths (Some files) (Some during) None h g = absurd (false≢true
 first_kept path paths (Some files) (Some during) (Some after) h g =
     record {
       tells = refl;
-      same = λ q off. let both = not_either (pointwise nat_eq q path) (list_any (pointwise nat_eq q) paths) off in
+      same = λ q off. let both = or_parts (pointwise nat_eq q path) (list_any (pointwise nat_eq q) paths) off in
           g.same q both.1 ∙ h.same q both.0;
     }
 

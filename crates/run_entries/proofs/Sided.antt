@@ -59,7 +59,7 @@ is_side top es before after v w valid ascend = record {
       (recursion_from_All (λ (e : Entry). refusal e.path ≡ None) es valid) (recursion_from_All (λ (e : Entry). is_in_some w.roots e.path ≡ true) es w.within));
 }
 
-stat_told : (m : Mark) (found : Option Node) (told : Option Stat) → told ≡ stat_by m found → IfSome told (λ stat. option_map stat_of found ≡ Some stat)
+pub stat_told : (m : Mark) (found : Option Node) (told : Option Stat) → told ≡ stat_by m found → IfSome told (λ stat. option_map stat_of found ≡ Some stat)
 stat_told m found None e = tt
 stat_told mark.StatFailed found (Some stat) e = absurd (cc)
 stat_told mark.Gone found (Some stat) e = sym e

@@ -14,7 +14,7 @@ use Rattle.tool_words.specs.Limits.{CommonWithin}
 use Rattle.tree_walk.specs.declared.errors.WalkError.{WalkError}
 use Rattle.tree_walk.specs.Walk.{walk, answers_in}
 use Rattle.tree_walk.specs.Roots.{IsRoots}
-use Rattle.tree_walk.specs.Found.{IsFound, IsWalkOf, IsTooMuch, IfTooMany}
+use Rattle.tree_walk.specs.Found.{IsFound, IsWalkOf, FoundTooMany, IfTooMany}
 use Rattle.tree_walk.specs.Cut.{IsTooMany}
 use Rattle.tree_walk.specs.declared.errors.WalkError.TheVariants as error
 use Rattle.run_report.specs.Sides.{Side}
@@ -61,6 +61,6 @@ told common before after given starts (Err e) are is account = tt
 
 -- without a stop only a whole walk is too much
 pub too_much : (e : WalkError) (tree : Option Files) (starts : List (List ℕ)) (old new : ℕ) → IfTooMany e (IsTooMany None tree starts old new) →
-    IfTooMany e (IsTooMuch tree starts old new)
+    IfTooMany e (FoundTooMany tree starts old new)
 too_much error.OutOfMemory tree starts old new h = tt
 too_much (error.TooMany n) tree starts old new h = ⊎_elim (λ whole. whole) (λ cut. absurd (false≢true cut.0)) h

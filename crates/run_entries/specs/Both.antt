@@ -3,6 +3,7 @@ use Rattle.std.specs.Prelude.{◌≡◌, ◌⊎◌, ℕ, ◌≤◌, true, List, 
 use Rattle.outside.specs.Tree.{Files}
 use Rattle.entry_pages.specs.declared.entries.Entry.{Entry}
 use Rattle.entry_pages.specs.Entries.{is_shaped}
+use Rattle.flat_list.specs.Spelling.{max_entries}
 use Rattle.tree_cmp.specs.Readers.{StatsTold}
 use Rattle.tree_cmp.specs.Sides.{side, IsSide}
 use Rattle.tool_words.specs.Asked.{roots}
@@ -17,8 +18,8 @@ pub record WalksBoth (left_top right_top : List ℕ) (left right : List Entry) (
   pub between : ℕ
   pub source : Walked (left_top ∷ []) left before (side_with before.tree between)
   pub destination : Walked (right_top ∷ []) right (side_with before.tree between) after
-  pub few_left : length left ≤ 4194304
-  pub few_right : length right ≤ 4194304
+  pub few_left : length left ≤ max_entries
+  pub few_right : length right ≤ max_entries
 
 -- each list is that of a side, and of the tree that the files tell, if they tell it
 pub record AreSides (tree : Option Files) (sides : Sides) : Type 0 where
@@ -34,11 +35,11 @@ pub record StopsAfterSource (left_top right_top : List ℕ) (before after : Side
   pub left : List Entry
   pub between : ℕ
   pub source : Walked (left_top ∷ []) left before (side_with before.tree between)
-  pub few : length left ≤ 4194304
+  pub few : length left ≤ max_entries
   pub later : between ≤ after.count
   pub stops : StopsListing (roots (right_top ∷ [])) (side_with before.tree between) after why
 
 -- one of the two walks did not come to its end
-abbrev pub StopsWalking : (left_top right_top : List ℕ) → Side → Side → Stop → Type 0
-StopsWalking left_top right_top before after why =
+abbrev pub StopsEitherWalk : (left_top right_top : List ℕ) → Side → Side → Stop → Type 0
+StopsEitherWalk left_top right_top before after why =
     StopsListing (roots (left_top ∷ [])) before after why ⊎ StopsAfterSource left_top right_top before after why

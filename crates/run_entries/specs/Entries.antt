@@ -10,7 +10,7 @@ use Rattle.outside.specs.Whole.{HoldsFile}
 use Rattle.entry_pages.specs.declared.entries.Entry.{Entry}
 use Rattle.flat_list.specs.declared.ordering.Field.{Field}
 use Rattle.flat_list.specs.Orders.{sort_order}
-use Rattle.flat_list.specs.Spelling.{IsList, Spells}
+use Rattle.flat_list.specs.Spelling.{IsList, Spells, max_entries}
 use Rattle.path_looks.specs.declared.looks.Look.{Look}
 use Rattle.path_looks.specs.Looks.{AreLooks}
 use Rattle.tool_text.specs.declared.noting.Note.{Note}
@@ -63,7 +63,7 @@ pub record Surveyed (start : Origin) (choice : Option Choice) (before after : Si
   pub looked : AreLooks before.tree (newer_in choice) looks before.count between
   pub later : between ≤ after.count
   pub listed : Listed start entries (side_with before.tree between) after
-  pub few : length entries ≤ 4194304
+  pub few : length entries ≤ max_entries
 
 -- what a run finds in its files: what it chooses, the notes of all that failed, and what is told of the walk
 pub record Finds (common : Common) (start : Origin) (choice : Option Choice) (now : ℕ) (before after : Side) (chosen : List Entry)

@@ -7,7 +7,7 @@ use Rattle.outside.specs.Count.{RoseBy, StoodStill}
 use Rattle.outside.specs.Whole.{HoldsFile, can_save}
 use Rattle.entry_pages.specs.declared.entries.Entry.{Entry}
 use Rattle.entry_pages.specs.declared.entries.Mark.TheVariants as mark
-use Rattle.flat_list.specs.Spelling.{Spells}
+use Rattle.flat_list.specs.Spelling.{Spells, max_entries}
 use Rattle.level_work.specs.declared.items.Fate.{Fate}
 use Rattle.level_work.specs.declared.items.Fate.TheVariants as fate
 use Rattle.tool_text.specs.declared.noting.Note.{Note}
@@ -32,7 +32,7 @@ pub record IsFineWalk (files : Files) (given : List (List ℕ)) : Type 0 where
   pub are : IsRoots given roots
   pub there : All (λ root. is_some (get files root) ≡ true) roots
   pub near : All (λ e. e.far ≡ 0) (flat_map (walk files all_told) roots)
-  pub few : length (flat_map (walk files all_told) roots) ≤ 4194304
+  pub few : length (flat_map (walk files all_told) roots) ≤ max_entries
 
 -- or in a list file: it is there, its bytes spell a list that is not too long, and each entry in it is fine
 pub record IsFineList (files : Files) (path : List ℕ) : Type 0 where
@@ -40,7 +40,7 @@ pub record IsFineList (files : Files) (path : List ℕ) : Type 0 where
   pub holds : HoldsFile bytes (get files path)
   pub entries : List Entry
   pub spells : Spells bytes entries
-  pub few : length entries ≤ 4194304
+  pub few : length entries ≤ max_entries
   pub fine : All (λ e. (e.mark ≡ mark.Fine) × (e.unnamed ≡ 0) × (e.far ≡ 0)) entries
 
 abbrev pub IsFineStart : Files → Origin → Type 0

@@ -5,7 +5,7 @@ use Rattle.outside.specs.Tree.{is_file}
 use Rattle.outside.specs.Count.{RoseBy}
 use Rattle.outside.specs.Whole.{HoldsFile, can_save}
 use Rattle.entry_pages.specs.declared.entries.Entry.{Entry}
-use Rattle.flat_list.specs.Spelling.{IsRefused, IsTooLong}
+use Rattle.flat_list.specs.Spelling.{IsRefused, IsTooLong, max_entries}
 use Rattle.path_looks.specs.declared.looks.Look.{Look}
 use Rattle.path_looks.specs.Looks.{AreLooks}
 use Rattle.tool_words.specs.Asked.{Origin, roots, input, Choice}
@@ -39,19 +39,19 @@ pub record FailedRead (start : Origin) (before after : Side) (path : List ℕ) :
 pub record IsTooLongWalk (given : List (List ℕ)) (before after : Side) : Type 0 where
   pub entries : List Entry
   pub walked : Walked given entries before after
-  pub many : 4194304 < length entries
+  pub many : max_entries < length entries
 
 -- more entries than a list may have: those of a walk, or those that stand first in the list that is read
-abbrev pub IsTooMuch : Origin → Side → Side → Type 0
-IsTooMuch (roots given) before after = IsTooLongWalk given before after
-IsTooMuch (input path) before after = IfSome before.tree (λ files. (bytes : List ℕ) × HoldsFile bytes (get files path) × IsTooLong bytes)
+abbrev pub HasTooManyEntries : Origin → Side → Side → Type 0
+HasTooManyEntries (roots given) before after = IsTooLongWalk given before after
+HasTooManyEntries (input path) before after = IfSome before.tree (λ files. (bytes : List ℕ) × HoldsFile bytes (get files path) × IsTooLong bytes)
 
 -- the entries were not listed
 abbrev pub StopsListing : Origin → Side → Side → Stop → Type 0
 StopsListing start before after stop.OutOfMemory = Unit {0}
 StopsListing start before after stop.Overlap = ⊥
 StopsListing start before after stop.NoDirectory = ⊥
-StopsListing start before after stop.TooMany = IsTooMuch start before after
+StopsListing start before after stop.TooMany = HasTooManyEntries start before after
 StopsListing start before after (stop.Stopped handled left) = ⊥
 StopsListing start before after (stop.Damaged path line) = IsDamagedList start before path line
 StopsListing start before after (stop.ListFile trouble.Absent path) = IsAbsent start before path
@@ -115,6 +115,6 @@ pub record StopsAfterListing (start : Origin) (choice : Option Choice) (output :
   pub stops : StopsSaving (output_of output (chosen_of (tests_in choice) looks now entries)) (side_with before.tree between) after why
 
 -- why a walk gave no list
-abbrev pub stop_by : WalkError → Stop
-stop_by walked.OutOfMemory = stop.OutOfMemory
-stop_by (walked.TooMany n) = stop.TooMany
+abbrev pub stop_of_walk : WalkError → Stop
+stop_of_walk walked.OutOfMemory = stop.OutOfMemory
+stop_of_walk (walked.TooMany n) = stop.TooMany

@@ -3,12 +3,13 @@ ghost use Rattle.std.specs.Prelude.{◌≡◌, ◌≤◌, ◌∷◌, [], All, le
 ghost use Rattle.path_text.specs.Path.{refusal};
 ghost use Rattle.outside.specs.Count.{RoseBy};
 ghost use Rattle.entry_pages.specs.Entries.{is_shaped};
+ghost use Rattle.flat_list.specs.Spelling.{max_entries};
 ghost use Rattle.tree_cmp.specs.Readers.{StatsTold};
 ghost use Rattle.tree_cmp.specs.Sides.{side, IsSide};
 ghost use Rattle.tool_words.specs.Asked.{roots};
 ghost use Rattle.tool_words.specs.Limits.{CommonWithin};
 ghost use Rattle.run_report.specs.Sides.{side_of};
-ghost use Rattle.run_entries.specs.Both.{AreSides, StopsWalking, WalksBoth};
+ghost use Rattle.run_entries.specs.Both.{AreSides, StopsEitherWalk, WalksBoth};
 ghost use Rattle.run_entries.specs.Entries.{Walked};
 ghost use Rattle.run_entries.specs.Stopping.{StopsListing};
 
@@ -54,7 +55,7 @@ where
     ensures tops { IfOk result (λ sides. (sides.left_top ≡ left_top) × (sides.right_top ≡ right_top)) }
     ensures walks { IfOk result (λ sides. WalksBoth left_top right_top sides.left sides.right (side_of G.Plot files.old) (side_of G.Plot files.new)) }
     ensures are { IfOk result (AreSides (G.tree files.old)) }
-    ensures stopped { IfErr result (StopsWalking left_top right_top (side_of G.Plot files.old) (side_of G.Plot files.new)) }
+    ensures stopped { IfErr result (StopsEitherWalk left_top right_top (side_of G.Plot files.old) (side_of G.Plot files.new)) }
     ensures same { G.tree files.new ≡ G.tree files.old }
     ensures area { G.area files.new ≡ G.area files.old }
     ensures count { RoseBy 0 (G.count files.old) (G.count files.new) }
@@ -82,7 +83,7 @@ where
     requires within { CommonWithin common.now }
     requires top { refusal top.now ≡ None }
     ensures walked { IfOk result (λ list. Walked (top.now ∷ []) list (side_of G.Plot files.old) (side_of G.Plot files.new)) }
-    ensures few { IfOk result (λ list. length list ≤ 4194304) }
+    ensures few { IfOk result (λ list. length list ≤ max_entries) }
     ensures side { IfOk result (λ list. IsSide (side top.now list)) }
     ensures told { IfOk result (λ list. IfSome (G.tree files.old) (λ tree. StatsTold tree list)) }
     ensures shaped { IfOk result (All (λ e. is_shaped e ≡ true)) }

@@ -68,4 +68,4 @@ pub use ordering::in_asked_order;
 pub use printing::notes_text;
 pub use reading::read_list;
 pub use saving::{Output, save_list, save_lists};
-pub use starting::{stop_by, walk_roots, walk_side};
+pub use starting::{stop_of_walk, walk_roots, walk_side};

@@ -7,7 +7,7 @@ ghost use Rattle.outside.specs.Count.{RoseBy};
 ghost use Rattle.outside.specs.Tree.{is_file};
 ghost use Rattle.outside.specs.Whole.{HoldsFile};
 ghost use Rattle.entry_pages.specs.Entries.{is_shaped};
-ghost use Rattle.flat_list.specs.Spelling.{paths};
+ghost use Rattle.flat_list.specs.Spelling.{paths, max_entries};
 ghost use Rattle.tool_words.specs.Asked.{input};
 ghost use Rattle.run_report.specs.Sides.{side_of};
 ghost use Rattle.run_entries.specs.Entries.{IsRead};
@@ -22,7 +22,7 @@ use std::alloc::Global;
 /// The list in the file at the path.
 pub fn read_list<G: Ground>(alloc: Global, files: &mut G, path: Path) -> Result<FlatList, Stop>
     ensures read { IfOk result (λ list. IsRead path list (side_of G.Plot files.old)) }
-    ensures few { IfOk result (λ list. length list ≤ 4194304) }
+    ensures few { IfOk result (λ list. length list ≤ max_entries) }
     ensures ascend { IfOk result (λ list. IsStrictlySortedBy path_cmp (paths list)) }
     ensures shaped { IfOk result (λ list. All (λ e. is_shaped e ≡ true) list) }
     ensures stopped { IfErr result (StopsListing (input path) (side_of G.Plot files.old) (side_of G.Plot files.new)) }

@@ -4,14 +4,14 @@ ghost use Rattle.std.specs.List.Sorted.{IsStrictlySortedBy};
 ghost use Rattle.path_text.specs.Order.{path_cmp};
 ghost use Rattle.outside.specs.Count.{RoseBy};
 ghost use Rattle.entry_pages.specs.Entries.{is_shaped};
-ghost use Rattle.flat_list.specs.Spelling.{paths};
+ghost use Rattle.flat_list.specs.Spelling.{paths, max_entries};
 ghost use Rattle.tool_words.specs.Limits.{CommonWithin};
 ghost use Rattle.tool_words.specs.Asked.{roots, start_in};
-ghost use Rattle.tree_walk.specs.Found.{IsFound, IfTooMany, IsTooMuch};
+ghost use Rattle.tree_walk.specs.Found.{IsFound, IfTooMany, FoundTooMany};
 ghost use Rattle.tree_walk.specs.Roots.{Apart};
 ghost use Rattle.run_report.specs.Sides.{side_of};
 ghost use Rattle.run_entries.specs.Entries.{Walked, Listed, Tells};
-ghost use Rattle.run_entries.specs.Stopping.{IsTooLongWalk, StopsListing, stop_by};
+ghost use Rattle.run_entries.specs.Stopping.{IsTooLongWalk, StopsListing, stop_of_walk};
 ghost use Rattle.run_entries.specs.Tells.{keeps_events, IsAccount};
 
 use crate::accounts::{Account, Entries};
@@ -40,7 +40,7 @@ where
     ensures listed { IfOk result (λ entries. Listed (start_in start) entries.list (side_of G.Plot files.old) (side_of G.Plot files.new)) }
     ensures told { IfOk result (λ entries. (listed : Listed (start_in start) entries.list (side_of G.Plot files.old) (side_of G.Plot files.new))
         × Tells common.now (start_in start) entries.list (side_of G.Plot files.old) (side_of G.Plot files.new) listed entries.account) }
-    ensures few { IfOk result (λ entries. length entries.list ≤ 4194304) }
+    ensures few { IfOk result (λ entries. length entries.list ≤ max_entries) }
     ensures ascend { IfOk result (λ entries. IsStrictlySortedBy path_cmp (paths entries.list)) }
     ensures shaped { IfOk result (λ entries. All (λ e. is_shaped e ≡ true) entries.list) }
     ensures stopped { IfErr result (StopsListing (start_in start) (side_of G.Plot files.old) (side_of G.Plot files.new)) }
@@ -72,7 +72,7 @@ where
     ensures walked { IfOk result (λ entries. Walked given.items entries.list (side_of G.Plot files.old) (side_of G.Plot files.new)) }
     ensures told { IfOk result (λ entries. (walked : Walked given.items entries.list (side_of G.Plot files.old) (side_of G.Plot files.new))
         × IsAccount common.now (G.tree files.old) walked.roots entries.list entries.account) }
-    ensures few { IfOk result (λ entries. length entries.list ≤ 4194304) }
+    ensures few { IfOk result (λ entries. length entries.list ≤ max_entries) }
     ensures ascend { IfOk result (λ entries. IsStrictlySortedBy path_cmp (paths entries.list)) }
     ensures shaped { IfOk result (λ entries. All (λ e. is_shaped e ≡ true) entries.list) }
     ensures stopped { IfErr result (StopsListing (roots given.items) (side_of G.Plot files.old) (side_of G.Plot files.new)) }
@@ -82,13 +82,13 @@ where
 {
     match walked(rt, alloc, common, given, files) {
         Ok(entries) => Ok(entries),
-        Err(why) => Err(stop_by(why)),
+        Err(why) => Err(stop_of_walk(why)),
     }
 }
 
 /// Why a walk gave no list.
-pub fn stop_by(why: WalkError) -> Stop
-    ensures { result ≡ stop_by why }
+pub fn stop_of_walk(why: WalkError) -> Stop
+    ensures { result ≡ stop_of_walk why }
 {
     match why {
         WalkError::OutOfMemory => Stop::OutOfMemory,
@@ -110,7 +110,7 @@ where
     ensures walked { IfOk result (λ entries. Walked given.items entries.list (side_of G.Plot files.old) (side_of G.Plot files.new)) }
     ensures told { IfOk result (λ entries. (walked : Walked given.items entries.list (side_of G.Plot files.old) (side_of G.Plot files.new))
         × IsAccount common.now (G.tree files.old) walked.roots entries.list entries.account) }
-    ensures few { IfOk result (λ entries. length entries.list ≤ 4194304) }
+    ensures few { IfOk result (λ entries. length entries.list ≤ max_entries) }
     ensures ascend { IfOk result (λ entries. IsStrictlySortedBy path_cmp (paths entries.list)) }
     ensures shaped { IfOk result (λ entries. All (λ e. is_shaped e ≡ true) entries.list) }
     ensures too_many { IfErr result (λ e. IfTooMany e (λ n. IsTooLongWalk given.items (side_of G.Plot files.old) (side_of G.Plot files.new))) }
@@ -145,8 +145,8 @@ where
     requires apart { Apart roots.items }
     ensures found { IfOk result (λ entries. IsFound (G.tree files.old) roots.items (G.count files.old) (G.count files.new) entries.list) }
     ensures account { IfOk result (λ entries. IsAccount common.now (G.tree files.old) roots.items entries.list entries.account) }
-    ensures few { IfOk result (λ entries. length entries.list ≤ 4194304) }
-    ensures too_many { IfErr result (λ e. IfTooMany e (IsTooMuch (G.tree files.old) roots.items (G.count files.old) (G.count files.new))) }
+    ensures few { IfOk result (λ entries. length entries.list ≤ max_entries) }
+    ensures too_many { IfErr result (λ e. IfTooMany e (FoundTooMany (G.tree files.old) roots.items (G.count files.old) (G.count files.new))) }
     ensures same { G.tree files.new ≡ G.tree files.old }
     ensures area { G.area files.new ≡ G.area files.old }
     ensures count { RoseBy 0 (G.count files.old) (G.count files.new) }

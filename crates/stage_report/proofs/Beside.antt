@@ -6,9 +6,10 @@ use Rattle.std.proofs.lemmas.Bool.{false≢true, or_parts}
 use Rattle.std.proofs.lemmas.List.Elements.{All-from_recursion, recursion_from_All}
 use Rattle.entry_pages.specs.declared.entries.Entry.{Entry}
 use Rattle.tree_walk.specs.Roots.{is_in, is_in_some}
-use Rattle.tree_walk.proofs.Lists.{weaker, swapped}
+use Rattle.tree_walk.proofs.Lists.{swapped}
 use Rattle.checkpoints.specs.Placing.{clashes, is_misplaced, ArePlaced, is_open}
 use Rattle.stage_report.specs.Private.{IsBeside}
+use Rattle.outside.proofs.Names.{all_weaker}
 
 -- ---- what is not misplaced
 
@@ -27,10 +28,10 @@ placed done left h = recursion_from_All (λ p. is_misplaced done left p ≡ fals
 pub placed_beside : (done : List Entry) (left : List (List ℕ)) → ArePlaced done left → IsBeside done left
 placed_beside done left h =
     All-from_recursion (λ e. is_in_some left e.path ≡ false) done
-    (weaker (λ (e : Entry). AllByRecursion (λ p. is_in e.path p ≡ false) left) (λ e. is_in_some left e.path ≡ false)
+    (all_weaker (λ (e : Entry). AllByRecursion (λ p. is_in e.path p ≡ false) left) (λ e. is_in_some left e.path ≡ false)
     (λ e out. in_none e.path left out) done
     (swapped (λ p (e : Entry). is_in e.path p ≡ false) left done
-    (weaker (λ p. is_misplaced done left p ≡ false) (λ p. AllByRecursion (λ e. is_in e.path p ≡ false) done)
+    (all_weaker (λ p. is_misplaced done left p ≡ false) (λ p. AllByRecursion (λ e. is_in e.path p ≡ false) done)
     (λ p m. no_clash p done (or_parts (list_any (clashes p) done) (nat_lt 1 (count_by (is_in p) left)) m).0)
     left (placed done left h))))
   where

@@ -12,6 +12,7 @@ use Rattle.std.proofs.lemmas.List.Sorted.{sum_by-IsPermutation, length_permutati
 use Rattle.path_text.specs.Order.{path_cmp}
 use Rattle.outside.specs.Tree.{Files, IsTree}
 use Rattle.outside.specs.Count.{StoodStill}
+use Rattle.outside.proofs.Names.{all_weaker}
 use Rattle.path_text.proofs.Parts as parts
 use Rattle.entry_pages.specs.declared.entries.Entry.{Entry}
 use Rattle.entry_pages.specs.declared.entries.Mark.TheVariants as mark
@@ -20,9 +21,10 @@ use Rattle.tool_text.specs.Notes.{mark_whys, number_whys, whys_of, notes_of}
 use Rattle.tool_words.specs.Limits.{Valid}
 use Rattle.tree_walk.specs.Walk.{walk, all_told, answers_in, weight_of, WalkWithoutFaultsIsFine}
 use Rattle.tree_walk.specs.Roots.{IsRoots, RootsAreUnique}
-use Rattle.tree_walk.specs.Found.{IsFound, IsWalkOf, max_entries}
+use Rattle.flat_list.specs.Spelling.{max_entries}
+use Rattle.tree_walk.specs.Found.{IsFound, IsWalkOf}
 use Rattle.tree_walk.specs.Cut.{IsCut, IsCutFound, IsJoined}
-use Rattle.tree_walk.proofs.Lists.{weaker, all_append}
+use Rattle.tree_walk.proofs.Lists.{all_append}
 use Rattle.tree_walk.proofs.AnyOrder.{moved}
 use Rattle.tree_walk.proofs.Ordered.{in_order}
 use Rattle.run_report.specs.Sides.{Side}
@@ -157,7 +159,7 @@ cut_few files done starts tree old new later left told b found stood =
     (λ some.
     let cut = of_told (λ files. IsCut files starts later left) tree files told found.told in
     let t = of_told IsTree tree files told (found.valid some) in
-    let short = weaker Valid (λ p. length p ≤ 4095) parts.short starts b.valid in
+    let short = all_weaker Valid (λ p. length p ≤ 4095) parts.short starts b.valid in
     omega (
       arith,
       done_few files starts left later t short cut (no_weight (sum_by weight_of later) old new found.counted stood),

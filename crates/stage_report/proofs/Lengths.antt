@@ -5,21 +5,17 @@ use Rattle.std.proofs.lemmas.List.Sums.{sum_by-cons}
 use Rattle.std.proofs.lemmas.List.Concat.{length-flat_map}
 use Rattle.outside.specs.Tree.{Files, IsTree}
 use Rattle.entry_pages.specs.declared.entries.Entry.{Entry}
-use Rattle.tree_walk.specs.Walk.{Answer, told, stat_failed, list_failed, all_told, answer_in, children_of, walk, weight, weight_of}
+use Rattle.tree_walk.specs.Walk.{told, all_told, answer_in, children_of, walk, weight_of}
 use Rattle.tree_walk.specs.Cut.{IsCut}
 use Rattle.tree_walk.proofs.Recursive.{walk_is}
 use Rattle.tree_walk.proofs.Cuts.{kids, handled_by, pushed_by}
 use Rattle.tree_walk.proofs.Restarts.{over, none_over, kids_over}
+use Rattle.cut_laws.proofs.Restart.{weightless}
 
 -- ---- each done entry stands for itself and the walks of its children
 
 abbrev pub number : Files → List ℕ → ℕ
 number files path = length (walk files all_told path)
-
-weightless : (answer : Answer) → weight answer ≡ 0 → answer ≡ told 0
-weightless (told unnamed) h = ap told h
-weightless stat_failed h = absurd (omega (arith, h))
-weightless list_failed h = absurd (omega (arith, h))
 
 itself : (files : Files) (e : Entry) → IsTree files → length e.path ≤ 4095 → weight_of e ≡ 0 →
     number files e.path ≡ suc (sum_by (number files) (kids files e))

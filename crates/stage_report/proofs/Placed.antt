@@ -3,26 +3,28 @@ use Rattle.std.proofs.Common.{◌≡◌, inl, inr, ◌⊎◌, ⊎_elim, ℕ, ◌
 use Rattle.std.proofs.Common.{refl, ap, ◌∙◌, sym, arith}
 use Rattle.std.specs.Prelude.{◌==◌, nat_lt}
 use Rattle.std.specs.List.{AllByRecursion, Contains, sum_by, count_by, list_any}
-use Rattle.std.proofs.lemmas.Bool.{false≢true, cases_lt}
+use Rattle.std.proofs.lemmas.Bool.{false≢true, cases_lt, and_parts}
 use Rattle.std.proofs.lemmas.Bool.Decides.{nat_tests}
 use Rattle.std.proofs.lemmas.List.Elements.{recursion_from_All, All-from_recursion, Contains-get_or}
 use Rattle.std.proofs.lemmas.List.Sums.{sum_by-cons}
 use Rattle.std.proofs.lemmas.List.Sorted.{sum_by-IsPermutation}
 use Rattle.path_text.specs.Order.{front}
 use Rattle.outside.specs.Tree.{Files}
+use Rattle.outside.proofs.Names.{all_weaker}
 use Rattle.entry_pages.specs.declared.entries.Entry.{Entry}
 use Rattle.circle_lists.specs.Spelling.{IsWritable}
 use Rattle.circle_lists.specs.Checkpoint.{HoldLists}
 use Rattle.tool_words.specs.Limits.{Valid}
 use Rattle.tree_walk.specs.Roots.{is_in, is_in_some, Apart, IsRoots}
-use Rattle.tree_walk.proofs.Lists.{weaker, all_flat}
-use Rattle.tree_walk.proofs.Inside.{begins, both, at_or_under, is_in_is, in_trans}
+use Rattle.tree_walk.proofs.Lists.{all_flat}
+use Rattle.tree_walk.proofs.Inside.{begins, at_or_under, is_in_is, in_trans}
 use Rattle.tree_walk.proofs.Standing.{In, of_all, each_in}
 use Rattle.tree_walk.proofs.Covers.{covers, covers-itself, to_apart, some_covers}
 use Rattle.tree_walk.proofs.AnyOrder.{moved}
 use Rattle.tree_walk.proofs.Ordered.{InOrder}
 use Rattle.checkpoints.specs.Placing.{clashes, is_misplaced, ArePlaced}
 use Rattle.stage_report.specs.Stages.{all_of}
+use Rattle.cut_laws.proofs.Local.{stands_covered}
 
 -- ---- of two paths that are both above a path, one is above the other
 
@@ -35,8 +37,8 @@ both_begin [] g z e d = inl refl
 both_begin (a ∷ f) [] z e d = inr refl
 both_begin (a ∷ f) (b ∷ g) [] e d = absurd (false≢true e)
 both_begin (a ∷ f) (b ∷ g) (c ∷ z) e d =
-    let of_f = both (a == c) (begins f z) e in
-    let of_g = both (b == c) (begins g z) d in
+    let of_f = and_parts (a == c) (begins f z) e in
+    let of_g = and_parts (b == c) (begins g z) d in
     one_begins a b c (begins f g) (begins g f) of_f.0 of_g.0 (both_begin f g z of_f.1 of_g.1)
 
 one_above : (x p q : List ℕ) → is_in x p ≡ true → is_in x q ≡ true → (is_in q p ≡ true) ⊎ (is_in p q ≡ true)
@@ -139,21 +141,15 @@ pub left_valid : (dir : List ℕ) (left : List (List (List ℕ))) (files : Files
 left_valid dir left files held =
     all_flat Valid (λ list. list) left
     (each_list (AllByRecursion Valid) left
-    (λ rank lt. weaker IsWritable Valid (λ path w. w.valid) (get_or left rank []) (held rank lt).spells.list.each))
+    (λ rank lt. all_weaker IsWritable Valid (λ path w. w.valid) (get_or left rank []) (held rank lt).spells.list.each))
 
 -- ---- paths that are apart, in path order, are their own roots
-
-stands_covered : (p : List ℕ) (ps : List (List ℕ)) → In p ps → 1 ≤ sum_by (covers p) ps
-stands_covered p [] i = absurd i
-stands_covered p (q ∷ ps) i =
-    let parts = sum_by-cons (covers p) q ps in
-    ⊎_elim (λ e. omega (arith, parts, ap (covers p) e, covers-itself p)) (λ j. omega (arith, parts, stands_covered p ps j)) i
 
 pub own_roots : (ps : List (List ℕ)) → ((x : List ℕ) → sum_by (covers x) ps ≤ 1) → (o : InOrder ps) → IsRoots ps o.list
 own_roots ps few o =
     let InSome : List ℕ → Type 0 = λ path. is_in_some o.list path ≡ true in
     let each : AllByRecursion (Contains ps) ps = recursion_from_All (Contains ps) ps (λ k d lt. Contains-get_or ps k d lt) in
-    let covered = weaker (λ p. In p ps) InSome
+    let covered = all_weaker (λ p. In p ps) InSome
     (λ p i. some_covers p o.list (omega (arith, stands_covered p ps i, sum_by-IsPermutation (covers p) ps o.list o.all))) ps (each_in ps) in
     record {
       among = All-from_recursion (Contains ps) o.list (moved (Contains ps) ps o.list o.all each);

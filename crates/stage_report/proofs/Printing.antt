@@ -7,6 +7,7 @@ use Rattle.std.proofs.lemmas.List.Sorted.{sum_by-IsPermutation}
 use Rattle.path_text.specs.Order.{path_cmp}
 use Rattle.outside.specs.Tree.{Files}
 use Rattle.outside.specs.Count.{StoodStill}
+use Rattle.outside.proofs.Names.{all_weaker}
 use Rattle.entry_pages.specs.declared.entries.Entry.{Entry}
 use Rattle.flat_list.specs.declared.ordering.Field.{Field}
 use Rattle.path_looks.specs.declared.looks.Look.{Look}
@@ -21,7 +22,6 @@ use Rattle.tree_walk.specs.Found.{IsWalkOf}
 use Rattle.tree_walk.specs.Cut.{IsJoined}
 use Rattle.tree_walk.proofs.Same.{same_paths}
 use Rattle.tree_walk.proofs.Standing.{in_list, of_all}
-use Rattle.tree_walk.proofs.Lists.{weaker}
 use Rattle.run_report.specs.declared.reports.Report.{Report}
 use Rattle.run_report.specs.Sides.{Side, side_with}
 use Rattle.run_entries.specs.Choosing.{newer_in, tests_in, chosen_of}
@@ -48,7 +48,7 @@ stood_within old from to new a b c stood =
 pub roots_valid : (given starts : List (List ℕ)) → All Valid given → IsRoots given starts → AllByRecursion Valid starts
 roots_valid given starts valid are =
     let each = recursion_from_All Valid given valid in
-    weaker (Contains given) Valid (λ x c. of_all Valid given x each (in_list given x c)) starts (recursion_from_All (Contains given) starts are.among)
+    all_weaker (Contains given) Valid (λ x c. of_all Valid given x each (in_list given x c)) starts (recursion_from_All (Contains given) starts are.among)
 
 -- starts that ascend have no other order in which they do
 one_order : (starts ordered : List (List ℕ)) → IsStrictlySortedBy path_cmp starts → IsPermutation starts ordered →

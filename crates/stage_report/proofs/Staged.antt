@@ -10,7 +10,7 @@ use Rattle.tool_text.specs.declared.noting.Note.{Note}
 use Rattle.tool_text.specs.NoteOrder.{AreInOrder}
 use Rattle.tool_words.specs.Asked.{StageAsked}
 use Rattle.tool_words.specs.declared.commands.Common.{Common}
-use Rattle.tree_walk.specs.Found.{max_entries}
+use Rattle.flat_list.specs.Spelling.{max_entries}
 use Rattle.run_report.specs.declared.reports.Report.{Report}
 use Rattle.run_report.specs.declared.stops.Stop.{Stop}
 use Rattle.run_report.specs.declared.stops.Stop.TheVariants as stop

@@ -5,11 +5,11 @@ use Rattle.circle_lists.specs.declared.errors.ListsError.{ListsError}
 use Rattle.circle_lists.specs.declared.errors.ListsError.TheVariants as error
 use Rattle.run_report.specs.declared.stops.Stop.TheVariants as stop
 use Rattle.run_report.specs.Sides.{Side, side_with}
-use Rattle.checkpoints.specs.Stopping.{stop_by, StopsReading, StopsWriting, WroteNoRanks, WroteNoList}
+use Rattle.checkpoints.specs.Stopping.{stop_of_lists, StopsReading, StopsWriting, WroteNoRanks, WroteNoList}
 use Rattle.stage_report.specs.Laws.{StoppedStagesAreKept}
 
 -- no error of the ranks' files does
-by_ranks : (e : ListsError) (handled left : ℕ) → stop.Stopped handled left ≡ stop_by e → ⊥
+by_ranks : (e : ListsError) (handled left : ℕ) → stop.Stopped handled left ≡ stop_of_lists e → ⊥
 by_ranks (error.Failed path) handled left told = cc
 by_ranks error.OutOfMemory handled left told = cc
 by_ranks (error.Damaged path line) handled left told = cc

@@ -13,7 +13,8 @@ use Rattle.tree_walk.specs.declared.reports.WalkReport.{WalkReport}
 use Rattle.tree_walk.specs.declared.reports.Walked.TheVariants as walked
 use Rattle.tree_walk.specs.Walk.{paths_of}
 use Rattle.tree_walk.specs.Roots.{is_in_some}
-use Rattle.tree_walk.specs.Found.{IsFound, max_entries}
+use Rattle.flat_list.specs.Spelling.{max_entries}
+use Rattle.tree_walk.specs.Found.{IsFound}
 use Rattle.tree_walk.specs.Cut.{IsCutFound, IfCut, found_in}
 use Rattle.tree_walk.specs.Traced.{IsProgressTo}
 use Rattle.run_report.specs.declared.stops.Stop.TheVariants as stop

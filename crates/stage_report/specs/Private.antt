@@ -5,13 +5,12 @@ use Rattle.path_text.specs.Order.{path_cmp}
 use Rattle.outside.specs.Tree.{Files}
 use Rattle.entry_pages.specs.declared.entries.Entry.{Entry}
 use Rattle.entry_pages.specs.Entries.{is_shaped}
-use Rattle.flat_list.specs.Spelling.{paths}
+use Rattle.flat_list.specs.Spelling.{paths, max_entries}
 use Rattle.tool_words.specs.declared.commands.Common.{Common}
 use Rattle.tree_walk.specs.declared.reports.Cut.{Cut}
 use Rattle.tree_walk.specs.declared.reports.WalkReport.{WalkReport}
 use Rattle.tree_walk.specs.declared.reports.Walked.TheVariants as walked
 use Rattle.tree_walk.specs.Cut.{IsJoined}
-use Rattle.tree_walk.specs.Found.{max_entries}
 use Rattle.tree_walk.specs.Roots.{is_in_some}
 use Rattle.run_report.specs.Sides.{Side}
 use Rattle.run_report.specs.declared.stops.Stop.{Stop}

@@ -17,7 +17,8 @@ use Rattle.tool_words.specs.Asked.{StageAsked}
 use Rattle.tool_words.specs.declared.commands.Common.{Common}
 use Rattle.tree_walk.specs.Walk.{walk, all_told}
 use Rattle.tree_walk.specs.Roots.{IsRoots}
-use Rattle.tree_walk.specs.Found.{IsFound, max_entries}
+use Rattle.flat_list.specs.Spelling.{max_entries}
+use Rattle.tree_walk.specs.Found.{IsFound}
 use Rattle.tree_walk.specs.Cut.{IsCutFound, IsTooMany, IsJoined}
 use Rattle.tree_walk.specs.Traced.{IsProgressTo}
 use Rattle.run_report.specs.declared.reports.Report.{Report}
@@ -147,7 +148,7 @@ FindsTooMany stop common tree done starts old new =
     ⊎ ((list : List Entry) × (max_entries < length list) × (((account : Account) × IsFinished stop common tree done starts old new list account)
     ⊎ ((handled : ℕ) × (left : List (List (List ℕ))) × IsCutOff stop common tree done starts old new handled list left)))
 
-pub record IsTooLong (asked : StageAsked) (before after : Side) (why : Stop) : Type 0 where
+pub record StageIsTooLong (asked : StageAsked) (before after : Side) (why : Stop) : Type 0 where
   pub begun : Begun asked before
   pub many : FindsTooMany asked.stop_after asked.common before.tree begun.done begun.starts begun.count after.count
   pub named : why ≡ stop.TooMany
@@ -196,7 +197,7 @@ abbrev pub StopsStage : StageAsked → Side → Side → Stop → Type 0
 StopsStage asked before after why =
     (why ≡ stop.OutOfMemory)
     ⊎ (StopsBeginning asked before after why
-    ⊎ (IsTooLong asked before after why
+    ⊎ (StageIsTooLong asked before after why
     ⊎ (StopsSavingStage asked before after why
     ⊎ (StopsKeeping asked before after why
     ⊎ IsStopped asked before after why))))

@@ -6,7 +6,7 @@ ghost use Rattle.outside.specs.Count.{RoseBy};
 ghost use Rattle.tool_words.specs.Limits.{CommonWithin};
 ghost use Rattle.tree_walk.specs.Roots.{Apart};
 ghost use Rattle.tree_walk.specs.Walk.{paths_of};
-ghost use Rattle.tree_walk.specs.Found.{max_entries};
+ghost use Rattle.flat_list.specs.Spelling.{max_entries};
 ghost use Rattle.tree_walk.specs.Cut.{found_in};
 ghost use Rattle.stage_report.specs.Private.{list_in, IsBeside, IsStage, IsStageOf, IsWritable, StopsWalk};
 
@@ -16,7 +16,7 @@ use circle_run::Options;
 use flat_list::FlatList;
 use outside::Ground;
 use path_text::{OutOfMemory, Path};
-use run_entries::{Account, Entries, stop_by, walk_roots};
+use run_entries::{Account, Entries, stop_of_walk, walk_roots};
 use run_report::Stop;
 use std::alloc::Global;
 use std::sync::Wait;
@@ -124,7 +124,7 @@ where
     let _faults = files.faults();
     let entries = match walk_roots(rt, alloc, common, starts, files) {
         Ok(entries) => entries,
-        Err(why) => return Err(stop_by(why)),
+        Err(why) => return Err(stop_of_walk(why)),
     };
     let Entries { list, account } = entries;
     let list = joined(alloc, done, list)?;
@@ -164,7 +164,7 @@ where
     };
     let report = match walk(rt, alloc, files, starts, &options) {
         Ok(report) => report,
-        Err(why) => return Err(stop_by(why)),
+        Err(why) => return Err(stop_of_walk(why)),
     };
     let stage = stage_of(alloc, done, report)?;
     Ok(stage)

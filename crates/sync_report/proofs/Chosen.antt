@@ -1,9 +1,9 @@
 -- What is chosen and copied where nothing stands against a sync: all under a chosen path is chosen, and then nothing is in the way of a copy.
 use Rattle.std.proofs.Common.{◌≡◌, ◌≢◌, ℕ, ◌<◌, Bool, true, false, not, List, [], ◌∷◌, ◌++◌, filter, length, nat_eq}
 use Rattle.std.proofs.Common.{Option, Some, None, refl, ap, ◌∙◌, sym, subst, arith}
-use Rattle.std.proofs.lemmas.Bool.{false≢true, and_parts}
+use Rattle.std.proofs.lemmas.Bool.{false≢true, and_parts, false_from_ne_true}
 use Rattle.std.proofs.lemmas.List.Elements.{recursion_from_All}
-use Rattle.std.specs.Prelude.{IsTrue, is_none, is_some}
+use Rattle.std.specs.Prelude.{IsTrue, is_some}
 use Rattle.std.specs.FinMap.{get}
 use Rattle.std.specs.List.{AllByRecursion, list_any}
 use Rattle.std.specs.Option.{option_map}
@@ -20,6 +20,7 @@ use Rattle.outside.specs.Parts.{UnderDirectories}
 use Rattle.outside.specs.Tree.{Body, Files, Node, NodesHavePaths, dir, far_at, file, is_dir, is_dir_body, is_root, kind_of, link, other, stat_of}
 use Rattle.outside.specs.declared.trees.Kind.TheVariants as kind
 use Rattle.outside.specs.declared.trees.Stat.{Stat}
+use Rattle.outside.proofs.Names.{all_weaker}
 use Rattle.entry_pages.specs.declared.entries.Entry.{Entry}
 use Rattle.entry_pages.specs.Entries.{is_kind, is_of}
 use Rattle.flat_list.specs.Spelling.{paths}
@@ -28,11 +29,13 @@ use Rattle.tree_cmp.specs.Sides.{side}
 use Rattle.tree_copy.specs.Copying.{clashes}
 use Rattle.tree_copy.specs.declared.pairs.Pair.{Pair}
 use Rattle.tree_remove.specs.Laws.{AreWhole}
+use Rattle.tree_remove.proofs.Removal.{not_none}
 use Rattle.tree_sync.specs.Syncing.{is_chosen}
 use Rattle.tree_walk.specs.Told.{EntriesAreTold, IsTold}
 use Rattle.tree_walk.specs.Walk.{WalkListsAll, all_told, entry_of, told}
+use Rattle.tree_walk.proofs.Lists.{both}
 use Rattle.sync_report.proofs.Below.{under_moved}
-use Rattle.sync_report.proofs.Lists.{any_map, both, kept, not_kept, not_true, passing, weaker}
+use Rattle.sync_report.proofs.Lists.{any_map, kept, not_kept, passing}
 use Rattle.sync_report.proofs.Told.{AreCompared, chosen_is, is_odd, kind_is, own_kind}
 use Rattle.sync_report.proofs.Walked.{each}
 
@@ -47,10 +50,6 @@ both_dirs : (n m : Option Node) → is_dir n ≡ true → is_dir m ≡ true → 
 both_dirs None m d e = absurd (false≢true d)
 both_dirs (Some n) None d e = absurd (false≢true e)
 both_dirs (Some n) (Some m) d e = λ i. not (is_kind (dir_kind n.body d i) (dir_kind m.body e i))
-
-not_none : (o : Option Node) → is_some o ≡ true → is_none o ≡ false
-not_none None e = absurd (false≢true e)
-not_none (Some n) e = refl
 
 -- what is over a path that is not `/` is a path
 over_made : (x q : List ℕ) → refusal q ≡ None → length x ≢ 1 → 0 < length x → IsTrue (is_under q x) → refusal x ≡ None
@@ -110,7 +109,7 @@ module _ (laws : Laws) (files : Files) (pair : Pair) (source dest : List Entry) 
     within : IsTrue (is_within e.path pair.target)
 
   known : AllByRecursion Known dest
-  known = weaker (λ e. IsTold files all_told e × IsTrue (is_within e.path pair.target)) Known (λ e h. record { own = h.0.own; within = h.1 }) dest
+  known = all_weaker (λ e. IsTold files all_told e × IsTrue (is_within e.path pair.target)) Known (λ e h. record { own = h.0.own; within = h.1 }) dest
       (each laws.tells files all_told pair.target dest c.right)
 
   -- the entry is chosen exactly where it has a stat and is odd
@@ -147,7 +146,7 @@ module _ (laws : Laws) (files : Files) (pair : Pair) (source dest : List Entry) 
 
   pub even_at : (q : List ℕ) → is_some (get files q) ≡ true → IsTrue (is_within q pair.target) →
       list_any (pointwise nat_eq q) (paths chosen) ≡ false → is_odd (get files (grafted pair.source (below_of q pair.target))) (get files q) ≡ false
-  even_at q some on off = not_true (is_odd (get files (grafted pair.source (below_of q pair.target))) (get files q)) (λ odd.
+  even_at q some on off = false_from_ne_true (is_odd (get files (grafted pair.source (below_of q pair.target))) (get files q)) (λ odd.
       let none = not_kept test (λ (e : Entry). pointwise nat_eq q e.path) dest (sym (any_map (pointwise nat_eq q) (λ (e : Entry). e.path) chosen) ∙ off) in
       let one = passing (λ (e : Entry). pointwise nat_eq q e.path) (λ e. (test e ≡ true → pointwise nat_eq q e.path ≡ false) × Known e) dest
       (both_of (λ e. test e ≡ true → pointwise nat_eq q e.path ≡ false) none)
@@ -182,7 +181,7 @@ module _ (laws : Laws) (files : Files) (pair : Pair) (source dest : List Entry) 
 
       -- the source has nothing under an odd path
       below : IsOdd p → IsTrue (is_within q pair.target) → is_some (get files (s q)) ≡ false
-      below o on = not_true (is_some (get files (s q))) (λ there.
+      below o on = false_from_ne_true (is_some (get files (s q))) (λ there.
           let rest = below_made p pair.target (below_of p pair.target) refl (valid p o.some) o.within in
           let lower = under_moved pair.target pair.source p q o.within u in
           let long : 1 < length pair.source = long_top pair.source c.left.valid c.left.low in
@@ -194,7 +193,7 @@ module _ (laws : Laws) (files : Files) (pair : Pair) (source dest : List Entry) 
 
   -- no directory of it has a child whose path is too long
   pub none_far : AllByRecursion (λ q. far_at (get files q) ≡ 0) (paths chosen)
-  none_far = over chosen (weaker (λ e. (test e ≡ true) × (Known e × (e.far ≡ 0))) (λ e. far_at (get files e.path) ≡ 0)
+  none_far = over chosen (all_weaker (λ e. (test e ≡ true) × (Known e × (e.far ≡ 0))) (λ e. far_at (get files e.path) ≡ 0)
       (λ e h. sym (far_told (get files e.path) e.path e h.1.0.own) ∙ h.1.1) chosen (kept test (λ e. Known e × (e.far ≡ 0)) dest
       (both Known (λ e. e.far ≡ 0) dest known (recursion_from_All (λ (e : Entry). e.far ≡ 0) dest c.right_near))))
     where

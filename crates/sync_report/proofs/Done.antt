@@ -1,7 +1,7 @@
 -- Where nothing stands against a sync, and no answer failed, each removal and each copy is done.
 use Rattle.std.proofs.Common.{◌≡◌, ℕ, Bool, true, false, cond, ◌&&◌, List, [], ◌∷◌, filter, map, length, nat_eq}
 use Rattle.std.proofs.Common.{Option, Some, None, IfSome, refl, ap, ◌∙◌, sym, subst, arith}
-use Rattle.std.proofs.lemmas.Bool.{false≢true, and_from}
+use Rattle.std.proofs.lemmas.Bool.{false≢true, and_from, or_left}
 use Rattle.std.proofs.lemmas.List.Elements.{All-from_recursion, recursion_from_All}
 use Rattle.std.specs.Prelude.{IsTrue, is_none, is_some}
 use Rattle.std.specs.FinMap.{get}
@@ -11,6 +11,7 @@ use Rattle.path_text.specs.Graft.{below_of, grafted}
 use Rattle.path_text.specs.Order.{is_within}
 use Rattle.outside.specs.Tree.{Body, Files, Node, dir, far_at, file, kind_of, link, other, text_of}
 use Rattle.outside.specs.declared.trees.Kind.TheVariants as kind
+use Rattle.outside.proofs.Names.{all_weaker}
 use Rattle.entry_pages.specs.declared.entries.Entry.{Entry}
 use Rattle.entry_pages.specs.Entries.{is_kind}
 use Rattle.flat_list.specs.Spelling.{paths}
@@ -30,9 +31,10 @@ use Rattle.tree_sync.specs.Results.{Results}
 use Rattle.tree_sync.specs.Syncing.{Synced, chosen_of, copied_of, is_chosen, is_copied, is_there}
 use Rattle.tree_walk.specs.Told.{IsTold}
 use Rattle.tree_walk.specs.Walk.{WalkIsRecursive, all_told, entry_of, told}
+use Rattle.tree_walk.proofs.Lists.{both}
 use Rattle.sync_report.specs.Syncing.{IsFineEntry}
 use Rattle.sync_report.proofs.Chosen as chosen
-use Rattle.sync_report.proofs.Lists.{any_map, both, kept, or_left, passing, weaker}
+use Rattle.sync_report.proofs.Lists.{any_map, kept, passing}
 use Rattle.sync_report.proofs.Told.{AreCompared}
 use Rattle.sync_report.proofs.Walked.{each}
 
@@ -160,10 +162,10 @@ module _ (laws : Laws) (files : Files) (pair : Pair) (delete : Bool) (source des
       All P (treated (copied_of (side pair.source source) found.rows))
   of_copied P top h =
       let wanted = filter (is_copied (side pair.source source) found.rows) source in
-      let some = weaker (λ e. (is_copied (side pair.source source) found.rows e ≡ true) × (is_some e.stat ≡ true → P e)) (λ e. is_some e.stat ≡ true → P e)
+      let some = all_weaker (λ e. (is_copied (side pair.source source) found.rows e ≡ true) × (is_some e.stat ≡ true → P e)) (λ e. is_some e.stat ≡ true → P e)
       (λ e k. k.1) wanted (kept (is_copied (side pair.source source) found.rows) (λ e. is_some e.stat ≡ true → P e) source h) in
       subst (λ es. All P (treated es)) (ap (λ b. cond b wanted []) (sym top))
-      (All-from_recursion P (treated wanted) (weaker (λ e. (is_some e.stat ≡ true) × (is_some e.stat ≡ true → P e)) P (λ e k. k.1 k.0) (treated wanted)
+      (All-from_recursion P (treated wanted) (all_weaker (λ e. (is_some e.stat ≡ true) × (is_some e.stat ≡ true → P e)) P (λ e k. k.1 k.0) (treated wanted)
       (kept (λ e. is_some e.stat) (λ e. is_some e.stat ≡ true → P e) wanted some)))
 
   copies : (rows : List Fated) (removed : List Fated) (mid new : Files) → AreRight removed mid → is_there (side pair.source source) ≡ true →
@@ -176,7 +178,7 @@ module _ (laws : Laws) (files : Files) (pair : Pair) (delete : Bool) (source des
       laws.copied (copied_of (side pair.source source) found.rows) (pair ∷ []) rows mid new
       (laws.long.of_apart (pair ∷ []) off (All-from_recursion IsPair (pair ∷ []) (is_pair, tt))) are copied
       (of_copied (copy.IsFineEntry mid (pair ∷ [])) top
-      (weaker (λ e. (IsTold files all_told e × IsTrue (is_within e.path pair.source)) × IsFineEntry pair delete files e)
+      (all_weaker (λ e. (IsTold files all_told e × IsTrue (is_within e.path pair.source)) × IsFineEntry pair delete files e)
       (λ e. is_some e.stat ≡ true → copy.IsFineEntry mid (pair ∷ []) e)
       (λ e k stat. record {
         kind = k.1.kind;
@@ -184,7 +186,7 @@ module _ (laws : Laws) (files : Files) (pair : Pair) (delete : Bool) (source des
         free = ap (λ q. clashes e.stat (get mid q)) (goes_to e.path k.0.1) ∙ right.free e k.1 k.0.0 k.0.1 stat;
       }) source known))
       (of_copied (λ e. is_untold e ≡ false) top
-      (weaker (λ e. (IsTold files all_told e × IsTrue (is_within e.path pair.source)) × IsFineEntry pair delete files e)
+      (all_weaker (λ e. (IsTold files all_told e × IsTrue (is_within e.path pair.source)) × IsFineEntry pair delete files e)
       (λ e. is_some e.stat ≡ true → is_untold e ≡ false) (λ e k stat. ap is_untold k.0.0.own ∙ known_text (get files e.path) e.path) source known))
       none
 

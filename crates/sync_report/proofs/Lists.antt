@@ -1,27 +1,7 @@
 -- Lists, element by element.
 use Rattle.std.proofs.Common.{◌≡◌, Bool, true, false, cond, ◌||◌, List, [], ◌∷◌, filter, map, Some, refl, ap, ◌∙◌, sym}
-use Rattle.std.proofs.lemmas.Bool.{false≢true, or_parts}
+use Rattle.std.proofs.lemmas.Bool.{false≢true, or_parts, or_left, or_right}
 use Rattle.std.specs.List.{AllByRecursion, find, list_any}
-
-pub weaker : {X : Type 0} (P Q : X → Type 0) → ((x : X) → P x → Q x) → (xs : List X) → AllByRecursion P xs → AllByRecursion Q xs
-weaker P Q t [] h = h
-weaker P Q t (x ∷ xs) h = (t x h.0, weaker P Q t xs h.1)
-
-pub both : {X : Type 0} (P Q : X → Type 0) (xs : List X) → AllByRecursion P xs → AllByRecursion Q xs → AllByRecursion (λ x. P x × Q x) xs
-both P Q [] h g = tt
-both P Q (x ∷ xs) h g = ((h.0, g.0), both P Q xs h.1 g.1)
-
-pub or_left : (a b : Bool) → a ≡ true → (a || b) ≡ true
-or_left true b e = refl
-or_left false b e = absurd (false≢true e)
-
-pub or_right : (a b : Bool) → b ≡ true → (a || b) ≡ true
-or_right true b e = refl
-or_right false b e = e
-
-pub not_true : (b : Bool) → (b ≡ true → ⊥) → b ≡ false
-not_true true h = absurd (h refl)
-not_true false h = refl
 
 -- an element that passes, with what is so of it
 pub record Passing {X : Type 0} (f : X → Bool) (P : X → Type 0) (xs : List X) : Type 0 where

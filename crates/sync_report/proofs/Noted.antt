@@ -1,7 +1,7 @@
 -- What the lists and the results of a sync name has a note.
 use Rattle.std.proofs.Common.{◌≡◌, ⊎_elim, ℕ, zero, suc, Bool, true, false, not, cond, ◌||◌, ◌&&◌, nat_eq, Option, ◌⊎◌, List, [], ◌∷◌, ◌++◌, map, filter}
 use Rattle.std.proofs.Common.{refl, ap, ◌∙◌, sym, subst, arith, get_or, Some, None, IfSome}
-use Rattle.std.proofs.lemmas.Bool.{false≢true, and_from, and_parts, or_cases}
+use Rattle.std.proofs.lemmas.Bool.{false≢true, and_from, and_parts, or_cases, or_left, or_right, false_from_ne_true}
 use Rattle.std.proofs.lemmas.List.Elements.{recursion_from_All}
 use Rattle.std.proofs.lemmas.List.Folds.{list_any-append, list_any_at}
 use Rattle.std.specs.Prelude.{IsTrue, is_none, is_some, ◌==◌}
@@ -12,6 +12,7 @@ use Rattle.path_text.specs.Order.{is_within}
 use Rattle.path_text.proofs.Within.{tops_are_nested}
 use Rattle.outside.specs.Tree.{Files}
 use Rattle.outside.specs.declared.trees.Kind.TheVariants as kind
+use Rattle.outside.proofs.Names.{all_weaker}
 use Rattle.entry_pages.specs.declared.entries.Entry.{Entry}
 use Rattle.entry_pages.specs.declared.entries.Mark.{Mark}
 use Rattle.entry_pages.specs.declared.entries.Mark.TheVariants as mark
@@ -19,7 +20,7 @@ use Rattle.entry_pages.specs.Entries.{has_target, is_fine, is_of, is_shaped, is_
 use Rattle.level_work.specs.declared.items.Fate.{Fate}
 use Rattle.level_work.specs.declared.items.Fate.TheVariants as fate
 use Rattle.tree_cmp.specs.Sides.{is_gone, side}
-use Rattle.tree_copy.specs.Copying.{is_done}
+use Rattle.level_work.specs.Counts.{is_done}
 use Rattle.tree_copy.specs.declared.pairs.Pair.{Pair}
 use Rattle.tree_sync.specs.Laws.{below_top, is_noted, is_under_some, named, noted, undone}
 use Rattle.tree_sync.specs.Results.{Results}
@@ -33,7 +34,8 @@ use Rattle.run_entries.specs.Naming.{copy_notes, copy_whys, notes_by, on_side, r
 use Rattle.sync_report.specs.PrivateSteps.{IsReady, MakesEqual}
 use Rattle.sync_report.specs.Syncing.{AreEqualBut, dest_notes, entry_notes, is_named, path_notes, says_absent, says_gone, sync_failures}
 use Rattle.sync_report.proofs.Below.{apart}
-use Rattle.sync_report.proofs.Lists.{any_map, both, not_true, or_left, or_right, weaker}
+use Rattle.sync_report.proofs.Lists.{any_map}
+use Rattle.tree_walk.proofs.Lists.{both}
 
 -- ---- members
 
@@ -182,7 +184,7 @@ module _ (pair : Pair) (source dest : List Entry) (tree : Option Files) (r : IsR
   below_dest : (x : List ℕ) → is_within x pair.target ≡ true → below_top pair x ≡ below_of x pair.target
   below_dest x w =
       let off = apart pair.source pair.target r.can.apart in
-      ap (λ b. cond b (below_of x pair.source) (below_of x pair.target)) (not_true (is_within x pair.source) (λ h.
+      ap (λ b. cond b (below_of x pair.source) (below_of x pair.target)) (false_from_ne_true (is_within x pair.source) (λ h.
       ⊎_elim (λ a. false≢true (sym off.first ∙ a)) (λ a. false≢true (sym off.second ∙ a)) (tops_are_nested x pair.source pair.target r.from r.to h w)))
 
   -- the notes of a list, by a test that passes the note of each noted entry at or over the path
@@ -193,7 +195,7 @@ module _ (pair : Pair) (source dest : List Entry) (tree : Option Files) (r : IsR
   of_list f top list shaped within passes e =
       any_map f (on_side false) (notes_of list)
       ∙ any_hit (λ n. f (on_side false n)) is_noted (λ (e : Entry). is_within p (below_of e.path top)) (λ (e : Entry). e.path) whys_of list
-      (weaker (λ e. (is_shaped e ≡ true) × IsTrue (is_within e.path top))
+      (all_weaker (λ e. (is_shaped e ≡ true) × IsTrue (is_within e.path top))
       (λ e. is_noted e ≡ true → is_within p (below_of e.path top) ≡ true → IsHit (λ n. f (on_side false n)) e.path (whys_of e))
       (λ e h n o. let why = reason e h.0 n in record { why = why; passes = passes e why.first h.1 why.there o }) list
       (both (λ e. is_shaped e ≡ true) (λ e. IsTrue (is_within e.path top)) list (recursion_from_All (λ (e : Entry). is_shaped e ≡ true) list shaped)
@@ -268,7 +270,7 @@ module _ (pair : Pair) (source dest : List Entry) (tree : Option Files) (r : IsR
   -- so a path that is not at or under that of a note is not at or under what is named
   pub not_named : (done : Results) (notes : List Note) → AreInOrder (sync_failures pair source dest done) notes → is_named pair notes p ≡ false →
       is_under_some (named pair source dest done) p ≡ false
-  not_named done notes are off = not_true (is_under_some (named pair source dest done) p)
+  not_named done notes are off = false_from_ne_true (is_under_some (named pair source dest done) p)
       (λ h. false≢true (sym off ∙ in_order is_over (sync_failures pair source dest done) notes are (has_note done h)))
 
 -- so both trees are equal but for the paths of the notes

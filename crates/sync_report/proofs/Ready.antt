@@ -3,14 +3,15 @@ use Rattle.std.proofs.Common.{◌≡◌, ℕ, true, false, cond, List, [], ◌�
 use Rattle.std.proofs.Common.{append-nil}
 use Rattle.std.proofs.lemmas.List.Elements.{All-from_recursion}
 use Rattle.std.proofs.lemmas.List.Sums.{sum_by-cons}
-use Rattle.std.specs.Prelude.{Bool, ◌≤◌, is_none, is_some}
-use Rattle.std.proofs.lemmas.Bool.{false≢true}
+use Rattle.std.specs.Prelude.{is_some}
+use Rattle.std.proofs.lemmas.Bool.{or_left}
 use Rattle.std.specs.FinMap.{get}
 use Rattle.std.specs.List.{Contains, flat_map}
 use Rattle.std.specs.List.Sorted.{IsStrictlySortedBy}
 use Rattle.path_text.specs.Path.{refusal}
-use Rattle.outside.specs.Tree.{Files, IsTree, Node, NodesHavePaths}
+use Rattle.outside.specs.Tree.{Files, IsTree, NodesHavePaths}
 use Rattle.entry_pages.specs.declared.entries.Entry.{Entry}
+use Rattle.entry_pages.proofs.Counted.{bit}
 use Rattle.tree_cmp.specs.Sides.{IsSide, side}
 use Rattle.tree_copy.specs.declared.pairs.Pair.{Pair}
 use Rattle.tree_walk.proofs.Inside.{in_itself}
@@ -24,21 +25,17 @@ use Rattle.run_entries.specs.declared.both.Sides.{Sides}
 use Rattle.tree_sync.specs.Syncing.{CanSync, FitsSync}
 use Rattle.sync_report.specs.PrivateSteps.{AreWhole, IsPlaced, IsReady}
 use Rattle.sync_report.proofs.Below.{apart, not_root}
-use Rattle.sync_report.proofs.Lists.{or_left}
 use Rattle.sync_report.proofs.Walked.{IsWalk, all_tell, are_told, have_parents, whole}
+use Rattle.tree_remove.proofs.Removal.{not_none}
 
 -- ---- a path is the root of itself
-
-at_most_one : (b : Bool) → cond b 1 0 ≤ 1
-at_most_one true = omega arith
-at_most_one false = omega arith
 
 pub own_root : (top : List ℕ) → IsRoots (top ∷ []) (top ∷ [])
 unfolding IsStrictlySortedBy
 own_root top = record {
   among = All-from_recursion (Contains (top ∷ [])) (top ∷ []) ((0, omega arith, refl), tt);
   ascend = (tt, tt);
-  apart = λ x. omega (arith, sum_by-cons (λ r. cond (is_in x r) 1 0) top [], at_most_one (is_in x top));
+  apart = λ x. omega (arith, sum_by-cons (λ r. cond (is_in x r) 1 0) top [], bit (is_in x top));
   cover = All-from_recursion (λ path. is_in_some (top ∷ []) path ≡ true) (top ∷ []) (or_left (is_in top top) false (in_itself top), tt);
 }
 
@@ -63,10 +60,6 @@ from_top unique top list files n after v w =
       w.told ∙ ap (flat_map (walk files (answers_in list))) same ∙ append-nil (walk files (answers_in list) top),
       w.valid (omega (arith, ap length same)),
     )
-
-not_none : (o : Option Node) → is_some o ≡ true → is_none o ≡ false
-not_none None e = absurd (false≢true e)
-not_none (Some n) e = refl
 
 -- ---- both of them
 

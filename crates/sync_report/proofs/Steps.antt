@@ -9,7 +9,7 @@ use Rattle.tree_sync.specs.Syncing.{SameOutside}
 use Rattle.tool_words.specs.Asked.{SyncAsked}
 use Rattle.run_report.specs.declared.stops.Stop.{Stop}
 use Rattle.run_report.specs.Sides.{Side, side_with}
-use Rattle.run_entries.specs.Both.{StopsWalking, WalksBoth}
+use Rattle.run_entries.specs.Both.{StopsEitherWalk, WalksBoth}
 use Rattle.sync_report.specs.Placing.{Places, Surveys}
 use Rattle.sync_report.specs.Syncing.{LeavesSync, StopsSync, Syncs, pair_of}
 
@@ -37,14 +37,14 @@ syncs_by pair source dest delete done before walked after same s =
 
 -- a walk stopped
 pub stops_walking : (asked : SyncAsked) (before looked after : Side) (why : Stop) → Looked (pair_of asked) before looked → after.tree ≡ looked.tree →
-    looked.count ≤ after.count → StopsWalking asked.source asked.dest looked after why → StopsSync asked before after why
+    looked.count ≤ after.count → StopsEitherWalk asked.source asked.dest looked after why → StopsSync asked before after why
 stops_walking asked before looked after why l same later stops = inr (
   inr (record {
     places = l.places;
     between = looked.count;
     kept = l.kept;
     later = later;
-    stops = subst (λ t. StopsWalking asked.source asked.dest (side_with t looked.count) after why) l.same stops;
+    stops = subst (λ t. StopsEitherWalk asked.source asked.dest (side_with t looked.count) after why) l.same stops;
   }),
   same ∙ l.same,
 )

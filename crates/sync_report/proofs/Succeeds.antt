@@ -12,6 +12,7 @@ use Rattle.outside.specs.Count.{StoodStill}
 use Rattle.outside.specs.Tree.{Files, IsTree, Node, is_dir, names_in}
 use Rattle.entry_pages.specs.declared.entries.Entry.{Entry}
 use Rattle.entry_pages.specs.declared.entries.Mark.TheVariants as mark
+use Rattle.flat_list.specs.Spelling.{max_entries}
 use Rattle.tree_copy.specs.Placing.{overlap}
 use Rattle.tree_copy.specs.declared.pairs.Pair.{Pair}
 use Rattle.tree_copy.specs.declared.pairs.PlaceError.{PlaceError}
@@ -114,7 +115,7 @@ dest_silent laws top list files before after v says w is t fine stood = by (get 
         are = own_root top;
         there = All-from_recursion (λ root. is_some (get files root) ≡ true) (top ∷ []) (ap is_some some, tt);
         near = subst (All (λ e. e.far ≡ 0)) (sym (append-nil (walk files all_told top))) fine.near;
-        few = subst (λ es. length es ≤ 4194304) (sym (append-nil (walk files all_told top))) fine.few;
+        few = subst (λ es. length es ≤ max_entries) (sym (append-nil (walk files all_told top))) fine.few;
       };
       stood = stood;
     }) w)

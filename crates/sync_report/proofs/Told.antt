@@ -1,7 +1,7 @@
 -- What two walks say, and a comparison of them, where no answer fails and no directory has a child whose path is too long.
 use Rattle.std.proofs.Common.{◌≡◌, ℕ, Bool, true, false, not, cond, ◌||◌, ◌&&◌, List, [], ◌∷◌, ◌++◌, nat_eq, Option, Some, None, IfSome}
 use Rattle.std.proofs.Common.{refl, ap, ◌∙◌, sym, subst}
-use Rattle.std.proofs.lemmas.Bool.{false≢true, and_from, and_parts}
+use Rattle.std.proofs.lemmas.Bool.{false≢true, and_from, and_parts, not-true, or_right}
 use Rattle.std.proofs.lemmas.List.Elements.{recursion_from_All}
 use Rattle.std.specs.Prelude.{IsTrue, is_some, ◌==◌}
 use Rattle.std.specs.FinMap.{get}
@@ -15,6 +15,7 @@ use Rattle.path_text.proofs.Parts.{graft_undoes_below}
 use Rattle.outside.specs.Tree.{Files, Node, kind_of, stat_of}
 use Rattle.outside.specs.declared.trees.Kind.{Kind}
 use Rattle.outside.specs.declared.trees.Kind.TheVariants as kind
+use Rattle.outside.proofs.Names.{all_weaker}
 use Rattle.entry_pages.specs.declared.entries.Entry.{Entry}
 use Rattle.entry_pages.specs.Entries.{is_kind, is_of}
 use Rattle.tree_cmp.specs.declared.rows.Row.{Row}
@@ -24,7 +25,8 @@ use Rattle.tree_copy.specs.declared.pairs.Pair.{Pair}
 use Rattle.tree_sync.specs.Syncing.{has_other, is_chosen, is_differ, is_foreign, is_masked, is_only_dest, row_at}
 use Rattle.tree_walk.specs.Told.{EntriesAreTold, IsTold}
 use Rattle.tree_walk.specs.Walk.{WalkListsAll, all_told, entry_of, told}
-use Rattle.sync_report.proofs.Lists.{both, none_any, or_right, passing, weaker}
+use Rattle.tree_walk.proofs.Lists.{both}
+use Rattle.sync_report.proofs.Lists.{none_any, passing}
 use Rattle.sync_report.proofs.Walked.{IsWalk, at_path, each, whole_by_all}
 
 -- ---- kinds
@@ -74,10 +76,6 @@ if_some : {X : Type 0} (P Q : X → Type 0) (o : Option X) → ((x : X) → P x 
 if_some P Q None t h = tt
 if_some P Q (Some x) t h = t x h
 
-not_gone : (g : Bool) → not g ≡ true → g ≡ false
-not_gone true e = absurd (false≢true e)
-not_gone false e = refl
-
 module _ (law : EntriesAreTold) (lists : WalkListsAll) (files : Files) (top : List ℕ) (list : List Entry) (w : IsWalk files all_told top list) where
   pub tells_at : (p : List ℕ) → refusal p ≡ None → TellsAt (entry_at (side top list) p) (get files (grafted top p))
   tells_at p v =
@@ -88,7 +86,7 @@ module _ (law : EntriesAreTold) (lists : WalkListsAll) (files : Files) (top : Li
       (λ e h.
       let parts = and_parts (not (is_gone e.mark)) (pointwise nat_eq (below_of e.path top) p) h.0 in
       let is : e.path ≡ q = sym (graft_undoes_below e.path top h.1.1) ∙ ap (grafted top) ((bytes_decides (below_of e.path top) p).0 parts.1) in
-      (not_gone (is_gone e.mark) parts.0, h.1.0.own ∙ (λ i. Own (get files (is i)) (is i))))
+      (not-true (is_gone e.mark) parts.0, h.1.0.own ∙ (λ i. Own (get files (is i)) (is i))))
       (found_holds (at_path top p) (λ e. IsTold files all_told e × IsTrue (is_within e.path top)) list (each law files all_told top list w)))
       (λ some. whole_by_all law lists files top list w p v some)
 
@@ -96,7 +94,7 @@ module _ (law : EntriesAreTold) (lists : WalkListsAll) (files : Files) (top : Li
   pub not_hidden : (p : List ℕ) → All (λ e. e.far ≡ 0) list → is_hidden (side top list) p ≡ false
   not_hidden p near =
       none_any (λ e. not (is_gone e.mark) && (is_partial e && is_under p (below_of e.path top))) list
-      (weaker (λ e. (IsTold files all_told e × IsTrue (is_within e.path top)) × (e.far ≡ 0))
+      (all_weaker (λ e. (IsTold files all_told e × IsTrue (is_within e.path top)) × (e.far ≡ 0))
       (λ e. (not (is_gone e.mark) && (is_partial e && is_under p (below_of e.path top))) ≡ false)
       (λ e h. no_part (not (is_gone e.mark)) (is_partial e) (is_under p (below_of e.path top))
       (λ i. (ap (λ (x : Entry). is_closed x.mark) h.0.0.own ∙ own_mark (get files e.path) e.path) i || not (h.1 i == 0))) list
@@ -166,7 +164,7 @@ module _ (law : EntriesAreTold) (lists : WalkListsAll) (files : Files) (pair : P
   not_masked : (p : List ℕ) → is_masked (side pair.source source) p ≡ false
   not_masked p =
       none_any (λ e. has_other e && is_within p (below_of e.path pair.source)) source
-      (weaker (λ (e : Entry). is_of kind.Other e.stat ≡ false) (λ (e : Entry). (has_other e && is_within p (below_of e.path pair.source)) ≡ false)
+      (all_weaker (λ (e : Entry). is_of kind.Other e.stat ≡ false) (λ (e : Entry). (has_other e && is_within p (below_of e.path pair.source)) ≡ false)
       (λ e h. no_mask (not (is_gone e.mark)) (is_of kind.Other e.stat) (is_within p (below_of e.path pair.source)) h) source
       (recursion_from_All (λ (e : Entry). is_of kind.Other e.stat ≡ false) source c.no_other))
     where

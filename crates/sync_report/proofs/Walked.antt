@@ -17,6 +17,7 @@ use Rattle.path_text.proofs.Within.{itself}
 use Rattle.outside.specs.Tree.{Files, IsTree, Node, is_root, link_at, stat_of}
 use Rattle.outside.specs.declared.trees.Kind.TheVariants as kind
 use Rattle.outside.specs.declared.trees.Stat.{Stat}
+use Rattle.outside.proofs.Names.{all_weaker}
 use Rattle.entry_pages.specs.declared.entries.Entry.{Entry}
 use Rattle.entry_pages.specs.declared.entries.Mark.{Mark}
 use Rattle.entry_pages.specs.declared.entries.Mark.TheVariants as mark
@@ -28,8 +29,9 @@ use Rattle.tree_sync.specs.Laws.{IsWhole, is_noted, is_under_some, noted}
 use Rattle.tree_sync.specs.Syncing.{AreTold, has_parent}
 use Rattle.tree_walk.specs.Told.{EntriesAreTold, EntriesHaveParents, IsTold, StandsBy, has_dir, stat_by, target_by}
 use Rattle.tree_walk.specs.Walk.{Answers, WalkListsAll, all_told, answer_by, answer_in, answers_in, entry_of, is_told, told, walk}
+use Rattle.tree_walk.proofs.Lists.{both}
 use Rattle.sync_report.proofs.Below.{within_below}
-use Rattle.sync_report.proofs.Lists.{any_map, any_other, both, not_kept, passing, weaker}
+use Rattle.sync_report.proofs.Lists.{any_map, any_other, not_kept, passing}
 
 -- the list is the walk of a tree from a top that is not `/`
 pub record IsWalk (files : Files) (a : Answers) (top : List ℕ) (list : List Entry) : Type 0 where
@@ -128,10 +130,10 @@ pub has_stat : (files : Files) (a : Answers) (top p : List ℕ) (list : List Ent
 has_stat files a top p list v some each fine listed =
     let known = both (λ e. IsTold files a e × IsTrue (is_within e.path top)) (λ e. e.path ≡ grafted top p → e.mark ≢ mark.StatFailed) list each fine in
     let one = passing (at_path top p) (λ e. at_path top p e ≡ true → is_some e.stat ≡ true) list
-    (weaker (λ e. (IsTold files a e × IsTrue (is_within e.path top)) × (e.path ≡ grafted top p → e.mark ≢ mark.StatFailed))
+    (all_weaker (λ e. (IsTold files a e × IsTrue (is_within e.path top)) × (e.path ≡ grafted top p → e.mark ≢ mark.StatFailed))
     (λ e. at_path top p e ≡ true → is_some e.stat ≡ true) stands list known)
     (any_other (λ (e : Entry). pointwise nat_eq (grafted top p) e.path) (at_path top p) list
-    (weaker (λ e. (IsTold files a e × IsTrue (is_within e.path top)) × (e.path ≡ grafted top p → e.mark ≢ mark.StatFailed))
+    (all_weaker (λ e. (IsTold files a e × IsTrue (is_within e.path top)) × (e.path ≡ grafted top p → e.mark ≢ mark.StatFailed))
     (λ (e : Entry). pointwise nat_eq (grafted top p) e.path ≡ true → at_path top p e ≡ true) is_at list known)
     (sym (any_map (pointwise nat_eq (grafted top p)) (λ (e : Entry). e.path) list) ∙ listed)) in
     ap (λ o. is_some (stat_at o)) one.found ∙ one.holds one.passes
@@ -195,11 +197,11 @@ whole tells lists files top list w paths_are p v some off =
     let back : below_of q top ≡ p = below_undoes_graft.back top p v in
     let none = all_off top p list off in
     let way = λ (x : List ℕ) (u : is_under q x ≡ true) (on : is_within x top ≡ true).
-    answered x list (weaker (IsOff top p) (λ e. e.path ≡ x → is_noted e ≡ true → ⊥)
+    answered x list (all_weaker (IsOff top p) (λ e. e.path ≡ x → is_noted e ≡ true → ⊥)
     (λ e h is n. false≢true (sym (h n) ∙ subst (λ b. is_within b (below_of e.path top) ≡ true) back
     (subst (λ y. is_within (below_of q top) (below_of y top) ≡ true) (sym is) (within_below top x q (paths_are q some) on u)))) list none) in
     has_stat files a top p list v some (each tells files a top list w)
-    (weaker (IsOff top p) (λ e. e.path ≡ q → e.mark ≢ mark.StatFailed)
+    (all_weaker (IsOff top p) (λ e. e.path ≡ q → e.mark ≢ mark.StatFailed)
     (λ e h is failed. false≢true (sym (h (noted_fails e mark.StatFailed failed refl refl))
     ∙ subst (λ b. is_within p b ≡ true) (sym (ap (λ y. below_of y top) is ∙ back)) (itself p))) list none)
     (subst (λ es. list_any (pointwise nat_eq q) (paths es) ≡ true) (sym w.is) (lists files a top q w.tree w.valid w.low within some way))
@@ -218,7 +220,7 @@ pub whole_by_all : EntriesAreTold → WalkListsAll → (files : Files) (top : Li
 whole_by_all tells lists files top list w p v some =
     let q = grafted top p in
     has_stat files all_told top p list v some (each tells files all_told top list w)
-    (weaker (λ e. IsTold files all_told e × IsTrue (is_within e.path top)) (λ e. e.path ≡ q → e.mark ≢ mark.StatFailed)
+    (all_weaker (λ e. IsTold files all_told e × IsTrue (is_within e.path top)) (λ e. e.path ≡ q → e.mark ≢ mark.StatFailed)
     (λ e t is. no_mark e.mark (ap (λ (x : Entry). x.mark) t.0.own ∙ told_mark (get files e.path) e.path (ap (λ y. is_some (get files y)) is ∙ some)))
     list (each tells files all_told top list w))
     (subst (λ es. list_any (pointwise nat_eq q) (paths es) ≡ true) (sym w.is)

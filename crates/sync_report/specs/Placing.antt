@@ -11,7 +11,7 @@ use Rattle.tree_sync.specs.Placing.{sync_placed}
 use Rattle.run_report.specs.Sides.{Side, side_with}
 use Rattle.run_report.specs.declared.stops.Stop.{Stop}
 use Rattle.run_report.specs.declared.stops.Stop.TheVariants as stop
-use Rattle.run_entries.specs.Both.{WalksBoth, StopsWalking}
+use Rattle.run_entries.specs.Both.{WalksBoth, StopsEitherWalk}
 
 -- the pair can be synced, or why it can't: by whether a directory is over its target
 pub record Places (pair : Pair) (tree : Option Files) (answer : Result (Unit {0}) PlaceError) : Type 0 where
@@ -43,4 +43,4 @@ pub record StopsAfterLook (pair : Pair) (before after : Side) (why : Stop) : Typ
   pub between : ℕ
   pub kept : before.count ≤ between
   pub later : between ≤ after.count
-  pub stops : StopsWalking pair.source pair.target (side_with before.tree between) after why
+  pub stops : StopsEitherWalk pair.source pair.target (side_with before.tree between) after why

@@ -12,10 +12,11 @@ use Rattle.outside.specs.Tree.{Files}
 use Rattle.outside.specs.declared.trees.Kind.TheVariants as kind
 use Rattle.entry_pages.specs.declared.entries.Entry.{Entry}
 use Rattle.entry_pages.specs.Entries.{is_of}
-use Rattle.level_work.specs.Counts.{is_failed}
+use Rattle.flat_list.specs.Spelling.{max_entries}
+use Rattle.level_work.specs.Counts.{is_failed, is_done}
 use Rattle.tree_cmp.specs.Rows.{Findings, IsComparison}
 use Rattle.tree_cmp.specs.Sides.{side}
-use Rattle.tree_copy.specs.Copying.{clashes, is_done, target_of}
+use Rattle.tree_copy.specs.Copying.{clashes, target_of}
 use Rattle.tree_copy.specs.declared.pairs.Pair.{Pair}
 use Rattle.tree_sync.specs.Laws.{AgreesAfter, below_top}
 use Rattle.tree_sync.specs.Placing.{sync_placed_over}
@@ -149,7 +150,7 @@ LeavesSync asked old new = (is_some new ≡ is_some old) × IfSome old (λ befor
 -- longer than a list may be
 pub record IsFineDest (files : Files) (dest : List ℕ) : Type 0 where
   pub near : All (λ e. e.far ≡ 0) (walk files all_told dest)
-  pub few : length (walk files all_told dest) ≤ 4194304
+  pub few : length (walk files all_told dest) ≤ max_entries
 
 -- an entry of the source that can be copied: it is not of the kind other, and its path in the destination is not too long. If nothing
 -- is to be removed, no entry of another kind is there

@@ -3,7 +3,7 @@ ghost use Rattle.std.specs.Prelude.{◌≡◌, IfOk, IfErr};
 ghost use Rattle.outside.specs.Count.{RoseBy};
 ghost use Rattle.tool_words.specs.Limits.{CommonWithin};
 ghost use Rattle.run_report.specs.Sides.{side_of};
-ghost use Rattle.run_entries.specs.Both.{WalksBoth, StopsWalking};
+ghost use Rattle.run_entries.specs.Both.{WalksBoth, StopsEitherWalk};
 ghost use Rattle.sync_report.specs.PrivateSteps.{IsPlaced, IsReady};
 
 use outside::{Ground, nodes_have_paths};
@@ -31,7 +31,7 @@ where
     ensures walks { IfOk result (λ sides. WalksBoth pair.now.source pair.now.target sides.left sides.right
         (side_of G.Plot files.old) (side_of G.Plot files.new)) }
     ensures ready { IfOk result (λ sides. IsReady pair.now sides.left sides.right (G.tree files.old)) }
-    ensures stopped { IfErr result (StopsWalking pair.now.source pair.now.target (side_of G.Plot files.old)
+    ensures stopped { IfErr result (StopsEitherWalk pair.now.source pair.now.target (side_of G.Plot files.old)
         (side_of G.Plot files.new)) }
     ensures same { G.tree files.new ≡ G.tree files.old }
     ensures area { G.area files.new ≡ G.area files.old }

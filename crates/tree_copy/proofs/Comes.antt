@@ -1,7 +1,7 @@
 -- The fate that each entry comes to by that of its item.
 use Rattle.std.proofs.Common.{◌≡◌, ◌≢◌, inl, inr, ℕ, zero, suc, ◌<◌, ◌≤◌, Bool, true, false, not, cond, ◌||◌, ◌&&◌, List, [], ◌∷◌, map, length}
 use Rattle.std.proofs.Common.{Option, Some, None, refl, ap, ◌∙◌, sym, arith, nat_eq, nat_lt, slice_get}
-use Rattle.std.proofs.lemmas.Bool.{false≢true, or_parts}
+use Rattle.std.proofs.lemmas.Bool.{false≢true, or_parts, or_left, or_right}
 use Rattle.std.proofs.lemmas.Bool.Decides.{nat_tests}
 use Rattle.std.proofs.lemmas.List.Elements.{All-from_recursion}
 use Rattle.std.specs.List.{All, AllByRecursion, filter, list_any, zip}
@@ -15,9 +15,10 @@ use Rattle.level_work.specs.declared.items.Fate.{Fate}
 use Rattle.level_work.specs.declared.items.Fate.TheVariants as fate
 use Rattle.level_work.specs.declared.items.Order.TheVariants as order
 use Rattle.tree_copy.specs.declared.pairs.Pair.{Pair}
-use Rattle.tree_copy.specs.Copying.{IsEarly, early, is_done, is_tried, is_untold, parent_failed, target_of}
+use Rattle.level_work.specs.Counts.{is_done}
+use Rattle.tree_copy.specs.Copying.{IsEarly, early, is_tried, is_untold, parent_failed, target_of}
 use Rattle.tree_copy.specs.PrivateSettling.{any_odd, fates_of, has_room, is_odd, is_other, item_of, settled, settled_by}
-use Rattle.tree_copy.proofs.Ends.{or_left, or_right, same_some}
+use Rattle.tree_copy.proofs.Ends.{same_some}
 use Rattle.tree_copy.proofs.Fits.{no_room_of, other_path, room_of}
 
 -- the items by marks that say which entries have one

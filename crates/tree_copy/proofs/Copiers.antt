@@ -14,7 +14,7 @@ use Rattle.entry_pages.specs.Entries.{size_by}
 use Rattle.level_work.specs.Acts.{IsDone, at_and_under}
 use Rattle.level_work.specs.declared.items.Fate.{Fate}
 use Rattle.level_work.specs.declared.items.Fate.TheVariants as fate
-use Rattle.tree_copy.specs.Copying.{is_done}
+use Rattle.level_work.specs.Counts.{is_done}
 use Rattle.tree_copy.specs.PrivateActs.{ByReader, Filled, IsDirMade, IsFilled, IsPlaced, Placed, Spared}
 use Rattle.tree_copy.specs.PrivateDeeds.{CopyKind, CopyLink, CopyOne, CopyTold, Differ, LinkBy, MakeDir, MakeFile, is_link}
 use Rattle.tree_copy.proofs.Puts.{get_here, mapped}

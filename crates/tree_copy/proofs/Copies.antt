@@ -409,7 +409,7 @@ firsts P [] ys h = tt
 firsts P (x ∷ xs) [] h = tt
 firsts P (x ∷ xs) (y ∷ ys) h = (h.0, firsts P xs ys h.1)
 
-together : {X : Type 0} (P Q R : X → Type 0) (xs : List X) → ((x : X) → P x → Q x → R x) → AllByRecursion P xs → AllByRecursion Q xs →
+pub together : {X : Type 0} (P Q R : X → Type 0) (xs : List X) → ((x : X) → P x → Q x → R x) → AllByRecursion P xs → AllByRecursion Q xs →
     AllByRecursion R xs
 together P Q R [] h p q = tt
 together P Q R (x ∷ xs) h p q = (h x p.0 q.0, together P Q R xs h p.1 q.1)

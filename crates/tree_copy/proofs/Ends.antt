@@ -1,7 +1,7 @@
 -- Where pairs send paths: no two paths go to one target, and a target is under another one only where its path is under the other's.
 use Rattle.std.proofs.Common.{◌≡◌, ◌⊎◌, inl, inr, ⊎_elim, ℕ, zero, suc, ◌<◌, ◌≤◌, Bool, true, false, ◌||◌, List, [], ◌∷◌, ◌++◌, map, length, drop}
 use Rattle.std.proofs.Common.{Some, None, refl, ap, ◌∙◌, sym, subst, arith, nat_eq, cond, slice_get, append_assoc, length-append}
-use Rattle.std.proofs.lemmas.Bool.{false≢true, or_parts}
+use Rattle.std.proofs.lemmas.Bool.{false≢true, or_parts, or_left, or_right, or_from}
 use Rattle.std.proofs.lemmas.Bool.Decides.{nat_tests}
 use Rattle.std.proofs.lemmas.List.{append_cancel_left}
 use Rattle.std.proofs.lemmas.List.Folds.{list_any-append}
@@ -23,18 +23,6 @@ use Rattle.tree_copy.specs.Copying.{ends_of, target_of}
 use Rattle.tree_copy.specs.Placing.{IsPair, overlap}
 
 -- tests
-
-pub or_left : (a b : Bool) → a ≡ true → (a || b) ≡ true
-or_left true b e = refl
-or_left false b e = absurd (false≢true e)
-
-pub or_right : (a b : Bool) → b ≡ true → (a || b) ≡ true
-or_right true b e = refl
-or_right false b e = e
-
-pub both_off : (a b : Bool) → a ≡ false → b ≡ false → (a || b) ≡ false
-both_off true b e f = absurd (false≢true (sym e))
-both_off false b e f = f
 
 turned_or : (a b : Bool) → (a || b) ≡ false → (b || a) ≡ false
 turned_or true b e = absurd (false≢true (sym e))
@@ -68,7 +56,7 @@ any_out p [] ys t h = or_parts (p t) (list_any p ys) h
 any_out p (x ∷ xs) ys t h =
     let n = or_parts (p x) (list_any p (xs ++ t ∷ ys)) h in
     let r = any_out p xs ys t n.1 in
-    (r.0, both_off (p x) (list_any p (xs ++ ys)) n.0 r.1)
+    (r.0, or_from (p x) (list_any p (xs ++ ys)) n.0 r.1)
 
 take_out : (xs ys : List (List ℕ)) (t : List ℕ) → overlap (xs ++ t ∷ ys) ≡ false → (list_any (meets t) (xs ++ ys) ≡ false) × (overlap (xs ++ ys) ≡ false)
 take_out [] ys t h = or_parts (list_any (meets t) ys) (overlap ys) h
@@ -76,8 +64,8 @@ take_out (x ∷ xs) ys t h =
     let n = or_parts (list_any (meets x) (xs ++ t ∷ ys)) (overlap (xs ++ t ∷ ys)) h in
     let o = any_out (meets x) xs ys t n.0 in
     let r = take_out xs ys t n.1 in (
-      both_off (meets t x) (list_any (meets t) (xs ++ ys)) (turned_or (is_within x t) (is_within t x) o.0) r.0,
-      both_off (list_any (meets x) (xs ++ ys))
+      or_from (meets t x) (list_any (meets t) (xs ++ ys)) (turned_or (is_within x t) (is_within t x) o.0) r.0,
+      or_from (list_any (meets x) (xs ++ ys))
           (overlap (xs ++ ys)) o.1 r.1,
     )
 

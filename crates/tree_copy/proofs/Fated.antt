@@ -5,21 +5,22 @@ use Rattle.std.proofs.Common.{length-append, length-take}
 use Rattle.std.proofs.lemmas.Bool.{false≢true}
 use Rattle.std.proofs.lemmas.Bool.Decides.{nat_tests}
 use Rattle.std.proofs.lemmas.List.Elements.{All-from_recursion, recursion_from_All}
-use Rattle.std.proofs.lemmas.List.Sums.{sum_by-cons}
 use Rattle.std.specs.Prelude.{◌==◌}
-use Rattle.std.specs.List.{AllByRecursion, zip, count_by, before_last, suffix_len}
+use Rattle.std.specs.List.{AllByRecursion, zip, before_last, suffix_len}
 use Rattle.std.specs.Cmp.Lexicographic.{pointwise, bytes_decides}
 use Rattle.path_text.specs.Graft.{grafted, below_of}
 use Rattle.path_text.specs.Order.{is_within}
 use Rattle.path_text.specs.Path.{is_slash, parent_of, joined}
 use Rattle.path_text.proofs.Parents.{parent_some}
 use Rattle.outside.specs.Tree.{Files}
+use Rattle.outside.proofs.Names.{all_weaker}
 use Rattle.entry_pages.specs.declared.entries.Entry.{Entry}
 use Rattle.flat_list.specs.Spelling.{paths}
-use Rattle.level_work.specs.Counts.{is_failed}
+use Rattle.level_work.specs.Counts.{is_failed, is_done}
 use Rattle.level_work.specs.declared.items.Fate.{Fate}
 use Rattle.level_work.specs.declared.items.Fate.TheVariants as fate
-use Rattle.tree_copy.specs.Copying.{IsCopied, due, is_done, is_untold, or_else, parent_failed, target_of, treated}
+use Rattle.level_work.proofs.Unfailed.{unfailed}
+use Rattle.tree_copy.specs.Copying.{IsCopied, due, is_untold, or_else, parent_failed, target_of, treated}
 use Rattle.tree_copy.specs.Laws.{FineEntriesAreCopied, IsFineEntry}
 use Rattle.tree_copy.specs.declared.pairs.Pair.{Pair}
 
@@ -111,10 +112,6 @@ one_done files after pairs rows one w parents =
 abbrev IsDoneBelow : List Pair → ℕ → Row → Type 0
 IsDoneBelow pairs n row = length (target_of pairs row.0) < n → row.1 ≡ fate.Done
 
-weaker : {X : Type 0} (P Q : X → Type 0) → ((x : X) → P x → Q x) → (xs : List X) → AllByRecursion P xs → AllByRecursion Q xs
-weaker P Q t [] h = h
-weaker P Q t (x ∷ xs) h = (t x h.0, weaker P Q t xs h.1)
-
 heads : (x y : List ℕ) (xs ys : List (List ℕ)) → x ∷ xs ≡ y ∷ ys → (x ≡ y) × (xs ≡ ys)
 heads x y xs ys e = (cc, cc)
 
@@ -139,7 +136,7 @@ module _ (files after : Files) (pairs : List Pair) (rows : List Row) (long : All
         λ few.
             let short : length (target_of pairs e.path) < suc n = subst (λ p. length (target_of pairs p) < suc n) s.0 few in
             one_done files after pairs rows (e, r) w.0
-            (weaker (IsDoneBelow pairs n) (IsDoneAt pairs (parent_of (target_of pairs e.path))) (parents n (target_of pairs e.path) short) rows below),
+            (all_weaker (IsDoneBelow pairs n) (IsDoneAt pairs (parent_of (target_of pairs e.path))) (parents n (target_of pairs e.path) short) rows below),
         step n below es rs s.1 w.1,
       )
 
@@ -166,7 +163,7 @@ module _ (files after : Files) (pairs : List Pair) (rows : List Row) (long : All
         bound = n + 1 + rest.bound;
         all = (
           omega arith,
-          weaker (λ row. length (target_of pairs row.0) < rest.bound) (λ row. length (target_of pairs row.0) < n + 1 + rest.bound)
+          all_weaker (λ row. length (target_of pairs row.0) < rest.bound) (λ row. length (target_of pairs row.0) < n + 1 + rest.bound)
               (λ row l. omega (arith, l)) rs rest.all,
         );
       }
@@ -179,17 +176,6 @@ module _ (files after : Files) (pairs : List Pair) (rows : List Row) (long : All
   all_done : (es : List Entry) → map (λ row. row.0) rows ≡ paths es → AllByRecursion (IsWell files after pairs rows) (zip es rows) →
       AllByRecursion (λ row. row.1 ≡ fate.Done) rows
   all_done es same w = let b = longest rows in below_all b.bound rows (all_below b.bound es same w) b.all
-
--- ---- no copy failed, where no fault was counted
-
-unfailed : (rows : List Row) → count_by (λ row. is_failed row.1) rows ≡ 0 → AllByRecursion (λ row. is_failed row.1 ≡ false) rows
-unfailed [] e = tt
-unfailed (row ∷ rows) e =
-    let here = sum_by-cons (λ (r : Row). cond (is_failed r.1) 1 0) row rows in
-    elim (is_failed row.1) as (λ b. is_failed row.1 ≡ b → AllByRecursion (λ row. is_failed row.1 ≡ false) (row ∷ rows)) [
-      | true ↦ λ is. absurd (omega (arith, e, here, ap {B = ℕ} (λ b. cond b 1 0) is))
-      | false ↦ λ off. (off, unfailed rows (omega (arith, e, here, ap {B = ℕ} (λ b. cond b 1 0) off)))
-    ] refl
 
 -- what is known of entries and of rows is known of both together
 together : (files after : Files) (pairs : List Pair) (rows : List Row) (es : List Entry) (rs : List Row) →

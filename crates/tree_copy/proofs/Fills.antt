@@ -8,7 +8,8 @@ use Rattle.outside.specs.Tree.{Files, file, content, Reads}
 use Rattle.outside.specs.Writes.{SameBut, new_file, written, spliced, time_of, write_refusal}
 use Rattle.tree_copy.specs.PrivateActs.{HasFile}
 use Rattle.tree_copy.specs.PrivateDeeds.{Holds}
-use Rattle.tree_copy.proofs.Puts.{put_here, put_others, both_told, answered}
+use Rattle.tree_copy.proofs.Puts.{put_here, put_others, answered}
+use Rattle.level_work.proofs.Working.{both_told}
 
 take_none : (n : ℕ) → take {A = ℕ} n [] ≡ []
 take_none zero = refl

@@ -1,7 +1,7 @@
 -- The items of a copy are fit for work from the top down.
 use Rattle.std.proofs.Common.{◌≡◌, inl, inr, ℕ, zero, suc, ◌<◌, ◌≤◌, Bool, true, false, cond, ◌||◌, List, [], ◌∷◌, map, length, Option, Some, None}
 use Rattle.std.proofs.Common.{IfSome, refl, ap, ◌∙◌, sym, subst, arith, nat_eq, is_some, slice_get}
-use Rattle.std.proofs.lemmas.Bool.{false≢true, or_parts}
+use Rattle.std.proofs.lemmas.Bool.{false≢true, or_parts, or_from}
 use Rattle.std.proofs.lemmas.Bool.Decides.{nat_tests}
 use Rattle.std.specs.Prelude.{nat_le}
 use Rattle.std.specs.FinMap.{get, insert, get-insert}
@@ -33,7 +33,7 @@ use Rattle.tree_copy.specs.Copying.{CanCopy, FitsTree, is_target, target_of, tre
 use Rattle.tree_copy.specs.PrivateDeeds.{CopyKind, CopyOne, CopyTold, MakeDir}
 use Rattle.tree_copy.specs.Placing.{IsPair}
 use Rattle.tree_copy.specs.PrivateSettling.{has_room, item_of, items_of, placed_of}
-use Rattle.tree_copy.proofs.Ends.{Fine, Goes, all_at, both_off, goes, no_root, one_path, same_some, under_kept}
+use Rattle.tree_copy.proofs.Ends.{Fine, Goes, all_at, goes, no_root, one_path, same_some, under_kept}
 
 -- what is known of the entries and of the pairs
 pub record Known (list : List Entry) (pairs : List Pair) : Type 0 where
@@ -92,15 +92,15 @@ all_kept P p [] h = tt
 all_kept P p (x ∷ xs) h = elim (p x) as (λ b. AllByRecursion P (cond b (x ∷ filter p xs) (filter p xs)))
     [ true ↦ (h.0, all_kept P p xs h.1) | false ↦ all_kept P p xs h.1 ]
 
-abbrev Ascend : List Entry → Type 0
+abbrev pub Ascend : List Entry → Type 0
 Ascend [] = Unit {0}
 Ascend (e ∷ es) = AllByRecursion (λ f. path_cmp e.path f.path ≡ Less) es × Ascend es
 
-above : (p : List ℕ) (es : List Entry) → AllByRecursion (λ q. path_cmp p q ≡ Less) (paths es) → AllByRecursion (λ e. path_cmp p e.path ≡ Less) es
+pub above : (p : List ℕ) (es : List Entry) → AllByRecursion (λ q. path_cmp p q ≡ Less) (paths es) → AllByRecursion (λ e. path_cmp p e.path ≡ Less) es
 above p [] h = tt
 above p (e ∷ es) h = (h.0, above p es h.1)
 
-ascends : (es : List Entry) → IsStrictlySortedBy path_cmp (paths es) → Ascend es
+pub ascends : (es : List Entry) → IsStrictlySortedBy path_cmp (paths es) → Ascend es
 unfolding IsStrictlySortedBy
 ascends [] s = tt
 ascends (e ∷ es) s = (above e.path es s.0, ascends es s.1)
@@ -119,7 +119,7 @@ lower_at e es h k f at same =
     let m : path_cmp e.path e.path ≡ Less = ap (path_cmp e.path) same ∙ l in
     one_way e.path e.path m m
 
-once : (es : List Entry) → Ascend es → (j k : ℕ) (e f : Entry) → slice_get es j ≡ Some e → slice_get es k ≡ Some f → e.path ≡ f.path → j ≡ k
+pub once : (es : List Entry) → Ascend es → (j k : ℕ) (e f : Entry) → slice_get es j ≡ Some e → slice_get es k ≡ Some f → e.path ≡ f.path → j ≡ k
 once [] s zero k e f a b same = cc
 once [] s (suc j) k e f a b same = cc
 once (x ∷ es) s zero zero e f a b same = refl
@@ -168,7 +168,7 @@ no_item pairs [] q h = refl
 no_item pairs (e ∷ es) q h =
     let n = or_parts (pointwise nat_eq q (target_of pairs e.path)) (list_any (pointwise nat_eq q) (map (λ (e : Entry). target_of pairs e.path) es)) h in
     elim (has_room pairs e) as (λ b. is_item (map (item_of pairs) (cond b (e ∷ filter (has_room pairs) es) (filter (has_room pairs) es))) q ≡ false) [
-      | true ↦ both_off (pointwise nat_eq q (target_of pairs e.path)) (is_item (map (item_of pairs) (filter (has_room pairs) es)) q) n.0
+      | true ↦ or_from (pointwise nat_eq q (target_of pairs e.path)) (is_item (map (item_of pairs) (filter (has_room pairs) es)) q) n.0
           (no_item pairs es q n.1)
       | false ↦ no_item pairs es q n.1
     ]
@@ -179,7 +179,7 @@ far_no_item pairs [] q l = refl
 far_no_item pairs (e ∷ es) q l =
     elim (has_room pairs e) as (λ b. has_room pairs e ≡ b →
     is_item (map (item_of pairs) (cond b (e ∷ filter (has_room pairs) es) (filter (has_room pairs) es))) q ≡ false) [
-      | true ↦ λ r. both_off (pointwise nat_eq q (target_of pairs e.path)) (is_item (map (item_of pairs) (filter (has_room pairs) es)) q)
+      | true ↦ λ r. or_from (pointwise nat_eq q (target_of pairs e.path)) (is_item (map (item_of pairs) (filter (has_room pairs) es)) q)
           (other_path q (target_of pairs e.path) (λ is. absurd (omega (arith, l, room_of pairs e r, ap length is)))) (far_no_item pairs es q l)
       | false ↦ λ r. far_no_item pairs es q l
     ] refl

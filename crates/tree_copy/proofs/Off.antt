@@ -1,7 +1,7 @@
 -- Paths of sources are no targets, and each has a target of its own.
 use Rattle.std.proofs.Common.{◌≡◌, ℕ, zero, suc, Bool, true, false, ◌||◌, List, [], ◌∷◌, map, Some, None, refl, ap, ◌∙◌, sym, subst, nat_eq, slice_get}
 use Rattle.std.proofs.Common.{is_some}
-use Rattle.std.proofs.lemmas.Bool.{false≢true}
+use Rattle.std.proofs.lemmas.Bool.{false≢true, or_left, or_right, or_from}
 use Rattle.std.proofs.lemmas.List.Elements.{All-filter, recursion_from_All}
 use Rattle.std.specs.List.{All, AllByRecursion, list_any}
 use Rattle.std.specs.Cmp.Lexicographic.{pointwise, bytes_decides}
@@ -13,7 +13,7 @@ use Rattle.tree_copy.specs.Laws.{TargetsAreApart, is_in_source}
 use Rattle.tree_copy.specs.Placing.{IsPair, overlap}
 use Rattle.tree_copy.specs.declared.pairs.Pair.{Pair}
 use Rattle.tree_copy.proofs.Apart.{across}
-use Rattle.tree_copy.proofs.Ends.{Fine, all_at, both_off, goes, in_top, meets, met, one_over, one_path, or_left, or_right, same_some}
+use Rattle.tree_copy.proofs.Ends.{Fine, all_at, goes, in_top, meets, met, one_over, one_path, same_some}
 
 abbrev sources_of : List Pair → List (List ℕ)
 sources_of pairs = map (λ pair. pair.source) pairs
@@ -54,7 +54,7 @@ module _ (pairs : List Pair) (f : Fine pairs) (q : List ℕ) (there : is_in_sour
       list_any (pointwise nat_eq q) (map (λ e. target_of pairs e.path) es) ≡ false
   none_of [] v s = refl
   none_of (e ∷ es) v s =
-      both_off (pointwise nat_eq q (target_of pairs e.path)) (list_any (pointwise nat_eq q) (map (λ (e : Entry). target_of pairs e.path) es))
+      or_from (pointwise nat_eq q (target_of pairs e.path)) (list_any (pointwise nat_eq q) (map (λ (e : Entry). target_of pairs e.path) es))
       (not_this e.path v.0 s.0) (none_of es v.1 s.1)
 
 pub targets_are_apart : TargetsAreApart

@@ -11,9 +11,10 @@ use Rattle.outside.specs.declared.plots.WriteError.{WriteError}
 use Rattle.outside.specs.declared.plots.WriteError.TheVariants as write
 use Rattle.level_work.specs.declared.items.Fate.{Fate}
 use Rattle.level_work.specs.declared.items.Fate.TheVariants as fate
+use Rattle.level_work.proofs.Working.{both_told}
 use Rattle.tree_copy.specs.PrivateActs.{IsPlaced, IsReplaced, MadeAnew, TellsFate}
 use Rattle.tree_copy.proofs.Makes.{told_all}
-use Rattle.tree_copy.proofs.Puts.{put_here, put_others, gone_here, gone_others, both_told, answered}
+use Rattle.tree_copy.proofs.Puts.{put_here, put_others, gone_here, gone_others, answered}
 
 -- what stood at the path is gone, and nothing else changed
 pub record Gone (path : List ℕ) (before after : Files) : Type 0 where

@@ -37,13 +37,6 @@ pub gone_others : (p : List ℕ) (files : Files) → SameBut p files (remove fil
 gone_others p files q off = get-remove path_cmp_total files p q ∙ ap (λ b. cond b None (get files q)) (sym (path_cmp_ties q p) ∙ off)
 
 -- two calls in turn
-pub both_told : (R S W : Files → Files → Type 0) (t0 t1 t2 : Option Files) → is_some t1 ≡ is_some t0 → ((a b c : Files) → R a b → S b c → W a c) →
-    IfSome t0 (λ a. IfSome t1 (R a)) → IfSome t1 (λ b. IfSome t2 (S b)) → IfSome t0 (λ a. IfSome t2 (W a))
-both_told R S W None t1 t2 e f r s = tt
-both_told R S W (Some a) None t2 e f r s = absurd (false≢true e)
-both_told R S W (Some a) (Some b) None e f r s = tt
-both_told R S W (Some a) (Some b) (Some c) e f r s = f a b c r s
-
 pub mapped : (R W : Files → Files → Type 0) (t0 t1 : Option Files) → ((a b : Files) → R a b → W a b) →
     IfSome t0 (λ a. IfSome t1 (R a)) → IfSome t0 (λ a. IfSome t1 (W a))
 mapped R W None t1 f r = tt

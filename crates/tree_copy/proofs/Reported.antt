@@ -17,7 +17,7 @@ use Rattle.entry_pages.specs.declared.entries.Entry.{Entry}
 use Rattle.entry_pages.specs.Entries.{bytes_by}
 use Rattle.flat_list.specs.Spelling.{paths}
 use Rattle.level_work.specs.Acts.{MakesDirs}
-use Rattle.level_work.specs.Counts.{is_failed}
+use Rattle.level_work.specs.Counts.{is_failed, is_done}
 use Rattle.level_work.specs.Levels.{Acted, AreItems, ParentsFail, SameButItems, StandIn}
 use Rattle.level_work.specs.declared.items.Item.{Item}
 use Rattle.level_work.specs.declared.items.Fate.{Fate}
@@ -25,7 +25,7 @@ use Rattle.level_work.specs.declared.items.Fate.TheVariants as fate
 use Rattle.level_work.specs.declared.items.Order.TheVariants as order
 use Rattle.tree_copy.specs.declared.pairs.Pair.{Pair}
 use Rattle.tree_copy.specs.Causes.{HaveCauses}
-use Rattle.tree_copy.specs.Copying.{AreEarly, CanCopy, Copied, FitsTree, SameButTargets, bytes_copied, is_done, treated}
+use Rattle.tree_copy.specs.Copying.{AreEarly, CanCopy, Copied, FitsTree, SameButTargets, bytes_copied, treated}
 use Rattle.tree_copy.specs.Placing.{IsPair}
 use Rattle.tree_copy.specs.PrivateActs.{AllMayCopy}
 use Rattle.tree_copy.specs.PrivateDeeds.{CopyOne}

@@ -2,7 +2,7 @@
 use Rattle.std.proofs.Common.{◌≡◌, ◌≢◌, ◌⊎◌, inl, inr, ℕ, zero, suc, Bool, true, false, cond, ◌||◌, ◌&&◌, List, [], ◌∷◌}
 use Rattle.std.proofs.Common.{length, map, Option, Some, None}
 use Rattle.std.proofs.Common.{refl, ap, ◌∙◌, sym, subst, slice_get, is_none, is_some, arith}
-use Rattle.std.proofs.lemmas.Bool.{false≢true}
+use Rattle.std.proofs.lemmas.Bool.{false≢true, or_from}
 use Rattle.std.proofs.lemmas.List.Elements.{All-from_recursion}
 use Rattle.std.specs.Prelude.{Result, Ok, Err, IfOk}
 use Rattle.std.specs.List.{All, AllByRecursion, filter, zip}
@@ -26,7 +26,8 @@ use Rattle.level_work.specs.declared.items.Fate.TheVariants as fate
 use Rattle.tree_copy.specs.declared.pairs.Pair.{Pair}
 use Rattle.tree_copy.specs.Causes.{HasCause, IsWritten, LookMeans, ReadMeans, RefusalMeans, Shows, ShowsCopy, ShowsFate, WasWritten, copied, stopped, untold}
 use Rattle.tree_copy.specs.Causes.{look_means, read_means, refusal_means}
-use Rattle.tree_copy.specs.Copying.{is_done, is_tried, is_untold, target_of, treated}
+use Rattle.level_work.specs.Counts.{is_done}
+use Rattle.tree_copy.specs.Copying.{is_tried, is_untold, target_of, treated}
 use Rattle.tree_copy.specs.PrivateActs.{AllMayCopy, MayCopy, ShowsFilled, ShowsPlaced, ShowsReplaced, ShowsSpared, is_taken}
 use Rattle.tree_copy.specs.PrivateSettling.{any_odd, has_room, is_odd, is_other, item_of, items_of, settled, settled_by}
 use Rattle.tree_copy.proofs.Copiers.{done_is}
@@ -86,11 +87,6 @@ undone_is fate.ParentFailed n = refl
 undone_is fate.Changed n = refl
 undone_is fate.NotEmpty n = refl
 undone_is fate.TooLong n = refl
-
-neither : (a b : Bool) → a ≡ false → b ≡ false → (a || b) ≡ false
-neither false false p q = refl
-neither true b p q = absurd (false≢true (sym p))
-neither false true p q = absurd (false≢true (sym q))
 
 not_none : (o : Option Stat) → is_some o ≡ true → is_none o ≡ false
 not_none None h = absurd (false≢true h)
@@ -221,7 +217,7 @@ module _ {R S : Type 0} (asks : Asks R) (gives : Writes S) (target : List ℕ) (
     where
       other : (b : Bool) → is_other e ≡ b → ⊥
       other true o = false≢true (sym (ap is_tried (is ∙ ap (λ b. settled_by b g) o) ∙ untried g) ∙ on)
-      other false o = false≢true (sym (neither (is_none e.stat) (is_other e) (not_none e.stat has) o) ∙ passed.0)
+      other false o = false≢true (sym (or_from (is_none e.stat) (is_other e) (not_none e.stat has) o) ∙ passed.0)
   tried_shows f g has (inr shows) is on = by e.stat shows
     where
       by : (o : Option Stat) → Shows asks gives target e g o → Shows asks gives target e f o
@@ -262,7 +258,7 @@ module _ {R S : Type 0} (asks : Asks R) (gives : Writes S) (pairs : List Pair) w
   all_even (m ∷ marks) [] outs len all = refl
   all_even (true ∷ marks) (e ∷ es) [] len all = absurd (omega (arith, len))
   all_even (true ∷ marks) (e ∷ es) (g ∷ outs) len all =
-      neither (is_odd e g) (any_odd marks es outs) (here g refl)
+      or_from (is_odd e g) (any_odd marks es outs) (here g refl)
       (all_even marks es outs (omega (arith, len)) (λ k x f at has. all (suc k) x f at has))
     where
       here : (f : Fate) → f ≡ g → is_odd e g ≡ false

@@ -1,40 +1,5 @@
 -- The tally of the entries that were passed, and what is still to come.
-use Rattle.std.proofs.Common.{
-  ◌≡◌,
-  ℕ,
-  zero,
-  suc,
-  ◌+◌,
-  ◌-◌,
-  ◌*◌,
-  ◌<◌,
-  ◌≤◌,
-  Bool,
-  true,
-  false,
-  cond,
-  List,
-  [],
-  ◌∷◌,
-  ◌++◌,
-  length,
-  map,
-  drop,
-  Some,
-  refl,
-  ap,
-  ◌∙◌,
-  sym,
-  subst,
-  arith,
-  is_some,
-  slice_get,
-  append_assoc,
-  append-nil,
-  length-append,
-  length-drop,
-  drop_of_length-le,
-}
+use Rattle.std.proofs.Common.{◌≡◌, ℕ, zero, suc, ◌+◌, ◌-◌, ◌*◌, ◌<◌, ◌≤◌, Bool, true, false, cond, List, [], ◌∷◌, ◌++◌, length, map, drop, Some, refl, ap, ◌∙◌, sym, subst, arith, is_some, slice_get, append_assoc, append-nil, length-append, length-drop, drop_of_length-le}
 use Rattle.std.proofs.lemmas.Bool.{false≢true}
 use Rattle.std.proofs.lemmas.Bool.Decides.{nat_tests}
 use Rattle.std.specs.Prelude.{nat_lt}
@@ -45,7 +10,8 @@ use Rattle.entry_pages.specs.declared.entries.Entry.{Entry}
 use Rattle.flat_list.specs.Spelling.{paths}
 use Rattle.level_work.specs.declared.items.Fate.{Fate}
 use Rattle.level_work.specs.declared.items.Fate.TheVariants as fate
-use Rattle.tree_copy.specs.Copying.{is_done, treated}
+use Rattle.level_work.specs.Counts.{is_done}
+use Rattle.tree_copy.specs.Copying.{treated}
 use Rattle.tree_copy.specs.PrivateSettling.{bytes_of, fates_of, fitting, gain, rest_of, settled}
 
 -- ---- the paths and the fates of rows

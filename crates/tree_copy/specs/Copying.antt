@@ -16,6 +16,7 @@ use Rattle.outside.specs.declared.trees.Stat.{Stat}
 use Rattle.entry_pages.specs.declared.entries.Entry.{Entry}
 use Rattle.entry_pages.specs.Entries.{is_of, bytes_by}
 use Rattle.flat_list.specs.Spelling.{paths}
+use Rattle.level_work.specs.Counts.{is_done}
 use Rattle.level_work.specs.declared.items.Fate.{Fate}
 use Rattle.level_work.specs.declared.items.Fate.TheVariants as fate
 use Rattle.tree_copy.specs.declared.pairs.Pair.{Pair}
@@ -39,16 +40,6 @@ is_target pairs list q = list_any (pointwise nat_eq q) (targets_of pairs list)
 -- every path but these is as before
 abbrev pub SameButTargets : List Pair → List Entry → Files → Files → Type 0
 SameButTargets pairs list before after = (q : List ℕ) → is_target pairs list q ≡ false → get after q ≡ get before q
-
-abbrev pub is_done : Fate → Bool
-is_done fate.Done = true
-is_done fate.Failed = false
-is_done fate.Conflict = false
-is_done fate.Skipped = false
-is_done fate.ParentFailed = false
-is_done fate.Changed = false
-is_done fate.NotEmpty = false
-is_done fate.TooLong = false
 
 -- a row is the path of an entry and its fate. The target is in that of an entry which did not come to `Done`
 abbrev pub parent_failed : List Pair → List (List ℕ × Fate) → List ℕ → Bool

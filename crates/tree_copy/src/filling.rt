@@ -9,7 +9,7 @@ ghost use Rattle.entry_pages.specs.declared.entries.Entry.{Entry};
 ghost use Rattle.entry_pages.specs.Entries.{size_by};
 ghost use Rattle.level_work.specs.Acts.{IsDone};
 ghost use Rattle.tree_copy.specs.Causes.{ShowsFate, WasWritten};
-ghost use Rattle.tree_copy.specs.Copying.{is_done};
+ghost use Rattle.level_work.specs.Counts.{is_done};
 ghost use Rattle.tree_copy.specs.PrivateActs.{ByReader, IsFilled, IsPlaced, IsReplaced, ShowsFilled, ShowsPlaced, ShowsReplaced};
 ghost use Rattle.tree_copy.specs.PrivateDeeds.{MakeFile};
 

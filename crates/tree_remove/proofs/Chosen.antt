@@ -26,7 +26,7 @@ use Rattle.level_work.specs.declared.items.Order.TheVariants as order
 use Rattle.tree_remove.specs.PrivateDeeds.{item_of, items_of}
 use Rattle.tree_remove.specs.Removing.{AreChosen, AreThere}
 use Rattle.tree_remove.proofs.Frames.{itself}
-use Rattle.tree_remove.proofs.Removal.{Stands}
+use Rattle.tree_remove.proofs.Removal.{Stands, not_none}
 
 -- the entry of an item, of which this is so
 pub record Told (P : Entry → Type 0) (x : Item) : Type 0 where
@@ -126,12 +126,8 @@ stands files es c valid there k x at =
     (ap (λ i. option_map (λ n. kind_of n.body) (get files i.path)) t.is ∙ t.so ∙ ap (λ i. option_map (λ stat. stat.kind) i.entry.stat) (sym t.is)) in
     record { valid = ap (λ i. refusal i.path) v.is ∙ v.so; there = seen.there; kind = seen.kind }
 
-some_none : (o : Option Node) → is_some o ≡ true → is_none o ≡ false
-some_none None e = absurd (false≢true e)
-some_none (Some n) e = refl
-
 pub stand_in : (files : Files) (es : List Entry) → AreChosen es → All (λ e. refusal e.path ≡ None) es → AreThere es files → IsTree files →
     StandIn order.BottomUp (items_of es) files
 stand_in files es c valid there tree k x at =
     let l = told (λ e. is_root e.path ≡ false) es c.lower k x at in
-    in_dir files x.path tree (ap (λ i. is_root i.path) l.is ∙ l.so) (some_none (get files x.path) (stands files es c valid there k x at).there)
+    in_dir files x.path tree (ap (λ i. is_root i.path) l.is ∙ l.so) (not_none (get files x.path) (stands files es c valid there k x at).there)

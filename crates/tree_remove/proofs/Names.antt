@@ -1,7 +1,7 @@
 -- Names in a directory, and what stands under it.
 use Rattle.std.proofs.Common.{◌≡◌, ℕ, ◌-◌, ◌<◌, Bool, true, false, cond, not, ◌||◌, ◌&&◌, List, [], ◌∷◌, length, drop, Option, Some, None, refl, ap}
 use Rattle.std.proofs.Common.{◌∙◌, sym, arith, nat_eq, nat_lt, is_some, length-drop}
-use Rattle.std.proofs.lemmas.Bool.{false≢true}
+use Rattle.std.proofs.lemmas.Bool.{false≢true, or_right}
 use Rattle.std.proofs.lemmas.Bool.Decides.{nat_tests}
 use Rattle.std.specs.Prelude.{◌==◌}
 use Rattle.std.specs.List.{filter_map, list_any, starts_with, cons_option}
@@ -20,10 +20,6 @@ pub record Named (p : List ℕ) (qs : List (List ℕ)) : Type 0 where
   pub path : List ℕ
   pub named : is_some (name_below p path) ≡ true
   pub among : list_any (eq_by_cmp path_cmp path) qs ≡ true
-
-or_right : (a b : Bool) → b ≡ true → (a || b) ≡ true
-or_right true b e = refl
-or_right false b e = e
 
 name_here : (p x : List ℕ) (qs : List (List ℕ)) (o : Option (List ℕ)) → name_below p x ≡ o → (0 < length (filter_map (name_below p) qs) → Named p qs) →
     0 < length (cons_option o (filter_map (name_below p) qs)) → Named p (x ∷ qs)

@@ -42,7 +42,7 @@ refusal_by b x files = cond b (remove_dir_refusal files x.path) (remove_file_ref
 abbrev Has : Fate → Item → Files → Files → Type 0
 Has f x before after = Removal x.path x.entry f (was x before after) (left order.BottomUp x.path before after)
 
-not_none : (o : Option Node) → is_some o ≡ true → is_none o ≡ false
+pub not_none : (o : Option Node) → is_some o ≡ true → is_none o ≡ false
 not_none None e = absurd (false≢true e)
 not_none (Some n) e = refl
 

@@ -1,19 +1,19 @@
 -- Each chosen path goes, where all that stands under it is chosen and no removal failed.
 use Rattle.std.proofs.Common.{◌≡◌, ⊎_elim, ℕ, zero, suc, ◌+◌, ◌<◌, ◌≤◌, Bool, true, false, cond, ◌||◌, ◌&&◌, List, [], ◌∷◌, ◌++◌, length, map}
 use Rattle.std.proofs.Common.{refl, ap, ◌∙◌, sym, subst, arith, nat_eq, nat_lt, is_some, get_or, length-append}
-use Rattle.std.proofs.lemmas.Bool.{false≢true}
+use Rattle.std.proofs.lemmas.Bool.{false≢true, or_left, or_right}
 use Rattle.std.proofs.lemmas.Bool.Decides.{nat_tests}
 use Rattle.std.proofs.lemmas.List.Elements.{All-from_recursion}
-use Rattle.std.proofs.lemmas.List.Sums.{sum_by-cons}
 use Rattle.std.specs.Prelude.{◌==◌}
 use Rattle.std.specs.FinMap.{get}
-use Rattle.std.specs.List.{All, AllByRecursion, count_by, list_any}
+use Rattle.std.specs.List.{All, AllByRecursion, list_any}
 use Rattle.std.specs.Cmp.Lexicographic.{pointwise, bytes_decides}
 use Rattle.path_text.specs.Order.{is_under, front}
 use Rattle.outside.specs.Tree.{Files, far_at}
 use Rattle.level_work.specs.Counts.{is_failed}
 use Rattle.level_work.specs.declared.items.Fate.{Fate}
 use Rattle.level_work.specs.declared.items.Fate.TheVariants as fate
+use Rattle.level_work.proofs.Unfailed.{unfailed}
 use Rattle.tree_remove.specs.Laws.{AreWhole, WholeChoicesGo}
 use Rattle.tree_remove.specs.Removing.{Removed, WasChosen, HasUnder}
 
@@ -38,14 +38,6 @@ at_path (row ∷ rows) q e =
       | true ↦ λ is _. record { place = zero; inside = omega arith; is = λ d. sym ((bytes_decides q row.0).0 is) }
       | false ↦ λ _ more. let a = at_path rows q more in record { place = suc a.place; inside = omega (arith, a.inside); is = a.is }
     ] refl e
-
-or_left : (a b : Bool) → a ≡ true → (a || b) ≡ true
-or_left true b e = refl
-or_left false b e = absurd (false≢true e)
-
-or_right : (a b : Bool) → b ≡ true → (a || b) ≡ true
-or_right true b e = refl
-or_right false b e = e
 
 is_listed : (rows : List Row) (k : ℕ) (d : Row) → k < length rows → list_any (pointwise nat_eq (get_or rows k d).0) (firsts rows) ≡ true
 is_listed [] k d l = absurd (omega (arith, l))
@@ -119,17 +111,6 @@ module _ (rows : List Row) (files after : Files) (w : Whole rows files after) (b
       let done = goes m a.place d a.inside (omega (arith, few, long, ap length (a.is d))) in
       let gone = (w.removed.each a.place d a.inside).gone done in
       false≢true (ap is_some (sym gone) ∙ ap (λ q. is_some (get after q)) (a.is d) ∙ u.there))
-
--- ---- no removal failed, where no fault was counted
-
-unfailed : (rows : List Row) → count_by (λ row. is_failed row.1) rows ≡ 0 → AllByRecursion (λ row. is_failed row.1 ≡ false) rows
-unfailed [] e = tt
-unfailed (row ∷ rows) e =
-    let here = sum_by-cons (λ (r : Row). cond (is_failed r.1) 1 0) row rows in
-    elim (is_failed row.1) as (λ b. is_failed row.1 ≡ b → AllByRecursion (λ row. is_failed row.1 ≡ false) (row ∷ rows)) [
-      | true ↦ λ is. absurd (omega (arith, e, here, ap {B = ℕ} (λ b. cond b 1 0) is))
-      | false ↦ λ off. (off, unfailed rows (omega (arith, e, here, ap {B = ℕ} (λ b. cond b 1 0) off)))
-    ] refl
 
 pub whole_choices_go : WholeChoicesGo
 whole_choices_go rows before after removed whole near none =

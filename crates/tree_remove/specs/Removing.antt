@@ -1,5 +1,5 @@
 -- The removal of chosen paths, the deepest first, and all other paths. Our own, after drm of mpiFileUtils.
-use Rattle.std.specs.Prelude.{◌≡◌, ◌≢◌, ◌⊎◌, ◌↔◌, ℕ, ◌<◌, Bool, true, false, List, map, if◌then◌else◌, nat_eq, All}
+use Rattle.std.specs.Prelude.{◌≡◌, ◌≢◌, ◌⊎◌, ◌↔◌, ℕ, ◌<◌, true, false, List, map, if◌then◌else◌, nat_eq, All}
 use Rattle.std.specs.Prelude.{Option, Some, None, is_some, Result, Ok, Err}
 use Rattle.std.specs.FinMap.{get}
 use Rattle.std.specs.List.{list_any, zip}
@@ -58,16 +58,6 @@ SameButChosen chosen before after = (q : List ℕ) → list_any (pointwise nat_e
 pub record Removed (rows : List (List ℕ × Fate)) (before after : Files) : Type 0 where
   pub others : SameButChosen (map (λ row. row.0) rows) before after
   pub each : All (λ row. WasChosen before after row.0 row.1) rows
-
-abbrev pub is_done : Fate → Bool
-is_done fate.Done = true
-is_done fate.Failed = false
-is_done fate.Conflict = false
-is_done fate.Skipped = false
-is_done fate.ParentFailed = false
-is_done fate.Changed = false
-is_done fate.NotEmpty = false
-is_done fate.TooLong = false
 
 -- the answers: this holds over all files, also over files that show no tree
 

@@ -4,8 +4,8 @@ ghost use Rattle.std.specs.List.{count_by, zip};
 ghost use Rattle.outside.specs.Count.{RoseBy};
 ghost use Rattle.outside.specs.Writes.{nothing_lent};
 ghost use Rattle.flat_list.specs.Spelling.{paths};
-ghost use Rattle.level_work.specs.Counts.{is_failed};
-ghost use Rattle.tree_remove.specs.Removing.{AreChosen, AreThere, HaveCauses, Removed, SameButChosen, is_done};
+ghost use Rattle.level_work.specs.Counts.{is_failed, is_done};
+ghost use Rattle.tree_remove.specs.Removing.{AreChosen, AreThere, HaveCauses, Removed, SameButChosen};
 
 use crate::items::items_of;
 use crate::reports::RemoveReport;

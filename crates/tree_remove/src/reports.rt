@@ -1,6 +1,6 @@
 //! The fates of chosen paths.
 ghost use Rattle.std.specs.Prelude.{◌≡◌, ◌+◌, ◌<◌, length, Some, slice_get, if◌then◌else◌};
-ghost use Rattle.tree_remove.specs.Removing.{is_done};
+ghost use Rattle.level_work.specs.Counts.{is_done};
 ghost use Rattle.std.specs.List.{count_by};
 ghost use Rattle.std.specs.Option.{option_map};
 
@@ -18,7 +18,7 @@ impl Model for RemoveReport {
     ghost use Rattle.std.specs.Prelude.{ℕ, List};
     ghost use Rattle.std.specs.List.{count_by};
     ghost use Rattle.level_work.specs.declared.items.Fate.{Fate};
-    ghost use Rattle.tree_remove.specs.Removing.{is_done};
+    ghost use Rattle.level_work.specs.Counts.{is_done};
 
     ghost Value = { List (List ℕ × Fate) × ℕ };
 

@@ -21,7 +21,8 @@ use Rattle.level_work.specs.declared.items.Fate.TheVariants as fate
 use Rattle.tree_cmp.specs.declared.rows.Row.{Row}
 use Rattle.tree_cmp.specs.Sides.{Side, side, is_closed, is_gone, is_hidden, is_partial}
 use Rattle.tree_copy.specs.declared.pairs.Pair.{Pair}
-use Rattle.tree_copy.specs.Copying.{is_done}
+use Rattle.level_work.specs.Counts.{is_done}
+use Rattle.tree_copy.proofs.Copiers.{done_is}
 use Rattle.tree_sync.specs.Laws.{below_top, is_noted, is_under_some, named, noted, undone}
 use Rattle.tree_sync.specs.Results.{Results}
 use Rattle.tree_sync.specs.Syncing.{row_at}
@@ -127,16 +128,6 @@ undone_in : (rows : List (List ℕ × Fate)) (q : List ℕ) (f : Fate) → Conta
 undone_in rows q f c off =
     in_map (λ (row : List ℕ × Fate). row.0) (filter (λ row. not (is_done row.1)) rows) (q, f)
     (in_kept (λ (row : List ℕ × Fate). not (is_done row.1)) rows (q, f) c (ap not off))
-
-done_is : (f : Fate) → is_done f ≡ true → f ≡ fate.Done
-done_is fate.Done e = refl
-done_is fate.Failed e = absurd (false≢true e)
-done_is fate.Conflict e = absurd (false≢true e)
-done_is fate.Skipped e = absurd (false≢true e)
-done_is fate.ParentFailed e = absurd (false≢true e)
-done_is fate.Changed e = absurd (false≢true e)
-done_is fate.NotEmpty e = absurd (false≢true e)
-done_is fate.TooLong e = absurd (false≢true e)
 
 -- a path is not named, part by part
 pub record NotNamed (pair : Pair) (source dest : List Entry) (done : Results) (p : List ℕ) : Type 0 where

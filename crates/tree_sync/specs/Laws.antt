@@ -14,7 +14,7 @@ use Rattle.tree_cmp.specs.declared.rows.Row.{Row}
 use Rattle.tree_cmp.specs.Rows.{Findings, IsComparison, stat_at}
 use Rattle.tree_cmp.specs.Sides.{Side, side, IsSide, entry_at, is_gone}
 use Rattle.tree_copy.specs.declared.pairs.Pair.{Pair}
-use Rattle.tree_copy.specs.Copying.{is_done}
+use Rattle.level_work.specs.Counts.{is_done}
 use Rattle.tree_sync.specs.Results.{Results}
 use Rattle.tree_sync.specs.Syncing.{AreTold, CanSync, FitsSync, Synced, is_both, is_common, is_differ, is_only_dest, is_there}
 

@@ -1,7 +1,7 @@
 //! The report of a sync.
 ghost use Rattle.std.specs.Prelude.{◌≡◌};
 ghost use Rattle.std.specs.List.{count_by};
-ghost use Rattle.tree_copy.specs.Copying.{is_done};
+ghost use Rattle.level_work.specs.Counts.{is_done};
 ghost use Rattle.tree_sync.specs.PrivateSteps.{results_of};
 
 use crate::planning::Plan;

@@ -6,7 +6,7 @@ use Rattle.std.specs.List.{AllByRecursion, flat_map, filter_map, cons_option, li
 use Rattle.std.specs.FinMap.{get, keys, contains_key-keys}
 use Rattle.std.specs.Ordering.{eq_by_cmp}
 use Rattle.std.specs.Cmp.Lexicographic.{pointwise, bytes_decides}
-use Rattle.std.proofs.lemmas.Bool.{false≢true}
+use Rattle.std.proofs.lemmas.Bool.{false≢true, or_left, or_right, or_cases}
 use Rattle.path_text.specs.Path.{joined, refusal, parent_of, level_of}
 use Rattle.path_text.specs.Order.{path_cmp, is_under, is_within}
 use Rattle.path_text.specs.Total.{path_cmp_ties}
@@ -34,18 +34,6 @@ use Rattle.tree_walk.proofs.Standing.{In}
 abbrev Has : List Entry → List ℕ → Type 0
 Has es q = list_any (pointwise eqb q) (paths_of es) ≡ true
 
-or_left : (a b : Bool) → a ≡ true → (a || b) ≡ true
-or_left true b e = refl
-or_left false b e = absurd (false≢true e)
-
-or_right : (a b : Bool) → b ≡ true → (a || b) ≡ true
-or_right true b e = refl
-or_right false b e = e
-
-either : (a b : Bool) → (a || b) ≡ true → (a ≡ true) ⊎ (b ≡ true)
-either true b e = inl refl
-either false b e = inr e
-
 not_left : (a b : Bool) → a ≡ false → (a || b) ≡ true → b ≡ true
 not_left a b e h = ap (λ c. c || b) (sym e) ∙ h
 
@@ -56,7 +44,7 @@ left : (xs ys : List Entry) (q : List ℕ) → Has xs q → Has (xs ++ ys) q
 left [] ys q h = absurd (false≢true h)
 left (x ∷ xs) ys q h =
     ⊎_elim (λ e. or_left (pointwise eqb q x.path) _ e) (λ e. or_right (pointwise eqb q x.path) _ (left xs ys q e))
-    (either (pointwise eqb q x.path) (list_any (pointwise eqb q) (paths_of xs)) h)
+    (or_cases (pointwise eqb q x.path) (list_any (pointwise eqb q) (paths_of xs)) h)
 
 right : (xs ys : List Entry) (q : List ℕ) → Has ys q → Has (xs ++ ys) q
 right [] ys q h = h
@@ -67,7 +55,7 @@ split [] ys q h = inr h
 split (x ∷ xs) ys q h =
     ⊎_elim (λ e. inl (or_left (pointwise eqb q x.path) _ e))
     (λ e. ⊎_elim (λ l. inl (or_right (pointwise eqb q x.path) _ l)) (λ r. inr r) (split xs ys q e))
-    (either (pointwise eqb q x.path) (list_any (pointwise eqb q) (paths_of (xs ++ ys))) h)
+    (or_cases (pointwise eqb q x.path) (list_any (pointwise eqb q) (paths_of (xs ++ ys))) h)
 
 of_one : (w : List ℕ → List Entry) (cs : List (List ℕ)) (c q : List ℕ) → In c cs → Has (w c) q → Has (flat_map w cs) q
 of_one w [] c q i h = absurd i
@@ -146,7 +134,7 @@ module _ (files : Files) (a : Answers) (t : IsTree files) where
       let few_bytes = each (λ x. length x ≤ 4095) below r.one (children_short files (a root) root t) r.stands in
       let long = each (λ x. length root < length x) below r.one (children_are files (a root) root t).longer r.stands in
       of_one w below r.one c r.stands (closed n r.one p c few_bytes (omega (arith, few, long)) tells r.has i))
-      (either (pointwise eqb p top.path) (list_any (pointwise eqb p) (paths_of (flat_map w below))) (subst (λ es. Has es p) (walk_is files a root t s) h))))
+      (or_cases (pointwise eqb p top.path) (list_any (pointwise eqb p) (paths_of (flat_map w below))) (subst (λ es. Has es p) (walk_is files a root t s) h))))
 
   -- a node is a child of its parent
   named : (p q m : List ℕ) (qs : List (List ℕ)) → list_any (eq_by_cmp path_cmp q) qs ≡ true → name_below p q ≡ Some m →
@@ -159,7 +147,7 @@ module _ (files : Files) (a : Answers) (t : IsTree files) where
       subst (λ o. In q (map (joined p) (cons_option o (filter_map (name_below p) qs)))) (sym (ap (name_below p) (sym eq) ∙ is))
       (inl ((child_is p q m is).0 ∙ front-joined p m)))
       (λ later. behind (name_below p x) (named p q m qs later is))
-      (either (eq_by_cmp path_cmp q x) (list_any (eq_by_cmp path_cmp q) qs) e)
+      (or_cases (eq_by_cmp path_cmp q x) (list_any (eq_by_cmp path_cmp q) qs) e)
     where
       behind : (o : Option (List ℕ)) → In q (map (joined p) (filter_map (name_below p) qs)) →
           In q (map (joined p) (cons_option o (filter_map (name_below p) qs)))

@@ -3,7 +3,7 @@ use Rattle.std.proofs.Common.{◌≡◌, ℕ, ◌+◌, ◌<◌, ◌≤◌, Bool,
 use Rattle.std.proofs.Common.{append-nil, length-append, eqb}
 use Rattle.std.specs.Prelude.{◌==◌, nat_lt}
 use Rattle.std.specs.List.{AllByRecursion, sum_by, count_by}
-use Rattle.std.proofs.lemmas.Bool.{false≢true}
+use Rattle.std.proofs.lemmas.Bool.{false≢true, and_parts}
 use Rattle.std.proofs.lemmas.Bool.Decides.{nat_tests}
 use Rattle.std.proofs.lemmas.List.Sums.{sum_by-cons}
 use Rattle.std.specs.Cmp.Lexicographic.{pointwise, bytes_decides}
@@ -17,7 +17,7 @@ use Rattle.path_text.specs.Path.{joined}
 use Rattle.tree_walk.specs.Roots.{is_in, is_in_some, Apart}
 use Rattle.tree_walk.proofs.Lined.{Lined}
 use Rattle.tree_walk.proofs.Names.{front_of_child}
-use Rattle.tree_walk.proofs.Inside.{begins, both, begins-itself, begins-less, begins-length, at_or_under, is_in_is}
+use Rattle.tree_walk.proofs.Inside.{begins, begins-itself, begins-less, begins-length, at_or_under, is_in_is}
 
 -- whether x is the path p or under it, as a number
 abbrev pub covers : List ℕ → List ℕ → ℕ
@@ -36,7 +36,7 @@ apart [] y r z e h = absurd (false≢true e)
 apart (a ∷ f) [] r z e h = absurd (false≢true e)
 apart (a ∷ f) (b ∷ y) r [] e h = refl
 apart (a ∷ f) (b ∷ y) r (c ∷ z) e h =
-    let g = both (b == c) (begins (y ++ r) z) h in
+    let g = and_parts (b == c) (begins (y ++ r) z) h in
     other_byte a b c (before_all f y) (begins f z) e g.0 (λ t. apart f y r z t g.1)
 
 rest_of_front : (p z : List ℕ) → begins (front p) z ≡ true → (r : List ℕ) × (begins (p ++ r) z ≡ true)

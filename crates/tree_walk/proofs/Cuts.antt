@@ -12,6 +12,7 @@ use Rattle.std.proofs.lemmas.List.Sums.{sum_by-cons}
 use Rattle.std.proofs.lemmas.List.Sorted.{sum_by-IsPermutation, length_permutation}
 use Rattle.std.proofs.lemmas.List.Elements.{All-from_recursion, recursion_from_All}
 use Rattle.outside.specs.Tree.{Files, IsTree}
+use Rattle.outside.proofs.Names.{all_weaker}
 use Rattle.entry_pages.specs.declared.entries.Entry.{Entry}
 use Rattle.circle_run.specs.Balance.{handled, pushed, Balanced}
 use Rattle.circle_run.specs.Left.{all_left}
@@ -21,8 +22,9 @@ use Rattle.tree_walk.specs.Walk.{answer_in, entry_of, children_of, paths_of}
 use Rattle.tree_walk.specs.Held.{Held, IsDone, log_of, entries_of}
 use Rattle.tree_walk.specs.Roots.{is_in, is_in_some, Apart}
 use Rattle.tree_walk.specs.Cut.{IsCut, IsCutFound, IsTooMany, IfCut, log_by, found_in}
-use Rattle.tree_walk.specs.Found.{IsFound, max_entries}
-use Rattle.tree_walk.proofs.Lists.{weaker, all_append, all_map}
+use Rattle.flat_list.specs.Spelling.{max_entries}
+use Rattle.tree_walk.specs.Found.{IsFound}
+use Rattle.tree_walk.proofs.Lists.{all_append, all_map}
 use Rattle.tree_walk.proofs.Inside.{at_or_under, is_in_is}
 use Rattle.tree_walk.proofs.Covers.{covers, covers-itself, one, from_apart, to_apart, some_covers}
 use Rattle.tree_walk.proofs.Once.{IsGathered, covered, as_often, each_here, list_within, sum_by-map}
@@ -62,7 +64,7 @@ pub is_cut : (files : Files) (ds : List Held) (list : List Entry) (left starts :
     IsGathered ds list left starts → IsCut files starts list left
 is_cut files ds list left starts done h =
     let Own : Entry → Type 0 = λ e. e ≡ entry_of (answer_in e) (get files e.path) e.path in
-    let own = to_entries Own ds (weaker (IsDone files) (λ d. Own d.0) (λ d g. g.entry) ds done) in
+    let own = to_entries Own ds (all_weaker (IsDone files) (λ d. Own d.0) (λ d g. g.entry) ds done) in
     record {
       own = All-from_recursion Own list (moved Own (entries_of ds) list h.moves own);
       balance = rebalanced files (entries_of ds) list left starts h.moves (subst (λ log. Balanced log left starts) (logs_same files ds done) h.balance);
@@ -98,7 +100,7 @@ pub done_beside : (done : List Entry) (left : List (List ℕ)) → Beside done l
 done_beside done left b =
     let Counted : Entry → Type 0 = λ e. 1 ≤ sum_by (λ f. one e.path f.path) done in
     let Outside : Entry → Type 0 = λ e. is_in_some left e.path ≡ false in
-    All-from_recursion Outside done (weaker Counted Outside (λ e n. none_covers e.path left (omega (arith, n, b e.path))) done (each_here done))
+    All-from_recursion Outside done (all_weaker Counted Outside (λ e n. none_covers e.path left (omega (arith, n, b e.path))) done (each_here done))
 
 -- ---- each left string is a start or under one
 
@@ -106,14 +108,14 @@ each_covered : (ps : List (List ℕ)) → AllByRecursion (λ p. 1 ≤ sum_by (co
 each_covered [] = tt
 each_covered (p ∷ ps) = (
   omega (arith, sum_by-cons (covers p) p ps, covers-itself p),
-  weaker (λ q. 1 ≤ sum_by (covers q) ps) (λ q. 1 ≤ sum_by (covers q) (p ∷ ps)) (λ q h. omega (arith, h, sum_by-cons (covers q) p ps)) ps (each_covered ps),
+  all_weaker (λ q. 1 ≤ sum_by (covers q) ps) (λ q. 1 ≤ sum_by (covers q) (p ∷ ps)) (λ q h. omega (arith, h, sum_by-cons (covers q) p ps)) ps (each_covered ps),
 )
 
 pub all_within : (ds : List Held) (list : List Entry) (left starts : List (List ℕ)) → IsGathered ds list left starts →
     All (λ path. is_in_some starts path ≡ true) (paths_of list ++ left)
 all_within ds list left starts h =
     let Within : List ℕ → Type 0 = λ path. is_in_some starts path ≡ true in
-    let of_left = weaker (λ q. 1 ≤ sum_by (covers q) left) Within
+    let of_left = all_weaker (λ q. 1 ≤ sum_by (covers q) left) Within
     (λ q n. some_covers q starts (omega (arith, n, covered q ds left starts h.pushes h.balance))) left (each_covered left) in
     All-from_recursion Within (paths_of list ++ left)
     (all_append Within (paths_of list) left (all_map Within (λ (e : Entry). e.path) list (list_within ds list left starts h)) of_left)

@@ -1,7 +1,7 @@
 -- Each entry of walks is that of a root, or its directory has an entry too.
 use Rattle.std.proofs.Common.{◌≡◌, ◌⊎◌, inl, inr, ⊎_elim, ℕ, ◌-◌, zero, suc, Bool, true, false, cond, ◌&&◌, ◌||◌, List, [], ◌∷◌, ◌++◌, map}
 use Rattle.std.proofs.Common.{length, Option, Some, None, refl, ◌∙◌, sym, subst}
-use Rattle.std.proofs.lemmas.Bool.{false≢true}
+use Rattle.std.proofs.lemmas.Bool.{false≢true, or_left, or_right, and_from}
 use Rattle.std.proofs.lemmas.List.Elements.{recursion_from_All, All-from_recursion}
 use Rattle.std.proofs.lemmas.List.Folds.{list_any-append}
 use Rattle.std.specs.Prelude.{is_none, nat_eq, IsTrue}
@@ -12,30 +12,18 @@ use Rattle.path_text.specs.Path.{is_name, joined, refusal, parent_of}
 use Rattle.path_text.proofs.Parents.{parent_joined}
 use Rattle.path_text.proofs.Preorder.{no_slash}
 use Rattle.outside.specs.Tree.{Files, Node, Body, dir, file, link, other, IsTree, is_dir, is_dir_body, kind_of, names_in}
-use Rattle.outside.proofs.Names.{placed_path, children_are_names}
+use Rattle.outside.proofs.Names.{placed_path, children_are_names, all_weaker}
 use Rattle.outside.specs.declared.trees.Kind.TheVariants as kind
 use Rattle.entry_pages.specs.declared.entries.Entry.{Entry}
 use Rattle.entry_pages.specs.Entries.{is_kind, is_of}
 use Rattle.tree_walk.specs.Walk.{Answer, told, stat_failed, list_failed, Answers, entry_of, children_of, walk_down, walk}
 use Rattle.tree_walk.specs.Told.{has_dir, EntriesHaveParents}
-use Rattle.tree_walk.proofs.Lists.{weaker}
 use Rattle.tree_walk.proofs.Lawful.{path_is}
+use Rattle.tree_walk.proofs.Lists.{all_append}
 
 -- the test of a directory's entry at a path
 abbrev dir_at : List ℕ → Entry → Bool
 dir_at q e = pointwise nat_eq q e.path && is_of kind.Dir e.stat
-
-or_left : (a b : Bool) → a ≡ true → (a || b) ≡ true
-or_left true b e = refl
-or_left false b e = absurd (false≢true e)
-
-or_right : (a b : Bool) → b ≡ true → (a || b) ≡ true
-or_right true b e = refl
-or_right false b e = e
-
-both_true : (a b : Bool) → a ≡ true → b ≡ true → (a && b) ≡ true
-both_true true b e h = h
-both_true false b e h = absurd (false≢true e)
 
 has_left : (xs ys : List Entry) (q : List ℕ) → has_dir xs q ≡ true → has_dir (xs ++ ys) q ≡ true
 has_left xs ys q h = list_any-append (dir_at q) xs ys ∙ or_left (list_any (dir_at q) xs) (list_any (dir_at q) ys) h
@@ -77,10 +65,6 @@ kids files (told u) p t =
       | false ↦ λ _. tt
     ] refl
 
-all_append : {X : Type 0} (P : X → Type 0) (xs ys : List X) → AllByRecursion P xs → AllByRecursion P ys → AllByRecursion P (xs ++ ys)
-all_append P [] ys h g = g
-all_append P (x ∷ xs) ys h g = (h.0, all_append P xs ys h.1 g)
-
 -- the entry is that of the top, or its directory has one
 abbrev Comes : List Entry → List ℕ → Entry → Type 0
 Comes list p e = (e.path ≡ p) ⊎ (has_dir list (parent_of e.path) ≡ true)
@@ -103,7 +87,7 @@ module _ (files : Files) (a : Answers) (t : IsTree files) where
       top_is : (c : List ℕ) → IsKid (a p) (get files p) p c → has_dir (top ∷ below) (parent_of c) ≡ true
       top_is c kid =
           or_left (dir_at (parent_of c) top) (list_any (dir_at (parent_of c)) below)
-          (both_true (pointwise nat_eq (parent_of c) top.path) (is_of kind.Dir top.stat)
+          (and_from (pointwise nat_eq (parent_of c) top.path) (is_of kind.Dir top.stat)
           ((bytes_decides (parent_of c) top.path).1 (kid.0 ∙ sym (path_is (a p) (get files p) p))) kid.1)
 
       rest : ((c : List ℕ) → AllByRecursion (Comes (walk_down n files a c) c) (walk_down n files a c)) → (cs : List (List ℕ)) →
@@ -115,7 +99,7 @@ module _ (files : Files) (a : Answers) (t : IsTree files) where
           let here = walk_down n files a c in
           let more = flat_map (walk_down n files a) cs in
           all_append (Comes (top ∷ below) p) here more
-          (weaker (Comes here c) (Comes (top ∷ below) p)
+          (all_weaker (Comes here c) (Comes (top ∷ below) p)
           (λ e. ⊎_elim (λ is. inr (subst (λ q. has_dir (top ∷ below) (parent_of q) ≡ true) (sym is) (top_is c h.0)))
           (λ has. inr (into (parent_of e.path) (has_left here more (parent_of e.path) has))))
           here (sub c))
@@ -133,10 +117,11 @@ module _ (files : Files) (a : Answers) (t : IsTree files) where
       let here = walk_down (4096 - length r) files a r in
       let more = flat_map (λ q. walk_down (4096 - length q) files a q) rs in
       all_append _ here more
-      (weaker (Comes here r) (λ e. IsIn (r ∷ rs) e.path ⊎ (has_dir (here ++ more) (parent_of e.path) ≡ true))
+      (all_weaker (Comes here r) (λ e. IsIn (r ∷ rs) e.path ⊎ (has_dir (here ++ more) (parent_of e.path) ≡ true))
       (λ e. ⊎_elim (λ is. inl (or_left (pointwise nat_eq e.path r) (list_any (pointwise nat_eq e.path) rs) ((bytes_decides e.path r).1 is)))
       (λ has. inr (has_left here more (parent_of e.path) has))) here (down (4096 - length r) r))
-      (weaker (λ e. IsIn rs e.path ⊎ (has_dir more (parent_of e.path) ≡ true)) (λ e. IsIn (r ∷ rs) e.path ⊎ (has_dir (here ++ more) (parent_of e.path) ≡ true))
+      (all_weaker (λ e. IsIn rs e.path ⊎ (has_dir more (parent_of e.path) ≡ true))
+      (λ e. IsIn (r ∷ rs) e.path ⊎ (has_dir (here ++ more) (parent_of e.path) ≡ true))
       (λ e. ⊎_elim (λ i. inl (or_right (pointwise nat_eq e.path r) (list_any (pointwise nat_eq e.path) rs) i))
       (λ has. inr (has_right here more (parent_of e.path) has))) more (come rs))
 
@@ -144,7 +129,7 @@ pub entries_have_parents : EntriesHaveParents
 entries_have_parents files a roots t =
     All-from_recursion (λ (e : Entry). (list_any (pointwise nat_eq e.path) roots || has_dir (flat_map (walk files a) roots) (parent_of e.path)) ≡ true)
     (flat_map (walk files a) roots)
-    (weaker (λ (e : Entry). (list_any (pointwise nat_eq e.path) roots ≡ true) ⊎ (has_dir (flat_map (walk files a) roots) (parent_of e.path) ≡ true))
+    (all_weaker (λ (e : Entry). (list_any (pointwise nat_eq e.path) roots ≡ true) ⊎ (has_dir (flat_map (walk files a) roots) (parent_of e.path) ≡ true))
     (λ (e : Entry). (list_any (pointwise nat_eq e.path) roots || has_dir (flat_map (walk files a) roots) (parent_of e.path)) ≡ true)
     (λ e. ⊎_elim
     (λ i. or_left (list_any (pointwise nat_eq e.path) roots) (has_dir (flat_map (walk files a) roots) (parent_of e.path)) i)

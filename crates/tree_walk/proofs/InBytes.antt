@@ -1,6 +1,7 @@
 -- What the code asks of the bytes of two paths.
 use Rattle.std.proofs.Common.{◌≡◌, ℕ, ◌<◌, ◌≤◌, Bool, true, false, ◌&&◌, ◌||◌, List, [], ◌∷◌, ◌++◌, length, refl, ap, ◌∙◌, sym, arith, cond, suc, eqb}
 use Rattle.std.proofs.Common.{length-append, None}
+use Rattle.std.proofs.lemmas.Bool.{and_right}
 use Rattle.std.specs.Prelude.{◌==◌}
 use Rattle.std.specs.List.{starts_with, slice_index_or}
 use Rattle.std.proofs.lemmas.Bool.Decides.{nat_tests}
@@ -39,17 +40,13 @@ never : (p : List ℕ) → begins (p ++ 47 ∷ []) [] ≡ false
 never [] = refl
 never (a ∷ p) = refl
 
-and_false : (a b : Bool) → b ≡ false → (a && b) ≡ false
-and_false true b e = e
-and_false false b e = refl
-
 one_more : (e s r q : Bool) (m n : ℕ) → r ≡ (s && (m == n || q)) → (e && r) ≡ ((e && s) && (suc m == suc n || q))
 one_more e s r q m n h = grind (arith, nat_tests)
 
 ends : (x p : List ℕ) → begins (p ++ 47 ∷ []) (x ++ 47 ∷ []) ≡ (begins p x && AtEnd x p)
 ends [] [] = refl
 ends (b ∷ x) [] = end_or_slash b (length x)
-ends [] (a ∷ p) = and_false (a == 47) (begins (p ++ 47 ∷ []) []) (never p)
+ends [] (a ∷ p) = and_right (a == 47) (begins (p ++ 47 ∷ []) []) (never p)
 ends (b ∷ x) (a ∷ p) =
     one_more (a == b) (begins p x) (begins (p ++ 47 ∷ []) (x ++ 47 ∷ [])) (slice_index_or x (length p) 0 == 47) (length x) (length p) (ends x p)
 

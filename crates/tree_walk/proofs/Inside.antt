@@ -2,7 +2,7 @@
 use Rattle.std.proofs.Common.{◌≡◌, ℕ, ◌≤◌, Bool, true, false, ◌&&◌, List, [], ◌∷◌, ◌++◌, length, suc, cond, refl, ap, ◌∙◌, sym, arith, eqb, length-append, None}
 use Rattle.std.specs.Prelude.{◌==◌}
 use Rattle.std.specs.List.{starts_with}
-use Rattle.std.proofs.lemmas.Bool.{false≢true}
+use Rattle.std.proofs.lemmas.Bool.{false≢true, and_parts}
 use Rattle.std.proofs.lemmas.Bool.Decides.{nat_tests}
 use Rattle.path_text.specs.Path.{refusal}
 use Rattle.path_text.specs.Order.{front}
@@ -22,10 +22,6 @@ begins_is [] (b ∷ z) = refl
 begins_is (a ∷ f) [] = refl
 begins_is (a ∷ f) (b ∷ z) = ap (λ q. a == b && q) (begins_is f z)
 
-pub both : (a b : Bool) → (a && b) ≡ true → (a ≡ true) × (b ≡ true)
-both true b e = (refl, e)
-both false b e = absurd (false≢true e)
-
 pub begins-itself : (f : List ℕ) → begins f f ≡ true
 begins-itself [] = refl
 begins-itself (a ∷ f) = same a (begins f f) (begins-itself f)
@@ -37,13 +33,13 @@ pub begins-less : (f g z : List ℕ) → begins (f ++ g) z ≡ true → begins f
 begins-less [] g z e = refl
 begins-less (a ∷ f) g [] e = e
 begins-less (a ∷ f) g (b ∷ z) e =
-    let h = both (a == b) (begins (f ++ g) z) e in
+    let h = and_parts (a == b) (begins (f ++ g) z) e in
     ap (λ c. c && begins f z) h.0 ∙ begins-less f g z h.1
 
 pub begins-length : (f z : List ℕ) → begins f z ≡ true → length f ≤ length z
 begins-length [] z e = omega arith
 begins-length (a ∷ f) [] e = absurd (false≢true e)
-begins-length (a ∷ f) (b ∷ z) e = omega (arith, begins-length f z (both (a == b) (begins f z) e).1)
+begins-length (a ∷ f) (b ∷ z) e = omega (arith, begins-length f z (and_parts (a == b) (begins f z) e).1)
 
 begins_both : (a b c : ℕ) (p q r : Bool) → (b == c && p) ≡ true → (a == b && q) ≡ true → (p ≡ true → q ≡ true → r ≡ true) → (a == c && r) ≡ true
 begins_both a b c p q r e d h = grind (arith, nat_tests)
@@ -59,9 +55,9 @@ begins_same [] [] e d = refl
 begins_same [] (b ∷ g) e d = absurd (false≢true d)
 begins_same (a ∷ f) [] e d = absurd (false≢true e)
 begins_same (a ∷ f) (b ∷ g) e d =
-    let here = both (a == b) (begins f g) e in
+    let here = and_parts (a == b) (begins f g) e in
     let first : a ≡ b = same_number a b here.0 in
-    let rest : f ≡ g = begins_same f g here.1 (both (b == a) (begins g f) d).1 in
+    let rest : f ≡ g = begins_same f g here.1 (and_parts (b == a) (begins g f) d).1 in
     λ i. first i ∷ rest i
   where
     same_number : (a b : ℕ) → (a == b) ≡ true → a ≡ b

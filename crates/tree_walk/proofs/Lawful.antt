@@ -17,7 +17,7 @@ use Rattle.path_text.specs.Order.{path_cmp}
 use Rattle.path_text.proofs.Preorder.{precedes, precedes-Less, front-joined}
 use Rattle.path_text.specs.Total.{path_cmp_total}
 use Rattle.outside.specs.Tree.{Files, Node, IsTree, is_dir_body, name_below, names_in}
-use Rattle.outside.proofs.Names.{placed_path}
+use Rattle.outside.proofs.Names.{placed_path, all_weaker}
 use Rattle.path_text.proofs.Parts as parts
 use Rattle.outside.proofs.Children.{child_is}
 use Rattle.entry_pages.specs.declared.entries.Entry.{Entry}
@@ -25,7 +25,7 @@ use Rattle.entry_pages.specs.declared.entries.Mark.TheVariants as mark
 use Rattle.tree_walk.proofs.Lined.{Lined}
 use Rattle.tree_walk.specs.Walk.{Answer, told, stat_failed, list_failed, Answers, all_told, entry_of, children_of, walk_down, walk, paths_of, weight}
 use Rattle.tree_walk.specs.Walk.{weight_of, answer_in, answers_in, WalkIsRecursive, WalkAscends, WalkHasEachPathOnce, WalkFindsAll, WalkWithoutFaultsIsFine}
-use Rattle.tree_walk.proofs.Lists.{all_append, all_map, all_flat, weaker, sorted_append, swapped}
+use Rattle.tree_walk.proofs.Lists.{all_append, all_map, all_flat, sorted_append, swapped}
 use Rattle.tree_walk.proofs.Same.{unequal}
 use Rattle.tree_walk.proofs.Recursive.{walk_is, children_are, of_children}
 
@@ -40,7 +40,7 @@ walk_all P Q files a here down zero p h = tt
 walk_all P Q files a here down (suc levels) p h = (
   here p h,
   all_flat Q (walk_down levels files a) (children_of (a p) files p)
-      (weaker P (λ c. AllByRecursion Q (walk_down levels files a c)) (walk_all P Q files a here down levels) (children_of (a p) files p) (down p h)),
+      (all_weaker P (λ c. AllByRecursion Q (walk_down levels files a c)) (walk_all P Q files a here down levels) (children_of (a p) files p) (down p h)),
 )
 
 pub path_is : (answer : Answer) (found : Option Node) (p : List ℕ) → (entry_of answer found p).path ≡ p
@@ -71,7 +71,7 @@ walk_after : (files : Files) (a : Answers) → IsTree files → (levels : ℕ) (
     AllByRecursion (λ y. path_cmp x y ≡ Less) (paths_of (walk_down levels files a p))
 walk_after files a t levels x p h =
     walk_paths (λ y. path_cmp x y ≡ Less) files a
-    (λ y g. weaker (λ c. path_cmp y c ≡ Less) (λ c. path_cmp x c ≡ Less) (λ c e. path_cmp_total.trans x y c g e)
+    (λ y g. all_weaker (λ c. path_cmp y c ≡ Less) (λ c. path_cmp x c ≡ Less) (λ c e. path_cmp_total.trans x y c g e)
     (children_of (a y) files y) (children_are files (a y) y t).after)
     levels p h
 
@@ -95,9 +95,10 @@ unfolding IsStrictlySortedBy
 flat_ascend files a t n each [] l = tt
 flat_ascend files a t n each (c ∷ cs) l =
     let w = λ (c : List ℕ). walk_down (n c) files a c in
-    let below = weaker (λ q. precedes c q ≡ true) (λ q. AllByRecursion (λ x. precedes x q ≡ true) (paths_of (w c))) (walk_before files a t (n c) c) cs l.0 in
-    let between = weaker (λ x. AllByRecursion (λ q. precedes x q ≡ true) cs) (λ x. AllByRecursion (λ y. path_cmp x y ≡ Less) (paths_of (flat_map w cs)))
-    (λ x h. flat_after files a t n x cs (weaker (λ q. precedes x q ≡ true) (λ q. path_cmp x q ≡ Less) (precedes-Less x) cs h))
+    let below = all_weaker (λ q. precedes c q ≡ true) (λ q. AllByRecursion (λ x. precedes x q ≡ true) (paths_of (w c)))
+    (walk_before files a t (n c) c) cs l.0 in
+    let between = all_weaker (λ x. AllByRecursion (λ q. precedes x q ≡ true) cs) (λ x. AllByRecursion (λ y. path_cmp x y ≡ Less) (paths_of (flat_map w cs)))
+    (λ x h. flat_after files a t n x cs (all_weaker (λ q. precedes x q ≡ true) (λ q. path_cmp x q ≡ Less) (precedes-Less x) cs h))
     (paths_of (w c)) (swapped (λ q x. precedes x q ≡ true) cs (paths_of (w c)) below) in
     subst (IsStrictlySortedBy path_cmp) (sym (paths_append (w c) (flat_map w cs)))
     (sorted_append path_cmp (paths_of (w c)) (paths_of (flat_map w cs)) (each c) (flat_ascend files a t n each cs l.1) between)
@@ -190,7 +191,7 @@ keys_found files =
     let found = λ (q : List ℕ) (c : Contains (keys files) q).
     contains_key-keys files q ∙ list_any-from_Contains (eq_by_cmp_equiv path_cmp_total) q (keys files) c in
     let each = recursion_from_All (Contains (keys files)) (keys files) (All-contains_itself (keys files)) in
-    weaker (Contains (keys files)) (IsFound files) found (keys files) each
+    all_weaker (Contains (keys files)) (IsFound files) found (keys files) each
 
 -- the children of a path stand in the tree
 pub children_found : (files : Files) (p : List ℕ) → AllByRecursion (IsFound files) (map (joined p) (names_in files p))

@@ -4,6 +4,7 @@ use Rattle.std.specs.List.{AllByRecursion, flat_map}
 use Rattle.std.specs.List.Sorted.{IsStrictlySortedBy}
 use Rattle.std.specs.declared.cmp.Ordering.{Ordering}
 use Rattle.std.specs.declared.cmp.Ordering.TheVariants.{Less}
+use Rattle.outside.proofs.Names.{all_weaker}
 
 pub all_append : {X : Type 0} (P : X → Type 0) (xs ys : List X) → AllByRecursion P xs → AllByRecursion P ys → AllByRecursion P (xs ++ ys)
 all_append P [] ys h g = g
@@ -12,10 +13,6 @@ all_append P (x ∷ xs) ys h g = (h.0, all_append P xs ys h.1 g)
 pub all_parts : {X : Type 0} (P : X → Type 0) (xs ys : List X) → AllByRecursion P (xs ++ ys) → AllByRecursion P xs × AllByRecursion P ys
 all_parts P [] ys h = (tt, h)
 all_parts P (x ∷ xs) ys h = let r = all_parts P xs ys h.1 in ((h.0, r.0), r.1)
-
-pub weaker : {X : Type 0} (P Q : X → Type 0) → ((x : X) → P x → Q x) → (xs : List X) → AllByRecursion P xs → AllByRecursion Q xs
-weaker P Q t [] h = h
-weaker P Q t (x ∷ xs) h = (t x h.0, weaker P Q t xs h.1)
 
 pub all_map : {X Y : Type 0} (P : Y → Type 0) (f : X → Y) (xs : List X) → AllByRecursion (λ x. P (f x)) xs → AllByRecursion P (map f xs)
 all_map P f [] h = h
@@ -40,8 +37,8 @@ pub swapped : {X Y : Type 0} (R : X → Y → Type 0) (xs : List X) (ys : List Y
     AllByRecursion (λ y. AllByRecursion (λ x. R x y) xs) ys
 swapped R xs [] h = tt
 swapped R xs (y ∷ ys) h = (
-  weaker (λ x. AllByRecursion (R x) (y ∷ ys)) (λ x. R x y) (λ x r. r.0) xs h,
-  swapped R xs ys (weaker (λ x. AllByRecursion (R x) (y ∷ ys)) (λ x. AllByRecursion (R x) ys) (λ x r. r.1) xs h),
+  all_weaker (λ x. AllByRecursion (R x) (y ∷ ys)) (λ x. R x y) (λ x r. r.0) xs h,
+  swapped R xs ys (all_weaker (λ x. AllByRecursion (R x) (y ∷ ys)) (λ x. AllByRecursion (R x) ys) (λ x r. r.1) xs h),
 )
 
 pub both : {X : Type 0} (P Q : X → Type 0) (xs : List X) → AllByRecursion P xs → AllByRecursion Q xs → AllByRecursion (λ x. P x × Q x) xs

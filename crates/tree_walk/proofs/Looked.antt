@@ -5,7 +5,7 @@ use Rattle.std.specs.Prelude.{◌==◌, Result, Ok, Err, IfOk, OnOk, OnErr, IsEr
 use Rattle.std.specs.Option.{option_map}
 use Rattle.std.specs.FinMap.{get}
 use Rattle.std.proofs.Math.Bool.{or-true}
-use Rattle.std.proofs.lemmas.Bool.{false≢true}
+use Rattle.std.proofs.lemmas.Bool.{false≢true, and_from}
 use Rattle.path_text.specs.Path.{joined}
 use Rattle.outside.specs.Tree.{Files, Node, Body, dir, file, link, other, IsTree, Lists, AreNames, is_dir, stat_of, far_of, text_of, link_at, names_in}
 use Rattle.outside.specs.Count.{RoseBy}
@@ -56,9 +56,6 @@ sized kind.File n h = refl
 sized kind.Dir n h = ap (λ m. m == 0) (h (λ e. cc))
 sized kind.Link n h = ap (λ m. m == 0) (h (λ e. cc))
 sized kind.Other n h = ap (λ m. m == 0) (h (λ e. cc))
-
-both : (a b : Bool) → a ≡ true → b ≡ true → (a && b) ≡ true
-both a b e d = ap (λ c. c && b) e ∙ d
 
 first : (a b : Bool) → (a && b) ≡ true → a ≡ true
 first true b e = refl
@@ -210,7 +207,7 @@ stat_alone tree path old new (Ok (Some stat)) s l k = record {
   told = plain_told tree path stat s.valid s.short s.told (no_dir (is_kind kind.Dir stat.kind) l)
       (no_dir (is_kind kind.Link stat.kind) k);
   at = refl;
-  shaped = both (is_kind kind.File stat.kind || stat.size == 0) (is_kind kind.Dir stat.kind || true) (sized stat.kind stat.size s.size)
+  shaped = and_from (is_kind kind.File stat.kind || stat.size == 0) (is_kind kind.Dir stat.kind || true) (sized stat.kind stat.size s.size)
       (or-true (is_kind kind.Dir stat.kind));
   are = no_names path [] refl;
   alone = λ n. refl;
@@ -282,8 +279,8 @@ stat_and_link tree path old mid new (Ok (Some stat)) text s g l = by text g
     by (Ok text) g = record {
       told = link_told tree path stat text s.valid s.short s.told g.told;
       at = refl;
-      shaped = both (is_kind kind.Link stat.kind && true) ((is_kind kind.File stat.kind || stat.size == 0) && (is_kind kind.Dir stat.kind || true)) l
-          (both (is_kind kind.File stat.kind || stat.size == 0) (is_kind kind.Dir stat.kind || true) size (or-true (is_kind kind.Dir stat.kind)));
+      shaped = and_from (is_kind kind.Link stat.kind && true) ((is_kind kind.File stat.kind || stat.size == 0) && (is_kind kind.Dir stat.kind || true)) l
+          (and_from (is_kind kind.File stat.kind || stat.size == 0) (is_kind kind.Dir stat.kind || true) size (or-true (is_kind kind.Dir stat.kind)));
       are = no_names path [] refl;
       alone = λ n. refl;
       listed = λ y. absurd (false≢true (sym off ∙ y));
@@ -301,8 +298,8 @@ stat_and_link tree path old mid new (Ok (Some stat)) text s g l = by text g
     by (Err link_e.NotLink) g = record {
       told = never_told tree path stat s.told is (g.not_link refl);
       at = refl;
-      shaped = both (is_kind kind.File stat.kind || stat.size == 0) ((is_kind kind.Dir stat.kind || is_kind kind.Link stat.kind) && true) size
-          (both (is_kind kind.Dir stat.kind || is_kind kind.Link stat.kind) true
+      shaped = and_from (is_kind kind.File stat.kind || stat.size == 0) ((is_kind kind.Dir stat.kind || is_kind kind.Link stat.kind) && true) size
+          (and_from (is_kind kind.Dir stat.kind || is_kind kind.Link stat.kind) true
           (ap (λ (b : Bool). is_kind kind.Dir stat.kind || b) is ∙ or-true (is_kind kind.Dir stat.kind)) refl);
       are = no_names path [] refl;
       alone = λ n. refl;
@@ -366,7 +363,7 @@ stat_and_list tree path old mid new (Ok (Some stat)) names s g l = by names g
     by (Ok names) g = record {
       told = listed_told tree path stat names s.valid s.short s.told is g.told;
       at = refl;
-      shaped = both (is_kind kind.File stat.kind || stat.size == 0) (is_kind kind.Dir stat.kind || (names.1 == 0 && names.2 == 0)) size
+      shaped = and_from (is_kind kind.File stat.kind || stat.size == 0) (is_kind kind.Dir stat.kind || (names.1 == 0 && names.2 == 0)) size
           (ap (λ b. b || (names.1 == 0 && names.2 == 0)) is);
       are = g.are;
       alone = λ n. absurd (false≢true (sym n ∙ l));
@@ -376,7 +373,7 @@ stat_and_list tree path old mid new (Ok (Some stat)) names s g l = by names g
     by (Err list.Failed) g = record {
       told = unlisted_told tree path stat s.valid s.short s.told is;
       at = refl;
-      shaped = both (is_kind kind.File stat.kind || stat.size == 0) (is_kind kind.Dir stat.kind && true) size l;
+      shaped = and_from (is_kind kind.File stat.kind || stat.size == 0) (is_kind kind.Dir stat.kind && true) size l;
       are = no_names path [] refl;
       alone = λ n. refl;
       listed = λ y. absurd (false≢true (sym (and_false (is_kind kind.Dir stat.kind)) ∙ y));
@@ -385,8 +382,8 @@ stat_and_list tree path old mid new (Ok (Some stat)) names s g l = by names g
     by (Err list.NotDir) g = record {
       told = changed_told tree path stat s.told is (g.not_dir refl);
       at = refl;
-      shaped = both (is_kind kind.File stat.kind || stat.size == 0) ((is_kind kind.Dir stat.kind || is_kind kind.Link stat.kind) && true) size
-          (both (is_kind kind.Dir stat.kind || is_kind kind.Link stat.kind) true (ap (λ (b : Bool). b || is_kind kind.Link stat.kind) is) refl);
+      shaped = and_from (is_kind kind.File stat.kind || stat.size == 0) ((is_kind kind.Dir stat.kind || is_kind kind.Link stat.kind) && true) size
+          (and_from (is_kind kind.Dir stat.kind || is_kind kind.Link stat.kind) true (ap (λ (b : Bool). b || is_kind kind.Link stat.kind) is) refl);
       are = no_names path [] refl;
       alone = λ n. refl;
       listed = λ y. absurd (false≢true (sym (and_false (is_kind kind.Dir stat.kind)) ∙ y));

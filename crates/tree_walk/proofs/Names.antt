@@ -11,10 +11,11 @@ use Rattle.std.proofs.lemmas.Bool.Decides.{nat_tests}
 use Rattle.std.proofs.lemmas.List.Elements.{recursion_from_All, All-from_recursion}
 use Rattle.path_text.specs.Order.{path_cmp, front}
 use Rattle.path_text.specs.Path.{joined, is_name}
-use Rattle.path_text.proofs.Preorder.{precedes, front-joined, child_after, child_precedes, sibling_precedes, some_bytes, no_slash}
+use Rattle.path_text.proofs.Preorder.{precedes, front-joined, child_after, child_precedes, sibling_precedes, some_bytes, no_slash, some_front}
 use Rattle.outside.specs.Tree.{AreNames}
+use Rattle.outside.proofs.Names.{all_weaker}
 use Rattle.tree_walk.proofs.Lined.{Lined, AreChildren}
-use Rattle.tree_walk.proofs.Lists.{weaker, all_map}
+use Rattle.tree_walk.proofs.Lists.{all_map}
 
 longer : (p name : List ℕ) → 0 < length name → length p < length (joined p name)
 longer p name h = omega (arith, sym (ap length (front-joined p name)), length-append (front p) name, front_long)
@@ -46,7 +47,7 @@ pub are_children : (path : List ℕ) (names : List (List ℕ)) → AreNames path
 are_children path names are =
     let valid = recursion_from_All Name names are.valid in
     let each = λ (P : List ℕ → Type 0) (of : (n : List ℕ) → Name n → P (joined path n)).
-    all_map P (joined path) names (weaker Name (λ n. P (joined path n)) of names valid) in
+    all_map P (joined path) names (all_weaker Name (λ n. P (joined path n)) of names valid) in
     record {
       longer = each (λ c. length path < length c) (λ n h. longer path n (some_bytes n h));
       after = each (λ c. path_cmp path c ≡ Less) (λ n h. child_after path n (some_bytes n h));
@@ -68,10 +69,6 @@ no_names path names e =
     })
 
 -- ---- what the paths under a child begin with
-
-pub some_front : (p : List ℕ) → 0 < length (front p)
-some_front [] = omega arith
-some_front (a ∷ p) = elim (length (a ∷ p) == 1) as (λ b. 0 < length (cond b (a ∷ p) (a ∷ p ++ 47 ∷ []))) [ true ↦ omega arith | false ↦ omega arith ]
 
 not_one : (n : ℕ) → 1 < n → (n == 1) ≡ false
 not_one n h = grind (arith, nat_tests)

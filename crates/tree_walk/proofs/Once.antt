@@ -22,8 +22,8 @@ use Rattle.circle_run.specs.Balance.{handled, pushed, Balanced}
 use Rattle.tree_walk.specs.Held.{Held, IsPush, log_of, entries_of}
 use Rattle.tree_walk.specs.Roots.{is_in_some, Apart}
 use Rattle.tree_walk.proofs.Covers.{covers, one, covers_falls, from_apart, some_covers}
-use Rattle.tree_walk.proofs.Lists.{weaker}
 use Rattle.tree_walk.proofs.Names.{lined_names}
+use Rattle.outside.proofs.Names.{all_weaker}
 
 lengths : (names : List (List ℕ)) → AllByRecursion (λ name. IsTrue (is_name name)) names → AllByRecursion (λ n. 0 < length n) names
 lengths [] h = tt
@@ -114,14 +114,14 @@ each_here [] = tt
 each_here (e ∷ es) =
     let self : one e.path e.path ≡ 1 = one-same e.path e.path refl in (
       omega (arith, sum_by-cons (λ (f : Entry). one e.path f.path) e es, self),
-      weaker (λ (d : Entry). 1 ≤ sum_by (λ f. one d.path f.path) es) (λ (d : Entry). 1 ≤ sum_by (λ f. one d.path f.path) (e ∷ es))
+      all_weaker (λ (d : Entry). 1 ≤ sum_by (λ f. one d.path f.path) es) (λ (d : Entry). 1 ≤ sum_by (λ f. one d.path f.path) (e ∷ es))
           (λ d h. omega (arith, h, sum_by-cons (λ (f : Entry). one d.path f.path) e es)) es (each_here es),
     )
 
 pub list_within : (ds : List Held) (list : List Entry) (left starts : List (List ℕ)) → IsGathered ds list left starts →
     AllByRecursion (λ e. is_in_some starts e.path ≡ true) list
 list_within ds list left starts h =
-    weaker (λ (e : Entry). 1 ≤ sum_by (λ f. one e.path f.path) list) (λ (e : Entry). is_in_some starts e.path ≡ true)
+    all_weaker (λ (e : Entry). 1 ≤ sum_by (λ f. one e.path f.path) list) (λ (e : Entry). is_in_some starts e.path ≡ true)
     (λ e n. some_covers e.path starts
     (omega (arith, n, covered e.path ds left starts h.pushes h.balance, as_often (λ f. one e.path f.path) ds list h.moves)))
     list (each_here list)

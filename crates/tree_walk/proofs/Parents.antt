@@ -11,7 +11,7 @@ use Rattle.path_text.specs.Order.{front}
 use Rattle.path_text.proofs.Parents.{cut, parent_joined}
 use Rattle.path_text.proofs.Preorder.{front-joined, some_bytes, no_slash}
 use Rattle.outside.specs.Tree.{Files, Node, Body, dir, file, link, other, IsTree, is_dir, is_dir_body, is_root, names_in}
-use Rattle.outside.proofs.Names.{placed_path, children_are_names}
+use Rattle.outside.proofs.Names.{placed_path, children_are_names, all_weaker}
 use Rattle.outside.specs.declared.trees.Kind.TheVariants as kind
 use Rattle.entry_pages.specs.declared.entries.Entry.{Entry}
 use Rattle.entry_pages.specs.declared.entries.Mark.TheVariants as mark
@@ -19,7 +19,7 @@ use Rattle.entry_pages.specs.Entries.{is_of}
 use Rattle.tree_walk.specs.Walk.{told, stat_failed, list_failed, Answers, entry_of, entry_of_node, children_of, walk}
 use Rattle.tree_walk.specs.Roots.{is_in}
 use Rattle.tree_walk.specs.Told.{IsTold, ParentsAreListed}
-use Rattle.tree_walk.proofs.Lists.{weaker, all_flat, all_map}
+use Rattle.tree_walk.proofs.Lists.{all_flat, all_map}
 use Rattle.tree_walk.proofs.Covers.{child_covers, child_not_above}
 use Rattle.tree_walk.proofs.Recursive.{of_children}
 use Rattle.tree_walk.proofs.Lawful.{walk_entries}
@@ -80,7 +80,7 @@ children_in files a root p t h =
     let valid = recursion_from_All (λ n. IsTrue (is_name n)) names (children_are_names files p t).valid in
     of_children (AllByRecursion (λ c. is_in c root ≡ true)) files (a p) p tt
     (all_map (λ c. is_in c root ≡ true) (joined p) names
-    (weaker (λ n. IsTrue (is_name n)) (λ n. is_in (joined p n) root ≡ true)
+    (all_weaker (λ n. IsTrue (is_name n)) (λ n. is_in (joined p n) root ≡ true)
     (λ n name. in_trans (joined p n) p root (child_in p n (some_bytes n name)) h) names valid))
 
 -- ---- all walks together
@@ -93,17 +93,17 @@ come : (files : Files) (a : Answers) (roots : List (List ℕ)) → IsTree files 
 unfolding walk
 come files a roots t =
     all_flat (λ e. Comes files a roots e.path) (walk files a) roots
-    (weaker (λ r. In r roots) (λ r. AllByRecursion (λ e. Comes files a roots e.path) (walk files a r))
+    (all_weaker (λ r. In r roots) (λ r. AllByRecursion (λ e. Comes files a roots e.path) (walk files a r))
     (λ r i. walk_entries (Comes files a roots) files a
-    (λ p h. weaker (IsChild files a) (Comes files a roots) (λ c k. inr k) (children_of (a p) files p) (each_child files a p t)) (4096 - length r) r (inl i))
+    (λ p h. all_weaker (IsChild files a) (Comes files a roots) (λ c k. inr k) (children_of (a p) files p) (each_child files a p t)) (4096 - length r) r (inl i))
     roots (each_in roots))
 
 inside : (files : Files) (a : Answers) (roots : List (List ℕ)) → IsTree files → AllByRecursion (λ e. Above e.path roots) (flat_map (walk files a) roots)
 unfolding walk
 inside files a roots t =
     all_flat (λ e. Above e.path roots) (walk files a) roots
-    (weaker (λ r. In r roots) (λ r. AllByRecursion (λ e. Above e.path roots) (walk files a r))
-    (λ r i. weaker (λ e. is_in e.path r ≡ true) (λ e. Above e.path roots) (λ e h. record { path = r; stands = i; is = h }) (walk files a r)
+    (all_weaker (λ r. In r roots) (λ r. AllByRecursion (λ e. Above e.path roots) (walk files a r))
+    (λ r i. all_weaker (λ e. is_in e.path r ≡ true) (λ e. Above e.path roots) (λ e h. record { path = r; stands = i; is = h }) (walk files a r)
     (walk_entries (λ p. is_in p r ≡ true) files a (λ p h. children_in files a r p t h) (4096 - length r) r (in_itself r)))
     roots (each_in roots))
 

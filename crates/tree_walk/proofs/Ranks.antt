@@ -11,6 +11,7 @@ use Rattle.std.proofs.lemmas.List.Elements.{All-from_recursion}
 use Rattle.std.proofs.lemmas.List.{map-append, length-map}
 use Rattle.outside.specs.Tree.{Files, IsTree}
 use Rattle.outside.specs.Count.{RoseBy, capped}
+use Rattle.outside.proofs.Names.{all_weaker}
 use Rattle.entry_pages.specs.declared.entries.Entry.{Entry}
 use Rattle.entry_pages.specs.Entries.{is_shaped}
 use Rattle.circle_run.specs.Balance.{Balanced}
@@ -20,7 +21,7 @@ use Rattle.tree_walk.specs.Roots.{is_in_some, Apart}
 use Rattle.tree_walk.specs.Held.{Held, IsDone, IsPush, Holds, log_of, entries_of}
 use Rattle.tree_walk.specs.Found.{IsFound, IsWalkOf}
 use Rattle.tree_walk.specs.Cut.{IsCut, IsCutFound}
-use Rattle.tree_walk.proofs.Lists.{weaker, all_flat}
+use Rattle.tree_walk.proofs.Lists.{all_flat}
 use Rattle.tree_walk.proofs.Once.{IsGathered, list_rises, list_within, sum_by-map}
 use Rattle.tree_walk.proofs.AnyOrder.{whole, valid_files, moved, to_entries, ones}
 use Rattle.tree_walk.proofs.Cuts.{is_cut, valid_done, gathered_beside, left_apart, done_beside, all_within}
@@ -72,7 +73,7 @@ all_done tree count files jobs list left starts run = all_flat (IsDone files) (�
 part : {R : Type 0} (tree : R → Option Files) (count : R → ℕ) (P : Held → Type 0) (jobs : List (R × List Held)) →
     ((j : R × List Held) → Holds (tree j.0) (count j.0) j.1 → AllByRecursion P j.1) →
     AllByRecursion (λ j. Holds (tree j.0) (count j.0) j.1) jobs → AllByRecursion P (flat_map (λ j. j.1) jobs)
-part tree count P jobs of h = all_flat P (λ j. j.1) jobs (weaker (λ j. Holds (tree j.0) (count j.0) j.1) (λ j. AllByRecursion P j.1) of jobs h)
+part tree count P jobs of h = all_flat P (λ j. j.1) jobs (all_weaker (λ j. Holds (tree j.0) (count j.0) j.1) (λ j. AllByRecursion P j.1) of jobs h)
 
 pub all_pushes : {R : Type 0} (tree : R → Option Files) (count : R → ℕ) (jobs : List (R × List Held)) →
     AllByRecursion (λ j. Holds (tree j.0) (count j.0) j.1) jobs → AllByRecursion IsPush (flat_map (λ j. j.1) jobs)

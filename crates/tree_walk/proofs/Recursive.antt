@@ -4,10 +4,10 @@ use Rattle.std.specs.List.{AllByRecursion, flat_map}
 use Rattle.std.specs.FinMap.{get}
 use Rattle.path_text.specs.Path.{joined}
 use Rattle.outside.specs.Tree.{Files, IsTree, names_in, is_dir}
-use Rattle.outside.proofs.Names.{children_are_names}
+use Rattle.outside.proofs.Names.{children_are_names, all_weaker}
 use Rattle.tree_walk.specs.Walk.{Answer, told, stat_failed, list_failed, Answers, entry_of, children_of, walk_down, walk}
 use Rattle.tree_walk.proofs.Lined.{AreChildren}
-use Rattle.tree_walk.proofs.Lists.{flat_same, weaker, both}
+use Rattle.tree_walk.proofs.Lists.{flat_same, both}
 use Rattle.tree_walk.proofs.Names.{are_children, short_children}
 
 -- a property of the paths that the walk goes on with, where the children of a directory and no paths at all have it
@@ -45,7 +45,7 @@ stable files a t (suc m) zero p s l r = absurd (omega arith)
 stable files a t (suc m) (suc n) p s l r =
     ap (λ rest. entry_of (a p) (get files p) p ∷ rest)
     (flat_same (walk_down m files a) (walk_down n files a) (children_of (a p) files p)
-    (weaker (Below p) (λ c. walk_down m files a c ≡ walk_down n files a c)
+    (all_weaker (Below p) (λ c. walk_down m files a c ≡ walk_down n files a c)
     (λ c h. stable files a t m n c h.1 (omega (arith, h.0)) (omega (arith, h.0)))
     (children_of (a p) files p) (below_children files (a p) p t)))
 
@@ -58,6 +58,6 @@ walk_is files a p t s =
     ap (λ n. walk_down n files a p) levels
     ∙ ap (λ rest. entry_of (a p) (get files p) p ∷ rest)
     (flat_same (walk_down (4095 - length p) files a) (λ c. walk_down (4096 - length c) files a c) (children_of (a p) files p)
-    (weaker (Below p) (λ c. walk_down (4095 - length p) files a c ≡ walk_down (4096 - length c) files a c)
+    (all_weaker (Below p) (λ c. walk_down (4095 - length p) files a c ≡ walk_down (4096 - length c) files a c)
     (λ c h. stable files a t (4095 - length p) (4096 - length c) c h.1 (omega (arith, h.0)) (omega (arith, h.0)))
     (children_of (a p) files p) (below_children files (a p) p t)))

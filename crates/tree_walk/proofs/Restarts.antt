@@ -9,7 +9,7 @@ use Rattle.std.proofs.lemmas.List.Elements.{recursion_from_All, All-from_recursi
 use Rattle.path_text.specs.Path.{refusal, joined}
 use Rattle.path_text.specs.Order.{path_cmp}
 use Rattle.outside.specs.Tree.{Files, IsTree, AreNames, names_in}
-use Rattle.outside.proofs.Names.{children_are_names}
+use Rattle.outside.proofs.Names.{children_are_names, all_weaker}
 use Rattle.path_text.proofs.Parts as parts
 use Rattle.entry_pages.specs.declared.entries.Entry.{Entry}
 use Rattle.circle_run.specs.Balance.{Balanced}
@@ -18,7 +18,7 @@ use Rattle.tree_walk.specs.Walk.{Answer, Answers, bare, answer_in, answers_in, e
 use Rattle.tree_walk.specs.Held.{Held, IsDone, IsPush, log_of}
 use Rattle.tree_walk.specs.Roots.{Apart}
 use Rattle.tree_walk.specs.Cut.{IsCut, IsJoined, RestartIsWalk, CutGoesOn, LeftIsApart, log_by}
-use Rattle.tree_walk.proofs.Lists.{weaker, all_append, all_parts}
+use Rattle.tree_walk.proofs.Lists.{all_append, all_parts}
 use Rattle.tree_walk.proofs.Names.{no_names}
 use Rattle.tree_walk.proofs.Recursive.{of_children, children_short}
 use Rattle.tree_walk.proofs.Covers.{covers, one, lined, from_apart}
@@ -270,7 +270,7 @@ restart_is_walk files starts left done later list t valid apart cut walks joined
     let waiting = in_order left few in
     let is = walks waiting.list waiting.all waiting.ascend in
     let line = lined waiting.list waiting.ascend (λ x. omega (arith, few x, sum_by-IsPermutation (covers x) left waiting.list waiting.all)) in
-    let short = weaker (λ p. refusal p ≡ None) (λ p. length p ≤ 4095) parts.short starts (recursion_from_All (λ p. refusal p ≡ None) starts valid) in
+    let short = all_weaker (λ p. refusal p ≡ None) (λ p. length p ≤ 4095) parts.short starts (recursion_from_All (λ p. refusal p ≡ None) starts valid) in
     let restart : IsRestart files starts waiting.list done later list =
     record {
       valid = t;

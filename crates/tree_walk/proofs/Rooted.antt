@@ -6,7 +6,7 @@ use Rattle.std.specs.List.Sorted.{IsSorted, IsStrictlySortedBy, IsPermutation}
 use Rattle.std.specs.Ordering.{nat_cmp, ordering_then, is_lt, ordering_reverse}
 use Rattle.std.specs.declared.cmp.Ordering.{Ordering}
 use Rattle.std.specs.declared.cmp.Ordering.TheVariants.{Less, Equal, Greater}
-use Rattle.std.proofs.lemmas.Bool.{false≢true}
+use Rattle.std.proofs.lemmas.Bool.{false≢true, or_right}
 use Rattle.std.proofs.lemmas.Bool.Decides.{nat_tests}
 use Rattle.std.proofs.lemmas.List.Sorted.{IsPermutation-sym, All-permutation, sorted_far, ranks_by}
 use Rattle.std.proofs.lemmas.List.Elements.{recursion_from_All, All-from_recursion, All-contains_itself}
@@ -15,9 +15,9 @@ use Rattle.path_text.proofs.Preorder.{before_all, precedes, precedes-Less}
 use Rattle.path_text.specs.Total.{path_cmp_total, path_cmp_same}
 use Rattle.tree_walk.specs.Roots.{is_in, is_in_some, IsRoots}
 use Rattle.tree_walk.proofs.Lined.{Lined}
-use Rattle.tree_walk.proofs.Lists.{weaker}
 use Rattle.tree_walk.proofs.Inside.{is_in_is, in_itself, in_trans}
 use Rattle.tree_walk.proofs.Covers.{in_line, one_covers, to_apart}
+use Rattle.outside.proofs.Names.{all_weaker}
 
 -- ---- what comes before y, with all that is under it, comes before what follows y
 
@@ -71,10 +71,6 @@ some_trans : (x y : List ℕ) (ps : List (List ℕ)) → is_in x y ≡ true → 
 some_trans x y [] e h = h
 some_trans x y (p ∷ ps) e h = or_mono (is_in y p) (is_in x p) (is_in_some ps y) (is_in_some ps x) (in_trans x y p e) (some_trans x y ps e) h
 
-or_right : (a b : Bool) → b ≡ true → (a || b) ≡ true
-or_right true b e = refl
-or_right false b e = e
-
 -- ---- what is kept behind k
 
 all_kept : (P : List ℕ → Type 0) (k : List ℕ) (xs : List (List ℕ)) → P k → AllByRecursion P xs → AllByRecursion P (dedup_from is_in k xs)
@@ -101,7 +97,7 @@ kept_lined k (x ∷ xs) r =
       | true ↦ λ t. kept_lined k xs (r.0.1, r.1.1)
       | false ↦ λ f.
           let here = behind k x r.0.0 f in
-          let later = weaker (NotBefore x) (λ y. precedes k y ≡ true) (λ y n. precedes_later k x y here n) xs r.1.0 in
+          let later = all_weaker (NotBefore x) (λ y. precedes k y ≡ true) (λ y n. precedes_later k x y here n) xs r.1.0 in
           (all_kept (λ y. precedes k y ≡ true) x xs here later, kept_lined x xs r.1)
     ] refl
 
@@ -115,7 +111,7 @@ kept_covers k (x ∷ xs) =
       | true ↦ λ t. let rest = kept_covers k xs in (rest.0, (some_trans x k (dedup_from is_in k xs) t rest.0, rest.1))
       | false ↦ λ f.
           let roots = dedup_from is_in x xs in
-          let rest = weaker (InSome roots) (InSome (k ∷ roots)) (λ q h. or_right (is_in q k) (is_in_some roots q) h) (x ∷ xs) (kept_covers x xs) in
+          let rest = all_weaker (InSome roots) (InSome (k ∷ roots)) (λ q h. or_right (is_in q k) (is_in_some roots q) h) (x ∷ xs) (kept_covers x xs) in
           (ap (λ b. b || is_in_some roots k) (in_itself k), rest)
     ] refl
 
@@ -136,7 +132,7 @@ all_covered (x ∷ xs) = kept_covers x xs
 ascends : (xs : List (List ℕ)) → Lined xs → IsStrictlySortedBy path_cmp xs
 unfolding IsStrictlySortedBy
 ascends [] h = tt
-ascends (x ∷ xs) h = (weaker (λ y. precedes x y ≡ true) (λ y. path_cmp x y ≡ Less) (λ y e. precedes-Less x y e) xs h.0, ascends xs h.1)
+ascends (x ∷ xs) h = (all_weaker (λ y. precedes x y ≡ true) (λ y. path_cmp x y ≡ Less) (λ y e. precedes-Less x y e) xs h.0, ascends xs h.1)
 
 pub rooted : (given sorted roots : List (List ℕ)) → IsPermutation given sorted → IsSorted path_cmp sorted → roots ≡ dedup is_in sorted → IsRoots given roots
 rooted given sorted roots p s e =

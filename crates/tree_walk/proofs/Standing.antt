@@ -5,7 +5,7 @@ use Rattle.std.specs.List.{AllByRecursion, Contains, list_any, count_by}
 use Rattle.std.proofs.lemmas.Bool.{false≢true}
 use Rattle.std.proofs.lemmas.List.Sums.{sum_by-cons}
 use Rattle.tree_walk.specs.Roots.{is_in, is_in_some}
-use Rattle.tree_walk.proofs.Lists.{weaker}
+use Rattle.outside.proofs.Names.{all_weaker}
 
 abbrev pub In : List ℕ → List (List ℕ) → Type 0
 In x [] = ⊥
@@ -25,7 +25,7 @@ of_all P (y ∷ ys) x h i = ⊎_elim (λ e. subst P (sym e) h.0) (λ j. of_all P
 
 pub each_in : (xs : List (List ℕ)) → AllByRecursion (λ x. In x xs) xs
 each_in [] = tt
-each_in (x ∷ xs) = (inl refl, weaker (λ y. In y xs) (λ y. In y (x ∷ xs)) (λ y i. inr i) xs (each_in xs))
+each_in (x ∷ xs) = (inl refl, all_weaker (λ y. In y xs) (λ y. In y (x ∷ xs)) (λ y i. inr i) xs (each_in xs))
 
 -- a path of the list that x is in
 pub record Above (x : List ℕ) (ps : List (List ℕ)) : Type 0 where

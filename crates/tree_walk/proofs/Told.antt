@@ -4,11 +4,11 @@ use Rattle.std.specs.List.{All, AllByRecursion, flat_map}
 use Rattle.std.specs.FinMap.{get}
 use Rattle.std.proofs.lemmas.List.Elements.{All-from_recursion}
 use Rattle.outside.specs.Tree.{Files, Node, Body, dir, file, link, other}
+use Rattle.outside.proofs.Names.{all_weaker}
 use Rattle.entry_pages.specs.declared.entries.Entry.{Entry}
 use Rattle.tree_walk.specs.Walk.{Answer, told, stat_failed, list_failed, Answers, entry_of, entry_of_node, walk}
 use Rattle.tree_walk.specs.Told.{stat_by, StandsBy, far_by, target_by, IsTold, EntriesAreTold}
 use Rattle.tree_walk.proofs.Lawful.{IsOwn, walk_own, walks_own}
-use Rattle.tree_walk.proofs.Lists.{weaker}
 
 -- what an entry tells of the node at its path, if there is one
 record Tells (found : Option Node) (e : Entry) : Type 0 where
@@ -38,7 +38,7 @@ is_told files a e own =
     record { own = own; stat = t.stat; stands = t.stands; far = t.far; target = t.target }
 
 all_told : (files : Files) (a : Answers) (entries : List Entry) → AllByRecursion (IsOwn files a) entries → All (IsTold files a) entries
-all_told files a entries own = All-from_recursion (IsTold files a) entries (weaker (IsOwn files a) (IsTold files a) (is_told files a) entries own)
+all_told files a entries own = All-from_recursion (IsTold files a) entries (all_weaker (IsOwn files a) (IsTold files a) (is_told files a) entries own)
 
 pub entries_are_told : EntriesAreTold
 entries_are_told = record {

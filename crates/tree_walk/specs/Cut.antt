@@ -17,7 +17,8 @@ use Rattle.tree_walk.specs.declared.reports.Walked.{Walked}
 use Rattle.tree_walk.specs.declared.reports.Walked.TheVariants as walked
 use Rattle.tree_walk.specs.Walk.{answer_in, entry_of, children_of, weight_of, paths_of}
 use Rattle.tree_walk.specs.Roots.{is_in_some, Apart}
-use Rattle.tree_walk.specs.Found.{IsWalkOf, IsTooMuch, max_entries}
+use Rattle.flat_list.specs.Spelling.{max_entries}
+use Rattle.tree_walk.specs.Found.{IsWalkOf, FoundTooMany}
 
 -- the log that done entries are: their paths, each with those that the recursive walk goes on with, by the answer that the entry tells
 abbrev pub log_by : Files → List Entry → Log
@@ -68,7 +69,7 @@ pub record IsTooMuchDone (tree : Option Files) (starts : List (List ℕ)) (old n
 
 -- a walk found n entries, more than a list may have: a whole one, or, with a stop, one that was cut
 abbrev pub IsTooMany : (stop : Option ℕ) (tree : Option Files) (starts : List (List ℕ)) (old new n : ℕ) → Type 0
-IsTooMany stop tree starts old new n = IsTooMuch tree starts old new n ⊎ ((is_some stop ≡ true) × IsTooMuchDone tree starts old new n)
+IsTooMany stop tree starts old new n = FoundTooMany tree starts old new n ⊎ ((is_some stop ≡ true) × IsTooMuchDone tree starts old new n)
 
 -- done entries and entries found later, together in path order
 pub record IsJoined (done later list : List Entry) : Type 0 where

@@ -7,6 +7,7 @@ use Rattle.outside.specs.Tree.{Files, IsTree}
 use Rattle.outside.specs.Count.{RoseBy}
 use Rattle.entry_pages.specs.declared.entries.Entry.{Entry}
 use Rattle.entry_pages.specs.Entries.{is_shaped}
+use Rattle.flat_list.specs.Spelling.{max_entries}
 use Rattle.tree_walk.specs.declared.errors.WalkError.{WalkError}
 use Rattle.tree_walk.specs.declared.errors.WalkError.TheVariants as error
 use Rattle.tree_walk.specs.Walk.{answers_in, walk, weight_of, paths_of}
@@ -32,12 +33,8 @@ pub record IsFound (tree : Option Files) (starts : List (List ℕ)) (old new : �
   -- and the failed answers that the list tells were counted
   pub counted : RoseBy (sum_by weight_of list) old new
 
--- the most entries that a list may have
-abbrev pub max_entries : ℕ
-max_entries = 4194304
-
 -- a walk found n entries, more than a list may have
-pub record IsTooMuch (tree : Option Files) (starts : List (List ℕ)) (old new n : ℕ) : Type 0 where
+pub record FoundTooMany (tree : Option Files) (starts : List (List ℕ)) (old new n : ℕ) : Type 0 where
   pub list : List Entry
   pub found : IsFound tree starts old new list
   pub number : n ≡ length list

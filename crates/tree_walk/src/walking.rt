@@ -13,7 +13,8 @@ ghost use Rattle.tree_walk.specs.Roots.{Apart};
 ghost use Rattle.tree_walk.specs.Answered.{IsAnswered};
 ghost use Rattle.tree_walk.specs.Held.{Holds, entries_of};
 ghost use Rattle.tree_walk.specs.Traced.{IsTracedWalk, WasWalked, IsProgressTo};
-ghost use Rattle.tree_walk.specs.Found.{IsFound, IfTooMany, max_entries};
+ghost use Rattle.flat_list.specs.Spelling.{max_entries};
+ghost use Rattle.tree_walk.specs.Found.{IsFound, IfTooMany};
 ghost use Rattle.tree_walk.specs.Cut.{IsCutFound, IsTooMany, IfCut, found_in};
 
 use crate::errors::WalkError;

@@ -4,7 +4,7 @@ use Rattle.path_text.specs.Path.{level_of}
 use Rattle.outside.specs.Tree.{Files}
 use Rattle.outside.specs.Writes.{Area}
 use Rattle.level_work.specs.Acts.{Deed}
-use Rattle.level_work.specs.Chain.{is_done}
+use Rattle.level_work.specs.Chain.{is_level_done}
 use Rattle.level_work.specs.Fates.{ComesAt, MayCome, place_of}
 use Rattle.level_work.specs.Private.Lots.{IsAt, HasWorked}
 use Rattle.level_work.specs.declared.items.Item.{Item}
@@ -44,4 +44,4 @@ module _ {Who : Type 0} (may_come : MayCome Who) (actors : List Who) (items : Li
 
   -- the items of the levels that are done
   abbrev pub CameSofar : Order → ℕ → Type 0
-  CameSofar o t = (k : ℕ) (x : Item) → slice_get items k ≡ Some x → is_done o t (level_of x.path) ≡ true → Came (level_of x.path) k x
+  CameSofar o t = (k : ℕ) (x : Item) → slice_get items k ≡ Some x → is_level_done o t (level_of x.path) ≡ true → Came (level_of x.path) k x

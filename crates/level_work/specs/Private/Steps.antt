@@ -6,7 +6,7 @@ use Rattle.path_text.specs.Path.{level_of, parent_of}
 use Rattle.outside.specs.Tree.{Files, is_dir}
 use Rattle.level_work.specs.Acts.{Deed}
 use Rattle.level_work.specs.Levels.{HasFate, FailsWith}
-use Rattle.level_work.specs.Chain.{is_done, mark_at}
+use Rattle.level_work.specs.Chain.{is_level_done, mark_at}
 use Rattle.level_work.specs.declared.items.Item.{Item}
 use Rattle.level_work.specs.declared.items.Fate.{Fate}
 use Rattle.level_work.specs.declared.items.Fate.TheVariants as fate
@@ -15,9 +15,9 @@ use Rattle.level_work.specs.declared.items.Order.{Order}
 -- the maps before and now, with the items of some levels done
 pub record Sofar (deed : Deed) (o : Order) (t : ℕ) (items : List Item) (fates : List Fate) (before now : Files) : Type 0 where
   pub pending : (q : List ℕ)
-      → ((k : ℕ) (x : Item) → slice_get items k ≡ Some x → is_done o t (level_of x.path) ≡ true → pointwise nat_eq q x.path ≡ false)
+      → ((k : ℕ) (x : Item) → slice_get items k ≡ Some x → is_level_done o t (level_of x.path) ≡ true → pointwise nat_eq q x.path ≡ false)
       → get now q ≡ get before q
-  pub each : (k : ℕ) (x : Item) (f : Fate) → slice_get items k ≡ Some x → slice_get fates k ≡ Some f → is_done o t (level_of x.path) ≡ true
+  pub each : (k : ℕ) (x : Item) (f : Fate) → slice_get items k ≡ Some x → slice_get fates k ≡ Some f → is_level_done o t (level_of x.path) ≡ true
       → HasFate deed o before now x f
 
 -- the items of one level whose parent did not fail stand in directories
@@ -41,7 +41,7 @@ SameButLevel level items old new = (q : List ℕ)
 -- the fates of the levels that are done
 abbrev pub ToldSofar : Order → ℕ → List Item → List Fate → Type 0
 ToldSofar o t items fates = (k : ℕ) (x : Item) (f : Fate) → slice_get items k ≡ Some x → slice_get fates k ≡ Some f
-    → is_done o t (level_of x.path) ≡ true → (f ≡ fate.ParentFailed) ↔ FailsWith o items fates x
+    → is_level_done o t (level_of x.path) ≡ true → (f ≡ fate.ParentFailed) ↔ FailsWith o items fates x
 
 -- the maps before and now, and the fates, after so many turns
 pub record Ran (deed : Deed) (o : Order) (top turn : ℕ) (items : List Item) (fates : List Fate) (was now : Option Files) : Type 0 where

@@ -6,7 +6,7 @@ use Rattle.outside.specs.Tree.{Files}
 use Rattle.outside.specs.Writes.{Area, nothing_lent}
 use Rattle.level_work.specs.Acts.{Deed, AllShow}
 use Rattle.level_work.specs.Counts.{is_failed}
-use Rattle.level_work.specs.Chain.{is_done, mark_at}
+use Rattle.level_work.specs.Chain.{is_level_done, mark_at}
 use Rattle.level_work.specs.Private.Steps.{Ran}
 use Rattle.level_work.specs.Private.Crews.{AtHome, BlamedMore, SameActors}
 use Rattle.level_work.specs.Private.Dealing.{Knows}
@@ -25,6 +25,6 @@ pub record Turned {A P D : Type 0} (plain : A → D) (count : A → ℕ) (deed :
   pub kept : g0 ≤ g
   pub ran : (d : D) → AllShow d (map (λ lot. plain lot.actor) lots) → Ran (deed d) o top turn items fates t0 t
   pub fresh : (k : ℕ) (x : Item) (f : Fate) → slice_get items k ≡ Some x → slice_get fates k ≡ Some f
-      → is_done o (mark_at o top turn) (level_of x.path) ≡ false → f ≡ fate.Done
+      → is_level_done o (mark_at o top turn) (level_of x.path) ≡ false → f ≡ fate.Done
   pub knows : Knows o items fates paths
   pub blamed : BlamedMore 0 (count_by is_failed fates) g0 (map (λ lot. count lot.actor) lots) g (map (λ lot. count lot.actor) now)

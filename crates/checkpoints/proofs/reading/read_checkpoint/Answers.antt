@@ -19,10 +19,10 @@ returns-in-Err-clause-stopped g c =
     let before = side_of g.G.Plot c.args.files.now in
     let after = side_of g.G.Plot c.read_left.new.files in
     let named = named_at dir c.in-Some.is c.in_ok-path.ensures.some in
-    let stops : HasNoRanks dir before after c.stop_by.result =
+    let stops : HasNoRanks dir before after c.stop_of_lists.result =
     no_ranks dir c.in-Some.path c.in_ok-done.done before after (g.G.Plot.tree c.read_list.new.files) (g.G.Plot.count c.read_list.new.files)
-    c.in-Err.error c.stop_by.result named c.in_ok-done.ensures.read c.read_list.ensures.same c.read_list.ensures.count.kept
-    c.in-Err.ensures.stopped c.stop_by.ensures in
+    c.in-Err.error c.stop_of_lists.result named c.in_ok-done.ensures.read c.read_list.ensures.same c.read_list.ensures.count.kept
+    c.in-Err.ensures.stopped c.stop_of_lists.ensures in
     inr (inr (inr (inl stops)))
 
 pub returns-clause-read : goal.returns-clause-read

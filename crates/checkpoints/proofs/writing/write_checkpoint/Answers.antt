@@ -80,7 +80,7 @@ pub returns-in-Err-clause-stopped : goal.returns-in-Err-clause-stopped
 returns-in-Err-clause-stopped g c =
     let after = side_of g.G.Plot c.write_lists.new.ground in
     ranks_stop c.args.dir.now (length c.args.left.now) c.args.done.now _ _ after c.in-Err.error _ c.in_ok-clear_list.ensures.cleared
-    c.write_lists.ensures.count.kept c.in-Err.ensures.stopped c.stop_by.ensures c.write_lists.ensures.rest
+    c.write_lists.ensures.count.kept c.in-Err.ensures.stopped c.stop_of_lists.ensures c.write_lists.ensures.rest
 
 -- ---- they were
 

@@ -3,12 +3,13 @@ use Rattle.std.specs.Prelude.{IfOk}
 use Rattle.outside.specs.Parts.{IsTreeIn}
 use Rattle.range_copy.proofs.Caused.{caused}
 use Rattle.range_copy.proofs.Folded.{rose_two}
-use Rattle.range_copy.proofs.Reported.{Reported, all_reported, apart_second, can_first, exceed_second, fit_first, if_so, makes_second}
+use Rattle.range_copy.proofs.Reported.{Reported, all_reported, apart_second, can_first, exceed_second, fit_first, makes_second}
 use Rattle.range_copy.proofs.Reported.{rest_first, rest_second, rows_in_source, source_second}
 use Rattle.range_copy.proofs.Widened.{Given}
 use Rattle.range_copy.proofs.widening.copy_wide.Given as given
 use Rattle.range_copy.proofs.widening.copy_wide.Goals as goal
 use Rattle.range_copy.proofs.widening.copy_wide.Goals.{After-report_of, In_ok-parts}
+use Rattle.tree_copy.proofs.Readers.{if_ok}
 
 -- what is known of the list and its pairs once the list is in parts
 known : (g : given.Over) (c : In_ok-parts g) → Given c.args.list.now c.args.pairs.now
@@ -114,28 +115,28 @@ said g c =
     }) c.report_of.result c.report_of.ensures.rows c.report_of.ensures.copied c.report_of.ensures.bytes
 
 pub returns-clause-paths : goal.returns-clause-paths
-returns-clause-paths g c = if_so _ _ c.report_of.result (λ report r. r.paths) (said g (goal.at.returns-clause-paths g c).After-report_of)
+returns-clause-paths g c = if_ok _ _ c.report_of.result (λ report r. r.paths) (said g (goal.at.returns-clause-paths g c).After-report_of)
 
 pub returns-clause-early : goal.returns-clause-early
-returns-clause-early g c = if_so _ _ c.report_of.result (λ report r. r.early) (said g (goal.at.returns-clause-early g c).After-report_of)
+returns-clause-early g c = if_ok _ _ c.report_of.result (λ report r. r.early) (said g (goal.at.returns-clause-early g c).After-report_of)
 
 pub returns-clause-told : goal.returns-clause-told
-returns-clause-told g c = if_so _ _ c.report_of.result (λ report r. r.told) (said g (goal.at.returns-clause-told g c).After-report_of)
+returns-clause-told g c = if_ok _ _ c.report_of.result (λ report r. r.told) (said g (goal.at.returns-clause-told g c).After-report_of)
 
 pub returns-clause-copied : goal.returns-clause-copied
-returns-clause-copied g c = if_so _ _ c.report_of.result (λ report r. r.copied) (said g (goal.at.returns-clause-copied g c).After-report_of)
+returns-clause-copied g c = if_ok _ _ c.report_of.result (λ report r. r.copied) (said g (goal.at.returns-clause-copied g c).After-report_of)
 
 pub returns-clause-bytes : goal.returns-clause-bytes
-returns-clause-bytes g c = if_so _ _ c.report_of.result (λ report r. r.bytes) (said g (goal.at.returns-clause-bytes g c).After-report_of)
+returns-clause-bytes g c = if_ok _ _ c.report_of.result (λ report r. r.bytes) (said g (goal.at.returns-clause-bytes g c).After-report_of)
 
 pub returns-clause-blamed : goal.returns-clause-blamed
-returns-clause-blamed g c = if_so _ _ c.report_of.result (λ report r. r.blamed) (said g (goal.at.returns-clause-blamed g c).After-report_of)
+returns-clause-blamed g c = if_ok _ _ c.report_of.result (λ report r. r.blamed) (said g (goal.at.returns-clause-blamed g c).After-report_of)
 
 pub returns-clause-causes : goal.returns-clause-causes
 returns-clause-causes g c =
     let small = c.in_ok-small in
     let large = c.in_ok-large in
-    if_so _ _ c.report_of.result (λ report is. caused g.G.Reader.Tree.gives g.G.Part.Plot.gives g.G.Plot.gives g.G.Plot.area g.G.Plot.count
+    if_ok _ _ c.report_of.result (λ report is. caused g.G.Reader.Tree.gives g.G.Part.Plot.gives g.G.Plot.gives g.G.Plot.area g.G.Plot.count
     c.args.list.now c.args.pairs.now c.args.piece c.in_ok-parts.parts.small c.deref.result.now c.deref-2.result.now small.small.0 large.large.rows.items
     report.0 c.in_ok-parts.ensures.small (c.deref.ensures.value ∙ c.in_ok-parts.ensures.large) (c.deref-2.ensures.value ∙ c.in_ok-parts.ensures.marks)
     small.ensures.paths small.ensures.causes large.ensures.shown is) c.report_of.ensures.rows

@@ -1,4 +1,5 @@
 use Rattle.std.proofs.Common.{◌∙◌, ap, refl, subst, ◌≤◌, length, IfSome}
+use Rattle.flat_list.specs.Spelling.{max_entries}
 use Rattle.tree_walk.specs.Cut.{found_in}
 use Rattle.tree_walk.specs.Traced.{IsTracedWalk, WasWalked, IsProgressTo}
 use Rattle.run_entries.specs.Tells.{options_of}
@@ -29,4 +30,4 @@ returns-clause-account g c =
 
 pub returns-clause-few : goal.returns-clause-few
 returns-clause-few g c =
-    subst (λ list. length list ≤ 4194304) (ap (λ w. found_in w c.in_ok-report.report.list) (c.in_ok-report.ensures.whole refl)) c.in_ok-report.ensures.few
+    subst (λ list. length list ≤ max_entries) (ap (λ w. found_in w c.in_ok-report.report.list) (c.in_ok-report.ensures.whole refl)) c.in_ok-report.ensures.few

@@ -1,6 +1,6 @@
 use Rattle.std.proofs.Common.{rules, ◌∙◌, subst}
 use Rattle.run_report.specs.Sides.{side_of}
-use Rattle.run_entries.specs.Both.{StopsWalking, WalksBoth}
+use Rattle.run_entries.specs.Both.{StopsEitherWalk, WalksBoth}
 use Rattle.sync_report.proofs.Ready.{Laws, ready}
 use Rattle.sync_report.proofs.walking.walk_pair.Goals as goal
 
@@ -18,9 +18,9 @@ returns-in_err-sides-clause-stopped g c =
     let why = c.in_err-sides.field-0.0 in
     let before = side_of g.G.Plot c.args.files.now in
     let after = side_of g.G.Plot c.walk_sides.new.files in
-    let stops : StopsWalking pair.source pair.target before after why =
-    subst (λ s. StopsWalking s pair.target before after why) c.in_ok-source.ensures
-    (subst (λ t. StopsWalking c.in_ok-source.source t before after why) c.in_ok-dest.ensures c.in_err-sides.ensures.stopped) in
+    let stops : StopsEitherWalk pair.source pair.target before after why =
+    subst (λ s. StopsEitherWalk s pair.target before after why) c.in_ok-source.ensures
+    (subst (λ t. StopsEitherWalk c.in_ok-source.source t before after why) c.in_ok-dest.ensures c.in_err-sides.ensures.stopped) in
     search (rules, stops, c.from_residual-in_err-sides.ensures)
 
 pub returns-clause-ready : goal.returns-clause-ready

@@ -2,9 +2,9 @@ use Rattle.std.proofs.Common.{◌∙◌, ap, sym, subst, map, IfSome}
 use Rattle.std.specs.List.{count_by}
 use Rattle.outside.specs.Count.{RoseBy}
 use Rattle.outside.specs.Parts.{IsTreeIn}
-use Rattle.level_work.specs.Counts.{is_failed}
+use Rattle.level_work.specs.Counts.{is_failed, is_done}
 use Rattle.tree_copy.specs.Causes.{HaveCauses}
-use Rattle.tree_copy.specs.Copying.{AreEarly, Copied, bytes_copied, is_done}
+use Rattle.tree_copy.specs.Copying.{AreEarly, Copied, bytes_copied}
 use Rattle.tree_copy.proofs.Readers.{if_ok}
 use Rattle.tree_copy.proofs.Reported.{acted_rest, all_made, all_run, all_bytes, both_ok, causes, dirs, done_rows, early, fit, fitted}
 use Rattle.tree_copy.proofs.Reported.{marked, marks_len, rest, rose}
