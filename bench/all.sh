@@ -67,8 +67,8 @@ task() {
         if command -v "$program" >/dev/null; then
             number=$((number + 1))
             names="$names other$number"
-            echo "$2" >>"$work/commands"
-            echo "$1" >"$work/other$number.name"
+            printf '%s\n' "$2" >>"$work/commands"
+            printf '%s\n' "$1" >"$work/other$number.name"
         else
             missing="$missing $program"
         fi
