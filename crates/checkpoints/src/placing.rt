@@ -3,8 +3,7 @@ ghost use Rattle.std.specs.Prelude.{◌≡◌, ◌≤◌, ◌<◌, ◌+◌, ◌+
 ghost use Rattle.std.specs.List.{flat_map, enumerate_from};
 ghost use Rattle.std.specs.List.Sorted.{IsPermutation, IsSorted, IsSortedByKey, IsStrictlySortedBy};
 ghost use Rattle.std.specs.Option.{option_copied};
-ghost use Rattle.path_text.specs.Order.{path_cmp};
-ghost use Rattle.flat_list.specs.Spelling.{paths};
+ghost use Rattle.run_report.specs.Prelude.{path_cmp, paths};
 ghost use Rattle.checkpoints.specs.Placing.{is_misplaced, ArePlaced, IsFirstMisplaced};
 ghost use Rattle.checkpoints.specs.Passing.{covered, top_with, starts_at, paths_in, lower_of, lowest_with, IsLowest, IsPlace};
 ghost use Rattle.checkpoints.specs.Lefts.{numbered};

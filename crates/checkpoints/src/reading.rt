@@ -2,14 +2,10 @@
 ghost use Rattle.std.specs.Prelude.{◌≡◌, ◌⊎◌, ◌+◌, ◌<◌, All, length, map, slice_index, IfOk, IfErr, IfSome, OnOk, true};
 ghost use Rattle.std.specs.List.{flat_map};
 ghost use Rattle.std.specs.List.Sorted.{IsStrictlySortedBy};
-ghost use Rattle.path_text.specs.Order.{path_cmp};
-ghost use Rattle.outside.specs.Count.{RoseBy};
-ghost use Rattle.entry_pages.specs.Entries.{is_shaped};
-ghost use Rattle.flat_list.specs.Spelling.{paths};
+ghost use Rattle.run_report.specs.Prelude.{path_cmp, RoseBy, is_shaped, paths, side_of};
 ghost use Rattle.circle_lists.specs.Spelling.{IsRank};
 ghost use Rattle.circle_lists.specs.Checkpoint as ranks;
 ghost use Rattle.circle_lists.specs.Checkpoint.{AllFit, HoldLists};
-ghost use Rattle.run_report.specs.Sides.{side_of};
 ghost use Rattle.checkpoints.specs.Placing.{ArePlaced};
 ghost use Rattle.checkpoints.specs.Kept.{IsCheckpoint};
 ghost use Rattle.checkpoints.specs.Stopping.{TellsMisplaced, StopsReading};

@@ -1,14 +1,8 @@
 //! A checkpoint, written.
 ghost use Rattle.std.specs.Prelude.{◌≡◌, ◌≤◌, ◌⊎◌, All, length, map, IfErr, IfSome, OnErr, OnOk, is_some, true, false};
 ghost use Rattle.std.specs.List.Sorted.{IsStrictlySortedBy};
-ghost use Rattle.path_text.specs.Order.{path_cmp};
-ghost use Rattle.outside.specs.Count.{RoseBy};
-ghost use Rattle.outside.specs.Tree.{is_root};
-ghost use Rattle.outside.specs.Writes.{nothing_lent, SameBut};
-ghost use Rattle.entry_pages.specs.Entries.{is_shaped};
-ghost use Rattle.flat_list.specs.Spelling.{paths};
+ghost use Rattle.run_report.specs.Prelude.{path_cmp, RoseBy, is_root, nothing_lent, SameBut, is_shaped, paths, side_of};
 ghost use Rattle.circle_lists.specs.Checkpoint.{AllFit};
-ghost use Rattle.run_report.specs.Sides.{side_of};
 ghost use Rattle.run_entries.specs.Saving.{SameButAll};
 ghost use Rattle.checkpoints.specs.Kept.{list_path, checkpoint_paths, IsKept, HoldsNewest};
 ghost use Rattle.checkpoints.specs.Stopping.{IsCleared, IsGone, IsTorn, StopsWriting};

@@ -1,13 +1,8 @@
 //! The work of dcmp.
 ghost use Rattle.std.specs.Prelude.{◌≡◌, [], All, IfOk, IfErr, true};
 ghost use Rattle.std.specs.List.Sorted.{IsStrictlySortedBy};
-ghost use Rattle.path_text.specs.Order.{path_cmp};
-ghost use Rattle.outside.specs.Count.{RoseBy};
-ghost use Rattle.outside.specs.Writes.{nothing_lent};
-ghost use Rattle.entry_pages.specs.Entries.{is_shaped};
-ghost use Rattle.flat_list.specs.Spelling.{paths};
+ghost use Rattle.run_report.specs.Prelude.{path_cmp, RoseBy, nothing_lent, is_shaped, paths, side_of};
 ghost use Rattle.tool_words.specs.Limits.{WithinCompare};
-ghost use Rattle.run_report.specs.Sides.{side_of};
 ghost use Rattle.compare_report.specs.Comparing.{compare_asked, ReportsCompare, StopsCompare, LeavesCompare};
 ghost use Rattle.compare_report.specs.PrivateSteps.{IsPrepared};
 

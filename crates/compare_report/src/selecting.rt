@@ -1,9 +1,7 @@
 //! The lists that are saved of a comparison.
 ghost use Rattle.std.specs.Prelude.{◌≡◌, ◌++◌, ◌∷◌, [], not, if◌then◌else◌, map, All, OnOk, IfOk, true};
 ghost use Rattle.std.specs.List.Sorted.{IsStrictlySortedBy};
-ghost use Rattle.path_text.specs.Order.{path_cmp};
-ghost use Rattle.entry_pages.specs.Entries.{is_shaped};
-ghost use Rattle.flat_list.specs.Spelling.{paths};
+ghost use Rattle.run_report.specs.Prelude.{path_cmp, is_shaped, paths};
 ghost use Rattle.tree_cmp.specs.Expressions.{only_dest};
 ghost use Rattle.tree_cmp.specs.Sides.{side, IsSide};
 ghost use Rattle.compare_report.specs.Outputs.{is_given, given_paths, IsSelected, AreOutputs};

@@ -1,12 +1,9 @@
 //! The copy of the entries of the walk, and its texts.
 ghost use Rattle.std.specs.Prelude.{◌≡◌, ◌≤◌, IfOk, IfSome, is_some};
 ghost use Rattle.std.specs.List.{count_by};
-ghost use Rattle.outside.specs.Count.{RoseBy};
-ghost use Rattle.outside.specs.Writes.{nothing_lent};
+ghost use Rattle.run_report.specs.Prelude.{RoseBy, nothing_lent, CommonWithin, side_of};
 ghost use Rattle.level_work.specs.Counts.{is_done};
 ghost use Rattle.tree_copy.specs.Copying.{CanCopy, FitsTree, SameButTargets, bytes_copied};
-ghost use Rattle.tool_words.specs.Limits.{CommonWithin};
-ghost use Rattle.run_report.specs.Sides.{side_of};
 ghost use Rattle.copy_report.specs.Copying.{Copies};
 ghost use Rattle.copy_report.specs.PrivateSteps.{TellsCopies};
 

@@ -1,11 +1,8 @@
 //! The walk of the sources.
 ghost use Rattle.std.specs.Prelude.{◌≡◌, ◌≤◌, length, IfOk, IfErr, IfSome};
-ghost use Rattle.outside.specs.Count.{RoseBy};
-ghost use Rattle.flat_list.specs.Spelling.{max_entries};
+ghost use Rattle.run_report.specs.Prelude.{RoseBy, max_entries, CommonWithin, side_of};
 ghost use Rattle.tree_copy.specs.Copying.{CanCopy, FitsTree};
 ghost use Rattle.tool_words.specs.Asked.{roots};
-ghost use Rattle.tool_words.specs.Limits.{CommonWithin};
-ghost use Rattle.run_report.specs.Sides.{side_of};
 ghost use Rattle.run_entries.specs.Entries.{Walked};
 ghost use Rattle.run_entries.specs.Stopping.{StopsListing};
 ghost use Rattle.copy_report.specs.PrivateSteps.{ArePlaced};

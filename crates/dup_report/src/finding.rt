@@ -1,14 +1,10 @@
 //! The walk, and the groups of the files that it lists.
 ghost use Rattle.std.specs.Prelude.{◌≡◌, ◌≤◌, length, IfOk, IfErr, IfSome};
 ghost use Rattle.std.specs.List.Sorted.{IsStrictlySortedBy};
-ghost use Rattle.path_text.specs.Order.{path_cmp};
-ghost use Rattle.outside.specs.Count.{RoseBy};
-ghost use Rattle.flat_list.specs.Spelling.{paths, max_entries};
+ghost use Rattle.run_report.specs.Prelude.{path_cmp, RoseBy, paths, max_entries, CommonWithin, side_of};
 ghost use Rattle.tree_cmp.specs.Readers.{StatsTold};
 ghost use Rattle.tree_dup.specs.Grouping.{IsGrouping};
 ghost use Rattle.tool_words.specs.Asked.{roots};
-ghost use Rattle.tool_words.specs.Limits.{CommonWithin};
-ghost use Rattle.run_report.specs.Sides.{side_of};
 ghost use Rattle.run_entries.specs.Entries.{Walked};
 ghost use Rattle.run_entries.specs.Stopping.{StopsListing};
 

@@ -1,8 +1,7 @@
 //! The work of ddup.
 ghost use Rattle.std.specs.Prelude.{◌≡◌, IfOk, IfErr};
-ghost use Rattle.outside.specs.Count.{RoseBy};
+ghost use Rattle.run_report.specs.Prelude.{RoseBy, side_of};
 ghost use Rattle.tool_words.specs.Limits.{WithinDup};
-ghost use Rattle.run_report.specs.Sides.{side_of};
 ghost use Rattle.dup_report.specs.Grouping.{dup_asked, ReportsDup, StopsDup, LeavesDup};
 
 use crate::finding::{group_listed, walk_listed};

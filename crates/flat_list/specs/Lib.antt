@@ -1,3 +1,4 @@
 pub mod Orders
 pub mod Spelling
+pub mod Prelude
 pub mod Private

@@ -1,7 +1,6 @@
 //! The act on each item.
 ghost use Rattle.std.specs.Prelude.{◌≡◌, ◌≢◌, ◌⊎◌, ℕ, List, IsTrue, IfOk, IfSome, is_some};
-ghost use Rattle.outside.specs.Count.{RoseBy};
-ghost use Rattle.outside.specs.Writes.{is_top, is_open};
+ghost use Rattle.flat_list.specs.Prelude.{RoseBy, is_open, is_top};
 
 use crate::items::Fate;
 use flat_list::Entry;

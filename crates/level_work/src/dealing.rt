@@ -1,7 +1,6 @@
 //! The places of the items by level, and how those of a level are dealt.
 ghost use Rattle.std.specs.Prelude.{◌≡◌, ◌<◌, ◌++◌, ◌∷◌, ℕ, [], Vec, true, false, length, map, IfOk, OnOk, Some, slice_get};
-ghost use Rattle.path_text.specs.Path.{level_of, refusal};
-ghost use Rattle.outside.specs.Tree.{is_root};
+ghost use Rattle.flat_list.specs.Prelude.{refusal, level_of, is_root};
 ghost use Rattle.level_work.specs.Levels.{AreItems, FailsWith};
 ghost use Rattle.level_work.specs.Chain.{AllBelow};
 ghost use Rattle.level_work.specs.Private.Crews.{AreShares, SameSeats};

@@ -1,8 +1,7 @@
 //! The paths of items that did not come to `Done`.
 ghost use Rattle.std.specs.Prelude.{◌≡◌, ◌||◌, ℕ, List, [], false, nat_eq, IfOk, OnOk};
 ghost use Rattle.std.specs.Cmp.Lexicographic.{pointwise};
-ghost use Rattle.path_text.specs.Path.{parent_of, refusal};
-ghost use Rattle.outside.specs.Tree.{is_root};
+ghost use Rattle.flat_list.specs.Prelude.{refusal, parent_of, is_root};
 ghost use Rattle.level_work.specs.Private.Dealing.{has_path};
 
 use path_text::{OutOfMemory, Path};

@@ -1,9 +1,8 @@
 //! Shares leased, and given back.
 ghost use Rattle.std.specs.Prelude.{◌≡◌, ◌<◌, ◌≤◌, ◌+◌, ◌^◌, ◌-◌, ℕ, [], length, map, false, None, Some, OnOk, IfOk, IfSome, IsTrue, is_some, slice_get};
 ghost use Rattle.std.specs.List.{sum_by};
-ghost use Rattle.outside.specs.Count.{capped};
+ghost use Rattle.flat_list.specs.Prelude.{capped, nothing_lent, all_but};
 ghost use Rattle.outside.specs.Lease.{Joins, area_with, is_out, tops_of};
-ghost use Rattle.outside.specs.Writes.{all_but, nothing_lent};
 ghost use Rattle.level_work.specs.Levels.{AreItems};
 ghost use Rattle.level_work.specs.Private.Steps.{CanStep};
 ghost use Rattle.level_work.specs.Private.Lots.{IsAt, part_tree, part_area, part_count};

@@ -1,7 +1,6 @@
 //! Shares of a level, and the work on them.
 ghost use Rattle.std.specs.Prelude.{◌≡◌, ◌≢◌, ◌⊎◌, ◌+◌, ◌<◌, ℕ, false, length, Some, OnOk, OnErr, IfOk, IfSome, IsTrue, is_some, slice_get, slice_index_or};
-ghost use Rattle.outside.specs.Count.{RoseBy};
-ghost use Rattle.outside.specs.Writes.{is_top, is_open};
+ghost use Rattle.flat_list.specs.Prelude.{RoseBy, is_open, is_top};
 ghost use Rattle.level_work.specs.Private.Coming.{IsWorked, OneCame};
 ghost use Rattle.level_work.specs.Private.Lots.{part_tree, part_area, part_count, IsAt, Ready, Stepped, Stopped};
 

@@ -1,9 +1,6 @@
 //! The work of dwalk and dfind.
 ghost use Rattle.std.specs.Prelude.{◌≡◌, [], IfOk, IfErr};
-ghost use Rattle.outside.specs.Count.{RoseBy};
-ghost use Rattle.outside.specs.Writes.{nothing_lent};
-ghost use Rattle.tool_words.specs.Limits.{CommonWithin};
-ghost use Rattle.run_report.specs.Sides.{side_of};
+ghost use Rattle.run_report.specs.Prelude.{RoseBy, nothing_lent, CommonWithin, side_of};
 ghost use Rattle.list_report.specs.Lists.{list_asked, ReportsList, StopsList, LeavesList};
 
 use crate::printing::list_report;

@@ -1,7 +1,6 @@
 //! The texts of the entries found.
 ghost use Rattle.std.specs.Prelude.{◌≡◌, ◌++◌, List, length, IfOk};
-ghost use Rattle.entry_pages.specs.declared.entries.Entry.{Entry};
-ghost use Rattle.entry_pages.specs.Entries.{summary_of};
+ghost use Rattle.run_report.specs.Prelude.{Entry, summary_of};
 ghost use Rattle.tool_text.specs.Lines.{lines_of};
 ghost use Rattle.run_entries.specs.Entries.{InOrder, notes_text};
 ghost use Rattle.list_report.specs.Lists.{summary_text};

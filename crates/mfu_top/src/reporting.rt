@@ -1,10 +1,8 @@
 //! The work of each tool, up to the texts, a line a tool.
 ghost use Rattle.std.specs.Prelude.{◌≡◌, [], IfOk, IfErr, true};
-ghost use Rattle.outside.specs.Count.{RoseBy};
-ghost use Rattle.outside.specs.Writes.{nothing_lent};
+ghost use Rattle.run_report.specs.Prelude.{RoseBy, nothing_lent, side_of};
 ghost use Rattle.tool_words.specs.Asked.{asked_by};
 ghost use Rattle.tool_words.specs.Limits.{Within};
-ghost use Rattle.run_report.specs.Sides.{side_of};
 ghost use Rattle.mfu_top.specs.Run.{Reports, Stops, Leaves, is_apart};
 
 use crate::walks::{report_of_walk, walk_task};

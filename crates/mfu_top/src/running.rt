@@ -1,7 +1,7 @@
 //! The run.
 ghost use Rattle.std.specs.Prelude.{◌≡◌, ◌⊎◌, ◌<◌, [], ℕ, map, string_bytes, Ok, Err, IfOk, IfErr, IfSome, IsErr, true};
-ghost use Rattle.outside.specs.Count.{RoseBy, StoodStill};
-ghost use Rattle.outside.specs.Writes.{nothing_lent};
+ghost use Rattle.run_report.specs.Prelude.{RoseBy, nothing_lent, side_of};
+ghost use Rattle.outside.specs.Count.{StoodStill};
 ghost use Rattle.tool_words.specs.Asked.{asked_by};
 ghost use Rattle.tool_words.specs.Refusals.{refusal_in};
 ghost use Rattle.tool_words.specs.Words.{reading};
@@ -10,7 +10,7 @@ ghost use Rattle.run_report.specs.declared.reports.Report.{Report};
 ghost use Rattle.run_report.specs.declared.stops.Stop.{Stop};
 ghost use Rattle.run_report.specs.Ends.{Grew, GrewBySome, GrewByLine, Printed};
 ghost use Rattle.run_report.specs.Lines.{memory_line, refusal_line};
-ghost use Rattle.run_report.specs.Sides.{side_of, stream_of};
+ghost use Rattle.run_report.specs.Sides.{stream_of};
 ghost use Rattle.run_report.specs.Statuses.{has_reason};
 ghost use Rattle.run_report.specs.Stops.{status_of, stop_line};
 ghost use Rattle.mfu_top.specs.Run.{Reports, Stops, Leaves, is_apart, Fine, EndedWell};

@@ -1,11 +1,8 @@
 //! Copies one large file by ranges.
 ghost use Rattle.std.specs.Prelude.{◌≡◌, ◌⊎◌, ◌+◌, ◌-◌, ◌^◌, ◌<◌, ◌≤◌, true, false, length, min, IfOk, IfSome, IsTrue, is_some};
 ghost use Rattle.std.specs.FinMap.{get};
-ghost use Rattle.path_text.specs.Path.{parent_of};
-ghost use Rattle.outside.specs.Count.{RoseBy};
+ghost use Rattle.flat_list.specs.Prelude.{parent_of, RoseBy, content, is_dir, is_root, nothing_lent, SameBut};
 ghost use Rattle.outside.specs.Spans.{are_cuts};
-ghost use Rattle.outside.specs.Tree.{content, is_dir, is_root};
-ghost use Rattle.outside.specs.Writes.{SameBut, nothing_lent};
 ghost use Rattle.tree_copy.specs.Causes.{ShowsSpans};
 ghost use Rattle.range_copy.specs.Large.{IsLeft, IsSource};
 ghost use Rattle.range_copy.specs.PrivateLarge.{fate_of};

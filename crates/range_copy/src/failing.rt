@@ -2,10 +2,7 @@
 ghost use Rattle.std.specs.Prelude.{◌≡◌, ◌||◌, ◌∷◌, ◌++◌, ℕ, List, [], None, true, false, All, IfOk, IfSome, OnOk, nat_eq};
 ghost use Rattle.std.specs.List.{list_any};
 ghost use Rattle.std.specs.Cmp.Lexicographic.{pointwise};
-ghost use Rattle.path_text.specs.Graft.{below_of, grafted};
-ghost use Rattle.path_text.specs.Order.{is_within};
-ghost use Rattle.path_text.specs.Path.{parent_of, refusal};
-ghost use Rattle.outside.specs.Tree.{is_root};
+ghost use Rattle.flat_list.specs.Prelude.{refusal, parent_of, is_within, grafted, below_of, is_root};
 ghost use Rattle.level_work.specs.declared.items.Fate.{Fate};
 ghost use Rattle.level_work.specs.Counts.{is_done};
 ghost use Rattle.range_copy.specs.PrivateLarge.{AreFailed, fitting, fitting_target, has_path};

@@ -1,8 +1,7 @@
 //! Fills a span with the bytes of its range.
 ghost use Rattle.std.specs.Prelude.{◌≡◌, ◌⊎◌, ◌+◌, ◌^◌, ◌≤◌, ◌<◌, length, IfSome, is_some};
 ghost use Rattle.std.specs.FinMap.{get};
-ghost use Rattle.outside.specs.Count.{RoseBy};
-ghost use Rattle.outside.specs.Tree.{content};
+ghost use Rattle.flat_list.specs.Prelude.{RoseBy, content};
 ghost use Rattle.tree_copy.specs.Causes.{IsReadTo};
 ghost use Rattle.range_copy.specs.PrivateFilling.{HasCounted, HasWorked, IsRange, IsReady, IsShort};
 ghost use Rattle.range_copy.specs.PrivateReading.{FilledBy};

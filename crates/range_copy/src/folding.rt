@@ -1,10 +1,7 @@
 //! The large files of a list, copied one after the other.
 ghost use Rattle.std.specs.Prelude.{◌≡◌, ◌+◌, ◌++◌, ◌∷◌, ◌<◌, ◌≤◌, ℕ, List, [], true, false, length, if◌then◌else◌, IfOk, IfSome, OnOk, is_some};
 ghost use Rattle.std.specs.List.{AllByRecursion, count_by, list_any};
-ghost use Rattle.path_text.specs.Order.{is_within};
-ghost use Rattle.outside.specs.Count.{RoseBy};
-ghost use Rattle.outside.specs.Tree.{is_root};
-ghost use Rattle.outside.specs.Writes.{SameBut, nothing_lent};
+ghost use Rattle.flat_list.specs.Prelude.{is_within, RoseBy, is_root, nothing_lent, SameBut};
 ghost use Rattle.entry_pages.specs.Entries.{size_by};
 ghost use Rattle.level_work.specs.Counts.{is_failed, is_done};
 ghost use Rattle.level_work.specs.declared.items.Fate.{Fate};

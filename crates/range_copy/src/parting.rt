@@ -1,7 +1,6 @@
 //! The parts of a list: the large files, and all other entries.
 ghost use Rattle.std.specs.Prelude.{◌≡◌, ◌++◌, ◌∷◌, ℕ, List, true, false, None, All, IfOk, IfSome, OnOk};
-ghost use Rattle.path_text.specs.Path.{refusal};
-ghost use Rattle.entry_pages.specs.declared.entries.Entry.{Entry};
+ghost use Rattle.flat_list.specs.Prelude.{refusal, Entry};
 ghost use Rattle.range_copy.specs.PrivateParts.{ArePartsOf, exceeds, held_of, is_large, is_over, large_of, marks_of, small_of};
 
 use crate::cutting::RangeError;

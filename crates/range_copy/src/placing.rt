@@ -1,10 +1,7 @@
 //! Makes an empty file at a target, in place of none or of a file.
 ghost use Rattle.std.specs.Prelude.{◌≡◌, true, IfOk, IfSome, IsTrue, is_some};
 ghost use Rattle.std.specs.FinMap.{get};
-ghost use Rattle.path_text.specs.Path.{parent_of};
-ghost use Rattle.outside.specs.Count.{RoseBy};
-ghost use Rattle.outside.specs.Tree.{is_dir, is_file};
-ghost use Rattle.outside.specs.Writes.{is_open};
+ghost use Rattle.flat_list.specs.Prelude.{parent_of, RoseBy, is_file, is_dir, is_open};
 ghost use Rattle.tree_copy.specs.Causes.{LookMeans};
 ghost use Rattle.range_copy.specs.PrivateLarge.{fate_of};
 ghost use Rattle.range_copy.specs.PrivatePlacing.{Leaves, LooksLike, MadeAs, PlacedAs, ReplacedAs, freed, refused_as};

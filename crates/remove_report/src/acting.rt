@@ -1,13 +1,9 @@
 //! The removal, and its texts.
 ghost use Rattle.std.specs.Prelude.{◌≡◌, ◌≤◌, [], true, IfOk, IfSome, is_some};
-ghost use Rattle.outside.specs.Count.{RoseBy};
-ghost use Rattle.outside.specs.Writes.{nothing_lent};
-ghost use Rattle.flat_list.specs.Spelling.{paths};
+ghost use Rattle.run_report.specs.Prelude.{RoseBy, nothing_lent, paths, CommonWithin, side_of};
 ghost use Rattle.std.specs.List.{count_by};
 ghost use Rattle.level_work.specs.Counts.{is_done};
 ghost use Rattle.tree_remove.specs.Removing.{AreChosen, AreThere, SameButChosen};
-ghost use Rattle.tool_words.specs.Limits.{CommonWithin};
-ghost use Rattle.run_report.specs.Sides.{side_of};
 ghost use Rattle.remove_report.specs.Choosing.{Acts};
 ghost use Rattle.remove_report.specs.PrivateActs.{TellsRemovals};
 

@@ -1,10 +1,9 @@
 //! The choice of entries to remove.
 ghost use Rattle.std.specs.Prelude.{◌≡◌, All, IfOk, IfErr, IfSome, Some};
-ghost use Rattle.outside.specs.Count.{RoseBy};
+ghost use Rattle.run_report.specs.Prelude.{RoseBy, CommonWithin, side_of};
 ghost use Rattle.tool_words.specs.Asked.{roots, choice_in};
-ghost use Rattle.tool_words.specs.Limits.{CommonWithin, Lower};
+ghost use Rattle.tool_words.specs.Limits.{Lower};
 ghost use Rattle.tree_remove.specs.Removing.{AreChosen, AreThere};
-ghost use Rattle.run_report.specs.Sides.{side_of};
 ghost use Rattle.run_entries.specs.Entries.{Finds};
 ghost use Rattle.run_entries.specs.Stopping.{StopsFinding};
 

@@ -1,9 +1,7 @@
 //! The work of drm.
 ghost use Rattle.std.specs.Prelude.{◌≡◌, IfOk, IfErr};
-ghost use Rattle.outside.specs.Count.{RoseBy};
-ghost use Rattle.outside.specs.Writes.{nothing_lent};
+ghost use Rattle.run_report.specs.Prelude.{RoseBy, nothing_lent, side_of};
 ghost use Rattle.tool_words.specs.Limits.{WithinRemove};
-ghost use Rattle.run_report.specs.Sides.{side_of};
 ghost use Rattle.remove_report.specs.Removing.{remove_asked, ReportsRemove, StopsRemove, LeavesRemove};
 
 use crate::acting::remove_and_tell;

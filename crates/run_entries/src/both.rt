@@ -1,14 +1,9 @@
 //! The walks of a source and of a destination, each by itself.
 ghost use Rattle.std.specs.Prelude.{◌≡◌, ◌≤◌, ◌∷◌, [], All, length, IfOk, IfErr, IfSome, None, true};
-ghost use Rattle.path_text.specs.Path.{refusal};
-ghost use Rattle.outside.specs.Count.{RoseBy};
-ghost use Rattle.entry_pages.specs.Entries.{is_shaped};
-ghost use Rattle.flat_list.specs.Spelling.{max_entries};
+ghost use Rattle.run_report.specs.Prelude.{refusal, RoseBy, is_shaped, max_entries, CommonWithin, side_of};
 ghost use Rattle.tree_cmp.specs.Readers.{StatsTold};
 ghost use Rattle.tree_cmp.specs.Sides.{side, IsSide};
 ghost use Rattle.tool_words.specs.Asked.{roots};
-ghost use Rattle.tool_words.specs.Limits.{CommonWithin};
-ghost use Rattle.run_report.specs.Sides.{side_of};
 ghost use Rattle.run_entries.specs.Both.{AreSides, StopsEitherWalk, WalksBoth};
 ghost use Rattle.run_entries.specs.Entries.{Walked};
 ghost use Rattle.run_entries.specs.Stopping.{StopsListing};

@@ -2,14 +2,9 @@
 ghost use Rattle.std.specs.Prelude.{◌≡◌, ◌≤◌, All, length, IfOk, IfErr, IfSome, IsErrOf, true, false};
 ghost use Rattle.std.specs.FinMap.{get};
 ghost use Rattle.std.specs.List.Sorted.{IsStrictlySortedBy};
-ghost use Rattle.path_text.specs.Order.{path_cmp};
-ghost use Rattle.outside.specs.Count.{RoseBy};
-ghost use Rattle.outside.specs.Tree.{is_file};
+ghost use Rattle.run_report.specs.Prelude.{path_cmp, RoseBy, is_file, is_shaped, paths, max_entries, side_of};
 ghost use Rattle.outside.specs.Whole.{HoldsFile};
-ghost use Rattle.entry_pages.specs.Entries.{is_shaped};
-ghost use Rattle.flat_list.specs.Spelling.{paths, max_entries};
 ghost use Rattle.tool_words.specs.Asked.{input};
-ghost use Rattle.run_report.specs.Sides.{side_of};
 ghost use Rattle.run_entries.specs.Entries.{IsRead};
 ghost use Rattle.run_entries.specs.Stopping.{StopsListing};
 

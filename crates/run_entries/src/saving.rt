@@ -2,12 +2,7 @@
 ghost use Rattle.std.specs.Prelude.{◌≡◌, [], map, All, OnOk, IfErr, IfSome, is_some, true};
 ghost use Rattle.std.specs.Option.{option_to_list};
 ghost use Rattle.std.specs.List.Sorted.{IsStrictlySortedBy};
-ghost use Rattle.path_text.specs.Order.{path_cmp};
-ghost use Rattle.outside.specs.Count.{RoseBy};
-ghost use Rattle.outside.specs.Writes.{nothing_lent, SameBut};
-ghost use Rattle.entry_pages.specs.Entries.{is_shaped};
-ghost use Rattle.flat_list.specs.Spelling.{paths};
-ghost use Rattle.run_report.specs.Sides.{side_of};
+ghost use Rattle.run_report.specs.Prelude.{path_cmp, RoseBy, nothing_lent, SameBut, is_shaped, paths, side_of};
 ghost use Rattle.run_entries.specs.Saving.{SavedAt, Saved, output_of, SameButOutputs};
 ghost use Rattle.run_entries.specs.Stopping.{StopsAt, StopsSaving};
 

@@ -3,3 +3,4 @@ pub mod Lines
 pub mod Sides
 pub mod Statuses
 pub mod Stops
+pub mod Prelude

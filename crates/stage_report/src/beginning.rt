@@ -1,10 +1,9 @@
 //! Where a stage begins.
 ghost use Rattle.std.specs.Prelude.{◌≡◌, ◌⊎◌, map, IfOk, IfErr, None};
 ghost use Rattle.std.specs.Option.{option_map};
-ghost use Rattle.outside.specs.Count.{RoseBy};
+ghost use Rattle.run_report.specs.Prelude.{RoseBy, side_of};
 ghost use Rattle.tree_walk.specs.Roots.{Apart};
 ghost use Rattle.checkpoints.specs.Stopping.{StopsReading};
-ghost use Rattle.run_report.specs.Sides.{side_of};
 ghost use Rattle.stage_report.specs.Stages.{Begins, all_of};
 ghost use Rattle.stage_report.specs.Private.{IsBeside, IsWritable};
 

@@ -1,14 +1,9 @@
 //! The checkpoint that a stage leaves.
 ghost use Rattle.std.specs.Prelude.{◌≡◌, ◌≤◌, [], All, length, map, IfOk, IfErr, OnOk, IfSome, is_some, true};
 ghost use Rattle.std.specs.List.Sorted.{IsStrictlySortedBy};
-ghost use Rattle.path_text.specs.Order.{path_cmp};
-ghost use Rattle.outside.specs.Count.{RoseBy};
-ghost use Rattle.outside.specs.Writes.{nothing_lent};
-ghost use Rattle.entry_pages.specs.Entries.{is_shaped};
-ghost use Rattle.flat_list.specs.Spelling.{paths};
+ghost use Rattle.run_report.specs.Prelude.{path_cmp, RoseBy, nothing_lent, is_shaped, paths, side_of};
 ghost use Rattle.checkpoints.specs.Kept.{IsKept, checkpoint_paths};
 ghost use Rattle.checkpoints.specs.Stopping.{StopsWriting};
-ghost use Rattle.run_report.specs.Sides.{side_of};
 ghost use Rattle.run_entries.specs.Saving.{SameButAll};
 ghost use Rattle.stage_report.specs.Stages.{all_of};
 

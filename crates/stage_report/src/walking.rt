@@ -1,12 +1,9 @@
 //! The walk of a stage.
 ghost use Rattle.std.specs.Prelude.{◌≡◌, ◌≤◌, length, IfOk, IfErr, Some, None};
 ghost use Rattle.std.specs.List.Sorted.{IsStrictlySortedBy};
-ghost use Rattle.path_text.specs.Order.{path_cmp};
-ghost use Rattle.outside.specs.Count.{RoseBy};
-ghost use Rattle.tool_words.specs.Limits.{CommonWithin};
+ghost use Rattle.run_report.specs.Prelude.{path_cmp, RoseBy, max_entries, CommonWithin};
 ghost use Rattle.tree_walk.specs.Roots.{Apart};
 ghost use Rattle.tree_walk.specs.Walk.{paths_of};
-ghost use Rattle.flat_list.specs.Spelling.{max_entries};
 ghost use Rattle.tree_walk.specs.Cut.{found_in};
 ghost use Rattle.stage_report.specs.Private.{list_in, IsBeside, IsStage, IsStageOf, IsWritable, StopsWalk};
 

@@ -1,10 +1,7 @@
 //! The sync.
 ghost use Rattle.std.specs.Prelude.{◌≡◌, IfOk, IfSome, is_some};
-ghost use Rattle.outside.specs.Count.{RoseBy};
-ghost use Rattle.outside.specs.Writes.{nothing_lent};
+ghost use Rattle.run_report.specs.Prelude.{RoseBy, nothing_lent, CommonWithin, side_of};
 ghost use Rattle.tree_sync.specs.Syncing.{SameOutside};
-ghost use Rattle.tool_words.specs.Limits.{CommonWithin};
-ghost use Rattle.run_report.specs.Sides.{side_of};
 ghost use Rattle.sync_report.specs.PrivateSteps.{IsReady, MakesEqual};
 ghost use Rattle.sync_report.specs.Syncing.{Syncs};
 

@@ -1,7 +1,6 @@
 //! The look at the parent of the destination.
 ghost use Rattle.std.specs.Prelude.{◌≡◌, IfErr, OnOk};
-ghost use Rattle.outside.specs.Count.{RoseBy};
-ghost use Rattle.run_report.specs.Sides.{side_of};
+ghost use Rattle.run_report.specs.Prelude.{RoseBy, side_of};
 ghost use Rattle.sync_report.specs.PrivateSteps.{IsPlaced, StopsPlacing};
 
 use outside::Ground;

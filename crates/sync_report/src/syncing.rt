@@ -1,9 +1,7 @@
 //! The work of dsync.
 ghost use Rattle.std.specs.Prelude.{◌≡◌, [], IfOk, IfErr};
-ghost use Rattle.outside.specs.Count.{RoseBy};
-ghost use Rattle.outside.specs.Writes.{nothing_lent};
+ghost use Rattle.run_report.specs.Prelude.{RoseBy, nothing_lent, side_of};
 ghost use Rattle.tool_words.specs.Limits.{WithinSync};
-ghost use Rattle.run_report.specs.Sides.{side_of};
 ghost use Rattle.sync_report.specs.Syncing.{sync_asked, ReportsSync, StopsSync, LeavesSync};
 
 use crate::acting::sync_sides;

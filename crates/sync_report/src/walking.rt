@@ -1,8 +1,6 @@
 //! The walks of both sides.
 ghost use Rattle.std.specs.Prelude.{◌≡◌, IfOk, IfErr};
-ghost use Rattle.outside.specs.Count.{RoseBy};
-ghost use Rattle.tool_words.specs.Limits.{CommonWithin};
-ghost use Rattle.run_report.specs.Sides.{side_of};
+ghost use Rattle.run_report.specs.Prelude.{RoseBy, CommonWithin, side_of};
 ghost use Rattle.run_entries.specs.Both.{WalksBoth, StopsEitherWalk};
 ghost use Rattle.sync_report.specs.PrivateSteps.{IsPlaced, IsReady};
 

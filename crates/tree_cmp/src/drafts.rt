@@ -1,7 +1,6 @@
 //! Rows, as far as they are known before files are read.
 ghost use Rattle.std.specs.Prelude.{◌≡◌, ◌||◌, ◌+◌, ◌<◌, true, is_some, None};
-ghost use Rattle.entry_pages.specs.Entries.{is_kind, is_of};
-ghost use Rattle.path_text.specs.Path.{refusal};
+ghost use Rattle.flat_list.specs.Prelude.{refusal, is_of, is_kind};
 ghost use Rattle.tree_cmp.specs.Rows.{exist_of, two_of, are_files, are_links, kinds, sizes, texts};
 ghost use Rattle.tree_cmp.specs.Private.Items.{item_stat, to_read, content_before, draft_of};
 ghost use Rattle.tree_cmp.specs.Private.Steps.{path_of};

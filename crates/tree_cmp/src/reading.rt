@@ -1,8 +1,7 @@
 //! The bytes of two files, compared piece by piece.
 ghost use Rattle.std.specs.Prelude.{◌≡◌, ℕ, ◌+◌, ◌^◌, ◌<◌, ◌≤◌, true, false, length, OnOk, IfOk, IfErr, IfSome, IsErrOf};
 ghost use Rattle.std.specs.FinMap.{get};
-ghost use Rattle.outside.specs.Count.{RoseBy};
-ghost use Rattle.outside.specs.Tree.{is_file, content};
+ghost use Rattle.flat_list.specs.Prelude.{RoseBy, content, is_file};
 ghost use Rattle.tree_cmp.specs.Readers.{ShowsWhole};
 ghost use Rattle.tree_cmp.specs.Filling.{Fills, IsShort, IsFileOf, ShowsMissing};
 ghost use Rattle.tree_cmp.specs.Private.Reading.{Told, PieceTold, Shows, goes_on, counts};

@@ -1,7 +1,6 @@
 //! Readers share the rows whose files are to be read.
 ghost use Rattle.std.specs.Prelude.{◌≡◌, IfOk};
-ghost use Rattle.path_text.specs.Graft.{grafted};
-ghost use Rattle.outside.specs.Count.{RoseBy};
+ghost use Rattle.flat_list.specs.Prelude.{grafted, RoseBy};
 ghost use Rattle.shared_reads.specs.Desks.{HasRoom};
 ghost use Rattle.tree_cmp.specs.Private.Reading.{Shows, counts};
 ghost use Rattle.tree_cmp.specs.Private.Sharing.{ToldAt};

@@ -1,11 +1,9 @@
 //! Makes a file anew and fills it with the bytes of its source.
 ghost use Rattle.std.specs.Prelude.{◌≡◌, ◌≢◌, ◌⊎◌, ◌≤◌, ◌<◌, [], Some, true, length, IsTrue, IfOk, IfSome, is_some};
 ghost use Rattle.std.specs.FinMap.{get};
-ghost use Rattle.outside.specs.Count.{RoseBy};
-ghost use Rattle.outside.specs.Tree.{is_file};
-ghost use Rattle.outside.specs.Writes.{is_top, is_open, new_file, SameBut};
+ghost use Rattle.flat_list.specs.Prelude.{RoseBy, is_file, is_open, is_top, SameBut, Entry};
+ghost use Rattle.outside.specs.Writes.{new_file};
 ghost use Rattle.outside.specs.Asked as asked;
-ghost use Rattle.entry_pages.specs.declared.entries.Entry.{Entry};
 ghost use Rattle.entry_pages.specs.Entries.{size_by};
 ghost use Rattle.level_work.specs.Acts.{IsDone};
 ghost use Rattle.tree_copy.specs.Causes.{ShowsFate, WasWritten};

@@ -1,10 +1,9 @@
 //! Makes a link anew, with the text of its entry.
 ghost use Rattle.std.specs.Prelude.{◌≡◌, ◌≢◌, ◌⊎◌, Some, true, IsTrue, IfOk, IfSome, is_some};
 ghost use Rattle.std.specs.FinMap.{get};
-ghost use Rattle.outside.specs.Count.{RoseBy};
-ghost use Rattle.outside.specs.Writes.{is_top, is_open, new_link};
+ghost use Rattle.flat_list.specs.Prelude.{RoseBy, is_open, is_top, Entry};
+ghost use Rattle.outside.specs.Writes.{new_link};
 ghost use Rattle.outside.specs.Asked as asked;
-ghost use Rattle.entry_pages.specs.declared.entries.Entry.{Entry};
 ghost use Rattle.level_work.specs.Acts.{IsDone};
 ghost use Rattle.tree_copy.specs.Causes.{ShowsFate};
 ghost use Rattle.tree_copy.specs.PrivateActs.{ByReader, IsPlaced, IsReplaced, ShowsPlaced, ShowsReplaced, ShowsSpared, Spared};

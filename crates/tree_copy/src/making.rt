@@ -2,11 +2,7 @@
 ghost use Rattle.std.specs.Prelude.{◌≡◌, ◌≢◌, ◌⊎◌, if◌then◌else◌, Some, IsTrue, IfOk, IfSome, is_some};
 ghost use Rattle.std.specs.FinMap.{get};
 ghost use Rattle.std.specs.Option.{option_map};
-ghost use Rattle.outside.specs.Count.{RoseBy};
-ghost use Rattle.outside.specs.Tree.{stat_of};
-ghost use Rattle.outside.specs.Writes.{is_top, is_open};
-ghost use Rattle.entry_pages.specs.declared.entries.Entry.{Entry};
-ghost use Rattle.entry_pages.specs.Entries.{is_kind};
+ghost use Rattle.flat_list.specs.Prelude.{RoseBy, stat_of, is_open, is_top, Entry, is_kind};
 ghost use Rattle.tree_copy.specs.Causes.{LookMeans, ShowsFate, refusal_means};
 ghost use Rattle.tree_copy.specs.PrivateActs.{IsDirMade, TellsFate, is_taken, look_fate};
 

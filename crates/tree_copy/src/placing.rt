@@ -3,11 +3,8 @@ ghost use Rattle.std.specs.Prelude.{◌≡◌, ◌≤◌, ◌<◌, ◌||◌, ◌
 ghost use Rattle.std.specs.Prelude.{None, Ok, Err, OnOk, IfNone, IfSome, IfOk, IfErr, IsErrOf, MatchOption};
 ghost use Rattle.std.specs.FinMap.{get};
 ghost use Rattle.std.specs.List.{list_any};
-ghost use Rattle.path_text.specs.Order.{is_within};
-ghost use Rattle.path_text.specs.Path.{parent_of, refusal};
+ghost use Rattle.flat_list.specs.Prelude.{refusal, parent_of, is_within, RoseBy, IsTree, is_dir, is_root};
 ghost use Rattle.outside.specs.Answered.{StatMeans};
-ghost use Rattle.outside.specs.Count.{RoseBy};
-ghost use Rattle.outside.specs.Tree.{IsTree, is_dir, is_root};
 ghost use Rattle.tree_copy.specs.Looking.{IsDue, LookStopped};
 ghost use Rattle.tree_copy.specs.Placing.{IsCounted, IsWhy, PlaceStopped, Placed, asks_over, dir_told};
 ghost use Rattle.tree_copy.specs.Placing.{has_targets, overlap, pairs_in, placed, placed_over, target_in};

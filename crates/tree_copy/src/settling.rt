@@ -3,8 +3,7 @@ ghost use Rattle.std.specs.Prelude.{◌≡◌, ◌+◌, ◌-◌, ◌^◌, ◌<�
 ghost use Rattle.std.specs.Prelude.{length, map, drop, slice_get, true, false, if◌then◌else◌, IfOk, OnOk, is_some};
 ghost use Rattle.std.specs.List.{count_by, zip};
 ghost use Rattle.std.specs.Vec.Iter.{into_iter_items, into_iter_len};
-ghost use Rattle.entry_pages.specs.Entries.{is_of};
-ghost use Rattle.flat_list.specs.Spelling.{paths};
+ghost use Rattle.flat_list.specs.Prelude.{is_of, paths};
 ghost use Rattle.level_work.specs.Counts.{is_done};
 ghost use Rattle.tree_copy.specs.Copying.{treated};
 ghost use Rattle.tree_copy.specs.PrivateSettling.{bytes_of, fates_of, fitting, gain, is_other, settled, settled_by};

@@ -2,9 +2,7 @@
 ghost use Rattle.std.specs.Prelude.{◌≡◌, ◌<◌, ◌++◌, ◌∷◌, [], None, Some, All, length};
 ghost use Rattle.std.specs.Prelude.{map, slice_get, true, false, nat_le, if◌then◌else◌, IfOk, OnOk, IfSome, is_some};
 ghost use Rattle.std.specs.List.{list_any};
-ghost use Rattle.path_text.specs.Graft.{below_of, grafted};
-ghost use Rattle.path_text.specs.Order.{is_within};
-ghost use Rattle.path_text.specs.Path.{refusal};
+ghost use Rattle.flat_list.specs.Prelude.{refusal, is_within, grafted, below_of};
 ghost use Rattle.tree_copy.specs.Copying.{CanCopy, ends_of, target_of, treated};
 ghost use Rattle.tree_copy.specs.Placing.{IsPair, overlap};
 ghost use Rattle.tree_copy.specs.PrivateSettling.{has_room, item_of, items_of};

@@ -1,8 +1,7 @@
 //! The work on all items. The readers are taken back.
 ghost use Rattle.std.specs.Prelude.{◌≡◌, ◌-◌, ◌+◌, ◌^◌, ◌<◌, ◌≤◌, [], All, length, map, min, IfOk, IfSome, OnErr, is_some};
 ghost use Rattle.std.specs.List.{count_by, sum_by};
-ghost use Rattle.outside.specs.Count.{RoseBy};
-ghost use Rattle.outside.specs.Writes.{nothing_lent};
+ghost use Rattle.flat_list.specs.Prelude.{RoseBy, nothing_lent};
 ghost use Rattle.level_work.specs.Acts.{MakesDirs};
 ghost use Rattle.level_work.specs.Counts.{is_failed};
 ghost use Rattle.level_work.specs.Levels.{Acted, AreItems, ParentsFail, SameButItems, StandIn};

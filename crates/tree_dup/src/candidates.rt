@@ -1,7 +1,6 @@
 //! The candidates of a list: files that share their size with another one.
 ghost use Rattle.std.specs.Prelude.{◌≡◌, ℕ, List, Option, ◌+◌, Some, length, map, slice_get, OnOk, IfOk, IfSome};
-ghost use Rattle.outside.specs.Tree.{Files};
-ghost use Rattle.entry_pages.specs.declared.entries.Entry.{Entry};
+ghost use Rattle.flat_list.specs.Prelude.{Files, Entry};
 ghost use Rattle.tree_cmp.specs.Readers.{StatsTold};
 ghost use Rattle.tree_dup.specs.Private.Running.{still};
 ghost use Rattle.tree_dup.specs.Private.Sifting.{AreListed};

@@ -2,10 +2,7 @@
 ghost use Rattle.std.specs.Prelude.{◌≡◌, false, ℕ, List, [], ◌∷◌, ◌+◌, ◌<◌, ◌≤◌, length, map, take, drop};
 ghost use Rattle.std.specs.Prelude.{Option, IfOk, OnOk, IfSome, All, slice_index_or};
 ghost use Rattle.std.specs.List.Sorted.{IsSorted, IsStrictlySortedBy};
-ghost use Rattle.path_text.specs.Order.{path_cmp};
-ghost use Rattle.outside.specs.Count.{RoseBy};
-ghost use Rattle.flat_list.specs.Spelling.{paths};
-ghost use Rattle.entry_pages.specs.declared.entries.Entry.{Entry};
+ghost use Rattle.flat_list.specs.Prelude.{path_cmp, RoseBy, Entry, paths};
 ghost use Rattle.shared_reads.specs.Desks.{HasRoom};
 ghost use Rattle.shared_reads.specs.Kept.{Holds, held, faults_of};
 ghost use Rattle.tree_cmp.specs.Readers.{first_told, Alike, StatsTold, NoneFell, RoseTogether};

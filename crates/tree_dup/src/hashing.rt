@@ -3,9 +3,7 @@ ghost use Rattle.std.specs.Prelude.{◌≡◌, ℕ, List, Result, ◌+◌, ◌^�
 ghost use Rattle.std.specs.Prelude.{length, map, OnOk, IfOk, IfErr, IfSome, IsErrOf, OnErr, All, slice_index_or};
 ghost use Rattle.std.specs.FinMap.{get};
 ghost use Rattle.std.specs.Hash.FoldHasher.{write};
-ghost use Rattle.outside.specs.Count.{RoseBy};
-ghost use Rattle.outside.specs.Tree.{content};
-ghost use Rattle.entry_pages.specs.declared.entries.Entry.{Entry};
+ghost use Rattle.flat_list.specs.Prelude.{RoseBy, content, Entry};
 ghost use Rattle.shared_reads.specs.Kept.{IsKept, Holds, AreCut, held};
 ghost use Rattle.tree_dup.specs.Grouping.{HaveCauses, ShowsWhole};
 ghost use Rattle.tree_cmp.specs.declared.reading.Missing.{Missing};

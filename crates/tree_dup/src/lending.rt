@@ -1,9 +1,7 @@
 //! The grouping of files with readers that they lend.
 ghost use Rattle.std.specs.Prelude.{◌≡◌, ◌≤◌, length, IfOk, IfSome};
 ghost use Rattle.std.specs.List.Sorted.{IsStrictlySortedBy};
-ghost use Rattle.path_text.specs.Order.{path_cmp};
-ghost use Rattle.outside.specs.Count.{RoseBy};
-ghost use Rattle.flat_list.specs.Spelling.{paths};
+ghost use Rattle.flat_list.specs.Prelude.{path_cmp, RoseBy, paths};
 ghost use Rattle.tree_cmp.specs.Readers.{StatsTold};
 ghost use Rattle.tree_dup.specs.Grouping.{IsGrouping, HaveCauses};
 

@@ -1,9 +1,7 @@
 //! The removal of chosen paths.
 ghost use Rattle.std.specs.Prelude.{◌≡◌, ◌≤◌, [], length, map, IfOk, IfSome, is_some};
 ghost use Rattle.std.specs.List.{count_by, zip};
-ghost use Rattle.outside.specs.Count.{RoseBy};
-ghost use Rattle.outside.specs.Writes.{nothing_lent};
-ghost use Rattle.flat_list.specs.Spelling.{paths};
+ghost use Rattle.flat_list.specs.Prelude.{RoseBy, nothing_lent, paths};
 ghost use Rattle.level_work.specs.Counts.{is_failed, is_done};
 ghost use Rattle.tree_remove.specs.Removing.{AreChosen, AreThere, HaveCauses, Removed, SameButChosen};
 

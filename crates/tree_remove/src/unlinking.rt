@@ -1,9 +1,8 @@
 //! The act that removes.
 ghost use Rattle.std.specs.Prelude.{◌≡◌, ◌≢◌, ◌⊎◌, false, IsTrue, IfOk, IfErr, IfSome, Some, Err, IsErrOf, is_some};
 ghost use Rattle.std.specs.FinMap as map;
-ghost use Rattle.outside.specs.Count.{RoseBy};
-ghost use Rattle.outside.specs.Writes.{is_open, Answers, may_empty};
-ghost use Rattle.entry_pages.specs.Entries.{is_of};
+ghost use Rattle.flat_list.specs.Prelude.{RoseBy, is_open, may_empty, is_of};
+ghost use Rattle.outside.specs.Writes.{Answers};
 ghost use Rattle.tree_remove.specs.PrivateDeeds.{removal_refusal, told_fate};
 ghost use Rattle.tree_remove.specs.Removing.{fate_told, removal_of};
 

@@ -1,8 +1,7 @@
 //! Whether a source can be synced to a destination.
 ghost use Rattle.std.specs.Prelude.{◌≡◌, ◌∷◌, [], OnOk, IfErr, IfSome, Some, Ok, true, false};
-ghost use Rattle.path_text.specs.Path.{parent_of};
+ghost use Rattle.flat_list.specs.Prelude.{parent_of, RoseBy};
 ghost use Rattle.outside.specs.Answered.{StatMeans};
-ghost use Rattle.outside.specs.Count.{RoseBy};
 ghost use Rattle.tree_copy.specs.Placing.{dir_told, overlap};
 ghost use Rattle.tree_sync.specs.Placing.{IsLookCounted, IsSyncWhy, SyncPlaceStopped, sync_placed_over};
 

@@ -1,7 +1,6 @@
 //! The plan of a sync, by a comparison of both lists.
 ghost use Rattle.std.specs.Prelude.{◌≡◌, ◌≤◌, length, map, IfOk, IfSome};
-ghost use Rattle.outside.specs.Count.{RoseBy};
-ghost use Rattle.outside.specs.Writes.{nothing_lent};
+ghost use Rattle.flat_list.specs.Prelude.{RoseBy, nothing_lent};
 ghost use Rattle.tree_sync.specs.PrivateSteps.{Begun};
 ghost use Rattle.tree_sync.specs.Syncing.{CanSync, FitsSync, ReadsShow};
 

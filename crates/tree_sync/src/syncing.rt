@@ -1,8 +1,7 @@
 //! The sync.
 ghost use Rattle.std.specs.Prelude.{◌≡◌, ◌+◌, ◌≤◌, length, IfOk, IfSome, is_some};
 ghost use Rattle.std.specs.List.{count_by};
-ghost use Rattle.outside.specs.Count.{RoseBy};
-ghost use Rattle.outside.specs.Writes.{nothing_lent};
+ghost use Rattle.flat_list.specs.Prelude.{RoseBy, nothing_lent};
 ghost use Rattle.level_work.specs.Counts.{is_failed};
 ghost use Rattle.tree_sync.specs.Syncing.{CanSync, FitsSync, ReadsShow, SameOutside, Synced};
 

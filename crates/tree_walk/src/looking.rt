@@ -1,10 +1,9 @@
 //! The calls by which a job asks the files about one path.
 ghost use Rattle.std.specs.Prelude.{◌≡◌, ◌++◌, map, OnOk, IfOk};
-ghost use Rattle.path_text.specs.Path.{joined};
-ghost use Rattle.outside.specs.Count.{RoseBy};
+ghost use Rattle.flat_list.specs.Prelude.{joined, RoseBy, is_kind};
 ghost use Rattle.outside.specs.Tree.{AreNames};
 ghost use Rattle.outside.specs.declared.trees.Kind.TheVariants as kinds;
-ghost use Rattle.entry_pages.specs.Entries.{is_fine, is_kind};
+ghost use Rattle.entry_pages.specs.Entries.{is_fine};
 ghost use Rattle.tree_walk.specs.Answered.{IsAnswered};
 ghost use Rattle.tree_walk.specs.Held.{is_listed};
 ghost use Rattle.tree_walk.specs.Walk.{bare};

@@ -3,17 +3,15 @@ ghost use Rattle.std.specs.Prelude.{◌≡◌, ◌≤◌, ◌<◌, ◌-◌, ◌^
 ghost use Rattle.std.specs.Prelude.{All, Any};
 ghost use Rattle.std.specs.List.{flat_map, range_with_len, AllByRecursion};
 ghost use Rattle.std.specs.List.Sorted.{IsPermutation, IsSortedByKey};
-ghost use Rattle.path_text.specs.Order.{path_cmp};
+ghost use Rattle.flat_list.specs.Prelude.{path_cmp, RoseBy, max_entries};
 ghost use denote.Param.Send.{IsSync};
 ghost use Rattle.circle_run.specs.Left.{all_left};
 ghost use Rattle.circle_run.specs.Traced.{share_in};
-ghost use Rattle.outside.specs.Count.{RoseBy};
 ghost use Rattle.tree_walk.specs.Walk.{weight_of};
 ghost use Rattle.tree_walk.specs.Roots.{Apart};
 ghost use Rattle.tree_walk.specs.Answered.{IsAnswered};
 ghost use Rattle.tree_walk.specs.Held.{Holds, entries_of};
 ghost use Rattle.tree_walk.specs.Traced.{IsTracedWalk, WasWalked, IsProgressTo};
-ghost use Rattle.flat_list.specs.Spelling.{max_entries};
 ghost use Rattle.tree_walk.specs.Found.{IsFound, IfTooMany};
 ghost use Rattle.tree_walk.specs.Cut.{IsCutFound, IsTooMany, IfCut, found_in};
 
