@@ -3,7 +3,7 @@ ghost use Rattle.std.specs.Prelude.{◌≡◌, ◌≢◌, ◌-◌, ◌^◌, ◌�
 ghost use Rattle.circle_run.specs.Choices.{has_done_all, is_halt};
 ghost use Rattle.circle_run.specs.Moves.{IsHalted};
 ghost use Rattle.circle_run.specs.Ranks.{Knows, ServesNone};
-ghost use Rattle.circle_run.specs.Private.Steps.{Came, Halts, Ends, WoundUp, halts_by};
+ghost use Rattle.circle_run.specs.Private.Steps.{AtWork, Came, Halts, Ends, WoundUp, halts_by};
 ghost use Rattle.circle_run.specs.Turns.{Waits};
 ghost use Rattle.circle_run.specs.declared.steps.Did.TheVariants.{Handled as DidHandle, Waited as DidWait, Stopped as DidStop};
 
@@ -28,11 +28,7 @@ impl<J: Job, S, T> RankState<J, S, T> {
     /// Refuses all that ask. Then it looks for the answer to its open request, or stops if it has none. A rank that reads of no halt
     /// tells all to halt first.
     pub(crate) fn wind_up<P: Post<Seat = S>>(&mut self, post: &mut P, first: bool) -> Did
-        requires seat { P.seats post.old self.old.seat }
-        requires knows { Knows P.shows self.old }
-        requires none { ServesNone P.shows self.old }
-        requires live { self.old.ended ≡ false }
-        requires going { self.old.stopped ≡ false }
+        requires ready { AtWork P.shows P.seats self.old post.old }
         requires due { first ≡ true → self.old.book.lost ≡ false → self.old.options.stop_after ≡ Some (length (J.log self.old.job)) }
         requires halted { first ≡ false → IsHalted (P.tells post.old) × ((P.shows self.old.seat).knows_halt ≡ true) }
         ensures came { Came J.log J.plain P.shows P.tells P.seats
@@ -76,11 +72,7 @@ impl<J: Job, S, T> RankState<J, S, T> {
 
     /// Looks for the answer to its open request, or stops if it has none.
     fn close<P: Post<Seat = S>>(&mut self, post: &mut P) -> Did
-        requires seat { P.seats post.old self.old.seat }
-        requires knows { Knows P.shows self.old }
-        requires none { ServesNone P.shows self.old }
-        requires live { self.old.ended ≡ false }
-        requires going { self.old.stopped ≡ false }
+        requires ready { AtWork P.shows P.seats self.old post.old }
         requires halted { self.old.book.lost ≡ false → IsHalted (P.tells post.old) }
         ensures came { Came J.log J.plain P.shows P.tells P.seats (Ends result self.old.me self.old.asked) self.old post.old self.new post.new }
         ensures job { self.new.job ≡ self.old.job }

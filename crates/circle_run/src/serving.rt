@@ -3,9 +3,8 @@ ghost use Rattle.std.specs.Prelude.{◌≡◌, ◌≢◌, ◌<◌, ◌≤◌, �
 ghost use Rattle.ring_core.specs.declared.states.Colour.TheVariants.{Black};
 ghost use Rattle.post_board.specs.Shown.{is_served};
 ghost use Rattle.circle_run.specs.Moves.{AreAskers, NobodyAsks, IsHalted};
-ghost use Rattle.circle_run.specs.Ranks.{Knows, ServesNone};
-ghost use Rattle.circle_run.specs.Private.Steps.{Came};
-ghost use Rattle.circle_run.specs.Private.Steps.{Served};
+ghost use Rattle.circle_run.specs.Ranks.{Knows};
+ghost use Rattle.circle_run.specs.Private.Steps.{AtWork, Came, Served};
 ghost use Rattle.circle_run.specs.Private.Services.{Taken, Awaits, Answered};
 
 use crate::books::Book;
@@ -19,11 +18,7 @@ use ring_core::{Colour, Event};
 impl<J: Job, S, T> RankState<J, S, T> {
     /// Takes up all requests and answers each of them: it gives, or refuses all. Says whether there was one.
     pub(crate) fn serve<P: Post<Seat = S>>(&mut self, post: &mut P, gives: bool) -> bool
-        requires seat { P.seats post.old self.old.seat }
-        requires knows { Knows P.shows self.old }
-        requires none { ServesNone P.shows self.old }
-        requires live { self.old.ended ≡ false }
-        requires going { self.old.stopped ≡ false }
+        requires ready { AtWork P.shows P.seats self.old post.old }
         requires refuses { gives ≡ false → (self.old.options.stop_after ≢ None) × IsHalted (P.tells post.old) }
         ensures came { Came J.log J.plain P.shows P.tells P.seats (Served gives result) self.old post.old self.new post.new }
         ensures unasked { NobodyAsks self.old.me (P.tells post.new) }
@@ -49,11 +44,7 @@ impl<J: Job, S, T> RankState<J, S, T> {
 
     /// Takes up requests until there is none more.
     fn take_up<P: Post<Seat = S>>(&mut self, post: &mut P, asks: &mut [u32; 64]) -> usize
-        requires seat { P.seats post.old self.old.seat }
-        requires knows { Knows P.shows self.old }
-        requires none { ServesNone P.shows self.old }
-        requires live { self.old.ended ≡ false }
-        requires going { self.old.stopped ≡ false }
+        requires { AtWork P.shows P.seats self.old post.old }
         ensures taken { Taken J.log P.shows P.tells P.seats self.old post.old self.new post.new asks.new result }
         ensures awaits { Awaits (P.shows self.new.seat) (P.tells post.new) }
         ensures askers { AreAskers self.old.me (P.tells post.new) (take result asks.new) }

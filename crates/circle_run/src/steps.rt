@@ -4,8 +4,7 @@ ghost use Rattle.post_board.specs.Shown.{is_here};
 ghost use Rattle.post_board.specs.declared.answers.Ring.TheVariants.{Over as HeardOver, Elsewhere as HeardElsewhere, Halted as HeardHalted};
 ghost use Rattle.circle_run.specs.Choices.{to_handle, to_look, to_move, to_ask, choice, standing, IsRing, held_of, held_after, heard_after};
 ghost use Rattle.circle_run.specs.Moves.{MayHandle, NobodyAsks, IsHalted};
-ghost use Rattle.circle_run.specs.Ranks.{Knows, ServesNone};
-ghost use Rattle.circle_run.specs.Private.Steps.{Came, HandledNewest};
+ghost use Rattle.circle_run.specs.Private.Steps.{AtWork, Came, HandledNewest};
 ghost use Rattle.circle_run.specs.Turns.{Waits};
 ghost use Rattle.circle_run.specs.Private.Steps.{Heard};
 ghost use Rattle.circle_run.specs.Private.Steps.{Follows};
@@ -33,11 +32,7 @@ pub(crate) enum Did {
 impl<J: Job, S, T> RankState<J, S, T> {
     /// Reads the ring.
     pub(crate) fn hear<P: Post<Seat = S>>(&mut self, post: &mut P) -> Ring
-        requires seat { P.seats post.old self.old.seat }
-        requires knows { Knows P.shows self.old }
-        requires none { ServesNone P.shows self.old }
-        requires live { self.old.ended ≡ false }
-        requires going { self.old.stopped ≡ false }
+        requires { AtWork P.shows P.seats self.old post.old }
         ensures came { Came J.log J.plain P.shows P.tells P.seats (Heard result) self.old post.old self.new post.new }
         ensures over { result ≡ HeardOver → self.new.ended ≡ true }
         ensures more { result ≢ HeardOver → self.new.ended ≡ false }
@@ -87,11 +82,7 @@ impl<J: Job, S, T> RankState<J, S, T> {
 
     /// Looks for the answer to the open request, and queues the strings that came.
     pub(crate) fn look<P: Post<Seat = S>>(&mut self, post: &mut P, victim: u32) -> Did
-        requires seat { P.seats post.old self.old.seat }
-        requires knows { Knows P.shows self.old }
-        requires none { ServesNone P.shows self.old }
-        requires live { self.old.ended ≡ false }
-        requires going { self.old.stopped ≡ false }
+        requires ready { AtWork P.shows P.seats self.old post.old }
         requires empty { self.old.queue ≡ [] }
         requires open { self.old.asked ≡ Some victim }
         ensures came { Came J.log J.plain P.shows P.tells P.seats (Follows result self.old.me (to_look victim)) self.old post.old self.new post.new }
@@ -132,11 +123,7 @@ impl<J: Job, S, T> RankState<J, S, T> {
 
     /// Passes the token on, sends it round once more, or ends the run.
     fn move_token<P: Post<Seat = S>>(&mut self, post: &mut P, held: Colour)
-        requires seat { P.seats post.old self.old.seat }
-        requires knows { Knows P.shows self.old }
-        requires none { ServesNone P.shows self.old }
-        requires live { self.old.ended ≡ false }
-        requires going { self.old.stopped ≡ false }
+        requires ready { AtWork P.shows P.seats self.old post.old }
         requires empty { self.old.queue ≡ [] }
         requires rest { self.old.asked ≡ None }
         requires here { (P.shows self.old.seat).here ≡ Some held }
@@ -172,11 +159,7 @@ impl<J: Job, S, T> RankState<J, S, T> {
 
     /// Asks another rank for strings.
     fn ask_next<P: Post<Seat = S>>(&mut self, post: &mut P)
-        requires seat { P.seats post.old self.old.seat }
-        requires knows { Knows P.shows self.old }
-        requires none { ServesNone P.shows self.old }
-        requires live { self.old.ended ≡ false }
-        requires going { self.old.stopped ≡ false }
+        requires ready { AtWork P.shows P.seats self.old post.old }
         requires empty { self.old.queue ≡ [] }
         requires rest { self.old.asked ≡ None }
         requires many { 1 < self.old.options.ranks }
@@ -196,11 +179,7 @@ impl<J: Job, S, T> RankState<J, S, T> {
 
     /// Does the first that applies: handles a string, looks for an answer, moves the token, asks.
     pub(crate) fn go_on<P: Post<Seat = S>>(&mut self, post: &mut P, ring: Ring) -> Did
-        requires seat { P.seats post.old self.old.seat }
-        requires knows { Knows P.shows self.old }
-        requires none { ServesNone P.shows self.old }
-        requires live { self.old.ended ≡ false }
-        requires going { self.old.stopped ≡ false }
+        requires ready { AtWork P.shows P.seats self.old post.old }
         requires unasked { NobodyAsks self.old.me (P.tells post.old) }
         requires may { self.old.book.lost ≡ false → MayHandle self.old.options (length (J.log self.old.job)) }
         requires over { ring ≢ HeardOver }

@@ -3,9 +3,7 @@ ghost use Rattle.std.specs.Prelude.{◌≡◌, ◌≢◌, ℕ, ◌+◌, ◌++◌
 ghost use Rattle.sum_tree.specs.Shown.{IsLeaf, refreshed};
 ghost use Rattle.sum_tree.specs.Told.{Finishes};
 ghost use Rattle.circle_run.specs.Progress.{newest};
-ghost use Rattle.circle_run.specs.Ranks.{Knows, ServesNone};
-ghost use Rattle.circle_run.specs.Private.Steps.{Came};
-ghost use Rattle.circle_run.specs.Private.Steps.{Works};
+ghost use Rattle.circle_run.specs.Private.Steps.{AtWork, Came, Works};
 ghost use Rattle.circle_run.specs.Turns.{Waits, AddsUp};
 ghost use Rattle.circle_run.specs.Private.Steps.{with_service, turn_of, tallied};
 ghost use Rattle.circle_run.specs.Ready.{IsNew, Bounded, Ready, SumsReady, Turned};
@@ -147,11 +145,7 @@ impl<J: Job, S, T> RankState<J, S, T> {
 
     /// The part of a turn at the board, before the rank is done.
     fn work<P: Post<Seat = S>>(&mut self, post: &mut P) -> Did
-        requires seat { P.seats post.old self.old.seat }
-        requires knows { Knows P.shows self.old }
-        requires none { ServesNone P.shows self.old }
-        requires live { self.old.ended ≡ false }
-        requires going { self.old.stopped ≡ false }
+        requires ready { AtWork P.shows P.seats self.old post.old }
         requires bounded { self.old.book.lost ≡ false → Bounded J.log P.shows self.old }
         ensures came { Came J.log J.plain P.shows P.tells P.seats
             (Works J.heard P.shows P.tells result self.old post.old self.new) self.old post.old self.new post.new }

@@ -90,6 +90,15 @@ pub record WoundUp (done : Did) (o : Options) (me : ℕ) (first : Bool) (asked :
   pub refuses : o.stop_after ≢ None → All (λ a. a.1 ≡ []) answers
   pub closes : Closes me asked next
 
+module _ {J S T P : Type 0} (shows : S → Shown) (seats : P → S → Type 0) where
+  -- a rank that goes on at its board: it knows what its seat shows, serves nobody, and has neither seen the end nor stopped
+  pub record AtWork (r : Rank J S T) (p : P) : Type 0 where
+    pub seat : seats p r.seat
+    pub knows : Knows shows r
+    pub none : ServesNone shows r
+    pub live : r.ended ≡ false
+    pub going : r.stopped ≡ false
+
 module _ {J S T P : Type 0} (heard : J → Option (List ℕ)) (shows : S → Shown) (tells : P → Option Told) where
   -- the actions at the board in a turn before the end
   pub record Works (done : Did) (r : Rank J S T) (p : P) (r' : Rank J S T) (moves : List Move) : Type 0 where

@@ -13,7 +13,7 @@ returns-clause-came g c =
     let call = c.ask.ensures in
     let victim = c.victim-victim.result in
     came_idle g.J.Job.log g.J.Job.plain g.P.Post.shows g.P.Post.tells g.P.Post.seats (Follows DidAct c.args.self.now.me to_ask) _ _ _ _ (ask victim)
-    (record { before = c.requires.knows; none = c.requires.none; knows = search rules; same = refl })
+    (record { before = c.requires.ready.knows; none = c.requires.ready.none; knows = search rules; same = refl })
     (record { mine = call.mine; others = call.others; still = call.still; serves = ap (λ (s : Shown). s.serves) call.shown })
     (record { acts = (did (ask victim), inl (ask victim, refl), refl); chosen = (victim, refl) }) c.note.ensures (record {
       idle = tt;

@@ -19,7 +19,7 @@ returns-clause-came g c =
     let call = c.stop.ensures in
     came_noted g.J.Job.log g.J.Job.plain g.P.Post.shows g.P.Post.tells g.P.Post.seats
     (Ends DidStop c.args.self.now.me c.args.self.now.asked) _ _ _ _ stop
-    (record { before = c.requires.knows; none = c.requires.none; knows = search rules; same = refl })
+    (record { before = c.requires.ready.knows; none = c.requires.ready.none; knows = search rules; same = refl })
     (record { mine = call.mine; others = call.others; still = call.still; serves = ap (λ (s : Shown). s.serves) call.shown })
     (record { acts = refl; closes = subst (λ (v : _). Closes c.args.self.now.me v (noted stop ∷ [])) (sym c.in_default.is) refl })
     (record {

@@ -16,7 +16,7 @@ returns-then-rank-gt0-clause-came g c =
     let seat = g.P.Post.shows c.args.self.now.seat in
     came_idle g.J.Job.log g.J.Job.plain g.P.Post.shows g.P.Post.tells g.P.Post.seats
     (Follows DidAct c.args.self.now.me (to_move c.args.held)) _ _ _ _ (pass c.darker-colour.result)
-    (record { before = c.requires.knows; none = c.requires.none; knows = search rules; same = refl })
+    (record { before = c.requires.ready.knows; none = c.requires.ready.none; knows = search rules; same = refl })
     (record { mine = c.pass.ensures.mine; others = c.pass.ensures.others; still = c.pass.ensures.still; serves = ap (λ (s : Shown). s.serves) shown })
     (follows_moved c.args.self.now.me c.args.self.now.colour c.args.held c.darker-colour.result (pass c.darker-colour.result) c.darker-colour.ensures
     (moved_above c.args.self.now.me c.darker-colour.result (omega (arith, c.if-rank-gt0.true)))) c.note.ensures (record {
@@ -27,7 +27,7 @@ returns-then-rank-gt0-clause-came g c =
       batches = ap (λ (s : Shown). s.batches) shown;
       told = tells_as seat.number seat.number (pass (mixed seat)) (pass c.darker-colour.result) (g.P.Post.tells c.args.post.now)
           (g.P.Post.tells c.pass.new.self) refl (ap (λ (x : Colour). pass x)
-          (mixed_is seat c.args.self.now.colour c.args.held c.requires.knows.colour c.requires.here ∙ sym c.darker-colour.ensures)) c.pass.ensures.told;
+          (mixed_is seat c.args.self.now.colour c.args.held c.requires.ready.knows.colour c.requires.here ∙ sym c.darker-colour.ensures)) c.pass.ensures.told;
     })
 
 pub returns-in-Black-clause-came : goal.returns-in-Black-clause-came
@@ -35,7 +35,7 @@ returns-in-Black-clause-came g c =
     let call = c.restart.ensures in
     came_idle g.J.Job.log g.J.Job.plain g.P.Post.shows g.P.Post.tells g.P.Post.seats
     (Follows DidAct c.args.self.now.me (to_move c.args.held)) _ _ _ _ restart
-    (record { before = c.requires.knows; none = c.requires.none; knows = search rules; same = refl })
+    (record { before = c.requires.ready.knows; none = c.requires.ready.none; knows = search rules; same = refl })
     (record { mine = call.mine; others = call.others; still = call.still; serves = ap (λ (s : Shown). s.serves) call.shown })
     (follows_moved c.args.self.now.me c.args.self.now.colour c.args.held c.darker-colour.result restart c.darker-colour.ensures
     (moved_black c.args.self.now.me c.darker-colour.result (omega (arith, c.if-rank-gt0.false)) c.in-Black.is)) c.note-in-Black.ensures
@@ -53,7 +53,7 @@ returns-in-White-clause-came g c =
     let call = c.conclude.ensures in
     came_idle g.J.Job.log g.J.Job.plain g.P.Post.shows g.P.Post.tells g.P.Post.seats
     (Follows DidAct c.args.self.now.me (to_move c.args.held)) _ _ _ _ conclude
-    (record { before = c.requires.knows; none = c.requires.none; knows = search rules; same = refl })
+    (record { before = c.requires.ready.knows; none = c.requires.ready.none; knows = search rules; same = refl })
     (record { mine = call.mine; others = call.others; still = call.still; serves = ap (λ (s : Shown). s.serves) call.shown })
     (follows_moved c.args.self.now.me c.args.self.now.colour c.args.held c.darker-colour.result conclude c.darker-colour.ensures
     (moved_white c.args.self.now.me c.darker-colour.result (omega (arith, c.if-rank-gt0.false)) c.in-White.is)) c.note-in-White.ensures
