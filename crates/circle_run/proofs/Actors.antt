@@ -1,7 +1,7 @@
 -- Whose the events of moves are, and by which of them no string is handled.
 use Rattle.std.proofs.Common.{◌≡◌, ℕ, ◌≢◌, ◌⊎◌, inl, inr, refl, sym, ◌∙◌, false, List, [], ◌∷◌, ◌++◌, map, ne_eqb}
 use Rattle.ring_core.specs.declared.events.Event.{Event}
-use Rattle.ring_core.specs.declared.events.Event.TheVariants.{Handle, Ask, Give, Refuse, Take, TakeNone, Pass, Restart, Conclude, SeeOver}
+use Rattle.ring_core.specs.declared.events.Event.TheVariants.{Handle}
 use Rattle.post_board.specs.Shown.{Strings}
 use Rattle.post_board.specs.Deeds.{Deed, ask, give, refuse, take, take_none, pass, restart, conclude, see_over, event_of, withdraw, halt, stop}
 use Rattle.circle_run.specs.Moves.{Move, handled, served, did, noted, answer_of, events_of}
@@ -47,15 +47,7 @@ turn_by r (m ∷ turn) = By-append r (events_of r m) (events_of_all (moves_in r 
 -- an event of another rank is no string that r handles
 pub other_handles : (r : ℕ) (event : Event) → actor event ≢ r → handles r event ≡ false
 other_handles r (Handle rank path kids) ne = ne_eqb rank r ne
-other_handles r (Ask rank victim) ne = refl
-other_handles r (Give rank to count) ne = refl
-other_handles r (Refuse rank to) ne = refl
-other_handles r (Take rank from count) ne = refl
-other_handles r (TakeNone rank from) ne = refl
-other_handles r (Pass rank colour) ne = refl
-other_handles r (Restart rank) ne = refl
-other_handles r (Conclude rank) ne = refl
-other_handles r (SeeOver rank) ne = refl
+other_handles r _ ne = refl
 
 pub comes_later : (s r a : ℕ) (xs ys : List Event) → By a xs → a ≢ r → ComesBefore s r ys → ComesBefore s r (xs ++ ys)
 comes_later s r a [] ys by ne comes = comes

@@ -26,15 +26,11 @@ IsIdle see_over = Unit {0}
 
 idle_deed : (n : ℕ) (d : Deed) (q q' : Strings) (b : Option Batches) → IsIdle d → q ≡ [] → q' ≡ []
     → Queues d q q' × NamesRank n d × (b ≡ batches_after d b)
-idle_deed n (ask victim) q q' b idle e e' = ((e, e'), tt, refl)
 idle_deed n (give to batch) q q' b idle e e' = absurd idle
 idle_deed n (refuse to) q q' b idle e e' = absurd idle
 idle_deed n (take from batch) q q' b idle e e' = absurd idle
 idle_deed n (take_none from) q q' b idle e e' = absurd idle
-idle_deed n (pass colour) q q' b idle e e' = ((e, e'), tt, refl)
-idle_deed n restart q q' b idle e e' = ((e, e'), tt, refl)
-idle_deed n conclude q q' b idle e e' = ((e, e'), tt, refl)
-idle_deed n see_over q q' b idle e e' = ((e, e'), tt, refl)
+idle_deed n _ q q' b idle e e' = ((e, e'), tt, refl)
 
 module _ {J S T : Type 0} (shows : S → Shown) where
   -- a rank that serves none keeps its job, its number, its options and its seat at the sums, and knows what its seat shows

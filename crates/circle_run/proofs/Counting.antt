@@ -6,10 +6,9 @@ use Rattle.std.specs.List.{flat_map, sum_by}
 use mathlib.Core.Logic.{dite}
 use native.Mathlib.Decide.{ℕ_discrete}
 use Rattle.ring_core.specs.declared.events.Event.{Event}
-use Rattle.ring_core.specs.declared.events.Event.TheVariants.{Handle, Ask, Give, Refuse, Take, TakeNone, Pass, Restart, Conclude, SeeOver}
+use Rattle.ring_core.specs.declared.events.Event.TheVariants.{Handle, Give, Take}
 use Rattle.post_board.specs.Shown.{Strings}
-use Rattle.post_board.specs.Deeds.{Deed, ask, give, refuse, take, take_none, pass, restart, conclude, see_over, event_of}
-use Rattle.post_board.specs.Deeds.{withdraw, halt, stop}
+use Rattle.post_board.specs.Deeds.{Deed, give, take, event_of, withdraw, halt, stop}
 use Rattle.circle_run.specs.Moves.{Move, handled, served, did, noted, Side, answer_of, events_of, Does}
 use Rattle.circle_run.specs.Ranks.{DoesAll}
 use Rattle.circle_run.specs.Stages.{Stage, rank_side, side, Plays, events_of_all}
@@ -55,19 +54,13 @@ one_counted : (e : Event) (a b c : ℕ) → counted_one e (capped a b c) ≡ cap
 one_counted (Handle rank path kids) a b c =
     ap (λ (x : ℕ). record (capped a b c) { handled = x }) (cap_more a 1 (2 ^ 64 - 1))
     ∙ same_share (a + 1) b c (a + 1) (b + 0) (c + 0) refl (plus_none b) (plus_none c)
-one_counted (Ask rank v) a b c = same_share a b c (a + 0) (b + 0) (c + 0) (plus_none a) (plus_none b) (plus_none c)
 one_counted (Give rank to k) a b c =
     ap (λ (x : ℕ). record (capped a b c) { given = x }) (cap_more b k (2 ^ 128 - 1))
     ∙ same_share a (b + k) c (a + 0) (b + k) (c + 0) (plus_none a) refl (plus_none c)
-one_counted (Refuse rank to) a b c = same_share a b c (a + 0) (b + 0) (c + 0) (plus_none a) (plus_none b) (plus_none c)
 one_counted (Take rank from k) a b c =
     ap (λ (x : ℕ). record (capped a b c) { taken = x }) (cap_more c k (2 ^ 128 - 1))
     ∙ same_share a b (c + k) (a + 0) (b + 0) (c + k) (plus_none a) (plus_none b) refl
-one_counted (TakeNone rank from) a b c = same_share a b c (a + 0) (b + 0) (c + 0) (plus_none a) (plus_none b) (plus_none c)
-one_counted (Pass rank colour) a b c = same_share a b c (a + 0) (b + 0) (c + 0) (plus_none a) (plus_none b) (plus_none c)
-one_counted (Restart rank) a b c = same_share a b c (a + 0) (b + 0) (c + 0) (plus_none a) (plus_none b) (plus_none c)
-one_counted (Conclude rank) a b c = same_share a b c (a + 0) (b + 0) (c + 0) (plus_none a) (plus_none b) (plus_none c)
-one_counted (SeeOver rank) a b c = same_share a b c (a + 0) (b + 0) (c + 0) (plus_none a) (plus_none b) (plus_none c)
+one_counted _ a b c = same_share a b c (a + 0) (b + 0) (c + 0) (plus_none a) (plus_none b) (plus_none c)
 
 all_counted : (es : List Event) (a b c : ℕ) → counted es (capped a b c) ≡ capped (a + sum_by handles_one es) (b + sum_by gives_so es) (c + sum_by takes_so es)
 all_counted [] a b c = same_share a b c (a + 0) (b + 0) (c + 0) (plus_none a) (plus_none b) (plus_none c)
@@ -123,75 +116,27 @@ handled_at r e = cond (handles r e) 1 0
 
 handled_own : (r : ℕ) (e : Event) → actor e ≡ r → handled_at r e ≡ handles_one e
 handled_own r (Handle rank path kids) same = ap (λ (b : Bool). cond b 1 0) (eq-eqb rank r same)
-handled_own r (Ask rank v) same = refl
-handled_own r (Give rank to k) same = refl
-handled_own r (Refuse rank to) same = refl
-handled_own r (Take rank from k) same = refl
-handled_own r (TakeNone rank from) same = refl
-handled_own r (Pass rank colour) same = refl
-handled_own r (Restart rank) same = refl
-handled_own r (Conclude rank) same = refl
-handled_own r (SeeOver rank) same = refl
+handled_own r _ same = refl
 
 handled_other : (r : ℕ) (e : Event) → actor e ≢ r → handled_at r e ≡ 0
 handled_other r (Handle rank path kids) ne = ap (λ (b : Bool). cond b 1 0) (ne_eqb rank r ne)
-handled_other r (Ask rank v) ne = refl
-handled_other r (Give rank to k) ne = refl
-handled_other r (Refuse rank to) ne = refl
-handled_other r (Take rank from k) ne = refl
-handled_other r (TakeNone rank from) ne = refl
-handled_other r (Pass rank colour) ne = refl
-handled_other r (Restart rank) ne = refl
-handled_other r (Conclude rank) ne = refl
-handled_other r (SeeOver rank) ne = refl
+handled_other r _ ne = refl
 
 given_own : (r : ℕ) (e : Event) → actor e ≡ r → given_at r e ≡ gives_so e
-given_own r (Handle rank path kids) same = refl
-given_own r (Ask rank v) same = refl
 given_own r (Give rank to k) same = ap (λ (b : Bool). cond b k 0) (eq-eqb rank r same)
-given_own r (Refuse rank to) same = refl
-given_own r (Take rank from k) same = refl
-given_own r (TakeNone rank from) same = refl
-given_own r (Pass rank colour) same = refl
-given_own r (Restart rank) same = refl
-given_own r (Conclude rank) same = refl
-given_own r (SeeOver rank) same = refl
+given_own r _ same = refl
 
 given_other : (r : ℕ) (e : Event) → actor e ≢ r → given_at r e ≡ 0
-given_other r (Handle rank path kids) ne = refl
-given_other r (Ask rank v) ne = refl
 given_other r (Give rank to k) ne = ap (λ (b : Bool). cond b k 0) (ne_eqb rank r ne)
-given_other r (Refuse rank to) ne = refl
-given_other r (Take rank from k) ne = refl
-given_other r (TakeNone rank from) ne = refl
-given_other r (Pass rank colour) ne = refl
-given_other r (Restart rank) ne = refl
-given_other r (Conclude rank) ne = refl
-given_other r (SeeOver rank) ne = refl
+given_other r _ ne = refl
 
 taken_own : (r : ℕ) (e : Event) → actor e ≡ r → taken_at r e ≡ takes_so e
-taken_own r (Handle rank path kids) same = refl
-taken_own r (Ask rank v) same = refl
-taken_own r (Give rank to k) same = refl
-taken_own r (Refuse rank to) same = refl
 taken_own r (Take rank from k) same = ap (λ (b : Bool). cond b k 0) (eq-eqb rank r same)
-taken_own r (TakeNone rank from) same = refl
-taken_own r (Pass rank colour) same = refl
-taken_own r (Restart rank) same = refl
-taken_own r (Conclude rank) same = refl
-taken_own r (SeeOver rank) same = refl
+taken_own r _ same = refl
 
 taken_other : (r : ℕ) (e : Event) → actor e ≢ r → taken_at r e ≡ 0
-taken_other r (Handle rank path kids) ne = refl
-taken_other r (Ask rank v) ne = refl
-taken_other r (Give rank to k) ne = refl
-taken_other r (Refuse rank to) ne = refl
 taken_other r (Take rank from k) ne = ap (λ (b : Bool). cond b k 0) (ne_eqb rank r ne)
-taken_other r (TakeNone rank from) ne = refl
-taken_other r (Pass rank colour) ne = refl
-taken_other r (Restart rank) ne = refl
-taken_other r (Conclude rank) ne = refl
-taken_other r (SeeOver rank) ne = refl
+taken_other r _ ne = refl
 
 -- the share of a rank that began with nothing is what all events tell of it
 pub share_told : (r : ℕ) (moves : List (ℕ × Move)) (s : Share) → s ≡ capped 0 0 0 → counted (events_by r moves) s ≡ share_in (events_of_all moves) r
@@ -243,15 +188,9 @@ answers_tell me (x ∷ answers) =
 deed_tells : (me : ℕ) (d : Deed) → Proper (did d)
     → (sum_by handles_one (event_of me d ∷ []) ≡ 0) × (sum_by gives_so (event_of me d ∷ []) ≡ 0)
     × (sum_by takes_so (event_of me d ∷ []) ≡ length (taken_in (did d)))
-deed_tells me (ask v) proper = (refl, refl, refl)
 deed_tells me (give to b) proper = absurd proper
-deed_tells me (refuse to) proper = (refl, refl, refl)
 deed_tells me (take from b) proper = (refl, refl, (let s = sum_by-cons takes_so (event_of me (take from b)) [] in omega arith))
-deed_tells me (take_none from) proper = (refl, refl, refl)
-deed_tells me (pass c) proper = (refl, refl, refl)
-deed_tells me restart proper = (refl, refl, refl)
-deed_tells me conclude proper = (refl, refl, refl)
-deed_tells me see_over proper = (refl, refl, refl)
+deed_tells me _ proper = (refl, refl, refl)
 
 move_tells : (me : ℕ) (m : Move) → Proper m
     → (sum_by handles_one (events_of me m) ≡ length (handled_in m)) × (sum_by gives_so (events_of me m) ≡ length (given_in m))
@@ -285,15 +224,8 @@ does_proper : (o : Options) (me : ℕ) (m : Move) (s s' : _) → Does o me m s s
 does_proper o me (handled path kids) s s' does = tt
 does_proper o me (served answers) s s' does = tt
 does_proper o me (noted late) s s' does = tt
-does_proper o me (did (ask v)) s s' does = tt
 does_proper o me (did (give to b)) s s' does = does.queue
-does_proper o me (did (refuse to)) s s' does = tt
-does_proper o me (did (take from b)) s s' does = tt
-does_proper o me (did (take_none from)) s s' does = tt
-does_proper o me (did (pass c)) s s' does = tt
-does_proper o me (did restart) s s' does = tt
-does_proper o me (did conclude) s s' does = tt
-does_proper o me (did see_over) s s' does = tt
+does_proper o me (did _) s s' does = tt
 
 proper-append : (xs ys : List Move) → AllProper xs → AllProper ys → AllProper (xs ++ ys)
 proper-append [] ys first next = next

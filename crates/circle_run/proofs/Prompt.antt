@@ -6,7 +6,7 @@ use Rattle.std.specs.List.{range_with_len}
 use Rattle.std.proofs.lemmas.List.FromFn.{length-range_with_len, get_or-range_with_len}
 use Rattle.ring_core.specs.declared.states.RankState.{RankState}
 use Rattle.ring_core.specs.declared.events.Event.{Event}
-use Rattle.ring_core.specs.declared.events.Event.TheVariants.{Handle, Ask, Give, Refuse, Take, TakeNone, Pass, Restart, Conclude, SeeOver}
+use Rattle.ring_core.specs.declared.events.Event.TheVariants.{Handle}
 use Rattle.ring_core.specs.World.{Seen, started}
 use Rattle.ring_core.specs.Step.{after}
 use Rattle.ring_core.specs.Step as step_of_world
@@ -57,15 +57,7 @@ unasked me t s none inside ne =
 
 quiet_event : (w : Seen) (event : Event) → ((r : ℕ) → handles r event ≡ false) → NobodyAsked w event
 quiet_event w (Handle rank path kids) none = (let e : true ≡ false = sym (eq-eqb rank rank refl) ∙ none rank in cc)
-quiet_event w (Ask rank victim) none = tt
-quiet_event w (Give rank to count) none = tt
-quiet_event w (Refuse rank to) none = tt
-quiet_event w (Take rank from count) none = tt
-quiet_event w (TakeNone rank from) none = tt
-quiet_event w (Pass rank colour) none = tt
-quiet_event w (Restart rank) none = tt
-quiet_event w (Conclude rank) none = tt
-quiet_event w (SeeOver rank) none = tt
+quiet_event w _ none = tt
 
 AnswersFirst-append : (xs ys : List Event) (w : Seen) → NoHandle xs → AnswersFirst (after_all w xs) ys → AnswersFirst w (xs ++ ys)
 AnswersFirst-append [] ys w none rest = rest
