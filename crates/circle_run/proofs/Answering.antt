@@ -1,15 +1,19 @@
 -- Answers to requests, one after the other.
-use Rattle.std.proofs.Common.{◌≡◌, ℕ, ◌+◌, ◌<◌, sym, ap, ◌∙◌, arith, Bool, true, false, nat_lt, List, [], ◌++◌, length, length-append, set, length-set, ne_eqb}
+use Rattle.std.proofs.Common.{◌≡◌, ◌≢◌, ℕ, ◌+◌, ◌<◌, sym, ap, ◌∙◌, arith, Bool, true, false, nat_lt, List, [], ◌++◌, length, length-append, set, length-set}
+use Rattle.std.proofs.Common.{ne_eqb, Option, None}
 use Rattle.std.specs.Prelude.{if◌then◌else◌}
 use Rattle.ring_core.specs.declared.states.Colour.{Colour}
 use Rattle.ring_core.specs.declared.states.Colour.TheVariants.{Black}
 use Rattle.ring_core.specs.declared.events.Event.{Event}
 use Rattle.post_board.specs.Shown.{Strings, Shown, with_given}
+use Rattle.post_board.specs.Told.{Told}
 use Rattle.post_board.specs.Deeds.{give, refuse}
 use Rattle.post_board.specs.Calls.{given, served}
+use Rattle.circle_run.specs.Balance.{Log}
 use Rattle.circle_run.specs.Moves.{answer_of}
 use Rattle.circle_run.specs.Books.{counted}
 use Rattle.circle_run.specs.Private.Books.{Writes}
+use Rattle.circle_run.specs.Private.Services.{Awaits, ServesOn}
 use Rattle.circle_run.specs.Ranks.{Knows}
 use Rattle.circle_run.specs.declared.books.Book.{Book}
 use Rattle.circle_run.specs.declared.ranks.Rank.{Rank}
@@ -47,3 +51,40 @@ module _ {J S T : Type 0} (shows : S → Shown) where
       → shows seat ≡ served (shows r.seat) to → queue ≡ r.queue → Knows shows (record r { seat = seat; queue = queue; book = book })
   knows_refused r seat queue book to k shown same =
       knows_served shows r seat queue book (set (shows r.seat).serves to false) k shown (length-set (shows r.seat).serves to false) same
+
+module _ {J S T P : Type 0} (log : J → Log) (shows : S → Shown) (tells : P → Option Told) (seats : P → S → Type 0) where
+  -- the parts that a call leaves as they were: of its seat the token and the words on the halt, of its book the sums
+  pub record Keeps (r : Rank J S T) (p : P) (r' : Rank J S T) (p' : P) : Type 0 where
+    pub mine : seats p' r'.seat
+    pub others : (other : S) → (shows other).number ≢ (shows r.seat).number → seats p other → seats p' other
+    pub still : tells p ≡ None → p' ≡ p
+    pub here : (shows r'.seat).here ≡ (shows r.seat).here
+    pub halted : (shows r'.seat).halted ≡ (shows r.seat).halted
+    pub knows_halt : (shows r'.seat).knows_halt ≡ (shows r.seat).knows_halt
+    pub sums : r'.book.sums ≡ r.book.sums
+    pub lost : r.book.lost ≡ true → r'.book.lost ≡ true
+
+  -- a rank that answered one request serves on: it changed its seat, its queue, its colour and its book
+  pub serves_on : (r : Rank J S T) (p : P) (r' : Rank J S T) (p' : P)
+      → r' ≡ record r { seat = r'.seat; queue = r'.queue; colour = r'.colour; book = r'.book }
+      → Knows shows r → Knows shows r' → Keeps r p r' p' → Awaits (shows r'.seat) (tells p') → ServesOn log shows tells seats r p r' p'
+  serves_on r p r' p' same before knows k awaits = record {
+    knows = knows;
+    mine = k.mine;
+    others = λ other ne s. k.others other (λ e. ne (e ∙ before.number)) s;
+    still = k.still;
+    me = ap (λ (x : Rank J S T). x.me) same;
+    options = ap (λ (x : Rank J S T). x.options) same;
+    sums_seat = ap (λ (x : Rank J S T). x.sums_seat) same;
+    sums = k.sums;
+    job = ap (λ (x : Rank J S T). x.job) same;
+    ended = ap (λ (x : Rank J S T). x.ended) same;
+    stopped = ap (λ (x : Rank J S T). x.stopped) same;
+    asked = ap (λ (x : Rank J S T). x.asked) same;
+    tried = ap (λ (x : Rank J S T). x.tried) same;
+    here = k.here;
+    halted = k.halted;
+    knows_halt = k.knows_halt;
+    lost = k.lost;
+    awaits = awaits;
+  }

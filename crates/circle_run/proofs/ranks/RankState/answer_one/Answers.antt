@@ -7,7 +7,7 @@ use Rattle.circle_run.specs.Private.Books.{Writes}
 use Rattle.circle_run.specs.declared.books.Book.{Book}
 use Rattle.circle_run.proofs.Stepped.{tells_as}
 use Rattle.circle_run.proofs.Asked.{awaits_given, awaits_refused}
-use Rattle.circle_run.proofs.Answering.{answer_gives, writes_after, knows_gave, knows_refused}
+use Rattle.circle_run.proofs.Answering.{answer_gives, writes_after, knows_gave, knows_refused, serves_on}
 use Rattle.circle_run.proofs.ranks.RankState.answer_one.Goals as goal
 
 pub returns-in-Some : goal.returns-in-Some
@@ -18,28 +18,21 @@ returns-in-Some g c =
     let is : answer_of (c.args.to, c.in-Some.batch) ≡ give c.args.to c.in-Some.batch =
     answer_gives c.args.to c.in-Some.batch (let a = amount.0 in let b = amount.1 in omega arith) in
     record {
-      on = record {
-        knows = knows_gave g.P.Post.shows c.args.self.now c.give.new.seat c.portion.new.queue c.shaded-self.result c.note.new.self c.args.to
-            c.in-Some.batch c.requires.knows c.requires.live shown c.shaded-self.ensures c.in-Some.ensures.oldest amount.2;
-        mine = c.give.ensures.mine;
-        others = λ other ne s. c.give.ensures.others other (λ e. ne (e ∙ c.requires.knows.number)) s;
-        still = c.give.ensures.still;
-        me = refl;
-        options = refl;
-        sums_seat = refl;
-        sums = c.note.ensures.sums ∙ ap (λ (b : Book). b.sums) had;
-        job = refl;
-        ended = refl;
-        asked = refl;
-        tried = refl;
-        here = ap (λ (s : Shown). s.here) shown;
-        stopped = refl;
-        halted = ap (λ (s : Shown). s.halted) shown;
-        knows_halt = ap (λ (s : Shown). s.knows_halt) shown;
-        lost = λ l. c.note.ensures.lost (ap (λ (b : Book). b.lost) had ∙ l);
-        awaits = awaits_given (g.P.Post.shows c.args.self.now.seat) (g.P.Post.shows c.give.new.seat) (g.P.Post.tells c.args.post.now)
-            (g.P.Post.tells c.give.new.self) c.args.to c.in-Some.batch shown c.give.ensures.told c.requires.awaits;
-      };
+      on = serves_on g.J.Job.log g.P.Post.shows g.P.Post.tells g.P.Post.seats _ _ _ _ refl c.requires.knows
+          (knows_gave g.P.Post.shows c.args.self.now c.give.new.seat c.portion.new.queue c.shaded-self.result c.note.new.self c.args.to
+          c.in-Some.batch c.requires.knows c.requires.live shown c.shaded-self.ensures c.in-Some.ensures.oldest amount.2)
+          (record {
+            mine = c.give.ensures.mine;
+            others = c.give.ensures.others;
+            still = c.give.ensures.still;
+            here = ap (λ (s : Shown). s.here) shown;
+            halted = ap (λ (s : Shown). s.halted) shown;
+            knows_halt = ap (λ (s : Shown). s.knows_halt) shown;
+            sums = c.note.ensures.sums ∙ ap (λ (b : Book). b.sums) had;
+            lost = λ l. c.note.ensures.lost (ap (λ (b : Book). b.lost) had ∙ l);
+          })
+          (awaits_given (g.P.Post.shows c.args.self.now.seat) (g.P.Post.shows c.give.new.seat) (g.P.Post.tells c.args.post.now)
+          (g.P.Post.tells c.give.new.self) c.args.to c.in-Some.batch shown c.give.ensures.told c.requires.awaits);
       draws = refl;
       serves = ap (λ (s : Shown). s.serves) shown;
       went = λ found fits. record {
@@ -63,28 +56,21 @@ returns-in-None g c =
     let writes = writes_after c.args.self.now.options.trace _ c.args.self.now.book c.portion.new.book c.note-in-None.new.self
     c.in-None.ensures.same c.portion.ensures.lost c.note-in-None.ensures in
     record {
-      on = record {
-        knows = knows_refused g.P.Post.shows c.args.self.now c.refuse.new.seat c.portion.new.queue c.note-in-None.new.self c.args.to
-            c.requires.knows shown c.in-None.ensures.rest;
-        mine = c.refuse.ensures.mine;
-        others = λ other ne s. c.refuse.ensures.others other (λ e. ne (e ∙ c.requires.knows.number)) s;
-        still = c.refuse.ensures.still;
-        me = refl;
-        options = refl;
-        sums_seat = refl;
-        sums = writes.sums;
-        job = refl;
-        ended = refl;
-        asked = refl;
-        tried = refl;
-        here = ap (λ (s : Shown). s.here) shown;
-        stopped = refl;
-        halted = ap (λ (s : Shown). s.halted) shown;
-        knows_halt = ap (λ (s : Shown). s.knows_halt) shown;
-        lost = writes.lost;
-        awaits = awaits_refused (g.P.Post.shows c.args.self.now.seat) (g.P.Post.shows c.refuse.new.seat) (g.P.Post.tells c.args.post.now)
-            (g.P.Post.tells c.refuse.new.self) c.args.to shown c.refuse.ensures.told c.requires.awaits;
-      };
+      on = serves_on g.J.Job.log g.P.Post.shows g.P.Post.tells g.P.Post.seats _ _ _ _ refl c.requires.knows
+          (knows_refused g.P.Post.shows c.args.self.now c.refuse.new.seat c.portion.new.queue c.note-in-None.new.self c.args.to
+          c.requires.knows shown c.in-None.ensures.rest)
+          (record {
+            mine = c.refuse.ensures.mine;
+            others = c.refuse.ensures.others;
+            still = c.refuse.ensures.still;
+            here = ap (λ (s : Shown). s.here) shown;
+            halted = ap (λ (s : Shown). s.halted) shown;
+            knows_halt = ap (λ (s : Shown). s.knows_halt) shown;
+            sums = writes.sums;
+            lost = writes.lost;
+          })
+          (awaits_refused (g.P.Post.shows c.args.self.now.seat) (g.P.Post.shows c.refuse.new.seat) (g.P.Post.tells c.args.post.now)
+          (g.P.Post.tells c.refuse.new.self) c.args.to shown c.refuse.ensures.told c.requires.awaits);
       draws = refl;
       serves = ap (λ (s : Shown). s.serves) shown;
       went = λ found fits. record {
