@@ -65,22 +65,8 @@ pub(crate) fn run_spread<R: Threads + Wait + Sync, J: Job + Send + Drop>(
         return Err(OutOfMemory);
     }
     let parts = Parts::of(alloc, ranks)?;
-    let Parts {
-        jobs,
-        seats,
-        sums_seats,
-        left,
-        shares,
-        numbers,
-    } = parts;
-    gather_all(&board, seats, &tree, sums_seats);
-    Ok(Finished {
-        jobs,
-        left,
-        shares,
-        events: Vec::new(alloc),
-        sums: numbers,
-    })
+    gather_all(&board, parts.seats, &tree, parts.sums_seats);
+    Ok(parts.finished)
 }
 
 // The ranks of a run as they begin.

@@ -6,22 +6,19 @@ ghost use Rattle.circle_run.specs.Private.Outcomes.{AreNew, ArePartsOf};
 
 use crate::books::Book;
 use crate::jobs::Job;
-use crate::outcomes::Share;
+use crate::outcomes::Finished;
 use crate::ranks::Rank;
 use crate::settings::Options;
 use path_text::{OutOfMemory, Path};
 use rank_queue::{Batch, RankQueue};
 use std::alloc::Global;
 
-/// The parts of ranks, in each list by rank.
+/// The parts of ranks: their seats, in each list by rank, and what they leave as the result of the run, without its events.
 #[derive(Drop)]
 pub struct Parts<J, S, T> {
-    pub(crate) jobs: Vec<J>,
     pub(crate) seats: Vec<S>,
     pub(crate) sums_seats: Vec<T>,
-    pub(crate) left: Vec<Vec<Path>>,
-    pub(crate) shares: Vec<Share>,
-    pub(crate) numbers: Vec<u64>,
+    pub(crate) finished: Finished<J>,
 }
 
 /// The starts, dealt in turn to so many queues.
@@ -131,13 +128,17 @@ impl<J: Drop, S: Drop, T: Drop> Parts<J, S, T> {
             shares.push(share)?;
             numbers.append(&mut sums)?;
         }
-        Ok(Parts {
+        let finished = Finished {
             jobs,
-            seats,
-            sums_seats,
             left,
             shares,
-            numbers,
+            events: Vec::new(alloc),
+            sums: numbers,
+        };
+        Ok(Parts {
+            seats,
+            sums_seats,
+            finished,
         })
     }
 }

@@ -113,21 +113,9 @@ fn run_whole<R: Wait, J: Job + Drop, S: Drop, T: Drop, P: Post<Seat = S>, Q: Sum
     let mut events = Vec::new(alloc);
     let ranks = Host::make(ranks).run_traced(rt, post, sums, &mut events)?;
     let parts = Parts::of(alloc, ranks)?;
-    let Parts {
-        jobs,
-        seats,
-        sums_seats,
-        left,
-        shares,
-        numbers,
-    } = parts;
-    post.gather(seats);
-    sums.gather(sums_seats);
-    Ok(Finished {
-        jobs,
-        left,
-        shares,
-        events,
-        sums: numbers,
-    })
+    post.gather(parts.seats);
+    sums.gather(parts.sums_seats);
+    let mut finished = parts.finished;
+    finished.events = events;
+    Ok(finished)
 }

@@ -24,12 +24,13 @@ module _ {J S T : Type 0} where
 
   -- the parts of these ranks, by rank
   pub record ArePartsOf (ranks : List (Rank J S T)) (parts : Parts J S T) : Type 0 where
-    pub jobs : parts.jobs.items ≡ map (λ r. r.job) ranks
     pub seats : parts.seats.items ≡ map (λ r. r.seat) ranks
     pub sums_seats : parts.sums_seats.items ≡ map (λ r. r.sums_seat) ranks
-    pub left : map (λ l. l.items) parts.left.items ≡ map (λ r. r.queue) ranks
-    pub shares : parts.shares.items ≡ map (λ r. r.book.share) ranks
-    pub numbers : parts.numbers.items ≡ flat_map (λ r. r.book.sums.items) ranks
+    pub jobs : parts.finished.jobs.items ≡ map (λ r. r.job) ranks
+    pub left : map (λ l. l.items) parts.finished.left.items ≡ map (λ r. r.queue) ranks
+    pub shares : parts.finished.shares.items ≡ map (λ r. r.book.share) ranks
+    pub events : parts.finished.events.items ≡ []
+    pub numbers : parts.finished.sums.items ≡ flat_map (λ r. r.book.sums.items) ranks
 
 module _ {J D : Type 0} (log : J → Log) (plain : J → D) where
   -- the result of a whole run of these starts and jobs
