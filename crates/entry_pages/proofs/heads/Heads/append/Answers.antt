@@ -5,6 +5,7 @@ use Rattle.entry_pages.specs.Pack.{Head}
 use Rattle.entry_pages.specs.Private.Slim.{odd_count, text_len, heads_of}
 use Rattle.entry_pages.proofs.Appended.{Both, starts_small, all_odds, all_texts, heads_both, slims_put}
 use Rattle.entry_pages.proofs.heads.Heads.append.Goals as goal
+use Rattle.entry_pages.proofs.heads.Heads.append.Goals.{After-put_shifted-2}
 
 pub put_shifted-requires-clause-fits : goal.put_shifted-requires-clause-fits
 put_shifted-requires-clause-fits c =
@@ -26,40 +27,26 @@ put_shifted-requires-2-clause-fits c =
     subst (All (λ (s : ℕ). base + s < 2 ^ 64)) (sym c.deref-5.ensures.value)
     (starts_small text_len heads other.text_starts.items base c.other.invariant.texts_begin small)
 
-pub invariant_of-self-2 : goal.invariant_of-self-2
-invariant_of-self-2 c =
-    let l = c.self.inside in
-    let o = c.other.inside in
-    let both : Both l.slims.items o.slims.items c.extend_reserved.new.items.items l.odds.items o.odds.items c.extend_reserved-2.new.items.items
+-- each part is put behind its part
+both_put : (c : After-put_shifted-2) → let l = c.self.inside in let o = c.other.inside in
+    Both l.slims.items o.slims.items c.extend_reserved.new.items.items l.odds.items o.odds.items c.extend_reserved-2.new.items.items
     l.starts.items o.starts.items c.put_shifted.new.starts.items l.texts.items o.texts.items c.extend_reserved-3.new.items.items
-    l.text_starts.items o.text_starts.items c.put_shifted-2.new.starts.items c.len-base.result c.len-text_base.result = record {
-      slims = c.extend_reserved.ensures ∙ ap₂ ◌++◌ c.reserve.ensures.items c.deref.ensures.value;
-      odds = c.extend_reserved-2.ensures ∙ ap₂ ◌++◌ c.reserve-2.ensures.items c.deref-2.ensures.value;
-      odds_begin =
-          c.put_shifted.ensures ∙ ap₂ (λ (a b : List ℕ). a ++ map (λ s. c.len-base.result + s) b) c.reserve-3.ensures.items c.deref-3.ensures.value;
-      texts = c.extend_reserved-3.ensures ∙ ap₂ ◌++◌ c.reserve-4.ensures.items c.deref-4.ensures.value;
-      texts_begin = c.put_shifted-2.ensures
-          ∙ ap₂ (λ (a b : List ℕ). a ++ map (λ s. c.len-text_base.result + s) b) c.reserve-5.ensures.items c.deref-5.ensures.value;
-      odds_base = c.len-base.ensures ∙ l.odds.ok.0;
-      texts_base = c.len-text_base.ensures ∙ l.texts.ok.0;
-    } in
-    slims_put c.self.invariant c.other.invariant both (ap (λ (hs : List Head). length hs % 256) c.self.view_is ∙ c.requires)
+    l.text_starts.items o.text_starts.items c.put_shifted-2.new.starts.items c.len-base.result c.len-text_base.result
+both_put c = record {
+  slims = c.extend_reserved.ensures ∙ ap₂ ◌++◌ c.reserve.ensures.items c.deref.ensures.value;
+  odds = c.extend_reserved-2.ensures ∙ ap₂ ◌++◌ c.reserve-2.ensures.items c.deref-2.ensures.value;
+  odds_begin = c.put_shifted.ensures ∙ ap₂ (λ (a b : List ℕ). a ++ map (λ s. c.len-base.result + s) b) c.reserve-3.ensures.items c.deref-3.ensures.value;
+  texts = c.extend_reserved-3.ensures ∙ ap₂ ◌++◌ c.reserve-4.ensures.items c.deref-4.ensures.value;
+  texts_begin =
+      c.put_shifted-2.ensures ∙ ap₂ (λ (a b : List ℕ). a ++ map (λ s. c.len-text_base.result + s) b) c.reserve-5.ensures.items c.deref-5.ensures.value;
+  odds_base = c.len-base.ensures ∙ c.self.inside.odds.ok.0;
+  texts_base = c.len-text_base.ensures ∙ c.self.inside.texts.ok.0;
+}
+
+pub invariant_of-self-2 : goal.invariant_of-self-2
+invariant_of-self-2 c = slims_put c.self.invariant c.other.invariant (both_put (goal.at.invariant_of-self-2 c).After-put_shifted-2)
+    (ap (λ (hs : List Head). length hs % 256) c.self.view_is ∙ c.requires)
 
 pub returns-clause-ok : goal.returns-clause-ok
-returns-clause-ok c =
-    let l = c.self.inside in
-    let o = c.other.inside in
-    let both : Both l.slims.items o.slims.items c.extend_reserved.new.items.items l.odds.items o.odds.items c.extend_reserved-2.new.items.items
-    l.starts.items o.starts.items c.put_shifted.new.starts.items l.texts.items o.texts.items c.extend_reserved-3.new.items.items
-    l.text_starts.items o.text_starts.items c.put_shifted-2.new.starts.items c.len-base.result c.len-text_base.result = record {
-      slims = c.extend_reserved.ensures ∙ ap₂ ◌++◌ c.reserve.ensures.items c.deref.ensures.value;
-      odds = c.extend_reserved-2.ensures ∙ ap₂ ◌++◌ c.reserve-2.ensures.items c.deref-2.ensures.value;
-      odds_begin =
-          c.put_shifted.ensures ∙ ap₂ (λ (a b : List ℕ). a ++ map (λ s. c.len-base.result + s) b) c.reserve-3.ensures.items c.deref-3.ensures.value;
-      texts = c.extend_reserved-3.ensures ∙ ap₂ ◌++◌ c.reserve-4.ensures.items c.deref-4.ensures.value;
-      texts_begin = c.put_shifted-2.ensures
-          ∙ ap₂ (λ (a b : List ℕ). a ++ map (λ s. c.len-text_base.result + s) b) c.reserve-5.ensures.items c.deref-5.ensures.value;
-      odds_base = c.len-base.ensures ∙ l.odds.ok.0;
-      texts_base = c.len-text_base.ensures ∙ l.texts.ok.0;
-    } in
-    heads_both c.self.invariant c.other.invariant both ∙ ap₂ ◌++◌ c.self.view_is c.other.view_is
+returns-clause-ok c = heads_both c.self.invariant c.other.invariant (both_put (goal.at.returns-clause-ok c).After-put_shifted-2)
+    ∙ ap₂ ◌++◌ c.self.view_is c.other.view_is
