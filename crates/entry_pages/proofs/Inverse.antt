@@ -4,7 +4,7 @@ use Rattle.std.proofs.Common.{drop, get_or, refl}
 use Rattle.std.proofs.Common.{ap, sym, Result, Ok, Err, ◌∙◌, arith, append_assoc}
 use Rattle.std.specs.Prelude.{nat_eq, ◌==◌, ◌&&◌}
 use Rattle.std.specs.List.{common_prefix_len, list_all, sum_by}
-use Rattle.std.proofs.lemmas.List.{take-append-drop, take-append-le, take_all, length-append, length-drop}
+use Rattle.std.proofs.lemmas.List.{take-append-drop, take-append-le, take_all, length-append, length-drop, drop-drop}
 use Rattle.std.proofs.Math.Seq.{take-append_seam, drop-append_seam}
 use Rattle.std.proofs.lemmas.List.{append-nil}
 use Rattle.std.proofs.lemmas.List.Sums.{common_prefix_len-le, common_prefix_len-drop_yes, common_prefix_len-drop_no, sum_by-cons}
@@ -296,3 +296,12 @@ put_told (Ok u) hs hs' starts bytes bytes' last path e h k p a b =
     let ab : bytes' ≡ bytes ++ rest_by (length hs) last e.path = b ∙ ap (λ (t : List ℕ). bytes ++ t) (rest_is p) in
     rw ah (rw ab (told_more hs starts bytes last (unpacked [] hs bytes) e k p.valid))
 put_told (Err u) hs hs' starts bytes bytes' last path e h k p a b = tt
+
+-- the rests of the entries behind one, from where the bytes of its own rest end
+pub rests_behind : (bytes : List ℕ) (at n k : ℕ) (before last path : List ℕ) (xs : List Entry) → last ≡ path → n ≡ length (rest_by k before path)
+    → rest_by k before path ++ rests_from (k + 1) path xs ≡ drop at bytes → rests_from (k + 1) last xs ≡ drop (at + n) bytes
+rests_behind bytes at n k before last path xs is long rests = ap (λ (p : List ℕ). rests_from (k + 1) p xs) is
+    ∙ sym (drop-append_seam (rest_by k before path) (rests_from (k + 1) path xs))
+    ∙ ap (λ (b : List ℕ). drop (length (rest_by k before path)) b) rests
+    ∙ ap (λ (n : ℕ). drop n (drop at bytes)) (sym long)
+    ∙ drop-drop n at bytes

@@ -7,9 +7,8 @@ use Rattle.std.specs.List.{list_all, All}
 use Rattle.std.proofs.lemmas.Bool.{and_parts}
 use Rattle.std.proofs.lemmas.List.Elements.{All-cons, All-nil}
 use Rattle.std.specs.Ordering.{is_lt}
-use Rattle.std.proofs.lemmas.List.{drop_more, take_more, drop-drop, length-drop, length-append, take-append-drop}
+use Rattle.std.proofs.lemmas.List.{drop_more, take_more, length-drop, length-append, take-append-drop}
 use Rattle.std.proofs.lemmas.List.Folds.{list_all_at}
-use Rattle.std.proofs.Math.Seq.{drop-append_seam}
 use Rattle.std.proofs.lemmas.Option.{slice_get-get_or, slice_get_within, get_or_from_slice_get}
 use Rattle.path_text.specs.Path.{refusal}
 use Rattle.path_text.specs.Order.{path_cmp}
@@ -20,7 +19,7 @@ use Rattle.entry_pages.specs.declared.heads.Head as told
 use Rattle.entry_pages.specs.Private.Slim.{with_text}
 use Rattle.entry_pages.specs.Pack.{rest_by, head_by, heads_from, rests_from, path_by, entry_by, unpacked, RisesAt}
 use Rattle.entry_pages.specs.Private.Kept.{IsKept, IsAt, IsBefore, is_path}
-use Rattle.entry_pages.proofs.Inverse.{path_back, kept_many, shared_front}
+use Rattle.entry_pages.proofs.Inverse.{path_back, kept_many, shared_front, rests_behind}
 
 pub refusal_of : (p : List ℕ) → is_path p ≡ true → refusal p ≡ None
 refusal_of p = elim (refusal p) as (λ r. (is_none r && is_utf8 p) ≡ true → r ≡ None) [ None ↦ λ e. refl | Some x ↦ λ e. cc ]
@@ -117,11 +116,7 @@ step {hs} {bytes} {passed} {at} {held} {entries} h k sg =
         paths = k.paths;
         many = k.many;
         heads = ap (λ (p : List ℕ). heads_from (passed + 1) p xs) path ∙ rest_heads _ _ _ _ heads;
-        rests = ap (λ (p : List ℕ). rests_from (passed + 1) p xs) path
-            ∙ sym (drop-append_seam (rest_by passed held x.path) (rests_from (passed + 1) x.path xs))
-            ∙ ap (λ (b : List ℕ). drop (length (rest_by passed held x.path)) b) rests
-            ∙ ap (λ (n : ℕ). drop n (drop at bytes)) (sym long)
-            ∙ drop-drop h.rest at bytes;
+        rests = rests_behind bytes at h.rest passed held _ x.path xs path long rests;
         within = omega (arith, lt);
         inside = room;
       };

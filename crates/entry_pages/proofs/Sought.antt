@@ -8,16 +8,16 @@ use Rattle.std.specs.Prelude.{◌&&◌, not, nat_lt, Some, None, slice_get}
 use Rattle.std.proofs.lemmas.Option.{slice_get_within, get_or_from_slice_get}
 use Rattle.std.specs.Cmp.Lexicographic.{pointwise}
 use Rattle.std.proofs.Common.{get_or}
-use Rattle.std.proofs.lemmas.List.{drop_more, take_more, drop-drop, length-drop, length-append, drop_all}
+use Rattle.std.proofs.lemmas.List.{drop_more, take_more, length-drop, length-append, drop_all}
 use Rattle.std.proofs.lemmas.List.Sums.{common_prefix_len-le}
-use Rattle.std.proofs.Math.Seq.{drop-append_seam, take-append_seam}
+use Rattle.std.proofs.Math.Seq.{take-append_seam}
 use Rattle.std.proofs.lemmas.Bool.Decides.{nat_tests}
 use Rattle.entry_pages.specs.declared.entries.Entry.{Entry}
 use Rattle.entry_pages.specs.declared.entries.Mark.TheVariants.{Fine}
 use Rattle.entry_pages.specs.Pack.{Head}
 use Rattle.entry_pages.specs.Pack.{shared_by, rest_by, head_by, heads_from, rests_from, last_path, same_after, place_of}
 use Rattle.entry_pages.specs.Private.Kept.{IsSeek, IsKept}
-use Rattle.entry_pages.proofs.Inverse.{same_of_eq, last_more, kept_many, shared_short}
+use Rattle.entry_pages.proofs.Inverse.{same_of_eq, last_more, kept_many, shared_short, rests_behind}
 
 -- two lists from their first elements on
 both_on : (x y : ℕ) (xs ys : List ℕ) → nat_eq x y ≡ true → common_prefix_len nat_eq (x ∷ xs) (y ∷ ys) ≡ 1 + common_prefix_len nat_eq xs ys
@@ -220,11 +220,7 @@ seek_step {hs} {bytes} {wanted} {k} {at} {same} {entries} next n h s sg e taken 
           record {
             many = s.many;
             heads = ap (λ (p : List ℕ). heads_from (k + 1) p xs) last ∙ rest_heads _ _ _ _ heads;
-            rests = ap (λ (p : List ℕ). rests_from (k + 1) p xs) last
-                ∙ sym (drop-append_seam (rest_by k before x.path) (rests_from (k + 1) x.path xs))
-                ∙ ap (λ (b : List ℕ). drop (length (rest_by k before x.path)) b) rests
-                ∙ ap (λ (n : ℕ). drop n (drop at bytes)) (sym long)
-                ∙ drop-drop h.rest at bytes;
+            rests = rests_behind bytes at h.rest k before _ x.path xs last long rests;
             inside = room;
             shared = shares ∙ ap (λ (p : List ℕ). common_prefix_len nat_eq p wanted) (sym last);
             none = omega (arith, s.none, one_here);
