@@ -1,11 +1,12 @@
 -- Where the lines of a text stop to be those of a list file: what holds of all files of whole lines, for entries and their targets.
-use Rattle.std.proofs.Common.{◌≡◌, ℕ, zero, suc, ◌+◌, ◌-◌, ◌<◌, ◌≤◌, ◌^◌, inl, inr, List, [], ◌∷◌, ◌++◌, length, take}
+use Rattle.std.proofs.Common.{◌≡◌, ℕ, suc, ◌+◌, ◌-◌, ◌<◌, ◌≤◌, ◌^◌, inl, inr, List, [], ◌∷◌, ◌++◌, length, take}
 use Rattle.std.proofs.Common.{get_or, Option, Some, None}
 use Rattle.std.proofs.Common.{refl, ap, sym, ◌∙◌, subst, arith, append-nil, length-append, ◌*◌}
 use Rattle.std.specs.List.{AllByRecursion, flat_map}
 use Rattle.std.proofs.Common.{eqb}
 use Rattle.std.proofs.lemmas.Bool.{cases_lt, false≢true}
 use Rattle.std.proofs.lemmas.Grind.{flat_map-append}
+use Rattle.std.proofs.lemmas.List.{take-take}
 use Rattle.path_text.specs.Escape.{ReadingUndoesWriting}
 use Rattle.outside.specs.Links.{LinkReadingUndoesWriting}
 use Rattle.entry_pages.specs.declared.entries.Entry.{Entry}
@@ -80,15 +81,7 @@ pub spelled : (v : Version) (bytes : List ℕ) (es : List Entry) → Stands v by
 spelled v bytes es s = record { list = s.list; known = s.known; text = sym (joined_lines bytes) ∙ ap (flat_map (λ l. l)) s.text }
 
 shorter : (n : ℕ) (xs ys : List (List ℕ)) → take (suc n) xs ≡ take (suc n) ys → take n xs ≡ take n ys
-shorter zero xs ys e = refl
-shorter (suc n) [] [] e = refl
-shorter (suc n) [] (y ∷ ys) e = absurd cc
-shorter (suc n) (x ∷ xs) [] e = absurd cc
-shorter (suc n) (x ∷ xs) (y ∷ ys) e =
-    let parts = cons_parts x y (take (suc n) xs) (take (suc n) ys) e in
-    let rest = shorter n xs ys parts.1 in
-    let head : x ≡ y = parts.0 in
-    cc
+shorter n xs ys e = sym (take-take n (suc n) xs (omega arith)) ∙ ap (take n) e ∙ take-take n (suc n) ys (omega arith)
 
 pub begins_less : (n : ℕ) (bytes : List ℕ) → Begins (suc n) bytes → Begins n bytes
 begins_less n bytes b = record {

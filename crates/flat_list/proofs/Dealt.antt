@@ -101,6 +101,13 @@ abbrev pub with_if : {X : Type 0} → Bool → List X → X → List X
 with_if true xs x = xs ++ x ∷ []
 with_if false xs x = xs
 
+-- what is put ahead or not, and what is put behind or not
+ahead : {X : Type 0} (a b : Bool) (x : X) (xs : List X) (y : X) → cond a (x ∷ with_if b xs y) (with_if b xs y) ≡ with_if b (cond a (x ∷ xs) xs) y
+ahead true true x xs y = refl
+ahead true false x xs y = refl
+ahead false true x xs y = refl
+ahead false false x xs y = refl
+
 places_more : (before level : ℕ) (xs : List Entry) (e : Entry) →
     places_from before level (xs ++ e ∷ []) ≡ with_if (eqb (level_of e.path) level) (places_from before level xs) (before + length xs)
 places_more before level [] e =
@@ -113,12 +120,6 @@ places_more before level (x ∷ xs) e =
     let same : (before + 1) + length xs ≡ before + suc (length xs) = omega arith in
     let ends = eqb (level_of e.path) level in
     rw (rest, same) (ahead (eqb (level_of x.path) level) ends before (places_from (before + 1) level xs) (before + suc (length xs)))
-  where
-    ahead : (a b : Bool) (x : ℕ) (xs : List ℕ) (y : ℕ) → cond a (x ∷ with_if b xs y) (with_if b xs y) ≡ with_if b (cond a (x ∷ xs) xs) y
-    ahead true true x xs y = refl
-    ahead true false x xs y = refl
-    ahead false true x xs y = refl
-    ahead false false x xs y = refl
 
 dealt_more : (before n j : ℕ) (xs : List Entry) (e : Entry) →
     dealt_from before n j (xs ++ e ∷ []) ≡ with_if (eqb ((before + length xs) % n) j) (dealt_from before n j xs) e
@@ -132,12 +133,6 @@ dealt_more before n j (x ∷ xs) e =
     let rest = dealt_more (before + 1) n j xs e in
     let same : (before + 1) + length xs ≡ before + suc (length xs) = omega arith in
     rw (rest, same) (ahead (eqb (before % n) j) (eqb ((before + suc (length xs)) % n) j) x (dealt_from (before + 1) n j xs) e)
-  where
-    ahead : (a b : Bool) (x : Entry) (xs : List Entry) (y : Entry) → cond a (x ∷ with_if b xs y) (with_if b xs y) ≡ with_if b (cond a (x ∷ xs) xs) y
-    ahead true true x xs y = refl
-    ahead true false x xs y = refl
-    ahead false true x xs y = refl
-    ahead false false x xs y = refl
 
 eqb_same : (n : ℕ) → eqb n n ≡ true
 eqb_same n = grind (arith, nat_tests)

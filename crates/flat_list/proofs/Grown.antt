@@ -1,7 +1,7 @@
 -- A turn of the loop that reads a list file.
 use Rattle.std.proofs.Common.{◌≡◌, ◌∙◌, refl, ap, sym, subst, arith, ℕ, ◌+◌, ◌<◌, ◌≤◌, Bool, true, false, cond, List, [], ◌∷◌, length}
-use Rattle.std.proofs.Common.{Option, Some, None, Result, Ok, Err, length-append}
-use Rattle.std.specs.Prelude.{IfSome, IfNone, IfOk, IfErr}
+use Rattle.std.proofs.Common.{Option, Some, None, length-append}
+use Rattle.std.specs.Prelude.{IfSome, IfNone}
 use Rattle.whole_lines.specs.Lines.{lines_of}
 use Rattle.whole_lines.specs.Words.{cut, ◌>>=◌}
 use Rattle.entry_pages.specs.declared.entries.Entry.{Entry}
@@ -12,14 +12,6 @@ use Rattle.flat_list.specs.Private.Reading.{behind_target, line_count, found_at}
 use Rattle.whole_lines.proofs.Words.{cut_takes, pair_is}
 use Rattle.flat_list.proofs.Damage.{Undoes, Stands}
 use Rattle.flat_list.proofs.Decoded.{Reads, goes_on, line_is}
-
-pub if_ok_then : {A E : Type 0} (r : Result A E) (P Q : A → Type 0) → IfOk r P → ((x : A) → P x → Q x) → IfOk r Q
-if_ok_then (Ok x) P Q h f = f x h
-if_ok_then (Err e) P Q h f = tt
-
-pub if_err_then : {A E : Type 0} (r : Result A E) (P Q : E → Type 0) → IfErr r P → ((e : E) → P e → Q e) → IfErr r Q
-if_err_then (Ok x) P Q h f = tt
-if_err_then (Err e) P Q h f = f e h
 
 pub none_holds : {A : Type 0} (o : Option A) (P : Type 0) → o ≡ None → IfNone o P → P
 none_holds None P e h = h

@@ -107,20 +107,21 @@ kind_takes word k e = elim (chosen word _ None k _ e) [
   ]
 ]
 
+-- what holds of each kind, and of none, holds of any
+each_kind : (P : Option Kind → Type 0) → P None → P (Some kind.File) → P (Some kind.Dir) → P (Some kind.Link) → P (Some kind.Other) → (k : Option Kind) → P k
+each_kind P none file dir link other None = none
+each_kind P none file dir link other (Some kind.File) = file
+each_kind P none file dir link other (Some kind.Dir) = dir
+each_kind P none file dir link other (Some kind.Link) = link
+each_kind P none file dir link other (Some kind.Other) = other
+
 kind_again : (k : Option Kind) → kind_from (kind_word k) ≡ Some k
 unfolding kind_from
-kind_again None = refl
-kind_again (Some kind.File) = refl
-kind_again (Some kind.Dir) = refl
-kind_again (Some kind.Link) = refl
-kind_again (Some kind.Other) = refl
+kind_again = each_kind (λ k. kind_from (kind_word k) ≡ Some k) refl refl refl refl refl
 
 kind_free : (c : ℕ) (k : Option Kind) → c < 45 → IsFree c (kind_word k)
-kind_free c None low = (grind (arith, nat_tests), tt)
-kind_free c (Some kind.File) low = (grind (arith, nat_tests), tt)
-kind_free c (Some kind.Dir) low = (grind (arith, nat_tests), tt)
-kind_free c (Some kind.Link) low = (grind (arith, nat_tests), tt)
-kind_free c (Some kind.Other) low = (grind (arith, nat_tests), tt)
+kind_free c k low = each_kind (λ k. IsFree c (kind_word k)) (grind (arith, nat_tests), tt) (grind (arith, nat_tests), tt)
+    (grind (arith, nat_tests), tt) (grind (arith, nat_tests), tt) (grind (arith, nat_tests), tt) k
 
 mark_takes : (word : List ℕ) (m : Mark) → mark_from word ≡ Some m → word ≡ mark_word m
 unfolding mark_from
@@ -403,19 +404,11 @@ first_byte (Some kind.Other) = 111
 
 begins_kind : (k : Option Kind) (rest : List ℕ) → get_or (kind_word k ++ 32 ∷ rest) 0 0 ≡ first_byte k
 unfolding first_byte
-begins_kind None rest = refl
-begins_kind (Some kind.File) rest = refl
-begins_kind (Some kind.Dir) rest = refl
-begins_kind (Some kind.Link) rest = refl
-begins_kind (Some kind.Other) rest = refl
+begins_kind k rest = each_kind (λ k. get_or (kind_word k ++ 32 ∷ rest) 0 0 ≡ first_byte k) refl refl refl refl refl k
 
 no_e : (k : Option Kind) → eqb (first_byte k) 101 ≡ false
 unfolding first_byte
-no_e None = refl
-no_e (Some kind.File) = refl
-no_e (Some kind.Dir) = refl
-no_e (Some kind.Link) = refl
-no_e (Some kind.Other) = refl
+no_e = each_kind (λ k. eqb (first_byte k) 101 ≡ false) refl refl refl refl refl
 
 pub end_apart : (e : Entry) (n : ℕ) → text_of e ≡ end_text n → ⊥
 end_apart e n same =
@@ -452,11 +445,7 @@ text_free e is =
 
 no_mark : (k : Option Kind) → eqb (first_byte k) 62 ≡ false
 unfolding first_byte
-no_mark None = refl
-no_mark (Some kind.File) = refl
-no_mark (Some kind.Dir) = refl
-no_mark (Some kind.Link) = refl
-no_mark (Some kind.Other) = refl
+no_mark = each_kind (λ k. eqb (first_byte k) 62 ≡ false) refl refl refl refl refl
 
 pub target_apart : (e : Entry) (target : List ℕ) → text_of e ≡ target_text target → ⊥
 target_apart e target same =

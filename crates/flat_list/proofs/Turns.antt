@@ -17,6 +17,11 @@ pub record Passes (xs : List Entry) (old new : List Entry × ℕ) (more : Bool) 
   pub passed : new ≡ (old.0, if more then old.1 + 1 else old.1)
   pub at : slice_get new.0 (new.1 - 1) ≡ Some e
 
+-- a loop that reads the cursor up to its end
+pub passes : (xs : List Entry) (old new : List Entry × ℕ) (more : Bool) (e : Entry) → old.0 ≡ xs → more ≡ true
+    → new ≡ (old.0, if more then old.1 + 1 else old.1) → slice_get new.0 (new.1 - 1) ≡ Some e → Passes xs old new more e
+passes xs old new more e is some by at = record { of_list = is; some = some; passed = by; at = at }
+
 pub next_at : {xs : List Entry} {old new : List Entry × ℕ} {more : Bool} {e : Entry} → Passes xs old new more e → new ≡ (xs, old.1 + 1)
 next_at {xs} {old} {new} {more} {e} p =
     p.passed ∙ ap (λ (m : Bool). (old.0, if m then old.1 + 1 else old.1)) p.some ∙ ap (λ (l : List Entry). (l, old.1 + 1)) p.of_list
@@ -44,6 +49,13 @@ pub more_at : (xs : List Entry) (n : ℕ) (old : List Entry × ℕ) (more : Bool
 more_at xs n old more is lt answer =
     let yes : nat_lt n (length xs) ≡ true = grind (arith, nat_tests, lt) in
     answer ∙ ap (λ (v : List Entry × ℕ). nat_lt v.1 (length v.0)) is ∙ yes
+
+-- a loop that counts beside the cursor
+pub passes_at : (xs : List Entry) (n : ℕ) (old new : List Entry × ℕ) (more : Bool) (e : Entry) → old ≡ (xs, n) → n < length xs
+    → more ≡ nat_lt old.1 (length old.0) → new ≡ (old.0, if more then old.1 + 1 else old.1) → slice_get new.0 (new.1 - 1) ≡ Some e
+    → Passes xs old new more e
+passes_at xs n old new more e is lt answer by at =
+    passes xs old new more e (ap (λ (v : List Entry × ℕ). v.0) is) (more_at xs n old more is lt answer) by at
 
 pub no_more : (xs : List Entry) (old : List Entry × ℕ) (more : Bool) → old.0 ≡ xs → more ≡ nat_lt old.1 (length old.0) → more ≡ false →
     length xs ≤ old.1

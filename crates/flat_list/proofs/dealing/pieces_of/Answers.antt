@@ -5,7 +5,7 @@ use Rattle.std.proofs.lemmas.List.{take_all}
 use Rattle.entry_pages.specs.declared.entries.Entry.{Entry}
 use Rattle.flat_list.specs.Orders.{dealt}
 use Rattle.flat_list.proofs.Dealt.{Turn, Holds, pieces_kept, same_list, as_many}
-use Rattle.flat_list.proofs.Turns.{Passes, turn_at, next_at, more_at}
+use Rattle.flat_list.proofs.Turns.{passes_at, turn_at, next_at}
 use Rattle.flat_list.proofs.dealing.pieces_of.Goals as goal
 
 pub index_mut-requires : goal.index_mut-requires
@@ -18,12 +18,8 @@ loop-at-preserved c =
     let xs = c.args.list.now in
     let at = c.loop-at.at in
     let n = c.args.n in
-    let p : Passes xs c.loop-at.cursor c.advance.new.self c.in_ok-advance.field-0 c.entry.result.now = record {
-      of_list = ap (λ (v : List Entry × ℕ). v.0) c.loop-at.invariant.here;
-      some = more_at xs c.loop-at.at c.loop-at.cursor c.in_ok-advance.field-0 c.loop-at.invariant.here (omega arith) c.in_ok-advance.ensures.answer;
-      passed = c.in_ok-advance.ensures.passed;
-      at = c.entry.ensures.at;
-    } in
+    let p = passes_at xs c.loop-at.at c.loop-at.cursor c.advance.new.self c.in_ok-advance.field-0 c.entry.result.now c.loop-at.invariant.here
+    (omega arith) c.in_ok-advance.ensures.answer c.in_ok-advance.ensures.passed c.entry.ensures.at in
     let turn : Turn xs at c.entry.result.now = turn_at at (ap (λ (v : List Entry × ℕ). v.1) c.loop-at.invariant.here) p in
     let holds : Holds (λ j. dealt n j (take at xs)) (λ (piece : List Entry). piece) n (at % n) c.loop-at.pieces.items c.index_mut.result.now =
     record { listed = same_list c.loop-at.invariant.shared; below = omega (arith, c.requires); is = search rules } in

@@ -1,18 +1,14 @@
 use Rattle.std.proofs.Common.{arith, ◌++◌, ◌∙◌, refl, ap, subst}
 use Rattle.whole_lines.specs.Lines.{line, end_text}
 use Rattle.flat_list.proofs.Encoded.{Written, one_written, spells}
-use Rattle.flat_list.proofs.Turns.{Passes, turn_at, of_list, one_on, inside, no_more}
+use Rattle.flat_list.proofs.Turns.{passes, turn_at, of_list, one_on, inside, no_more}
 use Rattle.flat_list.proofs.encoding.encode.Goals as goal
 
 pub loop-cursor-preserved : goal.loop-cursor-preserved
 loop-cursor-preserved c =
     let xs = c.args.list.now in
-    let p : Passes xs c.loop-cursor.cursor c.advance.new.self c.in_ok-advance.field-0 c.entry.result.now = record {
-      of_list = c.loop-cursor.invariant.of_list;
-      some = c.if-branch.true;
-      passed = c.in_ok-advance.ensures.passed;
-      at = c.entry.ensures.at;
-    } in
+    let p = passes xs c.loop-cursor.cursor c.advance.new.self c.in_ok-advance.field-0 c.entry.result.now c.loop-cursor.invariant.of_list
+    c.if-branch.true c.in_ok-advance.ensures.passed c.entry.ensures.at in
     record {
       of_list = of_list p;
       inside = inside p;

@@ -1,7 +1,7 @@
 use Rattle.std.proofs.Common.{◌++◌, ◌∷◌, [], ◌∙◌, refl, ap, sym, take, List}
 use Rattle.entry_pages.specs.declared.entries.Entry.{Entry}
 use Rattle.flat_list.proofs.Dealt.{taken}
-use Rattle.flat_list.proofs.Turns.{Passes, turn_at, of_list, one_on, inside, no_more}
+use Rattle.flat_list.proofs.Turns.{passes, turn_at, of_list, one_on, inside, no_more}
 use Rattle.std.proofs.lemmas.List.{take_all}
 use Rattle.flat_list.proofs.lists.FlatList.copies.Goals as goal
 
@@ -10,12 +10,8 @@ loop-cursor-preserved c =
     let xs = c.args.self.now in
     let old = c.loop-cursor.entries.items in
     let e = c.entry.result.now in
-    let p : Passes xs c.loop-cursor.cursor c.advance.new.self c.in_ok-advance.field-0 e = record {
-      of_list = c.loop-cursor.invariant.of_list;
-      some = c.if-branch.true;
-      passed = c.in_ok-advance.ensures.passed;
-      at = c.entry.ensures.at;
-    } in
+    let p = passes xs c.loop-cursor.cursor c.advance.new.self c.in_ok-advance.field-0 e c.loop-cursor.invariant.of_list
+    c.if-branch.true c.in_ok-advance.ensures.passed c.entry.ensures.at in
     record {
       of_list = of_list p;
       inside = inside p;

@@ -5,7 +5,7 @@ use Rattle.std.proofs.lemmas.List.{take_all}
 use Rattle.entry_pages.specs.declared.entries.Entry.{Entry}
 use Rattle.flat_list.proofs.Dealt.{taken}
 use Rattle.flat_list.proofs.Retained.{Kept, kept_none, kept_more, kept_all}
-use Rattle.flat_list.proofs.Turns.{Passes, turn_at, of_list, one_on, inside, no_more}
+use Rattle.flat_list.proofs.Turns.{passes, turn_at, of_list, one_on, inside, no_more}
 use Rattle.flat_list.proofs.lists.FlatList.kept.Goals as goal
 
 pub loop-cursor-init : goal.loop-cursor-init
@@ -29,12 +29,8 @@ loop-cursor-preserved g c =
     let keep = c.args.keep in
     let test = c.test-wanted.new.self in
     let e = c.entry-entry.result.now in
-    let p : Passes xs c.loop-cursor.cursor c.advance.new.self c.in_ok-advance.field-0 e = record {
-      of_list = c.loop-cursor.invariant.of_list;
-      some = c.if-branch.true;
-      passed = c.in_ok-advance.ensures.passed;
-      at = c.entry-entry.ensures.at;
-    } in
+    let p = passes xs c.loop-cursor.cursor c.advance.new.self c.in_ok-advance.field-0 e c.loop-cursor.invariant.of_list
+    c.if-branch.true c.in_ok-advance.ensures.passed c.entry-entry.ensures.at in
     let more : take c.loop-cursor.cursor.1 xs ++ e ∷ [] ≡ take c.advance.new.self.1 xs =
     sym (taken xs c.loop-cursor.cursor.1 e (turn_at _ refl p)) ∙ ap (λ n. take n xs) (one_on p) in
     record {

@@ -1,16 +1,15 @@
 use Rattle.std.proofs.Common.{rules, sym, subst, List}
 use Rattle.std.specs.Ordering.{is_lt}
-use Rattle.std.specs.List.Sorted.{IsPermutation, IsSortedByKey, IsStableByKey}
+use Rattle.std.specs.List.Sorted.{IsSortedByKey, IsStableByKey}
 use Rattle.std.proofs.lemmas.List.Sorted.{ranks_by, answers_always}
 use Rattle.path_text.specs.Order.{path_cmp}
 use Rattle.path_text.specs.Total.{path_cmp_total}
 use Rattle.entry_pages.specs.declared.entries.Entry.{Entry}
+use Rattle.flat_list.proofs.Ordered.{all_kept}
 use Rattle.flat_list.proofs.lists.FlatList.sort_path.Goals as goal
 
 pub returns-clause-all : goal.returns-clause-all
-returns-clause-all c =
-    subst (IsPermutation c.args.self.now) (sym c.in_ok-self.ensures)
-    (subst (λ (xs : List Entry). IsPermutation xs c.sort_by.new.self.items) c.in_ok-entries.ensures c.sort_by.ensures.permutation)
+returns-clause-all c = all_kept _ _ _ _ c.in_ok-entries.ensures c.in_ok-self.ensures c.sort_by.ensures.permutation
 
 pub returns-clause-sorted : goal.returns-clause-sorted
 returns-clause-sorted c =

@@ -7,7 +7,7 @@ use Rattle.flat_list.specs.Private.Cut.{all_of}
 use Rattle.flat_list.proofs.Dealt.{taken}
 use Rattle.flat_list.proofs.Merged.{same}
 use Rattle.flat_list.proofs.Cuts.{one_behind}
-use Rattle.flat_list.proofs.Turns.{Passes, turn_at, of_list, one_on, inside, no_more}
+use Rattle.flat_list.proofs.Turns.{passes, turn_at, of_list, one_on, inside, no_more}
 use Rattle.flat_list.proofs.runs.Cut.read.Goals as goal
 
 pub loop-cursor-init : goal.loop-cursor-init
@@ -24,12 +24,8 @@ pub loop-cursor-preserved : goal.loop-cursor-preserved
 loop-cursor-preserved c =
     let xs = c.args.log.now in
     let e = c.entry.result.now in
-    let p : Passes xs c.loop-cursor.cursor c.advance.new.self c.in_ok-advance.field-0 e = record {
-      of_list = c.loop-cursor.invariant.of_list;
-      some = c.if-branch.true;
-      passed = c.in_ok-advance.ensures.passed;
-      at = c.entry.ensures.at;
-    } in
+    let p = passes xs c.loop-cursor.cursor c.advance.new.self c.in_ok-advance.field-0 e c.loop-cursor.invariant.of_list
+    c.if-branch.true c.in_ok-advance.ensures.passed c.entry.ensures.at in
     let n = c.loop-cursor.cursor.1 in
     let before = all_of c.args.self.now in
     let passed : take n xs ++ e ∷ [] ≡ take c.advance.new.self.1 xs = sym (taken xs n e (turn_at n refl p)) ∙ ap (λ (k : ℕ). take k xs) (one_on p) in
