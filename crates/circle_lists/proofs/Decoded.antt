@@ -1,7 +1,7 @@
 -- The steps of reading the file of a rank.
-use Rattle.std.proofs.Common.{◌≡◌, ◌≢◌, inl, inr, ℕ, ◌+◌, ◌<◌, ◌≤◌, ◌^◌, List, [], ◌∷◌, ◌++◌, length, take, Option, Some, None, Result, Ok, Err}
+use Rattle.std.proofs.Common.{◌≡◌, ◌≢◌, inl, inr, ℕ, ◌+◌, ◌<◌, ◌≤◌, ◌^◌, List, [], ◌∷◌, ◌++◌, length, take, Option, Some, None}
 use Rattle.std.proofs.Common.{length-append, refl, ap, sym, ◌∙◌, subst, arith, append_assoc}
-use Rattle.std.specs.Prelude.{IfOk, IfErr, codes}
+use Rattle.std.specs.Prelude.{codes}
 use Rattle.std.specs.Fmt.{decimal}
 use Rattle.std.specs.Str.{IsUtf8}
 use Rattle.std.proofs.lemmas.List.{map-append, nil_from_length}
@@ -148,14 +148,6 @@ ended_badly {r} {ranks} {ps} {rest} {text} {behind} undoes reads none (refused.D
 ended_badly undoes reads none refused.OutOfMemory h = tt
 
 -- ---- as the loop has it
-
-pub if_ok_then : {A E : Type 0} (r : Result A E) (P Q : A → Type 0) → IfOk r P → ((x : A) → P x → Q x) → IfOk r Q
-if_ok_then (Ok x) P Q h f = f x h
-if_ok_then (Err e) P Q h f = tt
-
-pub if_err_then : {A E : Type 0} (r : Result A E) (P Q : E → Type 0) → IfErr r P → ((e : E) → P e → Q e) → IfErr r Q
-if_err_then (Ok x) P Q h f = tt
-if_err_then (Err e) P Q h f = f e h
 
 pub cut_shorter : (c : ℕ) (text word rest : List ℕ) → cut c text ≡ Some (word, rest) → length rest < length text
 cut_shorter c text word rest e =

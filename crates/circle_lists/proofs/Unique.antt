@@ -3,7 +3,7 @@ use Rattle.std.proofs.Common.{◌≡◌, ℕ, zero, suc, ◌+◌, ◌-◌, ◌<�
 use Rattle.std.proofs.Common.{append_assoc, append-nil, Option}
 use Rattle.std.specs.List.{AllByRecursion, flat_map}
 use Rattle.std.proofs.lemmas.Bool.{cases_lt}
-use Rattle.std.proofs.lemmas.List.{append_cancel_left, ext_get_or}
+use Rattle.std.proofs.lemmas.List.{append_cancel_left, ext_get_or, take-take}
 use Rattle.path_text.specs.Escape.{escape, ReadingUndoesWriting}
 use Rattle.outside.specs.Tree.{Files}
 use Rattle.whole_lines.specs.Lines.{line, lines_of, end_text}
@@ -52,15 +52,7 @@ own_lines a rank ranks ps s = ap lines_of (sym (append-nil a)) ∙ file_lines a 
 -- ---- lines that begin a file
 
 shorter : (n : ℕ) (xs ys : List (List ℕ)) → take (suc n) xs ≡ take (suc n) ys → take n xs ≡ take n ys
-shorter zero xs ys e = refl
-shorter (suc n) [] [] e = refl
-shorter (suc n) [] (y ∷ ys) e = absurd cc
-shorter (suc n) (x ∷ xs) [] e = absurd cc
-shorter (suc n) (x ∷ xs) (y ∷ ys) e =
-    let parts = cons_parts x y (take (suc n) xs) (take (suc n) ys) e in
-    let rest = shorter n xs ys parts.1 in
-    let head : x ≡ y = parts.0 in
-    cc
+shorter n xs ys e = sym (take-take n (suc n) xs (omega arith)) ∙ ap (take n) e ∙ take-take n (suc n) ys (omega arith)
 
 begins_less : (n : ℕ) (a : List ℕ) (rank : ℕ) (known : Option ℕ) → Begins (suc n) a rank known → Begins n a rank known
 begins_less n a rank known b = record {

@@ -1,13 +1,14 @@
 use Rattle.std.proofs.Common.{rules, arith, ◌≡◌, ◌+◌, ◌∷◌, ◌++◌, [], length, length-append, sym, ap, subst, ℕ, List, Option, Some, None, Bor}
 use Rattle.std.specs.Prelude.{IfSome}
 use Rattle.std.specs.Str.{IsUtf8}
+use Rattle.std.proofs.lemmas.Result.{IfOk-weaker, MatchResult-weaker}
 use Rattle.whole_lines.specs.Lines.{lines_of}
 use Rattle.whole_lines.specs.Words.{cut, path_from}
 use Rattle.circle_lists.specs.declared.decoding.RankList.{RankList}
 use Rattle.circle_lists.specs.Spelling.{Spells, IsDamaged}
-use Rattle.circle_lists.specs.Private.{IsHead, IsCause, EndsBadly}
+use Rattle.circle_lists.specs.Private.{IsHead}
 use Rattle.circle_lists.proofs.Damage.{Reader, Stands}
-use Rattle.circle_lists.proofs.Decoded.{starts, head_room, Reads, goes_on, bad_torn, at_end, ended_badly, if_ok_then, if_err_then, cut_shorter}
+use Rattle.circle_lists.proofs.Decoded.{starts, head_room, Reads, goes_on, bad_torn, at_end, ended_badly, cut_shorter}
 use Rattle.circle_lists.proofs.decoding.decode.Goals as goal
 
 pub loop-text-init : goal.loop-text-init
@@ -29,8 +30,8 @@ returns-in_default-2-clause-ok c =
     let r : Reader = record { bytes = c.args.bytes.now; rank = c.args.rank; known = c.args.known } in
     let reads : Reads r c.in-Some.ranks c.loop-text.paths.items c.loop-text.rest.now c.in-Some-cut_line.text.now c.in-Some-cut_line.behind.now =
     record { stands = c.loop-text.invariant.stands; first = sym c.in-Some-cut_line.ensures } in
-    if_ok_then c.ended.result _ (λ (told : RankList). Spells r.bytes r.rank told.ranks told.paths.items) c.ended.ensures.ok
-    (λ l h. subst (λ (told : RankList). Spells r.bytes r.rank told.ranks told.paths.items) (sym h.1) (at_end reads h.0))
+    IfOk-weaker c.ended.result _ (λ (told : RankList). Spells r.bytes r.rank told.ranks told.paths.items)
+    (λ l h. subst (λ (told : RankList). Spells r.bytes r.rank told.ranks told.paths.items) (sym h.1) (at_end reads h.0)) c.ended.ensures.ok
 
 pub returns-in_default-2-clause-refused : goal.returns-in_default-2-clause-refused
 returns-in_default-2-clause-refused c =
@@ -38,8 +39,7 @@ returns-in_default-2-clause-refused c =
     let reads : Reads r c.in-Some.ranks c.loop-text.paths.items c.loop-text.rest.now c.in-Some-cut_line.text.now c.in-Some-cut_line.behind.now =
     record { stands = c.loop-text.invariant.stands; first = sym c.in-Some-cut_line.ensures } in
     let none : path_from c.in-Some-cut_line.text.now ≡ None = first_of (cc, search rules) in
-    if_err_then c.ended.result (EndsBadly c.loop-text.paths.items c.in-Some-cut_line.text.now c.in-Some-cut_line.behind.now) (IsCause r.bytes r.rank r.known)
-    c.ended.ensures.refused (ended_badly c.reading_undoes_writing.ensures reads none)
+    MatchResult-weaker c.ended.result c.ended.ensures.refused (λ l h. h) (ended_badly c.reading_undoes_writing.ensures reads none)
 
 pub loop-text-smaller : goal.loop-text-smaller
 loop-text-smaller c = cut_shorter 10 c.loop-text.rest.now c.in-Some-cut_line.text.now c.in-Some-cut_line.behind.now (sym c.in-Some-cut_line.ensures)
