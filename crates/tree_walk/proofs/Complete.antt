@@ -1,7 +1,7 @@
 -- A walk has an entry for each node that is its root or under it, where the files answered of every directory on the way.
 use Rattle.std.proofs.Common.{◌≡◌, ◌⊎◌, inl, inr, ⊎_elim, ℕ, ◌+◌, ◌<◌, ◌≤◌, zero, suc, Bool, true, false, cond, ◌||◌, List, [], ◌∷◌, ◌++◌, map, length}
 use Rattle.std.proofs.Common.{Option, Some, None, refl, ap, ◌∙◌, sym, subst, arith, eqb}
-use Rattle.std.specs.Prelude.{is_some, is_none, slice_get}
+use Rattle.std.specs.Prelude.{is_some, slice_get}
 use Rattle.std.specs.List.{AllByRecursion, flat_map, filter_map, cons_option, list_any}
 use Rattle.std.specs.FinMap.{get, keys, contains_key-keys}
 use Rattle.std.specs.Ordering.{eq_by_cmp}
@@ -15,7 +15,7 @@ use Rattle.path_text.proofs.Levels.{parent_above}
 use Rattle.path_text.proofs.Parents.{parent_under}
 use Rattle.path_text.proofs.Parts.{short}
 use Rattle.path_text.proofs.Within.{under_longer, under_within, same_or_under, within_up}
-use Rattle.outside.specs.Tree.{Files, Node, IsTree, is_dir, is_root, name_below, names_in}
+use Rattle.outside.specs.Tree.{Files, IsTree, is_dir, is_root, name_below, names_in}
 use Rattle.outside.specs.Writes.{under, is_top}
 use Rattle.outside.specs.Lease.{leased}
 use Rattle.outside.specs.Parts.{IsPart, AreTops}
@@ -28,6 +28,7 @@ use Rattle.entry_pages.specs.declared.entries.Entry.{Entry}
 use Rattle.tree_walk.specs.Walk.{Answer, told, stat_failed, list_failed, Answers, is_told, entry_of, children_of, walk, paths_of, WalkListsAll}
 use Rattle.tree_walk.proofs.Recursive.{walk_is, children_are, children_short}
 use Rattle.tree_walk.proofs.Lawful.{path_is}
+use Rattle.tree_walk.proofs.Nodes.{not_none, some_dir}
 use Rattle.tree_walk.proofs.Standing.{In}
 
 -- an entry of the list has the path
@@ -163,14 +164,6 @@ module _ (files : Files) (a : Answers) (t : IsTree files) where
         | None ↦ λ is s. absurd (false≢true s)
         | Some m ↦ λ is s. named (parent_of q) q m (keys files) (sym (contains_key-keys files q) ∙ some) is
       ] refl (child_of_parent q fine off))
-
-  not_none : (o : Option Node) → is_some o ≡ true → is_none o ≡ false
-  not_none None e = absurd (false≢true e)
-  not_none (Some x) e = refl
-
-  some_dir : (o : Option Node) → is_dir o ≡ true → is_some o ≡ true
-  some_dir None e = absurd (false≢true e)
-  some_dir (Some x) e = refl
 
   valid : (q : List ℕ) → is_some (get files q) ≡ true → refusal q ≡ None
   valid q some = placed_path files q t (not_none (get files q) some)

@@ -4,7 +4,7 @@ use Rattle.std.proofs.Common.{length, Option, Some, None, refl, ◌∙◌, sym, 
 use Rattle.std.proofs.lemmas.Bool.{false≢true, or_left, or_right, and_from}
 use Rattle.std.proofs.lemmas.List.Elements.{recursion_from_All, All-from_recursion}
 use Rattle.std.proofs.lemmas.List.Folds.{list_any-append}
-use Rattle.std.specs.Prelude.{is_none, nat_eq, IsTrue}
+use Rattle.std.specs.Prelude.{nat_eq, IsTrue}
 use Rattle.std.specs.FinMap.{get}
 use Rattle.std.specs.List.{AllByRecursion, flat_map, list_any}
 use Rattle.std.specs.Cmp.Lexicographic.{pointwise, bytes_decides}
@@ -18,6 +18,7 @@ use Rattle.entry_pages.specs.declared.entries.Entry.{Entry}
 use Rattle.entry_pages.specs.Entries.{is_kind, is_of}
 use Rattle.tree_walk.specs.Walk.{Answer, told, stat_failed, list_failed, Answers, entry_of, children_of, walk_down, walk}
 use Rattle.tree_walk.specs.Told.{has_dir, EntriesHaveParents}
+use Rattle.tree_walk.proofs.Nodes.{not_none, some_dir}
 use Rattle.tree_walk.proofs.Lawful.{path_is}
 use Rattle.tree_walk.proofs.Lists.{all_append}
 
@@ -45,10 +46,6 @@ dir_told : (u : ℕ) (found : Option Node) (p : List ℕ) → is_dir found ≡ t
 dir_told u None p d = absurd (false≢true d)
 dir_told u (Some n) p d = dir_kind n.body d
 
-not_none : (o : Option Node) → is_dir o ≡ true → is_none o ≡ false
-not_none None e = absurd (false≢true e)
-not_none (Some n) e = refl
-
 kids_of : (u : ℕ) (found : Option Node) (p : List ℕ) → refusal p ≡ None → is_dir found ≡ true → (names : List (List ℕ)) →
     AllByRecursion (λ n. IsTrue (is_name n)) names → AllByRecursion (IsKid (told u) found p) (map (joined p) names)
 kids_of u found p v d [] h = tt
@@ -61,7 +58,7 @@ kids files (told u) p t =
     let names = names_in files p in
     let valid = recursion_from_All (λ n. IsTrue (is_name n)) names (children_are_names files p t).valid in
     elim (is_dir (get files p)) as (λ b. is_dir (get files p) ≡ b → AllByRecursion (IsKid (told u) (get files p) p) (cond b (map (joined p) names) [])) [
-      | true ↦ λ d. kids_of u (get files p) p (placed_path files p t (not_none (get files p) d)) d names valid
+      | true ↦ λ d. kids_of u (get files p) p (placed_path files p t (not_none (get files p) (some_dir (get files p) d))) d names valid
       | false ↦ λ _. tt
     ] refl
 

@@ -1,7 +1,7 @@
 -- The laws of the recursive walk.
 use Rattle.std.proofs.Common.{◌≡◌, ℕ, ◌+◌, ◌-◌, ◌≤◌, true, false, cond, List, [], ◌∷◌, ◌++◌, map, length, Option, Some, None, refl, ap, ◌∙◌, sym, subst}
 use Rattle.std.proofs.Common.{arith, zero, suc, eqb}
-use Rattle.std.specs.Prelude.{is_some, is_none}
+use Rattle.std.specs.Prelude.{is_some}
 use Rattle.std.specs.List.{AllByRecursion, flat_map, filter_map, cons_option, count_by, sum_by, Contains}
 use Rattle.std.specs.List.Sorted.{IsStrictlySortedBy}
 use Rattle.std.specs.FinMap.{get, keys, contains_key-keys}
@@ -25,6 +25,7 @@ use Rattle.entry_pages.specs.declared.entries.Mark.TheVariants as mark
 use Rattle.tree_walk.proofs.Lined.{Lined}
 use Rattle.tree_walk.specs.Walk.{Answer, told, stat_failed, list_failed, Answers, all_told, entry_of, children_of, walk_down, walk, paths_of, weight}
 use Rattle.tree_walk.specs.Walk.{weight_of, answer_in, answers_in, WalkIsRecursive, WalkAscends, WalkHasEachPathOnce, WalkFindsAll, WalkWithoutFaultsIsFine}
+use Rattle.tree_walk.proofs.Nodes.{not_none}
 use Rattle.tree_walk.proofs.Lists.{all_append, all_map, all_flat, sorted_append, swapped}
 use Rattle.tree_walk.proofs.Same.{unequal}
 use Rattle.tree_walk.proofs.Recursive.{walk_is, children_are, of_children}
@@ -220,18 +221,14 @@ walks_find_all files (root ∷ roots) t h =
     let v = placed_path files root t (not_none (get files root) h.0) in
     all_append IsFine (walk files all_told root) (flat_map (walk files all_told) roots)
     (recursion_from_All IsFine (walk files all_told root) (walk_finds_all files root t v h.0)) (walks_find_all files roots t h.1)
-  where
-    not_none : (o : Option Node) → is_some o ≡ true → is_none o ≡ false
-    not_none None e = absurd (false≢true e)
-    not_none (Some x) e = refl
 
-none_failed : (answer : Answer) → weight answer ≡ 0 → answer ≡ told 0
+pub none_failed : (answer : Answer) → weight answer ≡ 0 → answer ≡ told 0
 none_failed (told unnamed) h = ap told h
 none_failed stat_failed h = absurd (omega arith)
 none_failed list_failed h = absurd (omega arith)
 
 -- entries of weight 0 tell no failed answer
-all_told_in : (entries : List Entry) (path : List ℕ) → sum_by weight_of entries ≡ 0 → answers_in entries path ≡ told 0
+pub all_told_in : (entries : List Entry) (path : List ℕ) → sum_by weight_of entries ≡ 0 → answers_in entries path ≡ told 0
 all_told_in [] path h = refl
 all_told_in (e ∷ entries) path h =
     let parts = sum_by-cons weight_of e entries in

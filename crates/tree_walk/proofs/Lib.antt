@@ -1,6 +1,7 @@
 pub mod Lists
 pub mod Lined
 pub mod Names
+pub mod Nodes
 pub mod Recursive
 pub mod Inside
 pub mod Standing

@@ -21,8 +21,8 @@ use Rattle.outside.specs.declared.trees.Stat.{Stat}
 use Rattle.entry_pages.specs.declared.entries.Entry.{Entry}
 use Rattle.entry_pages.specs.declared.entries.Mark.{Mark}
 use Rattle.entry_pages.specs.declared.entries.Mark.TheVariants as mark
-use Rattle.entry_pages.specs.Entries.{is_kind}
-use Rattle.tree_walk.specs.Walk.{bare, told, list_failed, entry_of}
+use Rattle.entry_pages.specs.Entries.{is_kind, is_shaped}
+use Rattle.tree_walk.specs.Walk.{bare, told, list_failed, entry_of, weight_of}
 use Rattle.tree_walk.specs.Held.{IsDone, is_listed}
 use Rattle.tree_walk.specs.Looking.{by_stat, by_link, by_list, is_linked, IsLook}
 use Rattle.tree_walk.proofs.Names.{no_names}
@@ -183,37 +183,27 @@ no_dir : (b : Bool) → (b && true) ≡ false → b ≡ false
 no_dir true e = e
 no_dir false e = refl
 
+-- a look that names no children
+childless : (tree : Option Files) (path : List ℕ) (old new : ℕ) (e : Entry) → IfSome tree (λ files. IsDone files (e, [])) → e.path ≡ path →
+    is_shaped e ≡ true → is_listed e ≡ false → RoseBy (weight_of e) old new → IsLook tree path old new e ([], 0, 0)
+childless tree path old new e done at shaped none counted = record {
+  told = done;
+  at = at;
+  shaped = shaped;
+  are = no_names path [] refl;
+  alone = λ n. refl;
+  listed = λ y. absurd (false≢true (sym none ∙ y));
+  counted = counted;
+}
+
 pub stat_alone : (tree : Option Files) (path : List ℕ) (old new : ℕ) (answer : Result (Option Stat) Failed) → IsStat tree path old new answer →
     is_listed (by_stat path answer) ≡ false → is_linked (by_stat path answer) ≡ false → IsLook tree path old new (by_stat path answer) ([], 0, 0)
-stat_alone tree path old new (Err failed) s l k = record {
-  told = failed_told tree path s.valid s.short;
-  at = refl;
-  shaped = refl;
-  are = no_names path [] refl;
-  alone = λ n. refl;
-  listed = λ y. absurd (false≢true y);
-  counted = s.cause;
-}
-stat_alone tree path old new (Ok None) s l k = record {
-  told = gone_told tree path s.valid s.short s.told;
-  at = refl;
-  shaped = refl;
-  are = no_names path [] refl;
-  alone = λ n. refl;
-  listed = λ y. absurd (false≢true y);
-  counted = s.ok;
-}
-stat_alone tree path old new (Ok (Some stat)) s l k = record {
-  told = plain_told tree path stat s.valid s.short s.told (no_dir (is_kind kind.Dir stat.kind) l)
-      (no_dir (is_kind kind.Link stat.kind) k);
-  at = refl;
-  shaped = and_from (is_kind kind.File stat.kind || stat.size == 0) (is_kind kind.Dir stat.kind || true) (sized stat.kind stat.size s.size)
-      (or-true (is_kind kind.Dir stat.kind));
-  are = no_names path [] refl;
-  alone = λ n. refl;
-  listed = λ y. absurd (false≢true (sym l ∙ y));
-  counted = s.ok;
-}
+stat_alone tree path old new (Err failed) s l k = childless _ _ _ _ _ (failed_told tree path s.valid s.short) refl refl refl s.cause
+stat_alone tree path old new (Ok None) s l k = childless _ _ _ _ _ (gone_told tree path s.valid s.short s.told) refl refl refl s.ok
+stat_alone tree path old new (Ok (Some stat)) s l k = childless _ _ _ _ _
+    (plain_told tree path stat s.valid s.short s.told (no_dir (is_kind kind.Dir stat.kind) l) (no_dir (is_kind kind.Link stat.kind) k)) refl
+    (and_from (is_kind kind.File stat.kind || stat.size == 0) (is_kind kind.Dir stat.kind || true) (sized stat.kind stat.size s.size)
+    (or-true (is_kind kind.Dir stat.kind))) l s.ok
 
 -- faults of two calls
 rose : (k old mid new : ℕ) → RoseBy 0 old mid → RoseBy k mid new → RoseBy k old new
@@ -271,41 +261,18 @@ stat_and_link tree path old mid new (Ok (Some stat)) text s g l = by text g
     size : (is_kind kind.File stat.kind || stat.size == 0) ≡ true
     size = sized stat.kind stat.size s.size
 
-    off : (is_kind kind.Dir stat.kind && true) ≡ false
-    off = no_dir_link stat.kind is
-
     by : (text : Result (List ℕ) LinkError) → IsReading tree path mid new text →
         IfSome (by_link (by_stat path (Ok (Some stat))) text) (λ e. IsLook tree path old new e ([], 0, 0))
-    by (Ok text) g = record {
-      told = link_told tree path stat text s.valid s.short s.told g.told;
-      at = refl;
-      shaped = and_from (is_kind kind.Link stat.kind && true) ((is_kind kind.File stat.kind || stat.size == 0) && (is_kind kind.Dir stat.kind || true)) l
-          (and_from (is_kind kind.File stat.kind || stat.size == 0) (is_kind kind.Dir stat.kind || true) size (or-true (is_kind kind.Dir stat.kind)));
-      are = no_names path [] refl;
-      alone = λ n. refl;
-      listed = λ y. absurd (false≢true (sym off ∙ y));
-      counted = rose 0 old mid new s.ok g.count;
-    }
-    by (Err link_e.Failed) g = record {
-      told = failed_told tree path s.valid s.short;
-      at = refl;
-      shaped = refl;
-      are = no_names path [] refl;
-      alone = λ n. refl;
-      listed = λ y. absurd (false≢true y);
-      counted = rose 1 old mid new s.ok (g.cause refl);
-    }
-    by (Err link_e.NotLink) g = record {
-      told = never_told tree path stat s.told is (g.not_link refl);
-      at = refl;
-      shaped = and_from (is_kind kind.File stat.kind || stat.size == 0) ((is_kind kind.Dir stat.kind || is_kind kind.Link stat.kind) && true) size
-          (and_from (is_kind kind.Dir stat.kind || is_kind kind.Link stat.kind) true
-          (ap (λ (b : Bool). is_kind kind.Dir stat.kind || b) is ∙ or-true (is_kind kind.Dir stat.kind)) refl);
-      are = no_names path [] refl;
-      alone = λ n. refl;
-      listed = λ y. absurd (false≢true (sym (and_false (is_kind kind.Dir stat.kind)) ∙ y));
-      counted = rose 0 old mid new s.ok g.count;
-    }
+    by (Ok text) g = childless _ _ _ _ _ (link_told tree path stat text s.valid s.short s.told g.told) refl
+        (and_from (is_kind kind.Link stat.kind && true) ((is_kind kind.File stat.kind || stat.size == 0) && (is_kind kind.Dir stat.kind || true)) l
+        (and_from (is_kind kind.File stat.kind || stat.size == 0) (is_kind kind.Dir stat.kind || true) size (or-true (is_kind kind.Dir stat.kind))))
+        (no_dir_link stat.kind is) (rose 0 old mid new s.ok g.count)
+    by (Err link_e.Failed) g = childless _ _ _ _ _ (failed_told tree path s.valid s.short) refl refl refl (rose 1 old mid new s.ok (g.cause refl))
+    by (Err link_e.NotLink) g = childless _ _ _ _ _ (never_told tree path stat s.told is (g.not_link refl)) refl
+        (and_from (is_kind kind.File stat.kind || stat.size == 0) ((is_kind kind.Dir stat.kind || is_kind kind.Link stat.kind) && true) size
+        (and_from (is_kind kind.Dir stat.kind || is_kind kind.Link stat.kind) true
+        (ap (λ (b : Bool). is_kind kind.Dir stat.kind || b) is ∙ or-true (is_kind kind.Dir stat.kind)) refl))
+        (and_false (is_kind kind.Dir stat.kind)) (rose 0 old mid new s.ok g.count)
     by (Err link_e.OutOfMemory) g = tt
 
 -- ---- a listing behind a stat
@@ -370,23 +337,11 @@ stat_and_list tree path old mid new (Ok (Some stat)) names s g l = by names g
       listed = λ y. (refl, refl);
       counted = rose names.1 old mid new s.ok g.unnamed;
     }
-    by (Err list.Failed) g = record {
-      told = unlisted_told tree path stat s.valid s.short s.told is;
-      at = refl;
-      shaped = and_from (is_kind kind.File stat.kind || stat.size == 0) (is_kind kind.Dir stat.kind && true) size l;
-      are = no_names path [] refl;
-      alone = λ n. refl;
-      listed = λ y. absurd (false≢true (sym (and_false (is_kind kind.Dir stat.kind)) ∙ y));
-      counted = rose 1 old mid new s.ok (g.cause refl);
-    }
-    by (Err list.NotDir) g = record {
-      told = changed_told tree path stat s.told is (g.not_dir refl);
-      at = refl;
-      shaped = and_from (is_kind kind.File stat.kind || stat.size == 0) ((is_kind kind.Dir stat.kind || is_kind kind.Link stat.kind) && true) size
-          (and_from (is_kind kind.Dir stat.kind || is_kind kind.Link stat.kind) true (ap (λ (b : Bool). b || is_kind kind.Link stat.kind) is) refl);
-      are = no_names path [] refl;
-      alone = λ n. refl;
-      listed = λ y. absurd (false≢true (sym (and_false (is_kind kind.Dir stat.kind)) ∙ y));
-      counted = rose 0 old mid new s.ok g.err;
-    }
+    by (Err list.Failed) g = childless _ _ _ _ _ (unlisted_told tree path stat s.valid s.short s.told is) refl
+        (and_from (is_kind kind.File stat.kind || stat.size == 0) (is_kind kind.Dir stat.kind && true) size l)
+        (and_false (is_kind kind.Dir stat.kind)) (rose 1 old mid new s.ok (g.cause refl))
+    by (Err list.NotDir) g = childless _ _ _ _ _ (changed_told tree path stat s.told is (g.not_dir refl)) refl
+        (and_from (is_kind kind.File stat.kind || stat.size == 0) ((is_kind kind.Dir stat.kind || is_kind kind.Link stat.kind) && true) size
+        (and_from (is_kind kind.Dir stat.kind || is_kind kind.Link stat.kind) true (ap (λ (b : Bool). b || is_kind kind.Link stat.kind) is) refl))
+        (and_false (is_kind kind.Dir stat.kind)) (rose 0 old mid new s.ok g.err)
     by (Err list.OutOfMemory) g = tt

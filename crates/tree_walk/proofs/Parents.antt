@@ -1,7 +1,7 @@
 -- Each entry of a walk is one of its roots, or the walk went on with it from its parent, which was listed.
 use Rattle.std.proofs.Common.{◌≡◌, ◌⊎◌, inl, inr, ⊎_elim, ℕ, ◌-◌, ◌<◌, ◌≤◌, true, false, List, [], ◌∷◌, map, length}
 use Rattle.std.proofs.Common.{Option, Some, None, refl, ap, ◌∙◌, sym, subst, cond}
-use Rattle.std.specs.Prelude.{is_some, is_none, IsTrue}
+use Rattle.std.specs.Prelude.{is_some, IsTrue}
 use Rattle.std.specs.List.{AllByRecursion, flat_map, count_by}
 use Rattle.std.specs.FinMap.{get}
 use Rattle.std.proofs.lemmas.Bool.{false≢true}
@@ -19,6 +19,7 @@ use Rattle.entry_pages.specs.Entries.{is_of}
 use Rattle.tree_walk.specs.Walk.{told, stat_failed, list_failed, Answers, entry_of, entry_of_node, children_of, walk}
 use Rattle.tree_walk.specs.Roots.{is_in}
 use Rattle.tree_walk.specs.Told.{IsTold, ParentsAreListed}
+use Rattle.tree_walk.proofs.Nodes.{not_none, some_dir}
 use Rattle.tree_walk.proofs.Lists.{all_flat, all_map}
 use Rattle.tree_walk.proofs.Covers.{child_covers, child_not_above}
 use Rattle.tree_walk.proofs.Recursive.{of_children}
@@ -28,14 +29,6 @@ use Rattle.tree_walk.proofs.Standing.{In, Above, only, of_all, each_in}
 use Rattle.tree_walk.proofs.Told.{entries_are_told}
 
 -- ---- nodes of a tree
-
-not_none : (o : Option Node) → is_some o ≡ true → is_none o ≡ false
-not_none None e = absurd (false≢true e)
-not_none (Some x) e = refl
-
-some_dir : (o : Option Node) → is_dir o ≡ true → is_some o ≡ true
-some_dir None e = absurd (false≢true e)
-some_dir (Some x) e = refl
 
 path_of_node : (files : Files) (path : List ℕ) → IsTree files → is_some (get files path) ≡ true → refusal path ≡ None
 path_of_node files path t some = placed_path files path t (not_none (get files path) some)

@@ -1,8 +1,9 @@
-use Rattle.std.proofs.Common.{◌≡◌, ◌∙◌, true, false, ap, sym, subst, Some, IfSome, []}
+use Rattle.std.proofs.Common.{◌≡◌, ◌∙◌, ℕ, true, false, ap, sym, subst, Option, Some, IfSome, List, []}
 use Rattle.outside.specs.declared.listings.Listing.{Listing}
 use Rattle.path_text.proofs.Parts as parts
 use Rattle.tree_walk.specs.Held.{is_listed}
 use Rattle.outside.specs.Asked as asked
+use Rattle.outside.specs.Tree.{Files}
 use Rattle.tree_walk.specs.Answered.{IsAnswered}
 use Rattle.tree_walk.specs.Looking.{by_stat, by_link, by_list, is_linked, IsLook}
 use Rattle.tree_walk.proofs.Caused.{by_stat_alone, by_stat_and_link, by_stat_and_list}
@@ -37,6 +38,24 @@ is_of_link g c = ap is_linked (sym c.by_stat-entry.ensures) ∙ sym c.is_linked.
 is_of_dir : (g : given.Over) (c : After-list-names g) → is_listed (by_stat c.args.path c.stat-stat.result) ≡ true
 is_of_dir g c = ap is_listed (sym c.by_stat-entry.ensures) ∙ sym c.is_listed.ensures ∙ c.if-not-is_listed.false
 
+-- what holds of the tree and of the path that a later call was given holds of those of the look
+moved : (P : Option Files → List ℕ → Type 0) {t t' : Option Files} {p p' : List ℕ} → t ≡ t' → p ≡ p' → P t p → P t' p'
+moved P {t} {t'} {p} {p'} same is h = subst (λ t. P t p') same (subst (P t) is h)
+
+listing_of : (g : given.Over) (c : After-list-names g) → c.by_stat-entry.result.path ≡ c.args.path → IsListing (g.R.Tree.tree c.args.reader.now) c.args.path
+    (g.R.Tree.count c.stat-stat.new.self) (g.R.Tree.count c.list-names.new.self) c.list-names.result
+listing_of g c at =
+    let l = c.list-names.ensures in
+    moved (λ t p. IsListing t p (g.R.Tree.count c.stat-stat.new.self) (g.R.Tree.count c.list-names.new.self) c.list-names.result) c.stat-stat.ensures.same at
+    (record { told = l.told; not_dir = l.not_dir; are = l.names; unnamed = l.unnamed; cause = l.cause; err = l.err })
+
+reading_of : (g : given.Over) (c : After-read_link-text g) → c.by_stat-entry.result.path ≡ c.args.path → IsReading (g.R.Tree.tree c.args.reader.now)
+    c.args.path (g.R.Tree.count c.stat-stat.new.self) (g.R.Tree.count c.read_link-text.new.self) c.read_link-text.result
+reading_of g c at =
+    let r = c.read_link-text.ensures in
+    moved (λ t p. IsReading t p (g.R.Tree.count c.stat-stat.new.self) (g.R.Tree.count c.read_link-text.new.self) c.read_link-text.result)
+    c.stat-stat.ensures.same at (record { told = r.told; not_link = r.not_link; cause = r.cause; count = r.count })
+
 with_text : (g : given.Over) (c : In-Some g) → by_link (by_stat c.args.path c.stat-stat.result) c.read_link-text.result ≡ Some c.in-Some.entry
 with_text g c = ap (λ e. by_link e c.read_link-text.result) (sym c.by_stat-entry.ensures) ∙ sym c.by_link.ensures ∙ c.in-Some.is
 
@@ -62,53 +81,18 @@ returns-then-not-is_listed-clause-look g c =
 pub returns-in-Some-by_list-clause-look : goal.returns-in-Some-by_list-clause-look
 returns-in-Some-by_list-clause-look g c =
     let at = goal.at.returns-in-Some-by_list-clause-look g c in
-    let tree = g.R.Tree.tree c.args.reader.now in
-    let later = g.R.Tree.tree c.stat-stat.new.self in
-    let old = g.R.Tree.count c.args.reader.now in
-    let mid = g.R.Tree.count c.stat-stat.new.self in
-    let new = g.R.Tree.count c.list-names.new.self in
-    let path = c.args.path in
-    let entry = c.by_stat-entry.result in
-    let names = c.list-names.result in
-    let listing : IsListing later entry.path mid new names =
-    record {
-      told = c.list-names.ensures.told;
-      not_dir = c.list-names.ensures.not_dir;
-      are = c.list-names.ensures.names;
-      unnamed = c.list-names.ensures.unnamed;
-      cause = c.list-names.ensures.cause;
-      err = c.list-names.ensures.err;
-    } in
-    let there : IsListing tree path mid new names =
-    subst (λ t. IsListing t path mid new names) c.stat-stat.ensures.same
-    (subst (λ p. IsListing later p mid new names) (at_path g at.After-by_stat-entry) listing) in
-    subst (λ o. IfSome o (λ r. IsLook tree path old new r.0 r.1)) (with_names g at.In-Some-by_list)
-    (stat_and_list tree path old mid new c.stat-stat.result names (stat_of g at.After-stat-stat) there (is_of_dir g at.After-list-names))
+    let looks = IsLook (g.R.Tree.tree c.args.reader.now) c.args.path (g.R.Tree.count c.args.reader.now) (g.R.Tree.count c.list-names.new.self) in
+    subst (λ o. IfSome o (λ r. looks r.0 r.1)) (with_names g at.In-Some-by_list)
+    (stat_and_list _ _ _ _ _ _ _ (stat_of g at.After-stat-stat) (listing_of g at.After-list-names (at_path g at.After-by_stat-entry))
+    (is_of_dir g at.After-list-names))
 
 pub returns-in-Some-clause-look : goal.returns-in-Some-clause-look
 returns-in-Some-clause-look g c =
     let at = goal.at.returns-in-Some-clause-look g c in
-    let tree = g.R.Tree.tree c.args.reader.now in
-    let later = g.R.Tree.tree c.stat-stat.new.self in
-    let old = g.R.Tree.count c.args.reader.now in
-    let mid = g.R.Tree.count c.stat-stat.new.self in
-    let new = g.R.Tree.count c.read_link-text.new.self in
-    let path = c.args.path in
-    let entry = c.by_stat-entry.result in
-    let text = c.read_link-text.result in
-    let reading : IsReading later entry.path mid new text =
-    record {
-      told = c.read_link-text.ensures.told;
-      not_link = c.read_link-text.ensures.not_link;
-      cause = c.read_link-text.ensures.cause;
-      count = c.read_link-text.ensures.count;
-    } in
-    let there : IsReading tree path mid new text =
-    subst (λ t. IsReading t path mid new text) c.stat-stat.ensures.same
-    (subst (λ p. IsReading later p mid new text) (at_path g at.After-by_stat-entry) reading) in
-    subst (λ (l : Listing). IsLook tree path old new c.in-Some.entry l) (sym c.make.ensures)
-    (subst (λ o. IfSome o (λ e. IsLook tree path old new e ([], 0, 0))) (with_text g at.In-Some)
-    (stat_and_link tree path old mid new c.stat-stat.result text (stat_of g at.After-stat-stat) there (is_of_link g at.After-read_link-text)))
+    let looks = IsLook (g.R.Tree.tree c.args.reader.now) c.args.path (g.R.Tree.count c.args.reader.now) (g.R.Tree.count c.read_link-text.new.self) in
+    subst (λ (l : Listing). looks c.in-Some.entry l) (sym c.make.ensures) (subst (λ o. IfSome o (λ e. looks e ([], 0, 0))) (with_text g at.In-Some)
+    (stat_and_link _ _ _ _ _ _ _ (stat_of g at.After-stat-stat) (reading_of g at.After-read_link-text (at_path g at.After-by_stat-entry))
+    (is_of_link g at.After-read_link-text)))
 
 -- ---- the answers
 
