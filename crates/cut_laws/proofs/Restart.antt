@@ -1,14 +1,14 @@
 -- A restart, in trees that are the same at and under the starts.
-use Rattle.std.proofs.Common.{◌≡◌, ℕ, ◌+◌, List, [], ◌∷◌, ◌++◌, ap, refl, ◌∙◌, sym, arith, cond, true, false, eqb}
+use Rattle.std.proofs.Common.{◌≡◌, ◌+◌, List, ◌++◌, ap, ◌∙◌, sym, arith}
 use Rattle.std.specs.List.{sum_by, flat_map}
-use Rattle.std.specs.Cmp.Lexicographic.{pointwise}
-use Rattle.std.proofs.lemmas.List.Sums.{sum_by-cons, sum_by-append}
+use Rattle.std.proofs.lemmas.List.Sums.{sum_by-append}
 use Rattle.std.proofs.lemmas.List.Sorted.{sum_by-IsPermutation}
 use Rattle.entry_pages.specs.declared.entries.Entry.{Entry}
-use Rattle.tree_walk.specs.Walk.{Answer, told, stat_failed, list_failed, all_told, answer_in, answers_in, walk, weight, weight_of}
+use Rattle.tree_walk.specs.Walk.{Answer, told, all_told, walk, weight, weight_of}
 use Rattle.tree_walk.specs.Found.{IsWalkOf}
 use Rattle.tree_walk.specs.Cut.{IsJoined}
 use Rattle.tree_walk.proofs.Covers.{from_apart}
+use Rattle.tree_walk.proofs.Lawful.{none_failed, all_told_in}
 use Rattle.tree_walk.proofs.Ordered.{in_order}
 use Rattle.tree_walk.proofs.Restarts.{restart_is_walk}
 use Rattle.cut_laws.specs.Local.{RestartIsWalkInEach, FineWalksAreOne, RestartFindsTheWalk}
@@ -23,24 +23,13 @@ restart_is_walk_in_each stopped again other starts left done later list t valid 
 -- ---- where no answer failed
 
 pub weightless : (answer : Answer) → weight answer ≡ 0 → answer ≡ told 0
-weightless (told unnamed) h = ap told h
-weightless stat_failed h = absurd (omega (arith, h))
-weightless list_failed h = absurd (omega (arith, h))
-
-fine_answers : (list : List Entry) (path : List ℕ) → sum_by weight_of list ≡ 0 → answers_in list path ≡ all_told path
-fine_answers [] path h = refl
-fine_answers (e ∷ list) path h =
-    let parts = sum_by-cons weight_of e list in
-    elim (pointwise eqb e.path path) as (λ b. cond b (answer_in e) (answers_in list path) ≡ told 0) [
-      | true ↦ weightless (answer_in e) (omega (arith, h, parts))
-      | false ↦ fine_answers list path (omega (arith, h, parts))
-    ]
+weightless answer h = none_failed answer h
 
 pub fine_walks_are_one : FineWalksAreOne
 fine_walks_are_one files starts list other apart walks others fine fine' =
     let o = in_order starts (from_apart starts apart) in
     let plain : (es : List Entry) → IsWalkOf files es starts → sum_by weight_of es ≡ 0 → es ≡ flat_map (walk files all_told) o.list =
-    λ es is none. is o.list o.all o.ascend ∙ ap (λ a. flat_map (walk files a) o.list) (λ i path. fine_answers es path none i) in
+    λ es is none. is o.list o.all o.ascend ∙ ap (λ a. flat_map (walk files a) o.list) (λ i path. all_told_in es path none i) in
     plain list walks fine ∙ sym (plain other others fine')
 
 joined_weight : (done later list : List Entry) → IsJoined done later list → sum_by weight_of list ≡ sum_by weight_of done + sum_by weight_of later
