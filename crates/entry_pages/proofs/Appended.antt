@@ -73,6 +73,12 @@ starts_small f gs more base b lt =
     let here = get_or_from_slice_get more k (sum_by f (take (256 * k) gs)) 0 (b.each k within) in
     omega (arith, lt, here, sum_by-take-le f gs (256 * k)))
 
+-- the same of starts as they are read
+pub starts_fit : (f : Head → ℕ) (hs : List Head) (starts read : List ℕ) (base : ℕ) → read ≡ starts → AreStarts f starts hs → base + sum_by f hs < 2 ^ 64
+    → All (λ s. base + s < 2 ^ 64) read
+starts_fit f hs starts read base same begins small =
+    subst (All (λ (s : ℕ). base + s < 2 ^ 64)) (sym same) (starts_small f hs starts base begins small)
+
 -- heads
 pub all_odds : {ss : List Slim} {os : List Odd} {starts ts begins : List ℕ} {hs : List Head} → IsSlim ss os starts ts begins hs →
     length os ≡ sum_by odd_count hs

@@ -3,29 +3,23 @@ use Rattle.std.specs.Prelude.{All}
 use Rattle.std.specs.List.{sum_by}
 use Rattle.entry_pages.specs.Pack.{Head}
 use Rattle.entry_pages.specs.Private.Slim.{odd_count, text_len, heads_of}
-use Rattle.entry_pages.proofs.Appended.{Both, starts_small, all_odds, all_texts, heads_both, slims_put}
+use Rattle.entry_pages.proofs.Appended.{Both, starts_fit, all_odds, all_texts, heads_both, slims_put}
 use Rattle.entry_pages.proofs.heads.Heads.append.Goals as goal
 use Rattle.entry_pages.proofs.heads.Heads.append.Goals.{After-put_shifted-2}
 
 pub put_shifted-requires-clause-fits : goal.put_shifted-requires-clause-fits
 put_shifted-requires-clause-fits c =
-    let base = c.len-base.result in
-    let other = c.other.inside in
-    let heads = heads_of other.slims.items other.odds.items other.texts.items in
-    let small : base + sum_by odd_count heads < 2 ^ 64 =
-    omega (arith, c.len-base.ensures, all_odds c.other.invariant, c.self.inside.odds.ok, c.self.inside.odds.small, other.odds.ok, other.odds.small) in
-    subst (All (λ (s : ℕ). base + s < 2 ^ 64)) (sym c.deref-3.ensures.value)
-    (starts_small odd_count heads other.starts.items base c.other.invariant.odds_begin small)
+    let o = c.other.inside in
+    starts_fit odd_count (heads_of o.slims.items o.odds.items o.texts.items) o.starts.items _ c.len-base.result c.deref-3.ensures.value
+    c.other.invariant.odds_begin
+    (omega (arith, c.len-base.ensures, all_odds c.other.invariant, c.self.inside.odds.ok, c.self.inside.odds.small, o.odds.ok, o.odds.small))
 
 pub put_shifted-requires-2-clause-fits : goal.put_shifted-requires-2-clause-fits
 put_shifted-requires-2-clause-fits c =
-    let base = c.len-text_base.result in
-    let other = c.other.inside in
-    let heads = heads_of other.slims.items other.odds.items other.texts.items in
-    let small : base + sum_by text_len heads < 2 ^ 64 =
-    omega (arith, c.len-text_base.ensures, all_texts c.other.invariant, c.self.inside.texts.ok, c.self.inside.texts.small, other.texts.ok, other.texts.small) in
-    subst (All (λ (s : ℕ). base + s < 2 ^ 64)) (sym c.deref-5.ensures.value)
-    (starts_small text_len heads other.text_starts.items base c.other.invariant.texts_begin small)
+    let o = c.other.inside in
+    starts_fit text_len (heads_of o.slims.items o.odds.items o.texts.items) o.text_starts.items _ c.len-text_base.result c.deref-5.ensures.value
+    c.other.invariant.texts_begin
+    (omega (arith, c.len-text_base.ensures, all_texts c.other.invariant, c.self.inside.texts.ok, c.self.inside.texts.small, o.texts.ok, o.texts.small))
 
 -- each part is put behind its part
 both_put : (c : After-put_shifted-2) → let l = c.self.inside in let o = c.other.inside in

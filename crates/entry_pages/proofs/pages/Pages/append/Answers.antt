@@ -5,7 +5,7 @@ use Rattle.entry_pages.specs.declared.entries.Entry.{Entry}
 use Rattle.entry_pages.specs.Pack.{Head}
 use Rattle.entry_pages.specs.Private.Kept.{rest_sum}
 use Rattle.entry_pages.proofs.Inverse.{kept_many, all_rests}
-use Rattle.entry_pages.proofs.Appended.{starts_small, ArePut, kept_put, told_put}
+use Rattle.entry_pages.proofs.Appended.{starts_fit, ArePut, kept_put, told_put}
 use Rattle.entry_pages.proofs.pages.Pages.append.Goals as goal
 use Rattle.entry_pages.proofs.pages.Pages.append.Goals.{After-cut_back}
 
@@ -14,12 +14,9 @@ append-requires c = ap (λ (n : ℕ). n % 256) (kept_many c.self.invariant) ∙ 
 
 pub put_shifted-requires-clause-fits : goal.put_shifted-requires-clause-fits
 put_shifted-requires-clause-fits c =
-    let base = c.len-base.result in
     let other = c.other.inside in
-    let small : base + rest_sum other.heads < 2 ^ 64 =
-    omega (arith, c.len-base.ensures, all_rests c.other.invariant, c.self.inside.rests.ok, c.self.inside.rests.small, other.rests.ok, other.rests.small) in
-    subst (All (λ (s : ℕ). base + s < 2 ^ 64)) (sym c.deref.ensures.value)
-    (starts_small (λ (h : Head). h.rest) other.heads other.starts.items base c.other.invariant.begins small)
+    starts_fit (λ (h : Head). h.rest) other.heads other.starts.items _ c.len-base.result c.deref.ensures.value c.other.invariant.begins
+    (omega (arith, c.len-base.ensures, all_rests c.other.invariant, c.self.inside.rests.ok, c.self.inside.rests.small, other.rests.ok, other.rests.small))
 
 -- each part is put behind its part
 parts_put : (c : After-cut_back) → let l = c.self.inside in let other = c.other.inside in
