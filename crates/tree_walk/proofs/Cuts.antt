@@ -156,17 +156,11 @@ of_cut Q (walked.Cut cut) list found left e h q = subst (λ v. Q cut.done v) (sy
 
 -- ---- too much is found
 
--- how many entries were found, of a whole walk or of one that was cut
-pub record IsCounted (stop : Option ℕ) (tree : Option Files) (starts : List (List ℕ)) (old new n : ℕ) (w : Walked) (list : List Entry) : Type 0 where
-  pub found : w ≡ walked.Whole → IsFound tree starts old new list
-  pub cut : IfCut w (λ cut. IsCutFound tree starts old new cut.done (all_left cut.left.items))
-  pub whole : stop ≡ None → w ≡ walked.Whole
-  pub number : n ≡ length (found_in w list)
-
-pub too_many : (stop : Option ℕ) (tree : Option Files) (starts : List (List ℕ)) (old new n : ℕ) (w : Walked) (list : List Entry) →
-    IsCounted stop tree starts old new n w list → max_entries < n → IsTooMany stop tree starts old new n
-too_many stop tree starts old new n walked.Whole list c above =
-    inl (record { list = list; found = c.found refl; number = c.number; above = above })
-too_many None tree starts old new n (walked.Cut cut) list c above = let never = c.whole refl in cc
-too_many (Some k) tree starts old new n (walked.Cut cut) list c above =
-    inr (refl, record { done = cut.done; left = all_left cut.left.items; found = c.cut; number = c.number; above = above })
+-- of a whole walk or, with a stop, of one that may be cut
+pub too_many : (stop : Option ℕ) (tree : Option Files) (starts : List (List ℕ)) (old new n : ℕ) (list : List Entry) (left : List (List ℕ)) →
+    (stop ≡ None → IsFound tree starts old new list) → IsCutFound tree starts old new list left → n ≡ length list → max_entries < n
+    → IsTooMany stop tree starts old new n
+too_many None tree starts old new n list left found cut number above =
+    inl (record { list = list; found = found refl; number = number; above = above })
+too_many (Some k) tree starts old new n list left found cut number above =
+    inr (refl, record { done = list; left = left; found = cut; number = number; above = above })

@@ -37,18 +37,3 @@ pub struct WalkReport {
     /// it, and the last is the number of entries.
     pub sums: Vec<u64>,
 }
-
-impl WalkReport {
-    ghost use Rattle.std.specs.Prelude.{◌≡◌, length};
-    ghost use Rattle.tree_walk.specs.Cut.{found_in};
-
-    // How many entries were found, in the list or before the cut.
-    pub(crate) fn found(&self) -> usize
-        ensures { result ≡ length (found_in self.now.walked self.now.list) }
-    {
-        match &self.walked {
-            Walked::Whole => self.list.len(),
-            Walked::Cut(cut) => cut.done.len(),
-        }
-    }
-}

@@ -87,55 +87,6 @@ where
     ensures area { G.area ground.new ≡ G.area ground.old }
     ensures count { RoseBy 0 (G.count ground.old) (G.count ground.new) }
 {
-    let report = found(rt, alloc, ground, starts, options)?;
-    if report.found() > MAX_ENTRIES {
-        return Err(WalkError::TooMany(report.found() as u64));
-    }
-    Ok(report)
-}
-
-// The report of a walk, however many entries the ranks find.
-fn found<W: Threads + Wait + Sync, G: Ground>(
-    rt: &W,
-    alloc: Global,
-    ground: &mut G,
-    starts: Vec<Path>,
-    options: &Options,
-) -> Result<WalkReport, WalkError>
-where
-    G::Reader: Send,
-    requires ranks { (1 ≤ options.now.ranks) × (options.now.ranks ≤ 64) }
-    requires hosts { (1 ≤ options.now.hosts) × (options.now.hosts ≤ 64) }
-    requires trace { options.now.trace ≡ true → (options.now.hosts ≡ 1) × (options.now.stop_after ≡ None) }
-    requires width { (2 ≤ options.now.width) × (options.now.width ≤ 64) }
-    requires apart { Apart starts.items }
-    ensures found { IfOk result (λ r. r.walked ≡ Walked.Whole → IsFound (G.tree ground.old) starts.items (G.count ground.old) (G.count ground.new) r.list) }
-    ensures answered { IfOk result (λ r. All (IsAnswered G.Reader.gives) (found_in r.walked r.list)) }
-    ensures whole { IfOk result (λ r. options.now.stop_after ≡ None → r.walked ≡ Walked.Whole) }
-    ensures cut { IfOk result (λ r. IfCut r.walked
-        (λ cut. IsCutFound (G.tree ground.old) starts.items (G.count ground.old) (G.count ground.new) cut.done (all_left cut.left.items))) }
-    ensures empty { IfOk result (λ r. IfCut r.walked (λ cut. r.list ≡ [])) }
-    ensures lists { IfOk result (λ r. IfCut r.walked (λ cut. length cut.left.items ≡ options.now.ranks)) }
-    ensures some_left { IfOk result (λ r. IfCut r.walked (λ cut. 0 < length (all_left cut.left.items))) }
-    ensures reached { IfOk result (λ r. IfCut r.walked (λ cut. IfSome options.now.stop_after (λ k. Any (λ s. s.handled ≡ k) r.shares.items))) }
-    ensures bound { IfOk result (λ r. IfSome options.now.stop_after (λ k. All (λ s. s.handled ≤ k) r.shares.items)) }
-    ensures shares { IfOk result (λ r. length (found_in r.walked r.list) < 2 ^ 64
-        → sum_by (λ s. s.handled) r.shares.items ≡ length (found_in r.walked r.list)) }
-    ensures by_rank { IfOk result (λ r. length r.shares.items ≡ options.now.ranks) }
-    ensures moved { IfOk result (λ r. min (sum_by (λ s. s.given) r.shares.items) (2 ^ 128 - 1) ≡ min (sum_by (λ s. s.taken) r.shares.items) (2 ^ 128 - 1)) }
-    ensures ran { IfOk result (λ r. options.now.hosts ≡ 1 → options.now.stop_after ≡ None
-        → WasWalked (G.tree ground.old) options.now starts.items r.list r.shares.items r.events.items) }
-    ensures traced { IfOk result (λ r. options.now.trace ≡ true
-        → IfSome (G.tree ground.old) (λ files. IsTracedWalk files options.now starts.items r.list r.events.items)) }
-    ensures counts { IfOk result (λ r. options.now.trace ≡ true → r.shares.items ≡ map (share_in r.events.items) (range_with_len 0 options.now.ranks)) }
-    ensures untraced { IfOk result (λ r. options.now.trace ≡ false → r.events.items ≡ []) }
-    ensures progress { IfOk result (λ r. length (found_in r.walked r.list) < 2 ^ 56
-        → IsProgressTo (length (found_in r.walked r.list)) options.now.ranks r.sums.items) }
-    ensures memory { IfErr result (λ e. e ≡ WalkError.OutOfMemory) }
-    ensures same { G.tree ground.new ≡ G.tree ground.old }
-    ensures area { G.area ground.new ≡ G.area ground.old }
-    ensures count { RoseBy 0 (G.count ground.old) (G.count ground.new) }
-{
     // The number of a stop has 64 bits.
     let _most = options.stop_after.unwrap_or(u64::MAX);
     let jobs = made(alloc, ground, options.ranks)?;
@@ -143,6 +94,9 @@ where
     let mut names = Vec::new(alloc);
     let logs = opened(alloc, ground, finished.jobs, &mut names)?;
     let found = listed(rt, alloc, logs, names, options.hosts)?;
+    if found.len() > MAX_ENTRIES {
+        return Err(WalkError::TooMany(found.len() as u64));
+    }
     let (list, walked) = split(alloc, found, finished.left);
     Ok(WalkReport {
         list,
