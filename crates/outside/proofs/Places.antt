@@ -1,8 +1,8 @@
 -- The first of some lists of tops.
 use Rattle.std.proofs.Common.{◌≡◌, ℕ, zero, suc, ◌+◌, ◌<◌, ◌≤◌, true, false, cond, ◌||◌, List, [], ◌∷◌, length, get_or, refl, ap}
-use Rattle.std.proofs.Common.{◌∙◌, sym, subst, arith, eqb, slice_get, Some}
+use Rattle.std.proofs.Common.{◌∙◌, sym, arith, slice_get, Some}
+use borrow.Author.Count.{below_more}
 use Rattle.std.proofs.lemmas.Bool.{false≢true}
-use Rattle.std.proofs.lemmas.Bool.Decides.{nat_tests}
 use Rattle.std.proofs.lemmas.Option.{slice_get_within, get_or_from_slice_get}
 use Rattle.std.specs.List.{list_any, remove}
 use Rattle.outside.specs.Lease.{same_tops, without_tops}
@@ -31,13 +31,6 @@ some_place lent k tops n l e = false≢true (sym (none_of lent tops (λ j v at. 
 
 pub more_before : (lent : List (List (List ℕ))) (k : ℕ) (tops : List (List ℕ)) (d : List (List ℕ)) → NoneBefore k tops lent
     → k < length lent → same_tops (get_or lent k d) tops ≡ false → NoneBefore (k + 1) tops lent
-more_before lent k tops d n l e j v m at = elim (eqb j k) as (λ b. eqb j k ≡ b → same_tops v tops ≡ false) [
-  | true ↦ λ is. ap (λ w. same_tops w tops) (sym (get_or_from_slice_get lent k v d (subst (λ i. slice_get lent i ≡ Some v) (same j k is) at))) ∙ e
-  | false ↦ λ off. n j v (before j k m off) at
-] refl
-  where
-    same : (j k : ℕ) → eqb j k ≡ true → j ≡ k
-    same j k e = grind (arith, nat_tests)
-
-    before : (j k : ℕ) → j < k + 1 → eqb j k ≡ false → j < k
-    before j k l e = grind (arith, nat_tests)
+more_before lent k tops d n l e j v m at =
+    below_more (λ i. (w : List (List ℕ)) → slice_get lent i ≡ Some w → same_tops w tops ≡ false) k (λ i less w here. n i w less here)
+    (λ w here. ap (λ x. same_tops x tops) (sym (get_or_from_slice_get lent k w d here)) ∙ e) j m v at
