@@ -12,3 +12,4 @@ pub mod Parts
 pub mod Laid
 pub mod Listed
 pub mod Spans
+pub mod PrivateSaves

@@ -1,9 +1,10 @@
 //! Writes whole files.
-ghost use Rattle.std.specs.Prelude.{◌≡◌, ◌≢◌, ◌⊎◌, true, false, [], length, Some, None, Ok, Err, OnOk, OnErr, IfOk, IfErr, IfSome, IsErrOf, IsTrue, is_some};
+ghost use Rattle.std.specs.Prelude.{◌≡◌, ◌≢◌, ◌⊎◌, true, false, [], length, Some, None, Ok, Err, OnOk, IfOk, IfErr, IfSome, IsErrOf, IsTrue, is_some};
 ghost use Rattle.std.specs.FinMap as map;
 ghost use Rattle.outside.specs.Count.{RoseBy};
-ghost use Rattle.outside.specs.Tree.{is_file, is_dir};
-ghost use Rattle.outside.specs.Writes.{nothing_lent, is_open, make_refusal, new_file, SameBut};
+ghost use Rattle.outside.specs.Tree.{is_file};
+ghost use Rattle.outside.specs.Writes.{nothing_lent, is_open, make_refusal, new_file};
+ghost use Rattle.outside.specs.PrivateSaves.{SaveStep};
 ghost use Rattle.outside.specs.Whole.{can_put, Saves, Holds, IsOld};
 ghost use Rattle.outside.specs.Asked as asked;
 ghost use Rattle.outside.specs.Answered.{over_told, place_told, LookFound, LookStopped, LastWrite, Cleared, WroteFront, SaveEnded, SaveStopped};
@@ -170,12 +171,7 @@ fn clear<G: Ground>(alloc: Global, ground: &mut G, path: &Path, old: bool) -> Re
     requires open { IsTrue (is_open (G.area ground.old) path.now) }
     requires old { IfSome (G.tree ground.old) (λ files. IsOld old (map.get files path.now)) }
     ensures told { OnOk result (IfSome (G.tree ground.old) (λ files. IfSome (G.tree ground.new) (Holds path.now None files))) }
-    ensures no_place { IsErrOf result SaveError.NoPlace → is_some (G.tree ground.old) ≡ false }
-    ensures rest { OnErr result (IfSome (G.tree ground.old) (λ files. IfSome (G.tree ground.new) (SameBut path.now files))) }
-    ensures tells { is_some (G.tree ground.new) ≡ is_some (G.tree ground.old) }
-    ensures area { G.area ground.new ≡ G.area ground.old }
-    ensures count { RoseBy 0 (G.count ground.old) (G.count ground.new) }
-    ensures cause { IsErrOf result SaveError.Failed → RoseBy 1 (G.count ground.old) (G.count ground.new) }
+    ensures kept { SaveStep path.now (G.tree ground.old) (G.tree ground.new) (G.area ground.old) (G.area ground.new) (G.count ground.old) (G.count ground.new) result }
     ensures done { OnOk result (Cleared G.gives path.now old ground.old ground.new) }
     ensures stopped { IfErr result (λ e. LastWrite G.gives path.now e ground.new) }
 {
@@ -191,12 +187,7 @@ fn make_empty<G: Ground>(alloc: Global, ground: &mut G, path: &Path) -> Result<(
     requires open { IsTrue (is_open (G.area ground.old) path.now) }
     requires free { IfSome (G.tree ground.old) (λ files. make_refusal nothing_lent files path.now ≡ None) }
     ensures told { OnOk result (IfSome (G.tree ground.old) (λ files. IfSome (G.tree ground.new) (Holds path.now (Some (new_file [])) files))) }
-    ensures no_place { IsErrOf result SaveError.NoPlace → is_some (G.tree ground.old) ≡ false }
-    ensures rest { OnErr result (IfSome (G.tree ground.old) (λ files. IfSome (G.tree ground.new) (SameBut path.now files))) }
-    ensures tells { is_some (G.tree ground.new) ≡ is_some (G.tree ground.old) }
-    ensures area { G.area ground.new ≡ G.area ground.old }
-    ensures count { RoseBy 0 (G.count ground.old) (G.count ground.new) }
-    ensures cause { IsErrOf result SaveError.Failed → RoseBy 1 (G.count ground.old) (G.count ground.new) }
+    ensures kept { SaveStep path.now (G.tree ground.old) (G.tree ground.new) (G.area ground.old) (G.area ground.new) (G.count ground.old) (G.count ground.new) result }
     ensures done { OnOk result (G.gives ground.old path.now asked.make_file (Ok tt) ground.new) }
     ensures stopped { IfErr result (λ e. LastWrite G.gives path.now e ground.new) }
 {
@@ -214,12 +205,7 @@ fn write_all<G: Ground>(
     requires open { IsTrue (is_open (G.area ground.old) path.now) }
     requires empty { IfSome (G.tree ground.old) (λ files. map.get files path.now ≡ Some (new_file [])) }
     ensures told { OnOk result (IfSome (G.tree ground.old) (λ files. IfSome (G.tree ground.new) (Holds path.now (Some (new_file bytes.now)) files))) }
-    ensures no_place { IsErrOf result SaveError.NoPlace → is_some (G.tree ground.old) ≡ false }
-    ensures rest { OnErr result (IfSome (G.tree ground.old) (λ files. IfSome (G.tree ground.new) (SameBut path.now files))) }
-    ensures tells { is_some (G.tree ground.new) ≡ is_some (G.tree ground.old) }
-    ensures area { G.area ground.new ≡ G.area ground.old }
-    ensures count { RoseBy 0 (G.count ground.old) (G.count ground.new) }
-    ensures cause { IsErrOf result SaveError.Failed → RoseBy 1 (G.count ground.old) (G.count ground.new) }
+    ensures kept { SaveStep path.now (G.tree ground.old) (G.tree ground.new) (G.area ground.old) (G.area ground.new) (G.count ground.old) (G.count ground.new) result }
     ensures done { OnOk result (WroteFront G.gives path.now bytes.now (length bytes.now) ground.old ground.new) }
     ensures stopped { IfErr result (λ e. LastWrite G.gives path.now e ground.new) }
 {

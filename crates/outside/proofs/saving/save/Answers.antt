@@ -12,8 +12,8 @@ returns-clause-told g c =
     let made = c.in_ok-make_empty.ensures in
     let write = c.write_all.ensures in
     let old = c.in_ok-old.ensures in
-    saved _ _ _ _ _ _ _ _ _ old.same clear.tells made.tells write.tells (can_long _ _ _ _ over.0 over.1 old.told)
-    clear.told made.told write.told write.no_place write.rest
+    saved _ _ _ _ _ _ _ _ _ old.same clear.kept.tells made.kept.tells write.kept.tells (can_long _ _ _ _ over.0 over.1 old.told)
+    clear.told made.told write.told write.kept.no_place write.kept.rest
 
 pub returns-clause-ended : goal.returns-clause-ended
 returns-clause-ended g c =
