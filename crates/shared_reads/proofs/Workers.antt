@@ -171,41 +171,35 @@ module _ {R O : Type 0} (tree : R → Option Files) (count : R → ℕ) (told : 
 
   -- ---- from readers to workers and back
 
-  trees-back : (left : List R) (ws : List (Worker R O)) → map tree (left ++ reverse (readers_of ws)) ≡ map tree left ++ reverse (trees_of ws)
-  trees-back left ws = map-append tree left (reverse (readers_of ws))
-      ∙ ap (λ xs. map tree left ++ xs) (map-reverse tree (readers_of ws) ∙ ap reverse (twice ws))
+  -- what is told of the readers, once those of the workers are back
+  told-back : {A : Type 0} (told : R → A) (left : List R) (ws : List (Worker R O))
+      → map told (left ++ reverse (readers_of ws)) ≡ map told left ++ reverse (map (λ (w : Worker R O). told w.reader) ws)
+  told-back told left ws = map-append told left (reverse (readers_of ws))
+      ∙ ap (λ xs. map told left ++ xs) (map-reverse told (readers_of ws) ∙ ap reverse (twice ws))
     where
-      twice : (ws : List (Worker R O)) → map tree (readers_of ws) ≡ trees_of ws
+      twice : (ws : List (Worker R O)) → map told (readers_of ws) ≡ map (λ (w : Worker R O). told w.reader) ws
       twice [] = refl
-      twice (w ∷ ws) = ap (λ ts. tree w.reader ∷ ts) (twice ws)
-
-  counts-back : (left : List R) (ws : List (Worker R O)) → map count (left ++ reverse (readers_of ws)) ≡ map count left ++ reverse (counts_of ws)
-  counts-back left ws = map-append count left (reverse (readers_of ws))
-      ∙ ap (λ xs. map count left ++ xs) (map-reverse count (readers_of ws) ∙ ap reverse (twice ws))
-    where
-      twice : (ws : List (Worker R O)) → map count (readers_of ws) ≡ counts_of ws
-      twice [] = refl
-      twice (w ∷ ws) = ap (λ ts. count w.reader ∷ ts) (twice ws)
+      twice (w ∷ ws) = ap (λ xs. told w.reader ∷ xs) (twice ws)
 
   -- workers that are hired and dismissed
   module _ (left readers new : List R) (ws ws' : List (Worker R O)) (lent : left ++ reverse (readers_of ws) ≡ readers)
       (back : new ≡ left ++ reverse (readers_of ws')) (as_many : length ws' ≡ length ws) (each : Each ws ws') where
     pub same_trees : map tree new ≡ map tree readers
-    same_trees = ap (map tree) back ∙ trees-back left ws' ∙ ap (λ ts. map tree left ++ reverse ts) (worked_trees ws ws' as_many each)
-        ∙ sym (trees-back left ws) ∙ ap (map tree) lent
+    same_trees = ap (map tree) back ∙ told-back tree left ws' ∙ ap (λ ts. map tree left ++ reverse ts) (worked_trees ws ws' as_many each)
+        ∙ sym (told-back tree left ws) ∙ ap (map tree) lent
 
     pub none_fell : NoneFell (map count readers) (map count new)
     none_fell =
         subst (λ r. NoneFell (map count r) (map count new)) lent (subst (λ r. NoneFell (map count (left ++ reverse (readers_of ws))) (map count r)) (sym back)
-        (subst (λ r. NoneFell r (map count (left ++ reverse (readers_of ws')))) (sym (counts-back left ws))
-        (subst (NoneFell (map count left ++ reverse (counts_of ws))) (sym (counts-back left ws'))
+        (subst (λ r. NoneFell r (map count (left ++ reverse (readers_of ws')))) (sym (told-back count left ws))
+        (subst (NoneFell (map count left ++ reverse (counts_of ws))) (sym (told-back count left ws'))
         (fell-append (map count left) (map count left) (reverse (counts_of ws)) (reverse (counts_of ws')) (fell-same (map count left))
         (fell-reverse (counts_of ws) (counts_of ws') (worked_fell ws ws' as_many each))))))
 
     all_rose : RoseTogether (told_by ws') (map count readers) (map count new)
     all_rose = λ no.
-        let counts : map count new ≡ map count left ++ reverse (counts_of ws') = ap (map count) back ∙ counts-back left ws' in
-        let were : map count readers ≡ map count left ++ reverse (counts_of ws) = ap (map count) (sym lent) ∙ counts-back left ws in
+        let counts : map count new ≡ map count left ++ reverse (counts_of ws') = ap (map count) back ∙ told-back count left ws' in
+        let were : map count readers ≡ map count left ++ reverse (counts_of ws) = ap (map count) (sym lent) ∙ told-back count left ws in
         let ends = both_false (is_at_end (map count left)) (is_at_end (reverse (counts_of ws')))
         (sym (list_any-append (nat_le (2 ^ 64 - 1)) (map count left) (reverse (counts_of ws'))) ∙ ap is_at_end (sym counts) ∙ no) in
         let more = worked_rose ws ws' as_many each (at_end-reverse (counts_of ws') ends.1) in
