@@ -1,44 +1,15 @@
 -- Spans made of cuts, and joined again.
-use Rattle.std.proofs.Common.{◌≡◌, ℕ, cond, ◌+◌, ◌-◌, ◌≤◌, ◌<◌, Bool, true, false, ◌&&◌, List, [], ◌∷◌, ◌++◌, length, map, take, drop, get_or}
+use Rattle.std.proofs.Common.{◌≡◌, ℕ, cond, ◌+◌, ◌≤◌, ◌<◌, Bool, true, false, List, [], ◌∷◌, ◌++◌, length, map, take, get_or}
 use Rattle.std.proofs.Common.{refl, ap, ◌∙◌, sym, subst, arith, append_assoc, append-nil}
 use Rattle.std.proofs.lemmas.Bool.{false≢true}
-use Rattle.std.proofs.lemmas.List.{length-append, length-replicate, drop_more, take_more, drop_all}
+use Rattle.std.proofs.lemmas.List.{length-append, length-replicate, take_more}
 use Rattle.std.proofs.lemmas.List.Sums.{sum_by-cons, sum_by_more_le}
 use Rattle.std.specs.List.{sum_by}
 use Rattle.std.proofs.lemmas.List.Elements.{All-cons, All-tail}
-use Rattle.std.specs.Prelude.{nat_lt, ◌==◌, Some, None, Result, Ok, Err, IfOk, is_some, All, replicate}
+use Rattle.std.specs.Prelude.{Some, None, Result, Ok, Err, IfOk, is_some, All, replicate}
 use Rattle.outside.specs.Tree.{Files}
-use Rattle.outside.specs.Spans.{Piece, ascends_above, are_cuts, pieces_from, zeros_of, told_bytes, joined_bytes}
+use Rattle.outside.specs.Spans.{Piece, zeros_of, told_bytes, joined_bytes}
 use Rattle.files_mem.specs.Spanned.{Spanned, piece_of, held_by, blank, bytes_of_all}
-
-both : (a b : Bool) → (a && b) ≡ true → (a ≡ true) × (b ≡ true)
-both true true e = (refl, refl)
-both true false e = absurd (false≢true e)
-both false b e = absurd (false≢true e)
-
--- behind the first cut the others ascend
-pub cuts_ascend : (first : ℕ) (rest : List ℕ) → are_cuts (first ∷ rest) ≡ true → ascends_above first rest ≡ true
-cuts_ascend first [] e = refl
-cuts_ascend first (second ∷ cuts) e = (both (first == 0) (ascends_above first (second ∷ cuts)) e).1
-
--- one cut further
-pub ascends_on : (at : ℕ) (rest : List ℕ) (i d : ℕ) → i < length rest → ascends_above at (drop i rest) ≡ true
-    → (nat_lt at (get_or rest i d) ≡ true) × (ascends_above (get_or rest i d) (drop (i + 1) rest) ≡ true)
-ascends_on at rest i d l e =
-    both (nat_lt at (get_or rest i d)) (ascends_above (get_or rest i d) (drop (i + 1) rest)) (ap (ascends_above at) (sym (drop_more rest i d l)) ∙ e)
-
-pub made_on : (tells fails : Bool) (path : List ℕ) (at : ℕ) (rest : List ℕ) (i d : ℕ) (spans all : List Spanned) → i < length rest →
-    spans ++ map (blank tells fails) (pieces_from path at (drop i rest)) ≡ all →
-    (spans ++ blank tells fails (record { path = path; start = at; size = get_or rest i d - at }) ∷ [])
-    ++ map (blank tells fails) (pieces_from path (get_or rest i d) (drop (i + 1) rest)) ≡ all
-made_on tells fails path at rest i d spans all l e =
-    append_assoc spans (blank tells fails (record { path = path; start = at; size = get_or rest i d - at }) ∷ []) _
-    ∙ ap (λ r. spans ++ map (blank tells fails) (pieces_from path at r)) (sym (drop_more rest i d l)) ∙ e
-
-pub made_all : (tells fails : Bool) (path : List ℕ) (at : ℕ) (rest : List ℕ) (i : ℕ) (spans all : List Spanned) → length rest ≤ i →
-    spans ++ map (blank tells fails) (pieces_from path at (drop i rest)) ≡ all → spans ≡ all
-made_all tells fails path at rest i spans all l e =
-    sym (append-nil spans) ∙ ap (λ r. spans ++ map (blank tells fails) (pieces_from path at r)) (sym (drop_all i rest l)) ∙ e
 
 length_all : (spans : List Spanned) → length (bytes_of_all spans) ≡ sum_by (λ span. length span.bytes) spans
 length_all [] = refl

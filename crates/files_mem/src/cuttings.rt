@@ -1,13 +1,13 @@
 //! Files that are out in spans, and the places that wait for them.
 ghost use Rattle.std.specs.Prelude.{◌≡◌, ◌+◌, ◌≤◌, ◌<◌, ◌++◌, ◌∷◌, [], Some, true, length, map, IfOk, OnOk, OnErr, IsTrue, is_some};
-ghost use Rattle.std.specs.Prelude.{slice_get};
-ghost use Rattle.std.specs.List.{sum_by, remove};
+ghost use Rattle.std.specs.Prelude.{nat_eq};
+ghost use Rattle.std.specs.Cmp.Lexicographic.{pointwise};
+ghost use Rattle.std.specs.List.{sum_by, position};
 ghost use Rattle.std.specs.FinMap.{get};
 ghost use Rattle.std.specs.Vec.{vec_len, vec_capacity};
 ghost use Rattle.outside.specs.Lease.{kept, leased};
 ghost use Rattle.outside.specs.Parts.{IsPart};
 ghost use Rattle.std.specs.Arc.{arc_value};
-ghost use Rattle.outside.specs.Writes.{Cut};
 ghost use Rattle.outside.specs.Spans.{pieces, cuts_at, without_cut};
 ghost use Rattle.outside.specs.Tree.{is_file, content};
 ghost use Rattle.files_mem.specs.Spanned.{piece_of, bytes_of_all, whole_size, IsCutOut};
@@ -177,6 +177,13 @@ impl Cuttings {
         Ok(())
     }
 
+    // The place of the first cutting of the file at the path.
+    fn place_of(&self, path: &Path) -> Option<usize>
+        ensures { result ≡ position (λ one. pointwise nat_eq one.path path.now) self.now }
+    {
+        self.out.iter().position(|one| one.path() == path)
+    }
+
     /// Takes the first cutting of the file at the path away.
     pub fn take(&mut self, path: &Path) -> Cutting
         requires { is_some (cuts_at path.now self.old) ≡ true }
@@ -184,7 +191,7 @@ impl Cuttings {
         ensures cuts { cuts_at path.now self.old ≡ Some result.cuts }
         ensures rest { self.new ≡ without_cut path.now self.old }
     {
-        let place = place_of(&self.out, path);
+        let place = self.place_of(path).unwrap();
         self.out.remove(place)
     }
 }
@@ -195,19 +202,4 @@ fn put_last(out: &mut Vec<Cutting>, cutting: Cutting)
     ensures { out.new.items ≡ out.old.items ++ cutting ∷ [] }
 {
     let _ = out.push(cutting);
-}
-
-// The place of the first cutting of the file at the path.
-fn place_of(out: &[Cutting], path: &Path) -> usize
-    requires { is_some (cuts_at path.now out.now) ≡ true }
-    ensures inside { result < length out.now }
-    ensures rest { without_cut path.now out.now ≡ remove out.now result }
-    ensures cuts { (cut : Cut) → slice_get out.now result ≡ Some cut → (cut.path ≡ path.now) × (cuts_at path.now out.now ≡ Some cut.cuts) }
-{
-    for k in 0..out.len() {
-        if out[k].path() == path {
-            return k;
-        }
-    }
-    unreachable!()
 }

@@ -1,9 +1,9 @@
 //! Files of the system that are lent in spans.
-ghost use Rattle.std.specs.Prelude.{◌≡◌, ◌<◌, ◌++◌, ◌∷◌, [], ℕ, List, Some, true, length, map, slice_get};
+ghost use Rattle.std.specs.Prelude.{◌≡◌, ◌++◌, ◌∷◌, [], ℕ, List, Some, true, length, map, nat_eq};
 ghost use Rattle.std.specs.Prelude.{All, IfOk, OnOk, OnErr, IsTrue, is_some};
-ghost use Rattle.std.specs.List.{sum_by, remove};
+ghost use Rattle.std.specs.List.{sum_by, position};
+ghost use Rattle.std.specs.Cmp.Lexicographic.{pointwise};
 ghost use Rattle.outside.specs.Count.{RoseBy, capped};
-ghost use Rattle.outside.specs.Writes.{Cut};
 ghost use Rattle.outside.specs.Spans.{Piece, are_cuts, ascends_above, cuts_at, pieces, pieces_from, without_cut};
 ghost use Rattle.real_disk.specs.Spans.{blank, count_of, piece_of, untold};
 
@@ -235,26 +235,19 @@ impl Cuttings {
         Ok(())
     }
 
+    // The place of the first lease of the file at the path.
+    fn place_of(&self, path: &Path) -> Option<usize>
+        ensures { result ≡ position (λ one. pointwise nat_eq one.path path.now) self.now }
+    {
+        self.out.iter().position(|one| one.path() == path)
+    }
+
     /// Ends the first lease of the file at the path. It takes no memory.
     pub fn end(&mut self, path: &Path)
         requires { is_some (cuts_at path.now self.old) ≡ true }
         ensures { self.new ≡ without_cut path.now self.old }
     {
-        let place = place_of(&self.out, path);
+        let place = self.place_of(path).unwrap();
         self.out.remove(place);
     }
-}
-
-// The place of the first lease of the file at the path.
-fn place_of(out: &[Cutting], path: &Path) -> usize
-    requires { is_some (cuts_at path.now out.now) ≡ true }
-    ensures inside { result < length out.now }
-    ensures rest { without_cut path.now out.now ≡ remove out.now result }
-{
-    for k in 0..out.len() {
-        if out[k].path() == path {
-            return k;
-        }
-    }
-    unreachable!()
 }
