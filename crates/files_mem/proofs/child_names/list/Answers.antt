@@ -4,6 +4,7 @@ use Rattle.path_text.specs.Order.{front}
 use Rattle.outside.specs.Tree.{is_one_name}
 use Rattle.files_mem.proofs.Listed.{Listable, names_are, names_long, reading_begins, reading_other, reading_child, reading_shorter, reading_stops, reading_ends}
 use Rattle.files_mem.proofs.child_names.list.Goals as goal
+use Rattle.files_mem.proofs.child_names.list.Goals.{In-Some-strip}
 
 pub returns-in_default : goal.returns-in_default
 returns-in_default c =
@@ -45,6 +46,10 @@ returns-in_default-strip c =
       inv.far,
     )
 
+-- the key is the name behind the front of the path
+is_behind : (c : In-Some-strip) → c.in-Some-next.key.now ≡ front c.args.path.now ++ c.in-Some-strip.name.now
+is_behind c = sym c.text.ensures.text ∙ c.in-Some-strip.ensures.on ∙ ap (λ f. f ++ c.in-Some-strip.name.now) (c.deref.ensures ∙ c.in_ok-front.ensures)
+
 pub loop-key-smaller-then-is_one_name : goal.loop-key-smaller-then-is_one_name
 loop-key-smaller-then-is_one_name c =
     let inv = c.loop-key.invariant in
@@ -54,9 +59,7 @@ pub loop-key-preserved-then-is_one_name : goal.loop-key-preserved-then-is_one_na
 loop-key-preserved-then-is_one_name c =
     let inv = c.loop-key.invariant in
     let name = c.in-Some-strip.name.now in
-    let text = c.deref.ensures ∙ c.in_ok-front.ensures in
-    let is : c.in-Some-next.key.now ≡ front c.args.path.now ++ name =
-    sym c.text.ensures.text ∙ c.in-Some-strip.ensures.on ∙ ap (λ f. f ++ name) text in
+    let is = is_behind (goal.at.loop-key-preserved-then-is_one_name c).In-Some-strip in
     let one : is_one_name name ≡ true = sym c.is_one_name.ensures ∙ c.if-is_one_name.true in
     let added = c.in_ok-add_name.ensures.ok in
     let before = c.loop-key.listing.0 in
@@ -72,9 +75,7 @@ pub loop-key-preserved : goal.loop-key-preserved
 loop-key-preserved c =
     let inv = c.loop-key.invariant in
     let name = c.in-Some-strip.name.now in
-    let text = c.deref.ensures ∙ c.in_ok-front.ensures in
-    let is : c.in-Some-next.key.now ≡ front c.args.path.now ++ name =
-    sym c.text.ensures.text ∙ c.in-Some-strip.ensures.on ∙ ap (λ f. f ++ name) text in
+    let is = is_behind (goal.at.loop-key-preserved c).In-Some-strip in
     let other : is_one_name name ≡ false = sym c.is_one_name.ensures ∙ c.if-is_one_name.false in
     record {
       given = inv.given;
