@@ -6,14 +6,16 @@ use Rattle.std.specs.Ordering.{eq_by_cmp}
 use Rattle.std.specs.Cmp.Lexicographic.{bytes_decides}
 use Rattle.path_text.specs.Order.{path_cmp, is_within}
 use Rattle.path_text.specs.Total.{path_cmp_total, path_cmp_ties, path_cmp_same}
-use Rattle.outside.specs.Tree.{Files, Node}
+use Rattle.outside.specs.Tree.{Files, Node, is_dir}
 use Rattle.outside.specs.Writes.{empty_dir}
+use Rattle.outside.specs.declared.trees.Kind.TheVariants as kind
 use Rattle.level_work.specs.Acts.{at_and_under}
 use Rattle.level_work.specs.declared.items.Fate.{Fate}
 use Rattle.level_work.specs.declared.items.Fate.TheVariants as fate
 use Rattle.tree_copy.specs.PrivateDeeds.{MakeDir}
 use Rattle.tree_copy.specs.PrivateActs.{ByReader, IsDirMade}
-use Rattle.tree_copy.proofs.Looks.{Looked, Sight, failed, there, in_way, absent, sight}
+use Rattle.tree_copy.specs.PrivateNodes.{Looked}
+use Rattle.tree_copy.proofs.Looks.{Sight, dir_kind, failed, there, in_way, absent, sight}
 use Rattle.path_text.proofs.Within.{itself}
 use Rattle.tree_copy.proofs.Puts.{get_at, get_here, put_others}
 
@@ -38,7 +40,7 @@ made told p files none entry = record {
   answers = told_all told _ (λ seen. inl (get_here p files ∙ none, same_inserted p empty_dir files));
 }
 
-pub kept : (told : Option Files) (p : List ℕ) (f : Fate) (files : Files) → IfSome told (Looked p f) → is_some (get files p) ≡ true →
+pub kept : (told : Option Files) (p : List ℕ) (f : Fate) (files : Files) → IfSome told (Looked kind.Dir p f) → is_some (get files p) ≡ true →
     IsDirMade told p (Ok f) files files
 kept told p f files look taken entry = record { others = λ q off. refl; answers = by told look }
   where
@@ -48,12 +50,12 @@ kept told p f files look taken entry = record { others = λ q off. refl; answers
     keeps : Files → Fate → Type 0
     keeps seen f = MakeDir seen p entry f (at_and_under p files) (at_and_under p files)
 
-    seen_as : (seen : Files) → Sight (get seen p) f → keeps seen f
+    seen_as : (seen : Files) → Sight is_dir (get seen p) f → keeps seen f
     seen_as seen (failed e) = subst (keeps seen) (sym e) tt
     seen_as seen (there e is) = subst (keeps seen) (sym e) (inr (here, is, refl))
     seen_as seen (in_way e some is) = subst (keeps seen) (sym e) (here, some, is, refl)
     seen_as seen (absent e none) = subst (keeps seen) (sym e) (here, none, refl)
 
-    by : (told : Option Files) → IfSome told (Looked p f) → ByReader MakeDir told p entry f (at_and_under p files) (at_and_under p files)
+    by : (told : Option Files) → IfSome told (Looked kind.Dir p f) → ByReader MakeDir told p entry f (at_and_under p files) (at_and_under p files)
     by None look = tt
-    by (Some seen) look = seen_as seen (sight seen p f look)
+    by (Some seen) look = seen_as seen (sight kind.Dir is_dir dir_kind seen p f look)

@@ -1,5 +1,5 @@
 -- A node that is made at a path, in place of none or of an old one of its kind.
-use Rattle.std.proofs.Common.{◌≡◌, inl, ℕ, Bool, true, false, cond, ◌||◌, List, Option, Some, None, IfSome, refl, ◌∙◌, sym, subst, is_some}
+use Rattle.std.proofs.Common.{◌≡◌, ◌≢◌, inl, inr, ℕ, Bool, true, false, cond, ◌||◌, List, Option, Some, None, IfSome, refl, ap, ◌∙◌, sym, subst, is_some}
 use Rattle.std.specs.Prelude.{Result, Ok, Err, IfOk, IsTrue}
 use Rattle.std.proofs.lemmas.Bool.{false≢true}
 use Rattle.std.specs.FinMap.{get, insert, remove}
@@ -12,7 +12,10 @@ use Rattle.outside.specs.declared.plots.WriteError.TheVariants as write
 use Rattle.level_work.specs.declared.items.Fate.{Fate}
 use Rattle.level_work.specs.declared.items.Fate.TheVariants as fate
 use Rattle.level_work.proofs.Working.{both_told}
-use Rattle.tree_copy.specs.PrivateActs.{IsPlaced, IsReplaced, MadeAnew, TellsFate}
+use Rattle.tree_copy.specs.PrivateActs.{IsPlaced, IsReplaced, MadeAnew, Placed, TellsFate}
+use Rattle.tree_copy.specs.PrivateNodes.{Looked, is_old_of, kind_of, node_of}
+use Rattle.tree_copy.specs.declared.anew.NewNode.{NewNode}
+use Rattle.tree_copy.proofs.Looks.{Sight, absent, failed, in_way, old_kind, sight, there}
 use Rattle.tree_copy.proofs.Makes.{told_all}
 use Rattle.tree_copy.proofs.Puts.{put_here, put_others, gone_here, gone_others, answered}
 
@@ -26,6 +29,11 @@ pub removed_only : (p : List ℕ) (t t' : Option Files) →
     IfSome t (λ files. IfSome t' (Gone p files))
 removed_only p t t' = answered (λ files. remove_file_refusal (get files p)) (λ files. remove files p) (Gone p) t t'
     (λ files r. record { others = gone_others p files; none = gone_here p files })
+
+-- a node is at the path, and a refused call left it there
+pub record StillTaken (path : List ℕ) (before after : Files) : Type 0 where
+  pub same : after ≡ before
+  pub there : is_some (get before path) ≡ true
 
 pub replaced_done : (n : Node) (p : List ℕ) (area : Area) (t0 t1 t2 : Option Files) → is_some t1 ≡ is_some t0 →
     IfSome t0 (λ a. IfSome t1 (Gone p a)) →
@@ -94,3 +102,63 @@ placed_new n is_old told p files none = record {
   answers = told_all told _ (λ seen. (inl none, put_here p n files));
   there = λ e. put_here p n files;
 }
+
+-- a node that is in the way
+
+module _ (new : NewNode) (told : Option Files) (p : List ℕ) where
+  -- it stays, by what a look showed
+  pub left_there : (f : Fate) (files : Files) → f ≢ fate.Done → IfSome told (Looked (kind_of new) p f) → is_some (get files p) ≡ true →
+      IsPlaced (node_of new) (is_old_of new) told p (Ok f) files files
+  left_there f files off look taken = record {
+    others = λ q off. refl;
+    answers = by told look;
+    there = λ is. absurd (subst (λ (r : Result Fate OutOfMemory). IfOk r (λ g. g ≢ fate.Done)) is off refl);
+  }
+    where
+      leaves : Files → Fate → Type 0
+      leaves seen f = Placed (node_of new) (is_old_of new) seen p f files files
+
+      seen_as : (seen : Files) → Sight (is_old_of new) (get seen p) f → leaves seen f
+      seen_as seen (failed e) = subst (leaves seen) (sym e) tt
+      seen_as seen (there e is) = absurd (off e)
+      seen_as seen (in_way e some is) = subst (leaves seen) (sym e) (taken, some, is, refl)
+      seen_as seen (absent e none) = subst (leaves seen) (sym e) (taken, inl none)
+
+      by : (t : Option Files) → IfSome t (Looked (kind_of new) p f) → IfSome t (λ seen. Placed (node_of new) (is_old_of new) seen p f files files)
+      by None look = tt
+      by (Some seen) look = seen_as seen (sight (kind_of new) (is_old_of new) (old_kind new) seen p f look)
+
+  is_old : (seen : Files) → Looked (kind_of new) p fate.Done seen → is_old_of new (get seen p) ≡ true
+  is_old seen look = by (sight (kind_of new) (is_old_of new) (old_kind new) seen p fate.Done look)
+    where
+      by : Sight (is_old_of new) (get seen p) fate.Done → is_old_of new (get seen p) ≡ true
+      by (failed e) = cc
+      by (there e is) = is
+      by (in_way e some is) = cc
+      by (absent e none) = cc
+
+  -- it was of the new one's kind, and was replaced
+  pub replaced_there : (r : Result Fate OutOfMemory) (a b c : Files) → IfSome told (Looked (kind_of new) p fate.Done) → StillTaken p a b →
+      IsReplaced (node_of new) p r b c → IsPlaced (node_of new) (is_old_of new) told p r a c
+  replaced_there r a b c look taken was = record {
+    others = λ q off. was.others q off ∙ ap (λ files. get files q) taken.same;
+    answers = by r told look (subst (λ files. IfOk r (λ f. MadeAnew (node_of new) p f files c)) taken.same was.answers);
+    there = λ is. subst (λ r. IfOk r (λ f. MadeAnew (node_of new) p f b c)) is was.answers;
+  }
+    where
+      fate_by : (seen : Files) (f : Fate) → is_old_of new (get seen p) ≡ true → MadeAnew (node_of new) p f a c →
+          Placed (node_of new) (is_old_of new) seen p f a c
+      fate_by seen fate.Done old made = (inr old, made)
+      fate_by seen fate.Changed old made = (taken.there, inr (made, old))
+      fate_by seen fate.Failed old made = tt
+      fate_by seen fate.Conflict old made = absurd made
+      fate_by seen fate.NotEmpty old made = made
+      fate_by seen fate.Skipped old made = made
+      fate_by seen fate.ParentFailed old made = made
+      fate_by seen fate.TooLong old made = made
+
+      by : (r : Result Fate OutOfMemory) (t : Option Files) → IfSome t (Looked (kind_of new) p fate.Done) →
+          IfOk r (λ f. MadeAnew (node_of new) p f a c) → IfOk r (λ f. IfSome t (λ seen. Placed (node_of new) (is_old_of new) seen p f a c))
+      by (Err e) t look made = tt
+      by (Ok f) None look made = tt
+      by (Ok f) (Some seen) look made = fate_by seen f (is_old seen look) made

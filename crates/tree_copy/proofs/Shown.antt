@@ -24,11 +24,12 @@ use Rattle.level_work.specs.declared.items.Item.{Item}
 use Rattle.level_work.specs.declared.items.Fate.{Fate}
 use Rattle.level_work.specs.declared.items.Fate.TheVariants as fate
 use Rattle.tree_copy.specs.declared.pairs.Pair.{Pair}
-use Rattle.tree_copy.specs.Causes.{HasCause, IsWritten, LookMeans, ReadMeans, RefusalMeans, Shows, ShowsCopy, ShowsFate, WasWritten, copied, stopped, untold}
+use Rattle.tree_copy.specs.Causes.{HasCause, IsWritten, LookMeans, ReadMeans, RefusalMeans, Shows, ShowsCopy, ShowsFate, ShowsWhy, WasWritten, copied, stopped, untold}
 use Rattle.tree_copy.specs.Causes.{look_means, read_means, refusal_means}
 use Rattle.level_work.specs.Counts.{is_done}
 use Rattle.tree_copy.specs.Copying.{is_tried, is_untold, target_of, treated}
 use Rattle.tree_copy.specs.PrivateActs.{AllMayCopy, MayCopy, ShowsFilled, ShowsPlaced, ShowsReplaced, ShowsSpared, is_taken}
+use Rattle.tree_copy.specs.PrivateNodes.{ShowsLeft}
 use Rattle.tree_copy.specs.PrivateSettling.{any_odd, has_room, is_odd, is_other, item_of, items_of, settled, settled_by}
 use Rattle.tree_copy.proofs.Copiers.{done_is}
 use Rattle.tree_copy.proofs.Comes.{Comes, Row, items_by, long, tried, under, weaker}
@@ -147,11 +148,13 @@ module _ {R S : Type 0} (asks : Asks R) (gives : Writes S) (target : List ℕ) (
   replaced_is k make f (inl done) = inl done
   replaced_is k make f (inr h) = refused_is k make f h
 
-  pub look_is : (k : Kind) (make : Write) (f : Fate) → f ≢ fate.Done → LookMeans asks target k f → ShowsPlaced asks gives target e k make f
-  look_is k make f off h = inr (off, inl h)
-
-  pub read_is : (make : Write) (f : Fate) → ReadMeans asks e.path f → ShowsPlaced asks gives target e kind.File make f
-  read_is make f h = inr (undone f (read_or h.answer f h.means), inr (inl (refl, h)))
+  -- the evidence why an old node is left there is why nothing is made
+  pub left_is : (k : Kind) (make : Write) (f : Fate) → f ≢ fate.Done → ShowsLeft asks target e k f → ShowsPlaced asks gives target e k make f
+  left_is k make f off shows = inr (off, by (shows off))
+    where
+      by : (LookMeans asks target k f ⊎ ((k ≡ kind.File) × ReadMeans asks e.path f)) → ShowsWhy asks gives target e k f
+      by (inl h) = inl h
+      by (inr h) = inr (inl h)
 
   -- the fate of an entry
 

@@ -5,4 +5,5 @@ pub mod Looking
 pub mod Placing
 pub mod PrivateActs
 pub mod PrivateDeeds
+pub mod PrivateNodes
 pub mod PrivateSettling

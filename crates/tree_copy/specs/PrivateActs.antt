@@ -1,12 +1,13 @@
 -- The answers of the steps of a copy at one path, and the nodes that they leave. Only the contracts of this crate's own parts cite
 -- it.
 use Rattle.std.specs.Prelude.{⊤, ◌≡◌, ◌≢◌, ◌⊎◌, ◌||◌, ℕ, ◌<◌, Bool, true, false, List, length, if◌then◌else◌, Option}
-use Rattle.std.specs.Prelude.{Some, None, is_none, is_some, IfOk, IfSome, Result, Ok, slice_get}
+use Rattle.std.specs.Prelude.{Some, None, is_none, is_some, IfOk, IfSome, IsTrue, Result, Ok, slice_get}
 use Rattle.std.specs.FinMap.{get}
 use Rattle.path_text.specs.declared.errors.OutOfMemory.{OutOfMemory}
 use Rattle.outside.specs.Asked.{Asks, Write, Writes}
 use Rattle.outside.specs.Tree.{Files, Node, is_dir, content}
-use Rattle.outside.specs.Writes.{SameBut, new_file}
+use Rattle.outside.specs.Count.{RoseBy}
+use Rattle.outside.specs.Writes.{Area, SameBut, is_open, is_top, new_file}
 use Rattle.outside.specs.declared.plots.WriteError.{WriteError}
 use Rattle.outside.specs.declared.plots.WriteError.TheVariants as write
 use Rattle.outside.specs.declared.trees.Kind.{Kind}
@@ -20,6 +21,33 @@ use Rattle.level_work.specs.declared.items.Fate.{Fate}
 use Rattle.level_work.specs.declared.items.Fate.TheVariants as fate
 use Rattle.tree_copy.specs.Causes.{EndsAt, LookMeans, ReadMeans, RefusalMeans, Shows, ShowsWhy, WasWritten}
 use Rattle.tree_copy.specs.PrivateDeeds.{Differ, Holds, MakeDir, is_link}
+
+-- the path is a top of the part, and it may write there
+pub record IsOpenTop (area : Area) (path : List ℕ) : Type 0 where
+  pub top : IsTrue (is_top area path)
+  pub may_write : IsTrue (is_open area path)
+
+-- a part that was written to: it tells its tree if it did before, has the same area, and has counted no less
+pub record IsKept {P : Type 0} (tree : P → Option Files) (lent : P → Area) (faults : P → ℕ) (part part' : P) : Type 0 where
+  pub tells : is_some (tree part') ≡ is_some (tree part)
+  pub area : lent part' ≡ lent part
+  pub count : RoseBy 0 (faults part) (faults part')
+
+-- a reader that was asked, and the fate that this means: it shows the same tree, and has counted a failure
+pub record HasLooked {R : Type 0} (tree : R → Option Files) (faults : R → ℕ) (reader reader' : R) (f : Fate) : Type 0 where
+  pub same : tree reader' ≡ tree reader
+  pub count : RoseBy 0 (faults reader) (faults reader')
+  pub cause : f ≡ fate.Failed → RoseBy 1 (faults reader) (faults reader')
+  pub named : f ≢ fate.ParentFailed
+
+-- a step by a reader and a part, whatever it comes to: the reader shows the same tree, and one of the two has counted a failure
+pub record Stepped {R P : Type 0} (seen : R → Option Files) (reads : R → ℕ) (tree : P → Option Files) (lent : P → Area) (writes : P → ℕ)
+    (reader reader' : R) (part part' : P) (result : Result Fate OutOfMemory) : Type 0 where
+  pub named : IfOk result (λ f. f ≢ fate.ParentFailed)
+  pub same : seen reader' ≡ seen reader
+  pub kept : IsKept tree lent writes part part'
+  pub reader_count : RoseBy 0 (reads reader) (reads reader')
+  pub cause : IfOk result (λ f. f ≡ fate.Failed → RoseBy 1 (writes part) (writes part') ⊎ RoseBy 1 (reads reader) (reads reader'))
 
 -- a deed by the tree that a reader shows; if it shows none, nothing is said
 abbrev pub ByReader : (Files → Deed) → Option Files → Deed

@@ -1,17 +1,18 @@
 //! Makes a file anew and fills it with the bytes of its source.
-ghost use Rattle.std.specs.Prelude.{◌≡◌, ◌≢◌, ◌⊎◌, ◌≤◌, ◌<◌, [], Some, true, length, IsTrue, IfOk, IfSome, is_some};
+ghost use Rattle.std.specs.Prelude.{◌≡◌, ◌≤◌, ◌<◌, [], Some, length, IsTrue, IfOk, IfSome};
 ghost use Rattle.std.specs.FinMap.{get};
-ghost use Rattle.flat_list.specs.Prelude.{RoseBy, is_file, is_open, is_top, SameBut, Entry};
+ghost use Rattle.flat_list.specs.Prelude.{is_open, SameBut};
 ghost use Rattle.outside.specs.Writes.{new_file};
 ghost use Rattle.outside.specs.Asked as asked;
 ghost use Rattle.entry_pages.specs.Entries.{size_by};
 ghost use Rattle.level_work.specs.Acts.{IsDone};
 ghost use Rattle.tree_copy.specs.Causes.{ShowsFate, WasWritten};
 ghost use Rattle.level_work.specs.Counts.{is_done};
-ghost use Rattle.tree_copy.specs.PrivateActs.{ByReader, IsFilled, IsPlaced, IsReplaced, ShowsFilled, ShowsPlaced, ShowsReplaced};
+ghost use Rattle.tree_copy.specs.PrivateActs.{ByReader, IsFilled, IsOpenTop, ShowsFilled, Stepped};
 ghost use Rattle.tree_copy.specs.PrivateDeeds.{MakeFile};
 
-use crate::making::{fate_of, is_taken, look};
+use crate::anew::{NewNode, placed};
+use crate::making::fate_of;
 use flat_list::Entry;
 use level_work::Fate;
 use outside::{Kind, Plot, ReadError, Tree};
@@ -27,24 +28,16 @@ pub(crate) fn file_made<P: Plot, R: Tree>(
     path: &Path,
     entry: &Entry,
 ) -> Result<Fate, OutOfMemory>
-    requires top { IsTrue (is_top (P.area part.old) path.now) }
-    requires open { IsTrue (is_open (P.area part.old) path.now) }
+    requires at { IsOpenTop (P.area part.old) path.now }
     requires buffer { 0 < length buffer.old }
     ensures told { IfSome (P.tree part.old) (λ before. IfSome (P.tree part.new) (IsDone (ByReader MakeFile
         (R.tree reader.old)) path.now entry.now result before)) }
-    ensures named { IfOk result (λ fate. fate ≢ Fate.ParentFailed) }
-    ensures same { R.tree reader.new ≡ R.tree reader.old }
-    ensures tells { is_some (P.tree part.new) ≡ is_some (P.tree part.old) }
-    ensures area { P.area part.new ≡ P.area part.old }
+    ensures stepped { Stepped R.tree R.count P.tree P.area P.count reader.old reader.new part.old part.new result }
     ensures len { length buffer.new ≡ length buffer.old }
-    ensures count { RoseBy 0 (P.count part.old) (P.count part.new) }
-    ensures reader_count { RoseBy 0 (R.count reader.old) (R.count reader.new) }
-    ensures cause { IfOk result (λ fate. fate ≡ Fate.Failed → (RoseBy 1 (P.count part.old) (P.count part.new)) ⊎ (RoseBy 1
-        (R.count reader.old) (R.count reader.new))) }
     ensures shown { IfOk result (ShowsFate R.gives P.gives path.now entry.now Kind.File) }
 {
     let size = size_of(entry);
-    let fate = placed(alloc, reader, buffer, part, &entry.path, path)?;
+    let fate = placed(alloc, reader, part, path, &NewNode::File(&entry.path))?;
     if is_done(fate) {
         filled(alloc, reader, buffer, part, &entry.path, path, size)
     } else {
@@ -68,102 +61,6 @@ fn is_done(fate: Fate) -> bool
     fate == Fate::Done
 }
 
-// Makes an empty file at the path, in place of none or of a file. It looks at the old node before it removes it.
-fn placed<P: Plot, R: Tree>(
-    alloc: Global,
-    reader: &mut R,
-    buffer: &mut [u8],
-    part: &mut P,
-    source: &Path,
-    path: &Path,
-) -> Result<Fate, OutOfMemory>
-    requires top { IsTrue (is_top (P.area part.old) path.now) }
-    requires open { IsTrue (is_open (P.area part.old) path.now) }
-    requires buffer { 0 < length buffer.old }
-    ensures len { length buffer.new ≡ length buffer.old }
-    ensures told { IfSome (P.tree part.old) (λ before. IfSome (P.tree part.new) (IsPlaced (new_file []) is_file (R.tree reader.old) path.now result before)) }
-    ensures named { IfOk result (λ fate. fate ≢ Fate.ParentFailed) }
-    ensures same { R.tree reader.new ≡ R.tree reader.old }
-    ensures tells { is_some (P.tree part.new) ≡ is_some (P.tree part.old) }
-    ensures area { P.area part.new ≡ P.area part.old }
-    ensures count { RoseBy 0 (P.count part.old) (P.count part.new) }
-    ensures reader_count { RoseBy 0 (R.count reader.old) (R.count reader.new) }
-    ensures cause { IfOk result (λ fate. fate ≡ Fate.Failed → (RoseBy 1 (P.count part.old) (P.count part.new)) ⊎ (RoseBy 1
-        (R.count reader.old) (R.count reader.new))) }
-    ensures shown { (e : Entry) → e.path ≡ source.now → IfOk result (ShowsPlaced R.gives P.gives path.now e Kind.File asked.make_file) }
-{
-    match part.make_file(alloc, path) {
-        Ok(()) => Ok(Fate::Done),
-        Err(refused) => {
-            if is_taken(refused) {
-                placed_over(alloc, reader, buffer, part, source, path)
-            } else {
-                fate_of(refused)
-            }
-        }
-    }
-}
-
-// Makes an empty file at a path that is taken, in place of a file. It reads from the source before it removes that file. On a disk
-// the two may be the same file by another name, whose bytes then stay with the reader that has it open.
-fn placed_over<P: Plot, R: Tree>(
-    alloc: Global,
-    reader: &mut R,
-    buffer: &mut [u8],
-    part: &mut P,
-    source: &Path,
-    path: &Path,
-) -> Result<Fate, OutOfMemory>
-    requires top { IsTrue (is_top (P.area part.old) path.now) }
-    requires open { IsTrue (is_open (P.area part.old) path.now) }
-    requires taken { IfSome (P.tree part.old) (λ before. is_some (get before path.now) ≡ true) }
-    requires buffer { 0 < length buffer.old }
-    ensures len { length buffer.new ≡ length buffer.old }
-    ensures told { IfSome (P.tree part.old) (λ before. IfSome (P.tree part.new) (IsPlaced (new_file []) is_file (R.tree reader.old) path.now result before)) }
-    ensures named { IfOk result (λ fate. fate ≢ Fate.ParentFailed) }
-    ensures same { R.tree reader.new ≡ R.tree reader.old }
-    ensures tells { is_some (P.tree part.new) ≡ is_some (P.tree part.old) }
-    ensures area { P.area part.new ≡ P.area part.old }
-    ensures count { RoseBy 0 (P.count part.old) (P.count part.new) }
-    ensures reader_count { RoseBy 0 (R.count reader.old) (R.count reader.new) }
-    ensures cause { IfOk result (λ fate. fate ≡ Fate.Failed → (RoseBy 1 (P.count part.old) (P.count part.new)) ⊎ (RoseBy 1
-        (R.count reader.old) (R.count reader.new))) }
-    ensures shown { (e : Entry) → e.path ≡ source.now → IfOk result (ShowsPlaced R.gives P.gives path.now e Kind.File asked.make_file) }
-{
-    let seen = look(reader, path, Kind::File);
-    if !is_done(seen) {
-        return Ok(seen);
-    }
-    match reader.read(source, 0, &mut buffer[..1]) {
-        Err(ReadError::Failed) => Ok(Fate::Failed),
-        Err(ReadError::NotFile) => replaced(alloc, part, path),
-        Ok(_) => replaced(alloc, part, path),
-    }
-}
-
-// Removes a file and makes an empty one in its place. A node is there.
-fn replaced<P: Plot>(alloc: Global, part: &mut P, path: &Path) -> Result<Fate, OutOfMemory>
-    requires top { IsTrue (is_top (P.area part.old) path.now) }
-    requires open { IsTrue (is_open (P.area part.old) path.now) }
-    requires taken { IfSome (P.tree part.old) (λ before. is_some (get before path.now) ≡ true) }
-    ensures told { IfSome (P.tree part.old) (λ before. IfSome (P.tree part.new) (IsReplaced (new_file []) path.now result before)) }
-    ensures named { IfOk result (λ fate. fate ≢ Fate.ParentFailed) }
-    ensures tells { is_some (P.tree part.new) ≡ is_some (P.tree part.old) }
-    ensures area { P.area part.new ≡ P.area part.old }
-    ensures count { RoseBy 0 (P.count part.old) (P.count part.new) }
-    ensures cause { IfOk result (λ fate. fate ≡ Fate.Failed → RoseBy 1 (P.count part.old) (P.count part.new)) }
-    ensures shown { IfOk result (ShowsReplaced P.gives path.now asked.make_file) }
-{
-    match part.remove_file(alloc, path) {
-        Ok(()) => {}
-        Err(refused) => return fate_of(refused),
-    }
-    match part.make_file(alloc, path) {
-        Ok(()) => Ok(Fate::Done),
-        Err(refused) => fate_of(refused),
-    }
-}
-
 // Copies the bytes of the source into the empty file at the path, in pieces that the buffer holds.
 fn filled<P: Plot, R: Tree>(
     alloc: Global,
@@ -180,15 +77,8 @@ fn filled<P: Plot, R: Tree>(
     requires made { WasWritten P.gives path.now asked.make_file }
     ensures told { IfSome (R.tree reader.old) (λ seen. IfSome (P.tree part.new) (IsFilled seen source.now path.now size result)) }
     ensures others { IfSome (P.tree part.old) (λ before. IfSome (P.tree part.new) (SameBut path.now before)) }
-    ensures named { IfOk result (λ fate. fate ≢ Fate.ParentFailed) }
-    ensures same { R.tree reader.new ≡ R.tree reader.old }
-    ensures tells { is_some (P.tree part.new) ≡ is_some (P.tree part.old) }
-    ensures area { P.area part.new ≡ P.area part.old }
+    ensures stepped { Stepped R.tree R.count P.tree P.area P.count reader.old reader.new part.old part.new result }
     ensures len { length buffer.new ≡ length buffer.old }
-    ensures count { RoseBy 0 (P.count part.old) (P.count part.new) }
-    ensures reader_count { RoseBy 0 (R.count reader.old) (R.count reader.new) }
-    ensures cause { IfOk result (λ fate. fate ≡ Fate.Failed → (RoseBy 1 (P.count part.old) (P.count part.new)) ⊎ (RoseBy 1
-        (R.count reader.old) (R.count reader.new))) }
     ensures shown { IfOk result (ShowsFilled R.gives P.gives source.now path.now size) }
 {
     let mut at = 0u64;

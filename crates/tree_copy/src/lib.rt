@@ -32,7 +32,8 @@
 //! - `working` hires actors, as many as there are threads, has them work and takes their readers back.
 //! - `settling` puts the fates beside the entries and counts.
 //! - `copying` is all of that.
-//! - `acting` is the act at one target: `making` makes directories, `filling` files, and `linking` links.
+//! - `acting` is the act at one target: `making` makes directories, `filling` files, and `linking` links. `anew` puts a new file or
+//!   link in place of an old one.
 //! - `reports` has the answer of a copy.
 //! - `laws` has laws of pairs and of their targets, and says when all entries are copied.
 //!
@@ -59,6 +60,7 @@
 #![tactic(auto)]
 
 mod acting;
+mod anew;
 mod copying;
 mod filling;
 mod laws;

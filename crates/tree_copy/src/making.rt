@@ -1,10 +1,9 @@
 //! Makes a directory, or keeps the one that is there.
-ghost use Rattle.std.specs.Prelude.{◌≡◌, ◌≢◌, ◌⊎◌, if◌then◌else◌, Some, IsTrue, IfOk, IfSome, is_some};
-ghost use Rattle.std.specs.FinMap.{get};
-ghost use Rattle.std.specs.Option.{option_map};
-ghost use Rattle.flat_list.specs.Prelude.{RoseBy, stat_of, is_open, is_top, Entry, is_kind};
+ghost use Rattle.std.specs.Prelude.{◌≡◌, ◌≢◌, if◌then◌else◌, Some, IfOk, IfSome};
+ghost use Rattle.flat_list.specs.Prelude.{Entry, is_kind};
 ghost use Rattle.tree_copy.specs.Causes.{LookMeans, ShowsFate, refusal_means};
-ghost use Rattle.tree_copy.specs.PrivateActs.{IsDirMade, TellsFate, is_taken, look_fate};
+ghost use Rattle.tree_copy.specs.PrivateActs.{HasLooked, IsDirMade, IsOpenTop, Stepped, TellsFate, is_taken};
+ghost use Rattle.tree_copy.specs.PrivateNodes.{Looked};
 
 use level_work::Fate;
 use outside::{Failed, Kind, Plot, Tree, WriteError};
@@ -18,17 +17,9 @@ pub(crate) fn dir_made<P: Plot, R: Tree>(
     part: &mut P,
     path: &Path,
 ) -> Result<Fate, OutOfMemory>
-    requires top { IsTrue (is_top (P.area part.old) path.now) }
-    requires open { IsTrue (is_open (P.area part.old) path.now) }
+    requires { IsOpenTop (P.area part.old) path.now }
     ensures told { IfSome (P.tree part.old) (λ before. IfSome (P.tree part.new) (IsDirMade (R.tree reader.old) path.now result before)) }
-    ensures named { IfOk result (λ fate. fate ≢ Fate.ParentFailed) }
-    ensures same { R.tree reader.new ≡ R.tree reader.old }
-    ensures tells { is_some (P.tree part.new) ≡ is_some (P.tree part.old) }
-    ensures area { P.area part.new ≡ P.area part.old }
-    ensures count { RoseBy 0 (P.count part.old) (P.count part.new) }
-    ensures reader_count { RoseBy 0 (R.count reader.old) (R.count reader.new) }
-    ensures cause { IfOk result (λ fate. fate ≡ Fate.Failed → (RoseBy 1 (P.count part.old) (P.count part.new)) ⊎ (RoseBy 1
-        (R.count reader.old) (R.count reader.new))) }
+    ensures stepped { Stepped R.tree R.count P.tree P.area P.count reader.old reader.new part.old part.new result }
     ensures shown { (e : Entry) → IfOk result (ShowsFate R.gives P.gives path.now e Kind.Dir) }
 {
     match part.make_dir(alloc, path) {
@@ -45,11 +36,8 @@ pub(crate) fn dir_made<P: Plot, R: Tree>(
 
 // The fate that a look at a taken path means, if a node of this kind is needed: `Done` if one is there.
 pub(crate) fn look<R: Tree>(reader: &mut R, path: &Path, wanted: Kind) -> Fate
-    ensures told { IfSome (R.tree reader.old) (λ seen. (result ≡ Fate.Failed) ⊎ (result ≡ look_fate wanted (option_map stat_of (get seen path.now)))) }
-    ensures same { R.tree reader.new ≡ R.tree reader.old }
-    ensures count { RoseBy 0 (R.count reader.old) (R.count reader.new) }
-    ensures cause { result ≡ Fate.Failed → RoseBy 1 (R.count reader.old) (R.count reader.new) }
-    ensures named { result ≢ Fate.ParentFailed }
+    ensures told { IfSome (R.tree reader.old) (Looked wanted path.now result) }
+    ensures looks { HasLooked R.tree R.count reader.old reader.new result }
     ensures shown { LookMeans R.gives path.now wanted result }
 {
     match reader.stat(path) {

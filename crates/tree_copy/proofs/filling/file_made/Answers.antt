@@ -12,9 +12,10 @@ returns-then-is_done-clause-told g c =
     let entry = c.args.entry.now in
     let path = c.args.path.now in
     let after = g.P.Plot.tree c.filled.new.part in
-    file_filled (g.R.Tree.tree c.args.reader.now) path entry c.in_ok-fate.fate _ _ _ _ (sym c.is_done.ensures ∙ c.if-is_done.true) c.placed.ensures.tells
+    file_filled (g.R.Tree.tree c.args.reader.now) path entry c.in_ok-fate.fate _ _ _ _ (sym c.is_done.ensures ∙ c.if-is_done.true)
+    c.placed.ensures.stepped.kept.tells
     c.in_ok-fate.ensures.told c.filled.ensures.others
-    (subst (λ told. IfSome told (λ seen. IfSome after (IsFilled seen entry.path path (size_by entry.stat) c.filled.result))) c.placed.ensures.same
+    (subst (λ told. IfSome told (λ seen. IfSome after (IsFilled seen entry.path path (size_by entry.stat) c.filled.result))) c.placed.ensures.stepped.same
     (subst (λ size. IfSome (g.R.Tree.tree c.placed.new.reader) (λ seen. IfSome after (IsFilled seen entry.path path size c.filled.result)))
     c.size_of-size.ensures c.filled.ensures.told))
 

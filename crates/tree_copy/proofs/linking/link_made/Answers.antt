@@ -13,7 +13,7 @@ returns-in-None-clause-told g c =
 pub returns-in-Some-clause-shown : goal.returns-in-Some-clause-shown
 returns-in-Some-clause-shown g c =
     mapped_ok _ _ c.placed.result
-    (λ f. link_placed g.R.Tree.gives g.P.Plot.gives c.args.path.now c.args.entry.now _ f c.in-Some.is) (c.placed.ensures.shown c.args.entry.now)
+    (λ f. link_placed g.R.Tree.gives g.P.Plot.gives c.args.path.now c.args.entry.now _ f c.in-Some.is) (c.placed.ensures.shown c.args.entry.now c.in-Some.is)
 
 pub returns-in-None-clause-shown : goal.returns-in-None-clause-shown
 returns-in-None-clause-shown g c =
