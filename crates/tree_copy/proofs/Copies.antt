@@ -12,7 +12,8 @@ use Rattle.std.specs.Option.{option_map}
 use Rattle.std.specs.Cmp.Lexicographic.{pointwise, bytes_decides}
 use Rattle.path_text.specs.Order.{is_within}
 use Rattle.path_text.specs.Total.{path_cmp_total, path_cmp_ties, path_cmp_same}
-use Rattle.outside.specs.Tree.{Files, Node, Body, dir, file, link, other, is_dir, is_file, kind_of, content, link_at, stat_of}
+use Rattle.outside.specs.Tree.{Files, Node, Body, dir, file, link, other, is_dir, is_dir_body, is_file, is_file_body, kind_of, content, link_at}
+use Rattle.outside.specs.Tree.{stat_of, text_of}
 use Rattle.outside.specs.Writes.{empty_dir, new_file, new_link}
 use Rattle.outside.specs.declared.trees.Kind.{Kind}
 use Rattle.outside.specs.declared.trees.Kind.TheVariants as kind
@@ -78,35 +79,25 @@ Told u k source old new fate.NotEmpty = ⊥
 Told u k source old new fate.TooLong = ⊥
 Told u k source old new fate.ParentFailed = ⊥
 
+-- the bodies that are in the way of a node of a kind
+body_clash : (b : Body) → (not (is_kind (kind_of b) kind.Dir) ≡ not (is_dir_body b)) × (not (is_kind (kind_of b) kind.File) ≡ not (is_file_body b))
+    × (not (is_kind (kind_of b) kind.Link) ≡ not (is_some (text_of b)))
+body_clash (dir far) = (refl, refl, refl)
+body_clash (file bytes) = (refl, refl, refl)
+body_clash (link text) = (refl, refl, refl)
+body_clash other = (refl, refl, refl)
+
 dir_clash : (o : Option Node) → is_some o ≡ true → clash kind.Dir o ≡ not (is_dir o)
 dir_clash None s = absurd (false≢true s)
-dir_clash (Some n) s = by n.body
-  where
-    by : (b : Body) → not (is_kind (kind_of b) kind.Dir) ≡ not (Rattle.outside.specs.Tree.is_dir_body b)
-    by (dir far) = refl
-    by (file bytes) = refl
-    by (link text) = refl
-    by other = refl
+dir_clash (Some n) s = (body_clash n.body).0
 
 file_clash : (o : Option Node) → is_some o ≡ true → clash kind.File o ≡ not (is_file o)
 file_clash None s = absurd (false≢true s)
-file_clash (Some n) s = by n.body
-  where
-    by : (b : Body) → not (is_kind (kind_of b) kind.File) ≡ not (Rattle.outside.specs.Tree.is_file_body b)
-    by (dir far) = refl
-    by (file bytes) = refl
-    by (link text) = refl
-    by other = refl
+file_clash (Some n) s = (body_clash n.body).1
 
 link_clash : (o : Option Node) → is_some o ≡ true → clash kind.Link o ≡ not (is_link o)
 link_clash None s = absurd (false≢true s)
-link_clash (Some n) s = by n.body
-  where
-    by : (b : Body) → not (is_kind (kind_of b) kind.Link) ≡ not (is_some (Rattle.outside.specs.Tree.text_of b))
-    by (dir far) = refl
-    by (file bytes) = refl
-    by (link text) = refl
-    by other = refl
+link_clash (Some n) s = (body_clash n.body).2
 
 link_some : (o : Option Node) → is_link o ≡ true → is_some o ≡ true
 link_some None e = absurd (false≢true e)

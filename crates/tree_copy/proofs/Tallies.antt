@@ -81,44 +81,25 @@ few_more true c c' n n' e d l = omega (arith, e, d, l)
 few_more false c c' n n' e d l = omega (arith, e, d, l)
 
 module _ (all : List Entry) (fits : List Bool) (outs : List Fate) where
-  pub passed_fit : (e : Entry) (f g : Fate) (rest : List Entry) (marks : List Bool) (left : List Fate) (told told' : List (List ℕ))
+  -- one more entry is noted, with the fate that its mark and the fates of the items say
+  passed_by : (mark : Bool) (e : Entry) (f : Fate) (rest : List Entry) (marks : List Bool) (left left' : List Fate) (told told' : List (List ℕ))
       (fates fates' : List Fate) (copied copied' bytes bytes' : ℕ) →
-      Tallied all fits outs (e ∷ rest) (true ∷ marks) (g ∷ left) told fates copied bytes → f ≡ settled e g →
-      IsNoted e f told fates copied bytes told' fates' copied' bytes' → Tallied all fits outs rest marks left told' fates' copied' bytes'
-  passed_fit e f g rest marks left told told' fates fates' copied copied' bytes bytes' t is n =
+      Tallied all fits outs (e ∷ rest) (mark ∷ marks) left told fates copied bytes →
+      fates_of (mark ∷ marks) (e ∷ rest) left ≡ f ∷ fates_of marks rest left' → length left ≡ cond mark 1 0 + length left' →
+      IsNoted e f told fates copied bytes told' fates' copied' bytes' → Tallied all fits outs rest marks left' told' fates' copied' bytes'
+  passed_by mark e f rest marks left left' told told' fates fates' copied copied' bytes bytes' t is one n =
       let len : length fates' ≡ length fates + 1 = ap length n.fates_is ∙ length-append fates (f ∷ []) in
       record {
         paths_are = ap (λ r. r ++ paths rest) n.told_is ∙ append_assoc told (e.path ∷ []) (paths rest) ∙ t.paths_are;
-        fates_are = ap (λ r. r ++ fates_of marks rest left) n.fates_is ∙ append_assoc fates (f ∷ []) (fates_of marks rest left)
-            ∙ ap (λ h. fates ++ h ∷ fates_of marks rest left) is ∙ t.fates_are;
+        fates_are = ap (λ r. r ++ fates_of marks rest left') n.fates_is ∙ append_assoc fates (f ∷ []) (fates_of marks rest left')
+            ∙ ap (λ r. fates ++ r) (sym is) ∙ t.fates_are;
         marks_len = let l = t.marks_len in omega (arith, l);
-        left_len = let l = t.left_len in omega (arith, l, sum_by-cons (λ (m : Bool). cond m 1 0) true marks);
+        left_len = let l = t.left_len in omega (arith, l, one, sum_by-cons (λ (m : Bool). cond m 1 0) mark marks);
         copied_is = n.copied_is ∙ ap (λ c. cond (is_done f) (c + 1) c) t.copied_is ∙ sym (count_more is_done fates f) ∙ ap (count_by is_done) (sym n.fates_is);
         bytes_are =
-            let b = t.bytes_are in
-            let same = ap (λ h. gain e h) is in
-            omega (arith, b, same, n.bytes_is);
-        few = few_more (is_done f) copied copied' (length fates) (length fates') n.copied_is len t.few;
-        small = omega (arith, n.bytes_is, n.gain_small, len, t.small);
-      }
-
-  pub passed_long : (e : Entry) (f : Fate) (rest : List Entry) (marks : List Bool) (left : List Fate) (told told' : List (List ℕ))
-      (fates fates' : List Fate) (copied copied' bytes bytes' : ℕ) →
-      Tallied all fits outs (e ∷ rest) (false ∷ marks) left told fates copied bytes → f ≡ fate.TooLong →
-      IsNoted e f told fates copied bytes told' fates' copied' bytes' → Tallied all fits outs rest marks left told' fates' copied' bytes'
-  passed_long e f rest marks left told told' fates fates' copied copied' bytes bytes' t is n =
-      let len : length fates' ≡ length fates + 1 = ap length n.fates_is ∙ length-append fates (f ∷ []) in
-      record {
-        paths_are = ap (λ r. r ++ paths rest) n.told_is ∙ append_assoc told (e.path ∷ []) (paths rest) ∙ t.paths_are;
-        fates_are = ap (λ r. r ++ fates_of marks rest left) n.fates_is ∙ append_assoc fates (f ∷ []) (fates_of marks rest left)
-            ∙ ap (λ h. fates ++ h ∷ fates_of marks rest left) is ∙ t.fates_are;
-        marks_len = let l = t.marks_len in omega (arith, l);
-        left_len = let l = t.left_len in omega (arith, l, sum_by-cons (λ (m : Bool). cond m 1 0) false marks);
-        copied_is = n.copied_is ∙ ap (λ c. cond (is_done f) (c + 1) c) t.copied_is ∙ sym (count_more is_done fates f) ∙ ap (count_by is_done) (sym n.fates_is);
-        bytes_are =
-            let b = t.bytes_are in
-            let none : gain e f ≡ 0 = ap (λ h. gain e h) is in
-            omega (arith, b, none, n.bytes_is);
+            let b : bytes + (gain e f + bytes_of rest (fates_of marks rest left')) ≡ bytes_of all (fates_of fits all outs) =
+            ap (λ r. bytes + bytes_of (e ∷ rest) r) (sym is) ∙ t.bytes_are in
+            omega (arith, b, n.bytes_is);
         few = few_more (is_done f) copied copied' (length fates) (length fates') n.copied_is len t.few;
         small = omega (arith, n.bytes_is, n.gain_small, len, t.small);
       }
@@ -186,10 +167,11 @@ module _ (all : List Entry) (fits : List Bool) (outs : List Fate) where
       (subst (λ ms. Tallied all fits outs (treated now) ms (drop place outs) told fates copied bytes) marks t)
       in
       let g = some_at outs place (goes_on outs place _ u.left_len (omega (arith, sum_by-cons (λ (m : Bool). cond m 1 0) true (drop at' fits)))) in
-      passed_fit all fits outs e f g.0 (treated rest) (drop at' fits) (drop place' outs) told told' fates fates' copied copied' bytes bytes'
+      passed_by all fits outs true e f (treated rest) (drop at' fits) (g.0 ∷ drop place' outs) (drop place' outs) told told' fates fates' copied copied'
+      bytes bytes'
       (subst (λ os. Tallied all fits outs (e ∷ treated rest) (true ∷ drop at' fits) os told fates copied bytes) (drop_at outs place g.0 g.1
       ∙ ap (λ m. g.0 ∷ drop m outs) (sym next)) u)
-      (known.fits refl g.0 g.1) n
+      (ap (λ h. h ∷ fates_of (drop at' fits) (treated rest) (drop place' outs)) (sym (known.fits refl g.0 g.1))) (omega arith) n
   passed rest now e at at' place place' false f told told' fates fates' copied copied' bytes bytes' is some has known next one n t =
       let marks = drop_at fits at false has ∙ ap (λ m. false ∷ drop m fits) (sym one) in
       let u : Tallied all fits outs (e ∷ treated rest) (false ∷ drop at' fits) (drop place' outs) told fates copied bytes =
@@ -197,7 +179,8 @@ module _ (all : List Entry) (fits : List Bool) (outs : List Fate) where
       (subst (λ es. Tallied all fits outs es (false ∷ drop at' fits) (drop place outs) told fates copied bytes) (treated_next rest now e true is some)
       (subst (λ ms. Tallied all fits outs (treated now) ms (drop place outs) told fates copied bytes) marks t))
       in
-      passed_long all fits outs e f (treated rest) (drop at' fits) (drop place' outs) told told' fates fates' copied copied' bytes bytes' u (known.long refl) n
+      passed_by all fits outs false e f (treated rest) (drop at' fits) (drop place' outs) (drop place' outs) told told' fates fates' copied copied'
+      bytes bytes' u (ap (λ h. h ∷ fates_of (drop at' fits) (treated rest) (drop place' outs)) (sym (known.long refl))) (omega arith) n
 
 -- as many fates as entries
 pub fates_len : (marks : List Bool) (es : List Entry) (left : List Fate) → length marks ≡ length es → length (fates_of marks es left) ≡ length es

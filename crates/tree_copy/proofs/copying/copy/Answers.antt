@@ -6,10 +6,12 @@ use Rattle.level_work.specs.Counts.{is_failed, is_done}
 use Rattle.tree_copy.specs.Causes.{HaveCauses}
 use Rattle.tree_copy.specs.Copying.{AreEarly, Copied, bytes_copied}
 use Rattle.tree_copy.proofs.Readers.{if_ok}
-use Rattle.tree_copy.proofs.Reported.{acted_rest, all_made, all_run, all_bytes, both_ok, causes, dirs, done_rows, early, fit, fitted}
+use Rattle.tree_copy.proofs.Reported.{Run, acted_rest, all_made, all_run, all_bytes, both_ok, causes, dirs, done_rows, early, fit, fitted}
 use Rattle.tree_copy.proofs.Reported.{marked, marks_len, rest, rose}
 use Rattle.tree_copy.proofs.Reported.{row_paths, stand, told}
+use Rattle.tree_copy.proofs.copying.copy.Given as given
 use Rattle.tree_copy.proofs.copying.copy.Goals as goal
+use Rattle.tree_copy.proofs.copying.copy.Goals.{After-settle}
 
 pub work-requires-clause-items : goal.work-requires-clause-items
 work-requires-clause-items g c κs within = fit
@@ -58,20 +60,23 @@ returns-clause-paths g c =
     if_ok _ _ c.settle.result (λ report rows. ap (map (λ row. row.0)) rows ∙ row_paths c.args.list.now c.deref-2.result.now c.in_ok-outcome.outcome len)
     c.settle.ensures.rows
 
+-- what is known once the fates are settled
+run_of : (g : given.Over) (c : After-settle g) →
+    Run c.args.list.now c.args.pairs.now c.in_ok-items.field-0.items.items c.deref.result.now c.deref-2.result.now c.in_ok-outcome.outcome
+run_of g c = all_run c.args.list.now c.args.pairs.now c.in_ok-items.field-0.items.items c.deref.result.now c.deref-2.result.now _ c.in_ok-outcome.outcome
+    (all_made _ _ _ _ c.requires.list c.in_ok-items.ensures.valid c.in_ok-items.ensures.pairs c.in_ok-items.ensures.paths c.in_ok-items.ensures.items
+    c.deref.ensures.value) c.deref-2.ensures.value c.in_ok-items.ensures.fits c.in_ok-outcome.ensures.len c.in_ok-outcome.ensures.failed
+
 pub returns-clause-early : goal.returns-clause-early
 returns-clause-early g c =
-    let run = all_run c.args.list.now c.args.pairs.now c.in_ok-items.field-0.items.items c.deref.result.now c.deref-2.result.now _ c.in_ok-outcome.outcome
-    (all_made _ _ _ _ c.requires.list c.in_ok-items.ensures.valid c.in_ok-items.ensures.pairs c.in_ok-items.ensures.paths c.in_ok-items.ensures.items
-    c.deref.ensures.value) c.deref-2.ensures.value c.in_ok-items.ensures.fits c.in_ok-outcome.ensures.len c.in_ok-outcome.ensures.failed in
+    let run = run_of g (goal.at.returns-clause-early g c).After-settle in
     if_ok _ _ c.settle.result (λ report rows. subst (AreEarly c.args.list.now c.args.pairs.now) (sym rows)
     (early g.G.Reader.Tree.gives g.G.Part.Plot.gives _ _ _ _ _ _ run c.in_ok-outcome.ensures.each_may_come))
     c.settle.ensures.rows
 
 pub returns-clause-causes : goal.returns-clause-causes
 returns-clause-causes g c =
-    let run = all_run c.args.list.now c.args.pairs.now c.in_ok-items.field-0.items.items c.deref.result.now c.deref-2.result.now _ c.in_ok-outcome.outcome
-    (all_made _ _ _ _ c.requires.list c.in_ok-items.ensures.valid c.in_ok-items.ensures.pairs c.in_ok-items.ensures.paths c.in_ok-items.ensures.items
-    c.deref.ensures.value) c.deref-2.ensures.value c.in_ok-items.ensures.fits c.in_ok-outcome.ensures.len c.in_ok-outcome.ensures.failed in
+    let run = run_of g (goal.at.returns-clause-causes g c).After-settle in
     if_ok _ _ c.settle.result
     (λ report rows. subst (HaveCauses g.G.Reader.Tree.gives g.G.Part.Plot.gives g.G.Plot.gives g.G.Plot.area g.G.Plot.count c.args.list.now c.args.pairs.now)
     (sym rows)
@@ -80,9 +85,7 @@ returns-clause-causes g c =
 
 pub returns-clause-told : goal.returns-clause-told
 returns-clause-told g c =
-    let run = all_run c.args.list.now c.args.pairs.now c.in_ok-items.field-0.items.items c.deref.result.now c.deref-2.result.now _ c.in_ok-outcome.outcome
-    (all_made _ _ _ _ c.requires.list c.in_ok-items.ensures.valid c.in_ok-items.ensures.pairs c.in_ok-items.ensures.paths c.in_ok-items.ensures.items
-    c.deref.ensures.value) c.deref-2.ensures.value c.in_ok-items.ensures.fits c.in_ok-outcome.ensures.len c.in_ok-outcome.ensures.failed in
+    let run = run_of g (goal.at.returns-clause-told g c).After-settle in
     if_ok _ _ c.settle.result
     (λ report rows. subst
     (λ r. IfSome (g.G.Plot.tree c.args.ground.now)
