@@ -45,6 +45,20 @@ use Rattle.range_copy.proofs.Outcomes.{outcome_by, outcome_rest}
 use Rattle.range_copy.proofs.Tried.{is_file_of}
 use Rattle.range_copy.proofs.Worked.{Paired, by_hands, idle_none}
 
+-- a refusal that does not say that a node is there
+
+no_parent : write.NoParent ≡ write.Exists → ⊥
+no_parent e = cc
+
+wrong_kind : write.WrongKind ≡ write.Exists → ⊥
+wrong_kind e = cc
+
+not_empty : write.NotEmpty ≡ write.Exists → ⊥
+not_empty e = cc
+
+is_absent : write.Absent ≡ write.Exists → ⊥
+is_absent e = cc
+
 -- the empty file
 
 module _ {G : Type 0} (own : Writes G) (target : List ℕ) where
@@ -58,18 +72,6 @@ module _ {G : Type 0} (own : Writes G) (target : List ℕ) where
       IfOk r (MadeBy own target before after)
   made_as x r before after is given = subst (λ r. IfOk r (MadeBy own target before after)) (sym is) (by x given)
     where
-      no_parent : write.NoParent ≡ write.Exists → ⊥
-      no_parent e = cc
-
-      wrong_kind : write.WrongKind ≡ write.Exists → ⊥
-      wrong_kind e = cc
-
-      not_empty : write.NotEmpty ≡ write.Exists → ⊥
-      not_empty e = cc
-
-      is_absent : write.Absent ≡ write.Exists → ⊥
-      is_absent e = cc
-
       by : (x : WriteError) → own before target asked.make_file (Err x) after → IfOk (refused_as x) (MadeBy own target before after)
       by write.Exists given = given
       by write.Failed given = given
@@ -102,18 +104,6 @@ module _ {G : Type 0} (own : Writes G) (target : List ℕ) where
       own before target asked.remove_file (Err x) after → IfOk r (ReplacedBy own target after)
   not_removed x r before after is named given = subst (λ r. IfOk r (ReplacedBy own target after)) (sym is) (by x named given)
     where
-      no_parent : write.NoParent ≡ write.Exists → ⊥
-      no_parent e = cc
-
-      wrong_kind : write.WrongKind ≡ write.Exists → ⊥
-      wrong_kind e = cc
-
-      not_empty : write.NotEmpty ≡ write.Exists → ⊥
-      not_empty e = cc
-
-      is_absent : write.Absent ≡ write.Exists → ⊥
-      is_absent e = cc
-
       by : (x : WriteError) → IsTrue (may_change x) → own before target asked.remove_file (Err x) after →
           IfOk (refused_as x) (ReplacedBy own target after)
       by write.Exists named given = absurd (false≢true named)

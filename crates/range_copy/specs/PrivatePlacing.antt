@@ -1,8 +1,9 @@
 -- The steps that make an empty file at a target. Only the contracts of this crate's own parts cite it.
 use Rattle.std.specs.Prelude.{⊤, ◌≡◌, ℕ, true, false, List, [], Option, Some, None, is_some, Result, Ok, Err, IfOk}
 use Rattle.std.specs.FinMap.{get}
+use Rattle.outside.specs.Count.{RoseBy}
 use Rattle.outside.specs.Tree.{Files, Node, is_file}
-use Rattle.outside.specs.Writes.{SameBut, new_file}
+use Rattle.outside.specs.Writes.{Area, SameBut, new_file}
 use Rattle.outside.specs.declared.plots.WriteError.{WriteError}
 use Rattle.outside.specs.declared.plots.WriteError.TheVariants as write
 use Rattle.range_copy.specs.declared.came.Came.{Came}
@@ -10,6 +11,14 @@ use Rattle.range_copy.specs.declared.came.Came.TheVariants as came
 use Rattle.range_copy.specs.declared.cutting.RangeError.{RangeError}
 use Rattle.range_copy.specs.declared.cutting.RangeError.TheVariants as range
 use Rattle.range_copy.specs.Large.{in_way}
+
+-- a ground after a step with this outcome: it tells its tree if it did before, has the same area, and has counted a failure
+pub record HasStepped {G : Type 0} (tree : G → Option Files) (lent : G → Area) (faults : G → ℕ) (before after : G)
+    (result : Result Came RangeError) : Type 0 where
+  pub tells : is_some (tree after) ≡ is_some (tree before)
+  pub area : lent after ≡ lent before
+  pub count : RoseBy 0 (faults before) (faults after)
+  pub cause : IfOk result (λ c. c ≡ came.Failed → RoseBy 1 (faults before) (faults after))
 
 -- the meaning of a step for the trees before and after it, by its outcome; no other path changes
 pub record Leaves (means : List ℕ → Came → Files → Files → Type 0) (path : List ℕ) (result : Result Came RangeError)

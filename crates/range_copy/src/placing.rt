@@ -4,7 +4,7 @@ ghost use Rattle.std.specs.FinMap.{get};
 ghost use Rattle.flat_list.specs.Prelude.{parent_of, RoseBy, is_file, is_dir, is_open};
 ghost use Rattle.tree_copy.specs.Causes.{LookMeans};
 ghost use Rattle.range_copy.specs.PrivateLarge.{fate_of};
-ghost use Rattle.range_copy.specs.PrivatePlacing.{Leaves, LooksLike, MadeAs, PlacedAs, ReplacedAs, freed, refused_as};
+ghost use Rattle.range_copy.specs.PrivatePlacing.{HasStepped, Leaves, LooksLike, MadeAs, PlacedAs, ReplacedAs, freed, refused_as};
 ghost use Rattle.range_copy.specs.PrivateShowing.{MadeBy, PlacedBy, ReplacedBy};
 
 use crate::came::Came;
@@ -22,10 +22,7 @@ pub(crate) fn placed<G: Ground>(
     requires open { IsTrue (is_open (G.area ground.old) path.now) }
     requires stand { IfSome (G.tree ground.old) (λ before. is_dir (get before (parent_of path.now)) ≡ true) }
     ensures told { IfSome (G.tree ground.old) (λ before. IfSome (G.tree ground.new) (Leaves PlacedAs path.now result before)) }
-    ensures tells { is_some (G.tree ground.new) ≡ is_some (G.tree ground.old) }
-    ensures area { G.area ground.new ≡ G.area ground.old }
-    ensures count { RoseBy 0 (G.count ground.old) (G.count ground.new) }
-    ensures cause { IfOk result (λ came. came ≡ Came.Failed → RoseBy 1 (G.count ground.old) (G.count ground.new)) }
+    ensures stepped { HasStepped G.tree G.area G.count ground.old ground.new result }
     ensures shown { IfOk result (PlacedBy G.Reader.gives G.gives path.now ground.new) }
 {
     match made(alloc, ground, path)? {
@@ -41,10 +38,7 @@ fn made<G: Ground>(alloc: Global, ground: &mut G, path: &Path) -> Result<Came, R
     requires open { IsTrue (is_open (G.area ground.old) path.now) }
     requires stand { IfSome (G.tree ground.old) (λ before. is_dir (get before (parent_of path.now)) ≡ true) }
     ensures told { IfSome (G.tree ground.old) (λ before. IfSome (G.tree ground.new) (Leaves MadeAs path.now result before)) }
-    ensures tells { is_some (G.tree ground.new) ≡ is_some (G.tree ground.old) }
-    ensures area { G.area ground.new ≡ G.area ground.old }
-    ensures count { RoseBy 0 (G.count ground.old) (G.count ground.new) }
-    ensures cause { IfOk result (λ came. came ≡ Came.Failed → RoseBy 1 (G.count ground.old) (G.count ground.new)) }
+    ensures stepped { HasStepped G.tree G.area G.count ground.old ground.new result }
     ensures shown { IfOk result (MadeBy G.gives path.now ground.old ground.new) }
 {
     match ground.make_file(alloc, path) {
@@ -59,10 +53,7 @@ fn placed_over<G: Ground>(alloc: Global, ground: &mut G, path: &Path) -> Result<
     requires stand { IfSome (G.tree ground.old) (λ before. is_dir (get before (parent_of path.now)) ≡ true) }
     requires taken { IfSome (G.tree ground.old) (λ before. is_some (get before path.now) ≡ true) }
     ensures told { IfSome (G.tree ground.old) (λ before. IfSome (G.tree ground.new) (Leaves PlacedAs path.now result before)) }
-    ensures tells { is_some (G.tree ground.new) ≡ is_some (G.tree ground.old) }
-    ensures area { G.area ground.new ≡ G.area ground.old }
-    ensures count { RoseBy 0 (G.count ground.old) (G.count ground.new) }
-    ensures cause { IfOk result (λ came. came ≡ Came.Failed → RoseBy 1 (G.count ground.old) (G.count ground.new)) }
+    ensures stepped { HasStepped G.tree G.area G.count ground.old ground.new result }
     ensures shown { IfOk result (PlacedBy G.Reader.gives G.gives path.now ground.new) }
 {
     match look(alloc, ground, path)? {
@@ -115,10 +106,7 @@ fn replaced<G: Ground>(alloc: Global, ground: &mut G, path: &Path) -> Result<Cam
     requires stand { IfSome (G.tree ground.old) (λ before. is_dir (get before (parent_of path.now)) ≡ true) }
     requires there { IfSome (G.tree ground.old) (λ before. is_file (get before path.now) ≡ true) }
     ensures told { IfSome (G.tree ground.old) (λ before. IfSome (G.tree ground.new) (Leaves ReplacedAs path.now result before)) }
-    ensures tells { is_some (G.tree ground.new) ≡ is_some (G.tree ground.old) }
-    ensures area { G.area ground.new ≡ G.area ground.old }
-    ensures count { RoseBy 0 (G.count ground.old) (G.count ground.new) }
-    ensures cause { IfOk result (λ came. came ≡ Came.Failed → RoseBy 1 (G.count ground.old) (G.count ground.new)) }
+    ensures stepped { HasStepped G.tree G.area G.count ground.old ground.new result }
     ensures shown { IfOk result (ReplacedBy G.gives path.now ground.new) }
 {
     let _ = path.text(); // shows that it is a path

@@ -1,3 +1,4 @@
+use Rattle.std.proofs.Common.{◌∙◌, rules}
 use Rattle.tree_copy.proofs.Places.{removed_only}
 use Rattle.range_copy.proofs.Made.{replaced, stands_still}
 use Rattle.range_copy.proofs.Showing.{freed_cause, made_again, not_removed}
@@ -23,7 +24,11 @@ returns-in-Err-clause-shown g c =
     not_removed g.G.Plot.gives c.args.path.now c.in-Err.refused c.refused_as.result c.args.ground.now c.remove_file.new.self c.refused_as.ensures
     c.in-Err.ensures.named c.in-Err.ensures.given
 
-pub returns-in-Ok-clause-cause : goal.returns-in-Ok-clause-cause
-returns-in-Ok-clause-cause g c =
-    freed_cause c.made.result c.freed.result (g.G.Plot.count c.args.ground.now) (g.G.Plot.count c.remove_file.new.self)
-    (g.G.Plot.count c.made.new.ground) c.freed.ensures c.remove_file.ensures.count.kept c.made.ensures.cause
+pub returns-in-Ok-clause-stepped : goal.returns-in-Ok-clause-stepped
+returns-in-Ok-clause-stepped g c = record {
+  tells = c.made.ensures.stepped.tells ∙ c.remove_file.ensures.tells;
+  area = c.made.ensures.stepped.area ∙ c.remove_file.ensures.area;
+  count = search rules;
+  cause = freed_cause c.made.result c.freed.result (g.G.Plot.count c.args.ground.now) (g.G.Plot.count c.remove_file.new.self)
+      (g.G.Plot.count c.made.new.ground) c.freed.ensures c.remove_file.ensures.count.kept c.made.ensures.stepped.cause;
+}
