@@ -195,8 +195,11 @@ module _ {R S : Type 0} (asks : Asks R) (gives : Writes S) (target : List ℕ) (
   link_is_spared f none (inl why) = stopped why.0 (inl why.1)
   link_is_spared f none (inr there) = untold there.0 refl none there.1
 
-  pub may_copy : (stat : Stat) (f : Fate) → e.stat ≡ Some stat → ShowsFate asks gives target e stat.kind f → MayCopy asks gives target e f
-  may_copy stat f is shows = inr (subst (Shows asks gives target e f) (sym is) shows)
+  -- a fate that a step by the entry's kind comes to may come to the entry
+  pub may_copy : (stat : Stat) (k : Kind) (r : Result Fate OutOfMemory) → e.stat ≡ Some stat → stat.kind ≡ k →
+      IfOk r (ShowsFate asks gives target e k) → IfOk r (MayCopy asks gives target e)
+  may_copy stat k r is of_kind = mapped_ok (ShowsFate asks gives target e k) (MayCopy asks gives target e) r (λ f shows.
+      inr (subst (Shows asks gives target e f) (sym is) (subst (λ k. ShowsFate asks gives target e k f) (sym of_kind) shows)))
 
   -- the fate that an item comes to is that of its entry
 
