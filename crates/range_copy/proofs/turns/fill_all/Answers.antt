@@ -1,4 +1,4 @@
-use Rattle.std.proofs.Common.{◌≡◌, arith, ap, length, length-append}
+use Rattle.std.proofs.Common.{◌≡◌, [], arith, ap, length, length-append}
 use Rattle.std.proofs.lemmas.List.Elements.{All-from_recursion}
 use Rattle.range_copy.specs.PrivateFilling.{HasCounted, HasWorked, IsReady, spans_left, spans_of}
 use Rattle.range_copy.proofs.Counted.{blamed_ends, blamed_turns, blamed_works, none_blamed}
@@ -6,7 +6,9 @@ use Rattle.range_copy.specs.PrivateShowing.{HasShown}
 use Rattle.range_copy.proofs.Showing.{none_shown, read_ends, read_starts, read_turns, read_works, shown_ends, shown_turns, shown_works}
 use Rattle.range_copy.proofs.Worked.{as_many, filling_ends, filling_starts, filling_turns, filling_works, many_left, none_out, paired, shrinks}
 use Rattle.range_copy.proofs.Worked.{worked_many}
+use Rattle.range_copy.proofs.turns.fill_all.Given as given
 use Rattle.range_copy.proofs.turns.fill_all.Goals as goal
+use Rattle.range_copy.proofs.turns.fill_all.Goals.{After-drop-loads}
 
 pub loop-fillers-init : goal.loop-fillers-init
 loop-fillers-init g c = record {
@@ -77,23 +79,25 @@ returns-clause-filled g c =
     filling_ends _ _ _ _ _ c.args.loads.items c.loop-fillers.invariant.filling
     (omega (arith, c.loop-fillers-test.false, c.len-count.ensures, c.args.loads.ok.0, c.loop-fillers.done.ok.0))
 
+-- at the end no filler has a span
+none_is_out : (g : given.Over) (c : After-drop-loads g) → spans_of c.loop-fillers.fillers ≡ []
+none_is_out g c = none_out _ _ _ _ _ c.args.loads.items c.loop-fillers.invariant.filling
+    (omega (arith, c.loop-fillers-test.false, c.len-count.ensures, c.args.loads.ok.0, c.loop-fillers.done.ok.0))
+
 pub returns-clause-blamed : goal.returns-clause-blamed
 returns-clause-blamed g c =
     blamed_ends g.T.Tree.count g.S.Span.count c.loop-fillers.fillers c.loop-fillers.done.items
-    (none_out _ _ _ _ _ c.args.loads.items c.loop-fillers.invariant.filling
-    (omega (arith, c.loop-fillers-test.false, c.len-count.ensures, c.args.loads.ok.0, c.loop-fillers.done.ok.0)))
+    (none_is_out g (goal.at.returns-clause-blamed g c).After-drop-loads)
     c.loop-fillers.invariant.blamed
 
 pub returns-clause-read : goal.returns-clause-read
 returns-clause-read g c =
     read_ends g.T.Tree.gives g.S.Span.piece g.S.Span.count c.args.source.now c.loop-fillers.fillers c.loop-fillers.done.items
-    (none_out _ _ _ _ _ c.args.loads.items c.loop-fillers.invariant.filling
-    (omega (arith, c.loop-fillers-test.false, c.len-count.ensures, c.args.loads.ok.0, c.loop-fillers.done.ok.0)))
+    (none_is_out g (goal.at.returns-clause-read g c).After-drop-loads)
     c.loop-fillers.invariant.read
 
 pub returns-clause-shown : goal.returns-clause-shown
 returns-clause-shown g c =
     shown_ends g.T.Tree.gives g.S.Span.piece g.S.Span.count c.args.source.now c.loop-fillers.fillers c.loop-fillers.done.items
-    (none_out _ _ _ _ _ c.args.loads.items c.loop-fillers.invariant.filling
-    (omega (arith, c.loop-fillers-test.false, c.len-count.ensures, c.args.loads.ok.0, c.loop-fillers.done.ok.0)))
+    (none_is_out g (goal.at.returns-clause-shown g c).After-drop-loads)
     c.loop-fillers.invariant.shown
