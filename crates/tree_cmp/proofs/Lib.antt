@@ -13,4 +13,5 @@ pub mod Placed
 pub mod Parts
 pub mod OneRow
 pub mod Finding
+pub mod Passing
 pub mod Causes

@@ -194,41 +194,34 @@ module _ (order : IsPreorder) (contiguous : UnderIsContiguous) (links : List ℕ
             (under_some q h) (under_both contiguous p h q u)
       ] refl
 
-  -- else it has one
-  pub shows : (is_some a || is_some b) ≡ true → under_some p h ≡ false → (is_partial_item a || is_partial_item b) ≡ false
-      → (rest : List Draft) → From links h l' r' rest → From links h l r (draft_of (links p) p a b ∷ rest)
+  -- else it has one, before the rows of the rest, if at other paths these show what the whole shows
+  one_row : (is_some a || is_some b) ≡ true → under_some p h ≡ false → (k : Option (List ℕ)) (rest : List Draft) → From links k l' r' rest
+      → ((q : List ℕ) → pointwise eqb p q ≡ false → shown_from k q l' r' ≡ shown_from h q l r) → From links h l r (draft_of (links p) p a b ∷ rest)
   unfolding IsStrictlySortedBy
-  shows s u n rest f = record {
-    ascend = (paths_behind p rest (rows_behind h rest f), f.ascend);
+  one_row s u k rest f others = record {
+    ascend = (paths_behind p rest (rows_behind k rest f), f.ascend);
     shown = λ q. shown_q q;
-    each = (sym (λ i. draft_of (links p) p (at_here p l a l' left i) (at_here p r b r' right i)), each_later rest (rows_behind h rest f) f.each);
+    each = (sym (λ i. draft_of (links p) p (at_here p l a l' left i) (at_here p r b r' right i)), each_later rest (rows_behind k rest f) f.each);
   }
     where
       shown_q : (q : List ℕ) → (pointwise eqb p q || is_row q rest) ≡ shown_from h q l r
       shown_q q = elim (pointwise eqb p q) as (λ s. pointwise eqb p q ≡ s → (s || is_row q rest) ≡ shown_from h q l r) [
         | true ↦ λ e. subst (λ y. true ≡ shown_from h y l r) (same p q e) (sym (shown_here s u))
-        | false ↦ λ e. f.shown q
-            ∙ sym (shown_other q e ∙ all_told _ (is_partial_item a) (is_partial_item b) (is_under q p) (is_below_partial q l')
-            (is_below_partial q r') (under_some q h) n)
+        | false ↦ λ e. f.shown q ∙ others q e
       ] refl
 
-  -- and where its children are not all known, nothing under it has one
+  -- where its children are all known
+  pub shows : (is_some a || is_some b) ≡ true → under_some p h ≡ false → (is_partial_item a || is_partial_item b) ≡ false
+      → (rest : List Draft) → From links h l' r' rest → From links h l r (draft_of (links p) p a b ∷ rest)
+  shows s u n rest f = one_row s u h rest f (λ q e. sym (shown_other q e ∙ all_told _ (is_partial_item a) (is_partial_item b) (is_under q p)
+      (is_below_partial q l') (is_below_partial q r') (under_some q h) n))
+
+  -- and where they are not, nothing under it has one
   pub shows_alone : (is_some a || is_some b) ≡ true → under_some p h ≡ false → (is_partial_item a || is_partial_item b) ≡ true
       → refusal p ≡ None → BeforeSome h p → (rest : List Draft) → From links (Some p) l' r' rest → From links h l r (draft_of (links p) p a b ∷ rest)
-  unfolding IsStrictlySortedBy
-  shows_alone s u n v g rest f = record {
-    ascend = (paths_behind p rest (rows_behind (Some p) rest f), f.ascend);
-    shown = λ q. shown_q q;
-    each = (sym (λ i. draft_of (links p) p (at_here p l a l' left i) (at_here p r b r' right i)), each_later rest (rows_behind (Some p) rest f) f.each);
-  }
-    where
-      shown_q : (q : List ℕ) → (pointwise eqb p q || is_row q rest) ≡ shown_from h q l r
-      shown_q q = elim (pointwise eqb p q) as (λ s. pointwise eqb p q ≡ s → (s || is_row q rest) ≡ shown_from h q l r) [
-        | true ↦ λ e. subst (λ y. true ≡ shown_from h y l r) (same p q e) (sym (shown_here s u))
-        | false ↦ λ e. f.shown q
-            ∙ sym (shown_other q e ∙ some_told _ (is_partial_item a) (is_partial_item b) (is_under q p) (is_below_partial q l')
-            (is_below_partial q r') (under_some q h) n (λ t. not_under_later contiguous p h q v g u (some_behind q t)))
-      ] refl
+  shows_alone s u n v g rest f = one_row s u (Some p) rest f (λ q e. sym (shown_other q e ∙ some_told _ (is_partial_item a) (is_partial_item b)
+      (is_under q p) (is_below_partial q l') (is_below_partial q r') (under_some q h) n
+      (λ t. not_under_later contiguous p h q v g u (some_behind q t))))
 
 -- ---- which side is next
 

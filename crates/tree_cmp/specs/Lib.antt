@@ -5,4 +5,5 @@ pub mod Filling
 pub mod Expressions
 pub mod Worked
 pub mod Laws
+pub mod Passes
 pub mod Private

@@ -1,7 +1,7 @@
 //! Conditions on a row, and their texts.
 ghost use Rattle.std.specs.Prelude.{◌≡◌, ◌+◌, ◌<◌, ◌==◌, ◌^◌, not, length, IfSome};
 ghost use Rattle.std.specs.List.{position};
-ghost use Rattle.tree_cmp.specs.Expressions.{only_src, only_dest, on_both, agrees, differs, value_of, meets};
+ghost use Rattle.tree_cmp.specs.Expressions.{value_of, meets};
 ghost use Rattle.tree_cmp.specs.Expressions.{exist_in, two_in, or_bad_state, condition_in, condition_reading};
 
 use crate::errors::ExprError;
@@ -38,12 +38,12 @@ impl Condition {
         ensures { result ≡ meets row.now self }
     {
         match self {
-            Condition::OnlySrc => only_src(row.exist),
-            Condition::OnlyDest => only_dest(row.exist),
-            Condition::OnOneSide => !on_both(row.exist),
-            Condition::OnBoth => on_both(row.exist),
-            Condition::Agree(aspect) => agrees(value_of(aspect, row)),
-            Condition::Differ(aspect) => differs(value_of(aspect, row)),
+            Condition::OnlySrc => matches!(row.exist, Exist::OnlySrc),
+            Condition::OnlyDest => matches!(row.exist, Exist::OnlyDest),
+            Condition::OnOneSide => !matches!(row.exist, Exist::Common),
+            Condition::OnBoth => matches!(row.exist, Exist::Common),
+            Condition::Agree(aspect) => matches!(value_of(aspect, row), Two::Common),
+            Condition::Differ(aspect) => matches!(value_of(aspect, row), Two::Differ),
         }
     }
 }
@@ -56,36 +56,6 @@ fn value_of(aspect: Aspect, row: &Row) -> Two
         Aspect::Size => row.size,
         Aspect::Content => row.content,
     }
-}
-
-fn only_src(exist: Exist) -> bool
-    ensures { result ≡ only_src exist }
-{
-    matches!(exist, Exist::OnlySrc)
-}
-
-fn only_dest(exist: Exist) -> bool
-    ensures { result ≡ only_dest exist }
-{
-    matches!(exist, Exist::OnlyDest)
-}
-
-fn on_both(exist: Exist) -> bool
-    ensures { result ≡ on_both exist }
-{
-    matches!(exist, Exist::Common)
-}
-
-fn agrees(two: Two) -> bool
-    ensures { result ≡ agrees two }
-{
-    matches!(two, Two::Common)
-}
-
-fn differs(two: Two) -> bool
-    ensures { result ≡ differs two }
-{
-    matches!(two, Two::Differ)
 }
 
 // The condition that a text gives. The text begins at this place of the expression.

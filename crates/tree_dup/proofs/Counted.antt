@@ -1,6 +1,6 @@
 -- Counts of faults while files are read, and the first of several readers, which goes on after all read together.
 use Rattle.std.proofs.Common.{◌≡◌, ℕ, zero, suc, ◌+◌, ◌-◌, ◌^◌, ◌<◌, ◌≤◌, List, length, map, get_or, set, min}
-use Rattle.std.proofs.Common.{refl, sym, ap, subst, ◌∙◌, arith, All, Option, Result, Ok, Err, IfOk, OnOk}
+use Rattle.std.proofs.Common.{refl, sym, ap, subst, ◌∙◌, arith, All, Option, Result, Ok, Err, OnOk}
 use Rattle.outside.specs.Count.{RoseBy}
 use Rattle.outside.specs.Tree.{Files}
 use Rattle.shared_reads.specs.Counts.{NoneFell, RoseTogether, KeepsUp, KeepUp}
@@ -80,10 +80,6 @@ module _ {R : Type 0} {tree : R → Option Files} {readers others : List R} {x :
         then_rose count readers others x y there fell kept a h rose (subst (λ n. KeepsUp h a n (count y)) (ap count first.at) k)
 
 -- ---- an outcome
-
-pub if_ok : {X E : Type 0} (result : Result X E) (P Q : X → Type 0) → ((x : X) → P x → Q x) → IfOk result P → IfOk result Q
-if_ok (Ok x) P Q f h = f x h
-if_ok (Err e) P Q f h = tt
 
 pub on_one : {X E : Type 0} (result : Result X E) (P Q : Type 0) → (P → Q) → OnOk result P → OnOk result Q
 on_one (Ok x) P Q f p = f p

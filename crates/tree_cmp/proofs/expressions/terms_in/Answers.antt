@@ -8,10 +8,8 @@ use Rattle.tree_cmp.proofs.expressions.terms_in.Goals as goal
 
 pub loop-end-preserved : goal.loop-end-preserved
 loop-end-preserved c =
-    let i = c.loop-end.invariant in
-    let rest = c.loop-end.rest.now in
     let k = c.in-Some.end in
-    let found = c.in-Some.ensures.found in
+    let rest = c.loop-end.rest.now in
     let added : map (λ term. term.items) c.push.new.self.items
     ≡ map (λ term. term.items) c.loop-end.terms.items ++ c.in_ok-term_at.field-0.items ∷ [] =
     ap (map (λ term. term.items)) c.in_ok-push.ensures.items
@@ -20,10 +18,11 @@ loop-end-preserved c =
     (terms_reading 0 (slice_split (λ b. b == 44) c.args.text.now)) (map (λ term. term.items) c.loop-end.terms.items)
     (map (λ term. term.items) c.push.new.self.items)
     c.in_ok-term_at.field-0.items c.loop-end.at (c.loop-end.at + (k + 1)) k rest (slice_split (λ b. b == 44) rest)
-    (slice_split (λ b. b == 44) (drop (k + 1) rest)) i.told found.0 found.1 c.in_ok-term_at.ensures.ok refl added in
+    (slice_split (λ b. b == 44) (drop (k + 1) rest)) c.loop-end.invariant.told c.in-Some.ensures.found.0 c.in-Some.ensures.found.1
+    c.in_ok-term_at.ensures.ok refl added in
     record {
       told = told ∙ ap (λ r. onto (map (λ term. term.items) c.push.new.self.items)
           (terms_reading (c.loop-end.at + (k + 1)) (slice_split (λ b. b == 44) r)))
           (sym (take_all _ (drop (k + 1) rest) (omega (arith, length-drop (k + 1) rest))));
-      places = omega (arith, length-drop (k + 1) rest, i.places, found.0);
+      places = omega (arith, length-drop (k + 1) rest, c.loop-end.invariant.places, c.in-Some.ensures.found.0);
     }
