@@ -153,6 +153,17 @@ module _ (tree : Option Files) (list : List Entry) where
         left_times p = sym (times-permutation p (paths_of files) (paths_of (f ∷ swap_remove files k f))
             (IsPermutation-map path_of files (f ∷ swap_remove files k f) moved))
 
+        -- a path stands as often among the candidates that are left and the missed ones, once the candidate went over to these
+        moved_times : (p : List ℕ) (missed : List (List ℕ)) →
+            times p (paths_of (swap_remove files k f)) + times p (missed ++ f.path ∷ []) ≡ times p (paths_of files) + times p missed
+        moved_times p missed = omega (
+          arith,
+          left_times p,
+          times-cons p f.path (paths_of (swap_remove files k f)),
+          times-append p missed (f.path ∷ []),
+          times-cons p f.path [],
+        )
+
         hashes : (j : ℕ) (d : File) → k ≤ j → j < length (swap_remove files k f) →
             IfSome tree (λ t. (get_or (swap_remove files k f) j d).hash ≡ content_hash (content (get t (get_or (swap_remove files k f) j d).path)))
         hashes j d l m =
@@ -175,14 +186,7 @@ module _ (tree : Option Files) (list : List Entry) where
             unchanged = h.missed.unchanged;
           };
           groups = h.groups;
-          all = λ p. omega (
-            arith,
-            h.all p,
-            left_times p,
-            times-cons p f.path (paths_of (swap_remove files k f)),
-            times-append p found.failed (f.path ∷ []),
-            times-cons p f.path [],
-          );
+          all = λ p. omega (arith, h.all p, moved_times p found.failed);
         }
         by Changed is = record {
           listed = All-tail (IsListed tree list) f (swap_remove files k f) listed;
@@ -194,14 +198,7 @@ module _ (tree : Option Files) (list : List Entry) where
                 (λ t there never. absurd (never there)) one.there (is.unchanged refl);
           };
           groups = h.groups;
-          all = λ p. omega (
-            arith,
-            h.all p,
-            left_times p,
-            times-cons p f.path (paths_of (swap_remove files k f)),
-            times-append p found.changed (f.path ∷ []),
-            times-cons p f.path [],
-          );
+          all = λ p. omega (arith, h.all p, moved_times p found.changed);
         }
 
     pub hashed_more : (hash : Result ℕ Missing) → AreHashes tree gives files k hash → WasPut hash k files files' found found' →

@@ -8,7 +8,7 @@ use Rattle.std.specs.Cmp.{IsStrictWeakOrder}
 use Rattle.std.specs.Ordering.{ordering_reverse, ordering_then}
 use Rattle.std.proofs.lemmas.Bool.{false≢true, eqb-true, eq-eqb}
 use Rattle.std.proofs.lemmas.Cmp.{nat_list_cmp_total}
-use Rattle.std.proofs.lemmas.List.{get_or_default, get_or-drop, get_or-take}
+use Rattle.std.proofs.lemmas.List.{drop-map, get_or_default, get_or-drop, get_or-take, take-map}
 use Rattle.std.proofs.lemmas.List.Sorted.{ranks_by, sorted_far}
 use Rattle.tree_dup.specs.declared.runs.File.{File}
 use Rattle.tree_dup.specs.Private.Running.{HasContent, IsRun, IsLastRun, content_cmp, same_content, still}
@@ -137,20 +137,10 @@ sorted_take files n up k d l m =
     in_all (x ∷ xs) (suc n) (suc k) l = (let r = in_all xs n k (omega arith) in omega arith)
 
 pub still_take : (n : ℕ) (files : List File) → map still files ≡ files → map still (take n files) ≡ take n files
-still_take n files e = map-take_by n files ∙ ap (take n) e
-  where
-    map-take_by : (n : ℕ) (xs : List File) → map still (take n xs) ≡ take n (map still xs)
-    map-take_by zero xs = refl
-    map-take_by (suc n) [] = refl
-    map-take_by (suc n) (x ∷ xs) = ap (λ r. still x ∷ r) (map-take_by n xs)
+still_take n files e = sym (take-map still n files) ∙ ap (take n) e
 
 pub still_drop : (n : ℕ) (files : List File) → map still files ≡ files → map still (drop n files) ≡ drop n files
-still_drop n files e = map-drop_by n files ∙ ap (drop n) e
-  where
-    map-drop_by : (n : ℕ) (xs : List File) → map still (drop n xs) ≡ drop n (map still xs)
-    map-drop_by zero xs = refl
-    map-drop_by (suc n) [] = refl
-    map-drop_by (suc n) (x ∷ xs) = map-drop_by n xs
+still_drop n files e = sym (drop-map still n files) ∙ ap (drop n) e
 
 -- a run is of the size and the hash of any of its files
 pub run_of : (run : List File) (k : ℕ) (x : File) → k < length run → x ≡ get_or run k x → IsRun run → All (HasContent x.size x.hash) run

@@ -7,7 +7,7 @@ ghost use Rattle.tree_cmp.specs.Filling.{IsFileOf};
 ghost use Rattle.tree_dup.specs.declared.runs.File.{File};
 ghost use Rattle.shared_reads.specs.Desks.{HasRoom};
 ghost use Rattle.shared_reads.specs.Counts.{KeepsUp};
-ghost use Rattle.tree_dup.specs.Private.Running.{Moved, Went, IsThere, Stands, StandsAt, StandingShows};
+ghost use Rattle.tree_dup.specs.Private.Running.{Moved, Went, IsThere, Sought, Stands, StandsAt, StandingShows};
 ghost use Rattle.tree_dup.specs.Private.Running.{AreDivided, AreSettled, failures_of, is_alike, is_other, still};
 
 use crate::runs::{File, Standing, is_alike};
@@ -117,15 +117,11 @@ fn next_lead<R: Tree>(
     requires into { length into.old ≡ room }
     requires fits { at + room < 2 ^ 64 }
     requires inside { All (λ f. at + room ≤ f.size) files.old }
-    ensures went { Went R.tree R.count R.gives reader.old reader.new files.old files.new }
-    ensures told { IfSome (R.tree reader.old) (λ tree. All (IsThere tree) files.old → (bytes : List ℕ) → All (StandsAt tree at bytes) files.old
-        → All (StandsAt tree at bytes) files.new) }
+    ensures sought { Sought R.tree R.count R.gives at reader.old reader.new files.old files.new }
     ensures filled { result < length files.new → (d : File) → IfSome (R.tree reader.old) (λ tree. All (IsThere tree) files.old → (bytes : List ℕ)
         → All (StandsAt tree at bytes) files.old → StandsAt tree (at + room) (bytes ++ into.new) (slice_index_or files.new result d)) }
     ensures leads { result < length files.new → (d : File) → is_alike (slice_index_or files.new result d) ≡ true }
     ensures before { (d : File) → 0 < result → 0 < length files.new → is_alike (slice_index_or files.new 0 d) ≡ false }
-    ensures front { (d : File) → 0 < length files.old → is_other (slice_index_or files.old 0 d) ≡ false
-        → is_other (slice_index_or files.new 0 d) ≡ false }
 {
     for k in 0..files.len() {
         if lead(reader, &mut files[k], at, room, into) {

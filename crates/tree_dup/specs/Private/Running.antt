@@ -142,6 +142,12 @@ StandsAt tree at lead f = Stands f.standing (take at (content (get tree f.path))
 abbrev pub StandsTo : Files → List ℕ → File → Type 0
 StandsTo tree lead f = Stands f.standing (content (get tree f.path)) lead
 
+-- a reader looked for a lead of a run: no file of it stands to the first bytes of the lead in another way, nor is its first one put aside
+pub record Sought {R : Type 0} (tree : R → Option Files) (count : R → ℕ) (gives : Asks R) (at : ℕ) (r r' : R) (run run' : List File) : Type 0 where
+  pub went : Went tree count gives r r' run run'
+  pub told : IfSome (tree r) (λ files. All (IsThere files) run → (bytes : List ℕ) → All (StandsAt files at bytes) run → All (StandsAt files at bytes) run')
+  pub front : (d : File) → 0 < length run → is_other (slice_index_or run 0 d) ≡ false → is_other (slice_index_or run' 0 d) ≡ false
+
 -- the files of a run are divided by their first bytes, and the hasher holds those of the lead
 pub record AreDivided (tree : Files) (at : ℕ) (hasher : Sha256) (files : List File) : Type 0 where
   pub lead : List ℕ

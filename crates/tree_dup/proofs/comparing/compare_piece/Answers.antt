@@ -15,10 +15,10 @@ pub loop-k-init : goal.loop-k-init
 loop-k-init g c =
     let e = c.next_lead-lead.ensures in
     record {
-      went = e.went;
+      went = e.sought.went;
       told = half_told_none (g.R.Tree.tree c.args.reader.now) c.args.at c.args.room c.next_lead-lead.new.into c.next_lead-lead.result c.args.files.now
-          c.next_lead-lead.new.files e.told e.filled;
-      front = e.front;
+          c.next_lead-lead.new.files e.sought.told e.filled;
+      front = e.sought.front;
       first = e.before;
     }
 

@@ -1,8 +1,10 @@
-use Rattle.std.proofs.Common.{arith, ◌≡◌, ◌++◌, length, map, take, drop, get_or, ap, sym, subst, ◌∙◌, List, All, IfSome}
+use Rattle.std.proofs.Common.{arith, ◌≡◌, ◌++◌, ◌<◌, false, length, map, take, drop, get_or, ap, sym, subst, List, All, IfSome}
 use Rattle.tree_dup.specs.declared.runs.File.{File}
 use Rattle.tree_dup.specs.Private.Running.{Went, IsThere, AreSettled, is_other, still}
 use Rattle.tree_dup.proofs.Written.{written}
+use Rattle.tree_dup.proofs.comparing.compare_run.Given as given
 use Rattle.tree_dup.proofs.comparing.compare_run.Goals as goal
+use Rattle.tree_dup.proofs.comparing.compare_run.Goals.{After-compare_all}
 
 pub compare_all-requires-clause-alike : goal.compare_all-requires-clause-alike
 compare_all-requires-clause-alike g c = subst (λ (fs : List File). map still fs ≡ fs) (sym c.deref_mut.ensures.value) c.requires.alike
@@ -10,43 +12,33 @@ compare_all-requires-clause-alike g c = subst (λ (fs : List File). map still fs
 pub compare_all-requires-clause-sizes : goal.compare_all-requires-clause-sizes
 compare_all-requires-clause-sizes g c = subst (All (λ (f : File). f.size ≡ c.args.size)) (sym c.deref_mut.ensures.value) c.requires.sizes
 
-pub returns-clause-went : goal.returns-clause-went
-returns-clause-went g c =
+-- what is so of the files that were lent, before and after, is so of the run
+written_back : (g : given.Over) (c : After-compare_all g) (P : List File → List File → Type 0) → P c.deref_mut.result.now c.compare_all.new.files →
+    P c.args.run.now.items (take c.args.run.now.len (c.compare_all.new.files ++ drop (length c.compare_all.new.files) c.args.run.now.items))
+written_back g c P so =
     let new : List File = c.compare_all.new.files in
     let back : take c.args.run.now.len (new ++ drop (length new) c.args.run.now.items) ≡ new =
     written c.args.run.now.len new c.args.run.now.items (omega (arith, c.compare_all.auto.files, c.deref_mut.ensures.len))
     (omega (arith, ap length c.deref_mut.ensures.value, c.deref_mut.ensures.len)) in
+    subst (P c.args.run.now.items) (sym back) (subst (λ (fs : List File). P fs new) c.deref_mut.ensures.value so)
+
+pub returns-clause-went : goal.returns-clause-went
+returns-clause-went g c =
     let reader = g.R.Tree in
-    subst (λ (fs : List File). Went reader.tree reader.count reader.gives c.args.reader.now c.compare_all.new.reader c.args.run.now.items fs) (sym back)
-    (subst (λ (fs : List File). Went reader.tree reader.count reader.gives c.args.reader.now c.compare_all.new.reader fs new) c.deref_mut.ensures.value
-    c.compare_all.ensures.went)
+    written_back g (goal.at.returns-clause-went g c).After-compare_all
+    (λ run run'. Went reader.tree reader.count reader.gives c.args.reader.now c.compare_all.new.reader run run') c.compare_all.ensures.went
 
 pub returns-clause-settled : goal.returns-clause-settled
 returns-clause-settled g c =
-    let new : List File = c.compare_all.new.files in
-    let back : take c.args.run.now.len (new ++ drop (length new) c.args.run.now.items) ≡ new =
-    written c.args.run.now.len new c.args.run.now.items (omega (arith, c.compare_all.auto.files, c.deref_mut.ensures.len))
-    (omega (arith, ap length c.deref_mut.ensures.value, c.deref_mut.ensures.len)) in
-    let told = g.R.Tree.tree c.args.reader.now in
-    let digest = c.compare_all.result in
-    subst (λ (fs : List File). IfSome told (λ tree. All (IsThere tree) c.args.run.now.items → AreSettled tree digest fs)) (sym back)
-    (subst (λ (fs : List File). IfSome told (λ tree. All (IsThere tree) fs → AreSettled tree digest new)) c.deref_mut.ensures.value
-    c.compare_all.ensures.settled)
+    written_back g (goal.at.returns-clause-settled g c).After-compare_all
+    (λ run run'. IfSome (g.R.Tree.tree c.args.reader.now) (λ tree. All (IsThere tree) run → AreSettled tree c.compare_all.result run'))
+    c.compare_all.ensures.settled
 
 pub returns-clause-empty : goal.returns-clause-empty
 returns-clause-empty g c =
-    let new : List File = c.compare_all.new.files in
-    let back : take c.args.run.now.len (new ++ drop (length new) c.args.run.now.items) ≡ new =
-    written c.args.run.now.len new c.args.run.now.items (omega (arith, c.compare_all.auto.files, c.deref_mut.ensures.len))
-    (omega (arith, ap length c.deref_mut.ensures.value, c.deref_mut.ensures.len)) in
-    λ z. back ∙ c.compare_all.ensures.empty z ∙ c.deref_mut.ensures.value
+    written_back g (goal.at.returns-clause-empty g c).After-compare_all (λ run run'. c.args.size ≡ 0 → run' ≡ run) c.compare_all.ensures.empty
 
 pub returns-clause-front : goal.returns-clause-front
 returns-clause-front g c =
-    let new : List File = c.compare_all.new.files in
-    let back : take c.args.run.now.len (new ++ drop (length new) c.args.run.now.items) ≡ new =
-    written c.args.run.now.len new c.args.run.now.items (omega (arith, c.compare_all.auto.files, c.deref_mut.ensures.len))
-    (omega (arith, ap length c.deref_mut.ensures.value, c.deref_mut.ensures.len)) in
-    λ d l o. ap (λ (fs : List File). is_other (get_or fs 0 d)) back
-    ∙ c.compare_all.ensures.front d (omega (arith, l, ap length c.deref_mut.ensures.value))
-    (ap (λ (fs : List File). is_other (get_or fs 0 d)) c.deref_mut.ensures.value ∙ o)
+    written_back g (goal.at.returns-clause-front g c).After-compare_all
+    (λ run run'. (d : File) → 0 < length run → is_other (get_or run 0 d) ≡ false → is_other (get_or run' 0 d) ≡ false) c.compare_all.ensures.front
