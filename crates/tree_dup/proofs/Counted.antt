@@ -1,12 +1,16 @@
 -- Counts of faults while files are read, and the first of several readers, which goes on after all read together.
 use Rattle.std.proofs.Common.{◌≡◌, ℕ, zero, suc, ◌+◌, ◌-◌, ◌^◌, ◌<◌, ◌≤◌, List, length, map, get_or, set, min}
 use Rattle.std.proofs.Common.{refl, sym, ap, subst, ◌∙◌, arith, All, Option, Result, Ok, Err, OnOk}
+use Rattle.outside.specs.Asked.{Asks}
 use Rattle.outside.specs.Count.{RoseBy}
 use Rattle.outside.specs.Tree.{Files}
 use Rattle.shared_reads.specs.Counts.{NoneFell, RoseTogether, KeepsUp, KeepUp}
-use Rattle.shared_reads.proofs.Counted.{then_fell, then_kept, then_rose, first_same, still_some}
+use Rattle.shared_reads.proofs.Counted.{keeps_still, then_fell, then_kept, then_rose, first_same, still_some}
 use Rattle.tree_cmp.specs.Readers.{Alike, first_told}
 use Rattle.tree_cmp.proofs.Counted.{all_tell, first_tree}
+use Rattle.tree_dup.specs.Grouping.{HaveCauses}
+use Rattle.tree_dup.specs.Told.{Grouping}
+use Rattle.tree_dup.specs.Private.Sifting.{ReadOn}
 
 -- ---- one count
 
@@ -36,6 +40,22 @@ told_before m n c e = record { kept = omega arith; rose = λ below. omega (arith
 
 pub kept_none : (m n x y : ℕ) → m ≡ 0 → KeepsUp m n x y → (b : ℕ) → KeepsUp b n x y
 kept_none m n x y none f b = record { kept = f.kept; rose = λ below. let r = f.rose below in omega (arith, r, none) }
+
+-- ---- files are divided
+
+module _ {R : Type 0} {tree : R → Option Files} {count : R → ℕ} {gives : Asks R} where
+  pub read_none : (n : ℕ) (r : R) (found : Grouping) → ReadOn tree count gives n n r r found found
+  read_none n r found = record { same = refl; counted = keeps_still _ _; causes = λ h. h }
+
+  -- one more run is divided, of which so many of the failed reads were told
+  pub read_more : {b k : ℕ} {r s : R} {found mid : Grouping} → ReadOn tree count gives b k r s found mid → (h k' : ℕ) → h + k' ≤ k → (t : R) (last : Grouping)
+      → tree t ≡ tree s → KeepsUp (length mid.failed + h) (length last.failed) (count s) (count t) → (HaveCauses gives mid → HaveCauses gives last)
+      → ReadOn tree count gives b k' r t found last
+  read_more so_far h k' told t last same counted causes = record {
+    same = same ∙ so_far.same;
+    counted = kept_then _ _ _ _ h _ _ _ _ so_far.counted told counted;
+    causes = λ c. causes (so_far.causes c);
+  }
 
 -- ---- the first of several readers
 

@@ -7,10 +7,12 @@ use Rattle.std.specs.FinMap.{get}
 use Rattle.std.specs.Cmp.Lexicographic.{pointwise}
 use Rattle.sha2.specs.Sha256.{sha256}
 use Rattle.path_text.specs.Order.{path_cmp}
+use Rattle.outside.specs.Asked.{Asks}
 use Rattle.outside.specs.Tree.{Files, content}
 use Rattle.entry_pages.specs.declared.entries.Entry.{Entry}
+use Rattle.shared_reads.specs.Counts.{KeepsUp}
 use Rattle.tree_dup.specs.Told.{Told, Grouping}
-use Rattle.tree_dup.specs.Grouping.{has, is_candidate, is_read, is_sized}
+use Rattle.tree_dup.specs.Grouping.{HaveCauses, has, is_candidate, is_read, is_sized}
 use Rattle.tree_dup.specs.declared.runs.File.{File}
 use Rattle.tree_dup.specs.Private.Hashing.{content_hash}
 use Rattle.tree_dup.specs.Private.Piles.{times, times_in, joints_in}
@@ -84,3 +86,10 @@ pub record AreHashed (tree : Option Files) (list : List Entry) (files : List Fil
   pub missed : AreMissed tree list found
   pub none : found.groups ≡ []
   pub all : (p : List ℕ) → times p (paths_of files) + misses found p ≡ candidates_in list list p
+
+-- a reader read on while files were divided. Workers told so many failed reads that were still to be named before, and so many after
+pub record ReadOn {R : Type 0} (tree : R → Option Files) (count : R → ℕ) (gives : Asks R) (before after : ℕ) (r r' : R) (found found' : Grouping)
+    : Type 0 where
+  pub same : tree r' ≡ tree r
+  pub counted : KeepsUp (length found.failed + before) (length found'.failed + after) (count r) (count r')
+  pub causes : HaveCauses gives found → HaveCauses gives found'

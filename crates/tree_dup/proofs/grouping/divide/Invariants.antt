@@ -1,30 +1,26 @@
-use Rattle.std.proofs.Common.{◌≡◌, ◌+◌, List, ◌∷◌, length, map, All, IfSome}
+use Rattle.std.proofs.Common.{◌≡◌, List, ◌∷◌, length, map, All, IfSome}
 use Rattle.entry_pages.specs.declared.entries.Entry.{Entry}
-use Rattle.tree_dup.specs.Grouping.{HaveCauses}
 use Rattle.tree_dup.specs.declared.runs.File.{File}
 use Rattle.shared_reads.specs.Desks.{HasRoom}
 use Rattle.shared_reads.specs.Kept.{faults_of}
 use Rattle.tree_dup.specs.Private.Hashing.{IsWhole}
-use Rattle.shared_reads.specs.Counts.{KeepsUp}
 use Rattle.tree_dup.specs.Private.Running.{StandFor, comparison_faults, IsRun, still}
-use Rattle.tree_dup.specs.Private.Sifting.{AreSifted}
+use Rattle.tree_dup.specs.Private.Sifting.{AreSifted, ReadOn}
 use Rattle.tree_dup.proofs.grouping.divide.Given as goal
 
 abbrev pub invariant-loop-alloc : goal.invariant-loop-alloc
 invariant-loop-alloc g l =
     let reader = g.R.Tree in
     record {
+      room : HasRoom l.desk;
       run : IsRun l.run.items;
       alike : map still l.run.items ≡ l.run.items;
       whole : All (IsWhole reader.gives) l.run.items;
       sifted : (list : List Entry) (others : List (List File)) → AreSifted (reader.tree l.fn.reader) list (l.fn.run.items ∷ others) l.fn.found →
           AreSifted (reader.tree l.fn.reader) list (l.run.items ∷ others) l.found;
       told : IfSome l.compared (StandFor (reader.tree l.fn.reader) reader.gives l.run.items);
-      counted : KeepsUp (length l.fn.found.failed + faults_of comparison_faults l.fn.compared)
-          (length l.found.failed + faults_of comparison_faults l.compared) (reader.count l.fn.reader) (reader.count l.reader);
-      causes : HaveCauses reader.gives l.fn.found → HaveCauses reader.gives l.found;
-      same : reader.tree l.reader ≡ reader.tree l.fn.reader;
-      room : HasRoom l.desk;
+      read_on : ReadOn reader.tree reader.count reader.gives (faults_of comparison_faults l.fn.compared) (faults_of comparison_faults l.compared)
+          l.fn.reader l.reader l.fn.found l.found;
     }
 
 abbrev pub decreases-loop-alloc : goal.decreases-loop-alloc

@@ -1,15 +1,15 @@
-use Rattle.std.proofs.Common.{arith, ◌≡◌, [], ◌∷◌, length, map, take, drop, refl, sym, subst, ◌∙◌, List, All, IsSorted}
+use Rattle.std.proofs.Common.{arith, ◌≡◌, [], ◌∷◌, length, map, take, drop, sym, subst, ◌∙◌, List, All, IsSorted}
 use Rattle.std.proofs.lemmas.List.{take_all}
 use Rattle.std.proofs.lemmas.List.Elements.{All-take, All-drop}
 use Rattle.std.proofs.lemmas.Bool.{eqb-true}
 use Rattle.shared_reads.specs.Kept.{IsKept, faults_of}
-use Rattle.shared_reads.proofs.Counted.{keeps_still, kept_less, kept_rose}
+use Rattle.shared_reads.proofs.Counted.{kept_less, kept_rose}
 use Rattle.shared_reads.proofs.Taken.{holds_kept, holds_cut}
 use Rattle.tree_dup.specs.declared.runs.File.{File}
 use Rattle.tree_dup.specs.Private.Hashing.{IsWhole}
 use Rattle.tree_dup.specs.Private.Running.{IsRun, IsLastRun, StandFrom, StandFor, comparison_faults, content_cmp, still}
 use Rattle.tree_dup.specs.Private.Sifting.{AreSifted}
-use Rattle.tree_dup.proofs.Counted.{kept_then}
+use Rattle.tree_dup.proofs.Counted.{read_more, read_none}
 use Rattle.tree_dup.proofs.Compared.{front_cut, stand_for, if_some}
 use Rattle.tree_dup.proofs.Ran.{sorted_take, still_take, still_drop}
 use Rattle.tree_dup.proofs.Sifted.{sifted_cut, sifted_left, sifted_as}
@@ -17,16 +17,14 @@ use Rattle.tree_dup.proofs.grouping.divide_all.Goals as goal
 
 pub loop-alloc-init : goal.loop-alloc-init
 loop-alloc-init g c = record {
+  room = c.requires.room;
   sorted = c.requires.sorted;
   alike = c.requires.alike;
   whole = c.requires.whole;
   sifted = λ list s. s;
   front = sym (take_all (length c.args.files.items) c.args.files.items (omega arith));
   told = c.requires.told;
-  counted = keeps_still _ _;
-  causes = λ h. h;
-  same = refl;
-  room = c.requires.room;
+  read_on = read_none _ _ _;
 }
 
 pub loop-alloc-preserved : goal.loop-alloc-preserved
@@ -40,11 +38,12 @@ loop-alloc-preserved g c =
     let run : c.in_ok-run.run'.items ≡ drop start files = c.in_ok-run.ensures.tail in
     let last : IsLastRun files start = subst (λ (fs : List File). IsLastRun fs start) c.deref.ensures.value c.last_run-start.ensures in
     record {
+      room = e.room;
       sorted = subst (IsSorted content_cmp) (sym front) (sorted_take files start i.sorted);
       alike = subst (λ (fs : List File). map still fs ≡ fs) (sym front) (still_take start files i.alike);
       whole = subst (All (IsWhole g.R.Tree.gives)) (sym front) (All-take (IsWhole g.R.Tree.gives) start files i.whole);
       sifted = λ list s. sifted_as tree (g.R.Tree.tree c.loop-alloc.reader) list (c.in_ok-run.run'.items ∷ (c.split_off.new.self.items ∷ []))
-          (c.split_off.new.self.items ∷ []) c.loop-alloc.found c.divide.new.found i.same
+          (c.split_off.new.self.items ∷ []) c.loop-alloc.found c.divide.new.found i.read_on.same
           (e.sifted list (c.split_off.new.self.items ∷ []))
           (subst (λ (fs : List File). AreSifted tree list (c.in_ok-run.run'.items ∷ (fs ∷ [])) c.loop-alloc.found) (sym front)
           (subst (λ (fs : List File). AreSifted tree list (fs ∷ (take start files ∷ [])) c.loop-alloc.found) (sym run)
@@ -52,10 +51,7 @@ loop-alloc-preserved g c =
       front = front_cut files c.args.files.items c.split_off.new.self.items start i.front front (omega (arith, last.inside));
       told = holds_cut (StandFrom tree g.R.Tree.gives c.args.files.items) c.loop-alloc.kept c.take.new.self
           c.take.ensures.cut i.told;
-      counted = kept_then _ _ _ _ (faults_of comparison_faults c.take.result) _ _ _ _ i.counted (c.take.ensures.held comparison_faults) e.counted;
-      causes = λ h. e.causes (i.causes h);
-      same = e.same ∙ i.same;
-      room = e.room;
+      read_on = read_more i.read_on (faults_of comparison_faults c.take.result) _ (c.take.ensures.held comparison_faults) _ _ e.same e.counted e.causes;
     }
 
 pub divide-requires-clause-run : goal.divide-requires-clause-run
@@ -83,7 +79,7 @@ divide-requires-clause-told g c =
     let last : IsLastRun files start = subst (λ (fs : List File). IsLastRun fs start) c.deref.ensures.value c.last_run-start.ensures in
     if_some c.take.result (λ standings. IsKept start standings c.loop-alloc.kept)
     (StandFor (g.R.Tree.tree c.loop-alloc.reader) g.R.Tree.gives c.in_ok-run.run'.items)
-    (λ standings there. subst (λ t. StandFor t g.R.Tree.gives c.in_ok-run.run'.items standings) (sym i.same)
+    (λ standings there. subst (λ t. StandFor t g.R.Tree.gives c.in_ok-run.run'.items standings) (sym i.read_on.same)
     (stand_for tree g.R.Tree.gives files c.args.files.items c.in_ok-run.run'.items start standings i.front run (omega (arith, last.inside))
     (subst (λ (fs : List File). map still fs ≡ fs) (sym run) (still_drop start files i.alike))
     (holds_kept (StandFrom tree g.R.Tree.gives c.args.files.items) start standings c.loop-alloc.kept i.told there)))
@@ -99,8 +95,8 @@ returns g c =
     record {
       sifted = λ list s. sifted_left (g.R.Tree.tree c.args.reader.now) list c.loop-alloc.files.items [] c.loop-alloc.found
           (omega (arith, none, c.loop-alloc.files.ok.0)) (i.sifted list s);
-      counted = kept_less _ _ _ _ _ i.counted;
-      causes = i.causes;
-      same = i.same;
-      count = kept_rose _ _ _ _ i.counted;
+      counted = kept_less _ _ _ _ _ i.read_on.counted;
+      causes = i.read_on.causes;
+      same = i.read_on.same;
+      count = kept_rose _ _ _ _ i.read_on.counted;
     }
