@@ -138,38 +138,37 @@ module _ (law : GraftUndoesBelow) {S : Type 0} (gives : Asks S) (tree : Option F
     row : row_path l r m ≡ p
     to_be_read : WasToBeRead l r m
 
+  -- a side's own entry at a path, told by the path that is grafted on the side's top
+  own_entry : (s : Side) → IsSide s → (p : List ℕ) (e : Entry) → entry_at s p ≡ Some e
+      → (below_of (grafted s.top p) s.top ≡ p) × (option_map (λ (x : Entry). x.path) (entry_at s p) ≡ Some (grafted s.top p))
+  own_entry s is p e here =
+      let at = stands law s is p e here in
+      (ap (λ q. below_of q s.top) (Stands.whole at) ∙ Stands.path at, ap (option_map (λ (x : Entry). x.path)) here ∙ ap Some (sym (Stands.whole at)))
+
+  -- so a file that was read is missed by that path
+  one_miss : (d : Draft) → Settled d → is_read (stat_at (entry_at l d.row.path)) (stat_at (entry_at r d.row.path)) ≡ true → (m : Missed)
+      → row_path l r m ≡ d.row.path → option_map (λ (x : Entry). x.path) (entry_at (cond m.dest r l) d.row.path) ≡ Some m.path → IsMiss d.row.path m
+  one_miss d s read m row own = record {
+    row = row;
+    to_be_read = record {
+      shown = ap (is_shown l r) row ∙ Settled.shown s;
+      read = (λ i. is_read (stat_at (entry_at l (row i))) (stat_at (entry_at r (row i)))) ∙ read;
+      own = ap (λ q. option_map (λ (x : Entry). x.path) (entry_at (cond m.dest r l) q)) row ∙ own;
+    };
+  }
+
   miss : (d : Draft) → Settled d → (dest : Bool) (why : Missing) → d.outcome ≡ Some (outcome.Missed dest why)
       → IsMiss d.row.path (missed_at l.top r.top d.row.path dest)
   miss d s false why e =
-      let p = d.row.path in
       let read = was_read d s (outcome.Missed false why) e in
-      let es = are_entries (entry_at l p) (entry_at r p) read in
-      let at = stands law l left p (AreEntries.one es) (AreEntries.one_is es) in
-      let row : row_path l r (missed_at l.top r.top p false) ≡ p = ap (λ q. below_of q l.top) (Stands.whole at) ∙ Stands.path at in
-      record {
-        row = row;
-        to_be_read = record {
-          shown = ap (is_shown l r) row ∙ Settled.shown s;
-          read = (λ i. is_read (stat_at (entry_at l (row i))) (stat_at (entry_at r (row i)))) ∙ read;
-          own = ap (λ q. option_map (λ (x : Entry). x.path) (entry_at l q)) row
-              ∙ ap (option_map (λ (x : Entry). x.path)) (AreEntries.one_is es) ∙ ap Some (sym (Stands.whole at));
-        };
-      }
+      let es = are_entries (entry_at l d.row.path) (entry_at r d.row.path) read in
+      let own = own_entry l left d.row.path (AreEntries.one es) (AreEntries.one_is es) in
+      one_miss d s read (missed_at l.top r.top d.row.path false) own.0 own.1
   miss d s true why e =
-      let p = d.row.path in
       let read = was_read d s (outcome.Missed true why) e in
-      let es = are_entries (entry_at l p) (entry_at r p) read in
-      let at = stands law r right p (AreEntries.other es) (AreEntries.other_is es) in
-      let row : row_path l r (missed_at l.top r.top p true) ≡ p = ap (λ q. below_of q r.top) (Stands.whole at) ∙ Stands.path at in
-      record {
-        row = row;
-        to_be_read = record {
-          shown = ap (is_shown l r) row ∙ Settled.shown s;
-          read = (λ i. is_read (stat_at (entry_at l (row i))) (stat_at (entry_at r (row i)))) ∙ read;
-          own = ap (λ q. option_map (λ (x : Entry). x.path) (entry_at r q)) row
-              ∙ ap (option_map (λ (x : Entry). x.path)) (AreEntries.other_is es) ∙ ap Some (sym (Stands.whole at));
-        };
-      }
+      let es = are_entries (entry_at l d.row.path) (entry_at r d.row.path) read in
+      let own = own_entry r right d.row.path (AreEntries.other es) (AreEntries.other_is es) in
+      one_miss d s read (missed_at l.top r.top d.row.path true) own.0 own.1
 
   missed_is : (why : Missing) (d : Draft) → Settled d → (m : Missed) → missed_by why l.top r.top d ≡ Some m → IsMiss d.row.path m
   missed_is why d s m e =
