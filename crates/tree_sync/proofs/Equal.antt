@@ -16,6 +16,7 @@ use Rattle.path_text.proofs.Moved.{below_undoes_graft}
 use Rattle.path_text.proofs.Parts.{below_made, graft_undoes_below}
 use Rattle.path_text.proofs.Within.{itself}
 use Rattle.outside.specs.Tree.{Files, Node, NodesHavePaths, bytes_of, content, kind_of, link_at, stat_of, text_of}
+use Rattle.outside.specs.declared.trees.Kind.{Kind}
 use Rattle.outside.specs.declared.trees.Kind.TheVariants as kind
 use Rattle.outside.specs.declared.trees.Stat.{Stat}
 use Rattle.entry_pages.specs.declared.entries.Entry.{Entry}
@@ -38,7 +39,7 @@ use Rattle.tree_sync.specs.Syncing.{is_foreign, is_masked, is_only_dest, is_ther
 use Rattle.tree_sync.proofs.Alike.{CopyAt, alike_by, copy_alike, file_size, free_of}
 use Rattle.tree_sync.proofs.Apart.{goes_to, none_goes, not_chosen, outside_copied, source_off}
 use Rattle.tree_sync.proofs.Both.{HaveBoth, Removal, Says, have_both, kind_eq, row_says}
-use Rattle.tree_sync.proofs.Contents.{files_same, links_same, others_say}
+use Rattle.tree_sync.proofs.Contents.{Pairs, files_same, links_same, others_say}
 use Rattle.tree_sync.proofs.Fits.{agreed}
 use Rattle.tree_sync.proofs.Members.{in_kept, in_map, next, of_kept, one_off, some_on}
 use Rattle.tree_sync.proofs.Named.{NotNamed, RowAt, fate_in, not_hidden, row_there}
@@ -213,6 +214,18 @@ module _ (law : NodesHavePaths) (pair : Pair) (source dest : List Entry) (delete
       second true c e f = absurd (false≢true (sym e))
       second false c e f = f
 
+      -- both entries are of the kind that the nodes have
+      pairs : (k : Kind) → kind_of n.body ≡ k → Pairs before missed b.left.entry b.right.entry k k row.content
+      pairs k is = record {
+        one = b.one;
+        two = b.two;
+        first = b.left.stat;
+        second = b.right.stat;
+        kind_one = kind_one ∙ is;
+        kind_two = kind_two ∙ is;
+        says = content_says row at b;
+      }
+
       files : kind_of n.body ≡ kind.File → bytes_of m.body ≡ bytes_of n.body
       files k =
           let common = second (is_of kind.Dir (Some b.one)) (is_common row.content) (ap (is_kind kind.Dir) (kind_one ∙ k)) same in
@@ -222,28 +235,13 @@ module _ (law : NodesHavePaths) (pair : Pair) (source dest : List Entry) (delete
           let size_two : b.two.size ≡ length (content (get before b.right.entry.path)) =
           ap (λ (x : Stat). x.size) (sym b.target.stat) ∙ file_size m.body (kinds ∙ k) ∙ sym (ap (λ o. length (content o)) at_two)
           in
-          sym (sym (ap content at_one) ∙ files_same before missed b.left.entry b.right.entry row.content (record {
-            one = b.one;
-            two = b.two;
-            first = b.left.stat;
-            second = b.right.stat;
-            kind_one = kind_one ∙ k;
-            kind_two = kind_two ∙ k;
-            says = content_says row at b;
-          }) size_one size_two common ∙ ap content at_two)
+          sym (sym (ap content at_one)
+          ∙ files_same before missed b.left.entry b.right.entry row.content (pairs kind.File k) size_one size_two common ∙ ap content at_two)
 
       links : kind_of n.body ≡ kind.Link → text_of m.body ≡ text_of n.body
       links k =
           let common = second (is_of kind.Dir (Some b.one)) (is_common row.content) (ap (is_kind kind.Dir) (kind_one ∙ k)) same in
-          let t = links_same before missed b.left.entry b.right.entry row.content (record {
-            one = b.one;
-            two = b.two;
-            first = b.left.stat;
-            second = b.right.stat;
-            kind_one = kind_one ∙ k;
-            kind_two = kind_two ∙ k;
-            says = content_says row at b;
-          }) common in
+          let t = links_same before missed b.left.entry b.right.entry row.content (pairs kind.Link k) common in
           let told_one = if_some (λ text. link_at (get before b.left.entry.path) ≡ Some text) b.left.entry.target t.text t.first
           (All-contains (TextTold before) source b.left.entry w.fits.left.targets b.left.is_in) in
           let told_two = if_some (λ text. link_at (get before b.right.entry.path) ≡ Some text) b.right.entry.target t.text t.second

@@ -1,5 +1,5 @@
 -- Searches through rows and paths that ascend.
-use Rattle.std.proofs.Common.{◌≡◌, ⊎_elim, ℕ, ◌+◌, ◌<◌, ◌≤◌, zero, suc, Bool, true, false, cond, ◌||◌, List, [], ◌∷◌, length}
+use Rattle.std.proofs.Common.{◌≡◌, ℕ, ◌+◌, ◌<◌, ◌≤◌, zero, suc, Bool, true, false, cond, ◌||◌, List, [], ◌∷◌, length}
 use Rattle.std.proofs.Common.{take, drop, get_or, refl, ap}
 use Rattle.std.proofs.Common.{Some, None, sym, ◌∙◌, subst, arith, add-one}
 use Rattle.std.specs.List.{All, AllByRecursion, list_any}
@@ -14,12 +14,13 @@ use Rattle.std.proofs.lemmas.Bool.{false≢true, false_from_ne_true, or_from, or
 use Rattle.std.proofs.lemmas.List.{drop_all, get_or-map, length-map}
 use Rattle.std.proofs.lemmas.List.Folds.{list_any_at}
 use Rattle.std.proofs.lemmas.List.Elements.{recursion_from_All, All-push}
-use Rattle.std.proofs.lemmas.Option.{slice_get_cases}
 use Rattle.path_text.specs.Order.{path_cmp, is_under, is_within, IsPreorder, UnderIsContiguous}
 use Rattle.path_text.specs.Path.{refusal}
 use Rattle.path_text.specs.Total.{path_cmp_total, path_cmp_ties, path_cmp_same}
 use Rattle.tree_cmp.specs.declared.rows.Row.{Row}
-use Rattle.tree_sync.specs.PrivateSearch.{IsPassed, IsBehind, IsCleared}
+use Rattle.tree_cmp.specs.Passes.{IsPassed}
+use Rattle.tree_cmp.proofs.Passing.{at_place}
+use Rattle.tree_sync.specs.PrivateSearch.{IsBehind, IsCleared}
 use Rattle.tree_sync.specs.PrivateSteps.{row_paths}
 use Rattle.tree_sync.specs.Syncing.{row_at}
 
@@ -35,18 +36,6 @@ reversed p q e = path_cmp_total.antisymm q p ∙ ap ordering_reverse e
 
 pub lowered : (p q : List ℕ) → path_cmp p q ≡ Greater → path_cmp q p ≡ Less
 lowered p q e = path_cmp_total.antisymm q p ∙ ap ordering_reverse e
-
--- the element at a place of a list
-pub at_place : {X : Type 0} (xs : List X) (k : ℕ) (x : X) → slice_get xs k ≡ Some x → (k < length xs) × (get_or xs k x ≡ x)
-at_place xs k x is =
-    ⊎_elim (λ w. let e : w.0 ≡ x = some_same w.0 x (sym w.2 ∙ is) in (w.1, subst (λ y. get_or xs k y ≡ y) e w.3))
-    (λ w. absurd (none_some x (sym w.1 ∙ is))) (slice_get_cases xs k).1
-  where
-    some_same : {X : Type 0} (x y : X) → Some x ≡ Some y → x ≡ y
-    some_same x y e = cc
-
-    none_some : {X : Type 0} (x : X) → None ≡ Some x → ⊥
-    none_some x e = absurd (cc)
 
 -- ---- rows
 
@@ -116,13 +105,6 @@ row_passed rows at q row h is e =
           (All-push (λ x. path_cmp x q ≡ Less) (take at (row_paths rows)) (get_or (row_paths rows) at row.path) h.before
           (subst (λ y. path_cmp y q ≡ Less) (sym p) e));
     }
-
--- the next path that is sought comes later
-pub passed_later : (paths : List (List ℕ)) (at : ℕ) (q r : List ℕ) → path_cmp q r ≡ Less → IsPassed paths at q → IsPassed paths at r
-passed_later paths at q r e h = record {
-  inside = h.inside;
-  before = λ k d l. path_cmp_total.trans (get_or (take at paths) k d) q r (h.before k d l) e;
-}
 
 -- ---- paths that are at or over a path
 

@@ -3,7 +3,8 @@ ghost use Rattle.std.specs.Prelude.{◌≡◌, ◌<◌, true, None, length};
 ghost use Rattle.std.specs.List.{list_any};
 ghost use Rattle.std.specs.List.Sorted.{IsStrictlySortedBy};
 ghost use Rattle.flat_list.specs.Prelude.{refusal, path_cmp, is_within};
-ghost use Rattle.tree_sync.specs.PrivateSearch.{IsPassed, IsCleared};
+ghost use Rattle.tree_cmp.specs.Passes.{IsPassed};
+ghost use Rattle.tree_sync.specs.PrivateSearch.{IsCleared};
 ghost use Rattle.tree_sync.specs.PrivateSteps.{row_paths, row_if};
 ghost use Rattle.tree_sync.specs.Syncing.{row_at};
 

@@ -1,7 +1,8 @@
 use Rattle.std.proofs.Common.{◌≡◌, ◌-◌, ◌≤◌, length, take, filter}
 use Rattle.path_text.specs.Graft.{below_of}
 use Rattle.tree_cmp.specs.Sides.{side}
-use Rattle.tree_sync.specs.PrivateSearch.{IsPassed, IsCleared, IsNext}
+use Rattle.tree_cmp.specs.Passes.{IsPassed, IsNext}
+use Rattle.tree_sync.specs.PrivateSearch.{IsCleared}
 use Rattle.tree_sync.specs.PrivateSteps.{is_chosen_off, row_paths}
 use Rattle.tree_sync.proofs.choosing.foreign.Given as goal
 

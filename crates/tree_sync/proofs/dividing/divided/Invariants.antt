@@ -1,7 +1,7 @@
 use Rattle.std.proofs.Common.{◌≡◌, ◌-◌, ◌≤◌, length, take, filter}
 use Rattle.path_text.specs.Graft.{below_of}
 use Rattle.tree_cmp.specs.Sides.{side}
-use Rattle.tree_sync.specs.PrivateSearch.{IsPassed, IsNext}
+use Rattle.tree_cmp.specs.Passes.{IsPassed, IsNext}
 use Rattle.tree_sync.specs.PrivateSteps.{masks_of, row_paths}
 use Rattle.tree_sync.specs.Syncing.{is_kept, is_copied}
 use Rattle.tree_sync.proofs.dividing.divided.Given as goal

@@ -1,9 +1,11 @@
 use Rattle.std.proofs.Common.{sym, subst, IfSome}
 use Rattle.tree_copy.specs.Copying.{CanCopy, FitsTree, SameButTargets}
 use Rattle.tree_sync.specs.Results.{Results}
-use Rattle.tree_sync.specs.Syncing.{ReadsShow}
+use Rattle.tree_sync.specs.Syncing.{ReadsShow, SameOutside}
 use Rattle.tree_sync.proofs.Steps.{blamed_by, copied_by, is_sync, plan_chosen, plan_copied, plan_fits, plan_there, rest_copied, rest_removed}
+use Rattle.tree_sync.proofs.syncing.sync.Given as given
 use Rattle.tree_sync.proofs.syncing.sync.Goals as goal
+use Rattle.tree_sync.proofs.syncing.sync.Goals.{After-copy}
 
 pub remove-requires-clause-chosen : goal.remove-requires-clause-chosen
 remove-requires-clause-chosen g c κs within =
@@ -27,19 +29,21 @@ pub returns-in_err-removed-clause-rest : goal.returns-in_err-removed-clause-rest
 returns-in_err-removed-clause-rest g c =
     rest_removed c.in_ok-plan.ensures.begun (g.G.Plot.tree c.remove.new.ground) c.in_err-removed.ensures.rest
 
-pub returns-in_err-copied-clause-rest : goal.returns-in_err-copied-clause-rest
-returns-in_err-copied-clause-rest g c =
+-- what is left of the tree, however the copy ended
+left : (g : given.Over) (c : After-copy g)
+    → IfSome (g.G.Plot.tree c.remove.new.ground) (λ before. IfSome (g.G.Plot.tree c.copy.new.ground)
+    (SameButTargets c.from_ref-pairs.result.now c.in_ok-plan.plan.copied before))
+    → IfSome (g.G.Plot.tree c.args.ground.now) (λ before. IfSome (g.G.Plot.tree c.copy.new.ground) (SameOutside c.args.pair.now.target before))
+left g c rest =
     rest_copied c.in_ok-plan.ensures.begun (g.G.Plot.tree c.remove.new.ground) (g.G.Plot.tree c.copy.new.ground)
     c.in_ok-removed.ensures.tells c.in_ok-removed.ensures.rest (subst (λ ps. IfSome (g.G.Plot.tree c.remove.new.ground)
-    (λ before. IfSome (g.G.Plot.tree c.copy.new.ground) (SameButTargets ps c.in_ok-plan.plan.copied before))) c.from_ref-pairs.ensures.value
-    c.in_err-copied.ensures.rest)
+    (λ before. IfSome (g.G.Plot.tree c.copy.new.ground) (SameButTargets ps c.in_ok-plan.plan.copied before))) c.from_ref-pairs.ensures.value rest)
+
+pub returns-in_err-copied-clause-rest : goal.returns-in_err-copied-clause-rest
+returns-in_err-copied-clause-rest g c = left g (goal.at.returns-in_err-copied-clause-rest g c).After-copy c.in_err-copied.ensures.rest
 
 pub returns-clause-rest : goal.returns-clause-rest
-returns-clause-rest g c =
-    rest_copied c.in_ok-plan.ensures.begun (g.G.Plot.tree c.remove.new.ground) (g.G.Plot.tree c.copy.new.ground)
-    c.in_ok-removed.ensures.tells c.in_ok-removed.ensures.rest (subst (λ ps. IfSome (g.G.Plot.tree c.remove.new.ground)
-    (λ before. IfSome (g.G.Plot.tree c.copy.new.ground) (SameButTargets ps c.in_ok-plan.plan.copied before))) c.from_ref-pairs.ensures.value
-    c.in_ok-copied.ensures.rest)
+returns-clause-rest g c = left g (goal.at.returns-clause-rest g c).After-copy c.in_ok-copied.ensures.rest
 
 pub returns-clause-synced : goal.returns-clause-synced
 returns-clause-synced g c =
