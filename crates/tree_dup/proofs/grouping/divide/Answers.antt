@@ -8,12 +8,12 @@ use Rattle.tree_dup.proofs.grouping.divide.Goals as goal
 
 pub loop-alloc-init : goal.loop-alloc-init
 loop-alloc-init g c = record {
+  sifted = λ list others s. s;
   room = c.requires.room;
   run = c.requires.run;
   alike = c.requires.alike;
   whole = c.requires.whole;
   told = c.requires.told;
-  sifted = λ list others s. s;
   read_on = read_none _ _ _;
 }
 
