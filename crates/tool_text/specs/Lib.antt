@@ -5,3 +5,4 @@ pub mod NoteOrder
 pub mod Rows
 pub mod Synced
 pub mod Groups
+pub mod PrivateDrafts

@@ -1,6 +1,7 @@
 //! The lines of a comparison, and of its counts.
-ghost use Rattle.std.specs.Prelude.{◌≡◌, ◌+◌, ◌-◌, ◌^◌, ◌<◌, ◌++◌, [], length, slice_index_or, OnOk, if◌then◌else◌};
+ghost use Rattle.std.specs.Prelude.{◌≡◌, ◌+◌, ◌-◌, ◌^◌, ◌<◌, [], length, slice_index_or, if◌then◌else◌};
 ghost use Rattle.tree_cmp.specs.Expressions.{only_src, only_dest, on_both, differs};
+ghost use Rattle.tool_text.specs.PrivateDrafts.{Adds};
 ghost use Rattle.tool_text.specs.Rows.{exist_sign, two_sign, row_line, row_lines, counts_of, side_counts, field_counts, counts_line, rows_text};
 
 use crate::drafts::Draft;
@@ -90,34 +91,19 @@ fn row_at(rows: &Compared, k: usize) -> &Row
 
 /// Adds a line for each row, and a line with their counts and the number of failure notes.
 pub(crate) fn add_rows(draft: &mut Draft, rows: &Compared, failed: u64) -> Result<(), OutOfMemory>
-    ensures ok { OnOk result (draft.new.1 ≡ draft.old.1 ++ rows_text rows.now.rows failed) }
-    ensures stands { draft.new.0 ≡ draft.old.0 }
+    ensures { Adds (rows_text rows.now.rows failed) draft.old draft.new result }
 {
     add_row_lines(draft, rows)?;
     add_counts(draft, counts_of(rows), failed)
 }
 
 fn add_row_lines(draft: &mut Draft, rows: &Compared) -> Result<(), OutOfMemory>
-    ensures ok { OnOk result (draft.new.1 ≡ draft.old.1 ++ row_lines rows.now.rows) }
-    ensures stands { draft.new.0 ≡ draft.old.0 }
+    ensures { Adds (row_lines rows.now.rows) draft.old draft.new result }
 {
     for k in 0..rows.len() {
         add_row(draft, row_at(rows, k))?;
     }
     Ok(())
-}
-
-fn add_row(draft: &mut Draft, row: &Row) -> Result<(), OutOfMemory>
-    ensures ok { OnOk result (draft.new.1 ≡ draft.old.1 ++ row_line row.now) }
-    ensures stands { draft.new.0 ≡ draft.old.0 }
-{
-    let exist = exist_sign(row.exist);
-    let kind = two_sign(row.kind);
-    let size = two_sign(row.size);
-    let content = two_sign(row.content);
-    draft.extend(&[exist, b' ', kind, b' ', size, b' ', content, b' '])?;
-    draft.put_path(&row.path)?;
-    draft.push(b'\n')
 }
 
 fn exist_sign(exist: Exist) -> u8
@@ -140,9 +126,20 @@ fn two_sign(two: Two) -> u8
     }
 }
 
+fn add_row(draft: &mut Draft, row: &Row) -> Result<(), OutOfMemory>
+    ensures { Adds (row_line row.now) draft.old draft.new result }
+{
+    let exist = exist_sign(row.exist);
+    let kind = two_sign(row.kind);
+    let size = two_sign(row.size);
+    let content = two_sign(row.content);
+    draft.extend(&[exist, b' ', kind, b' ', size, b' ', content, b' '])?;
+    draft.put_path(&row.path)?;
+    draft.push(b'\n')
+}
+
 fn add_counts(draft: &mut Draft, counts: RowCounts, failed: u64) -> Result<(), OutOfMemory>
-    ensures ok { OnOk result (draft.new.1 ≡ draft.old.1 ++ counts_line counts failed) }
-    ensures stands { draft.new.0 ≡ draft.old.0 }
+    ensures { Adds (counts_line counts failed) draft.old draft.new result }
 {
     add_side_counts(draft, counts)?;
     add_field_counts(draft, counts)?;
@@ -151,8 +148,7 @@ fn add_counts(draft: &mut Draft, counts: RowCounts, failed: u64) -> Result<(), O
 }
 
 fn add_side_counts(draft: &mut Draft, counts: RowCounts) -> Result<(), OutOfMemory>
-    ensures ok { OnOk result (draft.new.1 ≡ draft.old.1 ++ side_counts counts) }
-    ensures stands { draft.new.0 ≡ draft.old.0 }
+    ensures { Adds (side_counts counts) draft.old draft.new result }
 {
     put_count(draft, "rows ", counts.rows)?;
     put_count(draft, " only_src ", counts.only_src)?;
@@ -161,8 +157,7 @@ fn add_side_counts(draft: &mut Draft, counts: RowCounts) -> Result<(), OutOfMemo
 }
 
 fn add_field_counts(draft: &mut Draft, counts: RowCounts) -> Result<(), OutOfMemory>
-    ensures ok { OnOk result (draft.new.1 ≡ draft.old.1 ++ field_counts counts) }
-    ensures stands { draft.new.0 ≡ draft.old.0 }
+    ensures { Adds (field_counts counts) draft.old draft.new result }
 {
     put_count(draft, " differ_type ", counts.kind)?;
     put_count(draft, " differ_size ", counts.size)?;

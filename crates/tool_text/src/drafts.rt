@@ -6,6 +6,7 @@ ghost use Rattle.outside.specs.Count.{RoseBy};
 ghost use Rattle.outside.specs.Sinks.{GrewByPrefix};
 ghost use Rattle.path_text.specs.Escape.{escape};
 ghost use Rattle.ring_core.specs.Text.{line_of};
+ghost use Rattle.tool_text.specs.PrivateDrafts.{Adds};
 
 use outside::{Failed, Sink, put_all};
 use path_text::{OutOfMemory, Path, put_escaped, put_escaped_bytes};
@@ -82,24 +83,21 @@ impl Draft {
     }
 
     pub(crate) fn push(&mut self, byte: u8) -> Result<(), OutOfMemory>
-        ensures ok { OnOk result (self.new.1 ≡ self.old.1 ++ byte ∷ []) }
-        ensures stands { self.new.0 ≡ self.old.0 }
+        ensures { Adds (byte ∷ []) self.old self.new result }
     {
         self.bytes.push(byte)?;
         Ok(())
     }
 
     pub(crate) fn extend(&mut self, bytes: &[u8]) -> Result<(), OutOfMemory>
-        ensures ok { OnOk result (self.new.1 ≡ self.old.1 ++ bytes.now) }
-        ensures stands { self.new.0 ≡ self.old.0 }
+        ensures { Adds bytes.now self.old self.new result }
     {
         self.bytes.extend_from_slice(bytes)?;
         Ok(())
     }
 
     pub(crate) fn put_spaces(&mut self, count: u8) -> Result<(), OutOfMemory>
-        ensures ok { OnOk result (self.new.1 ≡ self.old.1 ++ replicate count 32) }
-        ensures stands { self.new.0 ≡ self.old.0 }
+        ensures { Adds (replicate count 32) self.old self.new result }
     {
         self.bytes
             .resize(self.bytes.len() + usize::from(count), b' ')?;
@@ -107,22 +105,19 @@ impl Draft {
     }
 
     pub(crate) fn put_path(&mut self, path: &Path) -> Result<(), OutOfMemory>
-        ensures ok { OnOk result (self.new.1 ≡ self.old.1 ++ escape path.now) }
-        ensures stands { self.new.0 ≡ self.old.0 }
+        ensures { Adds (escape path.now) self.old self.new result }
     {
         put_escaped(&mut self.bytes, path)
     }
 
     pub(crate) fn put_text(&mut self, text: &str) -> Result<(), OutOfMemory>
-        ensures ok { OnOk result (self.new.1 ≡ self.old.1 ++ escape text.now) }
-        ensures stands { self.new.0 ≡ self.old.0 }
+        ensures { Adds (escape text.now) self.old self.new result }
     {
         put_escaped_bytes(&mut self.bytes, text.as_bytes())
     }
 
     pub(crate) fn put_event(&mut self, event: &Event) -> Result<(), OutOfMemory>
-        ensures ok { OnOk result (self.new.1 ≡ self.old.1 ++ line_of event.now) }
-        ensures stands { self.new.0 ≡ self.old.0 }
+        ensures { Adds (line_of event.now) self.old self.new result }
     {
         put_event(&mut self.bytes, event)
     }

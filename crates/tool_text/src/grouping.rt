@@ -1,9 +1,10 @@
 //! The lines of files with equal contents, and of their counts.
-ghost use Rattle.std.specs.Prelude.{◌≡◌, ◌+◌, ◌≤◌, ◌<◌, ◌*◌, ◌^◌, ◌++◌, [], length, slice_index_or, OnOk};
+ghost use Rattle.std.specs.Prelude.{◌≡◌, ◌+◌, ◌≤◌, ◌<◌, ◌*◌, ◌^◌, ◌++◌, length, slice_index_or};
 ghost use Rattle.std.specs.List.{sum_by};
 ghost use Rattle.hex.specs.Hex.{encode_lower};
 ghost use Rattle.tree_dup.specs.Shown.{told_of};
 ghost use Rattle.tool_text.specs.Groups.{path_line, path_lines, group_line, group_lines, file_count, extra_of, counts_of, counts_line, groups_text};
+ghost use Rattle.tool_text.specs.PrivateDrafts.{Adds};
 
 use crate::drafts::Draft;
 use crate::listing::put_count;
@@ -41,8 +42,7 @@ impl GroupCounts {
 /// Adds a line for each group and each of its paths, and a line with their counts and the number of failure notes.
 pub(crate) fn add_groups(draft: &mut Draft, groups: &Groups, failed: u64) -> Result<(), OutOfMemory>
     requires few { sum_by file_count groups.now.groups < 2 ^ 64 }
-    ensures ok { OnOk result (draft.new.1 ≡ draft.old.1 ++ groups_text groups.now.groups failed) }
-    ensures stands { draft.new.0 ≡ draft.old.0 }
+    ensures { Adds (groups_text groups.now.groups failed) draft.old draft.new result }
 {
     add_group_lines(draft, groups)?;
     add_counts(draft, counts_of(groups), failed)
@@ -57,8 +57,7 @@ fn group_at(groups: &Groups, k: usize) -> &Group
 }
 
 fn add_group_lines(draft: &mut Draft, groups: &Groups) -> Result<(), OutOfMemory>
-    ensures ok { OnOk result (draft.new.1 ≡ draft.old.1 ++ group_lines groups.now.groups) }
-    ensures stands { draft.new.0 ≡ draft.old.0 }
+    ensures { Adds (group_lines groups.now.groups) draft.old draft.new result }
 {
     for k in 0..groups.len() {
         add_group(draft, group_at(groups, k))?;
@@ -67,16 +66,14 @@ fn add_group_lines(draft: &mut Draft, groups: &Groups) -> Result<(), OutOfMemory
 }
 
 fn add_group(draft: &mut Draft, group: &Group) -> Result<(), OutOfMemory>
-    ensures ok { OnOk result (draft.new.1 ≡ draft.old.1 ++ (group_line (told_of group.now) ++ path_lines (told_of group.now).paths)) }
-    ensures stands { draft.new.0 ≡ draft.old.0 }
+    ensures { Adds (group_line (told_of group.now) ++ path_lines (told_of group.now).paths) draft.old draft.new result }
 {
     add_group_line(draft, group)?;
     add_paths(draft, &group.paths)
 }
 
 fn add_group_line(draft: &mut Draft, group: &Group) -> Result<(), OutOfMemory>
-    ensures ok { OnOk result (draft.new.1 ≡ draft.old.1 ++ group_line (told_of group.now)) }
-    ensures stands { draft.new.0 ≡ draft.old.0 }
+    ensures { Adds (group_line (told_of group.now)) draft.old draft.new result }
 {
     put_count(draft, "group ", group.size)?;
     put_count(draft, " ", group.paths.len() as u64)?;
@@ -95,22 +92,20 @@ fn digits_of(digest: &[u8; 32]) -> [u8; 64]
     digits
 }
 
+fn add_path(draft: &mut Draft, path: &Path) -> Result<(), OutOfMemory>
+    ensures { Adds (path_line path.now) draft.old draft.new result }
+{
+    draft.put_path(path)?;
+    draft.push(b'\n')
+}
+
 fn add_paths(draft: &mut Draft, paths: &[Path]) -> Result<(), OutOfMemory>
-    ensures ok { OnOk result (draft.new.1 ≡ draft.old.1 ++ path_lines paths.now) }
-    ensures stands { draft.new.0 ≡ draft.old.0 }
+    ensures { Adds (path_lines paths.now) draft.old draft.new result }
 {
     for path in paths {
         add_path(draft, path)?;
     }
     Ok(())
-}
-
-fn add_path(draft: &mut Draft, path: &Path) -> Result<(), OutOfMemory>
-    ensures ok { OnOk result (draft.new.1 ≡ draft.old.1 ++ path_line path.now) }
-    ensures stands { draft.new.0 ≡ draft.old.0 }
-{
-    draft.put_path(path)?;
-    draft.push(b'\n')
 }
 
 // The counts of the groups.
@@ -130,8 +125,7 @@ fn counts_of(groups: &Groups) -> GroupCounts
 }
 
 fn add_counts(draft: &mut Draft, counts: GroupCounts, failed: u64) -> Result<(), OutOfMemory>
-    ensures ok { OnOk result (draft.new.1 ≡ draft.old.1 ++ counts_line counts failed) }
-    ensures stands { draft.new.0 ≡ draft.old.0 }
+    ensures { Adds (counts_line counts failed) draft.old draft.new result }
 {
     put_count(draft, "groups ", counts.groups)?;
     put_count(draft, " files ", counts.files)?;

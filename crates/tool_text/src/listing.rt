@@ -1,7 +1,8 @@
 //! The lines of a list, and of its summary.
-ghost use Rattle.std.specs.Prelude.{◌≡◌, ◌+◌, ◌≤◌, ◌++◌, ◌∷◌, [], length, OnOk, codes};
+ghost use Rattle.std.specs.Prelude.{◌≡◌, ◌+◌, ◌≤◌, ◌++◌, length};
 ghost use Rattle.std.specs.Fmt.{decimal};
 ghost use Rattle.tool_text.specs.Lines.{letter, target_part, stat_line, line_of, lines_of, lines_between, summary_line};
+ghost use Rattle.tool_text.specs.PrivateDrafts.{Adds};
 
 use crate::drafts::Draft;
 use crate::numbers::{put_decimal, put_right, put_wide};
@@ -18,8 +19,7 @@ const SUMMARY_LEN: usize = 256;
 /// Adds a line for each entry that has a stat. Memory is taken once, unless links have texts, a path needs escapes, or
 /// a size has more than 12 digits.
 pub(crate) fn add_list(draft: &mut Draft, list: &FlatList) -> Result<(), OutOfMemory>
-    ensures ok { OnOk result (draft.new.1 ≡ draft.old.1 ++ lines_of list.now) }
-    ensures stands { draft.new.0 ≡ draft.old.0 }
+    ensures { Adds (lines_of list.now) draft.old draft.new result }
 {
     draft.reserve(expected_len(list))?;
     add_between(draft, list, 0, list.len())
@@ -34,8 +34,7 @@ pub(crate) fn add_between(
 ) -> Result<(), OutOfMemory>
     requires order { from ≤ to }
     requires inside { to ≤ length list.now }
-    ensures ok { OnOk result (draft.new.1 ≡ draft.old.1 ++ lines_between from to list.now) }
-    ensures stands { draft.new.0 ≡ draft.old.0 }
+    ensures { Adds (lines_between from to list.now) draft.old draft.new result }
 {
     let mut cursor = list.cursor_at(from)?;
     for _ in from..to {
@@ -54,8 +53,7 @@ pub(crate) fn expected_len(list: &FlatList) -> usize {
 }
 
 fn add_entry(draft: &mut Draft, entry: &Entry) -> Result<(), OutOfMemory>
-    ensures ok { OnOk result (draft.new.1 ≡ draft.old.1 ++ line_of entry.now) }
-    ensures stands { draft.new.0 ≡ draft.old.0 }
+    ensures { Adds (line_of entry.now) draft.old draft.new result }
 {
     match entry.stat {
         Some(stat) => add_line(draft, stat, &entry.path, &entry.target),
@@ -69,8 +67,7 @@ fn add_line(
     path: &Path,
     target: &Option<LinkText>,
 ) -> Result<(), OutOfMemory>
-    ensures ok { OnOk result (draft.new.1 ≡ draft.old.1 ++ stat_line stat path.now target.now) }
-    ensures stands { draft.new.0 ≡ draft.old.0 }
+    ensures { Adds (stat_line stat path.now target.now) draft.old draft.new result }
 {
     draft.extend(&[letter(stat.kind), b' '])?;
     put_right(draft, 12, stat.size)?;
@@ -82,8 +79,7 @@ fn add_line(
 
 // Adds what stands behind a path: nothing, or an arrow and the text of a link.
 fn add_target(draft: &mut Draft, target: &Option<LinkText>) -> Result<(), OutOfMemory>
-    ensures ok { OnOk result (draft.new.1 ≡ draft.old.1 ++ target_part target.now) }
-    ensures stands { draft.new.0 ≡ draft.old.0 }
+    ensures { Adds (target_part target.now) draft.old draft.new result }
 {
     match target {
         None => Ok(()),
@@ -107,8 +103,7 @@ fn letter(kind: Kind) -> u8
 
 /// Adds the line of a summary.
 pub(crate) fn add_summary(draft: &mut Draft, sum: &Summary) -> Result<(), OutOfMemory>
-    ensures ok { OnOk result (draft.new.1 ≡ draft.old.1 ++ summary_line sum.now) }
-    ensures stands { draft.new.0 ≡ draft.old.0 }
+    ensures { Adds (summary_line sum.now) draft.old draft.new result }
 {
     put_count(draft, "items ", sum.items)?;
     put_count(draft, " dirs ", sum.dirs)?;
@@ -123,8 +118,7 @@ pub(crate) fn add_summary(draft: &mut Draft, sum: &Summary) -> Result<(), OutOfM
 
 /// Adds a number after its label.
 pub(crate) fn put_count(draft: &mut Draft, label: &str, n: u64) -> Result<(), OutOfMemory>
-    ensures ok { OnOk result (draft.new.1 ≡ draft.old.1 ++ (label.now ++ decimal n)) }
-    ensures stands { draft.new.0 ≡ draft.old.0 }
+    ensures { Adds (label.now ++ decimal n) draft.old draft.new result }
 {
     draft.extend(label.as_bytes())?;
     put_decimal(draft, n)

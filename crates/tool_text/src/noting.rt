@@ -5,6 +5,7 @@ ghost use Rattle.std.specs.Fmt.{decimal};
 ghost use Rattle.path_text.specs.Escape.{escape};
 ghost use Rattle.entry_pages.specs.Entries.{summary_of};
 ghost use Rattle.tool_text.specs.Notes.{mark_whys, entry_notes, notes_of, why_text, note_line, note_lines};
+ghost use Rattle.tool_text.specs.PrivateDrafts.{Adds};
 
 use crate::drafts::Draft;
 use crate::numbers::put_decimal;
@@ -116,8 +117,7 @@ fn push_note(notes: &mut Vec<Note>, path: &Path, why: Why) -> Result<(), OutOfMe
 
 /// Adds a line for each note.
 pub(crate) fn add_notes(draft: &mut Draft, notes: &[Note]) -> Result<(), OutOfMemory>
-    ensures ok { OnOk result (draft.new.1 ≡ draft.old.1 ++ note_lines notes.now) }
-    ensures stands { draft.new.0 ≡ draft.old.0 }
+    ensures { Adds (note_lines notes.now) draft.old draft.new result }
 {
     for note in notes {
         add_note(draft, note)?;
@@ -126,8 +126,7 @@ pub(crate) fn add_notes(draft: &mut Draft, notes: &[Note]) -> Result<(), OutOfMe
 }
 
 fn add_note(draft: &mut Draft, note: &Note) -> Result<(), OutOfMemory>
-    ensures ok { OnOk result (draft.new.1 ≡ draft.old.1 ++ note_line note.now) }
-    ensures stands { draft.new.0 ≡ draft.old.0 }
+    ensures { Adds (note_line note.now) draft.old draft.new result }
 {
     draft.extend(side(note.dest).as_bytes())?;
     add_why(draft, note.why, &note.path)?;
@@ -141,8 +140,7 @@ fn side(dest: bool) -> &'static str
 }
 
 fn add_why(draft: &mut Draft, why: Why, path: &Path) -> Result<(), OutOfMemory>
-    ensures ok { OnOk result (draft.new.1 ≡ draft.old.1 ++ why_text why path.now) }
-    ensures stands { draft.new.0 ≡ draft.old.0 }
+    ensures { Adds (why_text why path.now) draft.old draft.new result }
 {
     match why {
         Why::Gone => add_named(draft, "gone ", path),
@@ -164,16 +162,14 @@ fn add_why(draft: &mut Draft, why: Why, path: &Path) -> Result<(), OutOfMemory>
 }
 
 fn add_named(draft: &mut Draft, reason: &str, path: &Path) -> Result<(), OutOfMemory>
-    ensures ok { OnOk result (draft.new.1 ≡ draft.old.1 ++ (reason.now ++ escape path.now)) }
-    ensures stands { draft.new.0 ≡ draft.old.0 }
+    ensures { Adds (reason.now ++ escape path.now) draft.old draft.new result }
 {
     draft.extend(reason.as_bytes())?;
     draft.put_path(path)
 }
 
 fn add_counted(draft: &mut Draft, reason: &str, path: &Path, k: u64) -> Result<(), OutOfMemory>
-    ensures ok { OnOk result (draft.new.1 ≡ draft.old.1 ++ (reason.now ++ escape path.now ++ 32 ∷ decimal k)) }
-    ensures stands { draft.new.0 ≡ draft.old.0 }
+    ensures { Adds (reason.now ++ escape path.now ++ 32 ∷ decimal k) draft.old draft.new result }
 {
     add_named(draft, reason, path)?;
     draft.push(b' ')?;

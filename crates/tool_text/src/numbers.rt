@@ -1,7 +1,8 @@
 //! Numbers as decimal text, without memory of their own.
-ghost use Rattle.std.specs.Prelude.{◌≡◌, ◌++◌, OnOk};
+ghost use Rattle.std.specs.Prelude.{};
 ghost use Rattle.std.specs.Fmt.{decimal};
 ghost use Rattle.tool_text.specs.Lines.{right};
+ghost use Rattle.tool_text.specs.PrivateDrafts.{Adds};
 
 use crate::drafts::Draft;
 use itoa::Buffer;
@@ -9,8 +10,7 @@ use path_text::OutOfMemory;
 
 /// Adds a number, right-aligned in so many columns.
 pub(crate) fn put_right(draft: &mut Draft, places: u8, n: u64) -> Result<(), OutOfMemory>
-    ensures ok { OnOk result (draft.new.1 ≡ draft.old.1 ++ right places n) }
-    ensures stands { draft.new.0 ≡ draft.old.0 }
+    ensures { Adds (right places n) draft.old draft.new result }
 {
     let mut buffer = Buffer::new();
     let digits = buffer.format(n);
@@ -20,16 +20,14 @@ pub(crate) fn put_right(draft: &mut Draft, places: u8, n: u64) -> Result<(), Out
 
 /// Adds a number.
 pub(crate) fn put_decimal(draft: &mut Draft, n: u64) -> Result<(), OutOfMemory>
-    ensures ok { OnOk result (draft.new.1 ≡ draft.old.1 ++ decimal n) }
-    ensures stands { draft.new.0 ≡ draft.old.0 }
+    ensures { Adds (decimal n) draft.old draft.new result }
 {
     draft.extend(Buffer::new().format(n).as_bytes())
 }
 
 /// Adds a number of any size.
 pub(crate) fn put_wide(draft: &mut Draft, n: u128) -> Result<(), OutOfMemory>
-    ensures ok { OnOk result (draft.new.1 ≡ draft.old.1 ++ decimal n) }
-    ensures stands { draft.new.0 ≡ draft.old.0 }
+    ensures { Adds (decimal n) draft.old draft.new result }
 {
     draft.extend(Buffer::new().format(n).as_bytes())
 }

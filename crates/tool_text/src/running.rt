@@ -1,6 +1,7 @@
 //! The lines of the reports on a run.
-ghost use Rattle.std.specs.Prelude.{◌≡◌, ◌++◌, ◌∷◌, [], OnOk, codes};
+ghost use Rattle.std.specs.Prelude.{};
 ghost use Rattle.std.specs.Fmt.{decimal};
+ghost use Rattle.tool_text.specs.PrivateDrafts.{Adds};
 ghost use Rattle.tool_text.specs.Runs.{trace_lines, share_line, share_lines, progress_line, progress_lines};
 
 use crate::drafts::Draft;
@@ -12,8 +13,7 @@ use ring_core::Event;
 
 /// Adds a line for each event.
 pub(crate) fn add_trace(draft: &mut Draft, events: &[Event]) -> Result<(), OutOfMemory>
-    ensures ok { OnOk result (draft.new.1 ≡ draft.old.1 ++ trace_lines events.now) }
-    ensures stands { draft.new.0 ≡ draft.old.0 }
+    ensures { Adds (trace_lines events.now) draft.old draft.new result }
 {
     for event in events {
         draft.put_event(event)?;
@@ -23,8 +23,7 @@ pub(crate) fn add_trace(draft: &mut Draft, events: &[Event]) -> Result<(), OutOf
 
 /// Adds a line for each rank.
 pub(crate) fn add_shares(draft: &mut Draft, shares: &[Share]) -> Result<(), OutOfMemory>
-    ensures ok { OnOk result (draft.new.1 ≡ draft.old.1 ++ share_lines shares.now) }
-    ensures stands { draft.new.0 ≡ draft.old.0 }
+    ensures { Adds (share_lines shares.now) draft.old draft.new result }
 {
     for (rank, share) in shares.iter().enumerate() {
         add_share(draft, rank as u64, share)?;
@@ -33,8 +32,7 @@ pub(crate) fn add_shares(draft: &mut Draft, shares: &[Share]) -> Result<(), OutO
 }
 
 fn add_share(draft: &mut Draft, rank: u64, share: &Share) -> Result<(), OutOfMemory>
-    ensures ok { OnOk result (draft.new.1 ≡ draft.old.1 ++ share_line rank share.now) }
-    ensures stands { draft.new.0 ≡ draft.old.0 }
+    ensures { Adds (share_line rank share.now) draft.old draft.new result }
 {
     put_count(draft, "rank ", rank)?;
     put_count(draft, " handled ", share.handled)?;
@@ -47,8 +45,7 @@ fn add_share(draft: &mut Draft, rank: u64, share: &Share) -> Result<(), OutOfMem
 
 /// Adds a line for each count.
 pub(crate) fn add_progress(draft: &mut Draft, sums: &[u64]) -> Result<(), OutOfMemory>
-    ensures ok { OnOk result (draft.new.1 ≡ draft.old.1 ++ progress_lines sums.now) }
-    ensures stands { draft.new.0 ≡ draft.old.0 }
+    ensures { Adds (progress_lines sums.now) draft.old draft.new result }
 {
     for sum in sums {
         add_sum(draft, *sum)?;
@@ -57,8 +54,7 @@ pub(crate) fn add_progress(draft: &mut Draft, sums: &[u64]) -> Result<(), OutOfM
 }
 
 fn add_sum(draft: &mut Draft, sum: u64) -> Result<(), OutOfMemory>
-    ensures ok { OnOk result (draft.new.1 ≡ draft.old.1 ++ progress_line sum) }
-    ensures stands { draft.new.0 ≡ draft.old.0 }
+    ensures { Adds (progress_line sum) draft.old draft.new result }
 {
     put_count(draft, "progress ", sum)?;
     draft.push(b'\n')

@@ -1,5 +1,6 @@
 //! The line of dsync.
-ghost use Rattle.std.specs.Prelude.{◌≡◌, ◌++◌, ◌∷◌, [], OnOk};
+ghost use Rattle.std.specs.Prelude.{};
+ghost use Rattle.tool_text.specs.PrivateDrafts.{Adds};
 ghost use Rattle.tool_text.specs.Synced.{synced_line};
 
 use crate::drafts::Draft;
@@ -21,8 +22,7 @@ pub struct SyncCounts {
 
 /// Adds the line of dsync.
 pub(crate) fn add_synced(draft: &mut Draft, counts: &SyncCounts) -> Result<(), OutOfMemory>
-    ensures ok { OnOk result (draft.new.1 ≡ draft.old.1 ++ synced_line counts.now) }
-    ensures stands { draft.new.0 ≡ draft.old.0 }
+    ensures { Adds (synced_line counts.now) draft.old draft.new result }
 {
     put_count(draft, "synced ", counts.copied)?;
     put_count(draft, " removed ", counts.removed)?;

@@ -11,6 +11,7 @@ ghost use Rattle.tool_text.specs.Notes.{note_lines};
 ghost use Rattle.tool_text.specs.Rows.{rows_text};
 ghost use Rattle.tool_text.specs.Runs.{trace_lines, share_lines, progress_lines};
 ghost use Rattle.tool_text.specs.Synced.{synced_line};
+ghost use Rattle.tool_text.specs.PrivateDrafts.{Adds};
 
 use crate::comparing::add_rows;
 use crate::drafts::Draft;
@@ -198,8 +199,7 @@ fn add_path_line(
     path: &Path,
     behind: &str,
 ) -> Result<(), OutOfMemory>
-    ensures ok { OnOk result (draft.new.1 ≡ draft.old.1 ++ before.now ++ escape path.now ++ behind.now ++ 10 ∷ []) }
-    ensures stands { draft.new.0 ≡ draft.old.0 }
+    ensures { Adds (before.now ++ escape path.now ++ behind.now ++ 10 ∷ []) draft.old draft.new result }
 {
     draft.extend(before.as_bytes())?;
     draft.put_path(path)?;
@@ -207,8 +207,7 @@ fn add_path_line(
 }
 
 fn add_line(draft: &mut Draft, line: &str) -> Result<(), OutOfMemory>
-    ensures ok { OnOk result (draft.new.1 ≡ draft.old.1 ++ line.now ++ 10 ∷ []) }
-    ensures stands { draft.new.0 ≡ draft.old.0 }
+    ensures { Adds (line.now ++ 10 ∷ []) draft.old draft.new result }
 {
     draft.extend(line.as_bytes())?;
     draft.push(b'\n')

@@ -1,4 +1,4 @@
-use Rattle.std.proofs.Common.{◌≡◌, ◌∙◌, ℕ, List, ◌++◌, ap, append_assoc, codes}
+use Rattle.std.proofs.Common.{◌≡◌, ◌∙◌, ℕ, List, ◌++◌, ap, append_assoc, codes, rules}
 use Rattle.tool_text.specs.Rows.{labelled}
 use Rattle.tool_text.proofs.comparing.add_field_counts.Goals as goal
 
@@ -6,11 +6,14 @@ three : (d l m n a b c : List ℕ) → l ≡ d ++ a → m ≡ l ++ b → n ≡ m
 three d l m n a b c e f g =
     g ∙ ap (λ x. x ++ c) f ∙ ap (λ x. (x ++ b) ++ c) e ∙ ap (λ x. x ++ c) (append_assoc d a b) ∙ append_assoc d (a ++ b) c
 
-pub returns-clause-ok : goal.returns-clause-ok
-returns-clause-ok c =
+pub returns : goal.returns
+returns c =
     let counts = c.args.counts in
-    three c.args.draft.now.1 _ _ _
-    (labelled (codes " differ_type ") counts.kind)
-    (labelled (codes " differ_size ") counts.size)
-    (labelled (codes " differ_content ") counts.content)
-    c.in_ok-put_count.ensures.ok c.in_ok-put_count-2.ensures.ok c.in_ok-put_count-3.ensures.ok
+    record {
+      ok = three c.args.draft.now.1 _ _ _
+          (labelled (codes " differ_type ") counts.kind)
+          (labelled (codes " differ_size ") counts.size)
+          (labelled (codes " differ_content ") counts.content)
+          c.in_ok-put_count.ensures.ok c.in_ok-put_count-2.ensures.ok c.in_ok-put_count-3.ensures.ok;
+      stands = search rules;
+    }
