@@ -1,13 +1,13 @@
 -- Words read one by one from left to right: what was given before a place, and what is left.
 use Rattle.std.proofs.Common.{◌≡◌, ℕ, suc, ◌+◌, ◌<◌, inl, inr, refl, ap, subst, ◌∙◌, sym, arith, None}
 use Rattle.std.proofs.Common.{List, [], ◌∷◌, length, drop, map, get_or, drop-cons}
-use Rattle.std.specs.Prelude.{Result, Ok, Err}
+use Rattle.std.specs.Prelude.{Result, Ok, Err, IsErrAnd}
 use Rattle.std.specs.List.{drop-map}
 use Rattle.tool_words.specs.declared.errors.Refusal.{Refusal}
 use Rattle.tool_words.specs.declared.errors.WordsError.{WordsError}
 use Rattle.tool_words.specs.declared.errors.WordsError.TheVariants as error
 use Rattle.tool_words.specs.declared.tables.Tool.{Tool}
-use Rattle.tool_words.specs.Parts.{Tells}
+use Rattle.tool_words.specs.Parts.{Tells, Reads}
 use Rattle.tool_words.specs.Refusals.{refusal_in}
 use Rattle.tool_words.specs.Words.{Given, nothing, with_word, at_end, and_then, with_words}
 
@@ -67,3 +67,9 @@ pub refused : (tool : Tool) (words : List (List ℕ)) (at : ℕ) (given : Given)
     Tells (with_word tool given.next given (at + 1) word) fault → Tells (with_words tool 1 words nothing) fault
 refused tool words at given word fault r d t =
     subst (λ w. Tells w fault) (sym (here tool words at given word r d)) (tells_both (with_word tool given.next given (at + 1) word) _ fault t)
+
+-- a reading of which the result tells the refusal
+pub refused_by : {X Y : Type 0} (reading : Result Y Refusal) (view : X → Y) (result : Result X WordsError) (fault : WordsError) →
+    IsErrAnd result (λ e. e ≡ fault) → Tells reading fault → Reads reading view result
+refused_by reading view (Ok x) fault told t = absurd told
+refused_by reading view (Err e) fault told t = record { read = tt; refused = subst (Tells reading) (sym told) t }

@@ -1,12 +1,14 @@
 //! The command of a line that was read to its end.
-ghost use Rattle.std.specs.Prelude.{◌≡◌, Some, Ok, Err, IfOk, IfErr};
+ghost use Rattle.std.specs.Prelude.{◌≡◌, Some, IfOk};
 ghost use Rattle.tool_words.specs.Asked.{start_in, begin_in, asked_by};
-ghost use Rattle.tool_words.specs.Parts.{Tells};
+ghost use Rattle.tool_words.specs.Parts.{Reads};
 ghost use Rattle.tool_words.specs.Words.{start_by, begin_by, sides_by, sources_by, roots_by, nodes_by, asked_of, command_of};
+ghost use Rattle.tool_words.specs.Words.{compare_of, copy_of, sync_of, dup_of, remove_of, test_of};
 
 use crate::commands::{Command, Start, Tests};
 use crate::errors::WordsError;
 use crate::lines::Line;
+use crate::settings::Settings;
 use crate::tables::Tool;
 use path_text::Path;
 
@@ -14,8 +16,7 @@ impl Line {
     /// The command of the tool. The number is that of the first word after the last one, at which a missing path is reported.
     /// Options that cannot be combined are reported after everything else.
     pub(crate) fn command(self, tool: Tool, wanting: usize) -> Result<Command, WordsError>
-        ensures asked { IfOk result (λ command. command_of wanting tool self ≡ Ok (asked_by command)) }
-        ensures refused { IfErr result (λ e. Tells (command_of wanting tool self) e) }
+        ensures { Reads (command_of wanting tool self) asked_by result }
     {
         let clash = self.clash();
         let command = self.asked(tool, wanting)?;
@@ -27,24 +28,31 @@ impl Line {
 
     // What the tool was asked for, if no options clash.
     fn asked(self, tool: Tool, wanting: usize) -> Result<Command, WordsError>
-        ensures asked { IfOk result (λ command. asked_of wanting tool self ≡ Ok (asked_by command)) }
-        ensures refused { IfErr result (λ e. Tells (asked_of wanting tool self) e) }
+        ensures { Reads (asked_of wanting tool self) asked_by result }
     {
         match tool {
             Tool::Walk => self.walk(wanting),
             Tool::Find => self.find(wanting),
-            Tool::Cmp => self.compare(wanting),
-            Tool::Copy => self.copy(wanting),
-            Tool::Sync => self.sync(wanting),
-            Tool::Dup => self.dup(wanting),
-            Tool::Remove => self.remove(wanting),
-            Tool::Test => self.test(wanting),
+            Tool::Cmp => {
+                let sides = sides_of(self.paths, &self.places, wanting)?;
+                Ok(self.settings.compare(sides))
+            }
+            Tool::Copy => Ok(self.settings.copy(sources_of(self.paths, wanting)?)),
+            Tool::Sync => {
+                let sides = sides_of(self.paths, &self.places, wanting)?;
+                Ok(self.settings.sync(sides))
+            }
+            Tool::Dup => Ok(self.settings.dup(roots_of(self.paths, wanting)?)),
+            Tool::Remove => Ok(self.settings.remove(roots_of(self.lower, wanting)?)),
+            Tool::Test => {
+                let nodes = nodes_of(&self.numbers, &self.places, wanting)?;
+                Ok(self.settings.test(nodes))
+            }
         }
     }
 
     fn walk(self, wanting: usize) -> Result<Command, WordsError>
-        ensures asked { IfOk result (λ command. asked_of wanting Tool.Walk self ≡ Ok (asked_by command)) }
-        ensures refused { IfErr result (λ e. Tells (asked_of wanting Tool.Walk self) e) }
+        ensures { Reads (asked_of wanting Tool.Walk self) asked_by result }
     {
         let settings = self.settings;
         let (input, restart) = (settings.input, settings.restart);
@@ -59,8 +67,7 @@ impl Line {
     }
 
     fn find(self, wanting: usize) -> Result<Command, WordsError>
-        ensures asked { IfOk result (λ command. asked_of wanting Tool.Find self ≡ Ok (asked_by command)) }
-        ensures refused { IfErr result (λ e. Tells (asked_of wanting Tool.Find self) e) }
+        ensures { Reads (asked_of wanting Tool.Find self) asked_by result }
     {
         let settings = self.settings;
         Ok(Command::Find {
@@ -74,89 +81,78 @@ impl Line {
             output: settings.output,
         })
     }
+}
 
-    fn compare(self, wanting: usize) -> Result<Command, WordsError>
-        ensures asked { IfOk result (λ command. asked_of wanting Tool.Cmp self ≡ Ok (asked_by command)) }
-        ensures refused { IfErr result (λ e. Tells (asked_of wanting Tool.Cmp self) e) }
+// What the settings ask of a tool whose paths, or whose number, were read.
+impl Settings {
+    fn compare(self, sides: (Path, Path)) -> Command
+        ensures { asked_by result ≡ compare_of self sides.0 sides.1 }
     {
-        let settings = self.settings;
-        let (left, right) = sides_of(self.paths, &self.places, wanting)?;
-        Ok(Command::Cmp {
-            common: settings.common,
-            left,
-            right,
-            wants: settings.wants,
-        })
+        Command::Cmp {
+            common: self.common,
+            left: sides.0,
+            right: sides.1,
+            wants: self.wants,
+        }
     }
 
-    fn copy(self, wanting: usize) -> Result<Command, WordsError>
-        ensures asked { IfOk result (λ command. asked_of wanting Tool.Copy self ≡ Ok (asked_by command)) }
-        ensures refused { IfErr result (λ e. Tells (asked_of wanting Tool.Copy self) e) }
+    fn copy(self, ends: (Vec<Path>, Path)) -> Command
+        ensures { asked_by result ≡ copy_of self ends.0.items ends.1 }
     {
-        let settings = self.settings;
-        let (sources, dest) = sources_of(self.paths, wanting)?;
-        Ok(Command::Copy {
-            common: settings.common,
-            sources,
-            dest,
-            range: settings.range,
-        })
+        Command::Copy {
+            common: self.common,
+            sources: ends.0,
+            dest: ends.1,
+            range: self.range,
+        }
     }
 
-    fn sync(self, wanting: usize) -> Result<Command, WordsError>
-        ensures asked { IfOk result (λ command. asked_of wanting Tool.Sync self ≡ Ok (asked_by command)) }
-        ensures refused { IfErr result (λ e. Tells (asked_of wanting Tool.Sync self) e) }
+    fn sync(self, sides: (Path, Path)) -> Command
+        ensures { asked_by result ≡ sync_of self sides.0 sides.1 }
     {
-        let settings = self.settings;
-        let (source, dest) = sides_of(self.paths, &self.places, wanting)?;
-        Ok(Command::Sync {
-            common: settings.common,
+        let (source, dest) = sides;
+        Command::Sync {
+            common: self.common,
             source,
             dest,
-            delete: settings.delete,
-        })
+            delete: self.delete,
+        }
     }
 
-    fn dup(self, wanting: usize) -> Result<Command, WordsError>
-        ensures asked { IfOk result (λ command. asked_of wanting Tool.Dup self ≡ Ok (asked_by command)) }
-        ensures refused { IfErr result (λ e. Tells (asked_of wanting Tool.Dup self) e) }
+    fn dup(self, roots: Vec<Path>) -> Command
+        ensures { asked_by result ≡ dup_of self roots.items }
     {
-        let settings = self.settings;
-        Ok(Command::Dup {
-            common: settings.common,
-            roots: roots_of(self.paths, wanting)?,
-        })
+        Command::Dup {
+            common: self.common,
+            roots,
+        }
     }
 
-    fn remove(self, wanting: usize) -> Result<Command, WordsError>
-        ensures asked { IfOk result (λ command. asked_of wanting Tool.Remove self ≡ Ok (asked_by command)) }
-        ensures refused { IfErr result (λ e. Tells (asked_of wanting Tool.Remove self) e) }
+    fn remove(self, roots: Vec<Path>) -> Command
+        ensures { asked_by result ≡ remove_of self roots.items }
     {
-        let settings = self.settings;
-        Ok(Command::Remove {
-            common: settings.common,
-            roots: roots_of(self.lower, wanting)?,
+        Command::Remove {
+            common: self.common,
+            roots,
+            dryrun: self.dryrun,
             tests: Tests {
-                tests: settings.tests,
-                newer: settings.newer,
+                tests: self.tests,
+                newer: self.newer,
             },
-            dryrun: settings.dryrun,
-        })
+        }
     }
 
-    fn test(self, wanting: usize) -> Result<Command, WordsError>
-        ensures asked { IfOk result (λ command. asked_of wanting Tool.Test self ≡ Ok (asked_by command)) }
-        ensures refused { IfErr result (λ e. Tells (asked_of wanting Tool.Test self) e) }
+    fn test(self, nodes: u64) -> Command
+        ensures { asked_by result ≡ test_of self nodes }
     {
-        let settings = self.settings;
-        Ok(Command::Test {
-            common: settings.common,
-            nodes: nodes_of(&self.numbers, &self.places, wanting)?,
+        Command::Test {
+            common: self.common,
+            nodes,
             tests: Tests {
-                tests: settings.tests,
-                newer: settings.newer,
+                tests: self.tests,
+                newer: self.newer,
             },
-        })
+        }
     }
 }
 
@@ -168,8 +164,7 @@ fn begin_of(
     places: &[usize],
     wanting: usize,
 ) -> Result<Start, WordsError>
-    ensures begin { IfOk result (λ start. begin_by wanting input restart paths.items places.now ≡ Ok (begin_in start)) }
-    ensures refused { IfErr result (λ e. Tells (begin_by wanting input restart paths.items places.now) e) }
+    ensures { Reads (begin_by wanting input restart paths.items places.now) begin_in result }
 {
     if !restart {
         return start_of(input, paths, places, wanting);
@@ -187,9 +182,8 @@ fn start_of(
     places: &[usize],
     wanting: usize,
 ) -> Result<Start, WordsError>
-    ensures start { IfOk result (λ start. start_by wanting input paths.items places.now ≡ Ok (start_in start)) }
+    ensures start { Reads (start_by wanting input paths.items places.now) start_in result }
     ensures begin { IfOk result (λ start. begin_in start ≡ Some (start_in start)) }
-    ensures refused { IfErr result (λ e. Tells (start_by wanting input paths.items places.now) e) }
 {
     match input {
         None if paths.is_empty() => Err(WordsError::NoPath(wanting)),
@@ -203,8 +197,7 @@ fn start_of(
 
 // The source and the destination, where the paths stand in words of these numbers.
 fn sides_of(paths: Vec<Path>, places: &[usize], wanting: usize) -> Result<(Path, Path), WordsError>
-    ensures sides { IfOk result (λ sides. sides_by wanting paths.items places.now ≡ Ok sides) }
-    ensures refused { IfErr result (λ e. Tells (sides_by wanting paths.items places.now) e) }
+    ensures { Reads (sides_by wanting paths.items places.now) (λ sides. sides) result }
 {
     match places {
         [_, _, another, ..] => return Err(WordsError::TooManyPaths(*another)),
@@ -220,8 +213,7 @@ fn sides_of(paths: Vec<Path>, places: &[usize], wanting: usize) -> Result<(Path,
 
 // The sources, one or more, and the destination, which is the last of the paths.
 fn sources_of(paths: Vec<Path>, wanting: usize) -> Result<(Vec<Path>, Path), WordsError>
-    ensures sources { IfOk result (λ ends. sources_by wanting paths.items ≡ Ok (ends.0.items, ends.1)) }
-    ensures refused { IfErr result (λ e. Tells (sources_by wanting paths.items) e) }
+    ensures { Reads (sources_by wanting paths.items) (λ ends. (ends.0.items, ends.1)) result }
 {
     let mut sources = paths;
     match sources.pop() {
@@ -232,8 +224,7 @@ fn sources_of(paths: Vec<Path>, wanting: usize) -> Result<(Vec<Path>, Path), Wor
 
 // The paths where a walk starts: one or more.
 fn roots_of(paths: Vec<Path>, wanting: usize) -> Result<Vec<Path>, WordsError>
-    ensures roots { IfOk result (λ roots. roots_by wanting paths.items ≡ Ok roots.items) }
-    ensures refused { IfErr result (λ e. Tells (roots_by wanting paths.items) e) }
+    ensures { Reads (roots_by wanting paths.items) (λ roots. roots.items) result }
 {
     if paths.is_empty() {
         return Err(WordsError::NoPath(wanting));
@@ -243,8 +234,7 @@ fn roots_of(paths: Vec<Path>, wanting: usize) -> Result<Vec<Path>, WordsError>
 
 // How many nodes a made-up tree has, where the numbers stand in words of these numbers.
 fn nodes_of(numbers: &[u64], places: &[usize], wanting: usize) -> Result<u64, WordsError>
-    ensures nodes { IfOk result (λ n. nodes_by wanting numbers.now places.now ≡ Ok n) }
-    ensures refused { IfErr result (λ e. Tells (nodes_by wanting numbers.now places.now) e) }
+    ensures { Reads (nodes_by wanting numbers.now places.now) (λ n. n) result }
 {
     match (numbers, places) {
         (_, [_, another, ..]) => Err(WordsError::TooManyPaths(*another)),

@@ -1,5 +1,5 @@
 //! Options of a command line that cannot be combined.
-ghost use Rattle.std.specs.Prelude.{◌≡◌, Some, None, find};
+ghost use Rattle.std.specs.Prelude.{◌≡◌, Some, None, find, if◌then◌else◌};
 ghost use Rattle.tool_words.specs.Clashes.{place_of, trace_on_hosts, trace_and_stop, input_and_restart};
 ghost use Rattle.tool_words.specs.Clashes.{first_of, no_lists, lists_alone, input_and_stop, clash_in};
 ghost use Rattle.tool_words.specs.Table.{text_of};
@@ -25,33 +25,21 @@ impl Line {
     fn trace_on_hosts(&self) -> Option<usize>
         ensures { result ≡ trace_on_hosts self.now.options self.now.settings }
     {
-        if self.settings.common.hosts > 1 {
-            self.place_of(OptionName::Trace)
-        } else {
-            None
-        }
+        self.place_if(self.settings.common.hosts > 1, OptionName::Trace)
     }
 
     // `--trace` with a stop.
     fn trace_and_stop(&self) -> Option<usize>
         ensures { result ≡ trace_and_stop self.now.options self.now.settings }
     {
-        if self.settings.stop_after.is_some() {
-            self.place_of(OptionName::Trace)
-        } else {
-            None
-        }
+        self.place_if(self.settings.stop_after.is_some(), OptionName::Trace)
     }
 
     // A list that is read, with a walk that goes on.
     fn input_and_restart(&self) -> Option<usize>
         ensures { result ≡ input_and_restart self.now.options self.now.settings }
     {
-        if self.settings.input.is_some() {
-            self.place_of(OptionName::Restart)
-        } else {
-            None
-        }
+        self.place_if(self.settings.input.is_some(), OptionName::Restart)
     }
 
     // A walk that stops or goes on, without a folder of lists.
@@ -83,11 +71,7 @@ impl Line {
     fn input_and_stop(&self) -> Option<usize>
         ensures { result ≡ input_and_stop self.now.options self.now.settings }
     {
-        if self.settings.input.is_some() {
-            self.place_of(OptionName::StopAfter)
-        } else {
-            None
-        }
+        self.place_if(self.settings.input.is_some(), OptionName::StopAfter)
     }
 
     // The number of the word in which an option stands first, if it was given.
@@ -95,6 +79,13 @@ impl Line {
         ensures { result ≡ place_of option self.now.options }
     {
         Some(self.first(option)?.place)
+    }
+
+    // The same, where this applies.
+    fn place_if(&self, applies: bool, option: OptionName) -> Option<usize>
+        ensures { result ≡ (if applies then place_of option self.now.options else None) }
+    {
+        if applies { self.place_of(option) } else { None }
     }
 
     // The option as it was given first.

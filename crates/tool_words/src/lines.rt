@@ -1,7 +1,7 @@
 //! A command line, as far as it was read.
-ghost use Rattle.std.specs.Prelude.{◌≡◌, ◌⊎◌, ◌++◌, ◌∷◌, [], Some, None, Ok, Err, OnOk, IfOk, IfErr, IsTrue, Result, Option, List, ℕ, false};
+ghost use Rattle.std.specs.Prelude.{◌≡◌, OnOk};
 ghost use Rattle.std.specs.Option.{option_copied};
-ghost use Rattle.tool_words.specs.Parts.{Tells};
+ghost use Rattle.tool_words.specs.Parts.{Leaves};
 ghost use Rattle.tool_words.specs.Table.{option_named, text_of, Set, set, raise};
 ghost use Rattle.tool_words.specs.Value.{is, number_in, path_in, lower_path_in};
 ghost use Rattle.tool_words.specs.Words.{Given, nothing, ends_options, is_option, name_in, value_in, with_path, with_lower, with_number};
@@ -23,6 +23,7 @@ const MOST_NODES: u64 = 1_000_000;
 /// The settings and paths of the words so far.
 #[derive(Debug, Drop)]
 pub(crate) struct Line {
+    alloc: Global,
     next: Turn,
     pub(crate) options: Vec<Placed>,
     pub(crate) settings: Settings,
@@ -45,6 +46,7 @@ impl Line {
         ensures { result ≡ nothing }
     {
         Line {
+            alloc,
             next: Turn::Any,
             options: Vec::new(alloc),
             settings: Settings::unset(alloc),
@@ -56,97 +58,66 @@ impl Line {
     }
 
     /// Reads a word of the tool, which has this number. After a refusal the line is not read further.
-    pub(crate) fn read(
-        &mut self,
-        alloc: Global,
-        tool: Tool,
-        word: &str,
-        place: usize,
-    ) -> Result<(), WordsError>
-        ensures read { OnOk result (with_word tool self.old.next self.old place word.now ≡ Ok self.new) }
-        ensures refused { IfErr result (λ e. Tells (with_word tool self.old.next self.old place word.now) e) }
+    pub(crate) fn read(&mut self, tool: Tool, word: &str, place: usize) -> Result<(), WordsError>
+        ensures { Leaves (with_word tool self.old.next self.old place word.now) self.new result }
     {
         match self.next {
-            Turn::Any => self.read_any(alloc, tool, word, place),
-            Turn::Value(option, at) => self.read_next_value(alloc, option, at, word, place),
-            Turn::Plain => self.read_plain(alloc, tool, word, place),
+            Turn::Any => self.read_any(tool, word, place),
+            Turn::Value(option, at) => self.read_next_value(option, at, word, place),
+            Turn::Plain => self.read_plain(tool, word, place),
         }
     }
 
-    fn read_any(
-        &mut self,
-        alloc: Global,
-        tool: Tool,
-        word: &str,
-        place: usize,
-    ) -> Result<(), WordsError>
-        ensures read { OnOk result (with_word tool Turn.Any self.old place word.now ≡ Ok self.new) }
-        ensures refused { IfErr result (λ e. Tells (with_word tool Turn.Any self.old place word.now) e) }
+    fn read_any(&mut self, tool: Tool, word: &str, place: usize) -> Result<(), WordsError>
+        ensures { Leaves (with_word tool Turn.Any self.old place word.now) self.new result }
     {
         if ends_options(word) {
             self.next = Turn::Plain;
             Ok(())
         } else if is_option(word) {
-            self.read_option(alloc, tool, word, place)
+            self.read_option(tool, word, place)
         } else {
-            self.read_plain(alloc, tool, word, place)
+            self.read_plain(tool, word, place)
         }
     }
 
-    fn read_option(
-        &mut self,
-        alloc: Global,
-        tool: Tool,
-        word: &str,
-        place: usize,
-    ) -> Result<(), WordsError>
-        ensures read { OnOk result (with_option self.old place (option_named tool (name_in word.now)) (value_in word.now) ≡ Ok self.new) }
-        ensures refused { IfErr result (λ e. Tells (with_option self.old place (option_named tool (name_in word.now)) (value_in word.now)) e) }
+    fn read_option(&mut self, tool: Tool, word: &str, place: usize) -> Result<(), WordsError>
+        ensures { Leaves (with_option self.old place (option_named tool (name_in word.now)) (value_in word.now)) self.new result }
     {
         let (name, value) = divided(word);
         let Some(option) = tool.option(name) else {
             return Err(WordsError::UnknownOption(place));
         };
         match value {
-            Some(text) => self.read_own_value(alloc, option, text, place),
+            Some(text) => self.read_own(option, text, place),
             None => self.read_flag(option, place),
         }
     }
 
-    fn read_own_value(
-        &mut self,
-        alloc: Global,
-        option: OptionName,
-        text: &str,
-        place: usize,
-    ) -> Result<(), WordsError>
-        ensures read { OnOk result (with_own_value self.old place option text.now ≡ Ok self.new) }
-        ensures refused { IfErr result (λ e. Tells (with_own_value self.old place option text.now) e) }
+    fn read_own(&mut self, option: OptionName, text: &str, place: usize) -> Result<(), WordsError>
+        ensures { Leaves (with_own_value self.old place option text.now) self.new result }
     {
-        self.settings.set(alloc, option, text, place)?;
+        self.settings.set(self.alloc, option, text, place)?;
         self.add(option, place)
     }
 
     // The option's word has the number `at`, and the value's the number `place`.
     fn read_next_value(
         &mut self,
-        alloc: Global,
         option: OptionName,
         at: usize,
         word: &str,
         place: usize,
     ) -> Result<(), WordsError>
-        ensures read { OnOk result (with_next_value self.old at option place word.now ≡ Ok self.new) }
-        ensures refused { IfErr result (λ e. Tells (with_next_value self.old at option place word.now) e) }
+        ensures { Leaves (with_next_value self.old at option place word.now) self.new result }
     {
         self.add(option, at)?;
-        self.settings.set(alloc, option, word, place)
+        self.settings.set(self.alloc, option, word, place)
     }
 
     // A flag, or an option whose value is to be the next word.
     fn read_flag(&mut self, option: OptionName, place: usize) -> Result<(), WordsError>
-        ensures read { OnOk result (with_flag self.old place option (raise option self.old.settings) ≡ Ok self.new) }
-        ensures refused { IfErr result (λ e. Tells (with_flag self.old place option (raise option self.old.settings)) e) }
+        ensures { Leaves (with_flag self.old place option (raise option self.old.settings)) self.new result }
     {
         if self.settings.raise(option) {
             self.add(option, place)
@@ -158,9 +129,8 @@ impl Line {
 
     // Adds an option whose word has this number, unless it may not be given again.
     fn add(&mut self, option: OptionName, place: usize) -> Result<(), WordsError>
-        ensures added { OnOk result (with_another self.old place option ≡ Ok self.new) }
+        ensures read { Leaves (with_another self.old place option) self.new result }
         ensures kept { OnOk result (self.new.settings ≡ self.old.settings) }
-        ensures refused { IfErr result (λ e. Tells (with_another self.old place option) e) }
     {
         if self.is_repeated(option) {
             return Err(WordsError::Clash(place));
@@ -184,48 +154,28 @@ impl Line {
             .any(|other| other.option.text() == option.text())
     }
 
-    fn read_plain(
-        &mut self,
-        alloc: Global,
-        tool: Tool,
-        word: &str,
-        place: usize,
-    ) -> Result<(), WordsError>
-        ensures read { OnOk result (with_plain tool self.old place word.now ≡ Ok self.new) }
-        ensures refused { IfErr result (λ e. Tells (with_plain tool self.old place word.now) e) }
+    fn read_plain(&mut self, tool: Tool, word: &str, place: usize) -> Result<(), WordsError>
+        ensures { Leaves (with_plain tool self.old place word.now) self.new result }
     {
         match tool {
             Tool::Walk | Tool::Find | Tool::Cmp | Tool::Copy | Tool::Sync | Tool::Dup => {
-                self.read_path(alloc, word, place)
+                self.read_path(word, place)
             }
-            Tool::Remove => self.read_lower(alloc, word, place),
+            Tool::Remove => self.read_lower(word, place),
             Tool::Test => self.read_number(word, place),
         }
     }
 
-    fn read_path(&mut self, alloc: Global, word: &str, place: usize) -> Result<(), WordsError>
-        ensures read { OnOk result (with_path self.old place (path_in word.now) ≡ Ok self.new) }
-        ensures refused { IfErr result (λ e. Tells (with_path self.old place (path_in word.now)) e) }
+    fn read_path(&mut self, word: &str, place: usize) -> Result<(), WordsError>
+        ensures { Leaves (with_path self.old place (path_in word.now)) self.new result }
     {
-        let path = path_in(alloc, word, place)?;
-        self.paths.push(path)?;
-        self.places.push(place)?;
-        Ok(())
-    }
-
-    fn read_lower(&mut self, alloc: Global, word: &str, place: usize) -> Result<(), WordsError>
-        ensures read { OnOk result (with_lower self.old place (lower_path_in word.now) ≡ Ok self.new) }
-        ensures refused { IfErr result (λ e. Tells (with_lower self.old place (lower_path_in word.now)) e) }
-    {
-        let path = lower_path_in(alloc, word, place)?;
-        self.lower.push(path)?;
+        self.paths.push(path_in(self.alloc, word, place)?)?;
         self.places.push(place)?;
         Ok(())
     }
 
     fn read_number(&mut self, word: &str, place: usize) -> Result<(), WordsError>
-        ensures read { OnOk result (with_number self.old place (number_in 1 1000000 word.now) ≡ Ok self.new) }
-        ensures refused { IfErr result (λ e. Tells (with_number self.old place (number_in 1 1000000 word.now)) e) }
+        ensures { Leaves (with_number self.old place (number_in 1 1000000 word.now)) self.new result }
     {
         let number = number_in(1, MOST_NODES, word).ok_or(WordsError::BadValue(place))?;
         self.numbers.push(number)?;
@@ -233,10 +183,17 @@ impl Line {
         Ok(())
     }
 
+    fn read_lower(&mut self, word: &str, place: usize) -> Result<(), WordsError>
+        ensures { Leaves (with_lower self.old place (lower_path_in word.now)) self.new result }
+    {
+        self.lower.push(lower_path_in(self.alloc, word, place)?)?;
+        self.places.push(place)?;
+        Ok(())
+    }
+
     /// Ends the reading.
     pub(crate) fn end(&self) -> Result<(), WordsError>
-        ensures read { OnOk result (at_end self.now.next self.now ≡ Ok self.now) }
-        ensures refused { IfErr result (λ e. Tells (at_end self.now.next self.now) e) }
+        ensures { Leaves (at_end self.now.next self.now) self.now result }
     {
         match self.next {
             Turn::Value(_, place) => Err(WordsError::NoValue(place)),

@@ -1,7 +1,7 @@
 //! The words, read from left to right.
 ghost use Rattle.std.specs.Prelude.{◌≡◌, map, Some, Ok, Err, IfOk, IfErr, IfSome, string_bytes};
 ghost use Rattle.tool_words.specs.Asked.{asked_by};
-ghost use Rattle.tool_words.specs.Parts.{Tells};
+ghost use Rattle.tool_words.specs.Parts.{Reads};
 ghost use Rattle.tool_words.specs.Refusals.{refusal_in};
 ghost use Rattle.tool_words.specs.Words.{nothing, with_words, reading_for, reading};
 
@@ -27,8 +27,7 @@ pub fn read_words(alloc: Global, words: &[String]) -> Result<Command, WordsError
 
 // What a tool was asked for, by the words behind it.
 fn read_for(alloc: Global, tool: Tool, words: &[String]) -> Result<Command, WordsError>
-    ensures read { IfOk result (λ command. reading_for (Some tool) (map string_bytes words.now) ≡ Ok (asked_by command)) }
-    ensures refused { IfErr result (λ e. Tells (reading_for (Some tool) (map string_bytes words.now)) e) }
+    ensures { Reads (reading_for (Some tool) (map string_bytes words.now)) asked_by result }
 {
     let line = read_line(alloc, tool, words)?;
     line.command(tool, words.len() + 1)
@@ -36,12 +35,11 @@ fn read_for(alloc: Global, tool: Tool, words: &[String]) -> Result<Command, Word
 
 // What the words behind the tool give, of which the first is word 1.
 fn read_line(alloc: Global, tool: Tool, words: &[String]) -> Result<Line, WordsError>
-    ensures read { IfOk result (λ line. with_words tool 1 (map string_bytes words.now) nothing ≡ Ok line) }
-    ensures refused { IfErr result (λ e. Tells (with_words tool 1 (map string_bytes words.now) nothing) e) }
+    ensures { Reads (with_words tool 1 (map string_bytes words.now) nothing) (λ line. line) result }
 {
     let mut line = Line::nothing(alloc);
     for (index, word) in words.iter().enumerate() {
-        line.read(alloc, tool, word.as_str(), index + 1)?;
+        line.read(tool, word.as_str(), index + 1)?;
     }
     line.end()?;
     Ok(line)
