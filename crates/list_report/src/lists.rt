@@ -30,15 +30,13 @@ pub struct ListTask {
 }
 
 /// Finds the entries, saves them if asked, and makes the texts. `now` is in seconds since 1970.
-pub fn report_of_list<T: Threads + Wait + Sync, G: Ground>(
+pub fn report_of_list<T: Threads + Wait + Sync, G: Ground<Reader: Send>>(
     rt: &T,
     alloc: Global,
     task: ListTask,
     files: &mut G,
     now: u64,
 ) -> Result<Report, Stop>
-where
-    G::Reader: Send,
     requires lent { G.area files.old ≡ nothing_lent }
     requires within { CommonWithin task.common }
     ensures reports { IfOk result (ReportsList (list_asked task) now (side_of G.Plot files.old)

@@ -1,5 +1,5 @@
 -- What is told of a walk, from its roots on.
-use Rattle.std.proofs.Common.{ℕ, List, Option, Some, None, IfSome, ◌≡◌, Bool, true, false, ◌&&◌, refl, arith, ⊎_elim}
+use Rattle.std.proofs.Common.{ℕ, ◌<◌, List, Option, Some, None, IfSome, ◌≡◌, Bool, true, false, ◌&&◌, refl, subst, arith, ⊎_elim}
 use Rattle.std.proofs.lemmas.Bool.{false≢true}
 use Rattle.std.specs.Prelude.{Result, Ok, Err, IfOk, ◌||◌, ◌==◌}
 use Rattle.std.specs.List.{flat_map}
@@ -9,6 +9,8 @@ use Rattle.std.proofs.lemmas.Bool.Decides.{nat_tests}
 use Rattle.path_text.specs.Order.{path_cmp}
 use Rattle.outside.specs.Tree.{Files}
 use Rattle.entry_pages.specs.declared.entries.Entry.{Entry}
+use Rattle.flat_list.specs.Spelling.{max_entries}
+use Rattle.tool_words.specs.Asked.{roots}
 use Rattle.tool_words.specs.declared.commands.Common.{Common}
 use Rattle.tool_words.specs.Limits.{CommonWithin}
 use Rattle.tree_walk.specs.declared.errors.WalkError.{WalkError}
@@ -20,6 +22,7 @@ use Rattle.tree_walk.specs.declared.errors.WalkError.TheVariants as error
 use Rattle.run_report.specs.Sides.{Side}
 use Rattle.run_entries.specs.declared.accounts.Entries.{Entries}
 use Rattle.run_entries.specs.Entries.{Walked}
+use Rattle.run_entries.specs.Stopping.{StopsListing, stop_of_walk}
 use Rattle.run_entries.specs.Tells.{keeps_events, IsAccount}
 
 -- starts that stand in path order are walked one after the other
@@ -29,7 +32,8 @@ in_order : (tree : Option Files) (starts : List (List ℕ)) (entries : List Entr
 in_order None starts entries ascend told = tt
 in_order (Some files) starts entries ascend told = told starts (IsPermutation-refl starts) ascend
 
-walked_from : (before after : Side) (given starts : List (List ℕ)) (entries : List Entry) → IsRoots given starts →
+-- what is found from the roots of the given paths is a walk of them
+pub walked_from : (before after : Side) (given starts : List (List ℕ)) (entries : List Entry) → IsRoots given starts →
     IsFound before.tree starts before.count after.count entries → Walked given entries before after
 walked_from before after given starts entries are is = record {
   roots = starts;
@@ -58,6 +62,16 @@ pub told : (common : Common) (before after : Side) (given starts : List (List �
 unfolding walked_from
 told common before after given starts (Ok entries) are is account = (walked_from before after given starts entries.list are is, account)
 told common before after given starts (Err e) are is account = tt
+
+-- a walk of the roots that gave no list gives none of the given paths
+pub stops : (before after : Side) (given starts : List (List ℕ)) (e : WalkError) → IsRoots given starts →
+    IfTooMany e (FoundTooMany before.tree starts before.count after.count) → StopsListing (roots given) before after (stop_of_walk e)
+stops before after given starts error.OutOfMemory are h = tt
+stops before after given starts (error.TooMany n) are h = record {
+  entries = h.list;
+  walked = walked_from before after given starts h.list are h.found;
+  many = subst (λ m. max_entries < m) h.number h.above;
+}
 
 -- without a stop only a whole walk is too much
 pub too_much : (e : WalkError) (tree : Option Files) (starts : List (List ℕ)) (old new : ℕ) → IfTooMany e (IsTooMany None tree starts old new) →

@@ -34,7 +34,7 @@ pub struct Sides {
 }
 
 /// Walks the source, and then the destination.
-pub fn walk_sides<T: Threads + Wait + Sync, G: Ground>(
+pub fn walk_sides<T: Threads + Wait + Sync, G: Ground<Reader: Send>>(
     rt: &T,
     alloc: Global,
     common: &Common,
@@ -42,8 +42,6 @@ pub fn walk_sides<T: Threads + Wait + Sync, G: Ground>(
     right_top: Path,
     files: &mut G,
 ) -> Result<Sides, Stop>
-where
-    G::Reader: Send,
     requires within { CommonWithin common.now }
     requires left { refusal left_top ≡ None }
     requires right { refusal right_top ≡ None }
@@ -66,15 +64,13 @@ where
 }
 
 // Walks one side.
-fn walk_one<T: Threads + Wait + Sync, G: Ground>(
+fn walk_one<T: Threads + Wait + Sync, G: Ground<Reader: Send>>(
     rt: &T,
     alloc: Global,
     common: &Common,
     top: &Path,
     files: &mut G,
 ) -> Result<FlatList, Stop>
-where
-    G::Reader: Send,
     requires within { CommonWithin common.now }
     requires top { refusal top.now ≡ None }
     ensures walked { IfOk result (λ list. Walked (top.now ∷ []) list (side_of G.Plot files.old) (side_of G.Plot files.new)) }

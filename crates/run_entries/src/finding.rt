@@ -21,7 +21,7 @@ use std::thread::Threads;
 use tool_words::{Common, Start, Tests};
 
 /// Lists the start and everything below it, or reads the list, and chooses entries by the tests, or all.
-pub fn find<T: Threads + Wait + Sync, G: Ground>(
+pub fn find<T: Threads + Wait + Sync, G: Ground<Reader: Send>>(
     rt: &T,
     alloc: Global,
     common: &Common,
@@ -30,8 +30,6 @@ pub fn find<T: Threads + Wait + Sync, G: Ground>(
     now: u64,
     files: &mut G,
 ) -> Result<Findings, Stop>
-where
-    G::Reader: Send,
     requires within { CommonWithin common.now }
     ensures finds { IfOk result (λ found. Finds common.now (start_in start) (option_map choice_in choice) now
         (side_of G.Plot files.old) (side_of G.Plot files.new) found.chosen found.notes.items found.account) }
@@ -49,7 +47,7 @@ where
 }
 
 // All that is listed.
-fn find_all<T: Threads + Wait + Sync, G: Ground>(
+fn find_all<T: Threads + Wait + Sync, G: Ground<Reader: Send>>(
     rt: &T,
     alloc: Global,
     common: &Common,
@@ -57,8 +55,6 @@ fn find_all<T: Threads + Wait + Sync, G: Ground>(
     now: u64,
     files: &mut G,
 ) -> Result<Findings, Stop>
-where
-    G::Reader: Send,
     requires within { CommonWithin common.now }
     ensures finds { IfOk result (λ found. Finds common.now (start_in start) None now
         (side_of G.Plot files.old) (side_of G.Plot files.new) found.chosen found.notes.items found.account) }
@@ -76,7 +72,7 @@ where
 }
 
 // The entries that pass the tests. The call looks at the paths of `--newer` first.
-fn find_chosen<T: Threads + Wait + Sync, G: Ground>(
+fn find_chosen<T: Threads + Wait + Sync, G: Ground<Reader: Send>>(
     rt: &T,
     alloc: Global,
     common: &Common,
@@ -85,8 +81,6 @@ fn find_chosen<T: Threads + Wait + Sync, G: Ground>(
     now: u64,
     files: &mut G,
 ) -> Result<Findings, Stop>
-where
-    G::Reader: Send,
     requires within { CommonWithin common.now }
     ensures finds { IfOk result (λ found. Finds common.now (start_in start) (Some (choice_in choice)) now
         (side_of G.Plot files.old) (side_of G.Plot files.new) found.chosen found.notes.items found.account) }

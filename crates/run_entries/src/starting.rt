@@ -22,15 +22,13 @@ use tool_words::{Common, Start};
 use tree_walk::{WalkError, roots_of, walk};
 
 /// The entries of a walk of the roots, or of the list file, and the reports on the walk.
-pub(crate) fn list_from<T: Threads + Wait + Sync, G: Ground>(
+pub(crate) fn list_from<T: Threads + Wait + Sync, G: Ground<Reader: Send>>(
     rt: &T,
     alloc: Global,
     common: &Common,
     start: Start,
     files: &mut G,
 ) -> Result<Entries, Stop>
-where
-    G::Reader: Send,
     requires within { CommonWithin common.now }
     ensures listed { IfOk result (λ entries. Listed (start_in start) entries.list (side_of G.Plot files.old) (side_of G.Plot files.new)) }
     ensures told { IfOk result (λ entries. (listed : Listed (start_in start) entries.list (side_of G.Plot files.old) (side_of G.Plot files.new))
@@ -54,15 +52,13 @@ where
 }
 
 /// Walks the given paths by themselves: nothing is looked at before, and all entries are listed.
-pub fn walk_side<T: Threads + Wait + Sync, G: Ground>(
+pub fn walk_side<T: Threads + Wait + Sync, G: Ground<Reader: Send>>(
     rt: &T,
     alloc: Global,
     common: &Common,
     given: Vec<Path>,
     files: &mut G,
 ) -> Result<Entries, Stop>
-where
-    G::Reader: Send,
     requires within { CommonWithin common.now }
     ensures walked { IfOk result (λ entries. Walked given.items entries.list (side_of G.Plot files.old) (side_of G.Plot files.new)) }
     ensures told { IfOk result (λ entries. (walked : Walked given.items entries.list (side_of G.Plot files.old) (side_of G.Plot files.new))
@@ -75,7 +71,8 @@ where
     ensures area { G.area files.new ≡ G.area files.old }
     ensures count { RoseBy 0 (G.count files.old) (G.count files.new) }
 {
-    match walked(rt, alloc, common, given, files) {
+    let roots = roots_of(given)?;
+    match walk_roots(rt, alloc, common, roots, files) {
         Ok(entries) => Ok(entries),
         Err(why) => Err(stop_of_walk(why)),
     }
@@ -91,32 +88,6 @@ pub fn stop_of_walk(why: WalkError) -> Stop
     }
 }
 
-// Walks the roots of the given paths.
-fn walked<T: Threads + Wait + Sync, G: Ground>(
-    rt: &T,
-    alloc: Global,
-    common: &Common,
-    given: Vec<Path>,
-    files: &mut G,
-) -> Result<Entries, WalkError>
-where
-    G::Reader: Send,
-    requires within { CommonWithin common.now }
-    ensures walked { IfOk result (λ entries. Walked given.items entries.list (side_of G.Plot files.old) (side_of G.Plot files.new)) }
-    ensures told { IfOk result (λ entries. (walked : Walked given.items entries.list (side_of G.Plot files.old) (side_of G.Plot files.new))
-        × IsAccount common.now (G.tree files.old) walked.roots entries.list entries.account) }
-    ensures few { IfOk result (λ entries. length entries.list ≤ max_entries) }
-    ensures ascend { IfOk result (λ entries. IsStrictlySortedBy path_cmp (paths entries.list)) }
-    ensures shaped { IfOk result (λ entries. All (λ e. is_shaped e ≡ true) entries.list) }
-    ensures too_many { IfErr result (λ e. IfTooMany e (λ n. IsTooLongWalk given.items (side_of G.Plot files.old) (side_of G.Plot files.new))) }
-    ensures same { G.tree files.new ≡ G.tree files.old }
-    ensures area { G.area files.new ≡ G.area files.old }
-    ensures count { RoseBy 0 (G.count files.old) (G.count files.new) }
-{
-    let roots = roots_of(given)?;
-    walk_roots(rt, alloc, common, roots, files)
-}
-
 // Whether the events of a walk are kept: for `--trace`, and on one host for `--shares` too. The shares are then the counts of
 // the events.
 fn keeps_events(common: &Common) -> bool
@@ -127,15 +98,13 @@ fn keeps_events(common: &Common) -> bool
 
 /// Walks these roots, with as many ranks as asked.
 #[tactic(auto, using(crate::proofs::Told::kept_on_one_host))]
-pub fn walk_roots<T: Threads + Wait + Sync, G: Ground>(
+pub fn walk_roots<T: Threads + Wait + Sync, G: Ground<Reader: Send>>(
     rt: &T,
     alloc: Global,
     common: &Common,
     roots: Vec<Path>,
     files: &mut G,
 ) -> Result<Entries, WalkError>
-where
-    G::Reader: Send,
     requires within { CommonWithin common.now }
     requires apart { Apart roots.items }
     ensures found { IfOk result (λ entries. IsFound (G.tree files.old) roots.items (G.count files.old) (G.count files.new) entries.list) }

@@ -39,14 +39,12 @@ pub struct StageTask {
 
 /// Walks. A whole list is saved, if asked, and printed. For a walk that is cut a checkpoint is
 /// written in its place, and the reason to stop is [`Stop::Stopped`].
-pub fn report_of_stage<T: Threads + Wait + Sync, G: Ground>(
+pub fn report_of_stage<T: Threads + Wait + Sync, G: Ground<Reader: Send>>(
     rt: &T,
     alloc: Global,
     task: StageTask,
     files: &mut G,
 ) -> Result<Report, Stop>
-where
-    G::Reader: Send,
     requires lent { G.area files.old ≡ nothing_lent }
     requires within { WithinStage (stage_asked task) }
     ensures reports { IfOk result (ReportsStage (stage_asked task) (side_of G.Plot files.old)
@@ -81,7 +79,7 @@ where
 }
 
 // Begins, and walks from there.
-fn begin_and_walk<T: Threads + Wait + Sync, G: Ground>(
+fn begin_and_walk<T: Threads + Wait + Sync, G: Ground<Reader: Send>>(
     rt: &T,
     alloc: Global,
     common: &Common,
@@ -90,8 +88,6 @@ fn begin_and_walk<T: Threads + Wait + Sync, G: Ground>(
     lists: &Path,
     files: &mut G,
 ) -> Result<Stage, Stop>
-where
-    G::Reader: Send,
     requires within { CommonWithin common.now }
     ensures walks { IfOk result (Walks (option_map (λ paths. paths.items) starts) lists.now stop_after common.now
         (side_of G.Plot files.old) (side_of G.Plot files.new)) }

@@ -38,7 +38,7 @@ pub(crate) enum Stage {
 }
 
 /// Walks with as many ranks as asked, until each path is handled or one rank has handled as many as it may.
-pub(crate) fn walk_stage<T: Threads + Wait + Sync, G: Ground>(
+pub(crate) fn walk_stage<T: Threads + Wait + Sync, G: Ground<Reader: Send>>(
     rt: &T,
     alloc: Global,
     common: &Common,
@@ -46,8 +46,6 @@ pub(crate) fn walk_stage<T: Threads + Wait + Sync, G: Ground>(
     beginning: Beginning,
     files: &mut G,
 ) -> Result<Stage, Stop>
-where
-    G::Reader: Send,
     requires within { CommonWithin common.now }
     requires apart { Apart beginning.starts.items }
     requires beside { IsBeside beginning.done beginning.starts.items }
@@ -71,7 +69,7 @@ where
 }
 
 // The stage that begins with these entries done and walks these paths, however many entries it finds.
-fn stage_from<T: Threads + Wait + Sync, G: Ground>(
+fn stage_from<T: Threads + Wait + Sync, G: Ground<Reader: Send>>(
     rt: &T,
     alloc: Global,
     common: &Common,
@@ -80,8 +78,6 @@ fn stage_from<T: Threads + Wait + Sync, G: Ground>(
     starts: Vec<Path>,
     files: &mut G,
 ) -> Result<Stage, Stop>
-where
-    G::Reader: Send,
     requires within { CommonWithin common.now }
     requires apart { Apart starts.items }
     ensures stage { IfOk result (IsStage stop_after common.now (G.tree files.old) done starts.items (G.count files.old) (G.count files.new)) }
@@ -99,7 +95,7 @@ where
 }
 
 // Walks to the end.
-fn finish<T: Threads + Wait + Sync, G: Ground>(
+fn finish<T: Threads + Wait + Sync, G: Ground<Reader: Send>>(
     rt: &T,
     alloc: Global,
     common: &Common,
@@ -107,8 +103,6 @@ fn finish<T: Threads + Wait + Sync, G: Ground>(
     starts: Vec<Path>,
     files: &mut G,
 ) -> Result<Stage, Stop>
-where
-    G::Reader: Send,
     requires within { CommonWithin common.now }
     requires apart { Apart starts.items }
     ensures stage { IfOk result (IsStage None common.now (G.tree files.old) done starts.items (G.count files.old) (G.count files.new)) }
@@ -129,7 +123,7 @@ where
 }
 
 // Walks until a rank has handled so many paths, or to the end.
-fn stop_or_finish<T: Threads + Wait + Sync, G: Ground>(
+fn stop_or_finish<T: Threads + Wait + Sync, G: Ground<Reader: Send>>(
     rt: &T,
     alloc: Global,
     common: &Common,
@@ -138,8 +132,6 @@ fn stop_or_finish<T: Threads + Wait + Sync, G: Ground>(
     starts: Vec<Path>,
     files: &mut G,
 ) -> Result<Stage, Stop>
-where
-    G::Reader: Send,
     requires within { CommonWithin common.now }
     requires apart { Apart starts.items }
     ensures stage { IfOk result (IsStage (Some most) common.now (G.tree files.old) done starts.items (G.count files.old) (G.count files.new)) }
