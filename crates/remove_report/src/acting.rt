@@ -3,9 +3,9 @@ ghost use Rattle.std.specs.Prelude.{◌≡◌, ◌≤◌, [], true, IfOk, IfSome
 ghost use Rattle.run_report.specs.Prelude.{RoseBy, nothing_lent, paths, CommonWithin, side_of};
 ghost use Rattle.std.specs.List.{count_by};
 ghost use Rattle.level_work.specs.Counts.{is_done};
-ghost use Rattle.tree_remove.specs.Removing.{AreChosen, AreThere, SameButChosen};
+ghost use Rattle.tree_remove.specs.Removing.{SameButChosen};
 ghost use Rattle.remove_report.specs.Choosing.{Acts};
-ghost use Rattle.remove_report.specs.PrivateActs.{TellsRemovals};
+ghost use Rattle.remove_report.specs.PrivateActs.{CanBeRemoved, TellsRemovals};
 
 use crate::naming::failures;
 use crate::printing::remove_report;
@@ -29,7 +29,7 @@ struct Removal {
 
 /// Removes the chosen entries, unless it is a dry run, and makes the texts. `named` has the failures before. Whatever it
 /// answers, every path that was not chosen is as before.
-pub(crate) fn remove_and_tell<T: Threads + Sync, G: Ground>(
+pub(crate) fn remove_and_tell<T: Threads + Sync, G: Ground<Part: Send>>(
     rt: &T,
     alloc: Global,
     dryrun: bool,
@@ -38,12 +38,9 @@ pub(crate) fn remove_and_tell<T: Threads + Sync, G: Ground>(
     named: Vec<Note>,
     files: &mut G,
 ) -> Result<Report, OutOfMemory>
-where
-    G::Part: Send,
     requires within { CommonWithin common.now }
+    requires can { CanBeRemoved chosen.now (G.tree files.old) }
     requires lent { G.area files.old ≡ nothing_lent }
-    requires chosen { AreChosen chosen.now }
-    requires there { IfSome (G.tree files.old) (AreThere chosen.now) }
     ensures told { IfOk result (TellsRemovals dryrun chosen.now named.items (side_of G.Plot files.old)
         (side_of G.Plot files.new)) }
     ensures rest { IfSome (G.tree files.old) (λ before. IfSome (G.tree files.new) (SameButChosen (paths chosen.now) before)) }
@@ -59,7 +56,7 @@ where
 }
 
 // Removes the chosen entries, by as many ranks and hosts as are asked for; in a dry run it removes nothing.
-fn remove_unless<T: Threads + Sync, G: Ground>(
+fn remove_unless<T: Threads + Sync, G: Ground<Part: Send>>(
     rt: &T,
     alloc: Global,
     dryrun: bool,
@@ -67,12 +64,9 @@ fn remove_unless<T: Threads + Sync, G: Ground>(
     chosen: &FlatList,
     files: &mut G,
 ) -> Result<Removal, OutOfMemory>
-where
-    G::Part: Send,
     requires within { CommonWithin common.now }
+    requires can { CanBeRemoved chosen.now (G.tree files.old) }
     requires lent { G.area files.old ≡ nothing_lent }
-    requires chosen { AreChosen chosen.now }
-    requires there { IfSome (G.tree files.old) (AreThere chosen.now) }
     ensures acts { IfOk result (λ acted. Acts dryrun chosen.now acted.rows.items (side_of G.Plot files.old)
         (side_of G.Plot files.new)) }
     ensures gone { IfOk result (λ acted. acted.removed ≡ count_by (λ row. is_done row.1) acted.rows.items) }

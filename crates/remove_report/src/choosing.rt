@@ -3,9 +3,9 @@ ghost use Rattle.std.specs.Prelude.{◌≡◌, All, IfOk, IfErr, IfSome, Some};
 ghost use Rattle.run_report.specs.Prelude.{RoseBy, CommonWithin, side_of};
 ghost use Rattle.tool_words.specs.Asked.{roots, choice_in};
 ghost use Rattle.tool_words.specs.Limits.{Lower};
-ghost use Rattle.tree_remove.specs.Removing.{AreChosen, AreThere};
 ghost use Rattle.run_entries.specs.Entries.{Finds};
 ghost use Rattle.run_entries.specs.Stopping.{StopsFinding};
+ghost use Rattle.remove_report.specs.PrivateActs.{CanBeRemoved};
 
 use outside::Ground;
 use path_text::Path;
@@ -18,7 +18,7 @@ use tool_words::{Common, Start, Tests};
 use tree_walk::entries_are_told;
 
 /// Walks trees below `/`, and chooses entries by the tests: entries that can be removed.
-pub(crate) fn find_lower<T: Threads + Wait + Sync, G: Ground>(
+pub(crate) fn find_lower<T: Threads + Wait + Sync, G: Ground<Reader: Send>>(
     rt: &T,
     alloc: Global,
     common: &Common,
@@ -27,14 +27,11 @@ pub(crate) fn find_lower<T: Threads + Wait + Sync, G: Ground>(
     now: u64,
     files: &mut G,
 ) -> Result<Findings, Stop>
-where
-    G::Reader: Send,
     requires within { CommonWithin common.now }
     requires lower { All Lower paths.items }
     ensures finds { IfOk result (λ found. Finds common.now (roots paths.items) (Some (choice_in tests)) now
         (side_of G.Plot files.old) (side_of G.Plot files.new) found.chosen found.notes.items found.account) }
-    ensures chosen { IfOk result (λ found. AreChosen found.chosen) }
-    ensures there { IfOk result (λ found. IfSome (G.tree files.old) (AreThere found.chosen)) }
+    ensures can { IfOk result (λ found. CanBeRemoved found.chosen (G.tree files.old)) }
     ensures stopped { IfErr result (StopsFinding (roots paths.items) (Some (choice_in tests)) (side_of G.Plot files.old)
         (side_of G.Plot files.new)) }
     ensures same { G.tree files.new ≡ G.tree files.old }

@@ -29,16 +29,13 @@ pub struct RemoveTask {
 }
 
 /// Finds the entries, removes them unless it is a dry run, and makes the texts. `now` is in seconds since 1970.
-pub fn report_of_remove<T: Threads + Wait + Sync, G: Ground>(
+pub fn report_of_remove<T: Threads + Wait + Sync, G: Ground<Reader: Send, Part: Send>>(
     rt: &T,
     alloc: Global,
     task: RemoveTask,
     files: &mut G,
     now: u64,
 ) -> Result<Report, Stop>
-where
-    G::Reader: Send,
-    G::Part: Send,
     requires lent { G.area files.old ≡ nothing_lent }
     requires within { WithinRemove (remove_asked task) }
     ensures reports { IfOk result (ReportsRemove (remove_asked task) now (side_of G.Plot files.old)

@@ -1,9 +1,20 @@
 use Rattle.std.proofs.Common.{rules, subst}
 use Rattle.run_report.specs.Sides.{side_of, side_with}
 use Rattle.remove_report.specs.Choosing.{Acts}
-use Rattle.remove_report.specs.Removing.{remove_asked}
+use Rattle.remove_report.specs.Removing.{remove_asked, LeavesRemove}
 use Rattle.remove_report.proofs.Steps.{chooses_by, stops_finding, leaves_all, leaves_others}
+use Rattle.remove_report.proofs.removing.report_of_remove.Given as given
 use Rattle.remove_report.proofs.removing.report_of_remove.Goals as goal
+use Rattle.remove_report.proofs.removing.report_of_remove.Goals.{After-remove_and_tell}
+
+-- whatever the removal answers, only chosen paths may be gone
+leaves : (g : given.Over) (c : After-remove_and_tell g) →
+    LeavesRemove (remove_asked c.args.task) c.args.now (side_of g.G.Plot c.args.files.now) (side_of g.G.Plot c.remove_and_tell.new.files)
+leaves g c =
+    let told = c.in_ok-found.ensures in
+    let acted = c.remove_and_tell.ensures in
+    let after = side_of g.G.Plot c.remove_and_tell.new.files in
+    leaves_others (remove_asked c.args.task) c.args.now _ _ after _ _ _ told.finds told.same acted.dry acted.tells acted.rest
 
 pub returns-clause-reports : goal.returns-clause-reports
 returns-clause-reports g c =
@@ -28,11 +39,7 @@ returns-clause-reports g c =
     }
 
 pub returns-clause-leaves : goal.returns-clause-leaves
-returns-clause-leaves g c =
-    let told = c.in_ok-found.ensures in
-    let acted = c.remove_and_tell.ensures in
-    let after = side_of g.G.Plot c.remove_and_tell.new.files in
-    leaves_others (remove_asked c.args.task) c.args.now _ _ after _ _ _ told.finds told.same acted.dry acted.tells acted.rest
+returns-clause-leaves g c = leaves g (goal.at.returns-clause-leaves g c).After-remove_and_tell
 
 pub returns-in_err-found-clause-stops : goal.returns-in_err-found-clause-stops
 returns-in_err-found-clause-stops g c =
@@ -41,11 +48,7 @@ returns-in_err-found-clause-stops g c =
     let stops = stops_finding (remove_asked c.args.task) before after _ c.find_lower.ensures.same c.in_err-found.ensures.stopped in search rules
 
 pub returns-in_err-report-clause-leaves : goal.returns-in_err-report-clause-leaves
-returns-in_err-report-clause-leaves g c =
-    let told = c.in_ok-found.ensures in
-    let acted = c.remove_and_tell.ensures in
-    let after = side_of g.G.Plot c.remove_and_tell.new.files in
-    leaves_others (remove_asked c.args.task) c.args.now _ _ after _ _ _ told.finds told.same acted.dry acted.tells acted.rest
+returns-in_err-report-clause-leaves g c = leaves g (goal.at.returns-in_err-report-clause-leaves g c).After-remove_and_tell
 
 pub returns-in_err-found-clause-leaves : goal.returns-in_err-found-clause-leaves
 returns-in_err-found-clause-leaves g c =
