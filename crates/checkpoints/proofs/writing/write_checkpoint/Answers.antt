@@ -1,4 +1,4 @@
-use Rattle.std.proofs.Common.{rules, ◌<◌, ◌≤◌, ◌∙◌, inl, inr, ap, subst, map, length, Vec, Global, arith}
+use Rattle.std.proofs.Common.{rules, ℕ, List, ◌<◌, ◌≤◌, ◌∙◌, inl, inr, ap, subst, map, length, Vec, Global, arith}
 use Rattle.std.specs.Prelude.{IfNone}
 use Rattle.std.proofs.lemmas.List.{length-map}
 use Rattle.std.proofs.lemmas.Result.{on_ok_weaker}
@@ -14,6 +14,13 @@ use Rattle.checkpoints.proofs.Written.{all_kept, all_newest, all_rest, cleared_r
 use Rattle.checkpoints.proofs.Written.{still_torn}
 use Rattle.checkpoints.proofs.writing.write_checkpoint.Goals as goal
 
+-- the strings that each rank left
+abbrev strings : List (Vec Path Global) → List (List (List ℕ))
+strings left = map (λ (list : Vec Path Global). list.items) left
+
+few_strings : (left : List (Vec Path Global)) → length left ≤ 64 → length (strings left) ≤ 64
+few_strings left few = omega (arith, length-map left (λ (list : Vec Path Global). list.items))
+
 pub returns-in_default-clause-stopped : goal.returns-in_default-clause-stopped
 returns-in_default-clause-stopped g c =
     let dir = c.args.dir.now in
@@ -22,18 +29,15 @@ returns-in_default-clause-stopped g c =
 
 pub returns-in_err-path-clause-torn : goal.returns-in_err-path-clause-torn
 returns-in_err-path-clause-torn g c =
-    let items = λ (list : Vec Path Global). list.items in
-    on_err _ c.from_residual.result (still_torn c.args.dir.now (map items c.args.left.now) (g.G.Plot.tree c.args.files.now))
+    on_err _ c.from_residual.result (still_torn c.args.dir.now (strings c.args.left.now) (g.G.Plot.tree c.args.files.now))
 
 pub returns-in_default-clause-torn : goal.returns-in_default-clause-torn
 returns-in_default-clause-torn g c =
-    let items = λ (list : Vec Path Global). list.items in
-    still_torn c.args.dir.now (map items c.args.left.now) (g.G.Plot.tree c.args.files.now)
+    still_torn c.args.dir.now (strings c.args.left.now) (g.G.Plot.tree c.args.files.now)
 
 pub returns-in_err-copy-clause-torn : goal.returns-in_err-copy-clause-torn
 returns-in_err-copy-clause-torn g c =
-    let items = λ (list : Vec Path Global). list.items in
-    on_err _ c.from_residual-in_err-copy.result (still_torn c.args.dir.now (map items c.args.left.now) (g.G.Plot.tree c.args.files.now))
+    on_err _ c.from_residual-in_err-copy.result (still_torn c.args.dir.now (strings c.args.left.now) (g.G.Plot.tree c.args.files.now))
 
 pub clear_list-requires-clause-named : goal.clear_list-requires-clause-named
 clear_list-requires-clause-named g c = named_at c.args.dir.now c.in-Some.is c.in_ok-path.ensures.some
@@ -47,9 +51,8 @@ returns-in_err-clear_list-clause-rest g c =
 
 pub returns-in_err-clear_list-clause-torn : goal.returns-in_err-clear_list-clause-torn
 returns-in_err-clear_list-clause-torn g c =
-    let items = λ (list : Vec Path Global). list.items in
     on_err _ c.from_residual-in_err-clear_list.result
-    (kept_torn c.args.dir.now (map items c.args.left.now) (g.G.Plot.tree c.args.files.now) (g.G.Plot.tree c.clear_list.new.files)
+    (kept_torn c.args.dir.now (strings c.args.left.now) (g.G.Plot.tree c.args.files.now) (g.G.Plot.tree c.clear_list.new.files)
     c.in_err-clear_list.ensures.same)
 
 pub returns-in_err-clear_list-clause-stopped : goal.returns-in_err-clear_list-clause-stopped
@@ -72,8 +75,7 @@ returns-in-Err-clause-rest g c =
 
 pub returns-in-Err-clause-torn : goal.returns-in-Err-clause-torn
 returns-in-Err-clause-torn g c =
-    let items = λ (list : Vec Path Global). list.items in
-    ranks_torn c.args.dir.now (map items c.args.left.now) (length c.args.left.now) _ _ (g.G.Plot.tree c.write_lists.new.ground)
+    ranks_torn c.args.dir.now (strings c.args.left.now) (length c.args.left.now) _ _ (g.G.Plot.tree c.write_lists.new.ground)
     (omega (arith, c.requires.few)) c.in_ok-clear_list.ensures.cleared c.write_lists.ensures.rest
 
 pub returns-in-Err-clause-stopped : goal.returns-in-Err-clause-stopped
@@ -87,12 +89,9 @@ returns-in-Err-clause-stopped g c =
 pub returns-clause-kept : goal.returns-clause-kept
 returns-clause-kept g c =
     let tree = g.G.Plot.tree in
-    let items = λ (list : Vec Path Global). list.items in
-    let left = map items c.args.left.now in
-    let few : length left ≤ 64 = omega (arith, length-map c.args.left.now items, c.requires.few) in
     on_ok_weaker c.save_list.result
-    (all_kept c.args.dir.now c.in-Some.path c.args.done.now left (tree c.write_lists.new.ground) (tree c.save_list.new.files)
-    (named_at c.args.dir.now c.in-Some.is c.in_ok-path.ensures.some) few c.in_default-write_lists.ensures.written)
+    (all_kept c.args.dir.now c.in-Some.path c.args.done.now (strings c.args.left.now) (tree c.write_lists.new.ground) (tree c.save_list.new.files)
+    (named_at c.args.dir.now c.in-Some.is c.in_ok-path.ensures.some) (few_strings _ c.requires.few) c.in_default-write_lists.ensures.written)
     c.save_list.ensures.saved
 
 pub returns-clause-newest : goal.returns-clause-newest
@@ -114,12 +113,10 @@ returns-clause-rest g c =
 pub returns-clause-torn : goal.returns-clause-torn
 returns-clause-torn g c =
     let tree = g.G.Plot.tree in
-    let items = λ (list : Vec Path Global). list.items in
-    let left = map items c.args.left.now in
-    let few : length left ≤ 64 = omega (arith, length-map c.args.left.now items, c.requires.few) in
     on_err _ c.save_list.result
-    (list_torn c.args.dir.now c.in-Some.path left (tree c.args.files.now) (tree c.write_lists.new.ground) (tree c.save_list.new.files)
-    (named_at c.args.dir.now c.in-Some.is c.in_ok-path.ensures.some) few c.in_default-write_lists.ensures.written c.save_list.ensures.rest
+    (list_torn c.args.dir.now c.in-Some.path (strings c.args.left.now) (tree c.args.files.now) (tree c.write_lists.new.ground) (tree c.save_list.new.files)
+    (named_at c.args.dir.now c.in-Some.is c.in_ok-path.ensures.some) (few_strings _ c.requires.few) c.in_default-write_lists.ensures.written
+    c.save_list.ensures.rest
     (c.write_lists.ensures.tells ∙ c.clear_list.ensures.tells))
 
 pub returns-clause-stopped : goal.returns-clause-stopped
