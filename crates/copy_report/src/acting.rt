@@ -20,7 +20,7 @@ use tool_words::Common;
 use tree_copy::{CopyReport, Pair, copy};
 
 // Copies the entries to their targets, by the ranks and hosts of the words. With `range` it copies files of more bytes by ranges.
-fn copy_entries<T: Threads + Sync, G: Wide>(
+fn copy_entries<T: Threads + Sync, G: Wide<Reader: Send, Part: Send, Span: Send>>(
     rt: &T,
     alloc: Global,
     common: &Common,
@@ -29,10 +29,6 @@ fn copy_entries<T: Threads + Sync, G: Wide>(
     pairs: &[Pair],
     files: &mut G,
 ) -> Result<CopyReport, OutOfMemory>
-where
-    G::Reader: Send,
-    G::Part: Send,
-    G::Span: Send,
     requires within { CommonWithin common.now }
     requires range { IfSome range (λ n. 1 ≤ n) }
     requires lent { G.area files.old ≡ nothing_lent }
@@ -58,7 +54,7 @@ where
 }
 
 /// Copies the entries to their targets, and makes the texts. Whatever it answers, every path that is not a target is as before.
-pub(crate) fn copy_and_tell<T: Threads + Sync, G: Wide>(
+pub(crate) fn copy_and_tell<T: Threads + Sync, G: Wide<Reader: Send, Part: Send, Span: Send>>(
     rt: &T,
     alloc: Global,
     common: &Common,
@@ -67,10 +63,6 @@ pub(crate) fn copy_and_tell<T: Threads + Sync, G: Wide>(
     pairs: &[Pair],
     files: &mut G,
 ) -> Result<Report, OutOfMemory>
-where
-    G::Reader: Send,
-    G::Part: Send,
-    G::Span: Send,
     requires within { CommonWithin common.now }
     requires range { IfSome range (λ n. 1 ≤ n) }
     requires lent { G.area files.old ≡ nothing_lent }

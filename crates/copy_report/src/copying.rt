@@ -31,16 +31,12 @@ pub struct CopyTask {
 }
 
 /// Places the targets, walks the sources, copies the entries to their targets, and makes the texts.
-pub fn report_of_copy<T: Threads + Wait + Sync, G: Wide>(
+pub fn report_of_copy<T: Threads + Wait + Sync, G: Wide<Reader: Send, Part: Send, Span: Send>>(
     rt: &T,
     alloc: Global,
     task: CopyTask,
     files: &mut G,
 ) -> Result<Report, Stop>
-where
-    G::Reader: Send,
-    G::Part: Send,
-    G::Span: Send,
     requires lent { G.area files.old ≡ nothing_lent }
     requires within { WithinCopy (copy_asked task) }
     ensures reports { IfOk result (ReportsCopy (copy_asked task) (side_of G.Plot files.old)

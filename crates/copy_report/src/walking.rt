@@ -20,7 +20,7 @@ use tree_copy::Pair;
 use tree_walk::{entries_are_told, entries_have_parents};
 
 /// Walks the sources, whose targets are placed: entries that can be copied to their targets.
-pub(crate) fn walk_sources<T: Threads + Wait + Sync, G: Ground>(
+pub(crate) fn walk_sources<T: Threads + Wait + Sync, G: Ground<Reader: Send>>(
     rt: &T,
     alloc: Global,
     common: &Common,
@@ -28,8 +28,6 @@ pub(crate) fn walk_sources<T: Threads + Wait + Sync, G: Ground>(
     pairs: &[Pair],
     files: &mut G,
 ) -> Result<FlatList, Stop>
-where
-    G::Reader: Send,
     requires within { CommonWithin common.now }
     requires placed { ArePlaced sources.items (G.tree files.old) pairs.now }
     ensures walked { IfOk result (λ list. Walked sources.items list (side_of G.Plot files.old)

@@ -3,8 +3,11 @@ use Rattle.std.specs.List.{All}
 use Rattle.outside.specs.Count.{capped}
 use Rattle.tree_copy.specs.Placing.{IsPair, IsWhy, placed_over}
 use Rattle.run_report.specs.Sides.{side_of}
+use Rattle.copy_report.specs.Placing.{Places}
 use Rattle.copy_report.proofs.Placed.{places, are_placed, stops_placing, taken_back}
+use Rattle.copy_report.proofs.placing.place_targets.Given as given
 use Rattle.copy_report.proofs.placing.place_targets.Goals as goal
+use Rattle.copy_report.proofs.placing.place_targets.Goals.{After-see_ends}
 
 pub returns-in_err-pairs-clause-stopped : goal.returns-in_err-pairs-clause-stopped
 returns-in_err-pairs-clause-stopped g c =
@@ -26,24 +29,22 @@ returns-in_err-pairs-clause-stopped g c =
     in
     search rules
 
-pub returns-clause-places : goal.returns-clause-places
-returns-clause-places g c =
-    let tree = g.G.Plot.tree in
+-- the targets are those that the tree asks for
+placed_by : (g : given.Over) (c : After-see_ends g) →
+    Places c.args.sources.now c.args.dest.now (g.G.Plot.tree c.args.files.now) (Ok c.in_ok-pairs.pairs.items)
+placed_by g c =
     let sources = c.args.sources.now in
     let dest = c.args.dest.now in
     let pairs = c.in_ok-pairs.pairs.items in
     let told = c.in_ok-pairs.ensures in
     let here = subst (λ t. IfSome t (λ files. placed_over files dest sources ≡ Ok pairs)) c.in_ok-reader.ensures.told told.told in
-    places sources dest (tree c.args.files.now) (Ok pairs) told.ended.in_dir told.ended.over_dir told.ended.is_due here
+    places sources dest (g.G.Plot.tree c.args.files.now) (Ok pairs) told.ended.in_dir told.ended.over_dir told.ended.is_due here
+
+pub returns-clause-places : goal.returns-clause-places
+returns-clause-places g c = placed_by g (goal.at.returns-clause-places g c).After-see_ends
 
 pub returns-clause-placed : goal.returns-clause-placed
 returns-clause-placed g c =
-    let tree = g.G.Plot.tree in
-    let sources = c.args.sources.now in
-    let dest = c.args.dest.now in
-    let pairs = c.in_ok-pairs.pairs.items in
-    let told = c.in_ok-pairs.ensures in
-    let here = subst (λ t. IfSome t (λ files. placed_over files dest sources ≡ Ok pairs)) c.in_ok-reader.ensures.told told.told in
-    let all = places sources dest (tree c.args.files.now) (Ok pairs) told.ended.in_dir told.ended.over_dir told.ended.is_due here in
-    are_placed c.placed_are_apart.ensures sources dest (tree c.args.files.now) pairs c.text.ensures.valid all told.sources
+    are_placed c.placed_are_apart.ensures c.args.sources.now c.args.dest.now (g.G.Plot.tree c.args.files.now) c.in_ok-pairs.pairs.items
+    c.text.ensures.valid (placed_by g (goal.at.returns-clause-placed g c).After-see_ends) c.in_ok-pairs.ensures.sources
     (subst (All IsPair) c.deref.ensures.value c.see_ends.ensures)
