@@ -1,5 +1,7 @@
 //! Nodes by their paths.
-ghost use Rattle.std.specs.Prelude.{◌≡◌, ◌≤◌, ◌-◌, ◌++◌, ◌∷◌, [], ◌||◌, ℕ, List, Some, None, slice_get, true, false, if◌then◌else◌, is_some, nat_eq, length, take, drop, min, OnOk, OnErr, IfOk, IfSome, IfNone};
+ghost use Rattle.std.specs.Prelude.{◌≡◌, ◌≤◌, ◌-◌, ◌++◌, ◌∷◌, [], ◌||◌, ℕ, List, Some, None, slice_get, true, false};
+ghost use Rattle.std.specs.Prelude.{if◌then◌else◌, is_some, nat_eq, length, take, drop, min, OnOk, OnErr, IfOk, IfSome};
+ghost use Rattle.std.specs.Prelude.{IfNone};
 ghost use Rattle.std.specs.Option.{option_copied, option_map};
 ghost use Rattle.std.specs.Cmp.Lexicographic.{pointwise};
 ghost use Rattle.std.specs.Arc.{arc_value};

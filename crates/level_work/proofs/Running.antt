@@ -191,7 +191,8 @@ ran_more deed o top turn items old new was now next l ok t one tells r = record 
 }
   where
     -- an item that is done, or is on the level, stands no deeper than it from the top down
-    no_deeper : (o : Order) (m : ℕ) → (m ≡ level_at o top turn) ⊎ (is_level_done o (mark_at o top turn) m ≡ true) → (m ≤ level_at o top turn) ⊎ (o ≡ order.BottomUp)
+    no_deeper : (o : Order) (m : ℕ) → (m ≡ level_at o top turn) ⊎ (is_level_done o (mark_at o top turn) m ≡ true) →
+        (m ≤ level_at o top turn) ⊎ (o ≡ order.BottomUp)
     no_deeper order.BottomUp m h = inr refl
     no_deeper order.TopDown m (inl e) = inl (omega (arith, e))
     no_deeper order.TopDown m (inr d) = inl (let k = lt_true m turn d in omega (arith, k))

@@ -4,7 +4,8 @@ ghost use Rattle.std.specs.FinMap as map;
 ghost use Rattle.outside.specs.Tree.{IsTree};
 ghost use Rattle.outside.specs.Laid.{laid};
 ghost use Rattle.outside.specs.Lease.{CanLease, HaveParents, Joins, leased, kept, area_without, area_with, is_out, tops_of};
-ghost use Rattle.outside.specs.Writes.{nothing_lent, under, is_open, make_refusal, write_refusal, remove_file_refusal, remove_dir_refusal, empty_dir, new_file, new_link, written, HasPlace, Answers, may_make, may_change, may_empty};
+ghost use Rattle.outside.specs.Writes.{nothing_lent, under, is_open, make_refusal, write_refusal, remove_file_refusal, remove_dir_refusal};
+ghost use Rattle.outside.specs.Writes.{empty_dir, new_file, new_link, written, HasPlace, Answers, may_make, may_change, may_empty};
 ghost use Rattle.test_tree.specs.Nodes.{test_files};
 
 use crate::making::made;

@@ -24,7 +24,8 @@ use Rattle.level_work.specs.declared.items.Item.{Item}
 use Rattle.level_work.specs.declared.items.Fate.{Fate}
 use Rattle.level_work.specs.declared.items.Fate.TheVariants as fate
 use Rattle.tree_copy.specs.declared.pairs.Pair.{Pair}
-use Rattle.tree_copy.specs.Causes.{HasCause, IsWritten, LookMeans, ReadMeans, RefusalMeans, Shows, ShowsCopy, ShowsFate, ShowsWhy, WasWritten, copied, stopped, untold}
+use Rattle.tree_copy.specs.Causes.{HasCause, IsWritten, LookMeans, ReadMeans, RefusalMeans, Shows}
+use Rattle.tree_copy.specs.Causes.{ShowsCopy, ShowsFate, ShowsWhy, WasWritten, copied, stopped, untold}
 use Rattle.tree_copy.specs.Causes.{look_means, read_means, refusal_means}
 use Rattle.level_work.specs.Counts.{is_done}
 use Rattle.tree_copy.specs.Copying.{is_tried, is_untold, target_of, treated}
