@@ -33,11 +33,13 @@ keeps_dir files p x n off d =
       | false ↦ λ e. ap is_dir (elsewhere files p x n e) ∙ d
     ] refl
 
-or_right : (a b : Bool) → b ≡ true → (a || b) ≡ true
+-- an `or` whose right side holds
+pub or_right : (a b : Bool) → b ≡ true → (a || b) ≡ true
 or_right true b e = refl
 or_right false b e = e
 
-both : (a b : Bool) → a ≡ true → b ≡ true → (a && b) ≡ true
+-- an `and` whose sides hold
+pub both : (a b : Bool) → a ≡ true → b ≡ true → (a && b) ≡ true
 both true b p q = q
 both false b p q = p
 

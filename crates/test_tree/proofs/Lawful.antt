@@ -15,6 +15,7 @@ use Rattle.path_text.specs.Path.{joined, refusal, parent_of}
 use Rattle.path_text.specs.Total.{path_cmp_total, path_cmp_ties}
 use Rattle.outside.specs.Tree.{Files, Node, dir, file, is_dir, is_root, far_of, far_at, IsTree}
 use Rattle.outside.specs.Writes.{empty_dir}
+use Rattle.files_mem.proofs.Treed.{or_right, both}
 use Rattle.test_tree.specs.Nodes.{path_of, node_of, test_files}
 use Rattle.test_tree.specs.Made.{first_files}
 use Rattle.test_tree.specs.Laws.{FirstNodeIsThere, TestFilesAreTree, NoChildIsFar, NodesAreCounted}
@@ -97,14 +98,6 @@ among n a (suc m) q =
   where
     further : IsNode (a + 1 + m) q → IsNode (a + suc m) q
     further node = let h = node.below in record { number = node.number; below = omega arith; is = node.is }
-
-or_right : (a b : Bool) → b ≡ true → (a || b) ≡ true
-or_right true b e = refl
-or_right false b e = e
-
-both : (a b : Bool) → a ≡ true → b ≡ true → (a && b) ≡ true
-both true b p q = q
-both false b p q = p
 
 no_root : (q : List ℕ) → is_root q ≡ false → q ≢ 47 ∷ []
 no_root q off e = false≢true (sym off ∙ (bytes_decides q (47 ∷ [])).1 e)
