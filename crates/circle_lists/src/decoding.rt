@@ -6,8 +6,8 @@ ghost use Rattle.circle_lists.specs.Spelling.{IsRank, head_text, Spells, Agrees,
 ghost use Rattle.circle_lists.specs.Private.{most_ranks, IsHead, HeadsNone, IsCause, Ends, EndsBadly};
 
 use crate::encoding::{put_end, put_head};
-use path_text::{OutOfMemory, Path, reading_undoes_writing};
-use std::alloc::{AllocFailed, Global};
+use path_text::{NoMemory, OutOfMemory, Path, reading_undoes_writing};
+use std::alloc::Global;
 use whole_lines::{cut_line, path_from};
 
 /// The most ranks that a checkpoint may have.
@@ -29,24 +29,13 @@ pub(crate) enum Refused {
     OutOfMemory,
 }
 
-impl From<OutOfMemory> for Refused {
+impl<E: NoMemory> From<E> for Refused {
     ghost use Rattle.std.specs.Prelude.{◌≡◌};
     ghost use Rattle.circle_lists.specs.declared.decoding.Refused.TheVariants as refused;
 
     ghost from_gives = { λ _ e. e ≡ refused.OutOfMemory };
 
-    fn from(_: OutOfMemory) -> Self {
-        Refused::OutOfMemory
-    }
-}
-
-impl<T: Drop> From<AllocFailed<T>> for Refused {
-    ghost use Rattle.std.specs.Prelude.{◌≡◌};
-    ghost use Rattle.circle_lists.specs.declared.decoding.Refused.TheVariants as refused;
-
-    ghost from_gives = { λ _ e. e ≡ refused.OutOfMemory };
-
-    fn from(_: AllocFailed<T>) -> Self {
+    fn from(_: E) -> Self {
         Refused::OutOfMemory
     }
 }

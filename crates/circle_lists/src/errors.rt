@@ -1,6 +1,5 @@
 //! Why the lists of a checkpoint are not written or read.
-use path_text::{OutOfMemory, Path};
-use std::alloc::AllocFailed;
+use path_text::{NoMemory, Path};
 use thiserror::Error;
 
 /// Why the lists of a checkpoint are not written or read.
@@ -24,24 +23,13 @@ pub enum ListsError {
     NoPlace(Path),
 }
 
-impl From<OutOfMemory> for ListsError {
+impl<E: NoMemory> From<E> for ListsError {
     ghost use Rattle.std.specs.Prelude.{◌≡◌};
     ghost use Rattle.circle_lists.specs.declared.errors.ListsError.TheVariants as error;
 
     ghost from_gives = { λ _ e. e ≡ error.OutOfMemory };
 
-    fn from(_: OutOfMemory) -> Self {
-        ListsError::OutOfMemory
-    }
-}
-
-impl<T: Drop> From<AllocFailed<T>> for ListsError {
-    ghost use Rattle.std.specs.Prelude.{◌≡◌};
-    ghost use Rattle.circle_lists.specs.declared.errors.ListsError.TheVariants as error;
-
-    ghost from_gives = { λ _ e. e ≡ error.OutOfMemory };
-
-    fn from(_: AllocFailed<T>) -> Self {
+    fn from(_: E) -> Self {
         ListsError::OutOfMemory
     }
 }

@@ -1,7 +1,6 @@
 //! Why a node is not put.
 use outside::WriteError;
-use path_text::OutOfMemory;
-use std::alloc::{AllocError, AllocFailed};
+use path_text::NoMemory;
 use thiserror::Error;
 
 /// Why a node is not put at a path.
@@ -18,24 +17,13 @@ pub enum PutError {
     OutOfMemory,
 }
 
-impl From<OutOfMemory> for PutError {
+impl<E: NoMemory> From<E> for PutError {
     ghost use Rattle.std.specs.Prelude.{◌≡◌};
     ghost use Rattle.files_mem.specs.declared.errors.PutError.TheVariants as put;
 
     ghost from_gives = { λ _ e. e ≡ put.OutOfMemory };
 
-    fn from(_: OutOfMemory) -> Self {
-        PutError::OutOfMemory
-    }
-}
-
-impl From<AllocError> for PutError {
-    ghost use Rattle.std.specs.Prelude.{◌≡◌};
-    ghost use Rattle.files_mem.specs.declared.errors.PutError.TheVariants as put;
-
-    ghost from_gives = { λ _ e. e ≡ put.OutOfMemory };
-
-    fn from(_: AllocError) -> Self {
+    fn from(_: E) -> Self {
         PutError::OutOfMemory
     }
 }

@@ -3,8 +3,8 @@ ghost use Rattle.std.specs.Prelude.{◌≡◌, ℕ, Option, IsTrue, IfErr, IfSom
 ghost use Rattle.outside.specs.Count.{RoseBy};
 
 use crate::links::LinkText;
-use path_text::{OutOfMemory, Path};
-use std::alloc::{AllocError, Global};
+use path_text::{NoMemory, Path};
+use std::alloc::Global;
 use thiserror::Error;
 
 /// Why a call that writes is refused. If several apply, `Exists` comes before `NoParent`, and `Absent` before `WrongKind`
@@ -34,24 +34,13 @@ pub enum WriteError {
     OutOfMemory,
 }
 
-impl From<OutOfMemory> for WriteError {
+impl<E: NoMemory> From<E> for WriteError {
     ghost use Rattle.std.specs.Prelude.{◌≡◌};
     ghost use Rattle.outside.specs.declared.plots.WriteError.TheVariants as write;
 
     ghost from_gives = { λ _ e. e ≡ write.OutOfMemory };
 
-    fn from(_: OutOfMemory) -> Self {
-        WriteError::OutOfMemory
-    }
-}
-
-impl From<AllocError> for WriteError {
-    ghost use Rattle.std.specs.Prelude.{◌≡◌};
-    ghost use Rattle.outside.specs.declared.plots.WriteError.TheVariants as write;
-
-    ghost from_gives = { λ _ e. e ≡ write.OutOfMemory };
-
-    fn from(_: AllocError) -> Self {
+    fn from(_: E) -> Self {
         WriteError::OutOfMemory
     }
 }

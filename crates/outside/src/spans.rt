@@ -9,8 +9,8 @@ ghost use Rattle.outside.specs.Lease.{kept};
 ghost use Rattle.outside.specs.Spans.{Piece, are_cuts, pieces, zeros_of, area_cut, area_whole, cuts_in, IsEmptyFile, IsRejoined, joined_bytes};
 
 use crate::grounds::Ground;
-use path_text::{OutOfMemory, Path};
-use std::alloc::{AllocError, Global};
+use path_text::{NoMemory, Path};
+use std::alloc::Global;
 use thiserror::Error;
 
 /// Why a span is not written, or a file is not lent in spans.
@@ -24,24 +24,13 @@ pub enum SpanError {
     OutOfMemory,
 }
 
-impl From<OutOfMemory> for SpanError {
+impl<E: NoMemory> From<E> for SpanError {
     ghost use Rattle.std.specs.Prelude.{◌≡◌};
     ghost use Rattle.outside.specs.declared.spans.SpanError.TheVariants as span;
 
     ghost from_gives = { λ _ e. e ≡ span.OutOfMemory };
 
-    fn from(_: OutOfMemory) -> Self {
-        SpanError::OutOfMemory
-    }
-}
-
-impl From<AllocError> for SpanError {
-    ghost use Rattle.std.specs.Prelude.{◌≡◌};
-    ghost use Rattle.outside.specs.declared.spans.SpanError.TheVariants as span;
-
-    ghost from_gives = { λ _ e. e ≡ span.OutOfMemory };
-
-    fn from(_: AllocError) -> Self {
+    fn from(_: E) -> Self {
         SpanError::OutOfMemory
     }
 }

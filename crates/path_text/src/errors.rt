@@ -19,6 +19,16 @@ impl<T: Drop> From<AllocFailed<T>> for OutOfMemory {
     }
 }
 
+/// An error that says that memory ran out, and nothing else. An error with a case for it has one `impl<E: NoMemory> From<E>`,
+/// and so `?` takes each of these.
+pub trait NoMemory: Drop {}
+
+impl NoMemory for OutOfMemory {}
+
+impl NoMemory for AllocError {}
+
+impl<T: Drop> NoMemory for AllocFailed<T> {}
+
 /// Why a text is not a path, or why no path could be made of it.
 #[derive(Clone, Copy, Debug, Drop, PartialEq, Eq, Error)]
 pub enum PathError {

@@ -28,6 +28,8 @@
 //! let there = Path::graft(&Path::parse(alloc, "/d")?, &child.below(&top)?)?;     // `/d/a` and a line feed
 //! ```
 //!
+//! [`NoMemory`] is the trait of the errors that say only that memory ran out, as [`OutOfMemory`] does.
+//!
 //! Proved: each call meets its clauses for every text, ends, and reads nothing out of bounds. The clauses name every failure
 //! but a lack of memory. The definitions are in `specs/`. `Path` has the form of a path, `Order` path order and its laws, and
 //! `Total` that path order is a total order. `Graft` moves a path, and `Escape` writes and reads it. `Written` has the
@@ -45,7 +47,7 @@ mod prefixes;
 mod reading;
 mod written;
 
-pub use errors::{EscapeError, JoinError, OutOfMemory, PathError};
+pub use errors::{EscapeError, JoinError, NoMemory, OutOfMemory, PathError};
 pub use escaping::{escape, put_escaped, put_escaped_bytes};
 pub use laws::{
     below_keeps_order, below_undoes_graft, graft_undoes_below, parent_is_over, parent_moves_too,
