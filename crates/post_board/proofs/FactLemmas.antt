@@ -4,11 +4,11 @@ use mathlib.Core.Option as Core
 use mathlib.Core.Logic.{dite}
 use native.Mathlib.Decide.{ℕ_discrete}
 use Rattle.ring_core.specs.Picture.{put}
-use Rattle.ring_core.proofs.PictureLemmas.{put_here, put_elsewhere, put_all}
+use Rattle.ring_core.proofs.PictureLemmas.{put_here, put_elsewhere, put_all, put_same}
 use Rattle.post_board.specs.Words.{Sign, serving}
 use Rattle.post_board.specs.BoardRule.{Parcel, MailboxFacts, serves, given, taken, OwnFits, SlotFits, Away, on_way}
 use Rattle.post_board.specs.declared.board_views.Known.{Known}
-use Rattle.post_board.proofs.Puts.{put_same, put_self}
+use Rattle.post_board.proofs.Puts.{put_self}
 
 -- what is owed for such a step
 pub record Owed (n : ℕ) (known : ℕ → Known) (signs : ℕ → Sign) (slot : ℕ → Core.Option Parcel) (id : ℕ) (w : Known) (r : ℕ) (d : Sign)

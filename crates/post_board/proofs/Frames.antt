@@ -1,24 +1,28 @@
 -- What a step on one word leaves of the rule.
-use Rattle.std.proofs.Common.{◌≡◌, ℕ, zero, suc, ◌+◌, ◌<◌, ◌≢◌, ◌⊎◌, ⊎_elim, refl, sym, subst, ap, ◌∙◌, arith, Bool, true, false, cond, nat_lt, List}
-use Rattle.std.proofs.Common.{[], ◌∷◌, length, get_or, set, get_or-set_same, get_or-set_other, length-set, ◌==◌}
+use Rattle.std.proofs.Common.{◌≡◌, ℕ, zero, suc, ◌+◌, ◌<◌, ◌≤◌, ◌≢◌, refl, sym, subst, ap, ◌∙◌, arith, Bool, true, false, cond, nat_lt, List}
+use Rattle.std.proofs.Common.{Option, [], ◌∷◌, length, get_or, set, get_or-set_same, get_or-set_other, length-set, ◌==◌}
 use Rattle.std.proofs.lemmas.Bool.{lt-ltb, ltb-true}
-use Rattle.std.specs.List.{All}
-use mathlib.Core.Option.{none, some, some-injective, some-ne-none}
+use mathlib.Core.Option.{none, some}
 use mathlib.Core.Option as Core
 use mathlib.Core.Logic.{dite}
 use native.Mathlib.Decide.{ℕ_discrete}
 use lib.ListN.{get_elem?}
 use lib.Seq.{set-get_or}
-use Rattle.atomic_table.proofs.Lists.{at_set, set_else}
 use Rattle.ring_core.specs.Picture.{put}
 use Rattle.ring_core.proofs.PictureLemmas.{put_here, put_elsewhere}
+use Rattle.ring_core.proofs.SeatLemmas.{Face, Seats, seat_knows}
 use Rattle.ring_core.specs.declared.states.Token.{Token}
-use Rattle.post_board.specs.Words.{has_bit, Sign, sign, token_read}
-use Rattle.post_board.specs.BoardRule.{Parcel, TableState, MailboxFacts, RingFacts, HaltFacts, Moment, Rule, KeptIn, signs_in, slots_in, token_in}
-use Rattle.post_board.specs.BoardRule.{halt_in, stops_in}
+use Rattle.ring_core.specs.declared.states.Colour.{Colour}
+use Rattle.post_board.specs.Words.{has_bit, Sign, resting, sign, token_read}
+use Rattle.post_board.specs.BoardRule.{Parcel, TableState, MailboxFacts, RingFacts, HaltFacts, Moment, Rule, signs_in, slots_in, token_in}
+use Rattle.post_board.specs.BoardRule.{halt_in, stops_in, fresh, OwnFits, Away, place_of}
+use Rattle.post_board.specs.Plain.{HereFits}
 use Rattle.post_board.specs.BoardSteps.{knows}
 use Rattle.post_board.specs.declared.board_views.Known.{Known}
 use Rattle.post_board.specs.declared.board_views.View.{View}
+use Rattle.post_board.specs.declared.board_views.OwnMailbox.{OwnMailbox}
+use Rattle.post_board.proofs.FactLemmas.{unmoved}
+use Rattle.post_board.proofs.RingLemmas.{calm_all}
 
 -- the value at a place that the list has
 pub there : {A : Type 0} (l : List A) (i : ℕ) (d x : A) → i < length l → get_or l i d ≡ x → get_elem? l i ≡ some x
@@ -26,24 +30,33 @@ there [] i d x h e = absurd (omega arith)
 there (y ∷ l) zero d x h e = ap some e
 there (y ∷ l) (suc i) d x h e = there l i d x (omega arith) e
 
-pub within : {A : Type 0} (l : List A) (i : ℕ) (x : A) → get_elem? l i ≡ some x → i < length l
-within [] i x e = absurd (some-ne-none x (sym e))
-within (y ∷ l) zero x e = omega arith
-within (y ∷ l) (suc i) x e = let h = within l i x e in omega arith
+-- the face of a board's seats
+abbrev pub face : Face Known View
+face = record {
+  own = λ (v : View). v.own;
+  made = λ (v : View). v.made;
+  kept = λ (v : View). v.kept;
+  live = λ (v : View). v.live;
+  number = λ (x : Known). x.number;
+}
 
--- a live seat is none that is spent
-pub elsewhere : (vs : List View) (k id : ℕ) (v u : View) → get_elem? vs id ≡ some v → v.live ≡ true → get_elem? vs k ≡ some u → u.live ≡ false → k ≢ id
-elsewhere vs k id v u here live there dead e = (let same : v ≡ u = some-injective v u (sym here ∙ ap (get_elem? vs) (sym e) ∙ there) in
-    let both_ways : v.live ≡ false = ap (λ (x : View). x.live) same ∙ dead in cc)
+-- the part of the rule that speaks of seats, and the rule with other seats, words and slots
+pub seats_of : (n : ℕ) (s : TableState) (o : Rule n s) → Seats face n o.known (fresh n) s.views
+seats_of n s o = record { seated = o.seated; kept = o.kept; dealt = o.dealt; unmade = o.unmade }
 
--- what a seat took in stays so where a live seat changes and lives on
-kept_on : (n : ℕ) (s : TableState) (o : Rule n s) (id : ℕ) (v : View) (w : Known) (x : View) → get_elem? s.views id ≡ some v → v.live ≡ true
-    → (ks : List Known) → All (KeptIn n o.known s.views) ks → All (KeptIn n (put o.known id w) (set s.views id x)) ks
-kept_on n s o id v w x here live ks all i d h =
-    let p = all i d h in
-    let y : Known = get_or ks i d in
-    let ne : y.number ≢ id = elsewhere s.views y.number id v p.2.0 here live p.2.1 p.2.2 in
-    (p.0, put_elsewhere o.known id w y.number ne ∙ p.1, (p.2.0, set_else s.views id y.number x ne ∙ p.2.1, p.2.2))
+pub rule_with : (n : ℕ) (t : TableState) (known : ℕ → Known) → Seats face n known (fresh n) t.views → n ≤ 64 → length t.words ≡ n + 3
+    → length t.homes ≡ n → Moment n known t.words t.homes → Rule n t
+rule_with n t known S few wide slots moment = record {
+  known = known;
+  few = few;
+  wide = wide;
+  slots = slots;
+  seated = S.seated;
+  kept = S.kept;
+  dealt = S.dealt;
+  unmade = S.unmade;
+  moment = moment;
+}
 
 -- the rule after a step: the seat `id` knows more, and the facts hold of the new words and slots
 pub frame : (n : ℕ) (s : TableState) (o : Rule n s) (id : ℕ) (v : View) (W : Known → Known) (ws : List ℕ) (hs : List (Core.Option Parcel))
@@ -51,32 +64,27 @@ pub frame : (n : ℕ) (s : TableState) (o : Rule n s) (id : ℕ) (v : View) (W :
     → length ws ≡ length s.words → length hs ≡ length s.homes → Moment n (put o.known id (W (o.known id))) ws hs
     → Rule n record { words = ws; homes = hs; views = set s.views id (knows v (W v.own)) }
 frame n s o id v W ws hs here live long wide scene =
-    let was = o.seated id v here live in
-    let x : View = knows v (W v.own) in
-    record {
-      known = put o.known id (W (o.known id));
-      few = o.few;
-      wide = long ∙ o.wide;
-      slots = wide ∙ o.slots;
-      seated = λ k u e lives. ⊎_elim
-          (λ t. (
-            subst (λ (j : ℕ). j < n) (sym t.0) was.0,
-            ap (put o.known id (W (o.known id))) t.0 ∙ put_here o.known id (W (o.known id)) ∙ ap W was.1
-                ∙ ap (λ (y : View). y.own) t.1,
-          ))
-          (λ t. let old = o.seated k u t.1 lives in (old.0, put_elsewhere o.known id (W (o.known id)) k t.0 ∙ old.1))
-          (at_set s.views id k x u e);
-      kept = λ k u e. kept_on n s o id v (W (o.known id)) x here live u.kept
-          (⊎_elim (λ t. subst (λ (y : View). All (KeptIn n o.known s.views) y.kept) t.1 (o.kept id v here)) (λ t. o.kept k u t.1) (at_set s.views id k x u e));
-      dealt = λ k u e. subst (λ (l : ℕ). (u.made ≡ 0) ⊎ ((k ≡ 0) × (u.made ≡ l))) (sym (length-set s.views id x))
-          (⊎_elim
-          (λ t. subst (λ (y : View). (y.made ≡ 0) ⊎ ((k ≡ 0) × (y.made ≡ length s.views))) t.1
-          (subst (λ (j : ℕ). (v.made ≡ 0) ⊎ ((j ≡ 0) × (v.made ≡ length s.views))) (sym t.0) (o.dealt id v here)))
-          (λ t. o.dealt k u t.1) (at_set s.views id k x u e));
-      unmade = λ r beyond. let inside = within s.views id v here in let same = length-set s.views id x in
-          put_elsewhere o.known id (W (o.known id)) r (λ e. omega arith) ∙ o.unmade r (omega arith);
-      moment = scene;
-    }
+    rule_with n _ (put o.known id (W (o.known id)))
+    (seat_knows (seats_of n s o) id v here live (W (o.known id)) (knows v (W v.own)) (ap W (o.seated id v here live).1) refl refl)
+    o.few (long ∙ o.wide) (wide ∙ o.slots) scene
+
+-- the knowledge w says the same of the rank, its mailbox and its batches
+abbrev pub SameMail : Known → Known → Type 0
+SameMail w v =
+    (w.number ≡ v.number) × (w.n ≡ v.n) × (w.serves ≡ v.serves) × (w.given ≡ v.given) × (w.taken ≡ v.taken) × (w.own ≡ v.own)
+
+-- the seat comes to know w, and the words and slots stay
+module _ (n : ℕ) (s : TableState) (o : Rule n s) (id : ℕ) (inside : id < n) (w : Known) where
+  pub mail_stays : SameMail w (o.known id) → MailboxFacts n (put o.known id w) (signs_in n s.words) (slots_in s.homes)
+  mail_stays (number, size, serves, given, taken, own) =
+      unmoved n o.known (signs_in n s.words) (slots_in s.homes) id w inside o.moment.mailboxes number size serves given taken
+      (subst (λ (x : OwnMailbox). OwnFits x (signs_in n s.words id)) (sym own) (o.moment.mailboxes.own id inside))
+      (subst (λ (x : OwnMailbox). Away n id x) (sym own) (o.moment.mailboxes.away id inside))
+
+  pub ring_stays : place_of w resting ≡ place_of (o.known id) resting → w.here ≡ (o.known id).here
+      → RingFacts n (put o.known id w) (signs_in n s.words) (token_in s.words)
+  ring_stays place here = calm_all n o.known (signs_in n s.words) (token_in s.words) o.moment.ring id inside w place
+      (subst (λ (x : Option Colour). HereFits x id (token_in s.words)) (sym here) (o.moment.ring.here id inside))
 
 same_if : (b : Bool) (x y : ℕ) → (b ≡ true → x ≡ y) → cond b x 0 ≡ cond b y 0
 same_if true x y e = e refl
@@ -182,8 +190,9 @@ module _ (n : ℕ) (known : ℕ → Known) (ws : List ℕ) (hs : List (Core.Opti
   at_none i F T H = subst (λ (vs : List ℕ). Moment n known vs hs) (sym (set-get_or ws i 0)) record { mailboxes = F; ring = T; halt = H }
 
 -- The pattern of a kind of step. A seat that is in use steps on one word and comes to know W of what it knew; what is owed is the three parts of the rule
--- afterwards, for the words, the slots and what the seats then know: (1) mailboxes, by `unmoved` or a lemma of MailboxLemmas; (2) the ring, by `calm_all` or,
--- where the step is a deed, a lemma of RingLemmas; (3) the halt, by `same_halt` of GoingSteps or `halt_moved`. (4) `reads` and `writes` put them into the rule.
+-- afterwards, for the words, the slots and what the seats then know: (1) mailboxes, by `mail_stays` or a lemma of MailboxLemmas; (2) the ring, by
+-- `ring_stays` or, where the step is a deed, a lemma of RingLemmas; (3) the halt, by `same_halt` of GoingSteps or `halt_moved`. (4) `reads` and `writes` put
+-- them into the rule.
 module _ (n : ℕ) (s : TableState) (o : Rule n s) (id : ℕ) (v : View) (W : Known → Known) where
   -- the word i is read and stays as it is
   pub reads : (i : ℕ) → get_elem? s.views id ≡ some v → v.live ≡ true

@@ -9,11 +9,9 @@ use Rattle.post_board.specs.BoardSteps.{Going, SeatState, noted, knows, after_re
 use Rattle.post_board.specs.declared.board_views.Known.{Known}
 use Rattle.post_board.specs.declared.board_views.OwnMailbox.TheVariants.{Left}
 use Rattle.post_board.proofs.WordLemmas.{sign_of_word}
-use Rattle.post_board.proofs.FactLemmas.{unmoved}
 use Rattle.post_board.proofs.MailboxLemmas.{own_moves}
-use Rattle.post_board.proofs.RingLemmas.{calm_all}
 use Rattle.post_board.proofs.HaltLemmas.{halt_same}
-use Rattle.post_board.proofs.Frames.{mailbox_there, reads, writes}
+use Rattle.post_board.proofs.Frames.{mailbox_there, mail_stays, ring_stays, reads, writes}
 
 -- the seat acts on its own mailbox, that of r
 pub record AtOwn (n : ℕ) (s : TableState) (id r : ℕ) : Type 0 where
@@ -73,9 +71,8 @@ module _ (n : ℕ) (s : TableState) (o : Rule n s) (id : ℕ) (m : SeatState) (h
       let r : ℕ = get_or s.words i 0 in
       let w : Known = noted (o.known id) i r r in
       reads n s o id m.0 (λ v. noted v i r r) i here G.live
-      (unmoved n o.known (signs_in n s.words) (slots_in s.homes) id w was.0 o.moment.mailboxes refl refl refl refl refl
-      (o.moment.mailboxes.own id was.0) (o.moment.mailboxes.away id was.0))
-      (calm_all n o.known (signs_in n s.words) (token_in s.words) o.moment.ring id was.0 w refl (o.moment.ring.here id was.0))
+      (mail_stays n s o id was.0 w (refl, refl, refl, refl, refl, refl))
+      (ring_stays n s o id was.0 w refl refl)
       (same_halt w refl refl refl (λ u e. o.moment.halt.left id u was.0 e))
 
   -- the own mailbox, which nobody serves and whose slot is at home and empty, comes to rest

@@ -5,7 +5,7 @@ use Rattle.ring_core.proofs.PictureLemmas.{put_all}
 use Rattle.post_board.specs.BoardRule.{HaltFacts, serves}
 use Rattle.post_board.specs.declared.board_views.Known.{Known}
 use Rattle.post_board.specs.declared.board_views.OwnMailbox.TheVariants.{Resting, Left}
-use Rattle.post_board.proofs.Puts.{put_same}
+use Rattle.ring_core.proofs.PictureLemmas.{put_same}
 
 abbrev pub IsGone : Known → Type 0
 IsGone x = (x.own ≡ Resting) × (x.ended ≡ false) × ((k : ℕ) → serves x k ≡ false)

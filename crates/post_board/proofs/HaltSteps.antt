@@ -19,12 +19,12 @@ use Rattle.post_board.specs.declared.board_views.Known.{Known}
 use Rattle.post_board.specs.declared.board_views.View.{View}
 use Rattle.post_board.specs.declared.board_views.OwnMailbox.{OwnMailbox}
 use Rattle.post_board.specs.declared.board_views.OwnMailbox.TheVariants.{Resting, Open, Left, Filled, Emptied, Getting}
-use Rattle.post_board.proofs.Puts.{put_same}
+use Rattle.ring_core.proofs.PictureLemmas.{put_same}
 use Rattle.post_board.proofs.FactLemmas.{unmoved}
 use Rattle.post_board.proofs.MailboxLemmas.{one_word, slot_under, learns, learns_away}
 use Rattle.post_board.proofs.RingLemmas.{calm_all, withdraws}
 use Rattle.post_board.proofs.HaltLemmas.{IsGone, halt_moved}
-use Rattle.post_board.proofs.Frames.{frame, at_halt, at_stops, reads}
+use Rattle.post_board.proofs.Frames.{frame, mail_stays, ring_stays, at_halt, at_stops, reads}
 use Rattle.post_board.proofs.GoingSteps.{at_own, same_halt, own_rests}
 
 pub allows_set_halt : (n slots id : ℕ) (m : SeatState) → Going m → Allows (Rule n) slots id m (n + 1) (λ _. 1)
@@ -40,9 +40,8 @@ allows_set_halt n slots id m G s o wide here small =
       tt,
       frame n s o id m.0 W (set s.words (n + 1) 1) s.homes here G.live (length-set s.words (n + 1) 1) refl
           (at_halt n (put o.known id (W k)) s.words s.homes o.wide 1
-          (unmoved n o.known (signs_in n s.words) (slots_in s.homes) id (W k) was.0 o.moment.mailboxes refl refl refl refl refl
-          (o.moment.mailboxes.own id was.0) (o.moment.mailboxes.away id was.0))
-          (calm_all n o.known (signs_in n s.words) (token_in s.words) o.moment.ring id was.0 (W k) refl (o.moment.ring.here id was.0))
+          (mail_stays n s o id was.0 (W k) (refl, refl, refl, refl, refl, refl))
+          (ring_stays n s o id was.0 (W k) refl refl)
           (halt_moved n o.known (halt_in n s.words) (stops_in n s.words) id (W k) true (stops_in n s.words) o.moment.halt record {
             up = λ e. refl;
             halted = λ e. refl;
@@ -84,9 +83,7 @@ allows_load_halt n slots id m G s o wide here small =
       keeps,
       tt,
       reads n s o id m.0 W (n + 1) here G.live
-          (unmoved n o.known (signs_in n s.words) (slots_in s.homes) id (W k) was.0 o.moment.mailboxes f.0 f.1 f.2 f.3 f.4
-          (subst (λ (x : OwnMailbox). OwnFits x (signs_in n s.words id)) (sym f.5) (o.moment.mailboxes.own id was.0))
-          (subst (λ (x : OwnMailbox). Away n id x) (sym f.5) (o.moment.mailboxes.away id was.0)))
+          (mail_stays n s o id was.0 (W k) (f.0, f.1, f.2, f.3, f.4, f.5))
           (halt_turns n o.known (signs_in n s.words) (token_in s.words) o.moment.ring id was.0 (n + 1) r r (r == 1))
           (halt_moved n o.known (halt_in n s.words) (stops_in n s.words) id (W k) (halt_in n s.words) (stops_in n s.words) o.moment.halt record {
             up = λ e. e;
@@ -117,9 +114,8 @@ allows_stop n slots id bit m G rests idle is s o wide here small =
       tt,
       frame n s o id m.0 W (set s.words (n + 2) new) s.homes here G.live (length-set s.words (n + 2) new) refl
           (at_stops n (put o.known id (W k)) s.words s.homes o.wide new
-          (unmoved n o.known (signs_in n s.words) (slots_in s.homes) id (W k) was.0 o.moment.mailboxes refl refl refl refl refl
-          (o.moment.mailboxes.own id was.0) (o.moment.mailboxes.away id was.0))
-          (calm_all n o.known (signs_in n s.words) (token_in s.words) o.moment.ring id was.0 (W k) refl (o.moment.ring.here id was.0))
+          (mail_stays n s o id was.0 (W k) (refl, refl, refl, refl, refl, refl))
+          (ring_stays n s o id was.0 (W k) refl refl)
           (halt_moved n o.known (halt_in n s.words) (stops_in n s.words) id (W k) (halt_in n s.words) (has_bit new) o.moment.halt record {
             up = λ e. e;
             halted = o.moment.halt.halted id was.0;
@@ -190,7 +186,7 @@ allows_load_stops n slots id m G s o wide here small =
           (unmoved n o.known (signs_in n s.words) (slots_in s.homes) id (W k) was.0 o.moment.mailboxes refl refl refl refl refl
           (stop_fits k.own r (signs_in n s.words id) (o.moment.mailboxes.own id was.0))
           (λ v e. o.moment.mailboxes.away id was.0 v (sym (stop_asked k.own r) ∙ e)))
-          (calm_all n o.known (signs_in n s.words) (token_in s.words) o.moment.ring id was.0 (W k) refl (o.moment.ring.here id was.0))
+          (ring_stays n s o id was.0 (W k) refl refl)
           (same_halt n s o id m here G (W k) refl refl refl (λ v e. ⊎_elim (λ q. o.moment.halt.left id v was.0 q)
           (λ q. o.moment.halt.bits v (o.moment.mailboxes.away id was.0 v (ap asked_of q.0)).0 ∙ q.1) (stop_left k.own r v e))),
       (
@@ -254,7 +250,7 @@ allows_withdraw n slots id r v m G mine leaves s o wide here small =
           (unmoved n o.known (signs_in n s.words) (slots_in s.homes) id (W k) was.0 o.moment.mailboxes refl refl refl refl refl
           (subst (OwnFits (learn k.own (sign found))) (sym A.found) (learns k.own (sign found) found_fits))
           (λ u e. o.moment.mailboxes.away id was.0 u (learns_away k.own (sign found) found_fits u e)))
-          (calm_all n o.known (signs_in n s.words) (token_in s.words) o.moment.ring id was.0 (W k) refl (o.moment.ring.here id was.0))
+          (ring_stays n s o id was.0 (W k) refl refl)
           (same_halt n s o id m here G (W k) refl refl refl (λ u e. subst (λ (j : ℕ). (o.known j).stopped ≡ true)
           (learn_left k.own (sign found) v u left_own e) (o.moment.halt.left id v was.0 left_own))),
       (λ u e. (let same : u ≡ v = (let p : Left u ≡ Left v = sym e ∙ leaves in cc) in

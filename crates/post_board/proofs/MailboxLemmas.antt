@@ -7,7 +7,7 @@ use mathlib.Core.Option as Core
 use mathlib.Core.Logic.{dite}
 use native.Mathlib.Decide.{ℕ_discrete}
 use Rattle.ring_core.specs.Picture.{put}
-use Rattle.ring_core.proofs.PictureLemmas.{put_here, put_elsewhere}
+use Rattle.ring_core.proofs.PictureLemmas.{put_here, put_elsewhere, put_same}
 use Rattle.post_board.specs.Shown.{Strings}
 use Rattle.post_board.specs.Words.{Sign, resting, asking, serving, full, fetching, emptied, sign, sign_by, word_of}
 use Rattle.post_board.specs.BoardRule.{Parcel, MailboxFacts, serves, given, taken, OpenFits, OwnFits, SlotFits, Away, asked_of, on_way}
@@ -15,7 +15,7 @@ use Rattle.post_board.specs.BoardSteps.{learn}
 use Rattle.post_board.specs.declared.board_views.Known.{Known}
 use Rattle.post_board.specs.declared.board_views.OwnMailbox.{OwnMailbox}
 use Rattle.post_board.specs.declared.board_views.OwnMailbox.TheVariants.{Resting, Open, Left, Filled, Emptied, Getting}
-use Rattle.post_board.proofs.Puts.{put_same, put_self}
+use Rattle.post_board.proofs.Puts.{put_self}
 use Rattle.post_board.proofs.FactLemmas.{moved}
 
 no_other : (b c d e : Bool) (r v : ℕ) → cond b (serving r) (cond c (full r) (cond d (fetching r) (cond e (emptied r) resting))) ≡ asking v → ⊥

@@ -26,7 +26,7 @@ use Rattle.post_board.proofs.FactLemmas.{unmoved}
 use Rattle.post_board.proofs.MailboxLemmas.{own_moves, slot_under, not_self, takes_up, refuses, posts, fetches, rests, learns, learns_away}
 use Rattle.post_board.proofs.RingLemmas as Turns
 use Rattle.post_board.proofs.HaltSteps.{Goes}
-use Rattle.post_board.proofs.Frames.{there, mailbox_there, slot_put, reads, writes}
+use Rattle.post_board.proofs.Frames.{there, mailbox_there, slot_put, ring_stays, reads, writes}
 use Rattle.post_board.proofs.GoingSteps.{own_number, at_own, at_other, same_halt, only_reads, own_rests}
 
 pub allows_ask : (n slots id r victim : ℕ) (m : SeatState) → Going m → m.0.own.number ≡ r
@@ -73,7 +73,7 @@ allows_look n slots id r m G mine stays s o wide here small =
           (unmoved n o.known (signs_in n s.words) (slots_in s.homes) id (W k) was.0 o.moment.mailboxes refl refl refl refl refl
           (subst (OwnFits (learn k.own (sign found))) (sym A.found) (learns k.own (sign found) fits))
           (λ u e. o.moment.mailboxes.away id was.0 u (learns_away k.own (sign found) fits u e)))
-          (Turns.calm_all n o.known (signs_in n s.words) (token_in s.words) o.moment.ring id was.0 (W k) refl (o.moment.ring.here id was.0))
+          (ring_stays n s o id was.0 (W k) refl refl)
           (same_halt n s o id m here G (W k) refl refl refl (λ u e. o.moment.halt.left id u was.0 (not_left k.own (sign found) u e))),
       (subst (λ (x : Known). OwnFits x.own (sign found)) was.1 fits, refl),
     )

@@ -19,6 +19,7 @@ use Rattle.post_board.specs.declared.plain_ranks.PlainMailbox.{PlainMailbox}
 use Rattle.post_board.specs.declared.plain_ranks.PlainMailbox.TheVariants.{Rest, Served}
 use Rattle.post_board.specs.declared.plain_ranks.PlainRank.{PlainRank}
 use Rattle.post_board.specs.declared.plain_seats.PlainSeat.{PlainSeat}
+use Rattle.ring_core.proofs.TogetherLemmas.{spare, numbered}
 use Rattle.post_board.proofs.PlainFrames.{After, told_place}
 use Rattle.post_board.proofs.PlainDeeds.{inside}
 use Rattle.post_board.proofs.PlainToken.{not_true}
@@ -141,12 +142,7 @@ module _ (b : PlainBoard) (all : List PlainSeat) (done : AllDone shown_by (Seats
       × ((r : ℕ) → get_or s.serves.items r false ≡ false)
 
   rank_of : (s : PlainSeat) → Contains all s → (k : ℕ) × OfRank k s
-  rank_of s c = let (k, lt, at) = Contains-permutation all done.ranks s (IsPermutation-sym done.ranks all done.same) c in
-      (k, subst (OfRank k) at (done.by_number k s lt))
-
-  spare : (xs : List PlainSeat) → 0 < length xs → PlainSeat
-  spare [] h = absurd (omega arith)
-  spare (x ∷ xs) h = x
+  rank_of s c = let (k, _, _, of) = numbered OfRank done.ranks all done.same (λ j d h. done.by_number j d h) s c in (k, of)
 
   pub some_rank : 0 < length all → 0 < length b.ranks.items
   some_rank some =

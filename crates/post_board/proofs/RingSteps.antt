@@ -21,9 +21,8 @@ use Rattle.post_board.specs.BoardSteps.{RestartTells, after_conclude, ConcludeTe
 use Rattle.post_board.specs.declared.board_views.Known.{Known}
 use Rattle.post_board.specs.declared.board_views.OwnMailbox.{OwnMailbox}
 use Rattle.post_board.specs.declared.board_views.OwnMailbox.TheVariants.{Resting}
-use Rattle.post_board.proofs.FactLemmas.{unmoved}
 use Rattle.post_board.proofs.RingLemmas.{calm_all, sees_over, passes, restarts, concludes, over_quiet, many}
-use Rattle.post_board.proofs.Frames.{frame, at_ring, reads}
+use Rattle.post_board.proofs.Frames.{frame, mail_stays, at_ring, reads}
 use Rattle.post_board.proofs.GoingSteps.{same_halt}
 
 -- what the ring tells this seat, which has not ended
@@ -63,9 +62,7 @@ allows_hear n slots id m G s o wide here small =
       keeps,
       tt,
       reads n s o id m.0 W 0 here G.live
-          (unmoved n o.known (signs_in n s.words) (slots_in s.homes) id (W k) was.0 o.moment.mailboxes f.0 f.1 f.2 f.3 f.4
-          (subst (λ (x : OwnMailbox). OwnFits x (signs_in n s.words id)) (sym f.5) (o.moment.mailboxes.own id was.0))
-          (subst (λ (x : OwnMailbox). Rattle.post_board.specs.BoardRule.Away n id x) (sym f.5) (o.moment.mailboxes.away id was.0)))
+          (mail_stays n s o id was.0 (W k) (f.0, f.1, f.2, f.3, f.4, f.5))
           (hears n o.known (signs_in n s.words) t o.moment.ring id was.0 (ap (λ (v : Known). v.ended) was.1 ∙ G.runs) number 0 r r)
           (same_halt n s o id m here G (W k) h.0 h.1 h.2 (λ v e. o.moment.halt.left id v was.0 (sym f.5 ∙ e))),
       (
@@ -105,9 +102,7 @@ swaps n slots id m new t W then G reads same turns tells s o wide here small =
       tt,
       frame n s o id m.0 (W r) (set s.words 0 new) s.homes here G.live (length-set s.words 0 new) refl
           (at_ring n (put o.known id (W r k)) s.words s.homes o.wide new t reads
-          (unmoved n o.known (signs_in n s.words) (slots_in s.homes) id (W r k) was.0 o.moment.mailboxes f.0 f.1 f.2 f.3 f.4
-          (subst (λ (x : OwnMailbox). OwnFits x (signs_in n s.words id)) (sym f.5) (o.moment.mailboxes.own id was.0))
-          (subst (λ (x : OwnMailbox). Rattle.post_board.specs.BoardRule.Away n id x) (sym f.5) (o.moment.mailboxes.away id was.0)))
+          (mail_stays n s o id was.0 (W r k) (f.0, f.1, f.2, f.3, f.4, f.5))
           (turns s o r here was.0 was.1)
           (same_halt n s o id m here G (W r k) f.6 f.7 f.8 (λ v e. o.moment.halt.left id v was.0 (sym f.5 ∙ e)))),
       tells s o was.0 was.1,

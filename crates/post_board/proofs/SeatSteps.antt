@@ -24,116 +24,36 @@ use Rattle.post_board.specs.declared.board_views.Known.{Known}
 use Rattle.post_board.specs.declared.board_views.View.{View}
 use Rattle.post_board.specs.declared.board_views.OwnMailbox.{OwnMailbox}
 use Rattle.post_board.proofs.MailboxLemmas.{not_full}
-use Rattle.post_board.proofs.FactLemmas.{unmoved}
-use Rattle.post_board.proofs.RingLemmas.{calm_all, over_quiet}
+use Rattle.post_board.proofs.RingLemmas.{over_quiet}
 use Rattle.post_board.proofs.MomentLemmas.{ended_over}
 use Rattle.post_board.proofs.PlainStart.{read_of_copies}
 use Rattle.post_board.specs.Reached.{Reached, begun}
 use Rattle.post_board.proofs.HaltLemmas.{halt_moved}
-use Rattle.post_board.proofs.Puts.{put_same}
+use Rattle.ring_core.proofs.PictureLemmas.{put_same}
+use Rattle.ring_core.proofs.SeatLemmas.{Seats, first_seat, seat_deals, seat_joins}
 use Rattle.post_board.specs.Fresh.{fresh_place}
 use Rattle.std.proofs.lemmas.List.{ext_get_or}
 use Rattle.std.proofs.lemmas.List.FromFn.{get_or-map-range_with_len}
 use Rattle.post_board.proofs.Sheets.{places, sheet_size}
-use Rattle.post_board.proofs.Frames.{there, within, elsewhere, reads}
-
--- the one after the last
-at_end : {A : Type 0} (l : List A) (a : A) (k : ℕ) (b : A) → get_elem? (l ++ a ∷ []) k ≡ some b → (get_elem? l k ≡ some b) ⊎ ((k ≡ length l) × (a ≡ b))
-at_end [] a zero b e = inr (refl, some-injective a b e)
-at_end [] a (suc k) b e = absurd (some-ne-none b (sym e))
-at_end (x ∷ l) a zero b e = inl e
-at_end (x ∷ l) a (suc k) b e = ⊎_elim (λ t. inl t) (λ t. inr (ap suc t.0, t.1)) (at_end l a k b e)
+use Rattle.post_board.proofs.Frames.{face, seats_of, rule_with, mail_stays, ring_stays, reads}
 
 -- split seat: the next seat is made
 pub deals : (n id : ℕ) (v : View) → 0 < v.made → v.made < v.own.n → v.live ≡ true → Splits (Rule n) id v (dealing v) (dealt_out v)
 deals n id v first room live s o here =
-    let long : (id ≡ 0) × (v.made ≡ length s.views) = ⊎_elim (λ e. absurd (omega arith)) (λ t. t) (o.dealt id v here) in
     let was = o.seated id v here live in
     let size : v.own.n ≡ n = ap (λ (x : Known). x.n) (sym was.1) ∙ (o.moment.mailboxes.named id was.0).1 in
-    let vs : List View = set s.views id (dealing v) in
-    let same : length vs ≡ length s.views = length-set s.views id (dealing v) in
-    let longer : length (vs ++ dealt_out v ∷ []) ≡ length s.views + 1 = omega (arith, length-append vs (dealt_out v ∷ [])) in
-    record {
-      known = o.known;
-      few = o.few;
-      wide = o.wide;
-      slots = o.slots;
-      seated = λ k u e lives. ⊎_elim
-          (λ old. ⊎_elim
-          (λ t. (subst (λ (j : ℕ). j < n) (sym t.0) was.0, ap o.known t.0 ∙ was.1 ∙ ap (λ (x : View). x.own) t.1))
-          (λ t. o.seated k u t.1 lives) (at_set s.views id k (dealing v) u old))
-          (λ new. (let at : k ≡ v.made = new.0 ∙ same ∙ sym long.1 in
-          (omega arith, ap o.known at ∙ o.unmade v.made (omega (arith, long.1)) ∙ ap (λ (m : ℕ). fresh m v.made) (sym size) ∙ ap (λ (x : View). x.own) new.1)))
-          (at_end vs (dealt_out v) k u e);
-      kept = λ k u e. ⊎_elim
-          (λ old. λ i d h. (let p = ⊎_elim {C = All (KeptIn n o.known s.views) u.kept}
-          (λ t. subst (λ (x : View). All (KeptIn n o.known s.views) x.kept) t.1 (o.kept id v here)) (λ t. o.kept k u t.1)
-          (at_set s.views id k (dealing v) u old) i d h in
-          let y : Known = get_or u.kept i d in
-          let ne : y.number ≢ id = elsewhere s.views y.number id v p.2.0 here live p.2.1 p.2.2 in
-          (p.0, p.1, (p.2.0, at_longer vs (dealt_out v ∷ []) y.number p.2.0 (set_else s.views id y.number (dealing v) ne ∙ p.2.1), p.2.2))))
-          (λ new. subst (λ (x : View). All (KeptIn n o.known (vs ++ dealt_out v ∷ [])) x.kept) new.1 (All-nil (KeptIn n o.known (vs ++ dealt_out v ∷ []))))
-          (at_end vs (dealt_out v) k u e);
-      dealt = λ k u e. ⊎_elim
-          (λ old. ⊎_elim
-          (λ t. inr (t.0 ∙ long.0, ap (λ (x : View). x.made) (sym t.1) ∙ ap (λ (m : ℕ). m + 1) long.1 ∙ sym longer))
-          (λ t. ⊎_elim (λ none. inl none) (λ r. absurd (t.0 (r.0 ∙ sym long.0))) (o.dealt k u t.1)) (at_set s.views id k (dealing v) u old))
-          (λ new. inl (ap (λ (x : View). x.made) (sym new.1)))
-          (at_end vs (dealt_out v) k u e);
-      unmade = λ r beyond. o.unmade r (omega arith);
-      moment = o.moment;
-    }
+    rule_with n _ o.known
+    (seat_deals (seats_of n s o) id v here live (dealing v) (dealt_out v) first (omega arith) refl refl refl
+    (ap (λ (m : ℕ). fresh m v.made) (sym size)) refl refl)
+    o.few o.wide o.slots o.moment
 
 -- join seat: one seat takes another in
 pub joins : (n id other : ℕ) (v w : View) → v.live ≡ true → w.live ≡ true → Joins (Rule n) id v other w (both v w) spent
 joins n id other v w live lives s o here apart there =
-    let us : List View = set s.views id (both v w) in
-    let vs : List View = set us other spent in
-    let there2 : get_elem? s.views other ≡ some w = sym (set_else s.views id other (both v w) apart) ∙ there in
-    let other_in : other < length us = within us other w there in
-    let same : length vs ≡ length s.views = length-set us other spent ∙ length-set s.views id (both v w) in
-    let moved : (x : Known) → KeptIn n o.known s.views x → KeptIn n o.known vs x = λ x p.
-    (let a : x.number ≢ id = elsewhere s.views x.number id v p.2.0 here live p.2.1 p.2.2 in
-    let b : x.number ≢ other = elsewhere s.views x.number other w p.2.0 there2 lives p.2.1 p.2.2 in
-    (p.0, p.1, (p.2.0, set_else us other x.number spent b ∙ set_else s.views id x.number (both v w) a ∙ p.2.1, p.2.2))) in
-    let all_moved : (ks : List Known) → All (KeptIn n o.known s.views) ks → All (KeptIn n o.known vs) ks = λ ks all i d h. moved (get_or ks i d) (all i d h) in
-    let was = o.seated other w there2 lives in
-    let number : other ≡ w.own.number = sym (o.moment.mailboxes.named other was.0).0 ∙ ap (λ (x : Known). x.number) was.1 in
-    let taken_in : KeptIn n o.known vs w.own = (
-      subst (λ (j : ℕ). j < n) number was.0,
-      ap o.known (sym number)
-          ∙ was.1,
-      (spent, ap (get_elem? vs) (sym number) ∙ set_here us other spent other_in, refl),
-    ) in
-    record {
-      known = o.known;
-      few = o.few;
-      wide = o.wide;
-      slots = o.slots;
-      seated = λ k u e lit. ⊎_elim
-          (λ t. absurd (let dark : spent.live ≡ u.live = ap (λ (x : View). x.live) t.1 in cc))
-          (λ t. ⊎_elim
-          (λ q. let mine = o.seated id v here live in (subst (λ (j : ℕ). j < n) (sym q.0) mine.0, ap o.known q.0 ∙ mine.1 ∙ ap (λ (x : View). x.own) q.1))
-          (λ q. o.seated k u q.1 lit) (at_set s.views id k (both v w) u t.1))
-          (at_set us other k spent u e);
-      kept = λ k u e. ⊎_elim
-          (λ t. subst (λ (x : View). All (KeptIn n o.known vs) x.kept) t.1 (All-nil (KeptIn n o.known vs)))
-          (λ t. ⊎_elim
-          (λ q. subst (λ (x : View). All (KeptIn n o.known vs) x.kept) q.1
-          (All-append (KeptIn n o.known vs) v.kept (w.own ∷ w.kept) (all_moved v.kept (o.kept id v here))
-          (All-cons (KeptIn n o.known vs) w.own w.kept taken_in (all_moved w.kept (o.kept other w there2)))))
-          (λ q. all_moved u.kept (o.kept k u q.1)) (at_set s.views id k (both v w) u t.1))
-          (at_set us other k spent u e);
-      dealt = λ k u e. subst (λ (l : ℕ). (u.made ≡ 0) ⊎ ((k ≡ 0) × (u.made ≡ l))) (sym same) (⊎_elim
-          (λ t. inl (ap (λ (x : View). x.made) (sym t.1)))
-          (λ t. ⊎_elim
-          (λ q. subst (λ (x : View). (x.made ≡ 0) ⊎ ((k ≡ 0) × (x.made ≡ length s.views))) q.1
-          (subst (λ (j : ℕ). (v.made ≡ 0) ⊎ ((j ≡ 0) × (v.made ≡ length s.views))) (sym q.0) (o.dealt id v here)))
-          (λ q. o.dealt k u q.1) (at_set s.views id k (both v w) u t.1))
-          (at_set us other k spent u e));
-      unmade = λ r beyond. o.unmade r (omega arith);
-      moment = o.moment;
-    }
+    rule_with n _ o.known
+    (seat_joins (seats_of n s o) id v here live other w (both v w) spent (λ r h. (o.moment.mailboxes.named r h).0) apart there lives
+    refl refl refl refl refl refl)
+    o.few o.wide o.slots o.moment
 
 abbrev Kept2 : ℕ → (ℕ → Known) → Known → Type 0
 Kept2 n known x = (x.number < n) × (known x.number ≡ x)
@@ -164,9 +84,8 @@ settles n slots id i m live fate s o wide here small =
       keeps,
       tt,
       reads n s o id m.0 W i here live
-          (unmoved n o.known (signs_in n s.words) (slots_in s.homes) id (W k) was.0 o.moment.mailboxes refl refl refl refl refl
-          (o.moment.mailboxes.own id was.0) (o.moment.mailboxes.away id was.0))
-          (calm_all n o.known (signs_in n s.words) (token_in s.words) o.moment.ring id was.0 (W k) refl (o.moment.ring.here id was.0))
+          (mail_stays n s o id was.0 (W k) (refl, refl, refl, refl, refl, refl))
+          (ring_stays n s o id was.0 (W k) refl refl)
           (halt_moved n o.known (halt_in n s.words) (stops_in n s.words) id (W k) (halt_in n s.words) (stops_in n s.words) o.moment.halt record {
             up = λ e. e;
             halted = o.moment.halt.halted id was.0;
@@ -214,18 +133,6 @@ first_words n zeros ws z e =
           ∙ read_of_copies (λ (x : ℕ). x ≡ 0) (n + 3) k 0 0 refl refl;
     }
 
-only : (n k : ℕ) (v : View) → 0 < n → get_elem? (opened n ∷ []) k ≡ some v → (k < n) × (fresh n k ≡ v.own)
-only n zero v some_rank e = (some_rank, ap (λ (x : View). x.own) (some-injective (opened n) v e))
-only n (suc k) v some_rank e = absurd (some-ne-none v (sym e))
-
-only_dealt : (n k : ℕ) (v : View) → get_elem? (opened n ∷ []) k ≡ some v → (v.made ≡ 0) ⊎ ((k ≡ 0) × (v.made ≡ 1))
-only_dealt n zero v e = inr (refl, ap (λ (x : View). x.made) (sym (some-injective (opened n) v e)))
-only_dealt n (suc k) v e = absurd (some-ne-none v (sym e))
-
-only_kept : (n k : ℕ) (v : View) → get_elem? (opened n ∷ []) k ≡ some v → (P : Known → Type 0) → All P v.kept
-only_kept n zero v e P = subst (λ (x : View). All P x.kept) (some-injective (opened n) v e) (All-nil P)
-only_kept n (suc k) v e P = absurd (some-ne-none v (sym e))
-
 if_zero : (b : Bool) (x : ℕ) → x ≡ 0 → cond b x 0 ≡ 0
 if_zero true x e = e
 if_zero false x e = refl
@@ -250,15 +157,16 @@ starts n ws some_rank few W =
     (λ i h. let below : i < n = (let e = sheet_size n (places (fresh n) (signs_in n ws)) in omega arith) in
     get_or-map-range_with_len (places (fresh n) (signs_in n ws)) 0 n i i no_place below (omega arith)
     ∙ ap (Rattle.post_board.specs.BoardRule.place_of (fresh n i)) (calm i) ∙ sym (get_or-replicate n i fresh_place no_place below)) in
+    let S : Seats face n (fresh n) (fresh n) (opened n ∷ []) = first_seat face n (fresh n) (opened n) some_rank refl refl refl in
     record {
       known = fresh n;
       few = few;
       wide = W.long;
       slots = length-map {A = Parcel} {B = Core.Option Parcel} (replicate n None) some ∙ length-replicate {A = Parcel} n None;
-      seated = λ k v e live. only n k v some_rank e;
-      kept = λ k v e. only_kept n k v e (KeptIn n (fresh n) (opened n ∷ []));
-      dealt = λ k v e. only_dealt n k v e;
-      unmade = λ r h. refl;
+      seated = S.seated;
+      kept = S.kept;
+      dealt = S.dealt;
+      unmade = S.unmade;
       moment = record {
         mailboxes = record {
           named = λ r h. (refl, refl);

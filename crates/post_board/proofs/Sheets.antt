@@ -14,7 +14,7 @@ use Rattle.post_board.specs.Words.{Sign, resting}
 use Rattle.post_board.specs.Reached.{Reached, did}
 use Rattle.post_board.specs.BoardRule.{mail_of, place_of, sheet}
 use Rattle.post_board.specs.declared.board_views.Known.{Known}
-use Rattle.post_board.proofs.Puts.{put_same}
+use Rattle.ring_core.proofs.PictureLemmas.{put_same}
 
 pub sheet_size : (n : ℕ) (f : ℕ → Place) → length (map f (range_with_len 0 n)) ≡ n
 sheet_size n f = length-map-range_with_len f 0 n

@@ -27,6 +27,9 @@ module _ {A : Type 0} where
       (λ e. subst (λ (j : ℕ). P j (put f i x j)) (sym e) (subst (P i) (sym (put_here f i x)) here))
       (λ ne. subst (P k) (sym (put_elsewhere f i x k ne)) (elsewhere ne))
 
+  pub put_same : {B : Type 0} (g : ℕ → A → B) (f : ℕ → A) (i : ℕ) (x : A) → g i x ≡ g i (f i) → (k : ℕ) → g k (put f i x k) ≡ g k (f k)
+  put_same g f i x e k = put_all (λ j y. g j y ≡ g j (f j)) f i x k e (λ ne. refl)
+
 -- what holds of the rank that changed, and of each other as it was, holds of each rank afterwards
 pub holds_of_all : (P : ℕ → RankPicture → Type 0) (p : Picture) (r : ℕ) (x : RankPicture) (q : Picture) → Becomes p r x q → (k : ℕ) → P r x
     → (k ≢ r → P k (p k)) → P k (q k)

@@ -36,6 +36,10 @@
 //! event `proofs/PictureLemmas.antt` has a lemma to cite, `handle_keeps_invariant` and so on; `calm_change_keeps_invariant`
 //! there is for a change that is not an event.
 //!
+//! A table over atomic words has a seat for each rank. `proofs/SeatLemmas.antt` says which seats there are after one comes to
+//! know more, makes the next one, or takes another in. `proofs/TogetherLemmas.antt` is for seats that come together at the end.
+//! `post_board` and `sum_tree` cite both.
+//!
 //! Not promised: that a run comes to its end, or that a rank ever gets an answer.
 #![tactic(auto)]
 

@@ -5,6 +5,7 @@ use Rattle.std.specs.List.{Contains, range_with_len}
 use Rattle.std.proofs.lemmas.List.{get_or_read}
 use Rattle.std.proofs.lemmas.List.Sorted.{Contains-permutation, IsPermutation-sym, length_permutation, sum_by-IsPermutation}
 use Rattle.std.proofs.lemmas.Simd.{pick_l_whole}
+use Rattle.ring_core.proofs.TogetherLemmas.{spare}
 use Rattle.sum_tree.specs.Told.{SumTold, uncounted, rank_of, count_of, word_of, is_final}
 use Rattle.sum_tree.specs.Shown.{SumShown, AllFinished}
 use Rattle.sum_tree.specs.Plain.{IsSeat}
@@ -26,10 +27,6 @@ counts_are all d = ap (sum_by (λ (s : SumShown). s.count)) (sym (pick_l_whole d
     ∙ sum_of_map (λ (s : SumShown). s.count) (λ k. get_or all k d) (range_with_len 0 (length all))
 
 module _ (t : SumTold) (all : List SumShown) (finished : AllFinished (λ s. s) (IsSeat t) all) where
-  spare : (xs : List SumShown) → 0 < length xs → SumShown
-  spare [] h = absurd (omega arith)
-  spare (x ∷ xs) h = x
-
   pub some_rank : 0 < length all → 0 < length t.ranks
   some_rank some =
       let as_many = length_permutation finished.ranks all finished.same in

@@ -11,22 +11,12 @@ use Rattle.atomic_table.specs.Table.{opening}
 use Rattle.sum_tree.specs.Told.{uncounted}
 use Rattle.sum_tree.specs.Plain.{IsSeat, fresh as fresh_shown}
 use Rattle.sum_tree.specs.declared.ranks.RankSum.{RankSum}
+use Rattle.ring_core.proofs.SeatLemmas.{first_seat}
 use Rattle.sum_tree.proofs.Begins.{fresh_is_seat}
+use Rattle.sum_tree.proofs.WordSteps.{face, rule_with}
 use Rattle.sum_tree.specs.TreeRule.{Rule, KeptIn, row_of, told_of, seen_of, fresh, opened}
 use Rattle.sum_tree.specs.declared.tree_views.Known.{Known}
 use Rattle.sum_tree.specs.declared.tree_views.View.{View}
-
-only : (n width k : ℕ) (v : View) → 0 < n → get_elem? (opened n width ∷ []) k ≡ some v → (k < n) × (fresh n width k ≡ v.own)
-only n width zero v some_rank e = (some_rank, ap (λ (x : View). x.own) (some-injective (opened n width) v e))
-only n width (suc k) v some_rank e = absurd (some-ne-none v (sym e))
-
-only_dealt : (n width k : ℕ) (v : View) → get_elem? (opened n width ∷ []) k ≡ some v → (v.made ≡ 0) ⊎ ((k ≡ 0) × (v.made ≡ 1))
-only_dealt n width zero v e = inr (refl, ap (λ (x : View). x.made) (sym (some-injective (opened n width) v e)))
-only_dealt n width (suc k) v e = absurd (some-ne-none v (sym e))
-
-only_kept : (n width k : ℕ) (v : View) → get_elem? (opened n width ∷ []) k ≡ some v → (P : Known → Type 0) → All P v.kept
-only_kept n width zero v e P = subst (λ (x : View). All P x.kept) (some-injective (opened n width) v e) (All-nil P)
-only_kept n width (suc k) v e P = absurd (some-ne-none v (sym e))
 
 never : (n r : ℕ) → get_or (replicate n false) r false ≡ false
 never zero r = refl
@@ -44,23 +34,16 @@ starts n width ws some_rank few wide narrow e =
     let seat : IsSeat (told_of n width (fresh n width)) (fresh_shown n width 0) =
     subst (λ (xs : List RankSum). IsSeat (record { width = width; ranks = xs }) (fresh_shown n width 0)) (sym rows)
     (fresh_is_seat n width 0 few wide narrow some_rank) in
+    rule_with n width _ (fresh n width) (first_seat face n (fresh n width) (opened n width) some_rank refl refl refl) (ap length e ∙ length-replicate n 0)
     record {
-      known = fresh n width;
-      wide = ap length e ∙ length-replicate n 0;
-      seated = λ k v h live. only n width k v some_rank h;
-      kept = λ k v h. only_kept n width k v h (KeptIn n (fresh n width) (opened n width ∷ []));
-      dealt = λ k v h. only_dealt n width k v h;
-      unmade = λ r h. refl;
-      moment = record {
-        named = λ r h. (refl, refl, refl);
-        sized = λ r h. (length-replicate n 0, length-replicate n false);
-        words = λ r h. ap (λ xs. get_or xs r 0) e ∙ get_or-replicate n r 0 0 h;
-        rule = seat.rule;
-        sound = seat.shown.sound;
-        seen = λ r c h g. (let z : seen_of (fresh n width r) c ≡ 0 = get_or-replicate n c 0 0 g in omega (arith, z));
-        finals = λ r c h g f. absurd (let z = never n c in cc);
-        low = λ r h. omega arith;
-      };
+      named = λ r h. (refl, refl, refl);
+      sized = λ r h. (length-replicate n 0, length-replicate n false);
+      words = λ r h. ap (λ xs. get_or xs r 0) e ∙ get_or-replicate n r 0 0 h;
+      rule = seat.rule;
+      sound = seat.shown.sound;
+      seen = λ r c h g. (let z : seen_of (fresh n width r) c ≡ 0 = get_or-replicate n c 0 0 g in omega (arith, z));
+      finals = λ r c h g f. absurd (let z = never n c in cc);
+      low = λ r h. omega arith;
     }
 
 pub starts_at : (n width : ℕ) (key : ℕ × ℕ) (ws : List ℕ) → key ≡ (n, width) → 0 < n → n ≤ 64 → 2 ≤ width → width ≤ 64 → ws ≡ replicate n 0

@@ -11,7 +11,9 @@ use native.Mathlib.Decide.{ℕ_discrete}
 use lib.ListN.{get_elem?}
 use lib.Seq.{set-get_or}
 use Rattle.atomic_table.specs.Table.{step, keeps, Allows}
-use Rattle.atomic_table.proofs.Lists.{at_set, set_else}
+use Rattle.ring_core.specs.Picture.{put}
+use Rattle.ring_core.proofs.PictureLemmas.{put_here, put_elsewhere, put_all, put_same}
+use Rattle.ring_core.proofs.SeatLemmas.{Face, Seats, seat_knows}
 use Rattle.sum_tree.specs.Tree.{children, sum_of}
 use Rattle.sum_tree.specs.Told.{SumTold, uncounted, rank_of, count_of, word_of, is_final, words_below, are_final_below, put_rank, Sound}
 use Rattle.sum_tree.specs.Plain.{Rule as PlainRule}
@@ -20,29 +22,10 @@ use Rattle.sum_tree.specs.declared.ranks.RankSum.{RankSum}
 use Rattle.sum_tree.proofs.Ranges.{Within, same_sums, less_sums, tests_all}
 use Rattle.sum_tree.proofs.Rules.{Grows, rule_after, sound_after, fits}
 use Rattle.sum_tree.proofs.Trees.{child_after, sum_of_all}
-use Rattle.sum_tree.specs.TreeRule.{TableState, seen_of, final_of, below, row_of, told_of, Moment, Rule, KeptIn}
+use Rattle.sum_tree.specs.TreeRule.{TableState, seen_of, final_of, below, row_of, told_of, Moment, Rule, fresh}
 use Rattle.sum_tree.specs.TreeSteps.{SeatState, knowing, noted, after_load, LoadTells, after_store, StoreTells, FinalTells, LastLookTells}
 use Rattle.sum_tree.specs.declared.tree_views.Known.{Known}
 use Rattle.sum_tree.specs.declared.tree_views.View.{View}
-
--- the same, but for x at i
-abbrev put : {A : Type 0} → (ℕ → A) → ℕ → A → ℕ → A
-put f i x k = cond (k == i) x (f k)
-
-module _ {A : Type 0} where
-  put_here : (f : ℕ → A) (i : ℕ) (x : A) → put f i x i ≡ x
-  put_here f i x = ap (λ (b : Bool). cond b x (f i)) (eq-eqb i i refl)
-
-  put_else : (f : ℕ → A) (i : ℕ) (x : A) (k : ℕ) → k ≢ i → put f i x k ≡ f k
-  put_else f i x k ne = ap (λ (b : Bool). cond b x (f k)) (ne_eqb k i ne)
-
-  put_all : (P : ℕ → A → Type 0) (f : ℕ → A) (i : ℕ) (x : A) (k : ℕ) → P i x → (k ≢ i → P k (f k)) → P k (put f i x k)
-  put_all P f i x k here else = dite (ℕ_discrete k i)
-      (λ e. subst (λ (j : ℕ). P j (put f i x j)) (sym e) (subst (P i) (sym (put_here f i x)) here))
-      (λ ne. subst (P k) (sym (put_else f i x k ne)) (else ne))
-
-  put_same : {B : Type 0} (g : ℕ → A → B) (f : ℕ → A) (i : ℕ) (x : A) → g i x ≡ g i (f i) → (k : ℕ) → g k (put f i x k) ≡ g k (f k)
-  put_same g f i x e k = put_all (λ j y. g j y ≡ g j (f j)) f i x k e (λ ne. refl)
 
 abbrev rows : (ℕ → Known) → ℕ → RankSum
 rows known r = row_of (known r)
@@ -68,56 +51,46 @@ told_put n width known id w h =
     (λ e. ap (λ (j : ℕ). get_or (set l id (row_of w)) j uncounted) e ∙ get_or-set_same l id (row_of w) uncounted (omega arith)
     ∙ ap row_of (sym (put_here known id w)) ∙ ap (λ (j : ℕ). row_of (put known id w j)) (sym e) ∙ sym there)
     (λ ne. get_or-set_other l id k (row_of w) uncounted ne ∙ get_or-map-range_with_len (rows known) 0 n k k uncounted under (omega arith)
-    ∙ ap row_of (sym (put_else known id w k ne)) ∙ sym there)))
+    ∙ ap row_of (sym (put_elsewhere known id w k ne)) ∙ sym there)))
 
 -- a step that shows nothing new
 told_same : (n width : ℕ) (known : ℕ → Known) (id : ℕ) (w : Known) → row_of w ≡ row_of (known id) → told_of n width (put known id w) ≡ told_of n width known
 told_same n width known id w e = λ i. record { width = width; ranks = map (λ k. put_same (λ j v. row_of v) known id w e k i) (range_with_len 0 n) }
 
-pub within : {A : Type 0} (l : List A) (i : ℕ) (x : A) → get_elem? l i ≡ some x → i < length l
-within [] i x e = absurd (some-ne-none x (sym e))
-within (y ∷ l) zero x e = omega arith
-within (y ∷ l) (suc i) x e = let h = within l i x e in omega arith
+-- the face of the seats of sums
+abbrev pub face : Face Known View
+face = record {
+  own = λ (v : View). v.own;
+  made = λ (v : View). v.made;
+  kept = λ (v : View). v.kept;
+  live = λ (v : View). v.live;
+  number = λ (x : Known). x.number;
+}
 
-pub elsewhere : (vs : List View) (k id : ℕ) (v u : View) → get_elem? vs id ≡ some v → v.live ≡ true → get_elem? vs k ≡ some u → u.live ≡ false → k ≢ id
-elsewhere vs k id v u here live there dead e =
-    (let same : v ≡ u = some-injective v u (sym here ∙ ap (get_elem? vs) (sym e) ∙ there) in
-    let both_ways : v.live ≡ false = ap (λ (x : View). x.live) same ∙ dead in cc)
+-- the part of the rule that speaks of seats, and the rule with other seats and words
+pub seats_of : (n width : ℕ) (s : TableState) (o : Rule n width s) → Seats face n o.known (fresh n width) s.views
+seats_of n width s o = record { seated = o.seated; kept = o.kept; dealt = o.dealt; unmade = o.unmade }
+
+pub rule_with : (n width : ℕ) (t : TableState) (known : ℕ → Known) → Seats face n known (fresh n width) t.views → length t.words ≡ n
+    → Moment n width known t.words → Rule n width t
+rule_with n width t known S wide moment = record {
+  known = known;
+  wide = wide;
+  seated = S.seated;
+  kept = S.kept;
+  dealt = S.dealt;
+  unmade = S.unmade;
+  moment = moment;
+}
 
 -- the rule after a step: the seat `id` knows more, and the facts hold of the new words
 frame : (n width : ℕ) (s : TableState) (o : Rule n width s) (id : ℕ) (v : View) (W : Known → Known) (ws : List ℕ)
     → get_elem? s.views id ≡ some v → v.live ≡ true → length ws ≡ length s.words → Moment n width (put o.known id (W (o.known id))) ws
     → Rule n width record { words = ws; homes = s.homes; views = set s.views id (record v { own = W v.own }) }
 frame n width s o id v W ws here live long moment =
-    let was = o.seated id v here live in
-    let x : View = record v { own = W v.own } in
-    record {
-      known = put o.known id (W (o.known id));
-      wide = long ∙ o.wide;
-      seated = λ k u e lives. ⊎_elim
-          (λ t. (
-            subst (λ (j : ℕ). j < n) (sym t.0) was.0,
-            ap (put o.known id (W (o.known id))) t.0 ∙ put_here o.known id (W (o.known id))
-                ∙ ap W was.1 ∙ ap (λ (y : View). y.own) t.1,
-          ))
-          (λ t. let old = o.seated k u t.1 lives in (old.0, put_else o.known id (W (o.known id)) k t.0 ∙ old.1))
-          (at_set s.views id k x u e);
-      kept = λ k u e i d h.
-          (let p = ⊎_elim {C = All (KeptIn n o.known s.views) u.kept}
-          (λ t. subst (λ (y : View). All (KeptIn n o.known s.views) y.kept) t.1 (o.kept id v here)) (λ t. o.kept k u t.1)
-          (at_set s.views id k x u e) i d h in
-          let y : Known = get_or u.kept i d in
-          let ne : y.number ≢ id = elsewhere s.views y.number id v p.2.0 here live p.2.1 p.2.2 in
-          (p.0, put_else o.known id (W (o.known id)) y.number ne ∙ p.1, (p.2.0, set_else s.views id y.number x ne ∙ p.2.1, p.2.2)));
-      dealt = λ k u e. subst (λ (l : ℕ). (u.made ≡ 0) ⊎ ((k ≡ 0) × (u.made ≡ l))) (sym (length-set s.views id x))
-          (⊎_elim
-          (λ t. subst (λ (y : View). (y.made ≡ 0) ⊎ ((k ≡ 0) × (y.made ≡ length s.views))) t.1
-          (subst (λ (j : ℕ). (v.made ≡ 0) ⊎ ((j ≡ 0) × (v.made ≡ length s.views))) (sym t.0) (o.dealt id v here)))
-          (λ t. o.dealt k u t.1) (at_set s.views id k x u e));
-      unmade = λ r beyond. let inside = within s.views id v here in let same = length-set s.views id x in
-          put_else o.known id (W (o.known id)) r (λ e. omega arith) ∙ o.unmade r (omega arith);
-      moment = moment;
-    }
+    rule_with n width _ (put o.known id (W (o.known id)))
+    (seat_knows (seats_of n width s o) id v here live (W (o.known id)) (record v { own = W v.own }) (ap W (o.seated id v here live).1) refl refl)
+    (long ∙ o.wide) moment
 
 half : (k : ℕ) (b : Bool) → coded k b / 2 ≡ k
 half k true = omega arith
@@ -289,7 +262,7 @@ stores n width slots id count new final m then live not_final counts capped is a
             ∙ is ∙ ap (λ (x : ℕ). coded x final) (sym halved) ∙ ap (λ (x : Known). coded x.word x.is_final) (sym (put_here o.known id w))
             ∙ ap (λ (j : ℕ). coded (put o.known id w j).word (put o.known id w j).is_final) (sym e))
             (λ ne. ap (λ (j : ℕ). get_or (set s.words j new) q 0) number ∙ get_or-set_other s.words id q new 0 ne ∙ S.words q h
-            ∙ ap (λ (x : Known). coded x.word x.is_final) (sym (put_else o.known id w q ne)));
+            ∙ ap (λ (x : Known). coded x.word x.is_final) (sym (put_elsewhere o.known id w q ne)));
         rule = subst PlainRule put_told (rule_after t id (row_of w) S.rule grows);
         sound = subst Sound put_told (sound_after t id (row_of w) S.rule S.sound grows);
         seen = λ q e h low. put_all (λ j x. seen_of (put o.known id w q) j ≤ x.word) o.known id w e

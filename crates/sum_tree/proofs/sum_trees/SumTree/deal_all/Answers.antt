@@ -1,9 +1,7 @@
 use Rattle.std.proofs.Common.{◌≡◌, ℕ, ◌+◌, ◌∙◌, refl, sym, ap, subst, arith, List, [], ◌∷◌, ◌++◌, length, length-append, get_or}
 use Rattle.std.specs.List.{All}
-use Rattle.std.proofs.lemmas.List.{get_or_append_left, get_or_push}
 use Rattle.std.proofs.lemmas.List.Elements.{All-nil, All-cons, All-append}
-use mathlib.Core.Logic.{dite}
-use native.Mathlib.Decide.{ℕ_discrete}
+use Rattle.ring_core.proofs.TogetherLemmas.{each_pushed}
 use Rattle.sum_tree.specs.Plain.{fresh as fresh_shown}
 use Rattle.sum_tree.specs.TreeSteps.{SeatState}
 use Rattle.sum_tree.specs.TreeSeats.{IsSeat, IsUnread, shown_by}
@@ -31,10 +29,9 @@ loop-number-preserved c =
       alone = ap (λ (m : SeatState). m.0.kept) D.1 ∙ inv.alone;
       made = ap (λ (m : SeatState). m.0.made) D.1 ∙ ap (λ (k : ℕ). k + 1) inv.made;
       count = omega arith;
-      each = λ k d h. subst (λ ys. Is k (get_or ys k d)) (sym items) (dite (ℕ_discrete k (length xs))
-          (λ e. subst (Is k) (sym (get_or_push xs x d k (sym e)))
-          (c.fresh.ensures.seat, c.fresh.ensures.shown ∙ ap (λ (j : ℕ). fresh_shown n w j) (omega arith)))
-          (λ ne. subst (Is k) (sym (get_or_append_left xs (x ∷ []) d k (omega arith))) (inv.each k d (omega arith))));
+      each = λ k d h. each_pushed Is xs c.push.new.self.items x items
+          (c.fresh.ensures.seat, c.fresh.ensures.shown ∙ ap (λ (j : ℕ). fresh_shown n w j) (omega arith))
+          (λ j e lt. inv.each j e (omega arith)) k d (omega arith);
       unread = subst (λ (ys : List SumSeat). All IsUnread ys) (sym items)
           (All-append IsUnread xs (x ∷ []) inv.unread (All-cons IsUnread x [] c.fresh.ensures.unread (All-nil IsUnread)));
     }
