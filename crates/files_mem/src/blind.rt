@@ -11,43 +11,30 @@ ghost use Rattle.outside.specs.Tree.{Node, is_dir, stat_of};
 ghost use Rattle.outside.specs.Writes.{is_open};
 ghost use Rattle.files_mem.specs.Spanned.{piece_of, held_by};
 
-use crate::blind_parts::{BlindPart, counted, has_place};
 use crate::blind_readers::BlindReader;
 use crate::grounds::MemGround;
+use crate::parts::MemPart;
 use crate::spans::{MemSpan, faults_of};
 use crate::tricks::Tricks;
-use outside::{Ground, Kind, LinkText, Plot, SpanError, Stat, Tree, Wide, WriteError};
+use crate::untold::{Looks, Untold};
+use outside::{Ground, Kind, Plot, SpanError, Stat, Tree, Wide};
 use path_text::{OutOfMemory, Path};
 use std::alloc::Global;
-use std::marker::Model;
 
-/// Files in memory that tell no tree, and whose readers may lie, swell files and meet. They are seen as their count of faults and
-/// where they may be written. They pass every call on to the ground inside, and answer as it does.
-#[derive(Drop)]
-pub struct Blind {
-    ground: MemGround,
-    tricks: Tricks,
-    count: u64,
-}
+/// Files in memory that tell no tree, and whose readers may lie, swell files and meet.
+pub type Blind = Untold<MemGround>;
 
-impl Model for Blind {
-    ghost use Rattle.files_mem.specs.Blinded.{Blinded, blinded_code};
+/// A part of such files.
+pub type BlindPart = Untold<MemPart>;
 
-    ghost Value = { Blinded };
-
-    ghost coded = { blinded_code };
-
-    ghost view = { λ b. record { count = b.count; area = b.ground.area } };
-}
-
-impl Blind {
+impl Untold<MemGround> {
     /// These files. They neither lie, nor swell, nor meet.
-    pub fn make(ground: MemGround) -> Blind
-        ensures { result ≡ record { count = ground.count; area = ground.area } }
+    pub fn make(inside: MemGround) -> Blind
+        ensures { result ≡ record { count = inside.count; area = inside.area } }
     {
-        let count = ground.faults();
-        Blind {
-            ground,
+        let count = inside.faults();
+        Untold {
+            inside,
             tricks: Tricks::none(),
             count,
         }
@@ -57,14 +44,14 @@ impl Blind {
     pub fn lie(&mut self, path: &Path) -> Result<(), OutOfMemory>
         ensures { self.new ≡ self.old }
     {
-        self.tricks.lie(self.ground.allocator(), path)
+        self.tricks.lie(self.inside.allocator(), path)
     }
 
     /// Later readers answer, by `stat`, one byte more for a file at the path than it has. A lie about the path comes before that.
     pub fn swell(&mut self, path: &Path) -> Result<(), OutOfMemory>
         ensures { self.new ≡ self.old }
     {
-        self.tricks.swell(self.ground.allocator(), path)
+        self.tricks.swell(self.inside.allocator(), path)
     }
 
     /// A later reader's `stat` of one of the two paths waits for a `stat` of the other by any reader, also an earlier one.
@@ -72,14 +59,14 @@ impl Blind {
     pub fn meet(&mut self, one: &Path, other: &Path) -> Result<(), OutOfMemory>
         ensures { self.new ≡ self.old }
     {
-        self.tricks.meet(self.ground.allocator(), one, other)
+        self.tricks.meet(self.inside.allocator(), one, other)
     }
 
     /// The files inside. They count only the faults that came from there.
     pub fn into_files(self) -> MemGround
         ensures { result.area ≡ self.area }
     {
-        self.ground
+        self.inside
     }
 }
 
@@ -125,93 +112,41 @@ fn have_parents(ground: &mut MemGround, alloc: Global, tops: &[Path]) -> Result<
     Ok(true)
 }
 
-impl Plot for Blind {
-    ghost use Rattle.std.specs.Prelude.{None};
-
-    ghost tree = { λ _. None };
-
-    ghost count = { λ files. files.count };
-
-    ghost area = { λ files. files.area };
-
-    fn faults(&self) -> u64 {
-        self.count
-    }
-
-    fn make_dir(&mut self, alloc: Global, path: &Path) -> Result<(), WriteError> {
-        let told = self.ground.make_dir(alloc, path);
-        counted(&mut self.count, told)
-    }
-
-    fn make_file(&mut self, alloc: Global, path: &Path) -> Result<(), WriteError> {
-        let told = self.ground.make_file(alloc, path);
-        counted(&mut self.count, told)
-    }
-
-    fn make_link(&mut self, alloc: Global, path: &Path, text: &LinkText) -> Result<(), WriteError> {
-        let told = self.ground.make_link(alloc, path, text);
-        counted(&mut self.count, told)
-    }
-
-    /// A place past the end of the file is a fault.
-    fn write_at(
-        &mut self,
-        alloc: Global,
-        path: &Path,
-        at: u64,
-        bytes: &[u8],
-    ) -> Result<(), WriteError> {
-        let told = if has_place(self.ground.look(alloc, path)?, at) {
-            self.ground.write_at(alloc, path, at, bytes)
-        } else {
-            Err(WriteError::Failed)
-        };
-        counted(&mut self.count, told)
-    }
-
-    fn remove_file(&mut self, alloc: Global, path: &Path) -> Result<(), WriteError> {
-        let told = self.ground.remove_file(alloc, path);
-        counted(&mut self.count, told)
-    }
-
-    fn remove_dir(&mut self, alloc: Global, path: &Path) -> Result<(), WriteError> {
-        let told = self.ground.remove_dir(alloc, path);
-        counted(&mut self.count, told)
-    }
-}
-
-impl Ground for Blind {
+impl Ground for Untold<MemGround> {
     type Reader = BlindReader;
 
     type Part = BlindPart;
 
     fn reader(&mut self, alloc: Global) -> Result<BlindReader, OutOfMemory> {
         let tricks = self.tricks.share()?;
-        let reader = self.ground.reader(alloc)?;
+        let reader = self.inside.reader(alloc)?;
         Ok(BlindReader::make(reader, tricks))
     }
 
     fn take_reader(&mut self, reader: BlindReader) {
         self.count = self.count.saturating_add(reader.faults());
-        self.ground.take_reader(reader.into_reader());
+        self.inside.take_reader(reader.into_reader());
     }
 
     /// If the parent of a top is not a directory, it answers out of memory: the ground inside lends no such part.
     fn lease(&mut self, alloc: Global, tops: &[Path]) -> Result<BlindPart, OutOfMemory> {
-        if !have_parents(&mut self.ground, alloc, tops)? {
+        if !have_parents(&mut self.inside, alloc, tops)? {
             return Err(OutOfMemory);
         }
-        let part = self.ground.lease(alloc, tops)?;
-        Ok(BlindPart::make(part))
+        Ok(Untold {
+            inside: self.inside.lease(alloc, tops)?,
+            tricks: Tricks::none(),
+            count: 0,
+        })
     }
 
     fn give_back(&mut self, part: BlindPart) {
         self.count = self.count.saturating_add(part.faults());
-        self.ground.give_back(part.into_part());
+        self.inside.give_back(part.inside);
     }
 }
 
-impl Wide for Blind {
+impl Wide for Untold<MemGround> {
     type Span = MemSpan;
 
     /// The spans tell no bytes. If no empty file is at the path, that is a fault: the ground inside lends no other.
@@ -231,11 +166,11 @@ impl Wide for Blind {
         ensures count { RoseBy 0 self.old.count self.new.count }
         ensures cause { IsErrOf result SpanError.Failed → RoseBy 1 self.old.count self.new.count }
     {
-        if !is_empty_file(self.ground.look(alloc, path)?) {
+        if !is_empty_file(self.inside.look(alloc, path)?) {
             self.count = self.count.saturating_add(1);
             return Err(SpanError::Failed);
         }
-        match self.ground.cut(alloc, path, cuts, false) {
+        match self.inside.cut(alloc, path, cuts, false) {
             Ok(spans) => Ok(spans),
             Err(SpanError::Failed) => {
                 self.count = self.count.saturating_add(1);
@@ -252,6 +187,6 @@ impl Wide for Blind {
         ensures rises { self.old.count ≤ self.new.count }
     {
         self.count = self.count.saturating_add(faults_of(&spans));
-        self.ground.rejoin(path, spans);
+        self.inside.rejoin(path, spans);
     }
 }

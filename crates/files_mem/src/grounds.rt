@@ -25,6 +25,7 @@ use crate::plans::{Call, Plan};
 use crate::readers::MemReader;
 use crate::spans::{MemSpan, faults_of, room_for, spans_of};
 use crate::stores::Store;
+use crate::untold::Looks;
 use outside::{Ground, LinkText, Plot, SpanError, Stat, Tree, Wide, WriteError};
 use path_text::{OutOfMemory, Path, PathError};
 use std::alloc::{AllocError, AllocFailed, Global};
@@ -140,14 +141,6 @@ impl MemGround {
         self.plan.allocator()
     }
 
-    // The kind, size and time of the node at the path, whatever is planned.
-    pub(crate) fn look(&mut self, alloc: Global, path: &Path) -> Result<Option<Stat>, OutOfMemory>
-        ensures told { IfOk result (λ answer. answer ≡ option_map stat_of (map.get self.old.files path.now)) }
-        ensures same { self.new ≡ self.old }
-    {
-        Ok(self.held.store(alloc)?.stat(path))
-    }
-
     // Whether the call is planned to fail at the path. If so, it counts as a fault.
     fn fails(&mut self, call: Call, path: &Path) -> bool
         ensures planned { result ≡ is_planned call path.now self.old.planned }
@@ -252,14 +245,24 @@ fn add_to(plan: &mut Arc<Plan>, call: Call, path: Path) -> Result<(), AllocError
     Arc::make_mut(plan)?.add(call, path)
 }
 
+impl Looks for MemGround {
+    fn look(&mut self, alloc: Global, path: &Path) -> Result<Option<Stat>, OutOfMemory> {
+        Ok(self.held.store(alloc)?.stat(path))
+    }
+}
+
 impl Plot for MemGround {
     ghost use Rattle.std.specs.Prelude.{Some};
+    ghost use Rattle.files_mem.specs.Steady.{StaysSteady};
 
     ghost tree = { λ g. Some g.files };
 
     ghost count = { λ g. g.count };
 
     ghost area = { λ g. g.area };
+
+    /// Files that never fail stay so.
+    ghost gives = { λ before _ _ result new. StaysSteady before result new };
 
     fn faults(&self) -> u64 {
         self.count

@@ -45,13 +45,12 @@
 //! with room for all of them, so neither a write nor the return takes memory. A planned [`Call::Write`] of the file fails each
 //! write of its spans, and a planned [`Call::Spans`] the lease. The spans of a [`Blind`] tell no bytes.
 //!
-//! Definitions are in `specs/`: `Memory`, `Planned` (the calls that are planned to fail), `Stored` (the tree of a map in memory)
-//! and `Spanned` (spans). `Blinded` is for files that tell no tree. `PrivateHeld` (the state of a ground while parts are out) is
-//! for private clauses.
+//! Definitions are in `specs/`: `Memory`, `Planned` (the calls that are planned to fail), `Steady` (files in which none is),
+//! `Stored` (the tree of a map in memory) and `Spanned` (spans). `Blinded` is for files that tell no tree. `PrivateHeld` (the
+//! state of a ground while parts are out) is for private clauses.
 #![tactic(auto)]
 
 mod blind;
-mod blind_parts;
 mod blind_readers;
 mod child_names;
 mod cuttings;
@@ -66,9 +65,9 @@ mod readers;
 mod spans;
 mod stores;
 mod tricks;
+mod untold;
 
-pub use blind::Blind;
-pub use blind_parts::BlindPart;
+pub use blind::{Blind, BlindPart};
 pub use blind_readers::BlindReader;
 pub use errors::PutError;
 pub use grounds::MemGround;
@@ -76,3 +75,4 @@ pub use parts::MemPart;
 pub use plans::Call;
 pub use readers::MemReader;
 pub use spans::MemSpan;
+pub use untold::{Looks, Untold};

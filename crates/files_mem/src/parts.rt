@@ -15,8 +15,9 @@ ghost use Rattle.files_mem.specs.Memory.{answered, Acts};
 use crate::nodes::{Body, Node};
 use crate::plans::{Call, Plan};
 use crate::stores::Store;
+use crate::untold::Looks;
 use outside::{LinkText, Plot, Stat, Tops, WriteError};
-use path_text::Path;
+use path_text::{OutOfMemory, Path};
 use std::alloc::Global;
 use std::marker::Model;
 use std::sync::Arc;
@@ -67,13 +68,6 @@ impl MemPart {
         (self.store, self.tops)
     }
 
-    // The kind, size and time of the node at the path, whatever is planned.
-    pub(crate) fn look(&self, path: &Path) -> Option<Stat>
-        ensures { result ≡ option_map stat_of (map.get self.now.files path.now) }
-    {
-        self.store.stat(path)
-    }
-
     // Whether the call is planned to fail at the path. If so, it counts as a fault.
     fn fails(&mut self, call: Call, path: &Path) -> bool
         ensures planned { result ≡ is_planned call path.now self.old.planned }
@@ -122,14 +116,24 @@ fn is_top(tops: &[Path], path: &Path) -> bool
     tops.contains(path)
 }
 
+impl Looks for MemPart {
+    fn look(&mut self, _alloc: Global, path: &Path) -> Result<Option<Stat>, OutOfMemory> {
+        Ok(self.store.stat(path))
+    }
+}
+
 impl Plot for MemPart {
     ghost use Rattle.std.specs.Prelude.{Some};
+    ghost use Rattle.files_mem.specs.Steady.{StaysSteady};
 
     ghost tree = { λ g. Some g.files };
 
     ghost count = { λ g. g.count };
 
     ghost area = { λ g. g.area };
+
+    /// Files that never fail stay so.
+    ghost gives = { λ before _ _ result new. StaysSteady before result new };
 
     fn faults(&self) -> u64 {
         self.count

@@ -3,7 +3,7 @@ use Rattle.std.specs.Prelude.{All}
 use Rattle.outside.specs.Spans.{pieces}
 use Rattle.files_mem.specs.Spanned.{Spanned, piece_of, held_by}
 use Rattle.files_mem.proofs.Spanning.{blank_pieces, blank_hides, blank_zero}
-use Rattle.files_mem.proofs.blind.BlindWide.lease_spans.Goals as goal
+use Rattle.files_mem.proofs.blind.UntoldMemGroundWide.lease_spans.Goals as goal
 
 pub returns-in-Ok-clause-pieces : goal.returns-in-Ok-clause-pieces
 returns-in-Ok-clause-pieces c = ap (map piece_of) c.in-Ok.ensures.spans ∙ blank_pieces _ _ (pieces c.args.path.now c.args.cuts.now)
