@@ -1,4 +1,3 @@
 pub mod Nodes
-pub mod Steady
 pub mod Made
 pub mod Laws

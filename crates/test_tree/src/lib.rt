@@ -8,7 +8,7 @@
 //!
 //! The tree is an [`outside::Ground`] whose calls never fail, and neither do those of its readers, each a [`TestReader`]. A
 //! contract sees both as the nodes by their paths, and their counts of faults are 0. So a tool that runs over them cannot
-//! blame a fault.
+//! blame a fault. The ground and its parts are [`Steady`] files.
 //!
 //! ```text
 //! let mut files = TestGround::make(alloc, 10)?;
@@ -20,14 +20,16 @@
 //! say, and none fails. Laws say that the nodes are a tree ([`test_files_are_tree`]), and that node 0 is at `/n0`
 //! ([`first_node_is_there`]). No directory has a child whose path is too long ([`no_child_is_far`]), and the number of nodes is
 //! right ([`nodes_are_counted`]). Not claimed: the time that it takes. The definitions are in `specs/`: `Nodes` (the rule),
-//! `Laws`, `Steady` (files that never fail), `Made` (a tree while it is made).
+//! `Laws`, and `Made` (a tree while it is made).
 #![tactic(auto)]
 
 mod grounds;
 mod laws;
 mod making;
 mod readers;
+mod steady;
 
 pub use grounds::{TestGround, TestPart};
 pub use laws::{first_node_is_there, no_child_is_far, nodes_are_counted, test_files_are_tree};
 pub use readers::TestReader;
+pub use steady::{Nodes, Steady};

@@ -4,7 +4,7 @@ ghost use Rattle.std.specs.Option.{option_map};
 ghost use Rattle.std.specs.FinMap as map;
 ghost use Rattle.outside.specs.Count.{RoseBy};
 ghost use Rattle.outside.specs.Tree.{Lists, AreNames, IsTree, Reads, is_dir, is_file, link_at, stat_of};
-ghost use Rattle.test_tree.specs.Steady.{IsSteady};
+ghost use Rattle.files_mem.specs.Steady.{IsSteady};
 
 use files_mem::MemReader;
 use outside::{Failed, Kind, LinkError, LinkText, ListError, Listing, ReadError, Stat, Tree};
@@ -22,7 +22,7 @@ pub struct TestReader {
 impl Model for TestReader {
     ghost use Rattle.outside.specs.Tree.{Files};
     ghost use Rattle.outside.specs.Codes.{files_code};
-    ghost use Rattle.test_tree.specs.Steady.{IsSteady};
+    ghost use Rattle.files_mem.specs.Steady.{IsSteady};
 
     ghost Value = { Files };
 
