@@ -1,9 +1,8 @@
 //! Runs over files in memory, for the tests of runs, for measurements and for worked rows.
 //!
-//! [`WholeFiles`] are files in memory of which no part is lent, as a run asks. They have the calls of [`files_mem::MemGround`]
-//! that make nodes, plan faults and look at files.
-//!
-//! [`WholeBlind`] are such files that tell no tree, and whose looks may lie, swell files and meet, as [`files_mem::Blind`] says.
+//! [`Whole`] is files of which no part is lent, as a run asks. [`WholeFiles`] have the calls of [`files_mem::MemGround`] that make
+//! nodes, plan faults and look at files. [`WholeBlind`] tell no tree, and their looks may lie, swell files and meet, as
+//! [`files_mem::Blind`] says.
 //!
 //! [`transcript`] plays a script of worked rows: it does each line over such files, and gives the script with the answers of the
 //! lines. It answers a line that it does not understand by `? ...`, and does the rest. `script_lines` describes the marks of
@@ -27,12 +26,10 @@
 //! Proved: none of the files is ever lent, whatever calls are made on them. `mfu_top`'s contract gives the result of a run.
 #![tactic(auto)]
 
-mod blind;
 mod making;
 mod scripts;
 mod whole;
 mod worlds;
 
-pub use blind::WholeBlind;
 pub use scripts::transcript;
-pub use whole::WholeFiles;
+pub use whole::{Whole, WholeBlind, WholeFiles};

@@ -1,7 +1,6 @@
 //! The files, sinks and time of a script.
-use crate::blind::WholeBlind;
 use crate::making::{Making, call_of};
-use crate::whole::WholeFiles;
+use crate::whole::{WholeBlind, WholeFiles};
 use outside::MemSink;
 use path_text::Path;
 use script_lines::{Trouble, number_of, put_bytes};
