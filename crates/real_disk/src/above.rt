@@ -3,7 +3,7 @@ use crate::known::{Directory, Found, Identity, Known};
 use crate::ways::{is_within, name_of};
 use path_text::MAX_PATH;
 use std::alloc::Global;
-use std::fs::{File, Files, OpenFile};
+use std::fs::{File, Files};
 use std::os::fd::AsRawFd;
 use std::{fs, io};
 
@@ -81,30 +81,80 @@ pub fn is_in_place<R: Files>(
 where
     R::File: AsRawFd,
 {
-    let mut up = String::from_str(alloc, place.front)?;
+    let mut climb = Climb::begin(alloc, place.front)?;
     let mut rest = place.path;
-    let mut _open = None;
     for _ in 0..MAX_PATH {
-        if is_within(seen, rest) {
-            return Ok(true);
-        }
-        let Some((above, _)) = rest.rsplit_once('/') else {
+        let Some(above) = unseen_above(rest, seen) else {
             return Ok(true);
         };
-        up.push_str("../")?;
-        match known.find(known.hash(above)) {
-            Found::Is(due) if Identity::of(&fs::metadata(system, up.as_str())?) == due => {}
-            Found::Nothing => return Ok(true),
-            _ => return Ok(false),
+        if let Some(is_in_place) = climb.step(system, known, above)? {
+            return Ok(is_in_place);
         }
-        if up.len() > FAR_UP && has_names {
-            let open = File::open(system, up.as_str())?;
-            up = name_of(alloc, &open)?;
-            _open = Some(open);
+        if has_names {
+            climb.shorten(alloc, system)?;
         }
         rest = above;
     }
     Ok(false)
+}
+
+// The path of the directory above one, unless that one was seen in its place or is `/`.
+fn unseen_above<'a>(path: &'a str, seen: &str) -> Option<&'a str> {
+    if is_within(seen, path) {
+        return None;
+    }
+    match path.rsplit_once('/') {
+        Some((above, _)) => Some(above),
+        None => None,
+    }
+}
+
+// The way up from a directory.
+#[derive(Drop)]
+struct Climb<F: Drop> {
+    // A name for the directory that is reached. It ends in a slash.
+    up: String,
+    // Keeps the directory open with which the name begins.
+    open: Option<F>,
+}
+
+impl<F: Drop> Climb<F> {
+    fn begin(alloc: Global, front: &str) -> io::Result<Climb<F>> {
+        Ok(Climb {
+            up: String::from_str(alloc, front)?,
+            open: None,
+        })
+    }
+
+    // Goes to the directory above, which has this path. It gives the answer of the climb, or none if the climb goes on.
+    fn step<R: Files>(
+        &mut self,
+        system: &R,
+        known: &Known,
+        path: &str,
+    ) -> io::Result<Option<bool>> {
+        self.up.push_str("../")?;
+        match known.find(known.hash(path)) {
+            Found::Is(due) => {
+                let is_due = Identity::at(system, self.up.as_str())? == due;
+                Ok(if is_due { None } else { Some(false) })
+            }
+            Found::Nothing => Ok(Some(true)),
+            Found::Lost => Ok(Some(false)),
+        }
+    }
+}
+
+impl<F: AsRawFd + Drop> Climb<F> {
+    // Opens the directory that is reached if its name is long. Then the name begins with that directory.
+    fn shorten<R: Files<File = F>>(&mut self, alloc: Global, system: &R) -> io::Result<()> {
+        if self.up.len() > FAR_UP {
+            let open = File::open(system, self.up.as_str())?;
+            self.up = name_of(alloc, &open)?;
+            self.open = Some(open);
+        }
+        Ok(())
+    }
 }
 
 /// Whether the system has names for open directories. If it has, the name of `/` leads to `/`.
@@ -113,6 +163,7 @@ where
     R::File: AsRawFd,
 {
     let top = File::open(system, "/")?;
-    let named = fs::metadata(system, name_of(alloc, &top)?.as_str())?;
-    Ok(Identity::of(&named) == Identity::of(&top.metadata()?))
+    let name = name_of(alloc, &top)?;
+    let named = Identity::at(system, name.as_str())?;
+    Ok(named == Identity::of_open(&top)?)
 }

@@ -302,20 +302,40 @@ fn listing_of<R: Files + Watch>(
         Err(e) => return Err(unlisted(system, path, &e)),
     };
     let mut found = FoundNames::make(alloc);
+    add_all(system, path, &mut folder, &mut found, buffer)?;
+    match found.listing(path) {
+        Ok(listing) => Ok(listing),
+        Err(_) => Err(ListError::OutOfMemory),
+    }
+}
+
+// Adds all names in an open directory, read through the buffer.
+fn add_all<R: Watch, D: Read>(
+    system: &R,
+    path: &Path,
+    folder: &mut D,
+    found: &mut FoundNames,
+    buffer: &mut [u8],
+) -> Result<(), ListError> {
     for _ in 0..u64::MAX {
-        let n = match folder.read(buffer) {
-            Ok(n) => n,
+        match folder.read(buffer) {
+            Ok(0) => {
+                system.did(Call::List, 1);
+                return Ok(());
+            }
+            Ok(n) => add_piece(found, &buffer[..n])?,
             Err(e) => return Err(unlisted(system, path, &e)),
-        };
-        if n == 0 {
-            system.did(Call::List, 1);
-            return found.listing(path).map_err(|_| ListError::OutOfMemory);
-        }
-        if found.add_piece(&buffer[..n]).is_err() {
-            return Err(ListError::OutOfMemory);
         }
     }
     Err(ListError::Failed)
+}
+
+// Adds the names in a piece that the system wrote.
+fn add_piece(found: &mut FoundNames, piece: &[u8]) -> Result<(), ListError> {
+    match found.add_piece(piece) {
+        Ok(()) => Ok(()),
+        Err(_) => Err(ListError::OutOfMemory),
+    }
 }
 
 // The names of a directory were not read.

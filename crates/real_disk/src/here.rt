@@ -4,9 +4,9 @@ use crate::known::Identity;
 use crate::ways::{is_within, name_of, with_slash};
 use std::alloc::Global;
 use std::fs::{File, Files, OpenFile};
+use std::io;
 use std::io::ErrorKind;
 use std::os::fd::AsRawFd;
-use std::{fs, io};
 
 /// A directory in which something was done.
 #[derive(Drop)]
@@ -69,8 +69,8 @@ impl<F: Drop> Here<F> {
         let Some(due) = self.due else {
             return true;
         };
-        match fs::metadata(system, self.front()) {
-            Ok(data) => Identity::of(&data) == due,
+        match Identity::at(system, self.front()) {
+            Ok(identity) => identity == due,
             Err(_) => false,
         }
     }
@@ -79,7 +79,7 @@ impl<F: Drop> Here<F> {
 impl<F: OpenFile + AsRawFd + Drop> Here<F> {
     /// The directory at a path, which is open. None if it is another one than is due.
     pub fn held(alloc: Global, path: &str, due: Identity, open: F) -> io::Result<Option<Here<F>>> {
-        if Identity::of(&open.metadata()?) != due {
+        if Identity::of_open(&open)? != due {
             return Ok(None);
         }
         Ok(Some(Here {
@@ -122,7 +122,7 @@ impl<F: OpenFile + AsRawFd + Drop> Here<F> {
             return Here::held(alloc, path, due, open)?.ok_or(another());
         }
         let here = Here::by_path(alloc, path, Some(due), false)?;
-        if Identity::of(&fs::metadata(system, here.front())?) == due {
+        if Identity::at(system, here.front())? == due {
             Ok(here)
         } else {
             Err(another())

@@ -3,11 +3,11 @@ use path_text::OutOfMemory;
 use std::alloc::Global;
 use std::collections::HashMap;
 use std::collections::hash_map::DefaultHasher;
-use std::fs::Metadata;
+use std::fs::{Files, Metadata, OpenFile};
 use std::hash::Hasher;
 use std::os::unix::fs::MetadataExt;
 use std::sync::Arc;
-use std::{io, mem};
+use std::{fs, io, mem};
 
 // The bits of a mode by which group and others write.
 const OTHERS_WRITE: u32 = 0o022;
@@ -28,6 +28,22 @@ impl Identity {
         Identity {
             device: data.dev(),
             inode: data.ino(),
+        }
+    }
+
+    /// The identity of the entry to which a path leads.
+    pub fn at<R: Files>(system: &R, path: &str) -> io::Result<Identity> {
+        match fs::metadata(system, path) {
+            Ok(data) => Ok(Identity::of(&data)),
+            Err(e) => Err(e),
+        }
+    }
+
+    /// The identity of an open file or directory.
+    pub fn of_open<F: OpenFile>(open: &F) -> io::Result<Identity> {
+        match open.metadata() {
+            Ok(data) => Ok(Identity::of(&data)),
+            Err(e) => Err(e),
         }
     }
 

@@ -122,6 +122,13 @@ impl<C: Clock, P: Print> Live<C, P> {
         let mut line = String::from_str(self.alloc, "\rmfu: looked at ")?;
         put_number(&mut line, self.sum(Call::Stat))?;
         line.push_str(" paths")?;
+        self.put_work(&mut line)?;
+        self.put_blanks(&mut line)?;
+        self.screen.write_all(line.as_bytes())
+    }
+
+    // Puts the numbers beside that of the paths.
+    fn put_work(&self, line: &mut String) -> Result<(), AllocError> {
         let copied = self.sum(Call::MakeFile);
         let removed = self
             .sum(Call::RemoveFile)
@@ -130,34 +137,35 @@ impl<C: Clock, P: Print> Live<C, P> {
         let is_changing = self.shown.copied && (copied != 0 || removed != 0);
         let is_comparing = self.shown.compared && !is_changing;
         if is_comparing {
-            line.push_str(", compared ")?;
-            put_number(&mut line, self.sum(Call::Open) / 2)?;
-            line.push_str(" files")?;
-            put_megabytes(&mut line, self.sum(Call::Read))?;
+            put_files(
+                line,
+                ", compared ",
+                self.sum(Call::Open) / 2,
+                self.sum(Call::Read),
+            )?;
         }
         if self.shown.read {
-            line.push_str(", read ")?;
-            put_number(&mut line, self.sum(Call::Read) >> 20)?;
+            put_part(line, ", read ", self.sum(Call::Read) >> 20)?;
             line.push_str(" MB")?;
         }
         if self.shown.copied && !is_comparing {
-            line.push_str(", copied ")?;
-            put_number(&mut line, copied)?;
-            line.push_str(" files")?;
-            put_megabytes(&mut line, self.sum(Call::Write))?;
+            put_files(line, ", copied ", copied, self.sum(Call::Write))?;
         }
         if self.shown.removed && !is_comparing {
-            line.push_str(", removed ")?;
-            put_number(&mut line, removed)?;
+            put_part(line, ", removed ", removed)?;
         }
-        // Blanks overwrite the rest of a longer line before.
+        Ok(())
+    }
+
+    // Puts blanks over the rest of a longer line before.
+    fn put_blanks(&self, line: &mut String) -> Result<(), AllocError> {
         let columns = (line.len() as u64).saturating_sub(1);
         let before = self.columns.load(Ordering::SeqCst);
         for _ in 0..before.saturating_sub(columns) {
             line.push(' ')?;
         }
         self.columns.store(columns.max(before), Ordering::SeqCst);
-        self.screen.write_all(line.as_bytes())
+        Ok(())
     }
 
     // The count of a call in all rows together.
@@ -216,6 +224,19 @@ fn put_number(line: &mut String, number: u64) -> Result<(), AllocError> {
         }
     }
     Ok(())
+}
+
+// Puts a number after a word.
+fn put_part(line: &mut String, word: &str, number: u64) -> Result<(), AllocError> {
+    line.push_str(word)?;
+    put_number(line, number)
+}
+
+// Puts a number of files after a word, and the number of their megabytes.
+fn put_files(line: &mut String, word: &str, files: u64, bytes: u64) -> Result<(), AllocError> {
+    put_part(line, word, files)?;
+    line.push_str(" files")?;
+    put_megabytes(line, bytes)
 }
 
 fn put_megabytes(line: &mut String, bytes: u64) -> Result<(), AllocError> {

@@ -121,13 +121,18 @@ impl<F: Drop> Parents<F> {
     /// Takes the knowledge of a reader or a part.
     pub fn take(&mut self, other: Parents<F>) {
         let Parents { known, working, .. } = other;
-        self.here = None;
-        self.other = None;
+        self.close();
         self.seen.clear();
         self.private.clear();
         self.safe.clear();
         self.known.take(known);
         self.working.take(working);
+    }
+
+    // Closes the two directories that were used last.
+    fn close(&mut self) {
+        self.here = None;
+        self.other = None;
     }
 
     /// Forgets the working directory if it may be at a path or below it, before a directory is made or removed there.
@@ -178,13 +183,7 @@ impl<F: Drop> Parents<F> {
         hash: PathHash,
         directory: Directory,
     ) {
-        let Some(user) = self.user else {
-            return;
-        };
-        if self.known.is_exposed(hash) {
-            return;
-        }
-        if directory.is_own(user) && self.is_under_own(system, path, user) {
+        if !self.is_newly_exposed(system, path, hash, directory) {
             return;
         }
         self.known.expose(hash);
@@ -193,6 +192,23 @@ impl<F: Drop> Parents<F> {
         self.leave_below(path);
         // If there was no memory for that, each directory counts as exposed.
         self.working.forget("");
+    }
+
+    // Whether the directory at a path is exposed, and is not known to be so.
+    fn is_newly_exposed<R: Files>(
+        &mut self,
+        system: &R,
+        path: &str,
+        hash: PathHash,
+        directory: Directory,
+    ) -> bool {
+        let Some(user) = self.user else {
+            return false;
+        };
+        if self.known.is_exposed(hash) {
+            return false;
+        }
+        !(directory.is_own(user) && self.is_under_own(system, path, user))
     }
 
     // Whether no other user can replace the directories above a path. If the system was asked, the nearest one is kept, so that it is not asked
@@ -283,8 +299,7 @@ impl<F: Drop> Parents<F> {
         }
         let above = around(path).0;
         if !is_at(&self.here, above) && !is_at(&self.other, above) {
-            self.here = None;
-            self.other = None;
+            self.close();
         }
     }
 
@@ -333,8 +348,8 @@ impl<F: Drop> Parents<F> {
         if self.put_way(plain(path), "/..").is_err() {
             return false;
         }
-        match fs::metadata(system, self.way()) {
-            Ok(data) => Identity::of(&data) == due,
+        match Identity::at(system, self.way()) {
+            Ok(identity) => identity == due,
             Err(_) => true,
         }
     }
@@ -357,30 +372,49 @@ impl<F: OpenFile + AsRawFd + Drop> Parents<F> {
         asks: u64,
     ) -> io::Result<()> {
         let (above, name) = around(path);
-        if !is_at(&self.here, above) {
-            mem::swap(&mut self.here, &mut self.other);
-        }
-        if !is_at(&self.here, above) {
+        if !self.is_last(above) {
             self.here = None;
-            match self.entered(system, above) {
-                Ok(here) => self.here = Some(here),
-                Err(e) if is_absent(e.kind()) => {
-                    return Err(io::Error::from(ErrorKind::NotFound));
-                }
-                Err(e) => return Err(e),
-            }
+            self.here = Some(self.entered_or_none(system, above)?);
         }
         if !self.stands(system) {
             return Err(another());
         }
+        if self.is_alone(system, above, asks) {
+            self.put_way("", name)
+        } else {
+            self.put_way_in(name)
+        }
+    }
+
+    // Whether the directory at a path is one of the two that were used last. Then it is the last one from then on.
+    fn is_last(&mut self, path: &str) -> bool {
+        if is_at(&self.here, path) {
+            return true;
+        }
+        mem::swap(&mut self.here, &mut self.other);
+        is_at(&self.here, path)
+    }
+
+    // Puts the name for an entry of the directory that was used last.
+    fn put_way_in(&mut self, name: &str) -> io::Result<()> {
         self.way.clear();
-        if !self.is_alone(system, above, asks) {
-            if let Some(here) = &self.here {
-                self.way.push_str(here.front())?;
-            }
+        if let Some(here) = &self.here {
+            self.way.push_str(here.front())?;
         }
         self.way.push_str(name)?;
         Ok(())
+    }
+
+    // The directory at a path. If it does not exist, nothing is at any path in it.
+    fn entered_or_none<R: Files<File = F>>(
+        &mut self,
+        system: &R,
+        path: &str,
+    ) -> io::Result<Here<F>> {
+        match self.entered(system, path) {
+            Err(e) if is_absent(e.kind()) => Err(io::Error::from(ErrorKind::NotFound)),
+            told => told,
+        }
     }
 
     fn entered<R: Files<File = F>>(&mut self, system: &R, path: &str) -> io::Result<Here<F>> {
@@ -446,15 +480,18 @@ impl<F: OpenFile + AsRawFd + Drop> Parents<F> {
                 Err(e) if is_absent(e.kind()) && is_link(system, path) => Err(another()),
                 told => told,
             },
-            Found::Nothing => {
-                let dir = system.open_dir(path.text())?;
-                if self.is_child(system, path) {
-                    Ok(dir)
-                } else {
-                    Err(another())
-                }
-            }
+            Found::Nothing => self.unknown_dir(system, path),
             Found::Lost => Err(another()),
+        }
+    }
+
+    // Opens a directory at which the run did not look. It must be the child of the one above it.
+    fn unknown_dir<R: Files<File = F>>(&mut self, system: &R, path: &Path) -> io::Result<R::Dir> {
+        let dir = system.open_dir(path.text())?;
+        if self.is_child(system, path) {
+            Ok(dir)
+        } else {
+            Err(another())
         }
     }
 
@@ -468,32 +505,55 @@ impl<F: OpenFile + AsRawFd + Drop> Parents<F> {
     ) -> io::Result<R::Dir> {
         let text = plain(path);
         let here = Here::to_list(self.alloc, system, text, due, self.has_names)?;
-        // The directory above it is compared again, also if this one was seen in its place.
-        if is_within(self.seen.as_str(), text) {
-            self.seen.clear();
-        }
-        let may_enter = match self.is_in_place(system, text, &here) {
-            Ok(true) => true,
-            Ok(false) => return Err(another()),
-            // Its names may be read, but the system does not tell the directory above it.
-            Err(e) if e.kind() == ErrorKind::PermissionDenied => false,
-            Err(e) => return Err(e),
-        };
-        let dir = if here.is_open() {
-            system.open_dir(here.front())?
-        } else {
-            system.open_dir(path.text())?
-        };
-        if !here.stands(system) {
-            return Err(another());
-        }
+        let may_enter = self.may_enter(system, text, &here)?;
+        let dir = dir_of(system, path, &here)?;
         if may_enter {
             self.see(text)?;
-            if !is_at(&self.here, text) {
-                self.other = self.here.take();
-            }
-            self.here = Some(here);
+            self.stay(text, here);
         }
         Ok(dir)
+    }
+
+    // Whether the directory at a path may be entered. It must be in its place, as far as the system tells.
+    fn may_enter<R: Files<File = F>>(
+        &mut self,
+        system: &R,
+        path: &str,
+        here: &Here<F>,
+    ) -> io::Result<bool> {
+        // The directory above it is compared again, also if this one was seen in its place.
+        if is_within(self.seen.as_str(), path) {
+            self.seen.clear();
+        }
+        match self.is_in_place(system, path, here) {
+            Ok(true) => Ok(true),
+            Ok(false) => Err(another()),
+            // Its names may be read, but the system does not tell the directory above it.
+            Err(e) if e.kind() == ErrorKind::PermissionDenied => Ok(false),
+            Err(e) => Err(e),
+        }
+    }
+
+    // Makes the directory at a path the one that was used last.
+    fn stay(&mut self, path: &str, here: Here<F>) {
+        if !is_at(&self.here, path) {
+            self.other = self.here.take();
+        }
+        self.here = Some(here);
+    }
+}
+
+// Opens the directory at a path to read its names, by its front if that one is open. It must still be the known one.
+fn dir_of<R: Files>(system: &R, path: &Path, here: &Here<R::File>) -> io::Result<R::Dir> {
+    let name = if here.is_open() {
+        here.front()
+    } else {
+        path.text()
+    };
+    let dir = system.open_dir(name)?;
+    if here.stands(system) {
+        Ok(dir)
+    } else {
+        Err(another())
     }
 }

@@ -218,20 +218,25 @@ where
         self.parents.go(&self.system, path, 2)?;
         self.parents.forget(path);
         let told = fs::create_dir(&self.system, self.parents.way());
-        let told = self.parents.told(&self.system, told);
-        match told {
-            Ok(()) => {
-                if !self.keep(path)? {
-                    return Err(another());
-                }
-            }
+        match self.parents.told(&self.system, told) {
+            Ok(()) => self.keep_made(path),
             Err(e) if e.kind() == ErrorKind::AlreadyExists => {
                 let _ = self.keep(path)?;
-                return Err(e);
+                Err(e)
             }
-            Err(e) => return Err(e),
+            Err(e) => Err(e),
         }
-        Ok(())
+    }
+
+    // Keeps the directory that was made at the current path. If another entry has taken its place, that is a fault.
+    fn keep_made(&mut self, path: &Path) -> io::Result<()>
+        ensures { self.new ≡ self.old }
+    {
+        if self.keep(path)? {
+            Ok(())
+        } else {
+            Err(another())
+        }
     }
 
     // Keeps which directory is at the current path, and answers whether there is one. If there is none, nothing is done below the path.
