@@ -1,5 +1,5 @@
 //! The errors of a comparison, and of the text of an expression.
-use path_text::{JoinError, OutOfMemory};
+use path_text::{JoinError, NoMemory, OutOfMemory};
 use std::alloc::{AllocError, AllocFailed};
 use thiserror::Error;
 
@@ -10,6 +10,8 @@ pub enum CmpError {
     #[error("out of memory")]
     OutOfMemory,
 }
+
+impl NoMemory for CmpError {}
 
 impl From<OutOfMemory> for CmpError {
     fn from(_: OutOfMemory) -> Self {
@@ -53,24 +55,13 @@ pub enum ExprError {
     OutOfMemory,
 }
 
-impl From<AllocError> for ExprError {
+impl<E: NoMemory> From<E> for ExprError {
     ghost use Rattle.std.specs.Prelude.{◌≡◌};
     ghost use Rattle.tree_cmp.specs.declared.errors.ExprError.TheVariants.{OutOfMemory};
 
     ghost from_gives = { λ _ e. e ≡ OutOfMemory };
 
-    fn from(_: AllocError) -> Self {
-        ExprError::OutOfMemory
-    }
-}
-
-impl<T: Drop> From<AllocFailed<T>> for ExprError {
-    ghost use Rattle.std.specs.Prelude.{◌≡◌};
-    ghost use Rattle.tree_cmp.specs.declared.errors.ExprError.TheVariants.{OutOfMemory};
-
-    ghost from_gives = { λ _ e. e ≡ OutOfMemory };
-
-    fn from(_: AllocFailed<T>) -> Self {
+    fn from(_: E) -> Self {
         ExprError::OutOfMemory
     }
 }
