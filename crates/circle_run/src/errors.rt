@@ -1,6 +1,5 @@
 //! The error of a run.
-use path_text::OutOfMemory;
-use std::alloc::{AllocError, AllocFailed};
+use path_text::NoMemory;
 use thiserror::Error;
 
 /// Why a run has no result.
@@ -11,20 +10,8 @@ pub enum CircleError {
     OutOfMemory,
 }
 
-impl From<OutOfMemory> for CircleError {
-    fn from(_: OutOfMemory) -> Self {
-        CircleError::OutOfMemory
-    }
-}
-
-impl From<AllocError> for CircleError {
-    fn from(_: AllocError) -> Self {
-        CircleError::OutOfMemory
-    }
-}
-
-impl<T: Drop> From<AllocFailed<T>> for CircleError {
-    fn from(_: AllocFailed<T>) -> Self {
+impl<E: NoMemory> From<E> for CircleError {
+    fn from(_: E) -> Self {
         CircleError::OutOfMemory
     }
 }

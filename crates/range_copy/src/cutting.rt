@@ -3,8 +3,8 @@ ghost use Rattle.std.specs.Prelude.{◌≡◌, ◌<◌, ◌≤◌, ◌*◌, ◌+
 ghost use Rattle.outside.specs.Spans.{are_cuts};
 ghost use Rattle.range_copy.specs.Ranges.{end_of, range_cuts, step_of};
 
-use path_text::OutOfMemory;
-use std::alloc::{AllocError, AllocFailed, Global};
+use path_text::NoMemory;
+use std::alloc::Global;
 use thiserror::Error;
 
 /// Why there are no ranges, or nothing is copied.
@@ -15,35 +15,13 @@ pub enum RangeError {
     OutOfMemory,
 }
 
-impl<T: Drop> From<AllocFailed<T>> for RangeError {
+impl<E: NoMemory> From<E> for RangeError {
     ghost use Rattle.std.specs.Prelude.{◌≡◌};
     ghost use Rattle.range_copy.specs.declared.cutting.RangeError.TheVariants as range;
 
     ghost from_gives = { λ _ e. e ≡ range.OutOfMemory };
 
-    fn from(_: AllocFailed<T>) -> Self {
-        RangeError::OutOfMemory
-    }
-}
-
-impl From<AllocError> for RangeError {
-    ghost use Rattle.std.specs.Prelude.{◌≡◌};
-    ghost use Rattle.range_copy.specs.declared.cutting.RangeError.TheVariants as range;
-
-    ghost from_gives = { λ _ e. e ≡ range.OutOfMemory };
-
-    fn from(_: AllocError) -> Self {
-        RangeError::OutOfMemory
-    }
-}
-
-impl From<OutOfMemory> for RangeError {
-    ghost use Rattle.std.specs.Prelude.{◌≡◌};
-    ghost use Rattle.range_copy.specs.declared.cutting.RangeError.TheVariants as range;
-
-    ghost from_gives = { λ _ e. e ≡ range.OutOfMemory };
-
-    fn from(_: OutOfMemory) -> Self {
+    fn from(_: E) -> Self {
         RangeError::OutOfMemory
     }
 }

@@ -1,5 +1,5 @@
 //! Why words are refused.
-use std::alloc::{AllocError, AllocFailed};
+use path_text::NoMemory;
 use thiserror::Error;
 
 /// Why a word is refused.
@@ -87,24 +87,13 @@ impl WordsError {
     }
 }
 
-impl From<AllocError> for WordsError {
+impl<E: NoMemory> From<E> for WordsError {
     ghost use Rattle.std.specs.Prelude.{◌≡◌};
     ghost use Rattle.tool_words.specs.declared.errors.WordsError.TheVariants.{OutOfMemory};
 
     ghost from_gives = { λ _ e. e ≡ OutOfMemory };
 
-    fn from(_: AllocError) -> Self {
-        WordsError::OutOfMemory
-    }
-}
-
-impl<T: Drop> From<AllocFailed<T>> for WordsError {
-    ghost use Rattle.std.specs.Prelude.{◌≡◌};
-    ghost use Rattle.tool_words.specs.declared.errors.WordsError.TheVariants.{OutOfMemory};
-
-    ghost from_gives = { λ _ e. e ≡ OutOfMemory };
-
-    fn from(_: AllocFailed<T>) -> Self {
+    fn from(_: E) -> Self {
         WordsError::OutOfMemory
     }
 }

@@ -1,6 +1,5 @@
 //! Sources with their targets, and why there are none.
-use path_text::{OutOfMemory, Path};
-use std::alloc::AllocError;
+use path_text::{NoMemory, Path};
 use thiserror::Error;
 
 /// A source, and the path to which it is copied.
@@ -29,24 +28,13 @@ pub enum PlaceError {
     OutOfMemory,
 }
 
-impl From<OutOfMemory> for PlaceError {
+impl<E: NoMemory> From<E> for PlaceError {
     ghost use Rattle.std.specs.Prelude.{◌≡◌};
     ghost use Rattle.tree_copy.specs.declared.pairs.PlaceError.TheVariants as place;
 
     ghost from_gives = { λ _ e. e ≡ place.OutOfMemory };
 
-    fn from(_: OutOfMemory) -> Self {
-        PlaceError::OutOfMemory
-    }
-}
-
-impl From<AllocError> for PlaceError {
-    ghost use Rattle.std.specs.Prelude.{◌≡◌};
-    ghost use Rattle.tree_copy.specs.declared.pairs.PlaceError.TheVariants as place;
-
-    ghost from_gives = { λ _ e. e ≡ place.OutOfMemory };
-
-    fn from(_: AllocError) -> Self {
+    fn from(_: E) -> Self {
         PlaceError::OutOfMemory
     }
 }

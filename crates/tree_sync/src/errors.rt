@@ -1,8 +1,6 @@
 //! Why a sync ends early.
-use path_text::OutOfMemory;
-use std::alloc::{AllocError, AllocFailed};
+use path_text::NoMemory;
 use thiserror::Error;
-use tree_cmp::CmpError;
 
 /// Why a sync ends early.
 #[derive(Clone, Copy, Debug, Drop, PartialEq, Eq, Error)]
@@ -12,26 +10,8 @@ pub enum SyncError {
     OutOfMemory,
 }
 
-impl From<OutOfMemory> for SyncError {
-    fn from(_: OutOfMemory) -> Self {
-        SyncError::OutOfMemory
-    }
-}
-
-impl From<AllocError> for SyncError {
-    fn from(_: AllocError) -> Self {
-        SyncError::OutOfMemory
-    }
-}
-
-impl From<CmpError> for SyncError {
-    fn from(_: CmpError) -> Self {
-        SyncError::OutOfMemory
-    }
-}
-
-impl<T: Drop> From<AllocFailed<T>> for SyncError {
-    fn from(_: AllocFailed<T>) -> Self {
+impl<E: NoMemory> From<E> for SyncError {
+    fn from(_: E) -> Self {
         SyncError::OutOfMemory
     }
 }
