@@ -26,18 +26,32 @@ pub fn line_of(
 // our own.
 fn put_name(line: &mut Vec<u8>, cause: &io::Error) -> Result<(), OutOfMemory> {
     let Some(code) = cause.raw_os_error() else {
-        line.extend_from_slice(own_name(cause.kind()).as_bytes())?;
-        return Ok(());
+        return put_word(line, own_name(cause.kind()));
     };
+    match name_of(code) {
+        Some(name) => put_word(line, name),
+        None => put_number(line, code),
+    }
+}
+
+fn put_word(line: &mut Vec<u8>, word: &str) -> Result<(), OutOfMemory> {
+    line.extend_from_slice(word.as_bytes())?;
+    Ok(())
+}
+
+fn put_number(line: &mut Vec<u8>, code: i32) -> Result<(), OutOfMemory> {
+    let name = format!(in *line.allocator(); "errno{code}")?;
+    put_word(line, name.as_str())
+}
+
+// The name of one of the errors below.
+fn name_of(code: i32) -> Option<&'static str> {
     for (number, name) in NAMES {
         if number == code {
-            line.extend_from_slice(name.as_bytes())?;
-            return Ok(());
+            return Some(name);
         }
     }
-    let name = format!(in *line.allocator(); "errno{code}")?;
-    line.extend_from_slice(name.as_bytes())?;
-    Ok(())
+    None
 }
 
 // The words for the errors that this crate itself makes.

@@ -132,6 +132,15 @@ where
             let told = file.read_at(into, at);
             return was_read(&self.system, path, told);
         }
+        self.read_opened(path, at, into)
+    }
+
+    // Opens the file, and reads through its handle. It stays open.
+    fn read_opened(&mut self, path: &Path, at: u64, into: &mut [u8]) -> Result<usize, ReadError>
+        ensures same { self.new ≡ self.old }
+        ensures most { IfOk result (λ n. n ≤ length into.new) }
+        ensures untouched { IsErrOf result ReadError.NotFile → into.new ≡ into.old }
+    {
         let told = self.opened(path);
         let file = opened(&self.system, path, told)?;
         let told = file.read_at(into, at);
