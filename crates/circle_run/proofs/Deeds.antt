@@ -16,24 +16,12 @@ use Rattle.ring_core.specs.declared.events.Event.TheVariants.{Handle, Ask, Give,
 use Rattle.ring_core.specs.World.{fresh, rank_of, is_black, darker, is_over}
 use Rattle.ring_core.specs.Step.{is_rest, asks, holds, is_refused_by, is_at, is_token_black, differs, after_giving, refusal, ranks_after, token_after}
 use Rattle.ring_core.specs.Picture.{put}
+use Rattle.ring_core.proofs.PictureLemmas.{put_here, put_elsewhere, put_all}
 use Rattle.post_board.specs.Shown.{Strings}
 use Rattle.post_board.specs.Told.{Mail, vacant, asked, full, empty, Place, Told, no_place, place, put_place}
 use Rattle.post_board.specs.Deeds.{Deed, ask, give, refuse, take, take_none, pass, restart, conclude, see_over, Legal, told_after, event_of, blackened}
 use Rattle.circle_run.specs.Worlds.{desk_of, state_of}
 use Rattle.circle_run.specs.Moves.{Queues}
-
--- a function of ranks with one value put in another's place
-module _ {A : Type 0} where
-  pub put_here : (f : ℕ → A) (i : ℕ) (x : A) → put f i x i ≡ x
-  put_here f i x = ap (λ (b : Bool). cond b x (f i)) (eq-eqb i i refl)
-
-  pub put_elsewhere : (f : ℕ → A) (i : ℕ) (x : A) (k : ℕ) → k ≢ i → put f i x k ≡ f k
-  put_elsewhere f i x k ne = ap (λ (b : Bool). cond b x (f k)) (ne_eqb k i ne)
-
-  pub put_all : (P : ℕ → A → Type 0) (f : ℕ → A) (i : ℕ) (x : A) (k : ℕ) → P i x → (k ≢ i → P k (f k)) → P k (put f i x k)
-  put_all P f i x k here elsewhere = dite (ℕ_discrete k i)
-      (λ e. subst (λ (j : ℕ). P j (put f i x j)) (sym e) (subst (P i) (sym (put_here f i x)) here))
-      (λ ne. subst (P k) (sym (put_elsewhere f i x k ne)) (elsewhere ne))
 
 -- legal events, by what they ask for
 ask_legal : (ranks : List RankState) (token : Token) (rank victim : ℕ) → rank < length ranks → victim < length ranks → rank ≢ victim

@@ -7,6 +7,7 @@ pub mod Bounding
 pub mod Winding
 pub mod Asked
 pub mod Hearing
+pub mod Moving
 pub mod Choosing
 pub mod Requests
 pub mod Answering

@@ -25,7 +25,9 @@ use Rattle.circle_run.specs.Worlds.{state_of, world_of, MovesAreLegalRun}
 use Rattle.circle_run.specs.Stops.{Halts}
 use Rattle.circle_run.proofs.Stopping.{Quiet, quiet, never_late, halt_step, begun_halts}
 use Rattle.circle_run.specs.declared.settings.Options.{Options}
-use Rattle.circle_run.proofs.Deeds.{put_here, put_elsewhere, put_all, Shape, LeavesQueue, requeue, deed_legal, deed_leaves, handle_legal}
+use Rattle.ring_core.proofs.PictureLemmas.{put_here, put_elsewhere, put_same}
+use Rattle.ring_core.proofs.WorldLemmas.{length-ranks_after}
+use Rattle.circle_run.proofs.Deeds.{Shape, LeavesQueue, requeue, deed_legal, deed_leaves, handle_legal}
 use Rattle.circle_run.proofs.Deeds.{handle_leaves, token_same, some_is}
 use Rattle.circle_run.proofs.Begun.{ranks_begun, side_begun}
 use Rattle.circle_run.proofs.Shared.{one_stays}
@@ -37,18 +39,6 @@ IsRun-append (x ∷ xs) ys w (legal, run) more = (legal, IsRun-append xs ys (aft
 after_all-append : (xs ys : List Event) (w : Seen) → after_all w (xs ++ ys) ≡ after_all (after_all w xs) ys
 after_all-append [] ys w = refl
 after_all-append (x ∷ xs) ys w = after_all-append xs ys (after w x)
-
-length-ranks_after : (ranks : List RankState) (event : Event) → length (ranks_after ranks event) ≡ length ranks
-length-ranks_after ranks (Handle rank path kids) = simp length-set
-length-ranks_after ranks (Ask rank victim) = simp length-set
-length-ranks_after ranks (Give rank to count) = simp length-set
-length-ranks_after ranks (Refuse rank to) = simp length-set
-length-ranks_after ranks (Take rank from count) = simp length-set
-length-ranks_after ranks (TakeNone rank from) = simp length-set
-length-ranks_after ranks (Pass rank colour) = simp length-set
-length-ranks_after ranks (Restart rank) = simp length-set
-length-ranks_after ranks (Conclude rank) = simp length-set
-length-ranks_after ranks (SeeOver rank) = simp length-set
 
 -- the world is that of what is told and of the queues
 pub record Shows (w : Seen) (t : Told) (q : ℕ → Strings) : Type 0 where
@@ -98,9 +88,6 @@ put_twice q me a b k = dite (ℕ_discrete k me)
     (λ e. subst (λ (j : ℕ). put q me b j ≡ put (put q me a) me b j) (sym e) (put_here q me b ∙ sym (put_here (put q me a) me b)))
     (λ ne. put_elsewhere q me b k ne ∙ sym (put_elsewhere (put q me a) me b k ne ∙ put_elsewhere q me a k ne))
 
-put_same : (q : ℕ → Strings) (me : ℕ) (a : Strings) → q me ≡ a → (k : ℕ) → put q me a k ≡ q k
-put_same q me a e k = put_all (λ j y. y ≡ q j) q me a k (sym e) (λ ne. refl)
-
 -- an answer to one that asks takes its strings off the queue
 answer_moves : (x : ℕ × Strings) (q left : Strings) → q ≡ x.1 ++ left → (0 < length x.1 → 0 < length left) → LeavesQueue (answer_of x) q left
 answer_moves x q left oldest stays = dite (ℕ_discrete (length x.1) 0)
@@ -113,7 +100,7 @@ answers_reach : (answers : List (ℕ × Strings)) (w : Seen) (t u : Told) (q : �
     → q me ≡ flat_map (λ (x : ℕ × Strings). x.1) answers ++ rest → (0 < length (flat_map (λ (x : ℕ × Strings). x.1) answers) → 0 < length rest)
     → TellsAll me (map answer_of answers) (Some t) (Some u) → Reaches w (map (λ x. event_of me (answer_of x)) answers) u (put q me rest)
 answers_reach [] w t u q me rest shows oldest stays told =
-    reaches_queues w [] u (put q me rest) q (λ k below. put_same q me rest oldest k)
+    reaches_queues w [] u (put q me rest) q (λ k below. put_same (λ j xs. xs) q me rest (sym oldest) k)
     (reaches_nothing w u q (subst (λ (v : Told). Shows w v q) (sym (some_is u t told)) shows))
 answers_reach (x ∷ xs) w t u q me rest shows oldest stays (mid, (legal, same), told) =
     let left : Strings = flat_map (λ (x : ℕ × Strings). x.1) xs ++ rest in
